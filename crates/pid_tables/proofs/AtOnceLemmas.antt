@@ -4,6 +4,7 @@ use Rattle.sqlite.proofs.Callers.{survives_begin}
 use Rattle.sqlite.proofs.StateLemmas.{survives_then}
 use Rattle.sqlite.specs.Held.{Held, state}
 use Rattle.sqlite.specs.State.{State, HasCleanDisk, Survives}
+use Rattle.sqlite.specs.Tree.{Trees}
 use Rattle.sqlite_trees.specs.declared.store.Store.{Ghosts}
 use Rattle.pid_moderation.specs.History.{new_history}
 use Rattle.pid_moderation.specs.Views.{views_of}
@@ -33,6 +34,19 @@ reads_once old new reads =
         closes = s.closes;
         crash = λ clean db may. elim (s.crash clean db may) [ inl before ↦ inl before | inr none ↦ absurd none ];
       };
+    }
+
+-- whatever a call was to commit, a read does not
+pub reads_never : (P : Trees → Type 0) (old new : State) → OnlyReads old new → Survives old new P
+reads_never P old new reads =
+    let s = reads.survives in
+    record {
+      clean = s.clean;
+      shield = s.shield;
+      counts = s.counts;
+      limit = s.limit;
+      closes = s.closes;
+      crash = λ clean db may. elim (s.crash clean db may) [ inl before ↦ inl before | inr none ↦ absurd none ];
     }
 
 pub reads_back : (old new : State) → OnlyReads old new → IsTakenBack old new
@@ -77,6 +91,17 @@ module _ {S X E : Type 0} (g : Ghosts S) (old mid end : Held S) (r : Result X E)
 
   pub committed_once : IsOneStep (state g old) (state g end)
   committed_once = record { written = (state g mid).now.trees; survives = whole }
+
+  -- as far as it is known what the transaction came to
+  pub committed_as : (P : Trees → Type 0) → (HasCleanDisk (state g mid) → P (state g mid).now.trees) → Survives (state g old) (state g end) P
+  committed_as P holds = record {
+    clean = whole.clean;
+    shield = whole.shield;
+    counts = whole.counts;
+    limit = whole.limit;
+    closes = whole.closes;
+    crash = λ clean db may. elim (whole.crash clean db may) [ inl before ↦ inl before | inr is ↦ inr (subst P (sym is) (holds (earlier (state g mid) (state g end) survives clean))) ];
+  }
 
   module _ (law : IsTrue (state g end).is_open → HasCleanDisk (state g end)) where
     back : (HasCleanDisk (state g end) → IsUndone (state g mid) (state g end)) → IsTakenBack (state g old) (state g end)

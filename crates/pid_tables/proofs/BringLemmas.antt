@@ -4,7 +4,7 @@ use Rattle.std.proofs.lemmas.Bool.{cases_Bool}
 use Rattle.sqlite.specs.Change.{is_used}
 use Rattle.sqlite.specs.Effect.{Database}
 use Rattle.sqlite.specs.Held.{Held, state}
-use Rattle.sqlite.specs.State.{State}
+use Rattle.sqlite.specs.State.{State, HasCleanDisk, Survives}
 use Rattle.sqlite_rules.specs.Lists.{Has}
 use Rattle.sqlite_trees.specs.declared.store.Store.{Ghosts}
 use Rattle.pid_moderation.specs.History.{new_history}
@@ -19,15 +19,19 @@ use Rattle.pid_tables_rows.specs.Leaves.{AtRest, OnlyReads, RestsIn}
 use Rattle.pid_tables_rows.specs.Schema.{no_schema, schema_of}
 use Rattle.pid_tables_rows.specs.Shows.{ShowsIn}
 use Rattle.pid_tables_rows.specs.TableRows.{meta_row}
+use Rattle.pid_tables_rows.proofs.GoingLemmas.{earlier}
 use Rattle.pid_tables_rows.proofs.LeaveLemmas.{rests_in_two}
 use Rattle.pid_tables_rows.proofs.OnlyReading.{reads_then, rests_in_still}
 use Rattle.pid_tables_check.specs.Shapes.{HasNoTable, HasSomeTable, IsMadeFirst}
 use Rattle.pid_tables_check.proofs.Complete.{made_first}
+use Rattle.pid_tables.specs.AtOnce.{IsOneStep}
 use Rattle.pid_tables.specs.Creation.{table_names, IsNameTaken, RestsBare}
+use Rattle.pid_tables.specs.Statements.{Statement, IsMadeBy}
 use Rattle.pid_tables.specs.Bringing.{Brings, Left, Raised, HandsLatest, NamesLatest, Refuses, Stays}
 use Rattle.pid_tables.specs.Steps.Bringing.{IsStanding, Named, Found, step_for}
 use Rattle.pid_tables.specs.declared.migration.Step.{Step}
 use Rattle.pid_tables.specs.declared.migration.Step.TheVariants.{Created, Moved, Already}
+use Rattle.pid_tables.proofs.AtOnceLemmas.{reads_then_once}
 use Rattle.pid_tables.proofs.SchemaNumbers.{schema_told}
 use Rattle.pid_tables.proofs.StandLemmas.{standing_latest}
 
@@ -52,6 +56,23 @@ pub with_step : (P : Type 0) (Q : TableFault → Type 0) (what found : Option Ve
     → MatchResult r (λ step. (step ≡ step_for what) × P) Q
 with_step P Q what found (Ok x) is step h = (step ∙ ap step_for is, h)
 with_step P Q what found (Err e) is step h = h
+
+-- what is made of the database that was read before
+pub reads_then_made : {S : Type 0} (g : Ghosts S) (statements : List Statement) (old mid new : Held S) → OnlyReads (state g old) (state g mid) → (IsTrue (state g mid).is_open → (state g mid).now ≡ (state g old).now) → IsOneStep (state g mid) (state g new)
+    → (HasCleanDisk (state g new) → Survives (state g mid) (state g new) (IsMadeBy g statements mid)) → Survives (state g old) (state g new) (IsMadeBy g statements old)
+reads_then_made g statements old mid new reads same once made =
+    let whole = (reads_then_once (state g old) (state g mid) (state g new) reads once).survives in
+    record {
+      clean = whole.clean;
+      shield = whole.shield;
+      counts = whole.counts;
+      limit = whole.limit;
+      closes = whole.closes;
+      crash = λ clean db may. elim ((made clean).crash clean db may) [
+        | inl before ↦ elim (reads.survives.crash (earlier (state g mid) (state g new) once.survives clean) db before) [ inl first ↦ inl first | inr none ↦ absurd none ]
+        | inr is ↦ inr (record { was_open = reads.was_open is.was_open; first = is.first; same = is.same ∙ same is.was_open; last = is.last; carried = is.carried; made = is.made })
+      ];
+    }
 
 -- something has a name of the tables
 abbrev MetIn : Database → Type 0

@@ -60,9 +60,9 @@ some_same name puts gives_up keeps gives old new (items, tally, inr (between, al
 pub put_means : {N : Type 0} (n : ℕ) (first second : N) (r : Result Put TableFault) (old new : State) (path name : List ℕ) → first ≡ second → Survives old new (λ _. ⊥)
     → ((c : Counts) (v w : Views) → Within c old v w → OnOk r (Written c new v (with_name n path name w))) → (HasCleanDisk new → (c : Counts) (v w : Views) → Within c old v w → IfOk r (λ put. put ≡ put_over name (name_at path w.items)))
     → IfOk r (λ put. (first ≡ second) × Puts n old new (path, name) put)
-put_means n first second (Ok p) old new path name same survives written told = (same, record { clean = earlier old new survives; written = written; told = told })
+put_means n first second (Ok p) old new path name same survives written told = (same, record { clean = earlier old new survives; limit = survives.limit; written = written; told = told })
 put_means n first second (Err f) old new path name same survives written told = tt
 
 pub put_gives_up : {X N : Type 0} (r : Result X TableFault) (first second : N) (old new : State) → first ≡ second → Survives old new (λ _. ⊥) → ((c : Counts) (v w : Views) → Within c old v w → KeepsCommitted new v) → OnErr r ((first ≡ second) × GivesUp old new)
 put_gives_up (Ok x) first second old new same survives holds = tt
-put_gives_up (Err f) first second old new same survives holds = (same, record { clean = earlier old new survives; holds = holds })
+put_gives_up (Err f) first second old new same survives holds = (same, record { clean = earlier old new survives; limit = survives.limit; holds = holds })

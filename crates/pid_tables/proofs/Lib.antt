@@ -24,3 +24,5 @@ pub mod ImportPuts
 pub mod PutInto
 pub mod BringIn
 pub mod WorkedRows
+pub mod Carrying
+pub mod EarlyCauses

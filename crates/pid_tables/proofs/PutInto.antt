@@ -42,6 +42,9 @@ module _ {S : Type 0} (store : Ghosts S) where
     pub put_clean : HasCleanDisk (shown end) → HasCleanDisk (shown start)
     put_clean = some_clean n shown (puts n) gives_up (λ s item put t h. h.1) (λ s t h. h.1) start end some
 
+    pub put_limit : end.conn.now.step_limit ≡ start.conn.now.step_limit
+    put_limit = some_same (λ (s : Transaction S). s.conn.now.step_limit) (puts n) gives_up (λ s item put t h. h.1.limit) (λ s t h. h.1.limit) start end some
+
     pub put_holds : (c : Counts) (v w : Views) → Within c (shown start) v w → KeepsCommitted (shown end) v
     put_holds = some_holds n shown (puts n) gives_up (λ s item put t h. h.1) (λ s t h. h.1) start end some
 

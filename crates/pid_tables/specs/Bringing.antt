@@ -3,7 +3,8 @@ use Rattle.std.specs.Prelude.{◌≡◌, ◌⊎◌, ℕ, false, List, Option, So
 use Rattle.std.specs.Prelude.{Result, IfErr, IfOk, OnOk, MatchResult, IsTrue}
 use Rattle.sqlite.specs.Effect.{Database}
 use Rattle.sqlite.specs.Order.{Row}
-use Rattle.sqlite.specs.State.{State, HasCleanDisk}
+use Rattle.sqlite.specs.State.{State, HasCleanDisk, Survives}
+use Rattle.sqlite.specs.Tree.{Trees}
 use Rattle.sqlite_rules.specs.Lists.{Has}
 use Rattle.pid_moderation.specs.History.{History, new_history}
 use Rattle.pid_moderation.specs.Sound.{IsSound}
@@ -99,8 +100,11 @@ pub record MigratesJudged (old new : State) (result : Result Step TableFault) : 
   pub latest : HasCleanDisk new
       → IfOk result (λ step. IsTrue new.is_open → HandsLatest old step new)
 
--- If there is no table, whatever else there is.
-pub record MigratesNone (old new : State) (result : Result Step TableFault) : Type 0 where
+-- If there is no table, whatever else there is; `IsMade` is what making a registry comes to.
+pub record MigratesNone (IsMade : Trees → Type 0) (old new : State)
+    (result : Result Step TableFault) : Type 0 where
+  -- Nothing is written but what makes a registry: a crash leaves what it left before, or all of it.
+  pub made : HasNoTable old.now.schema → Survives old new IsMade
   -- It answers no other step than that they were made, and reports no later schema.
   pub bare : HasCleanDisk new → HasNoTable old.now.schema
       → MatchResult result (λ step. step ≡ Created) IsNotNewerSchema

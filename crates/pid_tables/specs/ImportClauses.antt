@@ -19,10 +19,11 @@ module _ {S : Type 0} (store : Ghosts S) where
   abbrev pub GivesUp : Held S → Held S → Type 0
   GivesUp old new = putting.GivesUp (state store old) (state store new)
 
-  -- outside a transaction; no fault of the disk is forgotten
+  -- outside a transaction; no fault of the disk is forgotten, and no limit of steps is set
   pub record EndsOutside (old new : Held S) : Type 0 where
     pub settled : new.in_transaction ≡ false
     pub clean : HasCleanDisk store new → HasCleanDisk store old
+    pub limit : new.step_limit ≡ old.step_limit
 
   abbrev pub EndsImport : Held S → Result Reply Stop → History → Asked → Type 0
   EndsImport conn result h c = importing.EndsImport result (state store conn) h c

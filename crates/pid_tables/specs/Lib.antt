@@ -1,5 +1,6 @@
 pub mod Creation
 pub mod AtOnce
+pub mod Statements
 pub mod Bringing
 pub mod SchemaNumbers
 pub mod Puts

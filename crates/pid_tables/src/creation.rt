@@ -13,6 +13,7 @@ ghost use Rattle.std.specs.Prelude.{
   IsTrue,
   codes,
 };
+ghost use Rattle.sqlite.specs.declared.types.Value.TheVariants.{Text};
 ghost use Rattle.sqlite.specs.Listing.{understood};
 ghost use Rattle.sqlite.specs.Table.{Table};
 ghost use Rattle.pid_moderation.specs.Views.{Views};
@@ -20,7 +21,10 @@ ghost use Rattle.pid_tables_rows.specs.Schema.{pid_schema};
 ghost use Rattle.pid_tables_rows.specs.Faults.{IsMemoryOrStore, IsNotNewerSchema};
 ghost use Rattle.pid_tables_rows.specs.PairRows.{Map};
 ghost use Rattle.pid_tables_rows.specs.Steps.Shows.{meta_of};
+ghost use Rattle.pid_tables_rows.specs.TableRows.{number};
+ghost use Rattle.pid_tables_rows.specs.Writes.{with_rank};
 ghost use Rattle.pid_tables.specs.Creation.{table_names};
+ghost use Rattle.pid_tables.specs.Statements.{IsMadeBy, new_label_text, registry_statements};
 ghost use Rattle.pid_tables.specs.Steps.MakingTables.{
   making,
   Creates,
@@ -31,12 +35,26 @@ ghost use Rattle.pid_tables.specs.Steps.MakingTables.{
 };
 ghost use Rattle.pid_tables.specs.Steps.Making.{
   AddsLabels,
+  CarriesOut,
   MakesRegistry,
+  all_statements,
   all_tables,
+  first_statements,
   first_tables,
+  label_statements,
+  rest_statements,
+  root_statement,
   six_tables,
 };
-ghost use Rattle.pid_tables_rows.specs.Clauses.{AtRest, GoesOn, HasCleanDisk, is_open, seen};
+ghost use Rattle.pid_tables_rows.specs.Clauses.{
+  AtRest,
+  ChangesTo,
+  GoesOn,
+  HasCleanDisk,
+  Survives,
+  is_open,
+  seen,
+};
 ghost use Rattle.pid_tables.specs.Clauses.{
   IsFaultOfTaken,
   IsNameTaken,
@@ -49,7 +67,6 @@ ghost use Rattle.pid_tables.specs.Steps.Clauses.{FindsTables, Makes, Takes};
 use crate::batch::commit;
 use pid_moderation::Rank;
 use pid_tables_rows::TableFault;
-use pid_tables_rows::account::add_account;
 use pid_tables_rows::run::write_one;
 use sqlite::types::ToSql;
 use sqlite::{Alter, Connection, Transaction};
@@ -94,6 +111,8 @@ fn make_table<S: Alter>(tx: &mut Transaction<'_, S>, sql: &str) -> Result<(), Ta
         → Takes S.Store tx.old.conn.now tx.new.conn.now result (name ∷ []) }
     ensures met { IsTextRefused (understood pid_schema sql.now)
         → FindsTables S.Store tx.old.conn.now tx.new.conn.now result }
+    ensures carried { CarriesOut S.Store tx.old.conn.now tx.new.conn.now result
+        ((sql.now, []) ∷ []) }
 {
     write_one(tx, sql, &[])
 }
@@ -105,6 +124,7 @@ fn make_first<S: Alter>(tx: &mut Transaction<'_, S>) -> Result<(), TableFault>
     ensures takes { Takes S.Store tx.old.conn.now tx.new.conn.now result
         (codes "meta" ∷ codes "account" ∷ codes "item" ∷ []) }
     ensures met { FindsTables S.Store tx.old.conn.now tx.new.conn.now result }
+    ensures carried { CarriesOut S.Store tx.old.conn.now tx.new.conn.now result first_statements }
 {
     make_table(tx, META)?;
     make_table(tx, ACCOUNT)?;
@@ -117,6 +137,7 @@ fn make_rest<S: Alter>(tx: &mut Transaction<'_, S>) -> Result<(), TableFault>
     ensures made { Makes S.Store tx.old.conn.now tx.new.conn.now result first_tables six_tables }
     ensures takes { Takes S.Store tx.old.conn.now tx.new.conn.now result
         (codes "submission" ∷ codes "remark" ∷ codes "receipt" ∷ []) }
+    ensures carried { CarriesOut S.Store tx.old.conn.now tx.new.conn.now result rest_statements }
 {
     make_table(tx, SUBMISSION)?;
     make_table(tx, REMARK)?;
@@ -129,6 +150,7 @@ fn make_tables<S: Alter>(tx: &mut Transaction<'_, S>) -> Result<(), TableFault>
     ensures made { Makes S.Store tx.old.conn.now tx.new.conn.now result [] all_tables }
     ensures takes { Takes S.Store tx.old.conn.now tx.new.conn.now result table_names }
     ensures met { FindsTables S.Store tx.old.conn.now tx.new.conn.now result }
+    ensures carried { CarriesOut S.Store tx.old.conn.now tx.new.conn.now result all_statements }
 {
     make_first(tx)?;
     make_rest(tx)?;
@@ -148,6 +170,8 @@ fn add_label<S: Alter>(
         → m label.now ≡ None
         → MatchResult result (λ _. HasOnlyMeta (with_label label.now value m)
         (seen S.Store tx.new.conn.now)) IsMemoryOrStore }
+    ensures carried { CarriesOut S.Store tx.old.conn.now tx.new.conn.now result
+        ((new_label_text, Text label.now ∷ number value ∷ []) ∷ []) }
 {
     let label = label.to_sql();
     let value = value.to_sql();
@@ -164,11 +188,31 @@ fn add_labels<S: Alter>(tx: &mut Transaction<'_, S>) -> Result<(), TableFault>
     ensures never { IfErr result IsNotNewerSchema }
     ensures added { AddsLabels S.Store tx.old.conn.now tx.new.conn.now result (λ _. None)
         (meta_of (record { items = 0; submissions = 0 }) 0) }
+    ensures carried { CarriesOut S.Store tx.old.conn.now tx.new.conn.now result label_statements }
 {
     add_label(tx, "revision", 0)?;
     add_label(tx, "submissions", 0)?;
     add_label(tx, "items", 0)?;
     add_label(tx, "schema", 2)
+}
+
+// The one account of a new registry.
+fn add_root<S: Alter>(tx: &mut Transaction<'_, S>) -> Result<(), TableFault>
+    ensures same_reference { tx.new.conn.ghost_name ≡ tx.old.conn.ghost_name }
+    ensures goes { GoesOn S.Store tx.old.conn.now tx.new.conn.now result }
+    ensures never { IfErr result IsNotNewerSchema }
+    ensures shows { ChangesTo S.Store tx.old.conn.now tx.new.conn.now result
+        (λ v. v.rank (codes "root") ≡ None) (with_rank (codes "root") Rank.Administrator) }
+    ensures carried { CarriesOut S.Store tx.old.conn.now tx.new.conn.now result
+        (root_statement ∷ []) }
+{
+    let name = "root".to_sql();
+    let rank = u32::from(Rank::Administrator.number()).to_sql();
+    write_one(
+        tx,
+        "INSERT INTO account (name, rank) VALUES (?1, ?2)",
+        &[name, rank],
+    )
 }
 
 fn fill<S: Alter>(tx: &mut Transaction<'_, S>) -> Result<(), TableFault>
@@ -181,10 +225,12 @@ fn fill<S: Alter>(tx: &mut Transaction<'_, S>) -> Result<(), TableFault>
         → (IsTrue (is_open S.Store tx.old.conn.now) → IsNameTaken S.Store tx.old.conn.now)
         → MatchResult result (λ _. ⊥) IsNotNewerSchema }
     ensures met { FindsTables S.Store tx.old.conn.now tx.new.conn.now result }
+    ensures carried { CarriesOut S.Store tx.old.conn.now tx.new.conn.now result
+        registry_statements }
 {
     make_tables(tx)?;
     add_labels(tx)?;
-    add_account(tx, "root", Rank::Administrator)
+    add_root(tx)
 }
 
 /// Makes the tables of a new registry in a database that has none, in one transaction: `root` is an
@@ -194,11 +240,15 @@ fn fill<S: Alter>(tx: &mut Transaction<'_, S>) -> Result<(), TableFault>
 /// registry whole; after a fault the connection has no table, and a further call may make them.
 /// If a name is taken that one of the tables wants, it answers `Damaged`, or else `Memory` or
 /// `Store`, and changes nothing. If there are tables of other names, the new ones are made all in
-/// one step, or after a fault none of them; what they then are together, no clause says.
+/// one step, or after a fault none of them: a crash leaves what it left before, or what the
+/// statements of a new registry make of it, which are the same in any database. What these show
+/// together with other tables, no clause says.
 pub fn create<S: Alter>(conn: &mut Connection<S>) -> Result<(), TableFault>
     requires { conn.old.in_transaction ≡ false }
-    // Whatever the database, it is one step.
+    // Whatever the database, it is one step, and nothing but the statements of a new registry.
     ensures at_once { WritesAtOnce S.Store conn.old conn.new result }
+    ensures statements { Survives S.Store conn.old conn.new
+        (IsMadeBy S.Store registry_statements conn.old) }
     ensures makes { MakesNew S.Store conn.old conn.new result }
     ensures spares { MakesNothing S.Store conn.old conn.new result }
     ensures met { HasCleanDisk S.Store conn.new → (v : Views) → AtRest S.Store conn.old v

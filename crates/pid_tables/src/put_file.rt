@@ -134,6 +134,7 @@ fn apply_file<S: Alter>(
     ensures same_reference { batch.new.conn.ghost_name ≡ batch.old.conn.ghost_name }
     ensures clean { HasCleanDisk S.Store batch.new.conn.now
         → HasCleanDisk S.Store batch.old.conn.now }
+    ensures limit { batch.new.conn.now.step_limit ≡ batch.old.conn.now.step_limit }
     ensures holds { (c : Counts) (v w : Views) → Within S.Store batch.old.conn.now c v w
         → KeepsCommitted S.Store batch.new.conn.now v }
     ensures applied { (h : History) (text : List ℕ) (n : ℕ)

@@ -1,7 +1,8 @@
 -- Steps of Making: the first rows of a new registry.
-use Rattle.std.specs.Prelude.{ℕ, List, [], ◌∷◌, Result, IsTrue, MatchResult}
+use Rattle.std.specs.Prelude.{ℕ, List, [], ◌∷◌, ◌++◌, codes, Result, IsTrue, MatchResult, OnOk}
 use Rattle.sqlite.specs.Held.{Held}
 use Rattle.sqlite.specs.Table.{Table}
+use Rattle.sqlite.specs.declared.types.Value.TheVariants.{Text}
 use Rattle.sqlite_trees.specs.declared.store.Store.{Ghosts}
 use Rattle.pid_moderation.specs.History.{new_history}
 use Rattle.pid_moderation.specs.Views.{views_of}
@@ -11,7 +12,10 @@ use Rattle.pid_tables_rows.specs.Faults.{IsMemoryOrStore}
 use Rattle.pid_tables_rows.specs.PairRows.{Map}
 use Rattle.pid_tables_rows.specs.Schema as tables
 use Rattle.pid_tables_rows.specs.Shows.{Shows}
+use Rattle.pid_tables_rows.specs.TableRows.{number}
 use Rattle.pid_tables.specs.Creation.{AreMade}
+use Rattle.pid_tables.specs.Statements as texts
+use Rattle.pid_tables.specs.Statements.{Statement, CarriedOut, new_label_text, new_account_text}
 use Rattle.pid_tables.specs.Steps.MakingTables.{HasOnlyMeta}
 
 -- the tables that are made first
@@ -28,7 +32,36 @@ abbrev pub all_tables : List Table
 all_tables = tables.meta ∷ tables.account ∷ tables.item ∷ tables.submission ∷ tables.remark
     ∷ tables.receipt ∷ tables.item_since ∷ []
 
+-- the statements that make the first tables, those that make the next ones, and all
+abbrev pub first_statements : List Statement
+first_statements = (texts.meta_text, []) ∷ (texts.account_text, [])
+    ∷ (texts.item_text, []) ∷ []
+
+abbrev pub rest_statements : List Statement
+rest_statements = (texts.submission_text, []) ∷ (texts.remark_text, [])
+    ∷ (texts.receipt_text, []) ∷ []
+
+abbrev pub all_statements : List Statement
+all_statements = first_statements ++ (rest_statements ++ (texts.item_since_text, []) ∷ [])
+
+-- those that add the labels
+abbrev pub label_statements : List Statement
+label_statements = (new_label_text, Text (codes "revision") ∷ number 0 ∷ [])
+    ∷ (new_label_text, Text (codes "submissions") ∷ number 0 ∷ [])
+    ∷ (new_label_text, Text (codes "items") ∷ number 0 ∷ [])
+    ∷ (new_label_text, Text (codes "schema") ∷ number 2 ∷ []) ∷ []
+
+-- the one that adds the account
+abbrev pub root_statement : Statement
+root_statement = (new_account_text, Text (codes "root") ∷ number 3 ∷ [])
+
 module _ {S : Type 0} (store : Ghosts S) where
+  -- in any database, a step that answers a value has carried out these, and nothing else
+  abbrev pub CarriesOut : {X : Type 0} → Held S → Held S → Result X TableFault → List Statement
+      → Type 0
+  CarriesOut old new result statements = HasCleanDisk store new → IsTrue old.in_transaction
+      → OnOk result (CarriedOut store statements old new)
+
   -- a step that adds labels: meta has these rows before, and those then
   abbrev pub AddsLabels : {X : Type 0} → Held S → Held S → Result X TableFault → Map (List ℕ) ℕ
       → Map (List ℕ) ℕ → Type 0

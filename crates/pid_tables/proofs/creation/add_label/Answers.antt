@@ -1,4 +1,9 @@
+use Rattle.std.proofs.Common.{[], ◌∷◌}
 use Rattle.sqlite.specs.Held.{state}
+use Rattle.sqlite.specs.declared.types.Value.TheVariants.{Text}
+use Rattle.pid_tables_rows.specs.TableRows.{number}
+use Rattle.pid_tables.specs.Statements.{new_label_text}
+use Rattle.pid_tables.proofs.Carrying.{carried_one}
 use Rattle.pid_tables.proofs.CreateLemmas.{label_added}
 use Rattle.pid_tables_rows.specs.declared.version.Version.TheVariants.{Two}
 use Rattle.pid_tables_rows.specs.Schema.{pid_schema}
@@ -11,3 +16,8 @@ returns-clause-added g c clean inside m has none =
     led c.write_one.result (label_added (state g.S.Store c.args.tx.now.conn.now) (state g.S.Store c.write_one.new.tx.conn.now) m c.args.label.now c.args.value has none)
     (rw (c.to_sql-label.ensures, c.to_sql-value.ensures) at (c.write_one.ensures.runs.ran clean inside))
     (c.write_one.ensures.runs.untold clean pid_schema (λ opened. has.schema) (insert_writes (insert_meta_is Two)))
+
+pub returns-clause-carried : goal.returns-clause-carried
+returns-clause-carried g c clean inside =
+    carried_one g.S.Store new_label_text (Text c.args.label.now ∷ number c.args.value ∷ []) c.args.tx.now.conn.now c.write_one.new.tx.conn.now c.write_one.result
+    (rw (c.to_sql-label.ensures, c.to_sql-value.ensures) at (c.write_one.ensures.runs.ran clean inside))

@@ -1,5 +1,9 @@
-use Rattle.std.proofs.Common.{None, refl, codes}
+use Rattle.std.proofs.Common.{ℕ, List, [], ◌∷◌, ◌++◌, None, refl, codes}
 use Rattle.sqlite.specs.Held.{state}
+use Rattle.sqlite.specs.declared.types.Value.TheVariants.{Text}
+use Rattle.pid_tables_rows.specs.TableRows.{number}
+use Rattle.pid_tables.specs.Statements.{Statement, new_label_text}
+use Rattle.pid_tables.proofs.Carrying.{carried_both, carried_then}
 use Rattle.pid_tables.specs.Steps.MakingTables.{with_label}
 use Rattle.pid_tables_rows.specs.Faults.{IsMemoryOrStore, IsNotNewerSchema}
 use Rattle.pid_tables_rows.proofs.CauseLemmas.{passed_on, passed_from}
@@ -52,3 +56,31 @@ returns-in_err-add_label-2-clause-never g c = passed_from c.from_residual-in_err
 
 pub returns-in_err-add_label-3-clause-never : goal.returns-in_err-add_label-3-clause-never
 returns-in_err-add_label-3-clause-never g c = passed_from c.from_residual-in_err-add_label-3.result _ IsNotNewerSchema c.from_residual-in_err-add_label-3.ensures.1 c.in_err-add_label-3.ensures.never
+
+-- ---- what was carried out
+
+abbrev with_value : List ℕ → ℕ → List Statement
+with_value label value = (new_label_text, Text label ∷ number value ∷ []) ∷ []
+
+pub returns-clause-carried : goal.returns-clause-carried
+returns-clause-carried g c clean inside =
+    let start = c.args.tx.now.conn.now in
+    let a = c.add_label.new.tx.conn.now in
+    let b = c.add_label-2.new.tx.conn.now in
+    let d = c.add_label-3.new.tx.conn.now in
+    let end = c.add_label-4.new.tx.conn.now in
+    let third = earlier (state g.S.Store d) (state g.S.Store end) c.add_label-4.ensures.goes.survives clean in
+    let second = earlier (state g.S.Store b) (state g.S.Store d) c.add_label-3.ensures.goes.survives third in
+    let first = earlier (state g.S.Store a) (state g.S.Store b) c.add_label-2.ensures.goes.survives second in
+    let one = c.in_ok-add_label.ensures in
+    let two = c.in_ok-add_label-2.ensures in
+    let three = c.in_ok-add_label-3.ensures in
+    let in_one = (one.goes.going first inside).1 in
+    let in_two = (two.goes.going second in_one).1 in
+    let revision = with_value (codes "revision") 0 in
+    let submissions = with_value (codes "submissions") 0 in
+    let items = with_value (codes "items") 0 in
+    carried_then g.S.Store ((revision ++ submissions) ++ items) (with_value (codes "schema") 2) start d end c.add_label-4.result
+    (carried_both g.S.Store (revision ++ submissions) items start b d
+    (carried_both g.S.Store revision submissions start a b (one.carried first inside) (two.carried second in_one)) (three.carried third in_two))
+    (c.add_label-4.ensures.carried clean (three.goes.going third in_two).1)

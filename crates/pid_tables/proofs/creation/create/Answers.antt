@@ -1,6 +1,6 @@
 use Rattle.std.proofs.Common.{◌≡◌, Bool, true, false, Ok, IsTrue, refl, sym, rules, arith, ◌∙◌, subst}
 use Rattle.sqlite.specs.Held.{state}
-use Rattle.sqlite.specs.State.{HasCleanDisk}
+use Rattle.sqlite.specs.State.{HasCleanDisk, Survives}
 use Rattle.sqlite.proofs.StateLemmas.{clean_if_open, survives_then}
 use Rattle.sqlite.proofs.Callers.{survives_begin}
 use Rattle.pid_moderation.specs.History.{new_history}
@@ -13,9 +13,10 @@ use Rattle.pid_tables_rows.proofs.GoingLemmas.{earlier}
 use Rattle.pid_tables_rows.proofs.OnlyReading.{reads_begun}
 use Rattle.pid_tables.proofs.MetLemmas.{reads_if_never, met_at_rest}
 use Rattle.pid_tables.proofs.MoveLemmas.{all_never, all_untold, not_on_ok}
-use Rattle.pid_tables.proofs.AtOnceLemmas.{reads_at_once, commit_at_once, commit_bare, still_bare}
+use Rattle.pid_tables.proofs.AtOnceLemmas.{reads_at_once, reads_never, commit_at_once, commit_bare, committed_as, still_bare}
 use Rattle.pid_tables.specs.AtOnce.{WritesAtOnce}
 use Rattle.pid_tables.specs.Creation.{IsNameTaken, MakesNew, MakesNothing}
+use Rattle.pid_tables.specs.Statements.{IsMadeBy, registry_statements}
 use Rattle.pid_tables.proofs.creation.create.Goals as goal
 
 -- ---- a call fails, and all is given up
@@ -29,6 +30,18 @@ returns-in_err-fill-clause-at_once g c =
     let goes = rw c.transaction-batch.ensures.begun at c.fill.ensures.goes in
     subst (λ h. WritesAtOnce old (state g.S.Store h) c.from_residual.result) same
     (reads_at_once old (state g.S.Store end) c.from_residual.result (reads_begun g.S.Store c.args.conn.now first end c.fill.result (clean_if_open (g.S.Store.view first.store) (g.met.S.Store.shut_if_dirty first.store))
+    (clean_if_open (g.S.Store.view end.store) (g.met.S.Store.shut_if_dirty end.store)) goes c.drop-batch.ensures.ended c.drop-batch.ensures.undone c.drop-batch.ensures.survives))
+
+pub returns-in_err-fill-clause-statements : goal.returns-in_err-fill-clause-statements
+returns-in_err-fill-clause-statements g c =
+    let old = state g.S.Store c.args.conn.now in
+    let end = c.drop-batch.new.self.0 in
+    let same : end ≡ c.conn-1.given.0 = search rules in
+    let first = c.fill.new.tx.conn.now in
+    let goes = rw c.transaction-batch.ensures.begun at c.fill.ensures.goes in
+    let made = IsMadeBy g.S.Store registry_statements c.args.conn.now in
+    subst (λ h. Survives old (state g.S.Store h) made) same
+    (reads_never made old (state g.S.Store end) (reads_begun g.S.Store c.args.conn.now first end c.fill.result (clean_if_open (g.S.Store.view first.store) (g.met.S.Store.shut_if_dirty first.store))
     (clean_if_open (g.S.Store.view end.store) (g.met.S.Store.shut_if_dirty end.store)) goes c.drop-batch.ensures.ended c.drop-batch.ensures.undone c.drop-batch.ensures.survives))
 
 pub returns-in_err-fill-clause-makes : goal.returns-in_err-fill-clause-makes
@@ -91,6 +104,26 @@ returns-clause-at_once g c =
     (commit_at_once g.S.Store c.args.conn.now first end (Ok c.in_ok-fill.field-0) goes c.commit.ensures.survives (clean_if_open (g.S.Store.view end.store) (g.met.S.Store.shut_if_dirty end.store)) c.commit.result c.commit.ensures.ended
     (λ clean. c.commit.ensures.fails.undone clean (goes.going (earlier (state g.S.Store first) (state g.S.Store end) c.commit.ensures.survives clean) refl).1)
     (λ clean. all_untold (state g.S.Store first) (state g.S.Store end) c.commit.result (c.commit.ensures.fails.caused clean (goes.going (earlier (state g.S.Store first) (state g.S.Store end) c.commit.ensures.survives clean) refl).1)))
+
+pub returns-clause-statements : goal.returns-clause-statements
+returns-clause-statements g c =
+    let old = c.args.conn.now in
+    let first = c.fill.new.tx.conn.now in
+    let end = c.commit.new.batch.0 in
+    let same : end ≡ c.conn-2-1.given.0 = search rules in
+    let goes = rw c.transaction-batch.ensures.begun at c.in_ok-fill.ensures.goes in
+    let carried = rw c.transaction-batch.ensures.begun at c.in_ok-fill.ensures.carried in
+    let made = IsMadeBy g.S.Store registry_statements old in
+    subst (λ h. Survives (state g.S.Store old) (state g.S.Store h) made) same
+    (committed_as g.S.Store old first end (Ok c.in_ok-fill.field-0) goes c.commit.ensures.survives made
+    (λ clean. record {
+      was_open = goes.was_open clean (goes.going clean refl).0;
+      first = record old { in_transaction = true };
+      same = refl;
+      last = first;
+      carried = carried clean refl;
+      made = refl;
+    }))
 
 pub returns-clause-makes : goal.returns-clause-makes
 returns-clause-makes g c =

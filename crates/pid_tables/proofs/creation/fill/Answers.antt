@@ -1,9 +1,11 @@
-use Rattle.std.proofs.Common.{refl}
+use Rattle.std.proofs.Common.{[], ◌∷◌, ◌++◌, refl}
 use Rattle.sqlite.specs.Held.{state}
 use Rattle.pid_tables_rows.specs.Faults.{IsNotNewerSchema}
 use Rattle.pid_tables_rows.proofs.CauseLemmas.{passed_on, passed_from}
 use Rattle.pid_tables_rows.proofs.GoingLemmas.{earlier}
 use Rattle.pid_tables.specs.Creation.{IsFaultOfTaken}
+use Rattle.pid_tables.specs.Steps.Making.{all_statements, label_statements, root_statement}
+use Rattle.pid_tables.proofs.Carrying.{carried_both, carried_then}
 use Rattle.pid_tables.proofs.CreateLemmas.{all_made, shows_nothing, nothing_yet}
 use Rattle.pid_tables.proofs.MetLemmas.{none_met}
 use Rattle.pid_tables.proofs.creation.fill.Goals as goal
@@ -12,13 +14,13 @@ pub returns-clause-filled : goal.returns-clause-filled
 returns-clause-filled g c clean inside made =
     let b = state g.S.Store c.make_tables.new.tx.conn.now in
     let d = state g.S.Store c.add_labels.new.tx.conn.now in
-    let second = earlier d (state g.S.Store c.add_account.new.tx.conn.now) c.add_account.ensures.goes.survives clean in
+    let second = earlier d (state g.S.Store c.add_root.new.tx.conn.now) c.add_root.ensures.goes.survives clean in
     let first = earlier b d c.add_labels.ensures.goes.survives second in
     let one = c.in_ok-make_tables.ensures in
     let two = c.in_ok-add_labels.ensures in
     let within = (one.goes.going first inside).1 in
     let has = two.added second within (all_made b.now (one.made first inside made)) in
-    c.add_account.ensures.shows clean (two.goes.going second within).1 _ nothing_yet (shows_nothing d.now has) refl
+    c.add_root.ensures.shows clean (two.goes.going second within).1 _ nothing_yet (shows_nothing d.now has) refl
 
 -- ---- where a name is taken
 
@@ -36,7 +38,7 @@ pub returns-clause-refused : goal.returns-clause-refused
 returns-clause-refused g c clean inside met =
     let b = state g.S.Store c.make_tables.new.tx.conn.now in
     let d = state g.S.Store c.add_labels.new.tx.conn.now in
-    let second = earlier d (state g.S.Store c.add_account.new.tx.conn.now) c.add_account.ensures.goes.survives clean in
+    let second = earlier d (state g.S.Store c.add_root.new.tx.conn.now) c.add_root.ensures.goes.survives clean in
     let first = earlier b d c.add_labels.ensures.goes.survives second in
     let one = c.in_ok-make_tables.ensures in
     absurd (none_met _ _ (one.takes first inside) (met (one.goes.was_open first (one.goes.going first inside).0)))
@@ -54,7 +56,7 @@ returns-in_err-add_labels-clause-met g c clean inside has =
 pub returns-clause-met : goal.returns-clause-met
 returns-clause-met g c clean inside has =
     let d = state g.S.Store c.add_labels.new.tx.conn.now in
-    let second = earlier d (state g.S.Store c.add_account.new.tx.conn.now) c.add_account.ensures.goes.survives clean in
+    let second = earlier d (state g.S.Store c.add_root.new.tx.conn.now) c.add_root.ensures.goes.survives clean in
     absurd (c.in_ok-make_tables.ensures.met (earlier (state g.S.Store c.make_tables.new.tx.conn.now) d c.add_labels.ensures.goes.survives second) inside has)
 
 -- ---- no fault tells a later schema
@@ -64,3 +66,20 @@ returns-in_err-make_tables-clause-never g c clean inside = passed_from c.from_re
 
 pub returns-in_err-add_labels-clause-never : goal.returns-in_err-add_labels-clause-never
 returns-in_err-add_labels-clause-never g c clean inside = passed_from c.from_residual-in_err-add_labels.result _ IsNotNewerSchema c.from_residual-in_err-add_labels.ensures.1 c.in_err-add_labels.ensures.never
+
+-- ---- what was carried out
+
+pub returns-clause-carried : goal.returns-clause-carried
+returns-clause-carried g c clean inside =
+    let a = c.args.tx.now.conn.now in
+    let b = c.make_tables.new.tx.conn.now in
+    let d = c.add_labels.new.tx.conn.now in
+    let e = c.add_root.new.tx.conn.now in
+    let second = earlier (state g.S.Store d) (state g.S.Store e) c.add_root.ensures.goes.survives clean in
+    let first = earlier (state g.S.Store b) (state g.S.Store d) c.add_labels.ensures.goes.survives second in
+    let one = c.in_ok-make_tables.ensures in
+    let two = c.in_ok-add_labels.ensures in
+    let within = (one.goes.going first inside).1 in
+    carried_then g.S.Store (all_statements ++ label_statements) (root_statement ∷ []) a d e c.add_root.result
+    (carried_both g.S.Store all_statements label_statements a b d (one.carried first inside) (two.carried second within))
+    (c.add_root.ensures.carried clean (two.goes.going second within).1)

@@ -5,6 +5,8 @@ use Rattle.pid_tables_rows.specs.Schema.{meta, account, item}
 use Rattle.pid_tables_rows.proofs.CauseLemmas.{passed_on}
 use Rattle.pid_tables_rows.proofs.GoingLemmas.{earlier}
 use Rattle.pid_tables.specs.Creation.{IsFaultOfTaken}
+use Rattle.pid_tables.specs.Statements.{meta_text, account_text, item_text}
+use Rattle.pid_tables.proofs.Carrying.{carried_both, carried_then}
 use Rattle.pid_tables.proofs.CreateTexts.{meta_creates, account_creates, item_creates}
 use Rattle.pid_tables.proofs.MakerTexts.{meta_maker, account_maker, item_maker, meta_met}
 use Rattle.pid_tables.proofs.MetLemmas.{took_then, took_both}
@@ -67,3 +69,18 @@ pub returns-clause-met : goal.returns-clause-met
 returns-clause-met g c clean inside has =
     let second = earlier (state g.S.Store c.make_table-2.new.tx.conn.now) (state g.S.Store c.make_table-3.new.tx.conn.now) c.make_table-3.ensures.goes.survives clean in
     absurd (c.in_ok-make_table.ensures.met meta_met (earlier (state g.S.Store c.make_table.new.tx.conn.now) (state g.S.Store c.make_table-2.new.tx.conn.now) c.make_table-2.ensures.goes.survives second) inside has)
+
+pub returns-clause-carried : goal.returns-clause-carried
+returns-clause-carried g c clean inside =
+    let a = c.args.tx.now.conn.now in
+    let b = c.make_table.new.tx.conn.now in
+    let d = c.make_table-2.new.tx.conn.now in
+    let e = c.make_table-3.new.tx.conn.now in
+    let second = earlier (state g.S.Store d) (state g.S.Store e) c.make_table-3.ensures.goes.survives clean in
+    let first = earlier (state g.S.Store b) (state g.S.Store d) c.make_table-2.ensures.goes.survives second in
+    let one = c.in_ok-make_table.ensures in
+    let two = c.in_ok-make_table-2.ensures in
+    let within = (one.goes.going first inside).1 in
+    carried_then g.S.Store ((meta_text, []) ∷ (account_text, []) ∷ []) ((item_text, []) ∷ []) a d e c.make_table-3.result
+    (carried_both g.S.Store ((meta_text, []) ∷ []) ((account_text, []) ∷ []) a b d (one.carried first inside) (two.carried second within))
+    (c.make_table-3.ensures.carried clean (two.goes.going second within).1)

@@ -4,6 +4,8 @@ use Rattle.pid_tables_rows.specs.Faults.{IsMemoryOrStore, IsNotNewerSchema}
 use Rattle.pid_tables_rows.specs.Schema.{meta, account, item, submission, remark, receipt}
 use Rattle.pid_tables_rows.proofs.CauseLemmas.{passed_on}
 use Rattle.pid_tables_rows.proofs.GoingLemmas.{earlier}
+use Rattle.pid_tables.specs.Statements.{submission_text, remark_text, receipt_text}
+use Rattle.pid_tables.proofs.Carrying.{carried_both, carried_then}
 use Rattle.pid_tables.proofs.CreateTexts.{submission_creates, remark_creates, receipt_creates}
 use Rattle.pid_tables.proofs.MakerTexts.{submission_maker, remark_maker, receipt_maker}
 use Rattle.pid_tables.proofs.MetLemmas.{took_then, took_both}
@@ -52,3 +54,18 @@ returns-clause-takes g c clean inside =
     took_then (codes "submission" ∷ codes "remark" ∷ []) (codes "receipt" ∷ []) a.now.schema d.now.schema e.now.schema
     (took_both (codes "submission" ∷ []) (codes "remark" ∷ []) a.now.schema b.now.schema d.now.schema (one.takes (codes "submission") submission_maker first inside) (two.takes (codes "remark") remark_maker second within))
     c.make_table-3.result (c.make_table-3.ensures.takes (codes "receipt") receipt_maker clean (two.goes.going second within).1)
+
+pub returns-clause-carried : goal.returns-clause-carried
+returns-clause-carried g c clean inside =
+    let a = c.args.tx.now.conn.now in
+    let b = c.make_table.new.tx.conn.now in
+    let d = c.make_table-2.new.tx.conn.now in
+    let e = c.make_table-3.new.tx.conn.now in
+    let second = earlier (state g.S.Store d) (state g.S.Store e) c.make_table-3.ensures.goes.survives clean in
+    let first = earlier (state g.S.Store b) (state g.S.Store d) c.make_table-2.ensures.goes.survives second in
+    let one = c.in_ok-make_table.ensures in
+    let two = c.in_ok-make_table-2.ensures in
+    let within = (one.goes.going first inside).1 in
+    carried_then g.S.Store ((submission_text, []) ∷ (remark_text, []) ∷ []) ((receipt_text, []) ∷ []) a d e c.make_table-3.result
+    (carried_both g.S.Store ((submission_text, []) ∷ []) ((remark_text, []) ∷ []) a b d (one.carried first inside) (two.carried second within))
+    (c.make_table-3.ensures.carried clean (two.goes.going second within).1)

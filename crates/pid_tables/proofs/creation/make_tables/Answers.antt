@@ -1,10 +1,13 @@
-use Rattle.std.proofs.Common.{[], ◌∷◌, refl, codes}
+use Rattle.std.proofs.Common.{[], ◌∷◌, ◌++◌, refl, codes}
 use Rattle.sqlite.specs.Held.{state}
 use Rattle.pid_tables_rows.specs.Faults.{IsMemoryOrStore, IsNotNewerSchema}
 use Rattle.pid_tables_rows.specs.Schema.{meta, account, item, submission, remark, receipt, item_since}
 use Rattle.pid_tables_rows.proofs.CauseLemmas.{passed_on}
 use Rattle.pid_tables_rows.proofs.GoingLemmas.{earlier}
 use Rattle.pid_tables.specs.Creation.{IsFaultOfTaken}
+use Rattle.pid_tables.specs.Statements.{item_since_text}
+use Rattle.pid_tables.specs.Steps.Making.{first_statements, rest_statements}
+use Rattle.pid_tables.proofs.Carrying.{carried_both, carried_then}
 use Rattle.pid_tables.proofs.CreateTexts.{item_since_creates}
 use Rattle.pid_tables.proofs.MakerTexts.{item_since_maker}
 use Rattle.pid_tables.proofs.MetLemmas.{took_then, took_both}
@@ -67,3 +70,18 @@ returns-clause-met g c clean inside has =
     let d = state g.S.Store c.make_rest.new.tx.conn.now in
     let second = earlier d (state g.S.Store c.make_table.new.tx.conn.now) c.make_table.ensures.goes.survives clean in
     absurd (c.in_ok-make_first.ensures.met (earlier b d c.make_rest.ensures.goes.survives second) inside has)
+
+pub returns-clause-carried : goal.returns-clause-carried
+returns-clause-carried g c clean inside =
+    let a = c.args.tx.now.conn.now in
+    let b = c.make_first.new.tx.conn.now in
+    let d = c.make_rest.new.tx.conn.now in
+    let e = c.make_table.new.tx.conn.now in
+    let second = earlier (state g.S.Store d) (state g.S.Store e) c.make_table.ensures.goes.survives clean in
+    let first = earlier (state g.S.Store b) (state g.S.Store d) c.make_rest.ensures.goes.survives second in
+    let one = c.in_ok-make_first.ensures in
+    let two = c.in_ok-make_rest.ensures in
+    let within = (one.goes.going first inside).1 in
+    carried_then g.S.Store (first_statements ++ rest_statements) ((item_since_text, []) ∷ []) a d e c.make_table.result
+    (carried_both g.S.Store first_statements rest_statements a b d (one.carried first inside) (two.carried second within))
+    (c.make_table.ensures.carried clean (two.goes.going second within).1)

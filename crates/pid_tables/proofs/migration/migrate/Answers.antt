@@ -11,8 +11,9 @@ use Rattle.pid_tables_check.proofs.Later.{untold_never}
 use Rattle.pid_tables_check.specs.Checking.{Explains}
 use Rattle.pid_tables.specs.Bringing.{Refuses, Fails}
 use Rattle.pid_tables.specs.Creation.{RestsBare}
-use Rattle.pid_tables.proofs.AtOnceLemmas.{reads_at_once, reads_then_at_once, still_bare}
-use Rattle.pid_tables.proofs.BringLemmas.{made_alone, with_step, none_there, still_met, met_reads, left_alone, or_untold, brought, named_brought, read_alone, one_found, ok_rests, left_rests, kept_rests, hands_latest}
+use Rattle.pid_tables.specs.Statements.{IsMadeBy, registry_statements}
+use Rattle.pid_tables.proofs.AtOnceLemmas.{reads_at_once, reads_never, reads_then_at_once, still_bare}
+use Rattle.pid_tables.proofs.BringLemmas.{made_alone, with_step, none_there, still_met, met_reads, left_alone, or_untold, brought, named_brought, read_alone, one_found, ok_rests, left_rests, kept_rests, hands_latest, reads_then_made}
 use Rattle.pid_tables.proofs.StandLemmas.{standing_latest, tables_some, untold_told}
 use Rattle.pid_tables.proofs.MoveLemmas.{not_ok, not_on_ok}
 use Rattle.pid_tables.proofs.migration.migrate.Goals as goal
@@ -57,6 +58,7 @@ returns-in_err-found-clause-none g c =
     let reads = c.standing.ensures.rests in
     let bad = c.in_err-found.ensures.shown in
     record {
+      made = λ none. reads_never (IsMadeBy g.S.Store registry_statements c.args.conn.now) old mid reads;
       bare = λ clean none. passed_on c.from_residual.result _ _ IsNotNewerSchema c.from_residual.ensures.1 (untold_never _ (bad.bare clean none));
       met = λ clean none met. passed_on c.from_residual.result _ _ (λ fault. IsNotNewerSchema fault × OnlyReads old mid) c.from_residual.ensures.1 (untold_never _ (bad.bare clean none), reads);
       shut = λ clean closed. passed_on c.from_residual.result _ _ (λ fault. IsMemoryOrStore fault × OnlyReads old mid) c.from_residual.ensures.1 (bad.shut clean closed, reads);
@@ -136,6 +138,9 @@ returns-clause-none g c =
     let reads = c.standing.ensures.rests in
     let good = c.in_ok-found.ensures.shown in
     record {
+      made = λ none.
+          reads_then_made g.S.Store registry_statements c.args.conn.now c.standing.new.conn c.bring.new.conn reads c.standing.ensures.same c.bring.ensures.at_once.once
+          (λ clean. c.bring.ensures.made (good.bare (c.bring.ensures.at_once.clean clean) none));
       bare = λ clean none. made_alone c.in_ok-found.found c.bring.result (good.bare (c.bring.ensures.at_once.clean clean) none) c.bring.ensures.step (c.bring.ensures.never clean);
       met = λ clean none met.
           met_reads old mid (state g.S.Store c.bring.new.conn) c.bring.result reads (c.bring.ensures.met clean (good.bare (c.bring.ensures.at_once.clean clean) none) (still_met old mid reads c.standing.ensures.same met));

@@ -1,4 +1,4 @@
-use Rattle.std.proofs.Common.{◌≡◌, false, Ok, Err, rules, subst, sym, ap, ◌∙◌}
+use Rattle.std.proofs.Common.{◌≡◌, false, Ok, Err, rules, refl, subst, sym, ap, ◌∙◌}
 use Rattle.sqlite.specs.Held.{state}
 use Rattle.sqlite.specs.State.{HasCleanDisk}
 use Rattle.pid_moderation.specs.History.{asked}
@@ -9,7 +9,7 @@ use Rattle.pid_tables_rows.specs.Shows.{counts_of}
 use Rattle.pid_tables_rows.proofs.GoingLemmas.{earlier}
 use Rattle.pid_tables.specs.Files.{file_reading}
 use Rattle.pid_tables.specs.Steps.PutFiles.{PutsFile}
-use Rattle.pid_tables.proofs.PutInto.{puts, gives_up, shown, put_name, put_clean, put_holds, put_within, put_tally}
+use Rattle.pid_tables.proofs.PutInto.{puts, gives_up, shown, put_name, put_clean, put_limit, put_holds, put_within, put_tally}
 use Rattle.pid_tables.proofs.BringIn.{left_read, left_stops, stop_live, body_end, end_body, applied_stops, applied_read, err_is, end_is}
 use Rattle.pid_tables.proofs.put_file.bring_in.Goals as goal
 
@@ -32,6 +32,16 @@ returns-in-Err-clause-ends g c = record {
       let began : HasCleanDisk (shown g.S.Store end) → HasCleanDisk (state g.S.Store c.args.conn.now) = λ clean. subst (λ h. HasCleanDisk (state g.S.Store h)) c.begin-batch.ensures.unchanged (put_clean g.S.Store n c.put_file.result _ read.0 start end read.2 clean) in
       let same : c.roll_back.new.batch.0 ≡ c.conn-1.given.0 = search rules in
       began (earlier (shown g.S.Store end) (state g.S.Store c.roll_back.new.batch.0) c.roll_back.ensures.survives (subst (λ h. HasCleanDisk (state g.S.Store h)) (sym same) clean));
+  limit =
+      let n = c.next_revision-revision.result in
+      let start = c.begin-batch.result in
+      let end = c.put_file.new.batch in
+      let read = c.put_file.ensures.puts in
+      let begun : start.conn.now.step_limit ≡ c.args.conn.now.step_limit = subst (λ h. h.step_limit ≡ c.args.conn.now.step_limit) (sym c.begin-batch.ensures.unchanged) refl in
+      let put : end.conn.now.step_limit ≡ start.conn.now.step_limit = put_limit g.S.Store n c.put_file.result _ read.0 start end read.2 in
+      let name : end.conn.ghost_name ≡ start.conn.ghost_name = put_name g.S.Store n c.put_file.result _ read.0 start end read.2 in
+      let same : c.roll_back.new.batch.0 ≡ c.conn-1.given.0 = search rules in
+      subst (λ h. h.step_limit ≡ c.args.conn.now.step_limit) same (c.roll_back.ensures.survives.limit ∙ put ∙ begun);
 }
 
 pub returns-in-Err-clause-stops : goal.returns-in-Err-clause-stops
@@ -83,6 +93,18 @@ returns-in-Err-apply_file-clause-ends g c = record {
       let named : after.conn.ghost_name ≡ end.conn.ghost_name = c.apply_file.ensures.same_reference in
       let same : c.roll_back-in-Err-apply_file.new.batch.0 ≡ c.conn-in-Err-apply_file-1.given.0 = search rules in
       began (c.apply_file.ensures.clean (earlier (shown g.S.Store after) (state g.S.Store c.roll_back-in-Err-apply_file.new.batch.0) c.roll_back-in-Err-apply_file.ensures.survives (subst (λ h. HasCleanDisk (state g.S.Store h)) (sym same) clean)));
+  limit =
+      let n = c.next_revision-revision.result in
+      let start = c.begin-batch.result in
+      let end = c.put_file.new.batch in
+      let read = c.put_file.ensures.puts in
+      let begun : start.conn.now.step_limit ≡ c.args.conn.now.step_limit = subst (λ h. h.step_limit ≡ c.args.conn.now.step_limit) (sym c.begin-batch.ensures.unchanged) refl in
+      let put : end.conn.now.step_limit ≡ start.conn.now.step_limit = put_limit g.S.Store n c.put_file.result _ read.0 start end read.2 in
+      let name : end.conn.ghost_name ≡ start.conn.ghost_name = put_name g.S.Store n c.put_file.result _ read.0 start end read.2 in
+      let after = c.apply_file.new.batch in
+      let named : after.conn.ghost_name ≡ end.conn.ghost_name = c.apply_file.ensures.same_reference in
+      let same : c.roll_back-in-Err-apply_file.new.batch.0 ≡ c.conn-in-Err-apply_file-1.given.0 = search rules in
+      subst (λ h. h.step_limit ≡ c.args.conn.now.step_limit) same (c.roll_back-in-Err-apply_file.ensures.survives.limit ∙ c.apply_file.ensures.limit ∙ put ∙ begun);
 }
 
 pub returns-in-Err-apply_file-clause-stops : goal.returns-in-Err-apply_file-clause-stops
@@ -139,6 +161,18 @@ returns-in-Ok-commit-clause-ends g c = record {
       let named : after.conn.ghost_name ≡ end.conn.ghost_name = c.apply_file.ensures.same_reference in
       let same : c.commit.new.batch.0 ≡ c.conn-in-Ok-apply_file-1.given.0 = search rules in
       began (c.apply_file.ensures.clean (earlier (shown g.S.Store after) (state g.S.Store c.commit.new.batch.0) c.commit.ensures.survives (subst (λ h. HasCleanDisk (state g.S.Store h)) (sym same) clean)));
+  limit =
+      let n = c.next_revision-revision.result in
+      let start = c.begin-batch.result in
+      let end = c.put_file.new.batch in
+      let read = c.put_file.ensures.puts in
+      let begun : start.conn.now.step_limit ≡ c.args.conn.now.step_limit = subst (λ h. h.step_limit ≡ c.args.conn.now.step_limit) (sym c.begin-batch.ensures.unchanged) refl in
+      let put : end.conn.now.step_limit ≡ start.conn.now.step_limit = put_limit g.S.Store n c.put_file.result _ read.0 start end read.2 in
+      let name : end.conn.ghost_name ≡ start.conn.ghost_name = put_name g.S.Store n c.put_file.result _ read.0 start end read.2 in
+      let after = c.apply_file.new.batch in
+      let named : after.conn.ghost_name ≡ end.conn.ghost_name = c.apply_file.ensures.same_reference in
+      let same : c.commit.new.batch.0 ≡ c.conn-in-Ok-apply_file-1.given.0 = search rules in
+      subst (λ h. h.step_limit ≡ c.args.conn.now.step_limit) same (c.commit.ensures.survives.limit ∙ c.apply_file.ensures.limit ∙ put ∙ begun);
 }
 
 pub returns-in-Ok-commit-clause-stops : goal.returns-in-Ok-commit-clause-stops
@@ -188,6 +222,18 @@ returns-in-Err-commit-clause-ends g c = record {
       let named : after.conn.ghost_name ≡ end.conn.ghost_name = c.apply_file.ensures.same_reference in
       let same : c.commit.new.batch.0 ≡ c.conn-in-Ok-apply_file-1.given.0 = search rules in
       began (c.apply_file.ensures.clean (earlier (shown g.S.Store after) (state g.S.Store c.commit.new.batch.0) c.commit.ensures.survives (subst (λ h. HasCleanDisk (state g.S.Store h)) (sym same) clean)));
+  limit =
+      let n = c.next_revision-revision.result in
+      let start = c.begin-batch.result in
+      let end = c.put_file.new.batch in
+      let read = c.put_file.ensures.puts in
+      let begun : start.conn.now.step_limit ≡ c.args.conn.now.step_limit = subst (λ h. h.step_limit ≡ c.args.conn.now.step_limit) (sym c.begin-batch.ensures.unchanged) refl in
+      let put : end.conn.now.step_limit ≡ start.conn.now.step_limit = put_limit g.S.Store n c.put_file.result _ read.0 start end read.2 in
+      let name : end.conn.ghost_name ≡ start.conn.ghost_name = put_name g.S.Store n c.put_file.result _ read.0 start end read.2 in
+      let after = c.apply_file.new.batch in
+      let named : after.conn.ghost_name ≡ end.conn.ghost_name = c.apply_file.ensures.same_reference in
+      let same : c.commit.new.batch.0 ≡ c.conn-in-Ok-apply_file-1.given.0 = search rules in
+      subst (λ h. h.step_limit ≡ c.args.conn.now.step_limit) same (c.commit.ensures.survives.limit ∙ c.apply_file.ensures.limit ∙ put ∙ begun);
 }
 
 pub returns-in-Err-commit-clause-stops : goal.returns-in-Err-commit-clause-stops
