@@ -38,7 +38,7 @@ pub use running::RunReport;
 pub use pid_ident::{Account, Input, Key, Name, Output, Path, Text};
 pub use pid_lookup::{Answer, Args, BadField, LookupRefusal, args_of};
 pub use pid_moderation::{
-    Act, ChangedItem, Changes, Command, Comment, Discussion, File, Item, Pending, Proposal, Rank,
-    Refusal, Reply, State, Submission, Verb, command_of, reply_line,
+    Act, ChangedItem, Changes, Command, Comment, Discussion, File, Item, Pending, Proposal, Queued,
+    Rank, Refusal, Reply, State, Submission, SubmissionPage, Verb, command_of, reply_line,
 };
 pub use pid_tables::{Step, TableFault};

@@ -2,14 +2,15 @@
 ghost use Rattle.std.specs.Prelude.{◌≡◌, map};
 ghost use Rattle.pid_moderation.specs.Views.{views_of};
 ghost use Rattle.pid_moderation.specs.PendingPages.{pending_in, told_of};
+ghost use Rattle.pid_moderation.specs.QueuePages.{queue_in, queued_of};
 ghost use Rattle.pid_service.specs.Asking.{Answers};
 
 use crate::laws;
 use crate::registry::Registry;
 use crate::waiting::{numbers_above, waiting_numbers};
-use pid_moderation::{PAGE, Pending, Refusal};
+use pid_moderation::{PAGE, Pending, Queued, Refusal};
 use pid_tables::{TableFault, refusal_of};
-use pid_tables_lists::pending_at;
+use pid_tables_lists::{pending_at, queue_at, queue_page};
 use sqlite::Alter;
 
 impl<S: Alter + Drop> Registry<S> {
@@ -90,6 +91,57 @@ impl<S: Alter + Drop> Registry<S> {
         }
         match self.keep_pending() {
             Ok(()) => self.pending_by_numbers(after),
+            Err(refusal) => Err(refusal),
+        }
+    }
+
+    // The queue by a walk over all submissions.
+    fn queue_by_rows(&mut self, after: u32) -> Result<Vec<Queued>, Refusal>
+        ensures { Answers S.Store self.old self.new result
+            (λ h queue. map queued_of queue.items ≡ queue_in PAGE after (views_of h)) }
+    {
+        if !self.live {
+            return Err(Refusal::Failed);
+        }
+        laws::reached_histories_are_kept(); // proof only
+        match queue_page(&mut self.tables.conn, self.alloc, after) {
+            Ok(queue) => Ok(queue),
+            Err(fault) => Err(refusal_of(fault)),
+        }
+    }
+
+    // The queue by the numbers that are kept, if they are.
+    fn queue_by_numbers(&mut self, after: u32) -> Result<Vec<Queued>, Refusal>
+        ensures { Answers S.Store self.old self.new result
+            (λ h queue. map queued_of queue.items ≡ queue_in PAGE after (views_of h)) }
+    {
+        if !self.live {
+            return Err(Refusal::Failed);
+        }
+        laws::reached_histories_are_kept(); // proof only
+        let Some(kept) = &self.kept.pending else {
+            return self.queue_by_rows(after);
+        };
+        let Some(numbers) = numbers_above(self.alloc, kept.as_slice(), after) else {
+            return Err(Refusal::Memory);
+        };
+        match queue_at(&mut self.tables.conn, self.alloc, numbers.as_slice()) {
+            Ok(queue) => Ok(queue),
+            Err(fault) => Err(refusal_of(fault)),
+        }
+    }
+
+    /// The pending submissions of `pending`, each with the name that its path has today and how
+    /// many remarks it has.
+    pub fn queue(&mut self, after: u32) -> Result<Vec<Queued>, Refusal>
+        ensures { Answers S.Store self.old self.new result
+            (λ h queue. map queued_of queue.items ≡ queue_in PAGE after (views_of h)) }
+    {
+        if !self.live {
+            return Err(Refusal::Failed);
+        }
+        match self.keep_pending() {
+            Ok(()) => self.queue_by_numbers(after),
             Err(refusal) => Err(refusal),
         }
     }

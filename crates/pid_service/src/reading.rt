@@ -7,13 +7,15 @@ ghost use Rattle.pid_moderation.specs.ItemPairs.{pair_of};
 ghost use Rattle.pid_moderation.specs.ChangePages.{changes_in, page_of, start_text};
 ghost use Rattle.pid_moderation.specs.Children.{children_of};
 ghost use Rattle.pid_moderation.specs.Submissions.{discussion_in, discussion_of};
+ghost use Rattle.pid_moderation.specs.SubmissionPages.{submission_page_of, submissions_of};
 ghost use Rattle.pid_service.specs.Asking.{Answers, AnswersIfThere};
 
 use crate::laws;
 use crate::registry::Registry;
 use pid_ident::{Account, Name, Path};
-use pid_moderation::{Changes, Discussion, Item, PAGE, Rank, Refusal};
+use pid_moderation::{Changes, Discussion, Item, PAGE, Rank, Refusal, SEARCHED, SubmissionPage};
 use pid_tables::refusal_of;
+use pid_tables_lists::submissions_page;
 use pid_tables_rows::account::rank;
 use pid_tables_rows::meta::revision;
 use sqlite::Alter;
@@ -80,6 +82,33 @@ impl<S: Alter + Drop> Registry<S> {
         match self.tables.submission(self.alloc, number) {
             Ok(Some(found)) => Ok(found),
             Ok(None) => Err(Refusal::NoSubmission),
+            Err(fault) => Err(refusal_of(fault)),
+        }
+    }
+
+    /// The submissions for a path, if one is named, and of an author, if one is named, the latest
+    /// first, whose numbers are below `before`, of which 0 stands for no bound: `PAGE` at most, out
+    /// of at most `SEARCHED` that are looked at. The page says where the next one begins; 0 at the
+    /// end.
+    pub fn submissions(
+        &mut self,
+        path: Option<&Path>,
+        author: Option<&Account>,
+        before: u32,
+    ) -> Result<SubmissionPage, Refusal>
+        ensures { Answers S.Store self.old self.new result
+            (λ h page. submission_page_of page ≡ submissions_of PAGE SEARCHED (record {
+              path = option_copied path.entry;
+              author = option_copied author.entry;
+              before = before;
+            }) (views_of h)) }
+    {
+        if !self.live {
+            return Err(Refusal::Failed);
+        }
+        laws::reached_histories_are_kept(); // proof only
+        match submissions_page(&mut self.tables.conn, self.alloc, path, author, before) {
+            Ok(page) => Ok(page),
             Err(fault) => Err(refusal_of(fault)),
         }
     }
