@@ -57,7 +57,7 @@ pub returns-in-Queue : goal.returns-in-Queue
 returns-in-Queue g c = rw c.in-Queue.is (whoever _ _ _ c.args.head.now _ _ c.queue.ensures)
 
 pub returns-in-Submissions : goal.returns-in-Submissions
-returns-in-Submissions g c = rw c.in-Submissions.is (whoever _ _ _ c.args.head.now _ _ c.answer_submissions.ensures)
+returns-in-Submissions g c = rw (c.in-Submissions.is, ← c.as_ref.ensures.value) (whoever _ _ _ c.args.head.now _ _ c.answer_submissions.ensures)
 
 pub returns-in-Status : goal.returns-in-Status
 returns-in-Status g c = rw c.in-Status.is (whoever _ _ _ c.args.head.now _ _ c.status.ensures)
