@@ -176,7 +176,7 @@ fn ask(
 ///
 /// # Errors
 ///
-/// There is no memory for the fields of the query.
+/// There is no memory for what the query says.
 #[tactic(auto, unfolding(crate::specs::Questions::question))]
 pub fn question_of(
     alloc: Global,
