@@ -156,6 +156,15 @@ QUESTIONS = [
     ("/changes?since=6&after=PC/8086", 0),
     ("/changes?since=9000000000000000000", 0),
     ("/changes?after=PC", 1),
+    ("/queue", 0),
+    ("/queue?after=3", 0),
+    ("/submissions", 0),
+    ("/submissions?path=&before=0", 0),
+    ("/submissions?path=PC/8086&author=alice&before=5", 0),
+    ("/submissions?path=PC/8087", 0),
+    ("/submissions?author=carol", 0),
+    ("/submissions?path=PC", 1),
+    ("/status", 0),
     ("/account?who=alice", 0),
     ("/account?who=root", 0),
     ("/account?who=" + "a" * 32, 29),
@@ -170,10 +179,54 @@ BAD_QUERIES = [
     "/account?who=alice&who=alice",
     "/account?who=alice&rank=0",
     "/account?who=alice&format=xml",
+    "/queue?after=",
+    "/queue?after=01",
+    "/queue?before=1",
+    "/submissions?before=",
+    "/submissions?before=2000000001",
+    "/submissions?after=1",
+    "/submissions?author=",
+    "/submissions?author=Alice&path=PC",
+    "/submissions?path=PC/8086&path=PC/8086",
+    "/status?after=0",
 ]
 
-# What questions about accounts are answered in both formats, and the same with a sender.
-ACCOUNTS = [
+# What these questions are answered, whoever asks.
+ANSWERS = [
+    (
+        "/queue?after=2",
+        b'[{"author":"bob","name":"82371SB","note":"","now":null,"num":3,"path":"PC/8086/7000",'
+        b'"remarks":0},{"author":"alice","name":"' + b'\\"' * 1_000 + b'","note":"","now":null,'
+        b'"num":7,"path":"PC/8086/7112","remarks":0}]',
+    ),
+    ("/queue?after=6&format=text", b"7 alice name PC/8086/7112 " + b'"' * 1_000 + b"\n"),
+    (
+        "/submissions?path=PC/8086",
+        b'{"before":0,"submissions":[{"author":"alice","decider":"mona","name":null,"num":5,'
+        b'"path":"PC/8086","reason":"still sold","remarks":0,"state":"rejected"},'
+        b'{"author":"alice","decider":"alice","name":"Intel","num":4,"path":"PC/8086","reason":"",'
+        b'"remarks":0,"state":"withdrawn"},{"author":"alice","decider":"mona","name":"Intel",'
+        b'"num":1,"path":"PC/8086","reason":"","remarks":1,"state":"approved"}]}',
+    ),
+    (
+        "/submissions?author=bob",
+        b'{"before":0,"submissions":[{"author":"bob","decider":"","name":"82371SB","num":3,'
+        b'"path":"PC/8086/7000","reason":"","remarks":0,"state":"pending"}]}',
+    ),
+    (
+        "/submissions?author=alice&before=6&format=text",
+        b"before 0\n5 rejected alice remove PC/8086\n4 withdrawn alice name PC/8086 Intel\n"
+        b"2 approved alice name PC/8086/1237 440FX\n1 approved alice name PC/8086 Intel\n",
+    ),
+    ("/submissions?author=bob&path=PC/8086&format=text", b"before 0\n"),
+    (
+        "/status",
+        b'{"accounts":4,"items":3,"pending":2,"revision":20,"submissions":7}',
+    ),
+    (
+        "/status?format=text",
+        b"accounts 4\nitems 3\npending 2\nrevision 20\nsubmissions 7\n",
+    ),
     ("/account?who=alice", b'{"rank":0,"who":"alice"}'),
     ("/account?who=bob&format=json", b'{"rank":1,"who":"bob"}'),
     ("/account?who=mona", b'{"rank":2,"who":"mona"}'),
@@ -188,7 +241,8 @@ def line_of(it):
     if "num" not in it:
         return f"{it['path']} {it['name']}\n"
     what = f"remove {it['path']}" if it["name"] is None else f"name {it['path']} {it['name']}"
-    return f"{it['num']} {it['author']} {what}\n"
+    state = f"{it['state']} " if "state" in it else ""
+    return f"{it['num']} {state}{it['author']} {what}\n"
 
 
 def discussion(told):
@@ -205,8 +259,12 @@ def as_text(told):
     """The text that says what a JSON reply says."""
     if isinstance(told, list):
         return "".join(line_of(it) for it in told)
+    if "before" in told:
+        return f"before {told['before']}\n" + as_text(told["submissions"])
     if "state" in told:
         lines = discussion(told)
+    elif "accounts" in told:
+        lines = [f"{key} {count}" for key, count in told.items()]
     elif "revision" in told:
         lines = [f"revision {told['revision']}"] + [
             f"{it['since']} {it['path']} {it['name']}" for it in told["items"]
@@ -320,6 +378,35 @@ def test_confirmations(cases, folder):
         )
 
 
+def pages_of(server, target):
+    """The numbers of each page, as one goes on from page to page."""
+    pages, before = [], 0
+    while not pages or before:
+        told = json.loads(server.curl(f"{target}before={before}")[2])
+        pages.append([it["num"] for it in told["submissions"]])
+        before = told["before"]
+    return pages
+
+
+def test_pages(cases, folder):
+    """Pages of submissions show each one once, the latest first."""
+    path = os.path.join(folder, "pages")
+    authors = ["alice" if number % 3 else "bob" for number in range(1, 331)]
+    rows = [f"submit {author} path=PC/8086/{number:04x}&name=a"
+            for number, author in enumerate(authors, 1)]
+    script(path, "account root who=alice&rank=0", "account root who=bob&rank=0", *rows)
+    with Server(path) as server:
+        all_of = list(range(330, 0, -1))
+        cases.equal("all", pages_of(server, "/submissions?"),
+                    [all_of[:100], all_of[100:200], all_of[200:300], all_of[300:]])
+        of_alice = [number for number in all_of if number % 3]
+        cases.equal("of one author", pages_of(server, "/submissions?author=alice&"),
+                    [of_alice[:100], of_alice[100:200], of_alice[200:]])
+        cases.equal("for one path", pages_of(server, "/submissions?path=PC/8086/0007&"), [[7]])
+        of_another = "/submissions?path=PC/8086/0007&author=bob&"
+        cases.equal("for one path of another author", pages_of(server, of_another), [[]])
+
+
 def test_routes(cases, folder):
     known = refusals.shown()
     cases.equal(
@@ -339,7 +426,7 @@ def test_routes(cases, folder):
                 first.curl(target + ("&" if "?" in target else "?") + "format=text"),
                 (400, JSON, b'{"ok":false,"refused":3,"word":"BadText"}'),
             )
-        for target, body in ACCOUNTS:
+        for target, body in ANSWERS:
             kind = TEXT if "format=text" in target else JSON
             cases.equal(f"GET {target}", first.curl(target), (200, kind, body))
             # Nobody's rank is that of the account that asks.

@@ -5,6 +5,7 @@ use Rattle.pid_file.specs.declared.path.Path.{Path}
 use Rattle.pid_service.specs.Files.{asks, file_reading}
 use Rattle.pid_moderation.specs.BeforeFile.{import_of}
 use Rattle.pid_moderation.specs.History.{Asked}
+use Rattle.pid_moderation.specs.SubmissionPages.{Search}
 use Rattle.pid_moderation.specs.declared.command.Command.{Command}
 use Rattle.pid_moderation.specs.declared.refusal.Refusal.{Refusal}
 use Rattle.pid_moderation.specs.declared.refusal.Refusal.TheVariants.{BadPath, BadText}
@@ -19,6 +20,8 @@ use Rattle.pid_http_requests.specs.declared.format.Format.TheVariants.{Json}
 use Rattle.pid_http_requests.specs.declared.lookup.LookupQuery.{LookupQuery}
 use Rattle.pid_http_requests.specs.declared.query.Above.{Above}
 use Rattle.pid_http_requests.specs.declared.query.Above.TheVariants as above
+use Rattle.pid_http_requests.specs.declared.query.Sought.{Sought}
+use Rattle.pid_http_requests.specs.declared.query.Sought.TheVariants as sought
 use Rattle.pid_http_requests.specs.declared.query.Start.{Start}
 use Rattle.pid_http_requests.specs.declared.query.Start.TheVariants as starts
 use Rattle.pid_http_requests.specs.declared.question.Question.{Question}
@@ -49,6 +52,12 @@ pub data Errand : Type 0 where
   -- the items that were added or renamed by commands with greater numbers than this, after a path
   -- or from the first one on
   Changes : ℕ → Option Path → Format → Errand
+  -- the queue of pending submissions with greater numbers than this
+  Queue : ℕ → Format → Errand
+  -- the submissions that a search finds
+  Submissions : Search → Format → Errand
+  -- how much the registry holds
+  Status : Format → Errand
   -- the rank of an account
   Rank : List ℕ → Format → Errand
 
@@ -66,6 +75,9 @@ format_of (Children above format) = format
 format_of (Submission number format) = format
 format_of (Pending number format) = format
 format_of (Changes since after format) = format
+format_of (Queue after format) = format
+format_of (Submissions search format) = format
+format_of (Status format) = format
 format_of (Rank who format) = format
 format_of errand = Json
 
@@ -113,6 +125,16 @@ abbrev pub submission_for : Format → Option ℕ → Errand
 submission_for format None = Answered (outcome_answer format (Err BadText))
 submission_for format (Some number) = Submission number format
 
+-- the submissions for a path, or for any, of an author and below a number; what is no path's text
+-- is refused
+abbrev pub submissions_for : Format → Sought → Option (List ℕ) → ℕ → Errand
+submissions_for format sought.Anywhere author before =
+    Submissions (record { path = None; author = author; before = before }) format
+submissions_for format (sought.At path) author before =
+    Submissions (record { path = Some path; author = author; before = before }) format
+submissions_for format sought.BadPath author before =
+    Answered (outcome_answer format (Err BadPath))
+
 -- what a question comes to: commands alone have a sender
 abbrev pub errand_for : Question → Option Sending → List ℕ → Errand
 errand_for questions.AnotherMethod s body = Answered (early_answer early.AnotherMethod)
@@ -128,6 +150,10 @@ errand_for (questions.Lookup lookup) s body = Lookup lookup
 errand_for (questions.Submission number format) s body = submission_for format number
 errand_for (questions.Pending after format) s body = Pending after format
 errand_for (questions.Changes since start format) s body = changes_for since format start
+errand_for (questions.Queue after format) s body = Queue after format
+errand_for (questions.Submissions sought author before format) s body =
+    submissions_for format sought author before
+errand_for (questions.Status format) s body = Status format
 errand_for (questions.Rank who format) s body = Rank who format
 errand_for (questions.Command verb format) s body = sent format
     (λ sending. command_made verb sending body) s

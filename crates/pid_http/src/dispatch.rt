@@ -1,21 +1,23 @@
 //! What a request asks for, answered by the registry.
-ghost use Rattle.std.specs.Prelude.{◌≡◌, Err};
+ghost use Rattle.std.specs.Prelude.{◌≡◌, Err, option_copied};
 ghost use Rattle.pid_http.specs.Errands.{
   changes_for,
   children_for,
   errand_for,
   read_for,
   submission_for,
+  submissions_for,
 };
 ghost use Rattle.pid_http.specs.Steps.Replying.{Replies, RepliesTo};
 
 use crate::commanding::command;
 use crate::exporting::export;
+use crate::overviews::{queue, status, submissions};
 use crate::queries::{changes, children, lookup, pending, rank, read, submission};
 use pid_http_replies::{Early, early_reply, refusal_reply};
-use pid_http_requests::{Above, Format, Question, Start, sender_of};
+use pid_http_requests::{Above, Format, Question, Sought, Start, sender_of};
 use pid_http_stream::{Head, Reply};
-use pid_ident::Path;
+use pid_ident::{Account, Path};
 use pid_moderation::Refusal;
 use pid_service::Registry;
 use sqlite::Alter;
@@ -80,6 +82,24 @@ fn answer_changes<S: Alter + Drop>(
     }
 }
 
+fn answer_submissions<S: Alter + Drop>(
+    alloc: Global,
+    registry: &mut Registry<S>,
+    sought: Sought,
+    author: Option<&Account>,
+    before: u32,
+    format: Format,
+) -> Result<Reply, AllocError>
+    ensures { Replies S.Store registry.old registry.new
+        (submissions_for format sought (option_copied author.entry) before) result }
+{
+    match sought {
+        Sought::Anywhere => submissions(alloc, registry, None, author, before, format),
+        Sought::At(path) => submissions(alloc, registry, Some(&path), author, before, format),
+        Sought::BadPath => refusal_reply(alloc, format, Refusal::BadPath),
+    }
+}
+
 /// Answers what a request asks for. Who sends it is asked for commands alone.
 pub(crate) fn answer<S: Alter + Drop>(
     alloc: Global,
@@ -111,6 +131,14 @@ pub(crate) fn answer<S: Alter + Drop>(
             start,
             format,
         } => answer_changes(alloc, registry, since, start, format),
+        Question::Queue { after, format } => queue(alloc, registry, after, format),
+        Question::Submissions {
+            sought,
+            author,
+            before,
+            format,
+        } => answer_submissions(alloc, registry, sought, author.as_ref(), before, format),
+        Question::Status { format } => status(alloc, registry, format),
         Question::Rank { who, format } => rank(alloc, registry, &who, format),
         Question::Command { verb, format } => {
             command(alloc, registry, verb, format, sender_of(head), body)

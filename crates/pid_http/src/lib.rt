@@ -8,6 +8,7 @@ mod exporting;
 mod handling;
 mod importing;
 pub mod laws;
+mod overviews;
 mod queries;
 mod service;
 mod stream;

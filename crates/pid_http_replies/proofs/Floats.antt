@@ -1,5 +1,5 @@
 -- No answer has a float.
-use Rattle.std.proofs.Common.{◌≡◌, false, ℕ, List, [], ◌∷◌, map, refl, Result, Ok, Err}
+use Rattle.std.proofs.Common.{◌≡◌, false, ℕ, List, [], ◌∷◌, map, refl, Option, Some, None, Result, Ok, Err}
 use Rattle.serde_json.specs.Data.{Data}
 use Rattle.serde_json.specs.View.{items_of}
 use Rattle.serde_json.specs.Written.{has_float, items_have_float, members_have_float}
@@ -12,9 +12,13 @@ use Rattle.pid_moderation.specs.declared.refusal.Refusal.{Refusal}
 use Rattle.pid_moderation.specs.declared.refusal.Refusal.TheVariants.{FileFault}
 use Rattle.pid_moderation.specs.Submissions.{Standing}
 use Rattle.pid_moderation.specs.ChangePages.{ChangePage}
+use Rattle.pid_moderation.specs.QueuePages.{QueueEntry}
+use Rattle.pid_moderation.specs.SubmissionPages.{Listing, ListingPage}
 use Rattle.pid_http_replies.specs.ChangeAnswers.{changed_data, changes_data}
 use Rattle.pid_http_replies.specs.Outcomes.{outcome_data}
 use Rattle.pid_http_replies.specs.PendingAnswers.{pending_data, proposed_data}
+use Rattle.pid_http_replies.specs.QueueAnswers.{now_data, queued_data}
+use Rattle.pid_http_replies.specs.SubmissionPageAnswers.{listed_data, submissions_data}
 use Rattle.pid_http_replies.specs.Steps.SubmissionParts.{standing_members}
 
 -- an array whose items have none has none
@@ -42,3 +46,16 @@ standing_has_none n s = rw (proposed_has_none s.submitted.proposal) refl
 
 pub changes_have_none : (page : ChangePage) → has_float (changes_data page) ≡ false
 changes_have_none page = rw (items_have_none changed_data (λ i. refl) page.items) refl
+
+pub now_has_none : (now : Option (List ℕ)) → has_float (now_data now) ≡ false
+now_has_none None = refl
+now_has_none (Some name) = refl
+
+pub queued_has_none : (q : QueueEntry) → has_float (queued_data q) ≡ false
+queued_has_none q = rw (proposed_has_none q.standing.submitted.proposal, now_has_none q.now) refl
+
+pub listed_has_none : (l : Listing) → has_float (listed_data l) ≡ false
+listed_has_none l = rw (proposed_has_none l.standing.submitted.proposal) refl
+
+pub submissions_have_none : (page : ListingPage) → has_float (submissions_data page) ≡ false
+submissions_have_none page = rw (items_have_none listed_data listed_has_none page.submissions) refl

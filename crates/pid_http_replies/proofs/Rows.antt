@@ -1,5 +1,5 @@
 -- Worked rows of the definitions.
-use Rattle.std.proofs.Common.{◌≡◌, [], ◌∷◌, refl, codes, Ok, Err, None}
+use Rattle.std.proofs.Common.{◌≡◌, List, [], ◌∷◌, refl, codes, Ok, Err, Some, None}
 use Rattle.std.specs.Fmt.{digits}
 use Rattle.std.specs.List.{flat_map}
 use Rattle.serde_json.proofs.OnLiterals.{serde_json_on_literals}
@@ -15,12 +15,18 @@ use Rattle.pid_moderation.specs.declared.refusal.FileFault.TheVariants.{Line}
 use Rattle.pid_moderation.specs.declared.refusal.Refusal.TheVariants.{RankTooLow, FileFault}
 use Rattle.pid_moderation.specs.Submissions.{Standing}
 use Rattle.pid_moderation.specs.ChangePages.{ChangePage}
+use Rattle.pid_moderation.specs.QueuePages.{QueueEntry}
+use Rattle.pid_moderation.specs.RegistryStatus.{RegistryStatus}
+use Rattle.pid_moderation.specs.SubmissionPages.{ListingPage}
 use Rattle.pid_http_replies.specs.ChangeAnswers.{changes_data, changes_text}
 use Rattle.pid_http_replies.specs.ItemAnswers.{item_data, child_line, items_data}
 use Rattle.pid_http_replies.specs.Outcomes.{outcome_data, unanswered_data}
 use Rattle.pid_http_replies.specs.PendingAnswers.{pending_line, pendings_data}
+use Rattle.pid_http_replies.specs.QueueAnswers.{queue_data, queued_line}
 use Rattle.pid_http_replies.specs.RankAnswers.{rank_answer, rank_data, rank_line}
+use Rattle.pid_http_replies.specs.StatusAnswers.{status_data, status_text}
 use Rattle.pid_http_replies.specs.SubmissionAnswers.{standing_text, submission_data}
+use Rattle.pid_http_replies.specs.SubmissionPageAnswers.{submissions_data, submissions_text}
 use Rattle.pid_http_requests.specs.declared.format.Format.TheVariants.{Json, Text}
 
 done_row : compact_text (outcome_data (Ok Done)) ≡ codes "{\"ok\":true}"
@@ -135,3 +141,46 @@ no_account_row = refl
 
 no_account_words : (rank_answer Text (codes "carol") None).body ≡ codes "refused 29 NoSuchAccount\n"
 no_account_words = refl
+
+-- the same two in a queue: one is to be renamed, and on the other there are two remarks
+two_queued : List QueueEntry
+two_queued =
+    record { number = 1; standing = approved; now = Some (codes "Intel"); remarks = 0 }
+    ∷ record { number = 2; standing = withdrawn; now = None; remarks = 2 } ∷ []
+
+queue_rows : compact_text (queue_data two_queued)
+    ≡ codes "[{\"author\":\"alice\",\"name\":\"Intel Corporation\",\"note\":\"\",\"now\":\"Intel\",\"num\":1,\"path\":\"PC/8086\",\"remarks\":0},{\"author\":\"alice\",\"name\":null,\"note\":\"gone\",\"now\":null,\"num\":2,\"path\":\"PC/8086\",\"remarks\":2}]"
+unfolding two_queued approved withdrawn serde_json_on_literals digits
+queue_rows = refl
+
+queue_lines : flat_map queued_line two_queued ≡ codes "1 alice name PC/8086 Intel Corporation\n2 alice remove PC/8086\n"
+unfolding two_queued approved withdrawn digits
+queue_lines = refl
+
+-- a page of both, the latest first, with more of them below number 1,000
+a_page : ListingPage
+a_page = record {
+  before = 1000;
+  submissions = record { number = 2; standing = withdrawn; remarks = 2 } ∷ record { number = 1; standing = approved; remarks = 0 } ∷ [];
+}
+
+submissions_row : compact_text (submissions_data a_page)
+    ≡ codes "{\"before\":1000,\"submissions\":[{\"author\":\"alice\",\"decider\":\"alice\",\"name\":null,\"num\":2,\"path\":\"PC/8086\",\"reason\":\"\",\"remarks\":2,\"state\":\"withdrawn\"},{\"author\":\"alice\",\"decider\":\"root\",\"name\":\"Intel Corporation\",\"num\":1,\"path\":\"PC/8086\",\"reason\":\"\",\"remarks\":0,\"state\":\"approved\"}]}"
+unfolding a_page approved withdrawn serde_json_on_literals digits
+submissions_row = refl
+
+submissions_lines : submissions_text a_page ≡ codes "before 1000\n2 withdrawn alice remove PC/8086\n1 approved alice name PC/8086 Intel Corporation\n"
+unfolding a_page approved withdrawn digits
+submissions_lines = refl
+
+-- how much a registry holds
+a_status : RegistryStatus
+a_status = record { accounts = 2; items = 35598; pending = 44; revision = 72; submissions = 52 }
+
+status_row : compact_text (status_data a_status) ≡ codes "{\"accounts\":2,\"items\":35598,\"pending\":44,\"revision\":72,\"submissions\":52}"
+unfolding a_status serde_json_on_literals digits
+status_row = refl
+
+status_lines : status_text a_status ≡ codes "accounts 2\nitems 35598\npending 44\nrevision 72\nsubmissions 52\n"
+unfolding a_status digits
+status_lines = refl

@@ -3,9 +3,12 @@ pub mod WordLines
 pub mod Outcomes
 pub mod ItemAnswers
 pub mod PendingAnswers
+pub mod QueueAnswers
 pub mod ChangeAnswers
 pub mod SubmissionAnswers
+pub mod SubmissionPageAnswers
 pub mod RankAnswers
+pub mod StatusAnswers
 pub mod LookupAnswers
 pub mod EarlyAnswers
 pub mod Steps

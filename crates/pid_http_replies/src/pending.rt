@@ -2,6 +2,7 @@
 ghost use Rattle.std.specs.Prelude.{◌≡◌, ◌++◌, map, string_bytes, IfOk, OnOk};
 ghost use Rattle.std.specs.List.{flat_map};
 ghost use Rattle.pid_moderation.specs.PendingPages.{told_of};
+ghost use Rattle.pid_moderation.specs.Submissions.{standing_of};
 ghost use Rattle.serde_json.specs.View.{view};
 ghost use Rattle.pid_http_replies.specs.PendingAnswers.{
   pending_answer,
@@ -19,7 +20,7 @@ use http::StatusCode;
 use pid_http_requests::Format;
 use pid_http_stream::Reply;
 use pid_ident::PathText;
-use pid_moderation::{Pending, Proposal};
+use pid_moderation::{Pending, Proposal, Submission};
 use serde_json::{Value, json};
 use std::alloc::{AllocError, Global};
 
@@ -66,7 +67,12 @@ fn page_value(alloc: Global, page: &[Pending]) -> Result<Value, AllocError>
     Ok(array_value(values))
 }
 
-fn push_proposal(text: &mut String, proposal: &Proposal, path: &str) -> Result<(), AllocError>
+/// Appends what is proposed (`name` or `remove`), the path, and after `name` the name.
+pub(crate) fn push_proposal(
+    text: &mut String,
+    proposal: &Proposal,
+    path: &str,
+) -> Result<(), AllocError>
     ensures { OnOk result (string_bytes text.new
         ≡ string_bytes text.old ++ proposal_words proposal.now path.now) }
 {
@@ -85,16 +91,22 @@ fn push_proposal(text: &mut String, proposal: &Proposal, path: &str) -> Result<(
     Ok(())
 }
 
-fn push_pending(alloc: Global, text: &mut String, pending: &Pending) -> Result<(), AllocError>
+/// Appends the line of a pending submission.
+pub(crate) fn push_submission(
+    alloc: Global,
+    text: &mut String,
+    number: u32,
+    submission: &Submission,
+) -> Result<(), AllocError>
     ensures { OnOk result (string_bytes text.new
-        ≡ string_bytes text.old ++ pending_line (told_of pending.now)) }
+        ≡ string_bytes text.old ++ pending_line (number, standing_of submission.now)) }
 {
-    let path = pending.submission.path.path_text(alloc)?;
-    push_number(text, pending.number)?;
+    let path = submission.path.path_text(alloc)?;
+    push_number(text, number)?;
     text.push_str(" ")?;
-    text.push_str(pending.submission.author.as_str())?;
+    text.push_str(submission.author.as_str())?;
     text.push_str(" ")?;
-    push_proposal(text, &pending.submission.proposal, path.as_str())?;
+    push_proposal(text, &submission.proposal, path.as_str())?;
     text.push_str("\n")?;
     Ok(())
 }
@@ -105,7 +117,7 @@ fn page_text(alloc: Global, page: &[Pending]) -> Result<String, AllocError>
 {
     let mut text = String::new(alloc);
     for pending in page {
-        push_pending(alloc, &mut text, pending)?;
+        push_submission(alloc, &mut text, pending.number, &pending.submission)?;
     }
     Ok(text)
 }

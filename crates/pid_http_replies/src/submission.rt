@@ -37,7 +37,8 @@ use pid_moderation::{Comment, Discussion, Proposal, State, Submission};
 use serde_json::{Value, json};
 use std::alloc::{AllocError, Global};
 
-fn state_name(state: &State) -> &'static str
+/// The state in one word.
+pub(crate) fn state_name(state: &State) -> &'static str
     ensures { result.now ≡ state_word state.now }
 {
     match state {
@@ -48,7 +49,8 @@ fn state_name(state: &State) -> &'static str
     }
 }
 
-fn decider(submission: &Submission) -> &str
+/// Who decided: the author of what was withdrawn, and nobody as long as it is pending.
+pub(crate) fn decider(submission: &Submission) -> &str
     ensures { result.now ≡ decider_of submission.now.author submission.now.state }
 {
     match &submission.state {
@@ -59,7 +61,8 @@ fn decider(submission: &Submission) -> &str
     }
 }
 
-fn reason(state: &State) -> &str
+/// Why it was rejected; else empty.
+pub(crate) fn reason(state: &State) -> &str
     ensures { result.now ≡ reason_of state.now }
 {
     match state {

@@ -13,9 +13,10 @@ use Rattle.pid_http_requests.specs.Questions.{question, with_target, question_at
 use Rattle.pid_http_requests.specs.Routes.{route_at}
 use Rattle.pid_http_requests.specs.declared.format.Format.TheVariants as formats
 use Rattle.pid_http_requests.specs.declared.query.Above.TheVariants.{Top, Below, BadPath}
+use Rattle.pid_http_requests.specs.declared.query.Sought.TheVariants as sought
 use Rattle.pid_http_requests.specs.declared.query.Start.TheVariants as starts
 use Rattle.pid_http_requests.specs.declared.question.Question.TheVariants.{AnotherMethod, BadTarget, NoRoute, WantsGet, WantsPost, BadQuery}
-use Rattle.pid_http_requests.specs.declared.question.Question.TheVariants.{Export, Read, Children, Lookup, Submission, Pending, Changes, Rank, Command}
+use Rattle.pid_http_requests.specs.declared.question.Question.TheVariants.{Export, Read, Children, Lookup, Submission, Pending, Changes, Queue, Submissions, Status, Rank, Command}
 use Rattle.pid_http_stream.specs.declared.handler.Wanted.TheVariants.{Buffered, Streamed}
 
 another_method : question (codes "HEAD") (codes "/pci.ids") ≡ Buffered AnotherMethod
@@ -189,6 +190,66 @@ changes_since_nothing = refl
 changes_twice : question (codes "GET") (codes "/changes?since=1&since=1") ≡ Buffered BadQuery
 unfolding question with_target question_at lookup_from route_at matchit_on_literals form_urlencoded_on_literals is_utf8 utf8_lossy utf8_valid_len chars encode
 changes_twice = refl
+
+queue : question (codes "GET") (codes "/queue") ≡ Buffered (Queue 0 formats.Json)
+unfolding question with_target question_at lookup_from route_at matchit_on_literals form_urlencoded_on_literals is_utf8 utf8_lossy utf8_valid_len chars encode
+queue = refl
+
+queue_after : question (codes "GET") (codes "/queue?format=text&after=100") ≡ Buffered (Queue 100 formats.Text)
+unfolding question with_target question_at lookup_from route_at matchit_on_literals form_urlencoded_on_literals is_utf8 utf8_lossy utf8_valid_len chars encode
+queue_after = refl
+
+queue_leading_zero : question (codes "GET") (codes "/queue?after=01") ≡ Buffered BadQuery
+unfolding question with_target question_at lookup_from route_at matchit_on_literals form_urlencoded_on_literals is_utf8 utf8_lossy utf8_valid_len chars encode
+queue_leading_zero = refl
+
+submissions : question (codes "GET") (codes "/submissions") ≡ Buffered (Submissions sought.Anywhere None 0 formats.Json)
+unfolding question with_target question_at lookup_from route_at matchit_on_literals form_urlencoded_on_literals is_utf8 utf8_lossy utf8_valid_len chars encode
+submissions = refl
+
+submissions_sought : question (codes "GET") (codes "/submissions?before=9801&author=alice&path=PC/8086&format=text") ≡ Buffered (Submissions (sought.At (Vendor 32902)) (Some (codes "alice")) 9801 formats.Text)
+unfolding question with_target question_at lookup_from route_at matchit_on_literals form_urlencoded_on_literals is_utf8 utf8_lossy utf8_valid_len chars encode
+submissions_sought = refl
+
+submissions_at_no_path : question (codes "GET") (codes "/submissions?path=PC") ≡ Buffered (Submissions sought.BadPath None 0 formats.Json)
+unfolding question with_target question_at lookup_from route_at matchit_on_literals form_urlencoded_on_literals is_utf8 utf8_lossy utf8_valid_len chars encode
+submissions_at_no_path = refl
+
+submissions_of_no_account : question (codes "GET") (codes "/submissions?author=Alice&path=PC") ≡ Buffered BadQuery
+unfolding question with_target question_at lookup_from route_at matchit_on_literals form_urlencoded_on_literals is_utf8 utf8_lossy utf8_valid_len chars encode
+submissions_of_no_account = refl
+
+submissions_of_nobody : question (codes "GET") (codes "/submissions?author=") ≡ Buffered BadQuery
+unfolding question with_target question_at lookup_from route_at matchit_on_literals form_urlencoded_on_literals is_utf8 utf8_lossy utf8_valid_len chars encode
+submissions_of_nobody = refl
+
+submissions_below_zero : question (codes "GET") (codes "/submissions?before=0") ≡ Buffered (Submissions sought.Anywhere None 0 formats.Json)
+unfolding question with_target question_at lookup_from route_at matchit_on_literals form_urlencoded_on_literals is_utf8 utf8_lossy utf8_valid_len chars encode
+submissions_below_zero = refl
+
+submissions_below_nothing : question (codes "GET") (codes "/submissions?before=") ≡ Buffered BadQuery
+unfolding question with_target question_at lookup_from route_at matchit_on_literals form_urlencoded_on_literals is_utf8 utf8_lossy utf8_valid_len chars encode
+submissions_below_nothing = refl
+
+submissions_twice : question (codes "GET") (codes "/submissions?author=alice&author=alice") ≡ Buffered BadQuery
+unfolding question with_target question_at lookup_from route_at matchit_on_literals form_urlencoded_on_literals is_utf8 utf8_lossy utf8_valid_len chars encode
+submissions_twice = refl
+
+submissions_after : question (codes "GET") (codes "/submissions?after=1") ≡ Buffered BadQuery
+unfolding question with_target question_at lookup_from route_at matchit_on_literals form_urlencoded_on_literals is_utf8 utf8_lossy utf8_valid_len chars encode
+submissions_after = refl
+
+status : question (codes "GET") (codes "/status?format=text") ≡ Buffered (Status formats.Text)
+unfolding question with_target question_at lookup_from route_at matchit_on_literals form_urlencoded_on_literals is_utf8 utf8_lossy utf8_valid_len chars encode
+status = refl
+
+status_of_one : question (codes "GET") (codes "/status?who=alice") ≡ Buffered BadQuery
+unfolding question with_target question_at lookup_from route_at matchit_on_literals form_urlencoded_on_literals is_utf8 utf8_lossy utf8_valid_len chars encode
+status_of_one = refl
+
+status_posted : question (codes "POST") (codes "/status") ≡ Buffered WantsGet
+unfolding question with_target question_at lookup_from route_at matchit_on_literals form_urlencoded_on_literals is_utf8 utf8_lossy utf8_valid_len chars encode
+status_posted = refl
 
 rank : question (codes "GET") (codes "/account?who=alice") ≡ Buffered (Rank (codes "alice") formats.Json)
 unfolding question with_target question_at lookup_from route_at matchit_on_literals form_urlencoded_on_literals is_utf8 utf8_lossy utf8_valid_len chars encode

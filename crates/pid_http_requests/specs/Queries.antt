@@ -1,6 +1,7 @@
 -- What the fields of a query say: choices of this project.
 use Rattle.std.specs.Prelude.{ℕ, Bool, ◌+◌, ◌==◌, ◌&&◌, nat_le, if◌then◌else◌, List, length}
 use Rattle.std.specs.Prelude.{Option, Some, None, codes}
+use Rattle.std.specs.Option.{option_map}
 use Rattle.std.specs.Str.{bytes_eq}
 use Rattle.pid_form.specs.Numbers as numbers
 use Rattle.pid_ident.specs.Bytes.{is_empty}
@@ -14,6 +15,8 @@ use Rattle.pid_http_requests.specs.declared.format.Format.{Format}
 use Rattle.pid_http_requests.specs.declared.format.Format.TheVariants.{Json, Text}
 use Rattle.pid_http_requests.specs.declared.query.Above.{Above}
 use Rattle.pid_http_requests.specs.declared.query.Above.TheVariants.{Top, Below, BadPath}
+use Rattle.pid_http_requests.specs.declared.query.Sought.{Sought}
+use Rattle.pid_http_requests.specs.declared.query.Sought.TheVariants as sought
 use Rattle.pid_http_requests.specs.declared.query.Start.{Start}
 use Rattle.pid_http_requests.specs.declared.query.Start.TheVariants as starts
 
@@ -42,6 +45,16 @@ are_three first second fields =
     && nat_le (times second fields) 1
     && length fields == times first fields + times second fields + times (codes "format") fields
 
+-- at most one format and one field with each of three other names, and nothing else
+abbrev pub are_four : List ℕ → List ℕ → List ℕ → Fields → Bool
+are_four first second third fields =
+    nat_le (times (codes "format") fields) 1
+    && nat_le (times first fields) 1
+    && nat_le (times second fields) 1
+    && nat_le (times third fields) 1
+    && length fields == times first fields + times second fields + times third fields
+    + times (codes "format") fields
+
 -- the format that fields say, alone
 abbrev pub format_in : Fields → Option Format
 format_in fields = if is_format_alone fields then format_said
@@ -57,9 +70,19 @@ abbrev pub format_beside_two : List ℕ → List ℕ → Fields → Option Forma
 format_beside_two first second fields = if are_three first second fields then format_said
     (value (codes "format") fields) else None
 
+-- with three other fields
+abbrev pub format_beside_three : List ℕ → List ℕ → List ℕ → Fields → Option Format
+format_beside_three first second third fields = if are_four first second third fields then
+    format_said (value (codes "format") fields) else None
+
 -- the account with this name, if a text may be one
 abbrev pub account_said : List ℕ → Option (List ℕ)
 account_said text = if is_account text then Some text else None
+
+-- the author that is named, if one is
+abbrev pub author_said : Option (List ℕ) → Option (Option (List ℕ))
+author_said None = Some None
+author_said (Some text) = option_map Some (account_said text)
 
 -- `0`, also if nothing is said, or the number of a submission
 abbrev pub after_said : Option (List ℕ) → Option ℕ
@@ -92,3 +115,12 @@ start_path (Some path) = starts.Behind path
 -- the first item if the text is empty, else what follows the path that it is
 abbrev pub start_said : List ℕ → Start
 start_said text = if is_empty text then starts.First else start_path (path_of text)
+
+-- at a path, if a text is one
+abbrev pub sought_path : Option Path → Sought
+sought_path None = sought.BadPath
+sought_path (Some path) = sought.At path
+
+-- anywhere if the text is empty, else at the path that it is
+abbrev pub sought_said : List ℕ → Sought
+sought_said text = if is_empty text then sought.Anywhere else sought_path (path_of text)

@@ -14,7 +14,8 @@ use Rattle.pid_moderation.specs.declared.verb.Verb.TheVariants as verbs
 use Rattle.pid_http_requests.specs.Lookups.{lookup_asked}
 use Rattle.pid_http_requests.specs.Methods.{method_in}
 use Rattle.pid_http_requests.specs.Queries.{format_in, format_beside, format_beside_two}
-use Rattle.pid_http_requests.specs.Queries.{account_said, after_said, above_said, since_said}
+use Rattle.pid_http_requests.specs.Queries.{format_beside_three, account_said, author_said}
+use Rattle.pid_http_requests.specs.Queries.{after_said, above_said, since_said, sought_said}
 use Rattle.pid_http_requests.specs.Queries.{start_said}
 use Rattle.pid_http_requests.specs.Routes.{route_at, method_at}
 use Rattle.pid_http_requests.specs.declared.format.Format.{Format}
@@ -28,7 +29,8 @@ use Rattle.pid_http_requests.specs.declared.question.Question.TheVariants.{BadQu
 use Rattle.pid_http_requests.specs.declared.question.Question.TheVariants.{Export, Read, Children}
 use Rattle.pid_http_requests.specs.declared.question.Question.TheVariants.{Lookup, Submission}
 use Rattle.pid_http_requests.specs.declared.question.Question.TheVariants.{Pending, Changes}
-use Rattle.pid_http_requests.specs.declared.question.Question.TheVariants.{Rank, Command}
+use Rattle.pid_http_requests.specs.declared.question.Question.TheVariants.{Queue, Submissions}
+use Rattle.pid_http_requests.specs.declared.question.Question.TheVariants.{Status, Rank, Command}
 use Rattle.pid_http_stream.specs.declared.handler.Wanted.{Wanted}
 use Rattle.pid_http_stream.specs.declared.handler.Wanted.TheVariants.{Buffered, Streamed}
 
@@ -73,6 +75,25 @@ changes_asked fields =
     (since_said (value (codes "since") fields)))
     (format_beside_two (codes "since") (codes "after") fields)
 
+-- the queue above `after`
+abbrev pub queue_asked : Fields → Option Question
+queue_asked fields =
+    option_and_then (λ format. option_map (λ after. Queue after format)
+    (after_said (value (codes "after") fields))) (format_beside (codes "after") fields)
+
+-- the submissions for `path`, of `author`, below `before`
+abbrev pub submissions_asked : Fields → Option Question
+submissions_asked fields =
+    option_and_then
+    (λ format. option_and_then (λ before. option_map
+    (λ author. Submissions (sought_said (text_at (codes "path") fields)) author before format)
+    (author_said (value (codes "author") fields))) (after_said (value (codes "before") fields)))
+    (format_beside_three (codes "path") (codes "author") (codes "before") fields)
+
+-- how much the registry holds
+abbrev pub status_asked : Fields → Option Question
+status_asked fields = option_map Status (format_in fields)
+
 -- the rank of the account `who`
 abbrev pub rank_asked : Fields → Option Question
 rank_asked fields =
@@ -105,6 +126,9 @@ question_at method routes.Lookup path fields = buffered (option_map Lookup (look
 question_at method routes.Submission path fields = buffered (submission_asked path fields)
 question_at method routes.Pending path fields = buffered (pending_asked fields)
 question_at method routes.Changes path fields = buffered (changes_asked fields)
+question_at method routes.Queue path fields = buffered (queue_asked fields)
+question_at method routes.Submissions path fields = buffered (submissions_asked fields)
+question_at method routes.Status path fields = buffered (status_asked fields)
 question_at method routes.Account path fields = buffered (account_asked method fields)
 question_at method routes.Submit path fields = buffered (verb_asked verbs.Submit fields)
 question_at method routes.Comment path fields = buffered (verb_asked verbs.Comment fields)

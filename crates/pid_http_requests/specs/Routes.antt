@@ -6,7 +6,8 @@ use Rattle.matchit.specs.Seek.{first}
 use Rattle.pid_http_requests.specs.declared.route.Route.{Route}
 use Rattle.pid_http_requests.specs.declared.route.Route.TheVariants.{Export, Read, Children}
 use Rattle.pid_http_requests.specs.declared.route.Route.TheVariants.{Lookup, Submission, Pending}
-use Rattle.pid_http_requests.specs.declared.route.Route.TheVariants.{Changes, Account, Submit}
+use Rattle.pid_http_requests.specs.declared.route.Route.TheVariants.{Changes, Queue, Submissions}
+use Rattle.pid_http_requests.specs.declared.route.Route.TheVariants.{Status, Account, Submit}
 use Rattle.pid_http_requests.specs.declared.route.Route.TheVariants.{Comment, Withdraw, Approve}
 use Rattle.pid_http_requests.specs.declared.route.Route.TheVariants.{Confirm, Reject, Import}
 
@@ -57,9 +58,12 @@ table =
     ∷ literal (codes "/lookup") Lookup
     ∷ literal (codes "/pci.ids") Export
     ∷ literal (codes "/pending") Pending
+    ∷ literal (codes "/queue") Queue
     ∷ read_route
     ∷ literal (codes "/reject") Reject
+    ∷ literal (codes "/status") Status
     ∷ submission_route
+    ∷ literal (codes "/submissions") Submissions
     ∷ literal (codes "/submit") Submit
     ∷ literal (codes "/withdraw") Withdraw
     ∷ []
@@ -77,6 +81,9 @@ method_at Lookup = Some (codes "GET")
 method_at Submission = Some (codes "GET")
 method_at Pending = Some (codes "GET")
 method_at Changes = Some (codes "GET")
+method_at Queue = Some (codes "GET")
+method_at Submissions = Some (codes "GET")
+method_at Status = Some (codes "GET")
 method_at Account = None
 method_at Submit = Some (codes "POST")
 method_at Comment = Some (codes "POST")

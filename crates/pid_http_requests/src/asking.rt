@@ -12,6 +12,9 @@ ghost use Rattle.pid_http_requests.specs.Questions.{
   submission_asked,
   pending_asked,
   changes_asked,
+  queue_asked,
+  submissions_asked,
+  status_asked,
   rank_asked,
   account_asked,
   verb_asked,
@@ -20,8 +23,8 @@ ghost use Rattle.pid_http_requests.specs.Questions.{
 use crate::format::Format;
 use crate::lookup::query_of;
 use crate::query::{
-    above_named, account_named, after_named, format_beside, format_beside_two, format_of,
-    since_named, start_named,
+    above_named, account_named, after_named, author_named, format_beside, format_beside_three,
+    format_beside_two, format_of, since_named, sought_named, start_named,
 };
 use crate::question::Question;
 use crate::route::Route;
@@ -106,6 +109,45 @@ fn command_of(verb: Verb, fields: &[(String, String)]) -> Option<Question>
     Some(Question::Command { verb, format })
 }
 
+fn queue_of(fields: &[(String, String)]) -> Option<Question>
+    ensures { result ≡ queue_asked (texts_of fields.now) }
+{
+    let format = format_beside(fields, "after")?;
+    let after = after_named(value(fields, "after"))?;
+    Some(Question::Queue { after, format })
+}
+
+fn submissions_of(
+    alloc: Global,
+    fields: &[(String, String)],
+) -> Result<Option<Question>, AllocError>
+    ensures { IfOk result (λ asked. asked ≡ submissions_asked (texts_of fields.now)) }
+{
+    let Some(format) = format_beside_three(fields, "path", "author", "before") else {
+        return Ok(None);
+    };
+    let Some(before) = after_named(value(fields, "before")) else {
+        return Ok(None);
+    };
+    let Some(author) = author_named(alloc, value(fields, "author"))? else {
+        return Ok(None);
+    };
+    let sought = sought_named(text_at(fields, "path"));
+    Ok(Some(Question::Submissions {
+        sought,
+        author,
+        before,
+        format,
+    }))
+}
+
+fn status_of(fields: &[(String, String)]) -> Option<Question>
+    ensures { result ≡ status_asked (texts_of fields.now) }
+{
+    let format = format_of(fields)?;
+    Some(Question::Status { format })
+}
+
 fn rank_of(alloc: Global, fields: &[(String, String)]) -> Result<Option<Question>, AllocError>
     ensures { IfOk result (λ asked. asked ≡ rank_asked (texts_of fields.now)) }
 {
@@ -170,6 +212,9 @@ pub(crate) fn ask_route(
         Route::Submission => Ok(buffered(submission_of(path, fields))),
         Route::Pending => Ok(buffered(pending_of(fields))),
         Route::Changes => Ok(buffered(changes_of(fields))),
+        Route::Queue => Ok(buffered(queue_of(fields))),
+        Route::Submissions => Ok(buffered(submissions_of(alloc, fields)?)),
+        Route::Status => Ok(buffered(status_of(fields))),
         Route::Account => Ok(buffered(account_of(alloc, method, fields)?)),
         Route::Submit => Ok(buffered(command_of(Verb::Submit, fields))),
         Route::Comment => Ok(buffered(command_of(Verb::Comment, fields))),

@@ -20,7 +20,7 @@ mod text;
 pub use command::command_in;
 pub use format::Format;
 pub use lookup::LookupQuery;
-pub use query::{Above, Start};
+pub use query::{Above, Sought, Start};
 pub use question::{Question, question_of};
 pub use route::Route;
 pub use routes::Routes;

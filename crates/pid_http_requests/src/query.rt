@@ -25,8 +25,12 @@ ghost use Rattle.pid_http_requests.specs.Queries.{
 };
 ghost use Rattle.pid_http_requests.specs.Queries.{
   are_three as three,
+  are_four as four,
   format_beside_two as format_in_three,
+  format_beside_three as format_in_four,
+  author_said,
   since_said,
+  sought_said,
   start_said,
 };
 
@@ -55,6 +59,17 @@ pub enum Start {
     /// After this path, whether an item is there or not.
     Behind(Path),
     /// After a text that is no path.
+    BadPath,
+}
+
+/// For which path submissions are looked for.
+#[derive(Clone, Copy, Debug)]
+pub enum Sought {
+    /// For any.
+    Anywhere,
+    /// For this path.
+    At(Path),
+    /// For a text that is no path.
     BadPath,
 }
 
@@ -100,6 +115,20 @@ fn are_three(fields: &[(String, String)], first: &str, second: &str) -> bool
     formats <= 1 && firsts <= 1 && seconds <= 1 && fields.len() == firsts + seconds + formats
 }
 
+fn are_four(fields: &[(String, String)], first: &str, second: &str, third: &str) -> bool
+    ensures { result ≡ four first.now second.now third.now (texts_of fields.now) }
+{
+    let formats = times(fields, "format");
+    let firsts = times(fields, first);
+    let seconds = times(fields, second);
+    let thirds = times(fields, third);
+    formats <= 1
+        && firsts <= 1
+        && seconds <= 1
+        && thirds <= 1
+        && fields.len() == firsts + seconds + thirds + formats
+}
+
 // The format, of fields that may say nothing else.
 pub(crate) fn format_of(fields: &[(String, String)]) -> Option<Format>
     ensures { result ≡ format_in (texts_of fields.now) }
@@ -134,6 +163,21 @@ pub(crate) fn format_beside_two(
     format_named(value(fields, "format"))
 }
 
+// The format, of fields that may say three other things.
+pub(crate) fn format_beside_three(
+    fields: &[(String, String)],
+    first: &str,
+    second: &str,
+    third: &str,
+) -> Option<Format>
+    ensures { result ≡ format_in_four first.now second.now third.now (texts_of fields.now) }
+{
+    if !are_four(fields, first, second, third) {
+        return None;
+    }
+    format_named(value(fields, "format"))
+}
+
 // The account with this name, if a text may be one.
 pub(crate) fn account_named(alloc: Global, text: &str) -> Result<Option<Account>, AllocError>
     ensures { IfOk result (λ account. account ≡ account_said text.now) }
@@ -145,7 +189,23 @@ pub(crate) fn account_named(alloc: Global, text: &str) -> Result<Option<Account>
     }
 }
 
-// The number after which a page begins: 0 if none is said.
+// The author that a value names, if it names one; none if it may be none.
+pub(crate) fn author_named(
+    alloc: Global,
+    value: Option<&str>,
+) -> Result<Option<Option<Account>>, AllocError>
+    ensures { IfOk result (λ author. author ≡ author_said (option_copied value.entry)) }
+{
+    match value {
+        None => Ok(Some(None)),
+        Some(text) => match account_named(alloc, text)? {
+            Some(account) => Ok(Some(Some(account))),
+            None => Ok(None),
+        },
+    }
+}
+
+// The number after which, or below which, a page begins: 0 if none is said.
 pub(crate) fn after_named(value: Option<&str>) -> Option<u32>
     ensures { result ≡ after_said (option_copied value.entry) }
 {
@@ -200,5 +260,18 @@ pub(crate) fn start_named(text: &str) -> Start
     match Path::parse(text) {
         Some(path) => Start::Behind(path),
         None => Start::BadPath,
+    }
+}
+
+// For which path a text says that submissions are looked for.
+pub(crate) fn sought_named(text: &str) -> Sought
+    ensures { result ≡ sought_said text.now }
+{
+    if text.is_empty() {
+        return Sought::Anywhere;
+    }
+    match Path::parse(text) {
+        Some(path) => Sought::At(path),
+        None => Sought::BadPath,
     }
 }

@@ -14,7 +14,7 @@ use crate::asking::ask_route;
 use crate::format::Format;
 use crate::lookup::LookupQuery;
 use crate::method::method_named;
-use crate::query::{Above, Start};
+use crate::query::{Above, Sought, Start};
 use crate::route::{Route, method_for};
 use crate::routes::Routes;
 use crate::text::text_of;
@@ -70,6 +70,23 @@ pub enum Question {
     Changes {
         since: u64,
         start: Start,
+        format: Format,
+    },
+    /// The same of the queue of a moderator.
+    Queue {
+        after: u32,
+        format: Format,
+    },
+    /// The submissions for a path and of an author, if one is named, with numbers below this one,
+    /// of which 0 stands for no bound.
+    Submissions {
+        sought: Sought,
+        author: Option<Account>,
+        before: u32,
+        format: Format,
+    },
+    /// How much the registry holds.
+    Status {
         format: Format,
     },
     /// The rank of an account.

@@ -22,6 +22,12 @@ pub enum Route {
     Pending,
     /// `/changes`
     Changes,
+    /// `/queue`
+    Queue,
+    /// `/submissions`
+    Submissions,
+    /// `/status`
+    Status,
     /// `/account`
     Account,
     /// `/submit`
@@ -52,6 +58,9 @@ pub(crate) fn path_of(route: Route) -> &'static str
         Route::Submission => "/submission/{num}",
         Route::Pending => "/pending",
         Route::Changes => "/changes",
+        Route::Queue => "/queue",
+        Route::Submissions => "/submissions",
+        Route::Status => "/status",
         Route::Account => "/account",
         Route::Submit => "/submit",
         Route::Comment => "/comment",
@@ -74,7 +83,10 @@ pub(crate) fn method_for(route: Route) -> Option<Method>
         | Route::Lookup
         | Route::Submission
         | Route::Pending
-        | Route::Changes => Some(Method::GET),
+        | Route::Changes
+        | Route::Queue
+        | Route::Submissions
+        | Route::Status => Some(Method::GET),
         Route::Account => None,
         Route::Submit
         | Route::Comment

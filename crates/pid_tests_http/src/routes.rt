@@ -122,6 +122,22 @@ GET /submission/3 | 200 OK json {"author":"alice","decider":"root","name":null,"
 POST /submit bob path=PC/10ec/8139&name=RTL | 200 OK json {"num":4,"ok":true}
 POST /approve root num=4 | 409 Conflict json {"ok":false,"refused":11,"word":"ParentMissing"}
 POST /approve?format=text bob num=4 | 403 Forbidden text refused 10 OwnDecision;
+GET /queue | 200 OK json [{"author":"bob","name":"RTL","note":"","now":null,"num":4,\
+"path":"PC/10ec/8139","remarks":0}]
+GET /queue?after=3&format=text | 200 OK text 4 bob name PC/10ec/8139 RTL;
+GET /queue?after=4 | 200 OK json []
+GET /submissions?format=text&path=PC/8086 | 200 OK text before 0;3 rejected alice remove PC/8086;\
+1 approved alice name PC/8086 Intel Corporation;
+GET /submissions?author=bob&before=5 | 200 OK json {"before":0,"submissions":[{"author":"bob",\
+"decider":"","name":"RTL","num":4,"path":"PC/10ec/8139","reason":"","remarks":0,"state":"pending"}]}
+GET /submissions?author=alice&path=PC/8086&before=3 | 200 OK json {"before":0,"submissions":[\
+{"author":"alice","decider":"root","name":"Intel Corporation","num":1,"path":"PC/8086",\
+"reason":"","remarks":0,"state":"approved"}]}
+GET /submissions?path=PC&format=text | 400 Bad Request text refused 1 BadPath;
+GET /submissions?author=Bob&format=text | 400 Bad Request json {"ok":false,"refused":3,"word":"BadText"}
+GET /status | 200 OK json {"accounts":3,"items":1,"pending":1,"revision":11,"submissions":4}
+GET /status?format=text | 200 OK text accounts 3;items 1;pending 1;revision 11;submissions 4;
+POST /status root format=text | 405 Method Not Allowed allow GET
 "#;
 
 // The tabs of names and of remarks stand for themselves here.

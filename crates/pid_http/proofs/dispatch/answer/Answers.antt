@@ -53,6 +53,15 @@ returns-in-Pending g c = rw c.in-Pending.is (whoever _ _ _ c.args.head.now _ _ c
 pub returns-in-Changes : goal.returns-in-Changes
 returns-in-Changes g c = rw c.in-Changes.is (whoever _ _ _ c.args.head.now _ _ c.answer_changes.ensures)
 
+pub returns-in-Queue : goal.returns-in-Queue
+returns-in-Queue g c = rw c.in-Queue.is (whoever _ _ _ c.args.head.now _ _ c.queue.ensures)
+
+pub returns-in-Submissions : goal.returns-in-Submissions
+returns-in-Submissions g c = rw (c.in-Submissions.is, ← c.as_ref.ensures.value) (whoever _ _ _ c.args.head.now _ _ c.answer_submissions.ensures)
+
+pub returns-in-Status : goal.returns-in-Status
+returns-in-Status g c = rw c.in-Status.is (whoever _ _ _ c.args.head.now _ _ c.status.ensures)
+
 pub returns-in-Rank : goal.returns-in-Rank
 returns-in-Rank g c = rw c.in-Rank.is (whoever _ _ _ c.args.head.now _ _ c.rank.ensures)
 

@@ -1,0 +1,24 @@
+use Rattle.std.proofs.Common.{◌≡◌, refl, ap, ℕ, map}
+use Rattle.std.specs.Prelude.{Vec}
+use Rattle.std.specs.declared.alloc.Global.{Global}
+use Rattle.pid_moderation.specs.Views.{views_of}
+use Rattle.pid_moderation.specs.QueuePages.{queue_in, queued_of}
+use Rattle.pid_moderation.specs.declared.lists.Queued.{Queued}
+use Rattle.pid_moderation.specs.declared.lists.TheConstants.{PAGE}
+use Rattle.pid_http_requests.specs.declared.format.Format.{Format}
+use Rattle.pid_http_replies.specs.QueueAnswers.{queue_answer}
+use Rattle.pid_http.specs.Answering.{answer_over}
+use Rattle.pid_http.specs.Errands as errands
+use Rattle.pid_http.proofs.Meeting.{IsQuestion, question_met, replied}
+use Rattle.pid_http.proofs.overviews.queue.Goals as goal
+
+question : (after : ℕ) (format : Format) → IsQuestion format (λ (page : Vec Queued Global). queue_answer format (map queued_of page.items)) (λ h (page : Vec Queued Global). map queued_of page.items ≡ queue_in PAGE after (views_of h)) (errands.Queue after format)
+unfolding answer_over
+question after format = record {
+  over = λ h x e. ap (queue_answer format) e;
+  refused = λ e. (refl, refl);
+  no_command = refl;
+}
+
+pub returns : goal.returns
+returns g c = replied _ _ _ _ _ _ c.queue_outcome.ensures (question_met _ c.clauses_meet_lives.ensures.looks _ _ _ _ _ _ _ (question c.args.after c.args.format) c.queue-found.ensures)
