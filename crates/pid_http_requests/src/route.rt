@@ -26,8 +26,6 @@ pub enum Route {
     Queue,
     /// `/submissions`
     Submissions,
-    /// `/status`
-    Status,
     /// `/account`
     Account,
     /// `/submit`
@@ -60,7 +58,6 @@ pub(crate) fn path_of(route: Route) -> &'static str
         Route::Changes => "/changes",
         Route::Queue => "/queue",
         Route::Submissions => "/submissions",
-        Route::Status => "/status",
         Route::Account => "/account",
         Route::Submit => "/submit",
         Route::Comment => "/comment",
@@ -85,8 +82,7 @@ pub(crate) fn method_for(route: Route) -> Option<Method>
         | Route::Pending
         | Route::Changes
         | Route::Queue
-        | Route::Submissions
-        | Route::Status => Some(Method::GET),
+        | Route::Submissions => Some(Method::GET),
         Route::Account => None,
         Route::Submit
         | Route::Comment

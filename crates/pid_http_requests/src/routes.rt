@@ -48,7 +48,6 @@ fn build_router(alloc: Global) -> Result<Router<Route>, InsertError>
         Route::Changes,
         Route::Queue,
         Route::Submissions,
-        Route::Status,
         Route::Account,
         Route::Submit,
         Route::Comment,
