@@ -164,7 +164,6 @@ QUESTIONS = [
     ("/submissions?path=PC/8087", 0),
     ("/submissions?author=carol", 0),
     ("/submissions?path=PC", 1),
-    ("/status", 0),
     ("/account?who=alice", 0),
     ("/account?who=root", 0),
     ("/account?who=" + "a" * 32, 29),
@@ -188,7 +187,6 @@ BAD_QUERIES = [
     "/submissions?author=",
     "/submissions?author=Alice&path=PC",
     "/submissions?path=PC/8086&path=PC/8086",
-    "/status?after=0",
 ]
 
 # What these questions are answered, whoever asks.
@@ -219,14 +217,6 @@ ANSWERS = [
         b"2 approved alice name PC/8086/1237 440FX\n1 approved alice name PC/8086 Intel\n",
     ),
     ("/submissions?author=bob&path=PC/8086&format=text", b"before 0\n"),
-    (
-        "/status",
-        b'{"accounts":4,"items":3,"pending":2,"revision":20,"submissions":7}',
-    ),
-    (
-        "/status?format=text",
-        b"accounts 4\nitems 3\npending 2\nrevision 20\nsubmissions 7\n",
-    ),
     ("/account?who=alice", b'{"rank":0,"who":"alice"}'),
     ("/account?who=bob&format=json", b'{"rank":1,"who":"bob"}'),
     ("/account?who=mona", b'{"rank":2,"who":"mona"}'),
