@@ -253,8 +253,6 @@ def as_text(told):
         return f"before {told['before']}\n" + as_text(told["submissions"])
     if "state" in told:
         lines = discussion(told)
-    elif "accounts" in told:
-        lines = [f"{key} {count}" for key, count in told.items()]
     elif "revision" in told:
         lines = [f"revision {told['revision']}"] + [
             f"{it['since']} {it['path']} {it['name']}" for it in told["items"]
