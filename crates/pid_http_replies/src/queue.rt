@@ -32,7 +32,7 @@ fn now_value(alloc: Global, now: &Option<Name>) -> Result<Value, AllocError>
 }
 
 fn queued_value(alloc: Global, queued: &Queued) -> Result<Value, AllocError>
-    ensures { IfOk result (λ value. view value ≡ queued_data (queued_of queued.entry)) }
+    ensures { IfOk result (λ value. view value ≡ queued_data (queued_of queued.entry.now)) }
 {
     let name = proposed_value(alloc, &queued.submission.proposal)?;
     let now = now_value(alloc, &queued.now)?;
@@ -70,7 +70,7 @@ fn queue_value(alloc: Global, page: &[Queued]) -> Result<Value, AllocError>
 
 fn push_queued(alloc: Global, text: &mut String, queued: &Queued) -> Result<(), AllocError>
     ensures { OnOk result (string_bytes text.new
-        ≡ string_bytes text.old ++ queued_line (queued_of queued.entry)) }
+        ≡ string_bytes text.old ++ queued_line (queued_of queued.entry.now)) }
 {
     push_submission(alloc, text, queued.number, &queued.submission)
 }
