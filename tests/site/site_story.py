@@ -246,8 +246,8 @@ def maintainer(cases, world, browser):
     browser.click("#log")
     browser.wait(lambda: browser.text("#log") == "Log in", "logged out")
     browser.log_in("sam")
-    browser.has("For senior moderators")
-    browser.js("document.getElementById('paste').value = '8086  Intel Corporation\\n\\tab03  New'")
+    # The page is made anew after a log-in: what is typed is kept.
+    browser.put("#paste", "8086  Intel Corporation\n\tab03  New")
     browser.click("main form button.main")
     browser.has("Import it", ".result")
     browser.click(".result button.main")
