@@ -7,10 +7,10 @@ COMMANDS = 1_000
 ROUNDS = 5
 
 
-def least_of_lines(database, room, lines):
+def least_of_lines(database, room, lines, rounds=ROUNDS):
     """The least time of lines of a script on copies of the file."""
     times = []
-    for _ in range(ROUNDS):
+    for _ in range(rounds):
         with Script(room.script(room.copy(database))) as script:
             times.append(script.time_of(lines))
     return min(times)
@@ -63,12 +63,12 @@ def with_bob(room, database):
     return closed(path)
 
 
-def command_time(room, ours, theirs):
+def command_time(room, ours, theirs, rounds=ROUNDS):
     """The time of a command within the process, so that opening the file is not in it."""
     ours, theirs = with_bob(room, ours), closed(theirs)
-    took = least_of_lines(ours, room, keyed_lines(ours, COMMANDS))
+    took = least_of_lines(ours, room, keyed_lines(ours, COMMANDS), rounds)
     times = []
-    for _ in range(ROUNDS):
+    for _ in range(rounds):
         words = [room.sqlite, room.copy(theirs), "keyed", str(COMMANDS // 2)]
         times.append(seconds(words))
     return Figures(took / COMMANDS, (min(times) - room.idle) / COMMANDS)
@@ -82,7 +82,7 @@ def command_of_items(name):
 
 
 def command_of_submissions(room):
-    return command_time(room, room.registry(LARGE), room.registry(LARGE))
+    return command_time(room, room.registry(LARGE), room.registry(LARGE), rounds=3)
 
 
 def command_share(room):
