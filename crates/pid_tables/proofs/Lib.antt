@@ -25,3 +25,4 @@ pub mod PutInto
 pub mod BringIn
 pub mod WorkedRows
 pub mod Carrying
+pub mod EarlyCauses

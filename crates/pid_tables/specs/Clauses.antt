@@ -4,15 +4,18 @@ use Rattle.std.specs.Prelude.{ℕ, List, Option, Result}
 use Rattle.sqlite.specs.Held.{Held, state}
 use Rattle.sqlite.specs.State as states
 use Rattle.sqlite_trees.specs.declared.store.Store.{Ghosts}
+use Rattle.pid_moderation.specs.declared.command.Command.{Command}
 use Rattle.pid_moderation.specs.History.{History}
 use Rattle.pid_tables_rows.specs.declared.fault.TableFault.{TableFault}
 use Rattle.pid_tables_rows.specs.declared.version.Version.{Version}
 use Rattle.pid_reader.specs.LookingBack.{Item}
+use Rattle.pid_tables.specs.declared.judging.Early.{Early}
 use Rattle.pid_tables.specs.declared.migration.Step.{Step}
 use Rattle.pid_tables.specs.declared.putting.Put.{Put}
 use Rattle.pid_tables.specs.AtOnce as at_once
 use Rattle.pid_tables.specs.Bringing as bringing
 use Rattle.pid_tables.specs.Creation as creation
+use Rattle.pid_tables.specs.Judging as judging
 use Rattle.pid_tables.specs.Putting as putting
 use Rattle.pid_tables.specs.SchemaNumbers as numbers
 use Rattle.pid_tables.specs.ShowsOrBlank as shows
@@ -34,6 +37,10 @@ module _ {S : Type 0} (store : Ghosts S) where
   abbrev pub PutsName : Held S → Held S → Result Put TableFault → ℕ → Item → Type 0
   PutsName old new result n item = putting.PutsName (state store old) (state store new)
       result n item
+
+  abbrev pub EarlyIsCaused : Held S → Held S → History → Command → Early → Type 0
+  EarlyIsCaused old new h command early = judging.EarlyIsCaused (state store old) (state store new)
+      h command early
 
   abbrev pub RestsBare : Held S → Type 0
   RestsBare conn = creation.RestsBare (state store conn)

@@ -12,7 +12,8 @@ use Rattle.pid_moderation.specs.Revisions.{IsMarked}
 use Rattle.pid_moderation.specs.Views.{views_of, items_of}
 use Rattle.pid_tables.specs.declared.judging.Early.{Early}
 use Rattle.pid_tables.specs.declared.judging.Early.TheVariants.{Answered, Open}
-use Rattle.pid_tables.specs.Faults.{IsMemoryOrStore}
+use Rattle.sqlite.specs.State.{State}
+use Rattle.pid_tables.specs.Faults.{IsCausedRefusal, IsMemoryOrStore}
 
 -- the import depends on its file, and these are its facts without it
 pub record IsOpen (h : History) (command : Command) (f : Facts) : Type 0 where
@@ -35,6 +36,14 @@ HasOneOutcome h command (Err e) = SettlesImport h command.account command.key (E
 abbrev pub IsJudgedEarly : History → Command → Early → Type 0
 IsJudgedEarly h command (Answered result) = HasOneOutcome h command result
 IsJudgedEarly h command (Open facts items) = IsOpen h command facts × (items ≡ length (items_of h))
+
+-- a refusal is the answer whatever the file reads to, if it is not too long; or it has its cause in
+-- the call
+abbrev pub EarlyIsCaused : State → State → History → Command → Early → Type 0
+EarlyIsCaused old new h command (Answered (Ok reply)) = Unit {0}
+EarlyIsCaused old new h command (Answered (Err e)) =
+    SettlesImport h command.account command.key (Err e) ⊎ IsCausedRefusal old new e
+EarlyIsCaused old new h command (Open facts items) = Unit {0}
 
 -- it does not say that the registry had failed before
 abbrev pub EarlyIsNotFailed : Early → Type 0

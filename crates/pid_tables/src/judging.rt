@@ -4,6 +4,7 @@ ghost use Rattle.pid_moderation.specs.History.{History};
 ghost use Rattle.pid_moderation.specs.Sound.{IsSound};
 ghost use Rattle.pid_moderation.specs.Views.{views_of};
 ghost use Rattle.pid_tables_rows.specs.Clauses.{AtRest, HasCleanDisk, OnlyReads};
+ghost use Rattle.pid_tables.specs.Clauses.{EarlyIsCaused};
 ghost use Rattle.pid_tables.specs.Judging.{EarlyIsNotFailed, IsJudgedEarly};
 
 use crate::faults::refusal_of;
@@ -26,7 +27,7 @@ pub enum Early {
 /// has is not looked at.
 ///
 /// It holds of tables that show a sound history. If there is no memory or the store fails, that
-/// is the answer.
+/// is the answer; the store fails only for a cause.
 pub fn judge_import<S: Alter + Drop>(
     tables: &mut Tables<S>,
     alloc: Global,
@@ -36,6 +37,9 @@ pub fn judge_import<S: Alter + Drop>(
     ensures rests { OnlyReads S.Store tables.old.conn tables.new.conn }
     ensures judged { HasCleanDisk S.Store tables.new.conn → (h : History) → IsSound h
         → AtRest S.Store tables.old.conn (views_of h) → IsJudgedEarly h command.now result }
+    ensures caused { HasCleanDisk S.Store tables.new.conn → (h : History) → IsSound h
+        → AtRest S.Store tables.old.conn (views_of h)
+        → EarlyIsCaused S.Store tables.old.conn tables.new.conn h command.now result }
     ensures alive { EarlyIsNotFailed result }
 {
     laws::views_of_sound_histories(); // proof only

@@ -1,0 +1,18 @@
+-- Why an import is refused before its file is read.
+use Rattle.std.proofs.Common.{◌≡◌, sym, subst}
+use Rattle.sqlite.specs.State.{State}
+use Rattle.pid_moderation.specs.declared.refusal.Refusal.{Refusal}
+use Rattle.pid_tables_rows.specs.Causes.{IsCaused}
+use Rattle.pid_tables_rows.specs.declared.fault.TableFault.{TableFault}
+use Rattle.pid_tables_rows.specs.declared.fault.TableFault.TheVariants.{Memory, Store, NewerSchema, Damaged}
+use Rattle.pid_tables.specs.Faults.{IsCausedRefusal, refusal_for}
+
+caused_for : (old new : State) (fault : TableFault) → IsCaused old new fault → IsCausedRefusal old new (refusal_for fault)
+caused_for old new Memory cause = tt
+caused_for old new Store cause = cause
+caused_for old new (NewerSchema n) cause = absurd cause
+caused_for old new Damaged cause = absurd cause
+
+-- a fault of the tables is answered for its own cause
+pub caused_as : (old new : State) (fault : TableFault) (told : Refusal) → told ≡ refusal_for fault → IsCaused old new fault → IsCausedRefusal old new told
+caused_as old new fault told same cause = subst (IsCausedRefusal old new) (sym same) (caused_for old new fault cause)
