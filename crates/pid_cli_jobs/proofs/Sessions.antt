@@ -10,7 +10,7 @@ use Rattle.pid_script.specs.declared.script_end.ScriptEnd.{ScriptEnd}
 use Rattle.pid_script.specs.declared.script_end.ScriptEnd.TheVariants as scripts
 use Rattle.pid_script.specs.EndStatus.{script_status}
 use Rattle.pid_cli_jobs.specs.declared.job_end.JobEnd.TheVariants.{Told, FileFailed}
-use Rattle.pid_cli_jobs.specs.Steps.Jobs.{end_of_script}
+use Rattle.pid_cli_jobs.specs.Jobs.{end_of_script}
 use Rattle.pid_cli_jobs.specs.Sessions.{IsPartOfSession}
 
 -- a single call is a part of a session

@@ -1,4 +1,6 @@
 pub mod Lines
+pub mod Serving
+pub mod Jobs
 pub mod Sessions
 pub mod Files
 pub mod Steps

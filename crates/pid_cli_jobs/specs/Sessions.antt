@@ -2,6 +2,8 @@
 use Rattle.std.specs.Prelude.{◌≡◌, if◌then◌else◌, ℕ, List, Option, Some, None, Ok, Err}
 use Rattle.sqlite.specs.Held.{Held}
 use Rattle.sqlite_trees.specs.declared.store.Store.{Ghosts}
+use Rattle.pid_file.specs.declared.io.Output as outputs
+use Rattle.pid_file.specs.Told.{TriesLine}
 use Rattle.pid_service_laws.specs.Calls.{Call}
 use Rattle.pid_service_laws.specs.Registries.{CallsLead}
 use Rattle.pid_service.specs.declared.registry.Registry.{Registry}
@@ -10,8 +12,15 @@ use Rattle.pid_service.specs.Opening.{MovesTo, OpensTo}
 use Rattle.pid_service.specs.Registries.{connection, is_live}
 use Rattle.pid_tables.specs.declared.migration.Step.{Step}
 use Rattle.pid_tables_rows.specs.declared.fault.TableFault.{TableFault}
-use Rattle.pid_cli_jobs.specs.declared.job_end.JobEnd.{JobEnd}
 use Rattle.pid_cli_jobs.specs.declared.job_end.JobEnd.TheVariants.{Told}
+use Rattle.pid_cli_jobs.specs.Jobs.{DoesWork, Work, Wrote}
+use Rattle.pid_cli_jobs.specs.Lines.{PrintsLine, step_line, unopened_line}
+
+-- A job that found no registry prints nothing, reports why, and ends with status 3.
+pub record TellsUnopened {W : Type 0} (fault : TableFault) (w : Wrote W) : Type 0 where
+  pub silent : w.output_after ≡ w.output
+  pub told : TriesLine w.faults w.faults_after (unopened_line fault)
+  pub ends : w.end ≡ Told 3
 
 module _ {S : Type 0} (store : Ghosts S) where
   -- calls in turn lead from the one registry to the other, and each does what its contract says
@@ -23,43 +32,53 @@ module _ {S : Type 0} (store : Ghosts S) where
   abbrev pub handed_back : Registry S store → Option (Held S)
   handed_back r = if is_live r then Some (connection r) else None
 
-  -- A registry was opened on the connection, calls led from there to its end, and its connection
-  -- came back if it was live.
-  pub record IsSession (conn : Held S) (back : Option (Held S)) : Type 0 where
+  -- No registry was opened, and nothing came back.
+  pub record IsUnopened {W : Type 0} (conn : Held S) (w : Wrote W) (back : Option (Held S))
+      : Type 0 where
+    pub fault : TableFault
+    pub left : Held S
+    pub opens : OpensTo store conn (Err (fault, left))
+    pub tells : TellsUnopened fault w
+    pub hands : back ≡ None
+
+  -- A migration of a connection that succeeded prints what it did, and hands it back as it left it.
+  pub record IsMigrated {W : Type 0} (writer : outputs.Ghosts W) (conn : Held S) (w : Wrote W)
+      (back : Option (Held S)) : Type 0 where
+    pub step : Step
+    pub moved : Held S
+    pub moves : MovesTo store conn (Ok (moved, step))
+    pub prints : PrintsLine w.end (writer.taken w.output) (writer.taken w.output_after)
+        (step_line step) 0
+    pub silent : w.faults_after ≡ w.faults
+    pub hands : back ≡ Some moved
+
+  pub record IsUnmoved {W : Type 0} (conn : Held S) (w : Wrote W) (back : Option (Held S))
+      : Type 0 where
+    pub fault : TableFault
+    pub left : Held S
+    pub moves : MovesTo store conn (Err (fault, left))
+    pub tells : TellsUnopened fault w
+    pub hands : back ≡ None
+
+  -- A job that migrates does that, or reports why not.
+  pub data Migrates {W : Type 0} (writer : outputs.Ghosts W) (conn : Held S) (w : Wrote W)
+      (back : Option (Held S)) : Type 0 where
+    Migrated : IsMigrated writer conn w back → Migrates writer conn w back
+    Unmoved : IsUnmoved conn w back → Migrates writer conn w back
+
+  -- A registry was opened on the connection, and the work was done there: calls led from its
+  -- opening to its end. Its connection came back if it was live.
+  pub record IsSession {W : Type 0} (writer : outputs.Ghosts W) (conn : Held S) (work : Work)
+      (w : Wrote W) (back : Option (Held S)) : Type 0 where
     pub opened : Registry S store
     pub opens : OpensTo store conn (Ok opened)
     pub ended : Registry S store
     pub goes : IsPartOfSession opened ended
+    pub does : DoesWork store writer work opened ended w
     pub hands : back ≡ handed_back ended
 
-  -- No registry was opened. Nothing came back, and the job ended with status 3.
-  pub record IsUnopened (conn : Held S) (end : JobEnd) (back : Option (Held S)) : Type 0 where
-    pub fault : TableFault
-    pub left : Held S
-    pub opens : OpensTo store conn (Err (fault, left))
-    pub ends : end ≡ Told 3
-    pub hands : back ≡ None
-
   -- A job on a connection is a session of the registry there, or there was none.
-  pub data WorksOn (conn : Held S) (end : JobEnd) (back : Option (Held S)) : Type 0 where
-    Session : IsSession conn back → WorksOn conn end back
-    Unopened : IsUnopened conn end back → WorksOn conn end back
-
-  -- A migration of a connection that succeeded hands it back as it left it.
-  pub record IsMigrated (conn : Held S) (back : Option (Held S)) : Type 0 where
-    pub step : Step
-    pub moved : Held S
-    pub moves : MovesTo store conn (Ok (moved, step))
-    pub hands : back ≡ Some moved
-
-  pub record IsUnmoved (conn : Held S) (end : JobEnd) (back : Option (Held S)) : Type 0 where
-    pub fault : TableFault
-    pub left : Held S
-    pub moves : MovesTo store conn (Err (fault, left))
-    pub ends : end ≡ Told 3
-    pub hands : back ≡ None
-
-  -- A job that migrates does that, or reports why not.
-  pub data Migrates (conn : Held S) (end : JobEnd) (back : Option (Held S)) : Type 0 where
-    Migrated : IsMigrated conn back → Migrates conn end back
-    Unmoved : IsUnmoved conn end back → Migrates conn end back
+  pub data WorksOn {W : Type 0} (writer : outputs.Ghosts W) (conn : Held S) (work : Work)
+      (w : Wrote W) (back : Option (Held S)) : Type 0 where
+    Session : IsSession writer conn work w back → WorksOn writer conn work w back
+    Unopened : IsUnopened conn w back → WorksOn writer conn work w back

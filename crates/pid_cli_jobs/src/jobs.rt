@@ -1,7 +1,8 @@
 //! The jobs of a registry, on any store. Each returns the connection if the registry is live.
 ghost use Rattle.std.specs.Prelude.{◌≡◌};
-ghost use Rattle.pid_cli_jobs.specs.Steps.Jobs.{BringsIn, PrintsAll, RunsLines};
-ghost use Rattle.pid_cli_jobs.specs.Sessions.{IsPartOfSession, Migrates, WorksOn, handed_back as back_of};
+ghost use Rattle.pid_cli_jobs.specs.Jobs.{BringsIn, DoesWork, PrintsAll, RunsLines, work_of};
+ghost use Rattle.pid_cli_jobs.specs.Sessions.{IsPartOfSession, Migrates, WorksOn};
+ghost use Rattle.pid_cli_jobs.specs.Sessions.{handed_back as back_of};
 
 use crate::job_end::JobEnd;
 use crate::replies::{print_step, tell_unopened};
@@ -84,7 +85,15 @@ fn do_job<S: Alter + Drop, I: Input + Drop, O: Output, F: Output>(
     output: &mut O,
     faults: &mut F,
 ) -> JobEnd
-    ensures { IsPartOfSession S.Store registry.old registry.new }
+    ensures goes { IsPartOfSession S.Store registry.old registry.new }
+    ensures does { DoesWork S.Store O.Output (work_of I.Input job)
+        registry.old registry.new (record {
+          output = output.old;
+          output_after = output.new;
+          faults = F.taken faults.old;
+          faults_after = F.taken faults.new;
+          end = result;
+        }) }
 {
     match job {
         RegistryJob::Script(input) => run_lines(rt.alloc(), registry, input, output),
@@ -112,8 +121,10 @@ fn handed_back<S: Alter + Drop>(registry: Registry<S>) -> Option<Connection<S>>
 /// Opens or creates the registry of a connection, and does the job.
 ///
 /// It is a session of the registry: what `pid_service::reopened_registries_show_prefixes` says of
-/// calls between an opening and an end holds of it. Where the registry is not opened, `faults` gets
-/// the reason (`open: Store`), and the exit status is 3.
+/// calls between an opening and an end holds of it. What is printed is that of the job: the replies
+/// to a script, the canonical text of an export, the lines of a server; the reply to an import is
+/// returned. Where the registry is not opened, `faults` gets the reason (`open: Store`), and the
+/// exit status is 3.
 pub fn work_on<S: Alter + Drop, I: Input + Drop, O: Output, F: Output>(
     rt: &HostRuntime,
     conn: Connection<S>,
@@ -121,7 +132,13 @@ pub fn work_on<S: Alter + Drop, I: Input + Drop, O: Output, F: Output>(
     output: &mut O,
     faults: &mut F,
 ) -> (JobEnd, Option<Connection<S>>)
-    ensures { WorksOn S.Store conn result.0 result.1 }
+    ensures { WorksOn S.Store O.Output conn (work_of I.Input job) (record {
+      output = output.old;
+      output_after = output.new;
+      faults = F.taken faults.old;
+      faults_after = F.taken faults.new;
+      end = result.0;
+    }) result.1 }
 {
     match open(rt.alloc(), conn) {
         Ok(registry) => {
@@ -140,7 +157,13 @@ pub fn migrate_on<S: Alter + Drop, O: Output, F: Output>(
     output: &mut O,
     faults: &mut F,
 ) -> (JobEnd, Option<Connection<S>>)
-    ensures { Migrates S.Store conn result.0 result.1 }
+    ensures { Migrates S.Store O.Output conn (record {
+      output = output.old;
+      output_after = output.new;
+      faults = F.taken faults.old;
+      faults_after = F.taken faults.new;
+      end = result.0;
+    }) result.1 }
 {
     match migrate(alloc, conn) {
         Ok((conn, step)) => (print_step(step, output), Some(conn)),

@@ -1,8 +1,12 @@
 //! Serving a registry over HTTP to clients on this machine.
 ghost use Rattle.std.specs.Prelude.{◌≡◌};
+ghost use Rattle.pid_file.specs.Told.{TriesLine};
 ghost use Rattle.pid_http.specs.Known.{LivesOn};
-ghost use Rattle.pid_cli_jobs.specs.Steps.Serving.{IsLoopback};
+ghost use Rattle.pid_http_listener.specs.Servings.{CountsStreams, IsLiveAt};
+ghost use Rattle.pid_service.specs.Registries.{is_live};
+ghost use Rattle.pid_cli_jobs.specs.Serving.{ReportsEnd, Serves, socket_line};
 ghost use Rattle.pid_cli_jobs.specs.Sessions.{IsPartOfSession};
+ghost use Rattle.pid_cli_jobs.specs.Steps.Serving.{IsLoopback};
 
 use crate::job_end::JobEnd;
 use crate::replies::write_count;
@@ -14,6 +18,7 @@ use pid_ident::{Input, Output, WriteFault, write_all};
 use pid_service::Registry;
 use sqlite::Alter;
 use std::alloc::Global;
+use std::io;
 use std::net::{IpAddr, Ipv4Addr, SocketAddr, TcpListener};
 
 /// The port that clients connect to, and the number of connections to serve, one after the other.
@@ -60,14 +65,22 @@ impl<S: Alter + Drop> StreamServer for Server<'_, '_, S> {
 }
 
 fn tell_socket<F: Output>(faults: &mut F) -> JobEnd
-    ensures { result ≡ JobEnd.Told FAILED }
+    ensures ends { result ≡ JobEnd.Told FAILED }
+    ensures told { TriesLine (F.taken faults.old) (F.taken faults.new) socket_line }
 {
     let _ = write_all(faults, b"socket: failed\n");
     JobEnd::Told(FAILED)
 }
 
 // Reports the number of streams that were started, and how the serving ended.
-fn report<O: Output, F: Output>(serving: Serving, output: &mut O, faults: &mut F) -> JobEnd {
+fn report<O: Output, F: Output>(serving: Serving, output: &mut O, faults: &mut F) -> JobEnd
+    ensures { ReportsEnd serving.end serving.streams (record {
+      output = O.taken output.old;
+      output_after = O.taken output.new;
+      faults = F.taken faults.old;
+      faults_after = F.taken faults.new;
+    }) result }
+{
     let printed = write_count("served ", u64::from(serving.streams), output);
     match (serving.end, printed) {
         (ServingEnd::AcceptFault, _) => tell_socket(faults),
@@ -85,7 +98,9 @@ fn serve_listener<S: Alter + Drop>(
     listener: &TcpListener,
     connections: u32,
 ) -> Serving
-    ensures { LivesOn S.Store registry.old registry.new }
+    ensures lives { LivesOn S.Store registry.old registry.new }
+    ensures counted { CountsStreams result.end connections result.streams }
+    ensures lasts { IsLiveAt result.end result.streams (is_live registry.new) }
 {
     let mut server = Server {
         alloc,
@@ -102,6 +117,13 @@ fn address_of(port: u16) -> SocketAddr
     SocketAddr::new(IpAddr::V4(Ipv4Addr::new(127, 0, 0, 1)), port)
 }
 
+// Listens at an address that no other machine reaches. `_port` is there for the premise alone.
+fn listen(rt: &HostRuntime, address: SocketAddr, _port: u16) -> io::Result<TcpListener>
+    requires { IsLoopback address _port }
+{
+    TcpListener::bind(rt, address)
+}
+
 /// Listens on a port of this machine and serves a registry to so many connections, one at a time.
 ///
 /// Prints where it listens before it accepts the first connection, and the number of streams that
@@ -114,9 +136,15 @@ pub fn serve_registry<S: Alter + Drop, O: Output, F: Output>(
     output: &mut O,
     faults: &mut F,
 ) -> JobEnd
-    ensures { IsPartOfSession S.Store registry.old registry.new }
+    ensures goes { IsPartOfSession S.Store registry.old registry.new }
+    ensures serves { Serves port (is_live registry.new) (record {
+      output = O.taken output.old;
+      output_after = O.taken output.new;
+      faults = F.taken faults.old;
+      faults_after = F.taken faults.new;
+    }) result }
 {
-    let Ok(listener) = TcpListener::bind(rt, address_of(port.number)) else {
+    let Ok(listener) = listen(rt, address_of(port.number), port.number) else {
         return tell_socket(faults);
     };
     let Ok(routes) = Routes::new(rt.alloc()) else {

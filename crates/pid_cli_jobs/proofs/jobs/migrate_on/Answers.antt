@@ -9,6 +9,8 @@ returns-in-Ok g c = Migrated (record {
   step = c.in-Ok.step;
   moved = c.in-Ok.conn;
   moves = subst (λ r. MovesTo g.S.Store c.args.conn r) c.in-Ok.is c.migrate.ensures.history;
+  prints = c.print_step.ensures;
+  silent = refl;
   hands = refl;
 })
 
@@ -17,6 +19,10 @@ returns g c = Unmoved (record {
   fault = c.in-Err.fault;
   left = c.in-Err.field-0-1;
   moves = subst (λ r. MovesTo g.S.Store c.args.conn r) c.in-Err.is c.migrate.ensures.history;
-  ends = ap Told c.tell_unopened.ensures.status;
+  tells = record {
+    silent = refl;
+    told = c.tell_unopened.ensures.told;
+    ends = ap Told c.tell_unopened.ensures.status;
+  };
   hands = refl;
 })

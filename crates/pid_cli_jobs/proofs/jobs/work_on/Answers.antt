@@ -9,7 +9,8 @@ returns-in-Ok g c = Session (record {
   opened = c.in-Ok.registry;
   opens = subst (λ r. OpensTo g.S.Store c.args.conn r) c.in-Ok.is c.open.ensures.history;
   ended = c.do_job-end.new.registry;
-  goes = c.do_job-end.ensures;
+  goes = c.do_job-end.ensures.goes;
+  does = c.do_job-end.ensures.does;
   hands = c.handed_back.ensures;
 })
 
@@ -18,6 +19,10 @@ returns-in-Err g c = Unopened (record {
   fault = c.in-Err.fault;
   left = c.in-Err.field-0-1;
   opens = subst (λ r. OpensTo g.S.Store c.args.conn r) c.in-Err.is c.open.ensures.history;
-  ends = ap Told c.tell_unopened.ensures.status;
+  tells = record {
+    silent = refl;
+    told = c.tell_unopened.ensures.told;
+    ends = ap Told c.tell_unopened.ensures.status;
+  };
   hands = refl;
 })

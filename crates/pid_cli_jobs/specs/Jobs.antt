@@ -1,7 +1,10 @@
--- What each job does with a registry that is open, and how it ends by that. Choices of this project.
+-- What each job does with a registry that is open, what it prints, and how it ends by that. Choices
+-- of this project.
 use Rattle.std.specs.Prelude.{◌≡◌, false, ℕ, List, Option, IfSome, Result, Ok, Err}
 use Rattle.sqlite_trees.specs.declared.store.Store.{Ghosts}
+use Rattle.pid_file.specs.declared.io.Input as inputs
 use Rattle.pid_file.specs.declared.io.Output as outputs
+use Rattle.pid_file.specs.Tidied.{Writers}
 use Rattle.pid_moderation.specs.declared.command.Reply.{Reply}
 use Rattle.pid_moderation.specs.declared.refusal.Refusal.{Refusal}
 use Rattle.pid_moderation.specs.BeforeFile.{import_of}
@@ -23,6 +26,40 @@ use Rattle.pid_service.specs.Lives.{showing}
 use Rattle.pid_service.specs.Registries.{is_live}
 use Rattle.pid_cli_jobs.specs.declared.job_end.JobEnd.{JobEnd}
 use Rattle.pid_cli_jobs.specs.declared.job_end.JobEnd.TheVariants.{Told, Replied, FileFailed}
+use Rattle.pid_cli_jobs.specs.declared.jobs.RegistryJob.{RegistryJob}
+use Rattle.pid_cli_jobs.specs.declared.jobs.RegistryJob.TheVariants as jobs
+use Rattle.pid_cli_jobs.specs.declared.serving.Port.{Port}
+use Rattle.pid_cli_jobs.specs.Serving.{Serves}
+
+-- what a job is to do with a registry; of an input, with what it has to come
+pub data Work : Type 0 where
+  ToAnswer : (to_come : Option (List ℕ)) → Work
+  ToImport : (account : List ℕ) (key to_come : Option (List ℕ)) → Work
+  ToExport : Work
+  ToServe : (port : Port) → Work
+
+abbrev pub work_of : {I : Type 0} → inputs.Ghosts I → RegistryJob I → Work
+work_of reader (jobs.Script input) = ToAnswer (reader.to_come input)
+work_of reader (jobs.Import account key input) = ToImport account key (reader.to_come input)
+work_of reader jobs.Export = ToExport
+work_of reader (jobs.Serve port) = ToServe port
+
+-- The writer of a job and what its faults had taken, before the job and after it; and how it ended.
+pub record Wrote (W : Type 0) : Type 0 where
+  pub output : W
+  pub output_after : W
+  pub faults : Option (List ℕ)
+  pub faults_after : Option (List ℕ)
+  pub end : JobEnd
+
+-- what the two had taken
+abbrev pub taken_by : {W : Type 0} → outputs.Ghosts W → Wrote W → Writers
+taken_by writer w = record {
+  output = writer.taken w.output;
+  output_after = writer.taken w.output_after;
+  faults = w.faults;
+  faults_after = w.faults_after;
+}
 
 -- a fault of the reader or the writer is still to be reported
 abbrev pub end_of_script : ScriptEnd → JobEnd
@@ -36,6 +73,7 @@ end_of_import (Ok reply) = Replied (Ok reply)
 end_of_import (Err (imports.Refused refusal)) = Replied (Err refusal)
 end_of_import (Err imports.Body) = FileFailed
 
+-- so is a refusal
 abbrev pub end_of_export : Result (Unit {0}) ExportFault → JobEnd
 end_of_export (Ok done) = Told 0
 end_of_export (Err (exports.Refused refusal)) = Replied (Err refusal)
@@ -69,3 +107,17 @@ module _ {S : Type 0} (store : Ghosts S) where
     pub result : Result (Unit {0}) ExportFault
     pub ends : end ≡ end_of_export result
     pub exported : IsExported store writer old new before after result
+
+  -- What was done with the registry, what was written, and how the job ended. A script, an import
+  -- and an export report nothing, and an import prints nothing.
+  abbrev pub DoesWork : {W : Type 0} → outputs.Ghosts W → Work → Registry S store
+      → Registry S store → Wrote W → Type 0
+  DoesWork writer (ToAnswer to_come) old new w = RunsLines old new to_come (writer.taken w.output)
+      (writer.taken w.output_after) w.end
+      × (w.faults_after ≡ w.faults)
+  DoesWork writer (ToImport account key to_come) old new w = BringsIn old new account key to_come
+      w.end
+      × (w.output_after ≡ w.output) × (w.faults_after ≡ w.faults)
+  DoesWork writer ToExport old new w = PrintsAll writer old new w.output w.output_after w.end
+      × (w.faults_after ≡ w.faults)
+  DoesWork writer (ToServe port) old new w = Serves port (is_live new) (taken_by writer w) w.end
