@@ -27,7 +27,7 @@ const REFUSALS = {
   27: "There is no text for these numbers.",
   28: "The address of the request was malformed.",
   29: "There is no such account.",
-  30: "The entry has another name by now than was shown. Look at it again.",
+  30: "The entry was renamed, added or removed since it was shown: nothing was done. Look again.",
 };
 
 /** The kinds of faults of a file. */

@@ -31,7 +31,7 @@ export default async function proposal({ number, again }) {
   // Nobody decides without having seen what it is called now.
   if (own.trouble) return failed(own, again);
   const isIdle = it.name === null ? own.refusal !== undefined : own.value?.name === it.name;
-  const done = (words) => { tell(words, 4); again(); };
+  const done = (words, seconds = 4) => { tell(words, seconds); again(); };
   const text = `Proposal ${it.num}: ${it.name === null ? "remove" : it.name} · ${it.path}`;
   return [
     title(text, `Proposal ${it.num} `,
@@ -178,7 +178,8 @@ function decision(it, now, isIdle, done) {
   const onclick = async () => {
     const answer = await decide(it, { ...approvalOf(it, now, approve), place });
     if (answer?.value) done(`${it.num} is approved.`);
-    else if (answer?.refusal?.refused === CHANGED) done(refusalWords(answer.refusal));
+    // What is asked anew looks as before but for a name, so the words stay.
+    else if (answer?.refusal?.refused === CHANGED) done(refusalWords(answer.refusal), 0);
   };
   const approve = steadyButton({ class: "main", onclick }, "Approve");
   const no = rejection(it, place, async () => {

@@ -340,7 +340,7 @@ def changed_meanwhile(cases, world, browser):
         world.ask("/approve", {"num": other}, "root")
         time.sleep(0.6)
         browser.js(f"{approve}.click()".replace("return ", ""), number)
-        told = browser.has("has another name by now", "body")
+        told = browser.has("was renamed, added or removed since", "body")
         was = browser.wait(lambda name=name: name in browser.text("main"), "the name of today")
         got = told, was, world.state(number), world.ask("/read/PC/8086/1237")["name"]
         cases.equal(f"kept: {page}, a name that changed", got, (True, True, "pending", name))
