@@ -143,9 +143,11 @@ def without_scripts(cases, world):
 
 def modules(cases):
     """The first script names all modules that it needs, so that they are fetched at once."""
+    imports = re.compile(r'^(?:import |} from )(?:.* from )?"./([a-z.]+)";$', re.M)
+
     def named_in(name):
         with open(os.path.join(SITE, name), encoding="utf-8") as file:
-            return re.findall(r'^(?:import |} from )(?:.* from )?"./([a-z.]+)";$', file.read(), re.M)
+            return imports.findall(file.read())
 
     named, needed = named_in("main.js"), set()
     left = ["main.js"]
