@@ -1,5 +1,21 @@
 // Where the site begins.
 
+// All that the others import too: it is fetched at once, not level by level. As `modulepreload` in
+// index.html it would be fetched sooner, but taken up before the page is first painted.
+import "./api.js";
+import "./detours.js";
+import "./dom.js";
+import "./kept.js";
+import "./lists.js";
+import "./login.js";
+import "./notice.js";
+import "./outbox.js";
+import "./parts.js";
+import "./paths.js";
+import "./place.js";
+import "./shown.js";
+import "./words.js";
+
 import { restoreAccount, watchAccount } from "./account.js";
 import { drawBar } from "./bar.js";
 import { startHeader } from "./header.js";

@@ -15,7 +15,7 @@ from site_world import World
 KINDS = 8
 # How many texts of each kind, and how long a run may take for them.
 EACH = 2_500
-SECONDS = 30
+SECONDS = 45
 BATCH = 400
 SEED = 8086
 

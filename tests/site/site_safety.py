@@ -7,7 +7,7 @@ import re
 import program
 from http_server import ask_curl
 from site_browser import Browser
-from site_world import World
+from site_world import SITE, World
 
 MARKUP = """<img src=x onerror="document.title='owned'"><script>document.title='owned'</script>"""
 MORE = "</textarea></title><svg onload=alert(1)> javascript:alert(1) & \"q\" 'p' ${1} {{2}}"
@@ -141,6 +141,24 @@ def without_scripts(cases, world):
     cases.equal("safety: nothing inline", inline, [])
 
 
+def modules(cases):
+    """The first script names all modules that it needs, so that they are fetched at once."""
+    imports = re.compile(r'^(?:import |} from )(?:.* from )?"./([a-z.]+)";$', re.M)
+
+    def named_in(name):
+        with open(os.path.join(SITE, name), encoding="utf-8") as file:
+            return imports.findall(file.read())
+
+    named, needed = named_in("main.js"), set()
+    left = ["main.js"]
+    while left:
+        found = {*named_in(left.pop())} - needed
+        left += found
+        needed |= found
+    got = sorted(named), len(named) > 15
+    cases.equal("safety: what the first script names", got, (sorted(needed), True))
+
+
 def refusals(cases, browser):
     """Each refusal that docs/REFUSALS.md lists has words of its own."""
     with open(os.path.join(program.TOP, "docs", "REFUSALS.md"), encoding="utf-8") as file:
@@ -186,3 +204,4 @@ def run(cases):
         without_scripts(cases, world)
         secrets(cases, browser)
         refusals(cases, browser)
+        modules(cases)

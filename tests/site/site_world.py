@@ -17,6 +17,7 @@ import urllib.request
 
 import program
 from http_server import Server, ask_curl, free_port, to_end
+from shims import ROOM
 
 SITE = os.path.join(program.TOP, "site")
 # Where nginx's files for the site are.
@@ -244,7 +245,8 @@ class World:
         why = missing()
         if why:
             raise program.Skip(why)
-        self.stack = tempfile.TemporaryDirectory()
+        # In memory, if there can be such a folder: the reader's tests write thousands of times.
+        self.stack = tempfile.TemporaryDirectory(dir=ROOM)
         self.folder = self.stack.name
         os.mkdir(f"{self.folder}/public")
         shutil.copyfile(program.REAL_FILE, f"{self.folder}/public/pci.ids")
