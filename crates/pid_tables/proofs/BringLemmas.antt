@@ -25,7 +25,7 @@ use Rattle.pid_tables_rows.proofs.LeaveLemmas.{rests_in_two}
 use Rattle.pid_tables_rows.proofs.OnlyReading.{reads_then, rests_in_still}
 use Rattle.pid_tables_check.specs.Shapes.{HasNoTable, HasSomeTable, IsMadeFirst}
 use Rattle.pid_tables_check.proofs.Complete.{made_first}
-use Rattle.pid_tables.specs.AtOnce.{IsKept, IsOneStep}
+use Rattle.pid_tables.specs.AtOnce.{IsCommitted, IsOneStep}
 use Rattle.pid_tables.specs.Creation.{table_names, IsNameTaken, RestsBare}
 use Rattle.pid_tables.specs.Statements.{Statement, IsMadeBy}
 use Rattle.pid_tables.specs.Bringing.{Brings, Left, Raised, HandsLatest, NamesLatest, Refuses, Stays}
@@ -63,7 +63,7 @@ made_before : {S : Type 0} (g : Ghosts S) (statements : List Statement) (old mid
 made_before g statements old mid reads same db is = record { was_open = reads.was_open is.was_open; first = is.first; same = is.same ∙ same is.was_open; last = is.last; carried = is.carried; made = is.made }
 
 pub reads_then_kept : {S X E : Type 0} (g : Ghosts S) (statements : List Statement) (old mid new : Held S) (r : Result X E) → OnlyReads (state g old) (state g mid) → (IsTrue (state g mid).is_open → (state g mid).now ≡ (state g old).now)
-    → OnOk r (IsKept (IsMadeBy g statements mid) (state g new)) → OnOk r (IsKept (IsMadeBy g statements old) (state g new))
+    → OnOk r (IsCommitted (IsMadeBy g statements mid) (state g new)) → OnOk r (IsCommitted (IsMadeBy g statements old) (state g new))
 reads_then_kept g statements old mid new (Ok x) reads same kept = record { is_open = kept.is_open; sees = made_before g statements old mid reads same (state g new).now.trees kept.sees; leaves = kept.leaves }
 reads_then_kept g statements old mid new (Err e) reads same kept = tt
 

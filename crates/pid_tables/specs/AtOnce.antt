@@ -14,7 +14,7 @@ pub record IsOneStep (old new : State) : Type 0 where
 
 -- all of it is seen: the connection is open and sees such trees, and a crash leaves those that it
 -- sees
-pub record IsKept (IsSuch : Trees → Type 0) (s : State) : Type 0 where
+pub record IsCommitted (IsSuch : Trees → Type 0) (s : State) : Type 0 where
   pub is_open : IsTrue s.is_open
   pub sees : IsSuch s.now.trees
   pub leaves : (db : Trees) → s.may_leave db → db ≡ s.now.trees

@@ -19,7 +19,7 @@ use Rattle.pid_tables_rows.specs.Faults.{IsMemoryOrStore, IsNotNewerSchema}
 use Rattle.pid_tables_rows.specs.Schema.{no_schema}
 use Rattle.pid_tables_rows.specs.Shows.{Shows, counts_of}
 use Rattle.pid_tables_rows.specs.Leaves.{AtRest, OnlyReads, Written, as_found}
-use Rattle.pid_tables.specs.AtOnce.{IsKept}
+use Rattle.pid_tables.specs.AtOnce.{IsCommitted}
 
 -- the schema that the tables make, in this order
 abbrev pub making : List Table → Schema
@@ -52,7 +52,7 @@ pub record IsUndone (old new : State) : Type 0 where
 pub record EndsCommit {X : Type 0} (old new : State) (result : Result X TableFault)
     : Type 0 where
   -- if it answers a value, what the transaction saw; else a fault has its cause,
-  pub done : HasCleanDisk new → OnOk result (IsKept (λ db. db ≡ old.now.trees) new)
+  pub done : HasCleanDisk new → OnOk result (IsCommitted (λ db. db ≡ old.now.trees) new)
   pub caused : HasCleanDisk new → IsTrue old.in_transaction → IfErr result (IsCaused old new)
   -- and while it is open, the connection shows the views that were held
   pub given_back : (v w : Views) → Written (counts_of w) old v w

@@ -9,7 +9,7 @@ use Rattle.sqlite_trees.specs.declared.store.Store.{Ghosts}
 use Rattle.pid_tables_rows.specs.Clauses.{Executes, HasCleanDisk, Survives, is_open, seen}
 use Rattle.pid_tables_rows.specs.TableRows.{number}
 use Rattle.pid_tables_rows.specs.declared.fault.TableFault.{TableFault}
-use Rattle.pid_tables.specs.AtOnce.{IsKept}
+use Rattle.pid_tables.specs.AtOnce.{IsCommitted}
 
 -- a text of SQL and its parameters, `?1` first
 abbrev pub Statement : Type 0
@@ -88,4 +88,4 @@ module _ {S : Type 0} (store : Ghosts S) where
     pub survives : Survives store old new (IsMadeBy statements old)
     -- if a value is answered, the connection sees what they make, and a crash leaves it
     pub done : HasCleanDisk store new
-        → OnOk result (IsKept (IsMadeBy statements old) (state store new))
+        → OnOk result (IsCommitted (IsMadeBy statements old) (state store new))
