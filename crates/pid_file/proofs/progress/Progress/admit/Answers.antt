@@ -1,4 +1,4 @@
-use Rattle.std.proofs.Common.{◌≡◌, ◌∙◌, sym, ap, subst, not, arith, inr}
+use Rattle.std.proofs.Common.{◌∙◌, sym, ap, subst, not, arith, inr}
 use Rattle.std.specs.Ordering.{nat_cmp}
 use Rattle.pid_file.specs.OpenLevels.{open_behind}
 use Rattle.pid_file.specs.SeenItems.{has_item, has_path, IsOneMore, seen_items}

@@ -1,6 +1,5 @@
 use Rattle.std.proofs.Common.{◌≡◌, true, false, eqb, sym, ◌∙◌, rules}
 use Rattle.std.specs.Ordering.{nat_cmp}
-use Rattle.pid_file.specs.Steps.PathPlaces.{path_head, path_rest}
 use Rattle.pid_file.proofs.PathOrder.{by_head, by_rest}
 use Rattle.pid_file.proofs.path.order.PathOrd.cmp.Goals as goal
 
