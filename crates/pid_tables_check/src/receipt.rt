@@ -1,11 +1,11 @@
 //! Receipts: each keeps a reply that is its account's own, under a key.
-ghost use Rattle.std.specs.Prelude.{◌≡◌, ◌↔◌, ◌+◌, ◌≤◌, List, ℕ, true, IsTrue, IfOk, IfErr};
+ghost use Rattle.std.specs.Prelude.{◌≡◌, ◌↔◌, ◌+◌, ◌≤◌, List, ℕ, true, false, IsTrue, IfOk, IfErr};
 ghost use Rattle.sqlite.specs.declared.types.Value.TheVariants.{Text as TextValue};
 ghost use Rattle.sqlite.specs.Order.{column, Row as Values};
 ghost use Rattle.pid_ident.specs.Words.{is_key as key_test};
 ghost use Rattle.std.specs.List.{All};
 ghost use Rattle.pid_tables_rows.specs.TableRows.{number};
-ghost use Rattle.pid_tables_rows.specs.Clauses.{GoesOn};
+ghost use Rattle.pid_tables_rows.specs.Clauses.{OnlyReads};
 ghost use Rattle.pid_tables_check.specs.Conditions.{IsReceiptRow};
 ghost use Rattle.pid_tables_check.specs.Steps.Clauses.{KeepsTable};
 ghost use Rattle.pid_tables_check.specs.Steps.Keeping.{AreOfAuthors};
@@ -25,7 +25,7 @@ use crate::value::{number_at, text_at};
 use pid_ident::{is_account, is_key};
 use pid_moderation::ITEMS;
 use pid_tables_rows::TableFault;
-use sqlite::{Alter, Row, Transaction};
+use sqlite::{Alter, Connection, Row};
 use std::alloc::Global;
 use std::collections::BTreeSet;
 
@@ -166,15 +166,15 @@ fn are_receipt_rows(
 /// Reads the receipts, and judges whether they are those of a registry whose submissions have these
 /// authors.
 pub(crate) fn read_receipts<S: Alter>(
-    tx: &mut Transaction<'_, S>,
+    conn: &mut Connection<S>,
     authors: &BTreeSet<(u64, String)>,
     alloc: Global,
 ) -> Result<bool, TableFault>
-    ensures same_reference { tx.new.conn.ghost_name ≡ tx.old.conn.ghost_name }
-    ensures goes { GoesOn S.Store tx.old.conn.now tx.new.conn.now result }
-    ensures keeps { KeepsTable S.Store tx.old.conn.now tx.new.conn.now result table.Receipt
+    requires { conn.old.in_transaction ≡ false }
+    ensures rests { OnlyReads S.Store conn.old conn.new }
+    ensures keeps { KeepsTable S.Store conn.old conn.new result table.Receipt
         (AreOfAuthors authors.now) }
 {
-    let rows = table_rows(tx, Table::Receipt)?;
+    let rows = table_rows(conn, Table::Receipt, alloc)?;
     are_receipt_rows(rows.as_slice(), authors, alloc)
 }

@@ -1,5 +1,5 @@
 //! Submissions: each is one of an account, in a state that it may have.
-ghost use Rattle.std.specs.Prelude.{◌≡◌, ◌≢◌, ◌↔◌, ◌≤◌, List, ℕ, length, true, IsTrue, IfOk, IfErr};
+ghost use Rattle.std.specs.Prelude.{◌≡◌, ◌≢◌, ◌↔◌, ◌≤◌, List, ℕ, length, true, false, IsTrue, IfOk, IfErr};
 ghost use Rattle.sqlite.specs.declared.types.Value.TheVariants.{Text as TextValue};
 ghost use Rattle.sqlite.specs.Order.{column};
 ghost use Rattle.pid_moderation.specs.WellMade.{ProposesName};
@@ -13,7 +13,7 @@ ghost use Rattle.pid_tables_check.specs.Steps.NamesRead.{
   StandsInRows,
 };
 ghost use Rattle.std.specs.List.{All};
-ghost use Rattle.pid_tables_rows.specs.Clauses.{GoesOn};
+ghost use Rattle.pid_tables_rows.specs.Clauses.{OnlyReads};
 ghost use Rattle.pid_tables_check.specs.Steps.Clauses.{KeepsTable};
 ghost use Rattle.pid_tables_check.specs.Steps.Keeping.{AreOfAccounts, KeepsSubmissions};
 ghost use Rattle.pid_tables_check.specs.declared.shape.Table.TheVariants as table;
@@ -26,7 +26,7 @@ use crate::shape::Table;
 use crate::value::{number_at, text_at};
 use crate::words::{has_filled_text, has_name, has_path, has_text, is_blank};
 use pid_tables_rows::TableFault;
-use sqlite::{Alter, Row, Transaction};
+use sqlite::{Alter, Connection, Row};
 use std::alloc::Global;
 use std::collections::BTreeSet;
 
@@ -167,15 +167,15 @@ fn keep_submissions(
 /// Reads the submissions, and judges whether they are those of a registry with accounts of these
 /// names.
 pub(crate) fn read_submissions<S: Alter>(
-    tx: &mut Transaction<'_, S>,
+    conn: &mut Connection<S>,
     names: &BTreeSet<String>,
     alloc: Global,
 ) -> Result<Submissions, TableFault>
-    ensures same_reference { tx.new.conn.ghost_name ≡ tx.old.conn.ghost_name }
-    ensures goes { GoesOn S.Store tx.old.conn.now tx.new.conn.now result }
-    ensures keeps { KeepsTable S.Store tx.old.conn.now tx.new.conn.now result table.Submission
+    requires { conn.old.in_transaction ≡ false }
+    ensures rests { OnlyReads S.Store conn.old conn.new }
+    ensures keeps { KeepsTable S.Store conn.old conn.new result table.Submission
         (KeepsSubmissions names.now) }
 {
-    let rows = table_rows(tx, Table::Submission)?;
+    let rows = table_rows(conn, Table::Submission, alloc)?;
     keep_submissions(rows.as_slice(), names, alloc)
 }
