@@ -1,5 +1,5 @@
 -- The set of the numbers and authors of submissions.
-use Rattle.std.proofs.Common.{◌≡◌, inl, inr, ℕ, ◌+◌, ◌<◌, List, [], ◌∷◌, ◌++◌, length, get_or, take, Bool, true, cond, refl, sym, ap, subst, ◌∙◌, ◌↔◌, Ordering, Less, Equal, Greater}
+use Rattle.std.proofs.Common.{◌≡◌, inl, inr, ℕ, List, [], ◌∷◌, ◌++◌, Bool, true, false, cond, refl, sym, ap, subst, ◌∙◌, ◌↔◌, Ordering, Less, Equal, Greater}
 use Rattle.std.specs.Prelude.{IsUtf8, String, string_bytes}
 use Rattle.std.specs.declared.alloc.Global.{Global}
 use Rattle.std.specs.Ordering.{is_eq, nat_cmp, ordering_then}
@@ -7,7 +7,7 @@ use Rattle.std.specs.FinMap.{nat_cmp-IsAntisymmetric}
 use Rattle.std.specs.BTreeSet.{BTreeSet, contains}
 use Rattle.std.specs.Cmp.Lexicographic.{nat_list_cmp_total}
 use Rattle.std.proofs.lemmas.Cmp.{tied_itself, nat_cmp_total}
-use Rattle.std.proofs.lemmas.List.{take_more}
+use Rattle.std.specs.List.{list_any}
 use Rattle.sqlite.specs.declared.types.Value.TheVariants.{Text}
 use Rattle.sqlite.specs.Order.{Row, column}
 use Rattle.pid_ident.specs.Trees.{text_cmp}
@@ -19,6 +19,9 @@ use Rattle.pid_tables_check.proofs.RemarkFacts.{chosen, either, numbers_same}
 
 by_before : (rows : List Row) (r : Row) (n : ℕ) (author : List ℕ) → IsByAuthor rows n author → IsByAuthor (rows ++ r ∷ []) n author
 by_before rows r n author it = (it.0, before rows r it.0 it.1, it.2, it.3)
+
+pub authors_none : (authors : BTreeSet (ℕ × String Global)) → authors.keys ≡ [] → AreAuthorsOf authors []
+authors_none authors none q utf8 = (λ there. absurd (let bad : false ≡ true = sym (ap (λ (ks : List (ℕ × String Global)). list_any (λ k. is_eq (author_cmp q k)) ks) none) ∙ there in cc), λ it. absurd it.1)
 
 pub author_skipped : (authors : BTreeSet (ℕ × String Global)) (rows : List Row) (r : Row) → ((n : ℕ) (t : List ℕ) → column r 0 ≡ number n → column r 1 ≡ Text t → ¬ (IsUtf8 t)) → AreAuthorsOf authors rows → AreAuthorsOf authors (rows ++ r ∷ [])
 author_skipped authors rows r none are q utf8 = (
@@ -55,9 +58,6 @@ author_added authors next rows r n author first second added are q utf8 = (
         (λ i. is_eq (ordering_then (nat_cmp (a i) q.0) (text_cmp (b i) (string_bytes q.1)))) ∙ both_itself q.0 (string_bytes q.1))
   ]),
 )
-
-pub authors_step : (authors : BTreeSet (ℕ × String Global)) (rows : List Row) (i : ℕ) (r : Row) → i < length rows → get_or rows i r ≡ r → AreAuthorsOf authors (take i rows ++ r ∷ []) → AreAuthorsOf authors (take (i + 1) rows)
-authors_step authors rows i r less is are = subst (AreAuthorsOf authors) (sym (take_more rows i r less ∙ ap (λ x. take i rows ++ x ∷ []) is)) are
 
 pub by_key : (authors : BTreeSet (ℕ × String Global)) (rows : List Row) (n : ℕ) (author : String Global) (account : List ℕ) (b : Bool) → IsUtf8 account → string_bytes author ≡ account → b ≡ contains author_cmp authors (n, author)
     → AreAuthorsOf authors rows → (b ≡ true) ↔ IsByAuthor rows n account

@@ -42,8 +42,8 @@ fn insert_author(
     Ok(())
 }
 
-// Adds the number and the author of a row.
-fn add_author(
+/// Adds the number and the author of a row.
+pub(crate) fn add_author(
     authors: &mut BTreeSet<(u64, String)>,
     alloc: Global,
     row: &Row,
@@ -62,18 +62,6 @@ fn add_author(
             }
         },
     }
-}
-
-/// The numbers of submissions with their authors.
-pub(crate) fn authors_of(rows: &[Row], alloc: Global) -> Result<BTreeSet<(u64, String)>, TableFault>
-    ensures authors { IfOk result (λ authors. AreAuthorsOf authors rows.now) }
-    ensures untold { IfErr result IsMemoryOrStore }
-{
-    let mut authors = BTreeSet::new(alloc);
-    for row in rows {
-        add_author(&mut authors, alloc, row)?;
-    }
-    Ok(authors)
 }
 
 /// Whether a submission has this number and this author.

@@ -16,13 +16,13 @@ pub(crate) trait Keeper {
     ghost use Rattle.std.specs.Prelude.{List};
     ghost use Rattle.sqlite.specs.Order.{Row as Values};
 
-    /// What is kept, and the rows that it was kept of.
-    ghost keeps: { Self → List Values → Type 0 };
+    /// The keeper at first, the rows that it took since, and the keeper now.
+    ghost keeps: { Self → List Values → Self → Type 0 };
 
     /// Takes one more row.
     fn keep(&mut self, row: &Row) -> Result<(), TableFault>
-        ensures kept { (rows : List Values) → keeps self.old rows
-            → OnOk result (keeps self.new (rows ++ row.now ∷ [])) }
+        ensures kept { (first : Self) (rows : List Values) → keeps first rows self.old
+            → OnOk result (keeps first (rows ++ row.now ∷ []) self.new) }
         ensures untold { IfErr result IsMemoryOrStore };
 }
 
@@ -35,7 +35,8 @@ pub(crate) fn keep_rows<S: Alter, K: Keeper>(
     requires { conn.old.in_transaction ≡ false }
     ensures rests { OnlyReads S.Store conn.old conn.new }
     ensures keeps { KeepsTable S.Store conn.old conn.new result table
-        (λ rows x. K.keeps keeper.old [] → K.keeps keeper.new rows) }
+        (λ rows x. K.keeps keeper.old [] keeper.old
+        → K.keeps keeper.old rows keeper.new) }
 {
     let sql = query(table);
     let mut rows = conn.query(sql, &[])?;
@@ -58,7 +59,7 @@ struct Kept {
 impl Keeper for Kept {
     ghost use Rattle.std.specs.Prelude.{◌≡◌};
 
-    ghost keeps = { λ kept rows. kept.rows.items ≡ rows };
+    ghost keeps = { λ first rows kept. kept.rows.items ≡ rows };
 
     fn keep(&mut self, row: &Row) -> Result<(), TableFault> {
         let copy = row.copy()?;

@@ -1,14 +1,17 @@
 -- What is kept of tables that were read and judged, and what it says of their rows.
-use Rattle.std.specs.Prelude.{◌≡◌, ◌↔◌, ℕ, Bool, List, length, IsTrue, String}
+use Rattle.std.specs.Prelude.{◌≡◌, ◌↔◌, ◌≤◌, ℕ, Bool, List, length, IsTrue, String}
 use Rattle.std.specs.declared.alloc.Global.{Global}
 use Rattle.std.specs.BTreeSet.{BTreeSet}
 use Rattle.sqlite.specs.Effect.{Database}
 use Rattle.sqlite.specs.Order.{Row}
+use Rattle.sqlite_rules.specs.Lists.{Has}
 use Rattle.pid_file.specs.declared.path.Path.{Path}
 use Rattle.pid_tables_rows.specs.declared.version.Version.{Version}
 use Rattle.pid_tables_rows.specs.declared.version.Version.TheVariants.{One, Two}
 use Rattle.pid_tables_check.specs.declared.account.Accounts.{Accounts}
 use Rattle.pid_tables_check.specs.declared.item.Items.{Items}
+use Rattle.pid_tables_check.specs.declared.submission.Fit.{Fit}
+use Rattle.pid_tables_check.specs.declared.submission.SubmissionKeeper.{SubmissionKeeper}
 use Rattle.pid_tables_check.specs.declared.submission.Submissions.{Submissions}
 use Rattle.pid_tables_check.specs.declared.tables.Part.{Part}
 use Rattle.pid_tables_check.specs.declared.tables.Judged.{Judged}
@@ -16,6 +19,8 @@ use Rattle.pid_tables_check.specs.declared.shape.Table.TheVariants.{Meta, Accoun
 use Rattle.pid_tables_check.specs.declared.shape.Table.TheVariants.{Receipt}
 use Rattle.pid_tables_check.specs.Steps.AuthorSets.{AreAuthorsOf}
 use Rattle.pid_tables_check.specs.Steps.NameSets.{AreNamesOf}
+use Rattle.pid_tables_check.specs.Steps.NamesRead.{IsSubmissionAmong}
+use Rattle.pid_tables_check.specs.Steps.NumberSets.{AreNumbersOf}
 use Rattle.pid_tables_check.specs.Steps.PathSets.{ArePathsOf}
 use Rattle.pid_tables_check.specs.Queries.{query_of}
 use Rattle.pid_tables_check.specs.Shapes.{ShowsRows, ShowsSinces, ShowsTables}
@@ -46,6 +51,20 @@ GoWith paths revision rows good = (items : List Row) → ArePathsOf paths items
 abbrev pub AreOfAccounts : BTreeSet (String Global) → List Row → Bool → Type 0
 AreOfAccounts names rows good = (accounts : List Row) → AreNamesOf names accounts
     → AreAccounts accounts → IsPartJudged (AreSubmissions accounts) rows good
+
+-- they are submissions' rows for each count that is no less than the greatest number
+abbrev pub AreFit : BTreeSet (String Global) → List Row → Fit → Type 0
+AreFit names rows fit = (count : ℕ) → (IsTrue fit.good × (fit.greatest ≤ count))
+    ↔ ((r : Row) → Has rows r → IsSubmissionAmong names count r)
+
+-- the keeper took these rows
+pub record TakesSubmissions (first : SubmissionKeeper) (rows : List Row)
+    (it : SubmissionKeeper) : Type 0 where
+  pub names : it.names.now ≡ first.names.now
+  pub count : it.count ≡ length rows
+  pub fit : AreFit it.names.now rows it.fit
+  pub numbers : AreNumbersOf it.numbers rows
+  pub authors : AreAuthorsOf it.authors rows
 
 pub record KeepsSubmissions (names : BTreeSet (String Global)) (rows : List Row)
     (it : Submissions) : Type 0 where
