@@ -1,11 +1,9 @@
-use Rattle.std.proofs.Common.{[], refl, rules, sym, subst, ap, ◌∙◌, Err}
+use Rattle.std.proofs.Common.{[], refl, rules, ◌∙◌}
 use Rattle.std.proofs.lemmas.Result.{err_from_is_err_and}
 use Rattle.sqlite.specs.State.{HasCleanDisk}
 use Rattle.sqlite.specs.Held.{state}
 use Rattle.sqlite.proofs.StateLemmas.{clean_if_open}
-use Rattle.pid_tables_rows.specs.Faults.{IsMemoryOrStore}
 use Rattle.pid_tables_rows.specs.Leaves.{OnlyReads}
-use Rattle.pid_tables_rows.proofs.CauseLemmas.{passed_on}
 use Rattle.pid_tables_rows.proofs.OnlyReading.{keeps_same, keeps_either}
 use Rattle.pid_tables_check.specs.Queries.{query_of}
 use Rattle.pid_tables_check.proofs.Walking.{refused, refused_told, begun, walked_rests, walk_rests, one_more, all_kept, step_told, failed_so}

@@ -1,4 +1,4 @@
-use Rattle.std.proofs.Common.{◌≤◌, zero, refl, subst, arith}
+use Rattle.std.proofs.Common.{refl, subst, arith}
 use Rattle.pid_tables_rows.specs.Faults.{IsMemoryOrStore}
 use Rattle.pid_tables_rows.proofs.CauseLemmas.{passed_on}
 use Rattle.pid_tables_check.specs.Steps.Keeping.{AreFit}

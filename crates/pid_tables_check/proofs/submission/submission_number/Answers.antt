@@ -1,5 +1,4 @@
-use Rattle.std.proofs.Common.{refl, ap}
-use Rattle.sqlite.specs.Order.{Row, column}
+use Rattle.std.proofs.Common.{refl}
 use Rattle.pid_tables_check.proofs.SubmissionFacts.{to_own, from_own, num_of}
 use Rattle.pid_tables_check.proofs.submission.submission_number.Goals as goal
 
