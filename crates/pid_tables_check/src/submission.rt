@@ -37,7 +37,7 @@ ghost use Rattle.pid_tables_check.specs.Steps.Keeping.{AreFit, AreOfAccounts, Ke
 ghost use Rattle.pid_tables_check.specs.Steps.NumberSets.{AreNumbersOf};
 ghost use Rattle.pid_tables_check.specs.declared.shape.Table.TheVariants as table;
 
-use crate::authors::add_author;
+use crate::authors::{Authors, add_author, no_authors};
 use crate::names;
 use crate::numbers::{Numbers, add_number, count_from_one, no_numbers};
 use crate::read::{Keeper, keep_rows};
@@ -204,7 +204,7 @@ struct SubmissionKeeper<'a> {
     count: u64,
     fit: Fit,
     numbers: Numbers,
-    authors: BTreeSet<(u64, String)>,
+    authors: Authors,
 }
 
 impl Keeper for SubmissionKeeper<'_> {
@@ -226,7 +226,7 @@ impl Keeper for SubmissionKeeper<'_> {
 pub(crate) struct Submissions {
     pub(crate) good: bool,
     pub(crate) count: u64,
-    pub(crate) authors: BTreeSet<(u64, String)>,
+    pub(crate) authors: Authors,
 }
 
 fn are_submissions(fit: Fit, numbers: &Numbers, count: u64) -> bool
@@ -263,7 +263,7 @@ pub(crate) fn read_submissions<S: Alter>(
             greatest: 0,
         },
         numbers: no_numbers(alloc),
-        authors: BTreeSet::new(alloc),
+        authors: no_authors(alloc),
     };
     keep_rows(conn, Table::Submission, &mut keeper)?;
     Ok(Submissions {

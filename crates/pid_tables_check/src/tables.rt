@@ -33,7 +33,8 @@ pub(crate) struct Judged {
     pub(crate) submissions: u64,
 }
 
-fn are_both(one: bool, other: bool) -> bool
+/// Whether both are so.
+pub(crate) fn are_both(one: bool, other: bool) -> bool
     ensures { IsTrue result ↔ (IsTrue one × IsTrue other) }
 {
     one && other
@@ -77,7 +78,7 @@ fn read_submitted<S: Alter>(conn: &mut Connection<S>, alloc: Global) -> Result<P
 {
     let accounts = read_accounts(conn, alloc)?;
     let submissions = read_submissions(conn, &accounts.names, alloc)?;
-    let receipts = read_receipts(conn, &submissions.authors, alloc)?;
+    let receipts = read_receipts(conn, &submissions.authors)?;
     let good = are_both(accounts.good, are_both(submissions.good, receipts));
     Ok(Part {
         good,

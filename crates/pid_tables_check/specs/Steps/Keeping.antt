@@ -9,6 +9,8 @@ use Rattle.pid_file.specs.declared.path.Path.{Path}
 use Rattle.pid_tables_rows.specs.declared.version.Version.{Version}
 use Rattle.pid_tables_rows.specs.declared.version.Version.TheVariants.{One, Two}
 use Rattle.pid_tables_check.specs.declared.account.Accounts.{Accounts}
+use Rattle.pid_tables_check.specs.declared.authors.Authors.{Authors}
+use Rattle.pid_tables_check.specs.declared.receipt.ReceiptKeeper.{ReceiptKeeper}
 use Rattle.pid_tables_check.specs.declared.item.Items.{Items}
 use Rattle.pid_tables_check.specs.declared.submission.Fit.{Fit}
 use Rattle.pid_tables_check.specs.declared.submission.SubmissionKeeper.{SubmissionKeeper}
@@ -73,9 +75,14 @@ pub record KeepsSubmissions (names : BTreeSet (String Global)) (rows : List Row)
   pub good : AreOfAccounts names rows it.good
 
 -- the receipts go with any submissions that have these authors
-abbrev pub AreOfAuthors : BTreeSet (ℕ × String Global) → List Row → Bool → Type 0
+abbrev pub AreOfAuthors : Authors → List Row → Bool → Type 0
 AreOfAuthors authors rows good = (submissions : List Row) → AreAuthorsOf authors submissions
     → IsPartJudged (AreReceipts submissions) rows good
+
+-- the keeper took these rows
+pub record TakesReceipts (first : ReceiptKeeper) (rows : List Row) (it : ReceiptKeeper) : Type 0 where
+  pub authors : it.authors.now ≡ first.authors.now
+  pub good : AreOfAuthors it.authors.now rows it.good
 
 -- ---- several tables
 

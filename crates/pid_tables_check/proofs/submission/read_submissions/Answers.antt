@@ -2,7 +2,6 @@ use Rattle.std.proofs.Common.{refl, subst, arith}
 use Rattle.pid_tables_rows.specs.Faults.{IsMemoryOrStore}
 use Rattle.pid_tables_rows.proofs.CauseLemmas.{passed_on}
 use Rattle.pid_tables_check.specs.Steps.Keeping.{AreFit}
-use Rattle.pid_tables_check.proofs.AuthorFacts.{authors_none}
 use Rattle.pid_tables_check.proofs.submission.read_submissions.Goals as goal
 
 pub returns-in_err-keep_rows-clause-keeps : goal.returns-in_err-keep_rows-clause-keeps
@@ -12,7 +11,7 @@ pub returns-clause-keeps : goal.returns-clause-keeps
 returns-clause-keeps g c clean d is asked =
     let it = c.in_ok-keep_rows.ensures.keeps clean d is asked in
     let last = c.keep_rows.new.keeper in
-    let taken = it.0.2 (record { names = refl; count = refl; fit = λ count. (λ yes r h. absurd h, λ all. (refl, omega arith)); numbers = c.no_numbers.ensures; authors = authors_none c.new.result c.new.ensures.empty }) in (
+    let taken = it.0.2 (record { names = refl; count = refl; fit = λ count. (λ yes r h. absurd h, λ all. (refl, omega arith)); numbers = c.no_numbers.ensures; authors = c.no_authors.ensures }) in (
       (
         it.0.0,
         it.0.1,
