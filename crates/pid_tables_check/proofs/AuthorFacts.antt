@@ -4,10 +4,10 @@ use Rattle.std.specs.Prelude.{◌↔◌, IsUtf8, String, string_bytes, is_ok, is
 use Rattle.std.specs.declared.alloc.Global.{Global}
 use Rattle.std.specs.List.{list_any, slice_get}
 use Rattle.std.specs.Map.{lookup}
-use Rattle.std.specs.Ordering.{is_eq, match_ordering, nat_cmp}
+use Rattle.std.specs.Ordering.{is_eq, match_ordering}
 use Rattle.std.specs.String.{string_cmp}
 use Rattle.std.specs.BTreeSet.{BTreeSet, contains}
-use Rattle.std.specs.BTreeMap.{BTreeMap, btree_map_len, get_by_text, insert_entry}
+use Rattle.std.specs.BTreeMap.{btree_map_len, get_by_text, insert_entry}
 use Rattle.std.specs.Cmp.Lexicographic.{nat_list_cmp_total}
 use Rattle.std.proofs.lemmas.Cmp.{tied_itself}
 use Rattle.sqlite.specs.declared.types.Value.TheVariants.{Text}
@@ -15,7 +15,7 @@ use Rattle.sqlite.specs.Order.{Row, column}
 use Rattle.pid_ident.specs.Trees.{text_cmp}
 use Rattle.pid_tables_rows.proofs.SetLemmas.{tied}
 use Rattle.pid_tables_rows.specs.TableRows.{number}
-use Rattle.pid_tables_check.specs.Steps.AuthorSets.{Names, ArePlaces, AddsName, PlacesName, IsInTurn, HasPlace, IsByAuthor, IsKeptBy, AreAuthorsOf}
+use Rattle.pid_tables_check.specs.Steps.AuthorSets.{Names, ArePlaces, AddsName, PlacesName, HasPlace, IsByAuthor, IsKeptBy, AreAuthorsOf}
 use Rattle.pid_tables_check.specs.Steps.PlaceSets.{pair_cmp}
 use Rattle.pid_tables_check.specs.declared.authors.Authors.{Authors}
 use Rattle.pid_tables_check.proofs.ItemFacts.{split, before, last, texts_same}
