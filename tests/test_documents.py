@@ -7,6 +7,7 @@ import subprocess
 
 import pytest
 
+import contracts
 import edit_list
 import reading_list
 import refusals
@@ -123,6 +124,27 @@ def missing_evidence():
         if not re.search(rf"\bfn {path.rpartition(':')[2]}\b", sources_in(crate)):
             missing.append(f"{crate}::{path}")
     return named, missing
+
+
+def missing_clauses():
+    """How many clauses SECURITY.md names after calls, and those that these calls have not. A name
+    after a call is another call of its crate, or a clause of one of them."""
+    text = " ".join(text_of("SECURITY.md").split()).partition("A client of `serve`:")[2]
+    clauses, missing, count = {}, [], 0
+    for it in contracts.functions():
+        found = re.findall(r"^\w+ (\w+) \{", "\n".join(it.clauses), re.M)
+        clauses.setdefault(it.path, set()).update(found)
+    for call, names in re.findall(r"`(pid_\w+::[\w:]+)`((?:, `[\w:]+`)+)", text):
+        crate, calls = call.partition("::")[0], [call.rpartition("::")[2]]
+        for name in re.findall(r"[\w:]+", names):
+            last = name.rpartition("::")[2]
+            if f"{crate}::{last}" in clauses:
+                calls.append(last)
+                continue
+            count += 1
+            if not any(name in clauses.get(f"{crate}::{it}", ()) for it in calls):
+                missing.append(f"{call}: {name}")
+    return count, missing
 
 
 def unknown_names(page):
@@ -273,6 +295,9 @@ def test_security(cases):
     count, missing = missing_evidence()
     cases.equal("tests and calls that do not exist", missing, [])
     cases.equal("it names some", count > 30, True)
+    count, missing = missing_clauses()
+    cases.equal("clauses that do not exist", missing, [])
+    cases.equal("it names clauses", count > 5, True)
 
 
 def test_refusals(cases):
