@@ -3,7 +3,6 @@
 // All that the others import too: it is fetched at once, not level by level. As `modulepreload` in
 // index.html it would be fetched sooner, but taken up before the page is first painted.
 import "./api.js";
-import "./detours.js";
 import "./dom.js";
 import "./kept.js";
 import "./lists.js";

@@ -5,7 +5,6 @@
 
 import { account, authorization } from "./account.js";
 import { request } from "./api.js";
-import { rememberOwn } from "./detours.js";
 import { keep, keysOf, recall } from "./kept.js";
 
 const FRONT = "owed:";
@@ -178,7 +177,6 @@ async function sendUntilKnown(entry, work) {
     if (account() !== entry.account) return gaveUp(entry, { trouble: "account" }, isInDoubt);
     const answer = await send(entry, body);
     if (answer.value || answer.refusal) {
-      if (answer.value?.num) rememberOwn(entry, answer.value);
       if (answer.value) rememberActed(entry.key, answer.value);
       forget(entry.key);
       return answer;

@@ -190,9 +190,10 @@ def rejected(cases, world, browser, number):
     browser.has("It isn't known yet", "#owed")
     world.spoiler.set("pass")
     world.ask("/withdraw", {"num": number}, "dora")
-    browser.has("isn't pending any more", ".decide")
-    cases.equal("kept: a refused reason is a draft again", value(browser, row),
-                ["half a reason", False])
+    browser.has("isn't pending any more", "#notice")
+    told = browser.has("The reason that you wrote wasn't sent: half a reason")
+    cases.equal("kept: a refused reason isn't lost", (told, browser.heading("Withdrawn")),
+                (True, True))
 
 
 def beside_decision(cases, world, browser):
