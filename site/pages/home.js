@@ -1,4 +1,3 @@
-import { account } from "../account.js";
 import { ask } from "../api.js";
 import { counted, el, fill, link, several } from "../dom.js";
 import { load } from "../names.js";
@@ -20,7 +19,7 @@ function statusWords({ items, pending, submissions }) {
 // What comes late finds its room.
 const later = (kind) => el("p", { class: `aside ${kind}` }, "\u00a0");
 
-/** The start page. */
+/** The start page. What is there at once is in start.html too, so that it is painted first. */
 export default async function home() {
   const [published, status] = [later("published"), later("status")];
   load().then((known) => { if (known) fill(published, publishedWords(known)); });
@@ -44,7 +43,7 @@ export default async function home() {
       el("li", {}, link("/recent", "What changed"), " lately, and ",
         link("/decided", "the latest proposals")),
       el("li", {}, link("/check", "Check a file"), " of your own"),
-      account() ? el("li", {}, link("/mine", "My proposals"), ", and what came of them") : null),
+      el("li", {}, link("/mine", "My proposals"), ", and what came of them")),
     published, status,
   ];
 }

@@ -3,14 +3,13 @@
 import { account, learnRank, maySuffice } from "../account.js";
 import { ask } from "../api.js";
 import { el, fill, link, several } from "../dom.js";
-import { load, namesAt } from "../names.js";
+import { areAtHand, namesAt } from "../names.js";
 import { failed, title } from "../parts.js";
 import { withParents } from "../paths.js";
 import { isTooSoon } from "../steady.js";
 import { Card } from "./card.js";
 
 const PAGE = 100;
-const FILE_WAIT = 400;
 const TRIES_EVERY = 3_000;
 
 /** The keys of the list: what each does with the list and the row that has the focus. */
@@ -26,14 +25,13 @@ const KEYS = {
 };
 const MAY_REPEAT = ["j", "k", "ArrowDown", "ArrowUp"];
 
-const pause = (milliseconds, value) => (
-  new Promise((go) => { setTimeout(go, milliseconds, value); }));
+const pause = (milliseconds) => new Promise((go) => { setTimeout(go, milliseconds); });
 
-// What the items are below that proposals are for: names by paths, null where there is none. Most
-// are in the published file. Of those that aren't the registry is asked.
+// What the items are below that proposals are for: names by paths, null where there is none. Those
+// of the published file do where they are at hand; of the others the registry is asked.
 async function namesAbove(rows) {
   const paths = [...new Set(rows.flatMap((it) => withParents(it.path).slice(0, -1)))];
-  const known = await Promise.race([namesAt(paths), pause(FILE_WAIT, new Map())]);
+  const known = areAtHand() ? await namesAt(paths) : new Map();
   const unknown = paths.filter((it) => !known.has(it));
   const answers = await Promise.all(unknown.map((it) => ask(`/read/${it}`, { quiet: true })));
   unknown.forEach((it, at) => {
@@ -162,7 +160,6 @@ function nextPage(all) {
 /** The queue. */
 export default async function queue({ query, again, go }) {
   const after = Math.max(0, Number.parseInt(query.get("after") ?? "0", 10)) || 0;
-  load();
   const [answer] = await Promise.all([ask(`/queue?after=${after}`), learnRank()]);
   if (!answer.value) return failed(answer, again);
   const all = answer.value;

@@ -142,21 +142,45 @@ def without_scripts(cases, world):
 
 
 def modules(cases):
-    """The first script names all modules that it needs, so that they are fetched at once."""
+    """The script of the site names all modules that it needs, so that they are fetched at once; but
+    for the first script, which is there by then."""
     imports = re.compile(r'^(?:import |} from )(?:.* from )?"./([a-z.]+)";$', re.M)
 
     def named_in(name):
         with open(os.path.join(SITE, name), encoding="utf-8") as file:
             return imports.findall(file.read())
 
-    named, needed = named_in("main.js"), set()
-    left = ["main.js"]
+    named, needed = named_in("site.js"), {"main.js"}
+    left = ["site.js"]
     while left:
         found = {*named_in(left.pop())} - needed
         left += found
         needed |= found
-    got = sorted(named), len(named) > 15
-    cases.equal("safety: what the first script names", got, (sorted(needed), True))
+    got = sorted(named), len(named) > 10, named_in("main.js")
+    want = sorted(needed - {"main.js"}), True, []
+    cases.equal("safety: what the scripts name", got, want)
+
+
+def first_page(cases, browser):
+    """The first page has at once what its script makes of it, in the frame of all pages."""
+    def parts(name):
+        with open(os.path.join(SITE, name), encoding="utf-8") as file:
+            text = re.sub(r"\s+", " ", file.read()).replace("> <", "><").replace("&nbsp;", "\xa0")
+        head, _, rest = text.partition('<main id="main" tabindex="-1">')
+        inside, _, foot = rest.partition("</main>")
+        return head, *inside.split("<noscript>"), foot
+
+    head, static, without, foot = parts("start.html")
+    frame = parts("index.html")
+    heading = "<h1>PCI ID registry</h1>"
+    cases.equal("safety: the frame of the first page", (head, heading + without, foot),
+                (frame[0], frame[2], frame[3]))
+    made = browser.driver.execute_async_script(
+        "const [done] = arguments; import('/site/pages/home.js').then(async (it) => done("
+        "(await it.default()).map((node) => node.outerHTML).join('')))")
+    cases.equal("safety: what the first page has at once", static.replace("\xa0", "&nbsp;"), made)
+    got = ask_curl("-k", "-H", "Accept: text/html", browser.base + "/")[2]
+    cases.equal("safety: it is what is served", b'<p class="lead">' in got, True)
 
 
 def refusals(cases, browser):
@@ -205,3 +229,4 @@ def run(cases):
         secrets(cases, browser)
         refusals(cases, browser)
         modules(cases)
+        first_page(cases, browser)
