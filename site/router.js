@@ -90,13 +90,15 @@ async function show({ focus = true, scroll = 0 } = {}) {
   untell(LOADING);
   shownPage = page;
   shownAddress = wanted;
+  const hadFocus = main.contains(document.activeElement);
   fill(main, page);
   appear(main);
   document.title = titleOf(main.querySelector("h1"));
   document.body.classList.add("ready");
   watchers.forEach((watcher) => watcher(address));
   if (scroll !== null) scrollTo(0, scroll);
-  if (focus) main.querySelector("h1")?.focus({ preventScroll: true });
+  // What had the focus isn't there any more.
+  if (focus || hadFocus) main.querySelector("h1")?.focus({ preventScroll: true });
 }
 
 // A page that asks to be shown again after another one came in its place is not.

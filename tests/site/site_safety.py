@@ -3,6 +3,7 @@ the headers holds and reports nothing; without scripts the page leads to the tex
 import json
 import os
 import re
+import subprocess
 
 import program
 from http_server import ask_curl
@@ -141,6 +142,26 @@ def without_scripts(cases, world):
     cases.equal("safety: nothing inline", inline, [])
 
 
+def statuses(cases, world):
+    """What is not there has status 404 and a page; whatever is or may be there has 200."""
+    def got(*words):
+        status, _, page = ask_curl("-k", "-H", "Accept: text/html", *words)
+        return status, b"/site/main.js" in page
+
+    for path, want in (("PC/8086/1237", 200), ("PC/8086/1237/1af41100", 200), ("PC/8086", 200),
+                       ("PC/8086/fffe", 404), ("PC/8086/1237/00000000", 404), ("PS/8086/fffe", 404),
+                       ("PD/01/fe", 404), ("PC/8086/12", 200), ("pc/10DE/FFFE", 200)):
+        page = f"{world.base}/item/{path}"
+        cases.equal(f"safety: the status of {path}", got(page), (want, True))
+    # A body is no part of the question: the server would wait for it, and others for the server.
+    page = f"{world.base}/item/PC/8086/fffe"
+    cases.equal("safety: a body", got("-X", "GET", "-d", "a=b", page), (404, True))
+    cases.equal("safety: the head alone", got("-I", page)[0], 404)
+    world.spoiler.set("gone")
+    cases.equal("safety: without an answer", got(page), (200, True))
+    world.spoiler.set("pass")
+
+
 def modules(cases):
     """The script of the site names all modules that it needs, so that they are fetched at once; but
     for the first script, which is there by then."""
@@ -219,6 +240,29 @@ def secrets(cases, browser):
     cases.equal("safety: a wrong password", browser.has("weren't accepted", "#dialog"), True)
 
 
+def renewed(cases, world, browser):
+    """Whose password is another one by now is logged out by a command, which isn't lost."""
+    def password(text):
+        words = ["htpasswd", "-bB", "-C", "4", f"{world.folder}/passwords", "alice", text]
+        subprocess.run(words, stderr=subprocess.DEVNULL, timeout=50, check=True)
+
+    browser.go("/help").log_in("alice")
+    browser.go("/propose?path=PC/8086/be10")
+    browser.type("#name", "Under a new password")
+    password("another")
+    browser.click("form.propose button.main")
+    told = browser.has("weren't accepted. Nothing was done.", "form.propose")
+    kept = browser.js("return document.getElementById('name').value")
+    got = told, browser.text("#log"), kept, browser.owed()
+    cases.equal("safety: a password that was changed", got,
+                (True, "Log in", "Under a new password", []))
+    password("pw-alice")
+    browser.click("form.propose button.main")
+    browser.enter("alice")
+    browser.heading("Proposal ")
+    cases.equal("safety: sent once it is known", len(world.pending("PC/8086/be10")), 1)
+
+
 def run(cases):
     with World() as world, Browser(world.base) as browser:
         hostile(cases, world, browser)
@@ -226,7 +270,10 @@ def run(cases):
         deceiving(cases, world, browser)
         policy(cases, world, browser)
         without_scripts(cases, world)
+        statuses(cases, world)
         secrets(cases, browser)
+        browser.go("/")
+        renewed(cases, world, browser)
         refusals(cases, browser)
         modules(cases)
         first_page(cases, browser)
