@@ -33,7 +33,11 @@ export default async function proposal({ number, again }) {
   // Nobody decides without having seen what it is called now.
   if (own.trouble) return failed(own, again);
   const isIdle = it.name === null ? own.refusal !== undefined : own.value?.name === it.name;
-  const done = (words, seconds = 4) => { tell(words, seconds); again(); };
+  // Said once the page is there: what is said while it loads takes the place of what was.
+  const done = async (words, seconds = 4) => {
+    await again();
+    tell(words, seconds);
+  };
   const text = `Proposal ${it.num}: ${it.name === null ? "remove" : it.name} · ${it.path}`;
   return [
     title(text, `Proposal ${it.num} `, stateMark(it.state)),
