@@ -155,7 +155,9 @@ def statuses(cases, world):
         cases.equal(f"safety: the status of {path}", got(page), (want, True))
     # A body is no part of the question: the server would wait for it, and others for the server.
     page = f"{world.base}/item/PC/8086/fffe"
-    cases.equal("safety: a body", got("-X", "GET", "-d", "a=b", page), (404, True))
+    for it in (("-d", "a=b"), ("-H", "Transfer-Encoding: chunked", "-d", "a=b")):
+        told = got("--http1.1", "-X", "GET", *it, "-H", "X-Account: root", page)
+        cases.equal(f"safety: a body, {it[1]}", told, (404, True))
     cases.equal("safety: the head alone", got("-I", page)[0], 404)
     world.spoiler.set("gone")
     cases.equal("safety: without an answer", got(page), (200, True))
