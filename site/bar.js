@@ -9,6 +9,7 @@ import { tell } from "./notice.js";
 import {
   bringFile, forget, isWorking, keysAtWork, leave, owed, settle, stateOf, wantsFile, watchOutbox,
 } from "./outbox.js";
+import { bytesOf } from "./reader.js";
 import { watchPages } from "./router.js";
 import { spelled } from "./shown.js";
 import { isTooSoon, steadyButton } from "./steady.js";
@@ -60,7 +61,7 @@ function fileBox(entry) {
   const box = el("input", { type: "file", id: `again-${entry.key}` });
   box.addEventListener("change", async () => {
     if (!box.files[0]) return;
-    const bytes = new Uint8Array(await box.files[0].arrayBuffer());
+    const bytes = await bytesOf(box.files[0]).catch(() => new Uint8Array());
     if (await bringFile(entry, bytes)) askAgain(entry);
     else tell("That is another file than the one that was sent.", 6);
   });
