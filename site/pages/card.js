@@ -20,9 +20,9 @@ const ARMED_FOR = 3_000;
 export class Card {
   /**
    * @param {Object} it the proposal, as /queue has it
-   * @param {Object} around what it needs of the list. rivals: others on its path; nameOf: the name at
-   *   a path above, null where there is none, undefined where that isn't known; decided: is called
-   *   with the row, renamed with a path and its name, look with a path whose name is to be asked for
+   * @param {Object} around rivals: others on its path; nameOf: the name at a path above, null for
+   *   none, undefined where that isn't known; decided: is called with the row, renamed with a path
+   *   and its name, look with a path whose name is to be asked for
    */
   constructor(it, around) {
     this.it = it;
