@@ -308,6 +308,34 @@ def listed(cases, world, browser):
     cases.equal("story: what was proposed before", got, [True, True])
 
 
+# What the page asks for, and finds, where each question has so many rows and leads to the next.
+SPARSE = """
+const [rows, name, which, done] = arguments, asked = [], fetched = globalThis.fetch;
+globalThis.fetch = async (path) => {
+  const at = asked.push(new URLSearchParams(path.split("?")[1]).get("before")) - 1;
+  const before = at + 1 < rows.length ? 900 - at : 0;
+  return Response.json({ before, submissions: Array.from({ length: rows[at] }, () => ({})) });
+};
+import("/site/submissions.js").then((it) => it[name](which)).then(({ value }) => {
+  globalThis.fetch = fetched;
+  done([asked, value.submissions.length, value.before]);
+});
+"""
+
+
+def sparse(cases, browser):
+    """A page of few rows is filled from the next ones, by five questions at most."""
+    ask = browser.driver.execute_async_script
+    cases.equal("story: few rows", ask(SPARSE, [0, 3, 20, 20], "submissions", {"author": "a"}),
+                [[None, "900", "899"], 23, 898])
+    cases.equal("story: few rows at the end", ask(SPARSE, [0, 3], "submissions", {"before": "950"}),
+                [["950", "900"], 3, 0])
+    cases.equal("story: no rows", ask(SPARSE, [0] * 9, "submissions", {"author": "a"}),
+                [[None, "900", "899", "898", "897"], 0, 896])
+    cases.equal("story: one question for an item", ask(SPARSE, [0, 3], "submissionsFor", "PC/8086"),
+                [[None], 0, 900])
+
+
 def counts(cases, world, browser):
     """The start page has the numbers of the registry."""
     told = world.ask("/status")
@@ -335,6 +363,7 @@ def run(cases):
             told = one.has("Approved by mona"), "(new)" in one.text()
             cases.equal("story: and from another computer", told, (True, False))
             listed(cases, world, one)
+            sparse(cases, one)
             counts(cases, world, one)
             refusals(cases, world, three)
             many(cases, world, two)
