@@ -1,7 +1,7 @@
 -- What becomes of a database that is opened, or moved to the schema of today.
 use Rattle.std.specs.Prelude.{◌≡◌, ◌⊎◌, true, false, IsTrue, Some, Result, Ok, Err, IfErr, IfOk}
-use Rattle.std.specs.Prelude.{MatchResult}
-use Rattle.sqlite.specs.Held.{Held}
+use Rattle.std.specs.Prelude.{MatchResult, OnOk}
+use Rattle.sqlite.specs.Held.{Held, state}
 use Rattle.sqlite.specs.Effect.{Database}
 use Rattle.sqlite_trees.specs.declared.store.Store.{Ghosts}
 use Rattle.pid_moderation.specs.History.{History, new_history}
@@ -16,6 +16,7 @@ use Rattle.pid_tables_check.specs.Checking.{Explains, FindsVersion}
 use Rattle.pid_tables_check.specs.Shapes.{HasNoTable, HasSomeTable}
 use Rattle.pid_tables.specs.declared.migration.Step.{Step}
 use Rattle.pid_tables.specs.declared.migration.Step.TheVariants.{Created, Moved, Already}
+use Rattle.pid_tables.specs.AtOnce.{IsCommitted}
 use Rattle.pid_tables.specs.Bringing.{NamesLatest}
 use Rattle.pid_tables.specs.Clauses as tables
 use Rattle.pid_tables.specs.Statements.{IsMadeBy, registry_statements}
@@ -105,8 +106,8 @@ module _ {S : Type 0} (store : Ghosts S) where
 
   -- where there is no table, whatever else there is, nothing is written but what makes a registry: a
   -- crash leaves what it left before, or all of it
-  abbrev pub MakesRegistry : Held S → Held S → Type 0
-  MakesRegistry old new = HasNoTable (seen store old).schema
+  abbrev pub WritesRegistry : Held S → Held S → Type 0
+  WritesRegistry old new = HasNoTable (seen store old).schema
       → clauses.Survives store old new (IsMadeBy store registry_statements old)
 
   -- What an opening leaves of a connection, whatever is in the file.
@@ -119,7 +120,7 @@ module _ {S : Type 0} (store : Ghosts S) where
     -- After a fault nothing of the step is seen; or it may have been made, and the fault says what
     -- fails of what is seen now.
     pub back : IfErr result (λ e. tables.IsTakenBack store old new ⊎ MayHaveMade old e new)
-    pub made : MakesRegistry old new
+    pub made : WritesRegistry old new
 
   -- What an opening answers, by what there is, while the disk returns what was written.
   pub record ExplainsOpening {X : Type 0} (old new : Held S) (result : Result X TableFault)
@@ -178,7 +179,11 @@ module _ {S : Type 0} (store : Ghosts S) where
     -- seen
     pub once : tables.IsOneStep store conn (moved_to result)
     pub back : IfErr result (λ e. tables.IsTakenBack store conn e.1)
-    pub made : MakesRegistry conn (moved_to result)
+    pub made : WritesRegistry conn (moved_to result)
+    -- a value means there that all of it is seen, and that a crash leaves it
+    pub done : clauses.HasCleanDisk store (moved_to result) → HasNoTable (seen store conn).schema
+        → OnOk result (IsCommitted (IsMadeBy store registry_statements conn)
+        (state store (moved_to result)))
     -- One that fails, or finds nothing to do, leaves all that is seen as it was.
     pub unchanged : MatchResult result (λ r. r.1 ≡ Already → SeesTheSame conn r.0)
         (λ e. SeesTheSame conn e.1)

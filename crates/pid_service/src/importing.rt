@@ -20,7 +20,9 @@ ghost use Rattle.pid_service.specs.Obeying.{ImportFaults, Obeys};
 ghost use Rattle.pid_service.specs.Registries.{HasCleanDisk, KeepsLimit, is_live as lives};
 ghost use Rattle.pid_service.specs.Steps.Importing.{
   AnswersPast,
+  BytesStay,
   CarriesText,
+  EndStays,
   EndStaysLive,
   FaultStays,
   IsPlain,
@@ -163,8 +165,7 @@ impl<S: Alter + Drop> Registry<S> {
         ensures forgets { ForgetsAll S.Store self.old self.new }
         ensures none { kept_by self.old ≡ nothing → kept_by self.new ≡ nothing }
         ensures reads { InputIsRead I.Input input.old input.new result }
-        ensures held { EndStaysLive result (lives self.old) (lives self.new) }
-        ensures limit { KeepsLimit S.Store self.old self.new }
+        ensures lasts { EndStays S.Store self.old self.new result }
         ensures caused { OverHistory S.Store self.old self.new
             (λ h. (reading : Reading) → is_import command.now.act ≡ true
             → IfErr result (OfRefusal (ImportFaults S.Store self.old self.new h
@@ -191,8 +192,7 @@ impl<S: Alter + Drop> Registry<S> {
         ensures spares { OverBytes S.Store self.old self.new command.now file.now
             (SparesNames result self.new) }
         ensures none { kept_by self.old ≡ nothing → kept_by self.new ≡ nothing }
-        ensures held { StaysLive result (lives self.old) (lives self.new) }
-        ensures limit { KeepsLimit S.Store self.old self.new }
+        ensures lasts { BytesStay S.Store self.old self.new result }
         ensures caused { OverHistory S.Store self.old self.new
             (λ h. (reading : Reading) → is_import command.now.act ≡ true
             → IfErr result (ImportFaults S.Store self.old self.new h

@@ -19,7 +19,8 @@ use Rattle.pid_service.specs.declared.registry.Registry.{Registry}
 use Rattle.pid_service.specs.Histories.{IsMemoryOrStore, IsReached, OverHistory, Shows}
 use Rattle.pid_service.specs.Importing.{ObeysImport}
 use Rattle.pid_service.specs.KeptViews.{kept_by, nothing}
-use Rattle.pid_service.specs.Registries.{HasCleanDisk}
+use Rattle.pid_service.specs.Registries.{HasCleanDisk, KeepsLimit, is_live}
+use Rattle.pid_service.specs.Steps.Obeying.{StaysLive}
 
 -- The registry is as live as before. Or the answer is not that it had failed, and memory ran out
 -- or the store failed.
@@ -52,6 +53,16 @@ EndSpares (Err (Refused e)) h c = (after h c ≡ h) ⊎ IsMemoryOrStore e
 EndSpares (Err Body) h c = Unit {0}
 
 module _ {S : Type 0} (store : Ghosts S) where
+  -- whether the registry is live after an import, and its limit of steps
+  pub record EndStays (old new : Registry S store) (result : Result Reply ImportEnd) : Type 0 where
+    pub live : EndStaysLive result (is_live old) (is_live new)
+    pub limit : KeepsLimit store old new
+
+  -- the same of an import of bytes
+  pub record BytesStay (old new : Registry S store) (result : Result Reply Refusal) : Type 0 where
+    pub live : StaysLive result (is_live old) (is_live new)
+    pub limit : KeepsLimit store old new
+
   -- the registry shows a history, over which the import depends on its file, and it can go on
   pub record HangsOnFile (r : Registry S store) (facts : Facts) (items : ℕ) (command : Command)
       (h : History) (c : Asked) : Type 0 where

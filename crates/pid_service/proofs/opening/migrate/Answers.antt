@@ -18,6 +18,7 @@ returns-in-Ok-clause-at_once g c off =
       once = c.migrate.ensures.at_once.once;
       back = tt;
       made = c.migrate.ensures.none.made;
+      done = λ clean none. c.in-Ok.ensures.none.done clean none;
       unchanged = λ is. seen_back old new (c.is_autocommit.ensures.settled (c.is_autocommit.ensures.value ∙ ap not off)) (reads_back old new (c.in-Ok.ensures.judged.only_read is));
       only_read = λ is. c.in-Ok.ensures.judged.only_read is;
     }
@@ -57,6 +58,7 @@ returns-in-Err-clause-at_once g c off = record {
   once = c.migrate.ensures.at_once.once;
   back = c.in-Err.ensures.at_once.back;
   made = c.migrate.ensures.none.made;
+  done = λ clean none. tt;
   unchanged = seen_back (state g.S.Store c.args.conn) (state g.S.Store c.migrate.new.conn) (c.is_autocommit.ensures.settled (c.is_autocommit.ensures.value ∙ ap not off)) c.in-Err.ensures.at_once.back;
   only_read = λ clean told. c.in-Err.ensures.at_once.unchanged clean told;
 }

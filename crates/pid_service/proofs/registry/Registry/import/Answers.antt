@@ -23,5 +23,5 @@ returns g c =
           subst (λ (k : Command). IfErr c.import_bytes.result (Faults g.S.Store c.args.self.now.tables.conn c.import_bytes.new.self.tables.conn c.import_bytes.new.self.live h (asked k reading))) c.import_command-command.ensures
           (c.import_bytes.ensures.caused clean h shows reading import);
       forgets = c.import_bytes.ensures.forgets;
-      lasts = lasting g.S.Store c.args.self.now c.import_bytes.new.self c.import_bytes.result c.import_bytes.ensures.held c.import_bytes.ensures.limit;
+      lasts = lasting g.S.Store c.args.self.now c.import_bytes.new.self c.import_bytes.result c.import_bytes.ensures.lasts.live c.import_bytes.ensures.lasts.limit;
     }

@@ -1,4 +1,4 @@
-use Rattle.std.proofs.Common.{inl, inr, refl}
+use Rattle.std.proofs.Common.{inl, inr, refl, ◌∙◌}
 use Rattle.pid_moderation.specs.History.{asked}
 use Rattle.pid_tables.specs.Files.{file_reading}
 use Rattle.pid_service.proofs.ImportCauses.{Faults, bad_text, early_faults, open_faults, past_faults}
@@ -51,8 +51,17 @@ returns-in-Answered-clause-forgets g c h shows = inr (only_read g.S.Store c.args
 pub returns-in-Open-clause-forgets : goal.returns-in-Open-clause-forgets
 returns-in-Open-clause-forgets g c h shows = inl c.carry_in.ensures.forgets
 
-pub returns-in-Answered-clause-held : goal.returns-in-Answered-clause-held
-returns-in-Answered-clause-held g c = still_live c.answer_past.result (c.answer_past.ensures.alive c.in-Answered.ensures.alive) c.args.self.now.live
+pub returns-in-Answered-clause-lasts : goal.returns-in-Answered-clause-lasts
+returns-in-Answered-clause-lasts g c = record {
+  live = still_live c.answer_past.result (c.answer_past.ensures.alive c.in-Answered.ensures.alive) c.args.self.now.live;
+  limit = c.judge_import.ensures.rests.survives.limit;
+}
+
+pub returns-in-Open-clause-lasts : goal.returns-in-Open-clause-lasts
+returns-in-Open-clause-lasts g c = record {
+  live = c.carry_in.ensures.held;
+  limit = c.carry_in.ensures.limit ∙ c.judge_import.ensures.rests.survives.limit;
+}
 
 pub returns-in-Answered-clause-caused : goal.returns-in-Answered-clause-caused
 returns-in-Answered-clause-caused g c clean h shows reading import =

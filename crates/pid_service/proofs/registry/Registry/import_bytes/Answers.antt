@@ -14,8 +14,11 @@ returns-clause-spares g c clean h shows import short = let r = c.import_act-end.
     bytes_spare g.S.Store c.import_act-end.result c.plain.result _ h c.args.command.now c.args.file.now r.text c.import_act-end.new.input.rest.now c.plain.ensures.same
     (λ e. absurd (let none = c.import_act-end.ensures.reads.fault e in let no : ⊥ = cc in no)) (sym c.new-input.ensures.rest ∙ r.consumed) r.read short (r.holds.spares clean h shows import)
 
-pub returns-clause-held : goal.returns-clause-held
-returns-clause-held g c = c.plain.ensures.held c.args.self.now.live c.import_act-end.new.self.live c.import_act-end.ensures.held
+pub returns-clause-lasts : goal.returns-clause-lasts
+returns-clause-lasts g c = record {
+  live = c.plain.ensures.held c.args.self.now.live c.import_act-end.new.self.live c.import_act-end.ensures.lasts.live;
+  limit = c.import_act-end.ensures.lasts.limit;
+}
 
 pub returns-clause-caused : goal.returns-clause-caused
 returns-clause-caused g c clean h shows reading import =

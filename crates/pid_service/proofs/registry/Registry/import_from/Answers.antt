@@ -22,7 +22,7 @@ returns-clause-obeyed g c = let r = c.import_act.ensures.taken in
 pub returns-clause-lasts : goal.returns-clause-lasts
 returns-clause-lasts g c =
     let import : is_import c.import_command-command.result.act ≡ true = rw c.import_command-command.ensures refl in
-    end_lasting g.S.Store c.args.self.now c.import_act.new.self (import_of c.args.account c.args.key) c.import_act.result c.import_act.ensures.forgets c.import_act.ensures.held c.import_act.ensures.limit
+    end_lasting g.S.Store c.args.self.now c.import_act.new.self (import_of c.args.account c.args.key) c.import_act.result c.import_act.ensures.forgets c.import_act.ensures.lasts.live c.import_act.ensures.lasts.limit
     (λ clean h shows reading.
     subst (λ (k : Command). IfErr c.import_act.result (OfRefusal (Faults g.S.Store c.args.self.now.tables.conn c.import_act.new.self.tables.conn c.import_act.new.self.live h (asked k reading)))) c.import_command-command.ensures
     (c.import_act.ensures.caused clean h shows reading import))

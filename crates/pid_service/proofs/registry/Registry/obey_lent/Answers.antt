@@ -53,7 +53,7 @@ returns-in-Import-clause-does g c =
       caused = search rules;
       import_caused = λ clean h shows import. c.import_bytes.ensures.caused clean h shows (reading_of c.args.command.now.act) import;
       forgets = λ clean h shows other. c.import_bytes.ensures.forgets h shows;
-      lasts = lasting g.S.Store c.args.self.now c.import_bytes.new.self c.import_bytes.result c.import_bytes.ensures.held c.import_bytes.ensures.limit;
+      lasts = lasting g.S.Store c.args.self.now c.import_bytes.new.self c.import_bytes.result c.import_bytes.ensures.lasts.live c.import_bytes.ensures.lasts.limit;
     }
 
 pub returns-in-Import-clause-spares : goal.returns-in-Import-clause-spares
