@@ -339,9 +339,6 @@ def sparse(cases, browser):
 def counts(cases, world, browser):
     """The start page has the numbers of the registry."""
     told = world.ask("/status")
-    if "items" not in told:
-        cases.skipped("story: the counts", "this program has no /status")
-        return
     browser.go("/")
     words = f"The registry has {told['items']} names. Of {told['submissions']} proposals" \
             f" {told['pending']} are pending."
