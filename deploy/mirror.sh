@@ -19,8 +19,8 @@
 # since is not.
 #
 # A site may limit how fast one address asks. A request that it refuses with 429, or that meets a
-# server that is busy or just starting (500, 502, 503, 504), is sent again up to six times: when
-# Retry-After says, or after a second.
+# server that is busy or just starting (500, 502, 503, 504, a refused connection), is sent again up
+# to six times: when Retry-After says, or after a second.
 set -eu
 export LC_ALL=C
 server=${1%/}
@@ -45,6 +45,7 @@ trap 'exit 1' HUP INT TERM
 # Writes what is at a path into a file. What curl says of tries is shown if all of them failed.
 ask() {
     curl -fsS --connect-timeout 10 --max-time 240 --retry 6 --retry-delay 1 --retry-max-time 120 \
+        --retry-connrefused \
         -H 'Cache-Control: no-cache' -o "$2" "$server/$1" 2> "$new/said" || {
         status=$?
         cat "$new/said" >&2

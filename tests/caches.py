@@ -55,7 +55,7 @@ class Cache:
             ("listen 443", f"listen 127.0.0.1:{self.port}"),
             ("192.0.2.10", f"127.0.0.1:{self.front.port}"),
             ("/etc/ssl/certs/ca-certificates.crt", self.front.certificate),
-            ("/var/cache/nginx/pciids", f"{folder}/kept"),
+            ("/var/cache/pciids-cache", f"{folder}/kept"),
             ("/etc/pciids", folder),
         )
         self.front.write("nginx/cache.conf", placed("cache.conf", places))

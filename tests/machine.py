@@ -205,12 +205,14 @@ def stops(story):
     """A stop is a stop, and whatever is killed, the server comes back."""
     hold = "systemctl is-active pciids"
     story.works("a stop by hand", "systemctl stop pciids")
-    story.machine.run(f"{IS_UP}; systemctl start pciids-publish")
+    story.machine.run(IS_UP)
+    story.works("publishing has no fault to report then", "systemctl start pciids-publish")
     story.same("neither a request nor publishing starts it", hold, "inactive", 3)
     story.works("a start by hand", "systemctl start pciids")
     story.is_up("it answers then")
     story.works("a job takes hold", f"{HOLD} take test")
-    story.machine.run(f"{IS_UP}; systemctl start pciids-publish pciids")
+    story.machine.run(f"{IS_UP}; systemctl start pciids")
+    story.works("nor has it while a job has it stopped", "systemctl start pciids-publish")
     story.same("nothing starts the server while a job has it stopped", hold, "inactive", 3)
     story.same("another job does not begin", "systemctl start pciids-backup 2> /dev/null", "", 1)
     story.same("nor does it end the hold of the first", f"readlink {MARK}", "test running")
@@ -279,6 +281,13 @@ def kept(story):
     story.is_up("the server is back after a restore")
     story.same("the registry is as it was", f"{ASK}/pci.ids", "# PCI ID registry\n8086  Intel")
     story.works("publishing after a restore", "systemctl start pciids-publish")
+    stopped = f"systemctl stop pciids; pciids-restore {copy}; systemctl start pciids"
+    said = "The server is stopped, as it was before: systemctl start pciids"
+    told = story.works("a restore while the server is stopped", stopped)
+    story.cases.equal("machine: it says how to start it", said in told.split("\n"), True)
+    story.is_up("the server is back after that")
+    story.works("publishing after that", "systemctl start pciids-publish")
+    story.machine.run("rm -r $(ls -d /var/lib/pciids/replaced.* | tail -1)")
     story.same("the published file follows", names, "8086  Intel")
     former = "ls /var/lib/pciids/replaced.*"
     story.same("the former registry is kept", former, "registry.db\nregistry.db-wal")
@@ -333,6 +342,17 @@ def distributed(story):
     story.same("lspci takes it", "lspci -i /srv/pci.ids 2>&1 > /dev/null", "")
 
 
+def cached(story):
+    """The cache among the examples is an nginx of Debian as it is, but for IPv6."""
+    place = "/etc/nginx/conf.d/cache.conf"
+    example = "/usr/share/doc/pciids-registry/examples/cache.conf"
+    story.works(
+        "the host's nginx takes the cache",
+        f"sed '/listen \\[::\\]/d' {example} > {place}; nginx -t 2>&1; status=$?; rm -r {place}"
+        " /var/cache/pciids-cache; exit $status",
+    )
+
+
 def removed(story):
     """What goes and what stays; an nginx of the host that was given the files is sound."""
     story.machine.run(
@@ -375,5 +395,6 @@ def run(cases):
         upgraded(story, folder)
         imported(story)
         distributed(story)
+        cached(story)
         removed(story)
         cases.equal("machine: examples of docs/OPERATE.md that were not run", story.examples, [])
