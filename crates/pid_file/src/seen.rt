@@ -41,6 +41,15 @@ impl<P: Ord + Copy> Seen<P> {
         }
     }
 
+    /// Forgets all items.
+    pub fn clear(&mut self)
+        ensures empty { seen_items self.new ≡ [] }
+        ensures rising { IsRising P.cmp self.new.run.items }
+    {
+        self.run.clear();
+        self.rest.clear();
+    }
+
     /// How many items were seen.
     pub fn len(&self) -> usize
         ensures { result ≡ length (seen_items self.now) }
