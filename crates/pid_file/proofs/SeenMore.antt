@@ -1,5 +1,5 @@
 -- One more path among those that were seen.
-use Rattle.std.proofs.Common.{◌≡◌, ℕ, ◌+◌, ◌*◌, ◌<◌, ◌≤◌, ◌-◌, ◌^◌, Bool, true, false, cond, ◌&&◌, eqb, List, [], ◌∷◌, ◌++◌, length, take, set, replicate, refl, sym, ap, subst, ◌∙◌, arith, inl, inr}
+use Rattle.std.proofs.Common.{◌≡◌, ℕ, ◌+◌, ◌*◌, ◌<◌, ◌≤◌, ◌-◌, Bool, true, false, cond, ◌&&◌, eqb, List, [], ◌++◌, length, take, set, replicate, refl, sym, ap, ◌∙◌, arith, inl, inr}
 use mathlib.Core.Bool.{false≢true, true≢false}
 use Rattle.std.specs.Prelude.{Result, Ok, Err, IfOk}
 use Rattle.std.specs.Ordering.{is_eq, nat_cmp}
@@ -58,14 +58,14 @@ differ p q a b h = false_by (is_eq (path_cmp q p)) (λ e. sym h ∙ ap (λ r. eq
 pub nested_differ : (p q : Path) → IsPath p → IsPath q → is_head p ≡ true → is_nested q ≡ true → is_eq (path_cmp q p) ≡ false
 nested_differ p q a b head nested = false_by (is_eq (path_cmp q p)) (λ e. absurd (apart p head (ap is_nested (sym (one_path p q a b e)) ∙ nested)))
   where
-  apart : (p : Path) → is_head p ≡ true → is_nested p ≡ true → ⊥
-  apart (Vendor v) h n = false≢true n
-  apart (Device v d) h n = false≢true h
-  apart (Subsystem v d s e) h n = false≢true h
-  apart (Class c) h n = false≢true n
-  apart (Subclass c s) h n = false≢true h
-  apart (ProgIf c s t) h n = false≢true h
-  apart (Generic v d) h n = false≢true h
+    apart : (p : Path) → is_head p ≡ true → is_nested p ≡ true → ⊥
+    apart (Vendor v) h n = false≢true n
+    apart (Device v d) h n = false≢true h
+    apart (Subsystem v d s e) h n = false≢true h
+    apart (Class c) h n = false≢true n
+    apart (Subclass c s) h n = false≢true h
+    apart (ProgIf c s t) h n = false≢true h
+    apart (Generic v d) h n = false≢true h
 
 -- a path that is kept elsewhere
 elsewhere : (seen : Path → Bool) (p q : Path) → (is_head p && is_nested q) ≡ false → is_eq (path_cmp q p) ≡ false → seen q ≡ with_path seen p q
@@ -143,11 +143,11 @@ filled flags k n long m =
       | inr b ↦ get_or-append_right flags (replicate n false) (length flags) m false refl b ∙ unset n (m - length flags) ∙ sym (get_or_past flags m false b)
     ]
   where
-  unset : (n m : ℕ) → has_flag (replicate n false) m ≡ false
-  unset n m = elim (cases_lt m n) [
-    | inl a ↦ get_or-replicate n m false false a
-    | inr b ↦ get_or_past (replicate n false) m false (omega (arith, b, length-replicate n false))
-  ]
+    unset : (n m : ℕ) → has_flag (replicate n false) m ≡ false
+    unset n m = elim (cases_lt m n) [
+      | inl a ↦ get_or-replicate n m false false a
+      | inr b ↦ get_or_past (replicate n false) m false (omega (arith, b, length-replicate n false))
+    ]
 
 -- and one of them set
 pub flag_set : (flags now : List Bool) (n : ℕ) → n < length now → ((m : ℕ) → has_flag now m ≡ has_flag flags m) → (m : ℕ) → has_flag (set now n true) m ≡ cond (eqb n m) true (has_flag flags m)

@@ -1,4 +1,4 @@
-use Rattle.std.proofs.Common.{◌≡◌, ◌<◌, length, List, Bool, ◌∙◌, sym, ap, subst, arith}
+use Rattle.std.proofs.Common.{◌<◌, length, List, Bool, ◌∙◌, sym, ap, subst, arith}
 use Rattle.pid_file.specs.SeenPaths.{has_flag}
 use Rattle.pid_file.proofs.SeenMore.{filled, flag_set}
 use Rattle.pid_file.proofs.seen_paths.set_flag.Goals.{then-place-len+in_ok-resize, else-place-len}
