@@ -28,7 +28,7 @@ use Rattle.pid_file.specs.Numbered.{at_line, numbered_at}
 use Rattle.pid_file.specs.Reading.{refused_at, ENTRIES}
 use Rattle.pid_file.specs.OpenLevels.{IsOpenAt, Under, Below, open_below}
 use Rattle.pid_file.specs.Refusals.{refusal_at}
-use Rattle.pid_file.specs.Progress.{IsShown, IsUnder, path_of}
+use Rattle.pid_file.specs.Progress.{IsShown, IsUnder, open_head_path}
 use Rattle.pid_file.specs.SeenPaths.{is_head, is_nested, block_of, with_path}
 
 abbrev pub or_kind : Option LineKind → Option LineKind → Option LineKind
@@ -114,8 +114,8 @@ no_generic : (q : Path) (v : ℕ) → is_nested q ≡ true → path_text (block_
 no_generic q v n h = no_second q 83 n (ap second h) refl
 
 -- the open head after a line
-now_under : {lines : List (List ℕ)} {m : Mark} {top : List ℕ} → Under lines m top → path_of (above 1 lines) ≡ Some top
-now_under u = ap path_of u.is_head ∙ ap (λ (l : List ℕ). Some l) u.path
+now_under : {lines : List (List ℕ)} {m : Mark} {top : List ℕ} → Under lines m top → open_head_path (above 1 lines) ≡ Some top
+now_under u = ap open_head_path u.is_head ∙ ap (λ (l : List ℕ). Some l) u.path
 
 none_zero : (n : ℕ) → n ≡ 1 → nat_lt n 1 ≡ false
 none_zero n h = grind (arith, nat_tests)
@@ -124,8 +124,8 @@ and_both : (a b : Bool) → (a && b) ≡ true → (a ≡ true) × (b ≡ true)
 and_both true b h = (refl, h)
 and_both false b h = absurd (false≢true h)
 
-not_head : (earlier : List (List ℕ)) (line : List ℕ) {m : Mark} {digits : List ℕ} → Below (line ∷ earlier) m digits → path_of (above 1 (line ∷ earlier)) ≡ path_of (above 1 earlier)
-not_head earlier line b = elim (is_above 1 line) as (λ x. is_above 1 line ≡ x → path_of (cond x (Some line) (above 1 earlier)) ≡ path_of (above 1 earlier)) [
+not_head : (earlier : List (List ℕ)) (line : List ℕ) {m : Mark} {digits : List ℕ} → Below (line ∷ earlier) m digits → open_head_path (above 1 (line ∷ earlier)) ≡ open_head_path (above 1 earlier)
+not_head earlier line b = elim (is_above 1 line) as (λ x. is_above 1 line ≡ x → open_head_path (cond x (Some line) (above 1 earlier)) ≡ open_head_path (above 1 earlier)) [
   | true ↦ λ up.
       let both : (not (is_idle line) ≡ true) × (nat_lt (depth line) 1 ≡ true) = and_both (not (is_idle line)) (nat_lt (depth line) 1) up in
       let low : nat_lt (depth line) 2 ≡ true = let l = both.1 in grind (arith, nat_tests) in
@@ -162,7 +162,7 @@ no_head earlier line q up none nested h =
 -- a line that is no entry leaves no head open but what was
 still_under : (earlier : List (List ℕ)) (line : List ℕ) (q : Path) → is_entry earlier line ≡ false → is_nested q ≡ true → IsUnder (line ∷ earlier) q → IsUnder earlier q
 still_under earlier line q none nested under =
-    elim (is_above 1 line) as (λ b. is_above 1 line ≡ b → path_of (cond b (Some line) (above 1 earlier)) ≡ Some (path_text (block_of q)) → IsUnder earlier q) [
+    elim (is_above 1 line) as (λ b. is_above 1 line ≡ b → open_head_path (cond b (Some line) (above 1 earlier)) ≡ Some (path_text (block_of q)) → IsUnder earlier q) [
       | true ↦ λ up u. absurd (no_head earlier line q up none nested u)
       | false ↦ λ _ u. u
     ] refl under
@@ -270,7 +270,7 @@ one_more_value true n o = refl
 one_more_value false n o = refl
 
 -- what is open after an entry: what was, or the entry itself
-pub was_under : (p : Path) (earlier : List (List ℕ)) (line : List ℕ) → is_nested p ≡ true → IsOpenAt (open_below p) (line ∷ earlier) → IsUnder (line ∷ earlier) p × (path_of (above 1 (line ∷ earlier)) ≡ path_of (above 1 earlier))
+pub was_under : (p : Path) (earlier : List (List ℕ)) (line : List ℕ) → is_nested p ≡ true → IsOpenAt (open_below p) (line ∷ earlier) → IsUnder (line ∷ earlier) p × (open_head_path (above 1 (line ∷ earlier)) ≡ open_head_path (above 1 earlier))
 was_under (Vendor v) earlier line n o = absurd (false≢true n)
 was_under (Device v d) earlier line n o = (now_under o.0, not_head earlier line o.1)
 was_under (Subsystem v d s e) earlier line n o = (now_under o.0, not_head earlier line o.1)

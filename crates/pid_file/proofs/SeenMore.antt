@@ -16,7 +16,8 @@ use Rattle.pid_file.specs.declared.path.Path.TheVariants.{Vendor, Device, Subsys
 use Rattle.pid_file.specs.PathTexts.{IsPath, path_text, path_cmp}
 use Rattle.pid_file.specs.Steps.PathPlaces.{path_key}
 use Rattle.pid_file.specs.SeenItems.{has_path, IsOneMore}
-use Rattle.pid_file.specs.SeenPaths.{has_flag, IsOneMoreFlag, is_nested, is_head, seen_by, with_path}
+use Rattle.pid_file.specs.Steps.Flags.{IsOneMoreFlag}
+use Rattle.pid_file.specs.SeenPaths.{has_flag, is_nested, is_head, seen_by, with_path}
 use Rattle.pid_file.proofs.PathOrder.{key_order}
 use Rattle.pid_file.proofs.Kin.{same_path}
 

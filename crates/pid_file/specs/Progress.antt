@@ -11,13 +11,13 @@ use Rattle.pid_file.specs.OpenLevels.{IsOpenAt}
 use Rattle.pid_file.specs.SeenPaths.{AreRising, block_of, has_seen, is_nested}
 
 -- the path of a head, if there is one
-abbrev pub path_of : Option (List ℕ) → Option (List ℕ)
-path_of None = None
-path_of (Some head) = Some (head_path head)
+abbrev pub open_head_path : Option (List ℕ) → Option (List ℕ)
+open_head_path None = None
+open_head_path (Some head) = Some (head_path head)
 
 -- the path is below the open head
 abbrev pub IsUnder : List (List ℕ) → Path → Type 0
-IsUnder earlier q = path_of (above 1 earlier) ≡ Some (path_text (block_of q))
+IsUnder earlier q = open_head_path (above 1 earlier) ≡ Some (path_text (block_of q))
 
 -- What was seen, the open levels and the numbers of entries and lines are those of the lines. What
 -- was seen of paths below a vendor or a class is known if that is open. No path is without its

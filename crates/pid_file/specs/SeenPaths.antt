@@ -12,10 +12,6 @@ use Rattle.pid_file.specs.declared.seen_paths.SeenPaths.{SeenPaths}
 abbrev pub has_flag : List Bool → ℕ → Bool
 has_flag flags n = slice_index_or flags n false
 
--- the flags with one more
-abbrev pub IsOneMoreFlag : List Bool → ℕ → List Bool → Type 0
-IsOneMoreFlag old n new = (m : ℕ) → has_flag new m ≡ (if n == m then true else has_flag old m)
-
 -- whether a path is below a vendor or a class
 abbrev pub is_nested : Path → Bool
 is_nested (Vendor v) = false

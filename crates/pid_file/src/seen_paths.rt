@@ -1,7 +1,8 @@
 //! The paths that were seen, of those that can come again.
 ghost use Rattle.std.specs.Prelude.{◌≡◌, ◌<◌, ◌^◌, false, IfOk, IsTrue, not};
 ghost use Rattle.pid_file.specs.PathTexts.{IsPath};
-ghost use Rattle.pid_file.specs.SeenPaths.{AreRising, IsOneMoreFlag, has_flag, has_seen, with_path};
+ghost use Rattle.pid_file.specs.Steps.Flags.{IsOneMoreFlag};
+ghost use Rattle.pid_file.specs.SeenPaths.{AreRising, has_flag, has_seen, with_path};
 
 use crate::identifier::Id16;
 use crate::path::{Path, key_of};
