@@ -2,6 +2,7 @@ pub mod PathOrder
 pub mod WordTests
 pub mod SendingLemmas
 pub mod Kin
+mod SeenMore
 pub mod Maps
 pub mod Written
 mod WholeLemmas

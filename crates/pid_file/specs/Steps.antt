@@ -5,3 +5,4 @@ pub mod PathPlaces
 pub mod Whole
 pub mod Columns
 pub mod OpenLevels
+pub mod Flags

@@ -31,6 +31,7 @@ mod process;
 mod progress;
 mod refusal;
 mod seen;
+mod seen_paths;
 mod sink;
 mod text_end;
 mod tidying;

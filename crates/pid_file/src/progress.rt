@@ -23,9 +23,8 @@ ghost use Rattle.pid_file.specs.Progress.{Shows, given};
 use crate::fault_kind::LineKind;
 use crate::judge::Judge;
 use crate::open_levels::{OpenLevels, Said, read_line};
-use crate::path::{Path, key_of};
 use crate::refusal::ReadRefusal;
-use crate::seen::Seen;
+use crate::seen_paths::SeenPaths;
 use crate::sink::Entry;
 use std::alloc::Global;
 
@@ -39,8 +38,10 @@ pub struct Progress {
     pub levels: OpenLevels,
     /// How many lines were read.
     pub lines: usize,
-    /// The keys of the paths of their entries.
-    pub seen: Seen<u128>,
+    /// How many of them were entries.
+    pub entries: usize,
+    /// The paths of their entries.
+    pub seen: SeenPaths,
 }
 
 impl Progress {
@@ -51,7 +52,8 @@ impl Progress {
         Progress {
             levels: OpenLevels::Nothing,
             lines: 0,
-            seen: Seen::new(alloc),
+            entries: 0,
+            seen: SeenPaths::new(alloc),
         }
     }
 
@@ -60,6 +62,7 @@ impl Progress {
         ensures levels { self.new.levels ≡ open_behind self.old.levels said.now }
         ensures lines { self.new.lines ≡ number }
         ensures seen { self.new.seen ≡ self.old.seen }
+        ensures entries { self.new.entries ≡ self.old.entries }
     {
         self.levels = self.levels.behind(said);
         self.lines = number;
@@ -83,7 +86,7 @@ impl Progress {
                 Ok(None)
             }
             Said::Block { vendor } => {
-                if !self.seen.contains(&key_of(Path::Vendor { vendor })) {
+                if !self.seen.has_vendor(vendor) {
                     let kind = LineKind::VendorMissing;
                     return Err(ReadRefusal::Line { line: number, kind });
                 }
@@ -91,7 +94,7 @@ impl Progress {
                 Ok(None)
             }
             Said::Entry(named) => {
-                match self.seen.insert(key_of(named.path)) {
+                match self.seen.insert(named.path) {
                     Err(_) => return Err(ReadRefusal::Memory),
                     Ok(false) => {
                         let kind = LineKind::Duplicate;
@@ -99,9 +102,10 @@ impl Progress {
                     }
                     Ok(true) => {}
                 }
-                if self.seen.len() > ENTRIES {
+                if self.entries >= ENTRIES {
                     return Err(ReadRefusal::TooManyEntries);
                 }
+                self.entries += 1;
                 self.pass(number, &said);
                 Ok(Some(Entry {
                     line: number,

@@ -1,11 +1,9 @@
 //! Items that were seen, most of which come in order.
 ghost use Rattle.std.specs.Prelude.{
   ◌≡◌,
-  ◌+◌,
   ◌∷◌,
   ◌++◌,
   [],
-  length,
   true,
   false,
   IsTrue,
@@ -41,11 +39,13 @@ impl<P: Ord + Copy> Seen<P> {
         }
     }
 
-    /// How many items were seen.
-    pub fn len(&self) -> usize
-        ensures { result ≡ length (seen_items self.now) }
+    /// Forgets all items.
+    pub fn clear(&mut self)
+        ensures empty { seen_items self.new ≡ [] }
+        ensures rising { IsRising P.cmp self.new.run.items }
     {
-        self.run.len() + self.rest.len()
+        self.run.clear();
+        self.rest.clear();
     }
 
     // Whether the item is greater than all of the run.
@@ -68,14 +68,6 @@ impl<P: Ord + Copy> Seen<P> {
         self.run.binary_search(item).is_ok()
     }
 
-    /// Whether the item was seen.
-    pub fn contains(&self, item: &P) -> bool
-        ensures { IsRising P.cmp self.now.run.items
-            → result ≡ has_item P.cmp (seen_items self.now) item.now }
-    {
-        self.is_in_run(item) || self.rest.contains(item)
-    }
-
     /// One more item, and whether it was not seen before.
     pub fn insert(&mut self, item: P) -> Result<bool, AllocError>
         ensures rising { IsRising P.cmp self.old.run.items → IsRising P.cmp self.new.run.items }
@@ -84,8 +76,6 @@ impl<P: Ord + Copy> Seen<P> {
         ensures updates { IsRising P.cmp self.old.run.items
             → IfOk result (λ added. IsTrue added
             → IsOneMore P.cmp (seen_items self.old) item (seen_items self.new)) }
-        ensures len { IfOk result (λ added. IsTrue added
-            → length (seen_items self.new) ≡ length (seen_items self.old) + 1) }
     {
         if self.is_above_run(&item) {
             if self.rest.contains(&item) {
