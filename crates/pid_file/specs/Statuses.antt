@@ -5,7 +5,7 @@ use Rattle.pid_file.specs.declared.text_end.TextEnd.{TextEnd}
 use Rattle.pid_file.specs.Trees.{TreeMap}
 use Rattle.pid_file.specs.Printing.{print}
 use Rattle.pid_file.specs.Checked.{ok_line, count_of}
-use Rattle.pid_file.specs.TextEnds.{fault_line}
+use Rattle.pid_file.specs.TextEnds.{fault_line, status_of}
 use Rattle.pid_file.specs.Judgements.{IsFaultOf, IsGood, ReadsWithin}
 
 -- 0: the text is good; 1: it is not; 3: it was not judged, or the output could not be written
@@ -22,5 +22,5 @@ GotTidied text old new = (t : TreeMap) × ReadsWithin text t × Appends old new 
 -- another, and nothing else
 pub record GotChecked (text : List ℕ) (status : ℕ) (old new : Option (List ℕ)) : Type 0 where
   pub good : status ≡ 0 → Appends old new (ok_line (count_of text))
-  pub refused : status ≡ 1 → (end : TextEnd) × IsFaultOf end text
+  pub refused : status ≡ 1 → (end : TextEnd) × (status_of end ≡ 1) × IsFaultOf end text
       × Appends old new (fault_line end)
