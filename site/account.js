@@ -87,9 +87,14 @@ export async function logIn({ name, password, stays, isBusy, isWanted }) {
   return answer;
 }
 
-function forgetAccount() {
+function forgetAccount(isBusy = false) {
   keep("sessionStorage", PLACE, null);
-  take(null, false);
+  take(null, isBusy);
+}
+
+/** Logs out here an account whose password was refused: it may have another one by now. */
+export function dropAccount(name) {
+  if (account() === name) forgetAccount(true);
 }
 
 /** Logs out, here and in the other pages. */

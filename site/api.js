@@ -14,6 +14,7 @@ const PAUSES = [300, 1_000, 3_000];
 const MOST_QUESTIONS = 3;
 const MOST = 4;
 const open = { GET: 0, POST: 0 };
+let slow = 0;
 const waiting = { GET: [], POST: [] };
 
 const hasRoom = (method) => open.GET + open.POST < MOST
@@ -82,13 +83,19 @@ export async function request(method, path, how = {}) {
   await enter(method);
   const over = new AbortController();
   const patience = setTimeout(() => over.abort(), GIVEN_UP_AFTER[method]);
-  const slow = how.quiet ? 0 : setTimeout(() => tell(SLOW), SLOW_AFTER);
+  let isSlow = false;
+  const slowly = how.quiet ? 0 : setTimeout(() => {
+    isSlow = true;
+    slow += 1;
+    tell(SLOW);
+  }, SLOW_AFTER);
   try {
     return await fetched(method, path, how, over.signal);
   } finally {
     clearTimeout(patience);
-    clearTimeout(slow);
-    if (!how.quiet) untell(SLOW);
+    clearTimeout(slowly);
+    if (isSlow) slow -= 1;
+    if (isSlow && slow === 0) untell(SLOW);
     leave(method);
   }
 }

@@ -2,13 +2,15 @@
 // what came of those whose page was left meanwhile. It lies over the page, so that nothing shifts
 // when it comes and goes.
 
-import { account } from "./account.js";
+import { account, watchAccount } from "./account.js";
 import { el, fill, link } from "./dom.js";
 import { askToLogIn } from "./login.js";
 import { tell } from "./notice.js";
 import {
   bringFile, forget, isWorking, keysAtWork, leave, owed, settle, stateOf, wantsFile, watchOutbox,
 } from "./outbox.js";
+import { bytesOf } from "./reader.js";
+import { watchPages } from "./router.js";
 import { spelled } from "./shown.js";
 import { isTooSoon, steadyButton } from "./steady.js";
 import { answerWords, troubleWords } from "./words.js";
@@ -59,7 +61,7 @@ function fileBox(entry) {
   const box = el("input", { type: "file", id: `again-${entry.key}` });
   box.addEventListener("change", async () => {
     if (!box.files[0]) return;
-    const bytes = new Uint8Array(await box.files[0].arrayBuffer());
+    const bytes = await bytesOf(box.files[0]).catch(() => new Uint8Array());
     if (await bringFile(entry, bytes)) askAgain(entry);
     else tell("That is another file than the one that was sent.", 6);
   });
@@ -130,8 +132,8 @@ class Row {
 const isYoung = (entry) => isWorking(entry.key) && !stateOf(entry.key)
   && !rows.has(entry.key) && Math.abs(Date.now() - entry.at) < TOLD_AFTER;
 
-/** Draws the bar anew, where something in it has changed. */
-export async function drawBar() {
+// Draws it anew, where something in it has changed.
+async function drawBar() {
   const mine = turn += 1;
   const atWork = await keysAtWork();
   if (mine !== turn) return;
@@ -180,5 +182,8 @@ function refuseFallen(event) {
 
 addEventListener("click", refuseFallen, { capture: true });
 watchOutbox(drawBar);
+watchAccount(drawBar);
+watchPages(drawBar);
+drawBar();
 // No event tells that another tab was closed while it was sending.
 setInterval(() => { if (!document.hidden && owed().length) drawBar(); }, LOOKS_EVERY);

@@ -3,7 +3,6 @@
 
 import { account } from "./account.js";
 import { report } from "./bar.js";
-import { forgetPending } from "./detours.js";
 import { el, fill } from "./dom.js";
 import { askToLogIn } from "./login.js";
 import { begin, form, newKey, settle } from "./outbox.js";
@@ -46,7 +45,6 @@ export async function carryOut({ route, fields, body, about, button, place, why,
 }
 
 function told(entry, place, answer, sent) {
-  if (answer.value) forgetPending();
   const isKnown = answer.value || answer.refusal || answer.certain
     || answer.trouble === "forgotten";
   if (isKnown) sent?.end(entry.key, Boolean(answer.value));

@@ -2,23 +2,22 @@
 
 import { counted, el, fill } from "./dom.js";
 import { hrefOf, ownNumber } from "./paths.js";
-import { note, notedOf } from "./place.js";
+import { isArrivingBelow, note, notedOf } from "./place.js";
 import { shown } from "./shown.js";
 
 const CHUNK = 100;
 const ROW_REMS = 2.26;
 const SHORT = 12;
-let eager = false;
-
-/** Says whether all rows are wanted at once: for a page that is shown again further down. */
-export const beEager = (whether) => { eager = whether; };
 
 function itemRow({ path, name }) {
   return el("div", { role: "listitem" },
     el("a", { href: hrefOf(path) }, el("code", {}, ownNumber(path)), " ", shown(name)));
 }
 
-/** Rows that are made when they are first shown: 100 at once, the others when there is time. */
+/**
+ * Rows that are made when they are first shown: 100 at once, the others when there is time, or at
+ * once too on a page that is shown again further down.
+ */
 class Rows {
   constructor(items) {
     this.items = items;
@@ -43,7 +42,7 @@ class Rows {
       add(from);
       later(from + CHUNK);
     }));
-    if (!eager) later(CHUNK);
+    if (!isArrivingBelow()) later(CHUNK);
     else for (let from = CHUNK; from < numbers.length; from += CHUNK) add(from);
   }
 }

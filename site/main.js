@@ -1,44 +1,44 @@
-// Where the site begins.
+// Where the site begins, and which page an address shows.
 
-// All that the others import too: it is fetched at once, not level by level. As `modulepreload` in
-// index.html it would be fetched sooner, but taken up before the page is first painted.
-import "./api.js";
-import "./detours.js";
-import "./dom.js";
-import "./kept.js";
-import "./lists.js";
-import "./login.js";
-import "./notice.js";
-import "./outbox.js";
-import "./parts.js";
-import "./paths.js";
-import "./place.js";
-import "./shown.js";
-import "./words.js";
+const PAGES = [
+  [/^\/$/, "home"],
+  [/^\/vendors$/, "list", "vendors"],
+  [/^\/classes$/, "list", "classes"],
+  [/^\/item\/(?<path>P[CDS]\/[0-9a-f/]+)$/, "item"],
+  [/^\/search$/, "search"],
+  [/^\/proposals\/(?<number>[1-9][0-9]{0,9})$/, "proposal"],
+  [/^\/propose$/, "propose"],
+  [/^\/queue$/, "queue"],
+  [/^\/decided$/, "decided"],
+  [/^\/recent$/, "recent"],
+  [/^\/check$/, "check", "check"],
+  [/^\/load$/, "check", "load"],
+  [/^\/mine$/, "mine"],
+  [/^\/people$/, "people"],
+  [/^\/(help|about)$/, "help"],
+];
 
-import { restoreAccount, watchAccount } from "./account.js";
-import { drawBar } from "./bar.js";
-import { startHeader } from "./header.js";
-import { load } from "./names.js";
-import { loadPages, startRouter, watchPages } from "./router.js";
-import { refuseHeldKeys } from "./steady.js";
+// A page that isn't seen has no frames.
+const UNSEEN_AFTER = 100;
+const FAILED = "This page couldn't be loaded whole. Load it again.";
 
-const QUIET_AFTER = 1_000;
+/** The page at a path: what its path is like, its file, and its name there. */
+export const pageAt = (pathname) => PAGES.find(([form]) => form.test(pathname));
 
-// A file that is dropped beside its place would take the place of the page.
-function keepPage(event) {
-  const isFile = event.dataTransfer?.types.includes("Files");
-  if (isFile && !event.target.matches?.("[type=file]")) event.preventDefault();
+/** The files of all pages. */
+export const files = [...new Set(PAGES.map(([, file]) => file))];
+
+// What index.html has is painted first: the modules would keep the processor from it.
+function painted() {
+  return new Promise((go) => {
+    requestAnimationFrame(() => setTimeout(go));
+    setTimeout(go, UNSEEN_AFTER);
+  });
 }
 
-restoreAccount();
-refuseHeldKeys();
-addEventListener("dragover", keepPage);
-addEventListener("drop", keepPage);
-watchAccount(drawBar);
-watchPages(drawBar);
-startHeader();
-startRouter().then(() => {
-  // What later pages need is fetched when there is time, and where data isn't spared.
-  if (!navigator.connection?.saveData) setTimeout(() => { load(); loadPages(); }, QUIET_AFTER);
-});
+painted().then(() => {
+  const [, file] = pageAt(location.pathname) ?? [];
+  // Fetched beside the others, and asked for again by the router.
+  if (file) import(`./pages/${file}.js`).catch(() => {});
+  return import("./site.js");
+}).catch(() => document.getElementById("main").append(FAILED));

@@ -8,11 +8,13 @@ const policy = globalThis.trustedTypes?.createPolicy("names", {
 const waiting = new Map();
 let worker = null;
 let count = 0;
+let isLoaded = false;
 
 function end() {
   for (const go of waiting.values()) go(null);
   waiting.clear();
   worker = null;
+  isLoaded = false;
 }
 
 function start() {
@@ -36,7 +38,14 @@ function call(what, ...words) {
 }
 
 /** Fetches the names, or asks whether there are newer ones: { count, date }, or null. */
-export const load = () => call("load");
+export async function load() {
+  const known = await call("load");
+  isLoaded ||= known !== null;
+  return known;
+}
+
+/** Whether the names were fetched, so that an answer takes no time. */
+export const areAtHand = () => isLoaded;
 
 /** What is found: { rows: [{ path, name, above }], count }, the likeliest first, or null. */
 export const search = (text, most = 40) => call("search", text, most);

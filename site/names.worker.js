@@ -6,6 +6,7 @@ import { childrenOf, difference, indexOf, learn, search } from "./search.js";
 const FRESH_FOR = 60_000;
 // A server that gives no names isn't asked again at each key press.
 const RESTS_FOR = 2_000;
+const GIVEN_UP_AFTER = 20_000;
 let index = null;
 let loading = null;
 let loadedAt = -Infinity;
@@ -14,7 +15,8 @@ let tag = null;
 let date = null;
 
 async function fetchNames() {
-  const answer = await fetch("/pci.ids", { credentials: "omit" });
+  const signal = AbortSignal.timeout(GIVEN_UP_AFTER);
+  const answer = await fetch("/pci.ids", { credentials: "omit", signal });
   if (!answer.ok) throw new Error("no pci.ids");
   const current = answer.headers.get("ETag");
   if (!index || current === null || current !== tag) {

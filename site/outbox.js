@@ -3,14 +3,13 @@
 // the page was loaded again. Each entry has a key of localStorage to itself, so that tabs don't
 // overwrite each other's, and is sent by the one tab that holds its lock.
 
-import { account, authorization } from "./account.js";
+import { account, authorization, dropAccount } from "./account.js";
 import { request } from "./api.js";
-import { rememberOwn } from "./detours.js";
 import { keep, keysOf, recall } from "./kept.js";
 
 const FRONT = "owed:";
 const ACTED = "acted:";
-const MOST_ACTED = 200;
+const MOST_ACTED = 1_000;
 const WAITS = [500, 1_000, 2_000, 4_000, 8_000, 15_000];
 const MOST_ODD = 3;
 
@@ -53,9 +52,9 @@ function rememberActed(key, value) {
   keep("localStorage", ACTED + key, acted.get(key));
   const all = keysOf("localStorage", ACTED);
   if (all.length <= MOST_ACTED) return;
-  const age = (it) => recall("localStorage", it)?.at ?? 0;
-  all.sort((one, other) => age(one) - age(other)).slice(0, all.length - MOST_ACTED)
-    .forEach((it) => keep("localStorage", it, null));
+  const aged = all.map((it) => [it, recall("localStorage", it)?.at ?? 0]);
+  aged.sort(([, one], [, other]) => one - other).slice(0, MOST_ACTED / 4)
+    .forEach(([it]) => keep("localStorage", it, null));
 }
 
 /** The keys of entries that some tab is sending. */
@@ -178,15 +177,15 @@ async function sendUntilKnown(entry, work) {
     if (account() !== entry.account) return gaveUp(entry, { trouble: "account" }, isInDoubt);
     const answer = await send(entry, body);
     if (answer.value || answer.refusal) {
-      if (answer.value?.num) rememberOwn(entry, answer.value);
       if (answer.value) rememberActed(entry.key, answer.value);
       forget(entry.key);
       return answer;
     }
     isInDoubt ||= !answer.certain;
+    if (answer.trouble === "login") dropAccount(entry.account);
     if (isEnd(answer, tries)) return gaveUp(entry, answer, isInDoubt);
     if (!work.isLeft) await beforeNext(work, answer.trouble, tries);
-    if (work.isLeft) return { trouble: isThere(entry.key) ? "left" : "forgotten", certain: false };
+    if (work.isLeft && isThere(entry.key)) return { trouble: "left", certain: false };
   }
 }
 

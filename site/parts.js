@@ -4,7 +4,7 @@ import { el, link } from "./dom.js";
 import { tell } from "./notice.js";
 import { hrefOf, KIND_WORDS, ownNumber, parse, withParents } from "./paths.js";
 import { shown, spelled } from "./shown.js";
-import { refusalWords, troubleWords } from "./words.js";
+import { refusalWords, STATES, troubleWords } from "./words.js";
 
 const SITE = "PCI ID registry";
 const TRIES_EVERY = 3_000;
@@ -62,12 +62,9 @@ export function chainOf(path, nameOf) {
 /** What a proposal proposes. */
 export const wishOf = (name) => (name === null ? el("em", {}, "to be removed") : shown(name));
 
-/** The row of a proposal in a list. */
-export function proposalRow(it, ...more) {
-  return el("li", {}, el("a", { href: `/proposals/${it.num}` },
-    el("code", {}, `#${it.num}`), " ", wishOf(it.name), " ",
-    el("small", {}, el("code", {}, it.path), " ", ...more)));
-}
+/** The state of a proposal, with what is said beside it. */
+export const stateMark = (state, more = "") => (
+  el("span", { class: `state ${state}` }, STATES[state] + more));
 
 /** Said where the published file stands in for the registry. */
 export const copyWords = () => el("p", { class: "old", role: "status" },

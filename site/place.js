@@ -5,6 +5,7 @@ const RESTS_AFTER = 300;
 let noted = {};
 let resting = 0;
 let keptAt = -Infinity;
+let arrival = 0;
 
 /** Keeps what was noted. Browsers ignore a history that changes too often. */
 export function keepPlace() {
@@ -24,6 +25,12 @@ export function note(name, value) {
 
 /** What was noted of this place, or undefined. */
 export const notedOf = (name) => noted[name] ?? history.state?.[name];
+
+/** Says how far down the page will be shown that is made now; null is as far as the one before. */
+export const arriveAt = (scroll) => { arrival = scroll; };
+
+/** Whether the page that is made now is shown from further down than its top. */
+export const isArrivingBelow = () => arrival > 0;
 
 addEventListener("pagehide", keepPlace);
 addEventListener("popstate", () => {

@@ -1,29 +1,12 @@
 // Which page an address shows, and going from one to the next without loading anew.
 
 import { el, fill, link } from "./dom.js";
-import { beEager } from "./lists.js";
+import { files, pageAt } from "./main.js";
 import { tell, untell } from "./notice.js";
 import { failed, title, titleOf } from "./parts.js";
-import { keepPlace } from "./place.js";
+import { arriveAt, keepPlace } from "./place.js";
 import { appear } from "./steady.js";
 
-const PAGES = [
-  [/^\/$/, "home"],
-  [/^\/vendors$/, "list", "vendors"],
-  [/^\/classes$/, "list", "classes"],
-  [/^\/item\/(?<path>P[CDS]\/[0-9a-f/]+)$/, "item"],
-  [/^\/search$/, "search"],
-  [/^\/proposals\/(?<number>[1-9][0-9]{0,9})$/, "proposal"],
-  [/^\/propose$/, "propose"],
-  [/^\/queue$/, "queue"],
-  [/^\/decided$/, "decided"],
-  [/^\/recent$/, "recent"],
-  [/^\/check$/, "check", "check"],
-  [/^\/load$/, "check", "load"],
-  [/^\/mine$/, "mine"],
-  [/^\/people$/, "people"],
-  [/^\/(help|about)$/, "help"],
-];
 const LOADING = "Loading …";
 const LOADING_AFTER = 300;
 
@@ -35,10 +18,9 @@ let wanted = "";           // the address of the page that is shown, or of one t
 let shownPage = null;
 
 const addressOf = (it) => it.pathname + it.search;
-const found = (pathname) => PAGES.find(([form]) => form.test(pathname));
 
 // Whether this site has a page at a path.
-const hasPage = (pathname) => found(pathname) !== undefined;
+const hasPage = (pathname) => pageAt(pathname) !== undefined;
 
 /** The page that is shown: its nodes, with what else it offers. */
 export const currentPage = () => shownPage;
@@ -47,9 +29,7 @@ export const currentPage = () => shownPage;
 export const watchPages = (watcher) => watchers.push(watcher);
 
 /** Loads the files of all pages, so that going to one needs no server. */
-export const loadPages = () => PAGES.forEach(([, file]) => {
-  fetchPage(file).catch(() => {});
-});
+export const loadPages = () => files.forEach((it) => { fetchPage(it).catch(() => {}); });
 
 // Addresses that people write in capitals, or with a slash at the end.
 function mended(pathname) {
@@ -77,7 +57,7 @@ async function fetchPage(file) {
 }
 
 async function made(address, again) {
-  const [form, file, name = "default"] = found(address.pathname) ?? [];
+  const [form, file, name = "default"] = pageAt(address.pathname) ?? [];
   if (!form) return absent();
   const context = {
     ...form.exec(address.pathname).groups, query: address.searchParams, go, again,
@@ -103,20 +83,22 @@ async function show({ focus = true, scroll = 0 } = {}) {
   const address = new URL(location.href);
   wanted = addressOf(address);
   const slow = setTimeout(() => { if (mine === turn) tell(LOADING); }, LOADING_AFTER);
-  beEager(scroll > 0);
+  arriveAt(scroll);
   const page = await made(address, () => again(address));
   clearTimeout(slow);
   if (mine !== turn) return;
   untell(LOADING);
   shownPage = page;
   shownAddress = wanted;
+  const hadFocus = main.contains(document.activeElement);
   fill(main, page);
   appear(main);
   document.title = titleOf(main.querySelector("h1"));
   document.body.classList.add("ready");
   watchers.forEach((watcher) => watcher(address));
   if (scroll !== null) scrollTo(0, scroll);
-  if (focus) main.querySelector("h1")?.focus({ preventScroll: true });
+  // What had the focus isn't there any more.
+  if (focus || hadFocus) main.querySelector("h1")?.focus({ preventScroll: true });
 }
 
 // A page that asks to be shown again after another one came in its place is not.

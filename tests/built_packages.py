@@ -51,6 +51,8 @@ def packages():
     """The folder that has both packages. They are built when the first part asks, also where each
     part is a process of its own: their folder goes by the process that began them all."""
     program.need("dpkg-deb", "dpkg-buildpackage", "dh")
+    if not os.access(WHOLE, os.X_OK):
+        raise program.Skip("the program is not built")
     folder = os.path.join(tempfile.gettempdir(), f"pciids-packages-{os.getppid()}")
     while "packages" not in _built:
         lock = open(f"{folder}.lock", "w", encoding="utf-8")

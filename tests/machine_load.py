@@ -219,8 +219,6 @@ def too_long(story):
 
 def run(cases):
     program.need("nginx", "openssl", "curl", "sqlite3")
-    if not os.access(program.WHOLE, os.X_OK):
-        raise program.Skip("the program is not built")
     built_packages.packages()
     with tempfile.TemporaryDirectory() as folder, Machine() as machine:
         story = Story(cases, machine)

@@ -11,7 +11,7 @@ import threading
 import time
 
 from http_server import BYTES, JSON, OK, TEXT, Server, ask_curl, free_port, refusal, to_end
-from program import HEADER, REAL_FILE, TOP, tidy
+from program import HEADER, REAL_FILE, TOP, entries_of, tidy
 
 HOST = "pciids.example.org"
 PASSWORDS = {"root": "secret of root", "alice": "secret:of:alice", "mona": "mona", "Bob": "bob"}
@@ -198,7 +198,7 @@ def files(cases, proxy, server):
         return
     with open(REAL_FILE, "rb") as file:
         canonical = tidy(file.read()).out
-    count = canonical.count(b"\n") - 1 - canonical.count(b"\nS ")
+    count = entries_of(canonical)
     words = ("-u", "mona:mona", "--data-binary", f"@{REAL_FILE}")
     told = proxy.curl("/import", *words)
     body = b'{"added":%d,"ok":true,"renamed":1,"same":0}' % (count - 1)

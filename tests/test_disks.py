@@ -11,7 +11,7 @@ import pytest
 
 from http_server import free_port
 from program import HEADER, WHOLE, Skip
-from registry import asked, bring_in, script, work
+from registry import asked, bring_in, copied, script, work
 
 pytestmark = pytest.mark.needs("sqlite3")
 
@@ -170,12 +170,9 @@ def full(cases, place):
     )
     with tempfile.TemporaryDirectory() as roomy:
         # sqlite3 needs room beside the file.
-        for end in ("", "-wal"):
-            if os.path.exists(path + end):
-                shutil.copy(path + end, roomy)
-        found = asked(
-            os.path.join(roomy, "r.db"), "PRAGMA integrity_check; SELECT path, name FROM item"
-        )
+        copy = os.path.join(roomy, "r.db")
+        copied(path, copy)
+        found = asked(copy, "PRAGMA integrity_check; SELECT path, name FROM item")
     cases.equal("no room: sqlite3 finds what was there", found, "ok\nPC/8086|Intel\n")
     out, err, status = script(path, *["submit alice path=PC/10ec&name=Realtek"] * 20_000)
     told = out.splitlines(True)

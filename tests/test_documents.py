@@ -7,6 +7,7 @@ import subprocess
 
 import pytest
 
+import contracts
 import edit_list
 import reading_list
 import refusals
@@ -15,6 +16,8 @@ from words_to_change import found_in
 
 WIDEST, WIDEST_ROW, WIDEST_CELL = 100, 120, 100
 README_LINES = 130
+# Folders beside crates/.
+OUTSIDE = ("tests/", "site/", "deploy/", "docs/")
 
 
 def text_of(name):
@@ -123,6 +126,27 @@ def missing_evidence():
     return named, missing
 
 
+def missing_clauses():
+    """How many clauses SECURITY.md names after calls, and those that these calls have not. A name
+    after a call is another call of its crate, or a clause of one of them."""
+    text = " ".join(text_of("SECURITY.md").split()).partition("A client of `serve`:")[2]
+    clauses, missing, count = {}, [], 0
+    for it in contracts.functions():
+        found = re.findall(r"^\w+ (\w+) \{", "\n".join(it.clauses), re.M)
+        clauses.setdefault(it.path, set()).update(found)
+    for call, names in re.findall(r"`(pid_\w+::[\w:]+)`((?:, `[\w:]+`)+)", text):
+        crate, calls = call.partition("::")[0], [call.rpartition("::")[2]]
+        for name in re.findall(r"[\w:]+", names):
+            last = name.rpartition("::")[2]
+            if f"{crate}::{last}" in clauses:
+                calls.append(last)
+                continue
+            count += 1
+            if not any(name in clauses.get(f"{crate}::{it}", ()) for it in calls):
+                missing.append(f"{call}: {name}")
+    return count, missing
+
+
 def unknown_names(page):
     """How many names of code a page has, and those that no source, definition or test has."""
     known = set(os.listdir(os.path.join(TOP, "crates"))) | {"unsafe"}
@@ -152,13 +176,45 @@ def missing_paths():
     text = text_of("CONTRIBUTING.md").partition("`src/` and `specs/`")[2]
     for path in re.findall(r"`([\w/.]+)`", text):
         crate = path.partition("/")[0] if path.startswith("pid_") else crate
-        if path.startswith(("pid_", "src/", "specs/", "tests/")):
-            at = path if path.startswith("tests/") else os.path.join("crates", path)
+        if path.startswith(("pid_", "src/", "specs/", *OUTSIDE)):
+            at = path if path.startswith(OUTSIDE) else os.path.join("crates", path)
             if path.startswith(("src/", "specs/")):
                 at = os.path.join("crates", crate, path)
             named += 1
             if not os.path.exists(os.path.join(TOP, at)):
                 missing.append(at)
+    return named, missing
+
+
+def has_file(crate, name):
+    """Whether a crate has a module, a definition's file or a constant of this name."""
+    folder = os.path.join(TOP, "crates", crate)
+    if name.endswith(".antt"):
+        return os.path.exists(os.path.join(folder, "specs", name.removeprefix("specs/")))
+    places = (f"src/{name}.rt", f"{name}.rt", name, f"specs/{name}.antt")
+    return (any(os.path.exists(os.path.join(folder, it)) for it in places)
+            or name.isupper() and f" {name}:" in sources_in(crate))
+
+
+def missing_rooms():
+    """How many places docs/ARCHITECTURE.md names under "Where to change what", and those that do
+    not exist. A name without a crate is of the one that was named last."""
+    named, missing = 0, []
+    table = text_of("docs/ARCHITECTURE.md").partition("## Where to change what")[2]
+    for line in (it for it in table.splitlines() if it.startswith("| ")):
+        crate, folder = "", ""
+        for name in re.findall(r"`([\w/.-]+)`", cells_of(line)[1]):
+            named += 1
+            if name.startswith("pid_"):
+                crate, _, rest = name.partition("/")
+                found = os.path.isdir(os.path.join(TOP, "crates", crate)) and has_file(crate, rest)
+            elif name.startswith(OUTSIDE) or not crate:
+                folder = os.path.dirname(name) if name.startswith(OUTSIDE) else folder
+                found = os.path.exists(os.path.join(TOP, folder, os.path.basename(name)))
+            else:
+                found = has_file(crate, name)
+            if not found:
+                missing.append(name)
     return named, missing
 
 
@@ -229,10 +285,19 @@ def test_contributing(cases):
     cases.equal("names that nothing has", unknown_names("CONTRIBUTING.md")[1], [])
 
 
+def test_architecture(cases):
+    count, missing = missing_rooms()
+    cases.equal("places that do not exist", missing, [])
+    cases.equal("it names some", count > 100, True)
+
+
 def test_security(cases):
     count, missing = missing_evidence()
     cases.equal("tests and calls that do not exist", missing, [])
     cases.equal("it names some", count > 30, True)
+    count, missing = missing_clauses()
+    cases.equal("clauses that do not exist", missing, [])
+    cases.equal("it names clauses", count > 5, True)
 
 
 def test_refusals(cases):

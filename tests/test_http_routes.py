@@ -164,6 +164,7 @@ QUESTIONS = [
     ("/submissions?path=PC/8087", 0),
     ("/submissions?author=carol", 0),
     ("/submissions?path=PC", 1),
+    ("/status", 0),
     ("/account?who=alice", 0),
     ("/account?who=root", 0),
     ("/account?who=" + "a" * 32, 29),
@@ -187,6 +188,7 @@ BAD_QUERIES = [
     "/submissions?author=",
     "/submissions?author=Alice&path=PC",
     "/submissions?path=PC/8086&path=PC/8086",
+    "/status?after=0",
 ]
 
 # What these questions are answered, whoever asks.
@@ -217,6 +219,14 @@ ANSWERS = [
         b"2 approved alice name PC/8086/1237 440FX\n1 approved alice name PC/8086 Intel\n",
     ),
     ("/submissions?author=bob&path=PC/8086&format=text", b"before 0\n"),
+    (
+        "/status",
+        b'{"accounts":4,"items":3,"pending":2,"revision":20,"submissions":7}',
+    ),
+    (
+        "/status?format=text",
+        b"accounts 4\nitems 3\npending 2\nrevision 20\nsubmissions 7\n",
+    ),
     ("/account?who=alice", b'{"rank":0,"who":"alice"}'),
     ("/account?who=bob&format=json", b'{"rank":1,"who":"bob"}'),
     ("/account?who=mona", b'{"rank":2,"who":"mona"}'),
@@ -253,6 +263,8 @@ def as_text(told):
         return f"before {told['before']}\n" + as_text(told["submissions"])
     if "state" in told:
         lines = discussion(told)
+    elif "accounts" in told:
+        lines = [f"{key} {count}" for key, count in told.items()]
     elif "revision" in told:
         lines = [f"revision {told['revision']}"] + [
             f"{it['since']} {it['path']} {it['name']}" for it in told["items"]

@@ -15,8 +15,8 @@ import old_registry
 from http_server import JSON, TEXT, Server, reply
 from old_files import TABLES, old_file, texts_in_order
 from program import HEADER, WHOLE
-from registry import asked, script, texts_of_schema, work
-from shims import ROOM, SAMPLE, first_of
+from registry import asked, copied, script, texts_of_schema, work
+from shims import ROOM, SAMPLE, first_of, run_refusing
 
 pytestmark = pytest.mark.needs("sqlite3", "curl")
 
@@ -507,44 +507,25 @@ def stopped(cases, shim, name, step):
         with tempfile.TemporaryDirectory(dir=ROOM) as folder:
             path = os.path.join(folder, "old.db")
             old_file(path)
-            told, telling = os.pipe()
-            environment = dict(
-                os.environ, LD_PRELOAD=shim, REFUSE_AT=str(at), REFUSE_FD=str(telling)
-            )
-            ran = subprocess.run(
-                [WHOLE, "migrate", "--db", path],
-                stdout=subprocess.PIPE,
-                stderr=subprocess.PIPE,
-                env=environment,
-                pass_fds=[telling],
-                timeout=60,
-            )
-            os.close(telling)
-            with os.fdopen(told, "rb") as pipe:
-                was_refused = pipe.read(1) == b"!"
+            ran, was_refused = run_refusing(shim, at, b"", "migrate", "--db", path)
+            status = ran[2]
             copy = os.path.join(folder, "copy.db")
-            for end in ("", "-wal"):
-                if os.path.exists(path + end):
-                    shutil.copy(path + end, copy + end)
+            copied(path, copy)
             found = asked(copy, DUMP)
             again = migrate(path)
             good = (
                 (found, again) in ((BEFORE, MOVED), (AFTER, ALREADY))
-                and (ran.returncode in (0, 3))
-                and (ran.returncode == 3 or found == AFTER)
+                and (status in (0, 3))
+                and (status == 3 or found == AFTER)
             )
             if not good or (asked(path, DUMP), work(b"", "export", "--db", path)) != (
                 AFTER,
                 EXPORTED,
             ):
-                cases.equal(
-                    f"{name} {at}: status {ran.returncode}", (found, again), (AFTER, ALREADY)
-                )
+                cases.equal(f"{name} {at}: status {status}", (found, again), (AFTER, ALREADY))
                 return refusals
             if not was_refused:
-                cases.equal(
-                    f"{name}: none refused", (ran.stdout, ran.stderr, ran.returncode), MOVED
-                )
+                cases.equal(f"{name}: none refused", ran, MOVED)
                 return refusals
             refusals += 1
 

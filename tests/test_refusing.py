@@ -14,7 +14,7 @@ import pytest
 
 from old_files import old_file
 from program import HEADER
-from registry import script, work
+from registry import copied, script, work
 from shims import ROOM, SAMPLE
 
 BEGIN = [
@@ -100,10 +100,7 @@ def rows(path):
     """All rows that sqlite3 finds, on a copy, since it writes to a file that it recovers; None
     where it finds no table, or no database yet."""
     copy = path + ".copy"
-    for end in ("", "-wal"):
-        if os.path.exists(path + end):
-            shutil.copy(path + end, copy + end)
-    if not os.path.exists(copy):
+    if not copied(path, copy):
         return None
     asked = sqlite3.connect(copy)
     try:

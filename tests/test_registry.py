@@ -7,7 +7,7 @@ import pytest
 
 from http_server import JSON, TEXT, Server
 from program import HEADER, REAL_FILE, WHOLE
-from registry import asked, bring_in, moderated, script, texts_of_schema, work
+from registry import asked, bring_in, copied, moderated, script, texts_of_schema, work
 
 pytestmark = pytest.mark.needs("sqlite3")
 
@@ -135,11 +135,7 @@ def try_changed(cases, path):
     """A good file that the real sqlite3 changed, each time anew."""
     for name, (sql, what) in CHANGED.items():
         changed = path + ".changed"
-        for end in ("", "-wal"):
-            if os.path.exists(path + end):
-                shutil.copy(path + end, changed + end)
-            elif os.path.exists(changed + end):
-                os.remove(changed + end)
+        copied(path, changed)
         said = asked(changed, sql)
         cases.equal(f"changed: {name}", (said, script(changed)), ("", TOLD[what]))
 

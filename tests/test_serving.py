@@ -13,7 +13,7 @@ import pytest
 
 from http_examples import try_examples
 from http_server import BYTES, JSON, OK, TEXT, Server, posted, read_reply, refusal, reply, to_end
-from program import HEADER, PROGRAM, REAL_FILE, tidy
+from program import HEADER, PROGRAM, REAL_FILE, entries_of, tidy
 from registry import script
 
 pytestmark = pytest.mark.needs("curl")
@@ -347,7 +347,7 @@ def test_files(cases, folder):
         return
     with open(REAL_FILE, "rb") as file:
         canonical = tidy(file.read()).out
-    count = canonical.count(b"\n") - 1 - canonical.count(b"\nS ")
+    count = entries_of(canonical)
     with Server(os.path.join(folder, "real")) as server:
         words = [
             "-H",

@@ -2,15 +2,12 @@
 for memory refused, others in each run: the file holds what some of the commands came to, the first
 ones, and at least those that were answered."""
 import os
-import shutil
-import subprocess
 import tempfile
 
 import pytest
 
-from program import WHOLE
-from registry import asked, script
-from shims import ROOM, SAMPLE, first_of
+from registry import asked, copied, script
+from shims import ROOM, SAMPLE, first_of, run_refusing
 
 LINES = [
     "account root who=bob&rank=1",
@@ -35,32 +32,10 @@ def state(path):
     """What sqlite3 finds, on a copy, since it writes to a file that it recovers."""
     with tempfile.TemporaryDirectory(dir=ROOM) as folder:
         copy = os.path.join(folder, "copy.db")
-        for end in ("", "-wal"):
-            if os.path.exists(path + end):
-                shutil.copy(path + end, copy + end)
-        if not os.path.exists(copy):
+        if not copied(path, copy):
             return "nothing"
         told = asked(copy, QUESTION).strip()
         return "nothing" if told.startswith("Error: ") else told
-
-
-def run_refusing(shim, at, path):
-    """The replies and the status of a script whose call number `at` is refused, and whether there
-    was one."""
-    told, telling = os.pipe()
-    environment = dict(os.environ, LD_PRELOAD=shim, REFUSE_AT=str(at), REFUSE_FD=str(telling))
-    ran = subprocess.run(
-        [WHOLE, "script", "--db", path],
-        input=TEXT,
-        stdout=subprocess.PIPE,
-        stderr=subprocess.PIPE,
-        env=environment,
-        pass_fds=[telling],
-        timeout=60,
-    )
-    os.close(telling)
-    with os.fdopen(told, "rb") as pipe:
-        return ran.stdout.splitlines(True), ran.returncode, pipe.read(1) == b"!"
 
 
 def is_allowed(replies, status, found):
@@ -79,7 +54,9 @@ def refuse_in_turn(cases, shim, name, step):
     for at in range(first_of(step), 100_000, step):
         with tempfile.TemporaryDirectory(dir=ROOM) as folder:
             path = os.path.join(folder, "r.db")
-            replies, status, was_refused = run_refusing(shim, at, path)
+            words = ("script", "--db", path)
+            (out, _, status), was_refused = run_refusing(shim, at, TEXT, *words)
+            replies = out.splitlines(True)
             found = state(path)
             if not is_allowed(replies, status, found):
                 cases.equal(f"{name} {at}: replies {replies}, status {status}", found, STATES)

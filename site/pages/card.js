@@ -5,42 +5,40 @@ import { ask } from "../api.js";
 import { faultWords } from "../carry.js";
 import { el, fill, link, several } from "../dom.js";
 import { tell } from "../notice.js";
-import { chainOf, kindOf, wishOf } from "../parts.js";
-import { parentOf, rankFor, withParents } from "../paths.js";
+import { chainOf, kindOf, stateMark, wishOf } from "../parts.js";
+import { parentOf, rankFor } from "../paths.js";
 import { compared, shown, spelled } from "../shown.js";
-import { appear, steadyButton } from "../steady.js";
-import { answerWords, RANKS, STATES } from "../words.js";
-import { approvalOf, CHANGED, decide, rejection, rejectionOf } from "./proposal.js";
+import { appear, isDead, setDead, steadyButton } from "../steady.js";
+import { answerWords, RANKS } from "../words.js";
+import { approvalOf, CHANGED, DECIDED, decide, rejection, rejectionOf } from "./proposal.js";
 
 const ARMED_FOR = 3_000;
 
 /**
- * A row, with what its buttons and keys do. It is shown once it is known whole, and from then on
- * nothing in it changes its place.
+ * A row, with what its buttons and keys do. Once it is shown nothing in it changes its place.
  */
 export class Card {
   /**
-   * @param {Object} it the proposal, as /pending has it
-   * @param {Object} around rivals: others on its path; read: the answer for a path; decided,
-   *   changed: called with what was; changed resolves once the rows show it
+   * @param {Object} it the proposal, as /queue has it
+   * @param {Object} around rivals: others on its path; nameOf: the name at a path above, null for
+   *   none, undefined where that isn't known; decided: is called with the row, renamed with a path
+   *   and its name, look with a path whose name is to be asked for
    */
   constructor(it, around) {
     this.it = it;
     this.around = around;
+    this.now = it.now;
     this.isDecided = false;
     this.isArmed = false;
     this.needed = rankFor(it.path, it.name === null);
     this.isOwn = account() === it.author;
     this.mayDecide = account() !== null && !this.isOwn && maySuffice(this.needed);
     this.place = el("div", { class: "said" });
-    this.note = el("p", { class: "note" });
     this.above = el("p", { class: "under" });
-    this.change = el("p", { class: "change" }, el("ins", {}, wishOf(it.name)));
-    this.warning = el("p", { class: "fault" });
+    this.change = el("p", { class: "change" });
     this.makeButtons();
     this.makeRow();
-    this.showAbove(() => undefined);
-    this.setCurrent(false);
+    this.showNames();
   }
 
   makeButtons() {
@@ -62,11 +60,15 @@ export class Card {
     const { it } = this;
     const wish = it.name === null ? "remove" : spelled(it.name);
     const rivals = this.around.rivals.map(({ num }) => [" ", link(`/proposals/${num}`, `#${num}`)]);
+    this.warned = this.warningWords();
+    this.warning = el("p", { class: "fault" }, this.warned);
     this.row = el("li", { "aria-label": `Proposal ${it.num}: ${wish}, ${it.path}` },
       el("p", { class: "top" }, link(`/proposals/${it.num}`, `#${it.num}`), " ",
         el("span", { class: "kind" }, kindOf(it.path)), " ", el("code", {}, it.path),
         el("small", {}, ` by ${it.author}`)),
-      this.above, this.change, this.note,
+      this.above, this.change,
+      el("p", { class: "note" }, it.note === "" ? null : shown(it.note),
+        it.remarks ? el("small", {}, ` (${several(it.remarks, "comment")})`) : null),
       rivals.length ? el("p", { class: "fault" }, "Also pending for this number:", rivals) : null,
       this.warning,
       el("div", { class: "acts" }, this.mayDecide ? this.buttons : this.whyNot(), this.place),
@@ -88,84 +90,50 @@ export class Card {
     if (!isCurrent) this.disarm();
   }
 
-  showAbove(nameOf) {
-    const above = chainOf(this.it.path, nameOf).slice(0, -1);
-    fill(this.above, above);
+  showNames() {
+    const { it, now } = this;
+    const nameOf = (path) => this.around.nameOf(path) ?? undefined;
+    fill(this.above, chainOf(it.path, nameOf).slice(0, -1));
+    const [was, wish] = it.name === null || now === null ? [now && shown(now), wishOf(it.name)]
+      : compared(now, it.name);
+    fill(this.change, was ? [el("del", {}, was), " "] : null, el("ins", {}, wish));
     this.setCurrent(this.row.tabIndex === 0);
   }
 
   /**
-   * Asks what the item is called now, and for the note; resolves to the answer that is missing, or
-   * to null.
+   * Shows what the item is called by now, null for no name, and what it is below. A press that was
+   * meant for another name does nothing.
    */
-  async look() {
-    const mine = this.turn = (this.turn ?? 0) + 1;
-    const chain = withParents(this.it.path);
-    const [own, ...answers] = await Promise.all([
-      ask(`/submission/${this.it.num}`, { quiet: true }),
-      ...chain.map((it) => this.around.read(it)),
-    ]);
-    const missing = [own, ...answers].find((it) => it.trouble);
-    if (missing || this.isDecided) return missing ?? null;
-    if (mine !== this.turn && this.row.isConnected) return null;
-    const nameOf = (path) => answers[chain.indexOf(path)].value?.name;
-    if (this.row.isConnected) this.keepPlaces();
-    if (own.value) this.showNote(own.value);
-    this.showAbove(nameOf);
-    this.showChange(nameOf(this.it.path));
-    this.hold(nameOf(this.it.path));
-    this.showWarning(this.warningWords(nameOf));
-    if (own.value && own.value.state !== "pending") this.setDecided(own.value.state);
-    return null;
-  }
-
-  // What changes in a row that is shown takes no more and no less room than before.
-  keepPlaces() {
-    for (const it of [this.above, this.change, this.note]) {
-      it.style.height = `${it.getBoundingClientRect().height}px`;
-      it.style.overflow = "auto";
-    }
-  }
-
-  showWarning(words) {
-    if (!this.row.isConnected) fill(this.warning, words);
-    else {
-      this.warning.classList.add("away");
-      fill(this.place, words ? faultWords(words) : null);
-    }
-  }
-
-  showNote({ note, remarks }) {
-    fill(this.note, note === "" ? null : shown(note),
-      remarks.length ? el("small", {}, ` (${several(remarks.length, "comment")})`) : null);
-  }
-
-  /** Takes up what the item is called. A press that was meant for another name does nothing. */
-  hold(now) {
-    if (this.row.isConnected && now !== this.now) {
+  show(now) {
+    if (this.isDecided || !this.row.isConnected) return;
+    if (now !== this.now) {
       this.disarm();
       appear(this.row);
     }
-    this.now = now;
-  }
-
-  showChange(now) {
-    const { name } = this.it;
-    if (now === undefined) {
-      fill(this.change, el("ins", {}, wishOf(name)));
-      return;
+    // What changes takes no more and no less room than before.
+    for (const it of [this.above, this.change]) {
+      it.style.height = `${it.getBoundingClientRect().height}px`;
+      it.style.overflow = "auto";
     }
-    const [was, wish] = name === null ? [shown(now), wishOf(null)] : compared(now, name);
-    fill(this.change, el("del", {}, was), " ", el("ins", {}, wish));
+    this.now = now;
+    this.showNames();
+    this.warn(this.warningWords());
   }
 
-  warningWords(nameOf) {
-    const { name, path } = this.it;
-    const now = nameOf(path);
-    const parent = parentOf(path);
-    if (name === null) return now === undefined ? "There is nothing to remove." : null;
+  // What it said in a place of its own leaves that empty.
+  warn(words) {
+    if (words === this.warned) return;
+    this.warned = words;
+    this.warning.classList.add("away");
+    fill(this.place, words ? faultWords(words) : null);
+  }
+
+  warningWords() {
+    const { it: { name, path }, now } = this;
+    if (name === null) return now === null ? "There is nothing to remove." : null;
     if (now === name) return "It has that name already.";
-    if (!parent || nameOf(parent) !== undefined) return null;
+    const parent = parentOf(path);
+    if (now !== null || !parent || this.around.nameOf(parent) !== null) return null;
     return `${parent} isn't in the registry: that one has to be approved first.`;
   }
 
@@ -177,7 +145,7 @@ export class Card {
 
   /** By key it takes two: what is approved can't be taken back. */
   approveByKey() {
-    if (!this.mayDecide || this.isDecided) return;
+    if (!this.mayDecide || this.isDecided || isDead(this.approve)) return;
     if (this.isArmed) {
       this.disarm();
       this.doApprove();
@@ -216,15 +184,28 @@ export class Card {
     if (this.isDecided) return;
     const { it, place } = this;
     const answer = await decide(it, { ...command, place });
+    const number = answer?.refusal?.refused;
     if (answer?.value) {
       tell(`${it.num} is ${state}.`, 3);
       this.setDecided(state);
-      if (state === "approved") this.around.changed(it.path);
-    } else if (answer?.refusal?.refused === 8) this.setDecided("");
-    else if (answer?.refusal?.refused === CHANGED) {
-      await this.around.changed(it.path);
-      fill(place, faultWords(answerWords(answer)));
-    }
+      if (state === "approved") this.around.renamed(it.path, it.name);
+    } else if (number === DECIDED) await this.showOutcome();
+    else if (number === CHANGED) await this.lookAgain(answer);
+  }
+
+  // Nobody approves before he sees what it is called by now.
+  async lookAgain(answer) {
+    setDead(this.approve, true);
+    await this.around.look(this.it.path);
+    setDead(this.approve, false);
+    if (this.place.isConnected) fill(this.place, faultWords(answerWords(answer)));
+  }
+
+  // Somebody else decided, or its author withdrew it: how is shown beside what was said.
+  async showOutcome() {
+    this.setDecided();
+    const { value } = await ask(`/submission/${this.it.num}`, { quiet: true });
+    if (value) this.place.firstChild?.append(" ", stateMark(value.state));
   }
 
   /** Greys the row, which stays where it is, so that nothing else comes under the pointer. */
@@ -233,7 +214,7 @@ export class Card {
     this.isDecided = true;
     this.disarm();
     this.row.classList.add("settled");
-    if (state) fill(this.place, el("span", { class: `state ${state}` }, STATES[state]));
+    if (state) fill(this.place, stateMark(state));
     // The focus goes on before what has it is disabled.
     this.around.decided(this);
     for (const it of [this.approve, this.openButton, this.reason, this.reject]) it.disabled = true;

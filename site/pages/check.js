@@ -83,7 +83,6 @@ class Check {
     this.turn = 0;
     this.isImport = isImport;
     this.result = el("div", { class: "result", role: "status" });
-    this.place = el("div");
     this.text = el("textarea", {
       id: "paste", rows: 10, spellcheck: "false", class: "code", wrap: "off",
     });
@@ -93,8 +92,10 @@ class Check {
     if (!file) return;
     this.text.value = "";
     const mine = this.turn += 1;
-    const bytes = await bytesOf(file);
-    if (mine === this.turn) await this.judge(file.name, bytes);
+    const bytes = await bytesOf(file).catch(() => null);
+    if (mine !== this.turn) return;
+    if (bytes) await this.judge(file.name, bytes);
+    else fill(this.result, el("p", { class: "fault" }, "The file can't be read."));
   }
 
   fileBox() {
@@ -116,7 +117,6 @@ class Check {
   async judge(name, bytes) {
     const mine = this.turn += 1;
     const outcome = read(bytes);
-    fill(this.place);
     const fault = faultOf(shownName(name), bytes, outcome);
     if (fault) { fill(this.result, fault, spokeHere()); return; }
     const count = several(outcome.names.size, "entry").replace("entrys", "entries");
@@ -129,24 +129,7 @@ class Check {
       el("p", { class: "good" }, `${shownName(name)} has no fault: ${count}.`), spokeHere(),
       el("p", {}, save, " ", el("small", {}, "Comments, version and date are not in it.")),
       beside ? differenceWords(beside) : null,
-      this.isImport ? this.importButton(bytes) : this.proposeButton(beside));
-  }
-
-  importButton(bytes) {
-    const onclick = async () => {
-      const answer = await carryOut({
-        route: "/import", body: bytes, about: "Import of a file", button, place: this.place,
-        why: "Imports are made by senior moderators.",
-      });
-      if (!answer?.value) return;
-      const { added, renamed, same } = answer.value;
-      row.remove();
-      fill(this.place, el("p", { class: "good", role: "status" }, `The registry imported it:`
-        + ` ${counted(added)} added, ${counted(renamed)} renamed, ${counted(same)} the same.`));
-    };
-    const button = steadyButton({ class: "main", onclick }, "Import it");
-    const row = el("p", { class: "buttons" }, button);
-    return row;
+      this.isImport ? importOf(name, bytes) : this.proposeButton(beside));
   }
 
   // Who may not import proposes the names one by one.
@@ -175,7 +158,7 @@ class Check {
         " in order, and what does it have that the registry hasn't? The file stays in your"
         + " browser."),
       this.isImport ? null : el("p", {}, link("/load", "Import a file"), " (senior moderators)"),
-      this.fileBox(), typed, this.result, this.place,
+      this.fileBox(), typed, this.result,
     ];
   }
 }
@@ -185,6 +168,25 @@ function saveCanonical(names) {
   const href = URL.createObjectURL(new Blob([canonical(names)], { type: "text/plain" }));
   el("a", { href, download: "pci.ids" }).click();
   setTimeout(() => URL.revokeObjectURL(href), SAVED_WITHIN);
+}
+
+// Where another file is judged meanwhile, what came of this one is told in the bar.
+function importOf(name, bytes) {
+  const place = el("div");
+  const onclick = async () => {
+    const answer = await carryOut({
+      route: "/import", body: bytes, about: `Import: ${shownName(name)}`, button, place,
+      why: "Imports are made by senior moderators.",
+    });
+    if (!answer?.value) return;
+    const { added, renamed, same } = answer.value;
+    row.remove();
+    fill(place, el("p", { class: "good", role: "status" }, `The registry imported it:`
+      + ` ${counted(added)} added, ${counted(renamed)} renamed, ${counted(same)} the same.`));
+  };
+  const button = steadyButton({ class: "main", onclick }, "Import it");
+  const row = el("p", { class: "buttons" }, button);
+  return [row, place];
 }
 
 const shownName = (name) => (name.length > 80 ? `${name.slice(0, 80)}…` : name);

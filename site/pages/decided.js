@@ -1,23 +1,24 @@
-import { latestProposals } from "../detours.js";
-import { el } from "../dom.js";
-import { failed, proposalRow, title } from "../parts.js";
-import { shown } from "../shown.js";
-import { STATES } from "../words.js";
+// The latest proposals in all states: all, those for a path, or those by an account.
 
-function row(it) {
-  const by = it.decider && it.state !== "withdrawn" ? ` by ${it.decider}` : "";
-  return proposalRow(it, `by ${it.author}; `,
-    el("span", { class: `state ${it.state}` }, STATES[it.state] + by),
-    it.reason ? [" ", shown(it.reason)] : null);
+import { el } from "../dom.js";
+import { failed, title } from "../parts.js";
+import { olderLink, submissionRow, submissions } from "../submissions.js";
+
+function titleWords({ path, author }) {
+  const by = author ? ` by ${author}` : "";
+  return path || author ? `Proposals${path ? ` for ${path}` : ""}${by}` : "The latest proposals";
 }
 
-/** The latest proposals in all states. */
-export default async function decided({ again }) {
-  const answer = await latestProposals();
+/** The page. */
+export default async function decided({ query, again }) {
+  const which = { path: query.get("path"), author: query.get("author") };
+  const answer = await submissions({ ...which, before: query.get("before") });
   if (!answer.value) return failed(answer, again);
-  const rows = answer.value.map(row);
+  const { before, submissions: rows } = answer.value;
   return [
-    title("The latest proposals"),
-    rows.length ? el("ol", { class: "items" }, rows) : el("p", { class: "none" }, "None yet."),
+    title(titleWords(which)),
+    rows.length ? el("ol", { class: "items" }, rows.map((it) => submissionRow(it, which)))
+      : el("p", { class: "none" }, before ? "None among the latest." : "None."),
+    olderLink("/decided", which, before),
   ];
 }

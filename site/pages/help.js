@@ -16,7 +16,7 @@ export default async function help() {
       + " later. Several at once: ", link("/propose?many=yes", "propose many"), "."),
     section("Accounts", "Accounts are made by those who run this registry; ask them for one, and"
       + " for a new password. Reading needs none. On ", link("/mine", "My proposals"),
-    " you see what came of those that you made in this browser."),
+    " you see what came of yours."),
     section("Who decides", "Moderators decide on names of devices, subsystems, subclasses and"
       + " programming interfaces; senior moderators also on vendors, classes and removals, and they"
       + " import files; administrators give ranks. Nobody decides on their own proposal."),

@@ -1,5 +1,5 @@
-import { account } from "../account.js";
-import { counted, el, fill, link } from "../dom.js";
+import { ask } from "../api.js";
+import { counted, el, fill, link, several } from "../dom.js";
 import { load } from "../names.js";
 import { title } from "../parts.js";
 
@@ -11,9 +11,21 @@ function publishedWords({ count, date }) {
   return [link("/pci.ids", "pci.ids"), ` has ${counted(count)} names${when}.`];
 }
 
+function statusWords({ items, pending, submissions }) {
+  return [`The registry has ${several(items, "name")}. Of ${several(submissions, "proposal")} `,
+    link("/queue", `${counted(pending)} ${pending === 1 ? "is" : "are"} pending`), "."];
+}
+
+// What comes late finds its room.
+const later = (kind) => el("p", { class: `aside ${kind}` }, "\u00a0");
+
+/** The start page. What is there at once is in start.html too, so that it is painted first. */
 export default async function home() {
-  const published = el("p", { class: "aside published" }, "\u00a0");
+  const [published, status] = [later("published"), later("status")];
   load().then((known) => { if (known) fill(published, publishedWords(known)); });
+  ask("/status", { quiet: true }).then(({ value }) => {
+    if (value) fill(status, statusWords(value));
+  });
   return [
     title("PCI ID registry"),
     el("p", { class: "lead" }, "The names of PCI vendors, devices, subsystems and classes that ",
@@ -31,7 +43,7 @@ export default async function home() {
       el("li", {}, link("/recent", "What changed"), " lately, and ",
         link("/decided", "the latest proposals")),
       el("li", {}, link("/check", "Check a file"), " of your own"),
-      account() ? el("li", {}, link("/mine", "My proposals"), ", and what came of them") : null),
-    published,
+      el("li", {}, link("/mine", "My proposals"), ", and what came of them")),
+    published, status,
   ];
 }

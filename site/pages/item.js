@@ -1,24 +1,23 @@
 // An item: its name, its line in the file, what lspci shows, what is below it, what was proposed.
 
-import { account } from "../account.js";
 import { ask } from "../api.js";
-import { ownProposals, pendingAt, sinceOf } from "../detours.js";
+import { sinceOf } from "../changes.js";
 import { counted, el, fill, link, several } from "../dom.js";
 import { itemList } from "../lists.js";
 import * as names from "../names.js";
-import {
-  copyButton, copyWords, crumbs, failed, kindOf, proposalRow, title,
-} from "../parts.js";
+import { copyButton, copyWords, crumbs, failed, kindOf, title } from "../parts.js";
 import {
   BELOW, KIND_WORDS, lineOf, lookupOf, parse, rankFor, wholeNumber, withParents,
 } from "../paths.js";
 import { shown } from "../shown.js";
+import { submissionRow, submissionsFor } from "../submissions.js";
 import { RANKS } from "../words.js";
 
 const MANY = {
   vendor: "Devices", device: "Subsystems", class: "Subclasses", subclass: "Programming interfaces",
 };
 const SHORT_WAIT = 150;
+const MOST_PROPOSALS = 10;
 
 /** The item as the registry has it, or as the published file does: { name, nameOf, below, .. }. */
 async function found(path) {
@@ -122,7 +121,7 @@ function lists(path, below) {
 
 function absent(path, known) {
   const history = el("div", { class: "history" });
-  showHistory(path, history);
+  showHistory(path, history, false);
   return [
     crumbs(path, (it) => known.get(it)),
     title(`${wholeNumber(path)} has no name`, el("code", {}, wholeNumber(path)), " has no name"),
@@ -138,24 +137,33 @@ const historyHeading = () => el("h2", {}, "Proposals and history");
 const later = () => el("div", { class: "said" });
 const historyPlace = () => [historyHeading(), later(), later()];
 
-// What was proposed for this path, and since when it has its name, as far as the registry tells.
-async function showHistory(path, place) {
-  const [pending, named] = await Promise.all([pendingAt(path), sinceOf(path)]);
-  const own = (account() ? ownProposals(account()) : []).filter((it) => it.path === path
-    && !pending.some(({ num }) => num === it.num));
-  const rows = [
-    ...pending.reverse().map((it) => proposalRow(it, `by ${it.author}, pending`)),
-    ...own.map((it) => proposalRow(it, "by you")),
-  ];
-  const list = rows.length ? el("ol", { class: "items" }, rows) : null;
+// What was proposed for this path, and since when it has its name.
+async function showHistory(path, place, isThere = true) {
+  const [answer, named] = await Promise.all([submissionsFor(path), isThere && sinceOf(path)]);
+  const { list, words } = proposals(path, answer.value);
   const [first, second] = place.querySelectorAll(".said");
   if (first) {
-    const words = `${several(rows.length, "proposal")} …`;
     fill(first, sinceWords(named));
-    fill(second, list ? el("details", {}, el("summary", {}, words), list) : "No proposals.");
-  } else if (list || named) {
-    fill(place, historyHeading(), el("p", { class: "aside" }, sinceWords(named)), list);
+    fill(second, list ? el("details", {}, el("summary", {}, `${words} …`), list) : words);
+  } else if (list || isThere) {
+    fill(place, historyHeading(),
+      isThere ? el("p", { class: "aside" }, sinceWords(named)) : null,
+      list ?? el("p", { class: "aside" }, words));
   }
+}
+
+/** The proposals for a path as { list, words }; without a list where there are none. */
+function proposals(path, page) {
+  if (!page) return { words: "The proposals aren't known at the moment." };
+  const { before, submissions: all } = page;
+  const isMore = before > 0 || all.length > MOST_PROPOSALS;
+  if (all.length === 0 && !isMore) return { words: "No proposals." };
+  const rows = all.slice(0, MOST_PROPOSALS).map((it) => submissionRow(it, { path }));
+  const more = link(`/decided?path=${path}`, "All proposals for this number");
+  return {
+    words: isMore ? "Proposals" : several(all.length, "proposal"),
+    list: [el("ol", { class: "items" }, rows), isMore ? el("p", {}, more) : null],
+  };
 }
 
 function sinceWords(named) {

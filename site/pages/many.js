@@ -4,7 +4,6 @@
 import { account } from "../account.js";
 import { report } from "../bar.js";
 import { faultWords } from "../carry.js";
-import { forgetPending } from "../detours.js";
 import { draftOf, keepDraft } from "../drafts.js";
 import { el, fill, link, several } from "../dom.js";
 import { askToLogIn } from "../login.js";
@@ -221,7 +220,6 @@ class Many {
       if (!this.list.isConnected || account() !== by) return;
       if (row.isDropped || !row.isOpen) continue;
       const answer = await row.send(note, () => this.keepAll());
-      forgetPending();
       if (!answer.value && !answer.refusal) return;
     }
   }

@@ -1,39 +1,50 @@
+// The proposals of who is logged in, and what came of them.
+
 import { account } from "../account.js";
-import { ownProposals, proposals, rememberStates } from "../detours.js";
-import { el, several } from "../dom.js";
+import { el } from "../dom.js";
+import { keep, recall } from "../kept.js";
 import { askToLogIn } from "../login.js";
-import { proposalRow, title } from "../parts.js";
-import { shown } from "../shown.js";
-import { STATES } from "../words.js";
+import { failed, title } from "../parts.js";
+import { olderLink, submissionRow, submissions } from "../submissions.js";
 
-const MOST = 50;
+const MOST_WAITING = 500;
 
-function row(it, now) {
-  if (!now) return proposalRow(it, "not known at the moment");
-  const isNews = it.state !== undefined && it.state !== now.state;
-  return proposalRow(it,
-    el("span", { class: `state ${now.state}` }, STATES[now.state]),
-    isNews ? " (new)" : null,
-    now.remarks.length ? `, ${several(now.remarks.length, "comment")}` : null,
-    now.reason ? [": ", shown(now.reason)] : null);
+/**
+ * The numbers of those that were decided since this browser saw them pending. It remembers which
+ * are pending now.
+ */
+function newsAmong(name, rows) {
+  const place = `waiting:${name}`;
+  const waiting = new Set(recall("localStorage", place) ?? []);
+  const isNews = ({ num, state }) => (
+    waiting.has(num) && (state === "approved" || state === "rejected"));
+  const news = rows.filter(isNews).map((it) => it.num);
+  for (const { num, state } of rows) {
+    if (state === "pending") waiting.add(num);
+    else waiting.delete(num);
+  }
+  const latest = [...waiting].sort((one, other) => other - one).slice(0, MOST_WAITING);
+  keep("localStorage", place, latest.length ? latest : null);
+  return news;
 }
 
-/** The proposals of who is logged in, as far as this browser knows of them. */
-export default async function mine() {
-  const name = account();
-  const aside = el("p", { class: "aside" }, "Those that were made in this browser: the registry"
-    + " doesn't list proposals by author yet.");
-  if (!name) {
+/** The page. */
+export default async function mine({ query, again }) {
+  const author = account();
+  if (!author) {
     const enter = el("button", { type: "button", class: "main", onclick: () => askToLogIn() },
       "Log in");
-    return [title("My proposals"), aside, el("p", {}, enter)];
+    return [title("My proposals"), el("p", {}, enter)];
   }
-  const own = ownProposals(name).slice(0, MOST);
-  const now = new Map((await proposals(own.map((it) => it.num))).map((it) => [it.num, it]));
-  rememberStates(name, new Map([...now].map(([num, it]) => [num, it.state])));
-  const rows = own.map((it) => row(it, now.get(it.num)));
+  const answer = await submissions({ author, before: query.get("before") });
+  if (!answer.value) return failed(answer, again);
+  const { before, submissions: rows } = answer.value;
+  const news = newsAmong(author, rows);
+  const row = (it) => submissionRow(it, { author }, news.includes(it.num));
   return [
-    title("My proposals"), aside,
-    rows.length ? el("ol", { class: "items" }, rows) : el("p", { class: "none" }, "None."),
+    title("My proposals"),
+    rows.length ? el("ol", { class: "items" }, rows.map(row))
+      : el("p", { class: "none" }, before ? "None among the latest." : "None."),
+    olderLink("/mine", {}, before),
   ];
 }

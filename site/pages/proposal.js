@@ -4,18 +4,20 @@ import { account, learnRank, maySuffice } from "../account.js";
 import { ask } from "../api.js";
 import { carryOut, faultWords } from "../carry.js";
 import { el, fill, link, several, utf8Length } from "../dom.js";
+import { draftOf } from "../drafts.js";
 import { learnName } from "../names.js";
 import { tell } from "../notice.js";
-import { chainOf, failed, kindOf, oneParagraph, title, wishOf } from "../parts.js";
+import { chainOf, failed, kindOf, oneParagraph, stateMark, title, wishOf } from "../parts.js";
 import { rankFor, withParents } from "../paths.js";
-import { SentForm } from "../sent.js";
+import { dropSent, SentForm } from "../sent.js";
 import { compared, shown } from "../shown.js";
 import { steadyButton } from "../steady.js";
 import { RANKS, refusalWords, STATES } from "../words.js";
 
 const MOST_TEXT = 4_000;
 const MOST_REMARKS = 200;
-/** The number of the refusal of an approval whose item isn't as it was shown. */
+/** The refusals of what isn't as it was shown: a proposal that is decided, a name that changed. */
+export const DECIDED = 8;
 export const CHANGED = 30;
 const NEEDS_ACCOUNT = "Decisions are made under an account.";
 
@@ -31,13 +33,16 @@ export default async function proposal({ number, again }) {
   // Nobody decides without having seen what it is called now.
   if (own.trouble) return failed(own, again);
   const isIdle = it.name === null ? own.refusal !== undefined : own.value?.name === it.name;
-  const done = (words, seconds = 4) => { tell(words, seconds); again(); };
+  // Said once the page is there: what is said while it loads takes the place of what was.
+  const done = async (words, seconds = 4) => {
+    await again();
+    tell(words, seconds);
+  };
   const text = `Proposal ${it.num}: ${it.name === null ? "remove" : it.name} · ${it.path}`;
   return [
-    title(text, `Proposal ${it.num} `,
-      el("span", { class: `state ${it.state}` }, STATES[it.state])),
+    title(text, `Proposal ${it.num} `, stateMark(it.state)),
     facts(it, names),
-    it.state === "pending" ? decisions(it, names.get(it.path), isIdle, done) : null,
+    it.state === "pending" ? decisions(it, names.get(it.path), isIdle, done) : unsent(it),
     el("section", {}, el("h2", {}, "Comments"), remarks(it), commentForm(it, done)),
   ];
 }
@@ -53,10 +58,20 @@ function facts(it, names) {
       now === undefined ? null : [" ", el("code", {}, it.path)]),
     it.state === "pending" && was ? row("Now", el("del", {}, was)) : null,
     row(it.name === null ? "Removal" : "Name", el("ins", { class: "proposed" }, wish)),
-    row("By", it.author),
+    row("By", link(`/decided?author=${it.author}`, it.author)),
     row("Note", it.note === "" ? "–" : shown(it.note)),
     isDecided ? row(STATES[it.state], `by ${it.decider}`) : null,
     it.reason ? row("Reason", shown(it.reason)) : null);
+}
+
+// A reason that was begun when somebody else decided isn't lost.
+function unsent(it) {
+  const place = ["reason", `/proposals/${it.num}`];
+  dropSent(...place);
+  const draft = draftOf(...place);
+  const { reason } = draft.read() ?? {};
+  if (!reason || draft.key()) return null;
+  return el("p", { class: "aside" }, "The reason that you wrote wasn't sent: ", shown(reason));
 }
 
 // Anybody with an account may comment, as often as they like: the page bears any number.
@@ -119,10 +134,17 @@ function withdrawal(it, done) {
     const answer = await carryOut({
       route: "/withdraw", fields: { num: it.num }, about: `Withdraw ${it.num}`, button, place,
     });
-    if (answer?.value) done("Withdrawn.");
+    conclude(answer, "Withdrawn.", done);
   };
   const button = steadyButton({ onclick }, "Withdraw");
   return el("div", { class: "decide" }, el("p", { class: "buttons" }, button), place);
+}
+
+// Where the page isn't as things are by now it is made anew, and the words stay at its foot.
+function conclude(answer, words, done) {
+  const { refusal } = answer ?? {};
+  if (answer?.value) done(words);
+  else if (refusal && [DECIDED, CHANGED].includes(refusal.refused)) done(refusalWords(refusal), 0);
 }
 
 const deciding = new Set();
@@ -177,14 +199,12 @@ function decision(it, now, isIdle, done) {
   const place = el("div", { class: "said" });
   const onclick = async () => {
     const answer = await decide(it, { ...approvalOf(it, now, approve), place });
-    if (answer?.value) done(`${it.num} is approved.`);
-    // What is asked anew looks as before but for a name, so the words stay.
-    else if (answer?.refusal?.refused === CHANGED) done(refusalWords(answer.refusal), 0);
+    conclude(answer, `${it.num} is approved.`, done);
   };
   const approve = steadyButton({ class: "main", onclick }, "Approve");
   const no = rejection(it, place, async () => {
     const command = rejectionOf(it, no, place);
-    if (command && (await decide(it, command))?.value) done(`${it.num} is rejected.`);
+    if (command) conclude(await decide(it, command), `${it.num} is rejected.`, done);
   });
   return el("div", { class: "decide" },
     isIdle ? faultWords("Nothing would change: it is so already.") : null,

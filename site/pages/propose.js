@@ -2,7 +2,6 @@
 
 import { ask } from "../api.js";
 import { carryOut, faultWords } from "../carry.js";
-import { pendingAt } from "../detours.js";
 import { draftOf } from "../drafts.js";
 import { el, fill, link } from "../dom.js";
 import { tell } from "../notice.js";
@@ -12,13 +11,28 @@ import { KIND_WORDS, NUMBERS, parse, pathOf, rankFor, withParents } from "../pat
 import { dropSent, SentForm } from "../sent.js";
 import { shown } from "../shown.js";
 import { steadyButton } from "../steady.js";
+import { submissionsFor } from "../submissions.js";
 import { RANKS } from "../words.js";
 import many from "./many.js";
 import { MOST_NAME, nameFault, noteBox, noteFault } from "./proposing.js";
 
+const MOST_REJECTED = 3;
+
 // Paths in addresses that people write may be in capitals.
 const parsed = (text) => parse((text ?? "").replace(/^(P[CDS]\/)(.*)$/i, (_, kind, rest) => (
   kind.toUpperCase() + rest.toLowerCase())));
+
+// What was proposed for the same number: all that is pending, and what was rejected lately.
+function proposedBefore(all) {
+  const row = (it, words, more) => el("li", {}, words, link(`/proposals/${it.num}`, `#${it.num}`),
+    " ", wishOf(it.name), more);
+  const [pending, rejected] = ["pending", "rejected"].map((state) => (
+    all.filter((it) => it.state === state)));
+  return [
+    pending.map((it) => row(it, "Pending already: ", ` by ${it.author}`)),
+    rejected.slice(0, MOST_REJECTED).map((it) => row(it, "Rejected: ", [": ", shown(it.reason)])),
+  ];
+}
 
 /** The boxes of the numbers of a path. */
 class Numbers {
@@ -163,20 +177,21 @@ class Proposal {
     this.now = null;
     if (!path) { fill(this.about); return; }
     const chain = withParents(path);
-    const [pending, ...answers] = await Promise.all([
-      pendingAt(path), ...chain.map((it) => ask(`/read/${it}`, { quiet: true })),
+    const [proposed, ...answers] = await Promise.all([
+      submissionsFor(path), ...chain.map((it) => ask(`/read/${it}`, { quiet: true })),
     ]);
     if (mine !== this.turn) return;
     const now = answers.at(-1).value?.name;
     this.now = now ?? null;
-    fill(this.about, this.aboutWords(path, chain, answers, pending));
+    const before = proposed.value?.submissions ?? [];
+    fill(this.about, this.aboutWords(path, chain, answers, before));
     // The present name is where a better one begins.
     const isFresh = !this.isFilled && this.name.value === ""
       && document.activeElement !== this.name && !this.remove.checked;
     if (now !== undefined && isFresh) this.name.value = now;
   }
 
-  aboutWords(path, chain, answers, pending) {
+  aboutWords(path, chain, answers, before) {
     const isRemoval = this.remove.checked;
     const own = answers.at(-1);
     const above = chain.slice(0, -1);
@@ -192,8 +207,7 @@ class Proposal {
         " isn't in the registry, and has to be approved before this one: ",
         link(`/propose?path=${missing}`, "propose it")) : null,
       isRemoval && own.refusal ? el("li", { class: "fault" }, "There is nothing to remove.") : null,
-      pending.map((it) => el("li", {}, "Pending already: ", link(`/proposals/${it.num}`,
-        `#${it.num}`), " ", wishOf(it.name), ` by ${it.author}`)),
+      proposedBefore(before),
       el("li", {}, `A ${RANKS[rankFor(path, isRemoval)]} or above decides.`));
   }
 

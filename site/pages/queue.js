@@ -2,20 +2,15 @@
 
 import { account, learnRank, maySuffice } from "../account.js";
 import { ask } from "../api.js";
-import { forgetPending, pendingPage } from "../detours.js";
 import { el, fill, link, several } from "../dom.js";
+import { areAtHand, namesAt } from "../names.js";
 import { failed, title } from "../parts.js";
-import { appear, isTooSoon } from "../steady.js";
-import { troubleWords } from "../words.js";
+import { withParents } from "../paths.js";
+import { isTooSoon } from "../steady.js";
 import { Card } from "./card.js";
 
 const PAGE = 100;
-// How far below the window rows are made, and how many are asked for at once.
-const AHEAD = 600;
-const AT_ONCE = 4;
-const FIRST_WAIT = 150;
 const TRIES_EVERY = 3_000;
-const SHOWN_WITHIN = 5_000;
 
 /** The keys of the list: what each does with the list and the row that has the focus. */
 const KEYS = {
@@ -30,104 +25,54 @@ const KEYS = {
 };
 const MAY_REPEAT = ["j", "k", "ArrowDown", "ArrowUp"];
 
+const pause = (milliseconds) => new Promise((go) => { setTimeout(go, milliseconds); });
+
+// What the items are below that proposals are for: names by paths, null where there is none. Those
+// of the published file do where they are at hand; of the others the registry is asked.
+async function namesAbove(rows) {
+  const paths = [...new Set(rows.flatMap((it) => withParents(it.path).slice(0, -1)))];
+  const known = areAtHand() ? await namesAt(paths) : new Map();
+  const unknown = paths.filter((it) => !known.has(it));
+  const answers = await Promise.all(unknown.map((it) => ask(`/read/${it}`, { quiet: true })));
+  unknown.forEach((it, at) => {
+    const { value, refusal } = answers[at];
+    if (value || refusal) known.set(it, value?.name ?? null);
+  });
+  return known;
+}
+
 /** The list and which of its rows has the focus. */
 class List {
-  constructor(all, go) {
+  /**
+   * @param {Object[]} all as /queue has them
+   * @param {Map} names of what they are below
+   * @param {function(string)} go
+   */
+  constructor(all, names, go) {
     this.go = go;
+    this.names = names;
     this.at = 0;
     this.since = 0;
-    this.made = performance.now();
-    this.reads = new Map();
     this.left = el("p", { class: "count", role: "status" });
     this.cards = all.map((it) => new Card(it, {
       rivals: all.filter(({ num, path }) => path === it.path && num !== it.num),
-      read: (path) => this.read(path),
+      nameOf: (path) => this.names.get(path),
       decided: (card) => this.decided(card),
-      changed: (path) => this.changed(path),
+      renamed: (path, name) => this.renamed(path, name),
+      look: (path) => this.look(path),
     }));
-    this.element = el("ol", { class: "queue", "aria-label": "Pending proposals" });
+    this.element = el("ol", { class: "queue", "aria-label": "Pending proposals" },
+      this.cards.map((it) => it.row));
     this.element.addEventListener("keydown", (event) => this.press(event));
     this.element.addEventListener("focusin", (event) => this.follow(event));
-    this.rest = el("p");
-    this.whole = el("div", {}, this.element, this.rest);
     this.cards[0]?.setCurrent(true);
     this.count();
-  }
-
-  /** What a path is called, asked for once. */
-  read(path) {
-    if (!this.reads.has(path)) this.reads.set(path, ask(`/read/${path}`, { quiet: true }));
-    return this.reads.get(path);
   }
 
   count() {
     const open = this.cards.filter((it) => !it.isDecided).length;
     const here = this.cards.length === PAGE ? " on this page" : "";
     fill(this.left, `${several(open, "proposal")}${here} pending.`);
-  }
-
-  /**
-   * Shows the rows in their order, each once its note and its present name are known: nothing is
-   * ever put in above one that is shown. Rows far below the window wait until they come near.
-   */
-  async showRows() {
-    const looks = [];
-    for (let at = 0; at < this.cards.length; at += 1) {
-      // What was asked for before somebody rested may be old.
-      if (await this.hasWaited()) {
-        looks.length = 0;
-        this.reads.clear();
-      }
-      if (this.isLeft()) return;
-      for (let next = at; next < Math.min(at + AT_ONCE, this.cards.length); next += 1) {
-        looks[next] ??= this.cards[next].look();
-      }
-      for (let missing; (missing = await looks[at]);) {
-        this.sayRest(`${troubleWords(missing.trouble)} The other rows are asked for again.`);
-        await new Promise((go) => { setTimeout(go, TRIES_EVERY); });
-        if (this.isLeft()) return;
-        this.reads.clear();
-        looks[at] = this.cards[at].look();
-      }
-      this.element.append(this.cards[at].row);
-      appear(this.cards[at].row);
-      this.sayRest(at + 1 < this.cards.length ? "More rows …" : this.nextPage());
-    }
-  }
-
-  nextPage() {
-    if (this.cards.length < PAGE) return null;
-    return el("a", { class: "button", href: `/queue?after=${this.cards.at(-1).it.num}` },
-      "Next page");
-  }
-
-  // What is said below the rows is made anew each time, and so never moves.
-  sayRest(words) {
-    const made = el("p", { class: "count" }, words);
-    this.rest.replaceWith(made);
-    this.rest = made;
-  }
-
-  // Also where another page came in its place before it was shown.
-  isLeft() {
-    this.wasShown ||= this.rest.isConnected;
-    const isLate = performance.now() - this.made > SHOWN_WITHIN;
-    return (this.wasShown || isLate) && !this.rest.isConnected;
-  }
-
-  // Resolves once the place of the next row is in the window or near, to whether that took a while.
-  hasWaited() {
-    if (!this.rest.isConnected || this.rest.getBoundingClientRect().top < innerHeight + AHEAD) {
-      return Promise.resolve(false);
-    }
-    return new Promise((go) => {
-      const observer = new IntersectionObserver((seen) => {
-        if (!seen.some((it) => it.isIntersecting) && this.rest.isConnected) return;
-        observer.disconnect();
-        go(true);
-      }, { rootMargin: `${AHEAD}px` });
-      observer.observe(this.rest);
-    });
   }
 
   setAt(at) {
@@ -140,11 +85,6 @@ class List {
 
   focus(at) {
     if (at < 0 || at >= this.cards.length) return;
-    // A row that isn't shown yet is brought near.
-    if (!this.cards[at].row.isConnected) {
-      this.rest.scrollIntoView({ block: "nearest" });
-      return;
-    }
     this.setAt(at);
     this.cards[at].row.focus();
     this.cards[at].row.scrollIntoView({ block: "nearest" });
@@ -175,20 +115,30 @@ class List {
 
   /** A row was decided: it stays where it is, and the focus goes on if it was there. */
   decided(card) {
-    forgetPending();
     this.count();
     const at = this.cards.indexOf(card);
     const isThere = card.row.contains(document.activeElement);
-    const next = this.cards.findIndex((it, place) => (
-      place > at && !it.isDecided && it.row.isConnected));
+    const next = this.cards.findIndex((it, place) => place > at && !it.isDecided);
     if (isThere && at === this.at) this.focus(next >= 0 ? next : at);
   }
 
-  changed(path) {
-    const isNear = (it) => it === path || it.startsWith(`${path}/`);
-    this.reads.delete(path);
-    const near = this.cards.filter((it) => isNear(it.it.path) && !it.isDecided);
-    return Promise.all(near.map((it) => it.look()));
+  /** Has the rows for a path and below it show what it is called by now; null is no name. */
+  renamed(path, name) {
+    this.names.set(path, name);
+    for (const it of this.cards) {
+      if (it.it.path === path) it.show(name);
+      else if (withParents(it.it.path).includes(path)) it.show(it.now);
+    }
+  }
+
+  /** Asks what a path is called by now, until that is known or the page was left, and shows it. */
+  async look(path) {
+    for (;;) {
+      const { value, refusal } = await ask(`/read/${path}`, { quiet: true });
+      if (value || refusal) { this.renamed(path, value?.name ?? null); return; }
+      await pause(TRIES_EVERY);
+      if (!this.element.isConnected) return;
+    }
   }
 }
 
@@ -201,22 +151,26 @@ function keyWords() {
     el("span", {}, keys.split(" ").map((it) => [el("kbd", {}, it), " "]), word)]), ".");
 }
 
+function nextPage(all) {
+  if (all.length < PAGE) return null;
+  return el("p", {}, el("a", { class: "button", href: `/queue?after=${all.at(-1).num}` },
+    "Next page"));
+}
+
 /** The queue. */
 export default async function queue({ query, again, go }) {
   const after = Math.max(0, Number.parseInt(query.get("after") ?? "0", 10)) || 0;
-  const [answer] = await Promise.all([pendingPage(after), learnRank()]);
+  const [answer] = await Promise.all([ask(`/queue?after=${after}`), learnRank()]);
   if (!answer.value) return failed(answer, again);
   const all = answer.value;
-  const list = new List(all, go);
-  // The first rows come with the page, where they come at once.
-  const wait = new Promise((resolve) => { setTimeout(resolve, FIRST_WAIT); });
-  await Promise.race([list.showRows(), wait]);
+  const list = new List(all, await namesAbove(all), go);
   return [
     title("Queue"),
     list.left,
     account() ? null : el("p", { class: "aside" }, "Everybody may read this. Log in to decide."),
     all.length && account() && maySuffice(1) ? keyWords() : null,
     el("p", {}, link("/decided", "The latest proposals, decided ones too")),
-    list.whole,
+    list.element,
+    nextPage(all),
   ];
 }

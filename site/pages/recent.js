@@ -1,4 +1,4 @@
-import { latestChanges } from "../detours.js";
+import { latestChanges } from "../changes.js";
 import { counted, el, link } from "../dom.js";
 import { failed, title } from "../parts.js";
 import { hrefOf } from "../paths.js";

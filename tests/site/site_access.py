@@ -338,20 +338,33 @@ def painted(browser):
                       "})")
 
 
+# When the largest text of the page was painted, as far as that is known after a while.
+LARGEST = """
+const [done] = arguments;
+let last = 0;
+new PerformanceObserver((all) => all.getEntries().forEach((it) => { last = it.startTime; }))
+  .observe({ type: "largest-contentful-paint", buffered: true });
+setTimeout(() => done(last), 300);
+"""
+
+
 def first_view(cases, browser):
     """Loads the start page and a bare one in turn, until the fastest quarter is below the limit, at
-    most 24 times."""
-    first, bare = [], []
+    most 24 times. What is painted first is the whole page."""
+    first, bare, largest = [], [], []
     while len(first) < 24 and (len(first) < 8 or quick(first) >= FIRST_VIEW):
         browser.driver.get(BARE)
         bare.append(painted(browser))
         browser.go("/")
         first.append(painted(browser))
+        largest.append(browser.driver.execute_async_script(LARGEST))
     told = f"{quick(first):.0f} ms beside {quick(bare):.0f} ms of a bare page"
     print(f"site_access: first view {told} (fastest quarter of {len(first)}; medians"
           f" {statistics.median(first):.0f} and {statistics.median(bare):.0f})")
     is_soon = quick(first) < max(FIRST_VIEW, TIMES * quick(bare))
     cases.equal(f"access: the first view, {told}", is_soon, True)
+    late = statistics.median(largest) - statistics.median(first)
+    cases.equal("access: the first view is the whole page", late < 1, True)
 
 
 def key_press(cases, browser):

@@ -190,9 +190,10 @@ def rejected(cases, world, browser, number):
     browser.has("It isn't known yet", "#owed")
     world.spoiler.set("pass")
     world.ask("/withdraw", {"num": number}, "dora")
-    browser.has("isn't pending any more", ".decide")
-    cases.equal("kept: a refused reason is a draft again", value(browser, row),
-                ["half a reason", False])
+    browser.has("isn't pending any more", "#notice")
+    told = browser.has("The reason that you wrote wasn't sent: half a reason")
+    cases.equal("kept: a refused reason isn't lost", (told, browser.heading("Withdrawn")),
+                (True, True))
 
 
 def beside_decision(cases, world, browser):
@@ -254,7 +255,7 @@ def shifts(cases, world, browser):
 
 
 def late_rows(cases, world, browser):
-    """Approve stays where it was first seen: while notes come late, after decisions that change
+    """Approve stays where it was first seen: while answers come late, after decisions that change
     other rows, while a command waits, and after a refusal."""
     parent = world.submit("alice", "PC/fff2", "Vendor of a row")
     for at in range(3):
@@ -351,6 +352,39 @@ def changed_meanwhile(cases, world, browser):
                 "By alice")
 
 
+def looked_again(cases, world, browser):
+    """While it can't be learned what a row is called by now, nobody can approve it."""
+    number = world.submit("alice", "PC/8086/1237", "By alice again")
+    row = "document.querySelector(`.queue .top a[href='/proposals/${arguments[0]}']`).closest('li')"
+    press = f"{row}.querySelector('button.main').click()"
+    dead = f"return {row}.querySelector('button.main').ariaDisabled"
+    browser.go("/queue")
+    browser.all_rows(".queue > li", len(world.pending()))
+    other = world.submit("dora", "PC/8086/1237", "Not seen yet")
+    world.ask("/approve", {"num": other}, "root")
+    time.sleep(0.6)
+    world.spoiler.set("blind")
+    browser.js(press, number)
+    text = f"return {row}.innerText"
+    browser.wait(lambda: "was renamed" in browser.js(text, number), "a refusal")
+    browser.wait(lambda: browser.js(dead, number) == "true", "no Approve")
+    world.spoiler.seen.clear()
+    time.sleep(0.6)
+    browser.js(press, number)
+    time.sleep(0.6)
+    sent = [it for it in world.spoiler.seen if it.startswith(b"POST")]
+    cases.equal("kept: nothing is approved that wasn't seen", (sent, world.state(number)),
+                ([], "pending"))
+    world.spoiler.set("pass")
+    browser.wait(lambda: "Not seen yet" in browser.js(text, number), "its name")
+    browser.wait(lambda: browser.js(dead, number) is None, "Approve")
+    time.sleep(0.6)
+    browser.js(press, number)
+    browser.wait(lambda: world.state(number) == "approved", "approved")
+    cases.equal("kept: approved once it was looked at again",
+                world.ask("/read/PC/8086/1237")["name"], "By alice again")
+
+
 def long_file(cases, world, browser):
     """A published file of over 4 MiB: its names are found."""
     path = os.path.join(world.folder, "public", "pci.ids")
@@ -382,6 +416,7 @@ def run(cases):
             late_rows(cases, world, browser)
             called_today(cases, world, browser)
             changed_meanwhile(cases, world, browser)
+            looked_again(cases, world, browser)
             unfetched(cases, world, browser)
             browser.faults()
             browser.said = []

@@ -170,10 +170,11 @@ def elsewhere_decided(cases, world, browser):
     time.sleep(SETTLE)
     browser.js("const it = document.querySelector('.queue button.main'); it.click(); it.click()")
     browser.has("isn't pending any more", ".queue")
+    told = browser.has("Rejected", ".queue .settled")
     time.sleep(2)
     left = f"{rows - 1} proposal"
-    cases.equal("once: decided by somebody else", (left in browser.text(".count"),
-                len(browser.all(".queue > li"))), (True, rows))
+    cases.equal("once: decided by somebody else", (told, left in browser.text(".count"),
+                len(browser.all(".queue > li"))), (True, True, rows))
 
 
 def killed(cases, world, browser):
@@ -235,26 +236,16 @@ def forgotten(cases, world, browser):
     time.sleep(2)
     left = count(world, "a040"), browser.owed()
     cases.equal("once: what was forgotten isn't sent", left, (0, []))
-    # Each tab makes sixty entries and remembers sixty proposals, both at once.
-    make = ("const [done, own] = arguments, all = [];"
-            "Promise.all([import('/site/outbox.js'), import('/site/detours.js')])"
-            ".then(async ([{ begin, forget }, { rememberOwn }]) => {"
-            "for (let n = 0; n < 60; n += 1) {"
-            "  all.push((await begin('/x', 'a=b', 'x')).key);"
-            "  rememberOwn({ account: 'nobody', body: 'path=x&name=y' }, { num: own + n });"
-            "}"
+    # Each tab makes sixty entries, both at once.
+    make = ("const [done] = arguments, all = [];"
+            "import('/site/outbox.js').then(async ({ begin, forget }) => {"
+            "for (let n = 0; n < 60; n += 1) all.push((await begin('/x', 'a=b', 'x')).key);"
             "window.forgetAll = () => all.forEach(forget); done(all.length); })")
-    driver.execute_script(f"(function () {{ {make} }})(() => {{ window.made = true; }}, 100)")
+    driver.execute_script(f"(function () {{ {make} }})(() => {{ window.made = true; }})")
     driver.switch_to.window(second)
-    driver.execute_async_script("const [done] = arguments;"
-                                f"(function () {{ {make} }})(done, 200)")
+    driver.execute_async_script(make)
     browser.wait(lambda: len(browser.owed()) == 120, "entries of both tabs")
     cases.equal("once: two tabs keep all their entries", len(browser.owed()), 120)
-    own = driver.execute_async_script(
-        "const [done] = arguments; import('/site/detours.js').then(({ ownProposals }) =>"
-        "  done(ownProposals('nobody').map((it) => it.num)))")
-    want = [*range(259, 199, -1), *range(159, 99, -1)]
-    cases.equal("once: and all their own proposals", own, want)
     browser.js("window.forgetAll()")
     driver.close()
     driver.switch_to.window(first)

@@ -3,6 +3,7 @@ the headers holds and reports nothing; without scripts the page leads to the tex
 import json
 import os
 import re
+import subprocess
 
 import program
 from http_server import ask_curl
@@ -141,22 +142,68 @@ def without_scripts(cases, world):
     cases.equal("safety: nothing inline", inline, [])
 
 
+def statuses(cases, world):
+    """What is not there has status 404 and a page; whatever is or may be there has 200."""
+    def got(*words):
+        status, _, page = ask_curl("-k", "-H", "Accept: text/html", *words)
+        return status, b"/site/main.js" in page
+
+    for path, want in (("PC/8086/1237", 200), ("PC/8086/1237/1af41100", 200), ("PC/8086", 200),
+                       ("PC/8086/fffe", 404), ("PC/8086/1237/00000000", 404), ("PS/8086/fffe", 404),
+                       ("PD/01/fe", 404), ("PC/8086/12", 200), ("pc/10DE/FFFE", 200)):
+        page = f"{world.base}/item/{path}"
+        cases.equal(f"safety: the status of {path}", got(page), (want, True))
+    # A body is no part of the question: the server would wait for it, and others for the server.
+    page = f"{world.base}/item/PC/8086/fffe"
+    for it in (("-d", "a=b"), ("-H", "Transfer-Encoding: chunked", "-d", "a=b")):
+        told = got("--http1.1", "-X", "GET", *it, "-H", "X-Account: root", page)
+        cases.equal(f"safety: a body, {it[1]}", told, (404, True))
+    cases.equal("safety: the head alone", got("-I", page)[0], 404)
+    world.spoiler.set("gone")
+    cases.equal("safety: without an answer", got(page), (200, True))
+    world.spoiler.set("pass")
+
+
 def modules(cases):
-    """The first script names all modules that it needs, so that they are fetched at once."""
+    """The script of the site names all modules that it needs, so that they are fetched at once; but
+    for the first script, which is there by then."""
     imports = re.compile(r'^(?:import |} from )(?:.* from )?"./([a-z.]+)";$', re.M)
 
     def named_in(name):
         with open(os.path.join(SITE, name), encoding="utf-8") as file:
             return imports.findall(file.read())
 
-    named, needed = named_in("main.js"), set()
-    left = ["main.js"]
+    named, needed = named_in("site.js"), {"main.js"}
+    left = ["site.js"]
     while left:
         found = {*named_in(left.pop())} - needed
         left += found
         needed |= found
-    got = sorted(named), len(named) > 15
-    cases.equal("safety: what the first script names", got, (sorted(needed), True))
+    got = sorted(named), len(named) > 10, named_in("main.js")
+    want = sorted(needed - {"main.js"}), True, []
+    cases.equal("safety: what the scripts name", got, want)
+
+
+def first_page(cases, browser):
+    """The first page has at once what its script makes of it, in the frame of all pages."""
+    def parts(name):
+        with open(os.path.join(SITE, name), encoding="utf-8") as file:
+            text = re.sub(r"\s+", " ", file.read()).replace("> <", "><").replace("&nbsp;", "\xa0")
+        head, _, rest = text.partition('<main id="main" tabindex="-1">')
+        inside, _, foot = rest.partition("</main>")
+        return head, *inside.split("<noscript>"), foot
+
+    head, static, without, foot = parts("start.html")
+    frame = parts("index.html")
+    heading = "<h1>PCI ID registry</h1>"
+    cases.equal("safety: the frame of the first page", (head, heading + without, foot),
+                (frame[0], frame[2], frame[3]))
+    made = browser.driver.execute_async_script(
+        "const [done] = arguments; import('/site/pages/home.js').then(async (it) => done("
+        "(await it.default()).map((node) => node.outerHTML).join('')))")
+    cases.equal("safety: what the first page has at once", static.replace("\xa0", "&nbsp;"), made)
+    got = ask_curl("-k", "-H", "Accept: text/html", browser.base + "/")[2]
+    cases.equal("safety: it is what is served", b'<p class="lead">' in got, True)
 
 
 def refusals(cases, browser):
@@ -195,6 +242,29 @@ def secrets(cases, browser):
     cases.equal("safety: a wrong password", browser.has("weren't accepted", "#dialog"), True)
 
 
+def renewed(cases, world, browser):
+    """Whose password is another one by now is logged out by a command, which isn't lost."""
+    def password(text):
+        words = ["htpasswd", "-bB", "-C", "4", f"{world.folder}/passwords", "alice", text]
+        subprocess.run(words, stderr=subprocess.DEVNULL, timeout=50, check=True)
+
+    browser.go("/help").log_in("alice")
+    browser.go("/propose?path=PC/8086/be10")
+    browser.type("#name", "Under a new password")
+    password("another")
+    browser.click("form.propose button.main")
+    told = browser.has("weren't accepted. Nothing was done.", "form.propose")
+    kept = browser.js("return document.getElementById('name').value")
+    got = told, browser.text("#log"), kept, browser.owed()
+    cases.equal("safety: a password that was changed", got,
+                (True, "Log in", "Under a new password", []))
+    password("pw-alice")
+    browser.click("form.propose button.main")
+    browser.enter("alice")
+    browser.heading("Proposal ")
+    cases.equal("safety: sent once it is known", len(world.pending("PC/8086/be10")), 1)
+
+
 def run(cases):
     with World() as world, Browser(world.base) as browser:
         hostile(cases, world, browser)
@@ -202,6 +272,10 @@ def run(cases):
         deceiving(cases, world, browser)
         policy(cases, world, browser)
         without_scripts(cases, world)
+        statuses(cases, world)
         secrets(cases, browser)
+        browser.go("/")
+        renewed(cases, world, browser)
         refusals(cases, browser)
         modules(cases)
+        first_page(cases, browser)

@@ -193,8 +193,8 @@ def refusals(cases, world, browser):
     browser.wait(lambda: browser.all(".decide button.main"), "Approve")
     world.ask("/withdraw", {"num": taken}, "alice")
     browser.click(".decide button.main")
-    told = browser.has("isn't pending any more", ".decide")
-    cases.equal("story: withdrawn meanwhile", told, True)
+    told = browser.has("isn't pending any more", "#notice"), browser.heading("Withdrawn")
+    cases.equal("story: withdrawn meanwhile", (told, browser.all(".decide")), ((True, True), []))
     orphan = world.submit("alice", "PC/fff1/0001", "NoVendor")
     browser.go(f"/proposals/{orphan}")
     browser.click(".decide button.main")
@@ -272,6 +272,82 @@ def administrator(cases, world, browser):
                 world.ask("/account", {"who": "root", "rank": "3"}, "root")["word"], "OwnDecision")
 
 
+def listed(cases, world, browser):
+    """The lists of proposals, page by page: of all, of an account, for an item."""
+    told = {it: world.submit("dora", f"PC/8086/7e{it:02x}", f"Listed {it}") for it in range(230)}
+    number = world.submit("dora", "PC/8086/7e00", "Listed again")
+    world.ask("/comment", {"num": number, "text": "Twice"}, "mona")
+    world.ask("/reject", {"num": told[0], "reason": "too short"}, "root")
+
+    def numbers(address):
+        found = []
+        browser.go(address)
+        while True:
+            rows = browser.js("return [...document.querySelectorAll('.items > li a > code')]"
+                              ".map((it) => Number(it.textContent.slice(1)))")
+            found += rows
+            if not browser.all("main p .button"):
+                return found
+            last = f"return document.querySelector('.items code').textContent !== '#{rows[0]}'"
+            browser.click("main p .button")
+            browser.wait(lambda last=last: browser.js(last), "older ones")
+
+    cases.equal("story: all proposals", numbers("/decided"), [*range(number, 0, -1)])
+    cases.equal("story: those of an account", numbers("/decided?author=dora")[:231],
+                [number, *reversed(told.values())])
+    cases.equal("story: those for an item", numbers("/decided?path=PC/8086/7e00"),
+                [number, told[0]])
+    got = browser.text(".items")
+    cases.equal("story: and what came of them", [it in got for it in (
+        "Rejected by root", "too short", "Pending", "1 comment", "PC/8086/7e00")],
+        [True, True, True, True, False])
+    browser.go("/item/PC/8086/7e00")
+    cases.equal("story: on the item's page", browser.has("Rejected by root", ".history"), True)
+    browser.go("/propose?path=PC/8086/7e00")
+    got = [browser.has(it, ".about") for it in (f"Pending already: #{number}", "too short")]
+    cases.equal("story: what was proposed before", got, [True, True])
+
+
+# What the page asks for, and finds, where each question has so many rows and leads to the next.
+SPARSE = """
+const [rows, name, which, done] = arguments, asked = [], fetched = globalThis.fetch;
+globalThis.fetch = async (path) => {
+  const at = asked.push(new URLSearchParams(path.split("?")[1]).get("before")) - 1;
+  const before = at + 1 < rows.length ? 900 - at : 0;
+  return Response.json({ before, submissions: Array.from({ length: rows[at] }, () => ({})) });
+};
+import("/site/submissions.js").then((it) => it[name](which)).then(({ value }) => {
+  globalThis.fetch = fetched;
+  done([asked, value.submissions.length, value.before]);
+});
+"""
+
+
+def sparse(cases, browser):
+    """A page of few rows is filled from the next ones, by five questions at most."""
+    ask = browser.driver.execute_async_script
+    cases.equal("story: few rows", ask(SPARSE, [0, 3, 20, 20], "submissions", {"author": "a"}),
+                [[None, "900", "899"], 23, 898])
+    cases.equal("story: few rows at the end", ask(SPARSE, [0, 3], "submissions", {"before": "950"}),
+                [["950", "900"], 3, 0])
+    cases.equal("story: no rows", ask(SPARSE, [0] * 9, "submissions", {"author": "a"}),
+                [[None, "900", "899", "898", "897"], 0, 896])
+    cases.equal("story: one question for an item", ask(SPARSE, [0, 3], "submissionsFor", "PC/8086"),
+                [[None], 0, 900])
+
+
+def counts(cases, world, browser):
+    """The start page has the numbers of the registry."""
+    told = world.ask("/status")
+    if "items" not in told:
+        cases.skipped("story: the counts", "this program has no /status")
+        return
+    browser.go("/")
+    words = f"The registry has {told['items']} names. Of {told['submissions']} proposals" \
+            f" {told['pending']} are pending."
+    cases.equal("story: the counts", browser.has(words, ".status"), True)
+
+
 def run(cases):
     with World() as world:
         with Browser(world.base) as one, Browser(world.base) as two, Browser(world.base) as three:
@@ -280,7 +356,15 @@ def run(cases):
             ranks(cases, world, two)
             moderator(cases, world, three, number)
             two.go("/mine")
-            cases.equal("story: alice sees what came of it", two.has("Approved"), True)
+            told = two.has("Approved by mona (new)")
+            cases.equal("story: alice sees what came of it", told, True)
+            one.go("/").log_in("alice")
+            one.go("/mine")
+            told = one.has("Approved by mona"), "(new)" in one.text()
+            cases.equal("story: and from another computer", told, (True, False))
+            listed(cases, world, one)
+            sparse(cases, one)
+            counts(cases, world, one)
             refusals(cases, world, three)
             many(cases, world, two)
             maintainer(cases, world, two)

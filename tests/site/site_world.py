@@ -82,7 +82,7 @@ def fill(database, items):
 class Spoiler:
     """Stands between nginx and the server. `mode` is `pass`, `lose` (the responses to the next
     `left` commands are thrown away), `hold` (each response comes `seconds` late), `keep` (responses
-    to commands wait for another mode) or `gone`."""
+    to commands wait for another mode), `blind` (questions get none) or `gone`."""
 
     def __init__(self, behind):
         self.behind, self.port = behind, free_port()
@@ -123,6 +123,8 @@ class Spoiler:
             return
         self.seen.append(request.partition(b"\r\n")[0])
         is_command = request.startswith(b"POST") and b"\nx-key:" in request.lower()
+        if self.mode == "blind" and not is_command:
+            return
         is_lost = is_command and self.is_lost()
         place = ("127.0.0.1", self.behind)
         with socket.create_connection(place, timeout=PATIENCE) as server:

@@ -1,6 +1,7 @@
 """A registry's file, made by the program, as the real sqlite3 sees it."""
 import os
 import re
+import shutil
 import subprocess
 import tempfile
 
@@ -44,6 +45,18 @@ def asked(path, sql):
     return subprocess.run(
         ["sqlite3", path, sql], stdout=subprocess.PIPE, stderr=subprocess.STDOUT, timeout=120
     ).stdout.decode()
+
+
+def copied(path, copy):
+    """Copies a registry's file with its log: sqlite3 writes to a file that it recovers. Takes away
+    what an earlier copy has left; returns whether there is a file."""
+    for end in ("", "-wal", "-shm"):
+        if os.path.exists(copy + end):
+            os.remove(copy + end)
+    for end in ("", "-wal"):
+        if os.path.exists(path + end):
+            shutil.copy(path + end, copy + end)
+    return os.path.exists(copy)
 
 
 def texts_of_schema():

@@ -53,8 +53,8 @@ pub fn run_words<S: Start, I: Read + Drop, O: Write + Drop, F: Write + Drop>(
         Err(fault) => return tell_no_job(&fault, words, output, faults),
     };
     match job {
-        Job::Tidy => run_tidy(rt.alloc(), input, output, faults),
-        Job::Check => run_check(rt.alloc(), input, output, faults),
+        Job::Tidy => run_tidy(rt.alloc(), input, output, faults).0,
+        Job::Check => run_check(rt.alloc(), input, output, faults).0,
         Job::Export { db } => run_export(rt, start, db, output, faults),
         Job::Lookup(words) => run_plain(rt, start, PlainJob::Lookup(words), input, output, faults),
         Job::Script { db } => run_plain(rt, start, PlainJob::Script(db), input, output, faults),

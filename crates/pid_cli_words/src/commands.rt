@@ -104,6 +104,7 @@ start with '#' get none. WHO is the account that sends the command:
   comment WHO num=N&text=TEXT
   withdraw WHO num=N
   approve WHO num=N
+  confirm WHO num=N&was=NAME
   reject WHO num=N&reason=TEXT
   import WHO file=TEXT
   read path=PATH

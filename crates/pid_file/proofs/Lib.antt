@@ -15,3 +15,4 @@ pub mod FrontEnds
 pub mod InputTexts
 mod Rising
 pub mod Telling
+pub mod Flushed

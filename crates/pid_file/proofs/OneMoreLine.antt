@@ -4,14 +4,16 @@ use mathlib.Core.Bool.{false≢true, true≢false}
 use Rattle.std.specs.Prelude.{is_some, codes}
 use Rattle.std.proofs.lemmas.Bool.Decides.{nat_tests}
 use Rattle.std.proofs.lemmas.Cmp.{nat_list_cmp_total}
-use Rattle.std.specs.Ordering.{is_eq}
+use Rattle.std.specs.Ordering.{is_eq, nat_cmp}
 use Rattle.std.specs.Cmp.{on_total, eq_by_cmp_equiv}
 use Rattle.std.specs.FinMap.Entries.{find as value_at}
 use Rattle.pid_file.specs.declared.fault_kind.LineKind.{LineKind}
 use Rattle.pid_file.specs.declared.fault_kind.LineKind.TheVariants.{NotUtf8, TooDeep, NoParent, BadId, NoName, BadName, Duplicate, VendorMissing}
 use Rattle.pid_file.specs.declared.path.Path.{Path}
 use Rattle.pid_file.specs.declared.path.Path.TheVariants.{Vendor}
-use Rattle.pid_file.specs.PathTexts.{path_text, path_cmp}
+use Rattle.pid_file.specs.PathTexts.{IsPath, path_text, path_cmp}
+use Rattle.pid_file.specs.Steps.PathPlaces.{path_key}
+use Rattle.pid_file.proofs.PathOrder.{key_order}
 use Rattle.pid_file.specs.Trees.{text_cmp}
 use Rattle.pid_file.specs.Identifiers.{hex4}
 use Rattle.pid_file.specs.declared.refusal.ReadRefusal.TheVariants.{Line, TooManyEntries}
@@ -86,11 +88,11 @@ an_entry earlier line path name h =
     ] refl h
 
 -- a line that is no entry, and has no fault
-pub quiet_taken : (now next : OpenLevels) (seen : List Path) (lines number : ℕ) (earlier : List (List ℕ)) (line : List ℕ) → IsShown now seen lines earlier → number ≡ lines + 1 → [] ≡ entry_of earlier line → fault_of earlier line ≡ None → IsOpenAt next (line ∷ earlier) → IsShown next seen number (line ∷ earlier) × (refusal_at earlier line ≡ None) × ([] ≡ numbered_at earlier line)
+pub quiet_taken : (now next : OpenLevels) (seen : List ℕ) (lines number : ℕ) (earlier : List (List ℕ)) (line : List ℕ) → IsShown now seen lines earlier → number ≡ lines + 1 → [] ≡ entry_of earlier line → fault_of earlier line ≡ None → IsOpenAt next (line ∷ earlier) → IsShown next seen number (line ∷ earlier) × (refusal_at earlier line ≡ None) × ([] ≡ numbered_at earlier line)
 quiet_taken now next seen lines number earlier line shown at none good behind =
     let same : entries_back (line ∷ earlier) ≡ entries_back earlier = ap (λ (es : List Item). es ++ entries_back earlier) (sym none) in (
       record {
-        paths = λ q. shown.paths q ∙ ap (λ es. is_some (value_at text_cmp (path_text q) es)) (sym same);
+        paths = λ q r. shown.paths q r ∙ ap (λ es. is_some (value_at text_cmp (path_text q) es)) (sym same);
         count = shown.count ∙ ap length (sym same);
         levels = behind;
         number = omega (arith, shown.number, at);
@@ -139,29 +141,29 @@ block_late earlier line v own none block digits =
     late earlier line own ∙ ap (λ b. cond (b && is_told earlier (path_at earlier line)) (Some Duplicate) (cond (has VendorMissing earlier line) (Some VendorMissing) None)) e
     ∙ ap (λ b. cond b (Some VendorMissing) None) (vendor_of earlier line v block (block_digits earlier line v block digits))
 
-pub block_good : (now : OpenLevels) (seen : List Path) (lines : ℕ) (earlier : List (List ℕ)) (line : List ℕ) (v : ℕ) → IsShown now seen lines earlier → line_fault_of earlier line ≡ None → [] ≡ entry_of earlier line → is_block line ≡ true → digits_in (4 ∷ []) (inside line) ≡ hex4 v → has_path seen (Vendor v) ≡ true → fault_of earlier line ≡ None
-block_good now seen lines earlier line v shown own none block digits there =
-    block_late earlier line v own none block digits ∙ ap (λ b. cond (not b) (Some VendorMissing) None) (sym (shown.paths (Vendor v)) ∙ there)
+pub block_good : (now : OpenLevels) (seen : List ℕ) (lines : ℕ) (earlier : List (List ℕ)) (line : List ℕ) (v : ℕ) → IsPath (Vendor v) → IsShown now seen lines earlier → line_fault_of earlier line ≡ None → [] ≡ entry_of earlier line → is_block line ≡ true → digits_in (4 ∷ []) (inside line) ≡ hex4 v → has_path seen (Vendor v) ≡ true → fault_of earlier line ≡ None
+block_good now seen lines earlier line v range shown own none block digits there =
+    block_late earlier line v own none block digits ∙ ap (λ b. cond (not b) (Some VendorMissing) None) (sym (shown.paths (Vendor v) range) ∙ there)
 
-pub block_refused : (now : OpenLevels) (seen : List Path) (lines number : ℕ) (earlier : List (List ℕ)) (line : List ℕ) (v : ℕ) → IsShown now seen lines earlier → number ≡ lines + 1 → line_fault_of earlier line ≡ None → [] ≡ entry_of earlier line → is_block line ≡ true → digits_in (4 ∷ []) (inside line) ≡ hex4 v → has_path seen (Vendor v) ≡ false → refusal_at earlier line ≡ Some (Line number VendorMissing)
-block_refused now seen lines number earlier line v shown next own none block digits absent =
-    let fault : fault_of earlier line ≡ Some VendorMissing = block_late earlier line v own none block digits ∙ ap (λ b. cond (not b) (Some VendorMissing) None) (sym (shown.paths (Vendor v)) ∙ absent) in
+pub block_refused : (now : OpenLevels) (seen : List ℕ) (lines number : ℕ) (earlier : List (List ℕ)) (line : List ℕ) (v : ℕ) → IsPath (Vendor v) → IsShown now seen lines earlier → number ≡ lines + 1 → line_fault_of earlier line ≡ None → [] ≡ entry_of earlier line → is_block line ≡ true → digits_in (4 ∷ []) (inside line) ≡ hex4 v → has_path seen (Vendor v) ≡ false → refusal_at earlier line ≡ Some (Line number VendorMissing)
+block_refused now seen lines number earlier line v range shown next own none block digits absent =
+    let fault : fault_of earlier line ≡ Some VendorMissing = block_late earlier line v own none block digits ∙ ap (λ b. cond (not b) (Some VendorMissing) None) (sym (shown.paths (Vendor v) range) ∙ absent) in
     ap (refused_at earlier line) fault ∙ ap (λ n. Some (Line n VendorMissing)) (sym (next ∙ ap (λ n. n + 1) shown.number))
 
 -- the line of an entry
-entry_late : (now : OpenLevels) (seen : List Path) (lines : ℕ) (earlier : List (List ℕ)) (line name : List ℕ) (p : Path) → IsShown now seen lines earlier → line_fault_of earlier line ≡ None → (path_text p, name) ∷ [] ≡ entry_of earlier line → is_block line ≡ false → fault_of earlier line ≡ cond (has_path seen p) (Some Duplicate) None
-entry_late now seen lines earlier line name p shown own entry block =
+entry_late : (now : OpenLevels) (seen : List ℕ) (lines : ℕ) (earlier : List (List ℕ)) (line name : List ℕ) (p : Path) → IsPath p → IsShown now seen lines earlier → line_fault_of earlier line ≡ None → (path_text p, name) ∷ [] ≡ entry_of earlier line → is_block line ≡ false → fault_of earlier line ≡ cond (has_path seen p) (Some Duplicate) None
+entry_late now seen lines earlier line name p range shown own entry block =
     let e = an_entry earlier line (path_text p) name entry in
-    let told : is_told earlier (path_at earlier line) ≡ has_path seen p = ap (is_told earlier) e.path_is ∙ sym (shown.paths p) in
+    let told : is_told earlier (path_at earlier line) ≡ has_path seen p = ap (is_told earlier) e.path_is ∙ sym (shown.paths p range) in
     late earlier line own ∙ (λ i. cond (e.is_one i && told i) (Some Duplicate) (cond (block i && missing earlier (codes "PC/" ++ digits_at earlier line)) (Some VendorMissing) None))
 
-pub duplicate_refused : (now : OpenLevels) (seen : List Path) (lines number : ℕ) (earlier : List (List ℕ)) (line name : List ℕ) (p : Path) → IsShown now seen lines earlier → number ≡ lines + 1 → line_fault_of earlier line ≡ None → (path_text p, name) ∷ [] ≡ entry_of earlier line → is_block line ≡ false → has_path seen p ≡ true → refusal_at earlier line ≡ Some (Line number Duplicate)
-duplicate_refused now seen lines number earlier line name p shown next own entry block there =
-    let fault : fault_of earlier line ≡ Some Duplicate = entry_late now seen lines earlier line name p shown own entry block ∙ ap (λ b. cond b (Some Duplicate) None) there in
+pub duplicate_refused : (now : OpenLevels) (seen : List ℕ) (lines number : ℕ) (earlier : List (List ℕ)) (line name : List ℕ) (p : Path) → IsPath p → IsShown now seen lines earlier → number ≡ lines + 1 → line_fault_of earlier line ≡ None → (path_text p, name) ∷ [] ≡ entry_of earlier line → is_block line ≡ false → has_path seen p ≡ true → refusal_at earlier line ≡ Some (Line number Duplicate)
+duplicate_refused now seen lines number earlier line name p range shown next own entry block there =
+    let fault : fault_of earlier line ≡ Some Duplicate = entry_late now seen lines earlier line name p range shown own entry block ∙ ap (λ b. cond b (Some Duplicate) None) there in
     ap (refused_at earlier line) fault ∙ ap (λ n. Some (Line n Duplicate)) (sym (next ∙ ap (λ n. n + 1) shown.number))
 
-new_good : (now : OpenLevels) (seen : List Path) (lines : ℕ) (earlier : List (List ℕ)) (line name : List ℕ) (p : Path) → IsShown now seen lines earlier → line_fault_of earlier line ≡ None → (path_text p, name) ∷ [] ≡ entry_of earlier line → is_block line ≡ false → has_path seen p ≡ false → fault_of earlier line ≡ None
-new_good now seen lines earlier line name p shown own entry block absent = entry_late now seen lines earlier line name p shown own entry block ∙ ap (λ b. cond b (Some Duplicate) None) absent
+new_good : (now : OpenLevels) (seen : List ℕ) (lines : ℕ) (earlier : List (List ℕ)) (line name : List ℕ) (p : Path) → IsPath p → IsShown now seen lines earlier → line_fault_of earlier line ≡ None → (path_text p, name) ∷ [] ≡ entry_of earlier line → is_block line ≡ false → has_path seen p ≡ false → fault_of earlier line ≡ None
+new_good now seen lines earlier line name p range shown own entry block absent = entry_late now seen lines earlier line name p range shown own entry block ∙ ap (λ b. cond b (Some Duplicate) None) absent
 
 is_full : (n : ℕ) → ENTRIES ≤ n → leb ENTRIES n ≡ true
 is_full n h = grind (arith, nat_tests)
@@ -169,35 +171,35 @@ is_full n h = grind (arith, nat_tests)
 has_room : (n : ℕ) → n < ENTRIES → leb ENTRIES n ≡ false
 has_room n h = grind (arith, nat_tests)
 
-pub many_refused : (now : OpenLevels) (seen : List Path) (lines : ℕ) (earlier : List (List ℕ)) (line name : List ℕ) (p : Path) → IsShown now seen lines earlier → line_fault_of earlier line ≡ None → (path_text p, name) ∷ [] ≡ entry_of earlier line → is_block line ≡ false → has_path seen p ≡ false → ENTRIES ≤ length seen → refusal_at earlier line ≡ Some TooManyEntries
-many_refused now seen lines earlier line name p shown own entry block absent many =
+pub many_refused : (now : OpenLevels) (seen : List ℕ) (lines : ℕ) (earlier : List (List ℕ)) (line name : List ℕ) (p : Path) → IsPath p → IsShown now seen lines earlier → line_fault_of earlier line ≡ None → (path_text p, name) ∷ [] ≡ entry_of earlier line → is_block line ≡ false → has_path seen p ≡ false → ENTRIES ≤ length seen → refusal_at earlier line ≡ Some TooManyEntries
+many_refused now seen lines earlier line name p range shown own entry block absent many =
     let e = an_entry earlier line (path_text p) name entry in
     let full : leb ENTRIES (length (entries_back earlier)) ≡ true = subst (λ n. leb ENTRIES n ≡ true) shown.count (is_full (length seen) many) in
-    ap (refused_at earlier line) (new_good now seen lines earlier line name p shown own entry block absent) ∙ (λ i. cond (e.is_one i && full i) (Some TooManyEntries) None)
+    ap (refused_at earlier line) (new_good now seen lines earlier line name p range shown own entry block absent) ∙ (λ i. cond (e.is_one i && full i) (Some TooManyEntries) None)
 
-path_symm : (p q : Path) → is_eq (path_cmp p q) ≡ is_eq (path_cmp q p)
-path_symm p q = (eq_by_cmp_equiv (on_total path_text nat_list_cmp_total)).symm p q
+same_keys : (p q : Path) → IsPath p → IsPath q → is_eq (nat_cmp (path_key p) (path_key q)) ≡ is_eq (path_cmp q p)
+same_keys p q a b = ap is_eq (key_order p q a b) ∙ (eq_by_cmp_equiv (on_total path_text nat_list_cmp_total)).symm p q
 
 one_more_value : (b : Bool) (n : List ℕ) (o : Option (List ℕ)) → cond b true (is_some o) ≡ is_some (cond b (Some n) o)
 one_more_value true n o = refl
 one_more_value false n o = refl
 
-pub item_taken : (now next : OpenLevels) (seen more : List Path) (lines number : ℕ) (earlier : List (List ℕ)) (line name : List ℕ) (p : Path) → IsShown now seen lines earlier → number ≡ lines + 1 → line_fault_of earlier line ≡ None → (path_text p, name) ∷ [] ≡ entry_of earlier line → is_block line ≡ false → has_path seen p ≡ false → length seen < ENTRIES → IsOneMore path_cmp seen p more → length more ≡ length seen + 1 → IsOpenAt next (line ∷ earlier) → IsShown next more number (line ∷ earlier) × (refusal_at earlier line ≡ None) × ((number, (path_text p, name)) ∷ [] ≡ numbered_at earlier line)
-item_taken now next seen more lines number earlier line name p shown at own entry block absent few one_more longer behind =
+pub item_taken : (now next : OpenLevels) (seen more : List ℕ) (lines number : ℕ) (earlier : List (List ℕ)) (line name : List ℕ) (p : Path) → IsPath p → IsShown now seen lines earlier → number ≡ lines + 1 → line_fault_of earlier line ≡ None → (path_text p, name) ∷ [] ≡ entry_of earlier line → is_block line ≡ false → has_path seen p ≡ false → length seen < ENTRIES → IsOneMore nat_cmp seen (path_key p) more → length more ≡ length seen + 1 → IsOpenAt next (line ∷ earlier) → IsShown next more number (line ∷ earlier) × (refusal_at earlier line ≡ None) × ((number, (path_text p, name)) ∷ [] ≡ numbered_at earlier line)
+item_taken now next seen more lines number earlier line name p range shown at own entry block absent few one_more longer behind =
     let e = an_entry earlier line (path_text p) name entry in
     let room : leb ENTRIES (length (entries_back earlier)) ≡ false = subst (λ n. leb ENTRIES n ≡ false) shown.count (has_room (length seen) few) in
     let count : number ≡ length earlier + 1 = omega (arith, shown.number, at) in
     let entries : entries_back (line ∷ earlier) ≡ (path_text p, name) ∷ entries_back earlier = ap (λ (es : List Item). es ++ entries_back earlier) (sym entry) in (
       record {
-        paths = λ q.
-            one_more q ∙ ap (λ b. cond b true (has_path seen q)) (path_symm p q) ∙ ap (cond (is_eq (path_cmp q p)) true) (shown.paths q)
+        paths = λ q r.
+            one_more (path_key q) ∙ ap (λ b. cond b true (has_path seen q)) (same_keys p q range r) ∙ ap (cond (is_eq (path_cmp q p)) true) (shown.paths q r)
             ∙ one_more_value (is_eq (path_cmp q p)) name (value_at text_cmp (path_text q) (entries_back earlier))
             ∙ ap (λ es. is_some (value_at text_cmp (path_text q) es)) (sym entries);
         count = longer ∙ ap (λ n. n + 1) shown.count ∙ omega arith ∙ ap length (sym entries);
         levels = behind;
         number = omega (arith, shown.number, at);
       },
-      ap (refused_at earlier line) (new_good now seen lines earlier line name p shown own entry block absent) ∙ (λ i. cond (e.is_one i && room i) (Some TooManyEntries) None),
+      ap (refused_at earlier line) (new_good now seen lines earlier line name p range shown own entry block absent) ∙ (λ i. cond (e.is_one i && room i) (Some TooManyEntries) None),
       ap (map (at_line number)) entry ∙ ap (λ n. map (at_line n) (entry_of earlier line)) count,
     )
 

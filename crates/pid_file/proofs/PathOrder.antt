@@ -1,5 +1,5 @@
 -- The order of numbers is the order of their digits.
-use Rattle.std.proofs.Common.{◌≡◌, ℕ, zero, suc, ◌/◌, ◌%◌, ◌<◌, ◌≤◌, ◌^◌, true, false, cond, eqb, List, [], ◌∷◌, ◌++◌, Some, length, refl, sym, ap, subst, ◌∙◌, arith, inl, inr}
+use Rattle.std.proofs.Common.{◌≡◌, ℕ, zero, suc, ◌+◌, ◌*◌, ◌/◌, ◌%◌, ◌<◌, ◌≤◌, ◌^◌, true, false, cond, eqb, List, [], ◌∷◌, ◌++◌, Option, Some, None, length, refl, sym, ap, subst, ◌∙◌, arith, inl, inr}
 use Rattle.std.specs.declared.cmp.Ordering.{Ordering}
 use Rattle.std.specs.declared.cmp.Ordering.TheVariants.{Less, Equal, Greater}
 use Rattle.std.specs.Ordering.{nat_cmp, ordering_then, is_eq}
@@ -13,7 +13,7 @@ use Rattle.std.proofs.lemmas.Bool.Decides.{nat_tests}
 use Rattle.pid_file.specs.declared.path.Path.{Path}
 use Rattle.pid_file.specs.declared.path.Path.TheVariants.{Vendor, Device, Subsystem, Class, Subclass, ProgIf, Generic}
 use Rattle.pid_file.specs.PathTexts.{IsPath, path_text, path_cmp}
-use Rattle.pid_file.specs.Steps.PathPlaces.{letter_of, numbers_of, rest_cmp}
+use Rattle.pid_file.specs.Steps.PathPlaces.{letter_of, numbers_of, path_head, path_rest, path_key}
 use Rattle.pid_file.specs.Identifiers.{hex4, hex2}
 
 -- digits compare as what they stand for
@@ -153,6 +153,14 @@ equal_test v w = elim (cases_lt v w) [
 pub same_block : (v w : ℕ) → v < 2 ^ 16 → w < 2 ^ 16 → eqb v w ≡ is_eq (slice_cmp nat_cmp (hex4 v) (hex4 w))
 same_block v w p q = equal_test v w ∙ sym (ap is_eq (hex4_order v w p q [] [] ∙ then_equal (nat_cmp v w)))
 
+-- by the number at a place: a missing one comes before every other
+abbrev cmp_at : ℕ → List ℕ → List ℕ → Ordering
+cmp_at i ms ns = option_cmp nat_cmp (slice_get ms i) (slice_get ns i)
+
+-- by the numbers after the first
+abbrev rest_cmp : List ℕ → List ℕ → Ordering
+rest_cmp ms ns = ordering_then (cmp_at 1 ms ns) (ordering_then (cmp_at 2 ms ns) (cmp_at 3 ms ns))
+
 -- number after number: a missing one comes before every other
 abbrev tail : List ℕ → List ℕ
 tail [] = []
@@ -187,32 +195,124 @@ few (Subclass c s) = omega arith
 few (ProgIf c s p) = omega arith
 few (Generic v d) = omega arith
 
--- what stands at the front of a path
-pub record IsHead (p : Path) (letter first : ℕ) : Type 0 where
-  pub in_range : IsPath p
-  pub letter_is : letter ≡ letter_of p
-  pub first_is : Some first ≡ slice_get (numbers_of p) 0
+-- the first number, and by it
+abbrev first_of : Path → ℕ
+first_of (Vendor v) = v
+first_of (Device v d) = v
+first_of (Subsystem v d s e) = v
+first_of (Class c) = c
+first_of (Subclass c s) = c
+first_of (ProgIf c s p) = c
+first_of (Generic v d) = v
 
-pub path_cmp-heads : (p q : Path) (a b c d : ℕ) → IsHead p a b → IsHead q c d → path_cmp p q ≡ ordering_then (ordering_then (nat_cmp a c) (nat_cmp b d)) (rest_cmp (numbers_of p) (numbers_of q))
-path_cmp-heads p q a b c d m n =
+first_is : (p : Path) → slice_get (numbers_of p) 0 ≡ Some (first_of p)
+first_is (Vendor v) = refl
+first_is (Device v d) = refl
+first_is (Subsystem v d s e) = refl
+first_is (Class c) = refl
+first_is (Subclass c s) = refl
+first_is (ProgIf c s p) = refl
+first_is (Generic v d) = refl
+
+by_parts : (p q : Path) → IsPath p → IsPath q → path_cmp p q ≡ ordering_then (ordering_then (nat_cmp (letter_of p) (letter_of q)) (nat_cmp (first_of p) (first_of q))) (rest_cmp (numbers_of p) (numbers_of q))
+by_parts p q a b =
     let ms = numbers_of p in
     let ns = numbers_of q in
-    let first : option_cmp nat_cmp (slice_get ms 0) (slice_get ns 0) ≡ nat_cmp b d = λ i. option_cmp nat_cmp (sym m.first_is i) (sym n.first_is i) in
-    places_order p q m.in_range n.in_range
+    let first : option_cmp nat_cmp (slice_get ms 0) (slice_get ns 0) ≡ nat_cmp (first_of p) (first_of q) = λ i. option_cmp nat_cmp (first_is p i) (first_is q i) in
+    places_order p q a b
     ∙ ap (ordering_then (nat_cmp (letter_of p) (letter_of q))) (slice_cmp-by_place 4 ms ns (few p) (few q))
-    ∙ rw (first, slice_get-tail (tail (tail ms)) 0, slice_get-tail (tail ms) 1, slice_get-tail (tail ms) 0, slice_get-tail ms 2, slice_get-tail ms 1, slice_get-tail ms 0, slice_get-tail (tail (tail ns)) 0, slice_get-tail (tail ns) 1, slice_get-tail (tail ns) 0, slice_get-tail ns 2, slice_get-tail ns 1, slice_get-tail ns 0, m.letter_is, n.letter_is, then_equal (option_cmp nat_cmp (slice_get ms 3) (slice_get ns 3))) refl
-    ∙ sym (then_assoc (nat_cmp a c) (nat_cmp b d) (rest_cmp ms ns))
+    ∙ rw (first, slice_get-tail (tail (tail ms)) 0, slice_get-tail (tail ms) 1, slice_get-tail (tail ms) 0, slice_get-tail ms 2, slice_get-tail ms 1, slice_get-tail ms 0, slice_get-tail (tail (tail ns)) 0, slice_get-tail (tail ns) 1, slice_get-tail (tail ns) 0, slice_get-tail ns 2, slice_get-tail ns 1, slice_get-tail ns 0, then_equal (option_cmp nat_cmp (slice_get ms 3) (slice_get ns 3))) refl
+    ∙ sym (then_assoc (nat_cmp (letter_of p) (letter_of q)) (nat_cmp (first_of p) (first_of q)) (rest_cmp ms ns))
+
+-- numbers that are packed into one compare in turn
+packed : (a b c d : ℕ) → b < 131072 → d < 131072 → nat_cmp (a * 131072 + b) (c * 131072 + d) ≡ ordering_then (nat_cmp a c) (nat_cmp b d)
+packed a b c d p q = elim (cases_lt a c) [
+  | inl _ ↦ grind (arith, nat_tests)
+  | inr _ ↦ elim (cases_lt c a) [ inl _ ↦ grind (arith, nat_tests) | inr _ ↦ grind (arith, nat_tests) ]
+]
+
+packed64 : (a b c d : ℕ) → b < 18446744073709551616 → d < 18446744073709551616 → nat_cmp (a * 18446744073709551616 + b) (c * 18446744073709551616 + d) ≡ ordering_then (nat_cmp a c) (nat_cmp b d)
+packed64 a b c d p q = elim (cases_lt a c) [
+  | inl _ ↦ grind (arith, nat_tests)
+  | inr _ ↦ elim (cases_lt c a) [ inl _ ↦ grind (arith, nat_tests) | inr _ ↦ grind (arith, nat_tests) ]
+]
+
+-- a place as a number
+abbrev place : Option ℕ → ℕ
+place None = 0
+place (Some n) = n + 1
+
+place_order : (a b : Option ℕ) → option_cmp nat_cmp a b ≡ nat_cmp (place a) (place b)
+place_order None None = refl
+place_order None (Some n) = grind (arith, nat_tests)
+place_order (Some m) None = grind (arith, nat_tests)
+place_order (Some m) (Some n) = elim (cases_lt m n) [
+  | inl _ ↦ grind (arith, nat_tests)
+  | inr _ ↦ elim (cases_lt n m) [ inl _ ↦ grind (arith, nat_tests) | inr _ ↦ grind (arith, nat_tests) ]
+]
+
+abbrev place_at : Path → ℕ → ℕ
+place_at p i = place (slice_get (numbers_of p) i)
+
+-- a path's numbers in its packed ones
+record IsPacked (p : Path) : Type 0 where
+  head : path_head p ≡ letter_of p * 131072 + first_of p
+  rest : path_rest p ≡ (place_at p 1 * 131072 + place_at p 2) * 131072 + place_at p 3
+  first_small : first_of p < 131072
+  second_small : place_at p 1 < 131072
+  third_small : place_at p 2 < 131072
+  fourth_small : place_at p 3 < 131072
+
+is_packed : (p : Path) → IsPath p → IsPacked p
+is_packed (Vendor v) h = record { head = refl; rest = refl; first_small = omega (arith, h); second_small = omega arith; third_small = omega arith; fourth_small = omega arith }
+is_packed (Device v d) h = record { head = refl; rest = omega arith; first_small = omega (arith, h.0); second_small = omega (arith, h.1); third_small = omega arith; fourth_small = omega arith }
+is_packed (Subsystem v d s e) h = record { head = refl; rest = omega arith; first_small = omega (arith, h.0); second_small = omega (arith, h.1); third_small = omega (arith, h.2); fourth_small = omega (arith, h.3) }
+is_packed (Class c) h = record { head = refl; rest = refl; first_small = omega (arith, h); second_small = omega arith; third_small = omega arith; fourth_small = omega arith }
+is_packed (Subclass c s) h = record { head = refl; rest = omega arith; first_small = omega (arith, h.0); second_small = omega (arith, h.1); third_small = omega arith; fourth_small = omega arith }
+is_packed (ProgIf c s p) h = record { head = refl; rest = omega arith; first_small = omega (arith, h.0); second_small = omega (arith, h.1); third_small = omega (arith, h.2); fourth_small = omega arith }
+is_packed (Generic v d) h = record { head = refl; rest = omega arith; first_small = omega (arith, h.0); second_small = omega (arith, h.1); third_small = omega arith; fourth_small = omega arith }
+
+rest_order : (p q : Path) → IsPacked p → IsPacked q → nat_cmp (path_rest p) (path_rest q) ≡ rest_cmp (numbers_of p) (numbers_of q)
+rest_order p q x y =
+    let second : cmp_at 1 (numbers_of p) (numbers_of q) ≡ nat_cmp (place_at p 1) (place_at q 1) = place_order (slice_get (numbers_of p) 1) (slice_get (numbers_of q) 1) in
+    let third : cmp_at 2 (numbers_of p) (numbers_of q) ≡ nat_cmp (place_at p 2) (place_at q 2) = place_order (slice_get (numbers_of p) 2) (slice_get (numbers_of q) 2) in
+    let fourth : cmp_at 3 (numbers_of p) (numbers_of q) ≡ nat_cmp (place_at p 3) (place_at q 3) = place_order (slice_get (numbers_of p) 3) (slice_get (numbers_of q) 3) in
+    (λ i. nat_cmp (x.rest i) (y.rest i))
+    ∙ packed (place_at p 1 * 131072 + place_at p 2) (place_at p 3) (place_at q 1 * 131072 + place_at q 2) (place_at q 3) x.fourth_small y.fourth_small
+    ∙ ap (λ o. ordering_then o (nat_cmp (place_at p 3) (place_at q 3))) (packed (place_at p 1) (place_at p 2) (place_at q 1) (place_at q 2) x.third_small y.third_small)
+    ∙ then_assoc (nat_cmp (place_at p 1) (place_at q 1)) (nat_cmp (place_at p 2) (place_at q 2)) (nat_cmp (place_at p 3) (place_at q 3))
+    ∙ (λ i. ordering_then (sym second i) (ordering_then (sym third i) (sym fourth i)))
+
+head_order : (p q : Path) → IsPacked p → IsPacked q → nat_cmp (path_head p) (path_head q) ≡ ordering_then (nat_cmp (letter_of p) (letter_of q)) (nat_cmp (first_of p) (first_of q))
+head_order p q x y = (λ i. nat_cmp (x.head i) (y.head i)) ∙ packed (letter_of p) (first_of p) (letter_of q) (first_of q) x.first_small y.first_small
+
+-- paths compare by their packed numbers
+path_order : (p q : Path) → IsPath p → IsPath q → path_cmp p q ≡ ordering_then (nat_cmp (path_head p) (path_head q)) (nat_cmp (path_rest p) (path_rest q))
+path_order p q a b =
+    let x = is_packed p a in
+    let y = is_packed q b in
+    by_parts p q a b ∙ (λ i. ordering_then (sym (head_order p q x y) i) (sym (rest_order p q x y) i))
+
+rest_small : (p : Path) → IsPacked p → path_rest p < 18446744073709551616
+rest_small p x = omega (arith, x.rest, x.second_small, x.third_small, x.fourth_small)
+
+-- and by the whole key
+pub key_order : (p q : Path) → IsPath p → IsPath q → nat_cmp (path_key p) (path_key q) ≡ path_cmp p q
+key_order p q a b = packed64 (path_head p) (path_rest p) (path_head q) (path_rest q) (rest_small p (is_packed p a)) (rest_small q (is_packed q b)) ∙ sym (path_order p q a b)
 
 -- what decides at the front decides
-pub decided : (a b : Ordering) → is_eq a ≡ false → a ≡ ordering_then a b
+decided : (a b : Ordering) → is_eq a ≡ false → a ≡ ordering_then a b
 decided Less b h = refl
 decided Equal b h = absurd cc
 decided Greater b h = refl
 
-pub undecided : (a b : Ordering) → is_eq a ≡ true → b ≡ ordering_then a b
+undecided : (a b : Ordering) → is_eq a ≡ true → b ≡ ordering_then a b
 undecided Less b h = absurd cc
 undecided Equal b h = refl
 undecided Greater b h = absurd cc
 
-pub path_cmp-by_head : (p q : Path) (a b c d : ℕ) (by_head by_letter by_first : Ordering) → IsHead p a b → IsHead q c d → by_letter ≡ nat_cmp a c → by_first ≡ nat_cmp b d → by_head ≡ ordering_then by_letter by_first → path_cmp p q ≡ ordering_then by_head (rest_cmp (numbers_of p) (numbers_of q))
-path_cmp-by_head p q a b c d by_head by_letter by_first m n l f h = path_cmp-heads p q a b c d m n ∙ sym (ap (λ o. ordering_then o (rest_cmp (numbers_of p) (numbers_of q))) (h ∙ (λ i. ordering_then (l i) (f i))))
+pub by_head : (p q : Path) → IsPath p → IsPath q → eqb (path_head p) (path_head q) ≡ false → nat_cmp (path_head p) (path_head q) ≡ path_cmp p q
+by_head p q a b differ = decided (nat_cmp (path_head p) (path_head q)) (nat_cmp (path_rest p) (path_rest q)) (sym (equal_test (path_head p) (path_head q)) ∙ differ) ∙ sym (path_order p q a b)
+
+pub by_rest : (p q : Path) → IsPath p → IsPath q → eqb (path_head p) (path_head q) ≡ true → nat_cmp (path_rest p) (path_rest q) ≡ path_cmp p q
+by_rest p q a b same = undecided (nat_cmp (path_head p) (path_head q)) (nat_cmp (path_rest p) (path_rest q)) (sym (equal_test (path_head p) (path_head q)) ∙ same) ∙ sym (path_order p q a b)

@@ -18,8 +18,8 @@ pub fn run_job<I: Read + Drop, O: Write + Drop, F: Write + Drop>(
     faults: F,
 ) -> u8 {
     match job {
-        FirstJob::Tidy => run_tidy(alloc, input, output, faults),
-        FirstJob::Check => run_check(alloc, input, output, faults),
+        FirstJob::Tidy => run_tidy(alloc, input, output, faults).0,
+        FirstJob::Check => run_check(alloc, input, output, faults).0,
         FirstJob::Show(page) => show(page, output, faults),
         FirstJob::NoCommand(word) => refuse(
             &[

@@ -5,6 +5,7 @@ ghost use Rattle.pid_file.specs.PathTexts.{IsPath, parent_of, kind_of};
 mod order;
 
 use crate::identifier::{Id8, Id16};
+pub(crate) use order::key_of;
 
 /// The place of an item: its vendor, device, subsystem, class, subclass, programming interface or
 /// generic subsystem.

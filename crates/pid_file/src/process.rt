@@ -1,7 +1,7 @@
 //! `tidy` and `check` on the streams of a process, and their exit statuses.
-ghost use Rattle.std.specs.Prelude.{◌≡◌, true, false, IfSome};
+ghost use Rattle.std.specs.Prelude.{◌≡◌, true, false, IfSome, IsSomeAnd};
 ghost use Rattle.std.specs.Io.KnownBytes.{Keeps};
-ghost use Rattle.pid_file.specs.Statuses.{IsStatusFor};
+ghost use Rattle.pid_file.specs.Statuses.{IsStatusFor, GotTidied, GotChecked};
 ghost use Rattle.pid_file.specs.TextEnds.{failed_line, fault_line, status_of};
 ghost use Rattle.pid_file.specs.Told.{TriesLine};
 
@@ -21,7 +21,7 @@ const BUFFER: usize = 65_536;
 
 /// Writes the canonical form of the input to `output`, or its fault line to `faults`. Returns the
 /// exit status: 0 on success, 1 if the text was refused, 3 if memory, the reader or a writer
-/// failed.
+/// failed. Hands back the output, unless there was no memory for its buffer.
 ///
 /// Reports a file that failed as `file: failed`, unless the reader of the output has gone away.
 pub fn run_tidy<I: Read + Drop, O: Write + Drop, F: Write + Drop>(
@@ -29,12 +29,14 @@ pub fn run_tidy<I: Read + Drop, O: Write + Drop, F: Write + Drop>(
     input: I,
     output: O,
     faults: F,
-) -> u8
-    ensures status { IfSome (I.remaining input) (λ text. IsStatusFor text result) }
+) -> (u8, Option<O>)
+    ensures status { IfSome (I.remaining input) (λ text. IsStatusFor text result.0) }
+    ensures printed { IfSome (I.remaining input) (λ text. result.0 ≡ 0 → IsSomeAnd result.1
+        (λ out. GotTidied text (O.contents output) (O.contents out))) }
 {
     let mut faults = Plain::new(faults);
     let Ok(buffer) = BufWriter::with_capacity(alloc, BUFFER, Watched::new(output)) else {
-        return tell_end(TextEnd::Memory, &mut faults);
+        return (tell_end(TextEnd::Memory, &mut faults), None);
     };
     let mut input = Plain::new(input);
     let mut output = Plain::new(buffer);
@@ -44,11 +46,13 @@ pub fn run_tidy<I: Read + Drop, O: Write + Drop, F: Write + Drop>(
         (TextEnd::Done, Err(_)) => TextEnd::WriteFault,
         _ => end,
     };
-    status(end, buffer.get_ref().is_unread(), &mut faults)
+    let (watched, _) = buffer.into_parts();
+    let status = status(end, watched.is_unread(), &mut faults);
+    (status, Some(watched.into_inner()))
 }
 
 /// Writes the number of entries in the input, or its fault line, to `output`. Returns the exit
-/// status as `run_tidy` does.
+/// status as `run_tidy` does, and the output.
 ///
 /// Reports a file that failed as `file: failed` on `faults`, unless the reader of the output has
 /// gone away.
@@ -57,14 +61,17 @@ pub fn run_check<I: Read + Drop, O: Write + Drop, F: Write + Drop>(
     input: I,
     output: O,
     faults: F,
-) -> u8
-    ensures status { IfSome (I.remaining input) (λ text. IsStatusFor text result) }
+) -> (u8, O)
+    ensures status { IfSome (I.remaining input) (λ text. IsStatusFor text result.0) }
+    ensures answered { IfSome (I.remaining input)
+        (λ text. GotChecked text result.0 (O.contents output) (O.contents result.1)) }
 {
     let mut input = Plain::new(input);
     let mut output = Plain::new(Watched::new(output));
     let end = check(alloc, &mut input, &mut output);
-    let is_unread = output.into_inner().is_unread();
-    status(end, is_unread, &mut Plain::new(faults))
+    let watched = output.into_inner();
+    let status = status(end, watched.is_unread(), &mut Plain::new(faults));
+    (status, watched.into_inner())
 }
 
 // The exit status of an end. Reports a file that failed; anything else was reported before.

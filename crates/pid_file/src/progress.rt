@@ -23,7 +23,7 @@ ghost use Rattle.pid_file.specs.Progress.{Shows, given};
 use crate::fault_kind::LineKind;
 use crate::judge::Judge;
 use crate::open_levels::{OpenLevels, Said, read_line};
-use crate::path::Path;
+use crate::path::{Path, key_of};
 use crate::refusal::ReadRefusal;
 use crate::seen::Seen;
 use crate::sink::Entry;
@@ -39,8 +39,8 @@ pub struct Progress {
     pub levels: OpenLevels,
     /// How many lines were read.
     pub lines: usize,
-    /// The paths of their entries.
-    pub seen: Seen<Path>,
+    /// The keys of the paths of their entries.
+    pub seen: Seen<u128>,
 }
 
 impl Progress {
@@ -83,7 +83,7 @@ impl Progress {
                 Ok(None)
             }
             Said::Block { vendor } => {
-                if !self.seen.contains(&Path::Vendor { vendor }) {
+                if !self.seen.contains(&key_of(Path::Vendor { vendor })) {
                     let kind = LineKind::VendorMissing;
                     return Err(ReadRefusal::Line { line: number, kind });
                 }
@@ -91,7 +91,7 @@ impl Progress {
                 Ok(None)
             }
             Said::Entry(named) => {
-                match self.seen.insert(named.path) {
+                match self.seen.insert(key_of(named.path)) {
                     Err(_) => return Err(ReadRefusal::Memory),
                     Ok(false) => {
                         let kind = LineKind::Duplicate;

@@ -19,6 +19,7 @@ use Rattle.pid_moderation.specs.ChangePages.{changes_in, start_text}
 use Rattle.pid_moderation.specs.Children.{children_of}
 use Rattle.pid_moderation.specs.PendingPages.{pending_in}
 use Rattle.pid_moderation.specs.QueuePages.{queue_in}
+use Rattle.pid_moderation.specs.RegistryStatus.{status_of_registry}
 use Rattle.pid_moderation.specs.SubmissionPages.{submissions_of}
 use Rattle.pid_moderation.specs.declared.lists.TheConstants.{PAGE, SEARCHED}
 use Rattle.pid_tree.specs.Printing.{print}
@@ -33,10 +34,11 @@ use Rattle.pid_http_replies.specs.Outcomes.{outcome_answer, missing_answer}
 use Rattle.pid_http_replies.specs.PendingAnswers.{pending_answer}
 use Rattle.pid_http_replies.specs.QueueAnswers.{queue_answer}
 use Rattle.pid_http_replies.specs.RankAnswers.{rank_answer}
+use Rattle.pid_http_replies.specs.StatusAnswers.{status_answer}
 use Rattle.pid_http_replies.specs.SubmissionAnswers.{submission_answer}
 use Rattle.pid_http_replies.specs.SubmissionPageAnswers.{submissions_answer}
 use Rattle.pid_http.specs.Errands.{Errand, Answered, Denied, Obeys, Export, Read, Children, Lookup}
-use Rattle.pid_http.specs.Errands.{Submission, Pending, Changes, Queue, Submissions, Rank}
+use Rattle.pid_http.specs.Errands.{Submission, Pending, Changes, Queue, Submissions, Status, Rank}
 use Rattle.pid_http.specs.Errands.{format_of, known_answer}
 
 -- the item at a path, or that there is none
@@ -93,6 +95,7 @@ answer_over h (Changes since after format) = changes_answer format
 answer_over h (Queue after format) = queue_answer format (queue_in PAGE after (views_of h))
 answer_over h (Submissions search format) = submissions_answer format
     (submissions_of PAGE SEARCHED search (views_of h))
+answer_over h (Status format) = status_answer format (status_of_registry h)
 answer_over h (Rank who format) = rank_answer format who (rank_of who h)
 
 -- the history after it: only a command that is accepted adds to the one before

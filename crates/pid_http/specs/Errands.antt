@@ -56,6 +56,8 @@ pub data Errand : Type 0 where
   Queue : ℕ → Format → Errand
   -- the submissions that a search finds
   Submissions : Search → Format → Errand
+  -- how much the registry holds
+  Status : Format → Errand
   -- the rank of an account
   Rank : List ℕ → Format → Errand
 
@@ -75,6 +77,7 @@ format_of (Pending number format) = format
 format_of (Changes since after format) = format
 format_of (Queue after format) = format
 format_of (Submissions search format) = format
+format_of (Status format) = format
 format_of (Rank who format) = format
 format_of errand = Json
 
@@ -150,6 +153,7 @@ errand_for (questions.Changes since start format) s body = changes_for since for
 errand_for (questions.Queue after format) s body = Queue after format
 errand_for (questions.Submissions sought author before format) s body =
     submissions_for format sought author before
+errand_for (questions.Status format) s body = Status format
 errand_for (questions.Rank who format) s body = Rank who format
 errand_for (questions.Command verb format) s body = sent format
     (λ sending. command_made verb sending body) s

@@ -12,7 +12,7 @@ ghost use Rattle.pid_http.specs.Steps.Replying.{Replies, RepliesTo};
 
 use crate::commanding::command;
 use crate::exporting::export;
-use crate::overviews::{queue, submissions};
+use crate::overviews::{queue, status, submissions};
 use crate::queries::{changes, children, lookup, pending, rank, read, submission};
 use pid_http_replies::{Early, early_reply, refusal_reply};
 use pid_http_requests::{Above, Format, Question, Sought, Start, sender_of};
@@ -138,6 +138,7 @@ pub(crate) fn answer<S: Alter + Drop>(
             before,
             format,
         } => answer_submissions(alloc, registry, sought, author.as_ref(), before, format),
+        Question::Status { format } => status(alloc, registry, format),
         Question::Rank { who, format } => rank(alloc, registry, &who, format),
         Question::Command { verb, format } => {
             command(alloc, registry, verb, format, sender_of(head), body)

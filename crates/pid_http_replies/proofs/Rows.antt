@@ -16,6 +16,7 @@ use Rattle.pid_moderation.specs.declared.refusal.Refusal.TheVariants.{RankTooLow
 use Rattle.pid_moderation.specs.Submissions.{Standing}
 use Rattle.pid_moderation.specs.ChangePages.{ChangePage}
 use Rattle.pid_moderation.specs.QueuePages.{QueueEntry}
+use Rattle.pid_moderation.specs.RegistryStatus.{RegistryStatus}
 use Rattle.pid_moderation.specs.SubmissionPages.{ListingPage}
 use Rattle.pid_http_replies.specs.ChangeAnswers.{changes_data, changes_text}
 use Rattle.pid_http_replies.specs.ItemAnswers.{item_data, child_line, items_data}
@@ -23,6 +24,7 @@ use Rattle.pid_http_replies.specs.Outcomes.{outcome_data, unanswered_data}
 use Rattle.pid_http_replies.specs.PendingAnswers.{pending_line, pendings_data}
 use Rattle.pid_http_replies.specs.QueueAnswers.{queue_data, queued_line}
 use Rattle.pid_http_replies.specs.RankAnswers.{rank_answer, rank_data, rank_line}
+use Rattle.pid_http_replies.specs.StatusAnswers.{status_data, status_text}
 use Rattle.pid_http_replies.specs.SubmissionAnswers.{standing_text, submission_data}
 use Rattle.pid_http_replies.specs.SubmissionPageAnswers.{submissions_data, submissions_text}
 use Rattle.pid_http_requests.specs.declared.format.Format.TheVariants.{Json, Text}
@@ -172,3 +174,13 @@ unfolding a_page approved withdrawn digits
 submissions_lines = refl
 
 -- how much a registry holds
+a_status : RegistryStatus
+a_status = record { accounts = 2; items = 35598; pending = 44; revision = 72; submissions = 52 }
+
+status_row : compact_text (status_data a_status) ≡ codes "{\"accounts\":2,\"items\":35598,\"pending\":44,\"revision\":72,\"submissions\":52}"
+unfolding a_status serde_json_on_literals digits
+status_row = refl
+
+status_lines : status_text a_status ≡ codes "accounts 2\nitems 35598\npending 44\nrevision 72\nsubmissions 52\n"
+unfolding a_status digits
+status_lines = refl

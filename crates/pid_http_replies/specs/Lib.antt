@@ -8,6 +8,7 @@ pub mod ChangeAnswers
 pub mod SubmissionAnswers
 pub mod SubmissionPageAnswers
 pub mod RankAnswers
+pub mod StatusAnswers
 pub mod LookupAnswers
 pub mod EarlyAnswers
 pub mod Steps

@@ -16,7 +16,7 @@ use Rattle.pid_http_requests.specs.declared.query.Above.TheVariants.{Top, Below,
 use Rattle.pid_http_requests.specs.declared.query.Sought.TheVariants as sought
 use Rattle.pid_http_requests.specs.declared.query.Start.TheVariants as starts
 use Rattle.pid_http_requests.specs.declared.question.Question.TheVariants.{AnotherMethod, BadTarget, NoRoute, WantsGet, WantsPost, BadQuery}
-use Rattle.pid_http_requests.specs.declared.question.Question.TheVariants.{Export, Read, Children, Lookup, Submission, Pending, Changes, Queue, Submissions, Rank, Command}
+use Rattle.pid_http_requests.specs.declared.question.Question.TheVariants.{Export, Read, Children, Lookup, Submission, Pending, Changes, Queue, Submissions, Status, Rank, Command}
 use Rattle.pid_http_stream.specs.declared.handler.Wanted.TheVariants.{Buffered, Streamed}
 
 another_method : question (codes "HEAD") (codes "/pci.ids") ≡ Buffered AnotherMethod
@@ -238,6 +238,18 @@ submissions_twice = refl
 submissions_after : question (codes "GET") (codes "/submissions?after=1") ≡ Buffered BadQuery
 unfolding question with_target question_at lookup_from route_at matchit_on_literals form_urlencoded_on_literals is_utf8 utf8_lossy utf8_valid_len chars encode
 submissions_after = refl
+
+status : question (codes "GET") (codes "/status?format=text") ≡ Buffered (Status formats.Text)
+unfolding question with_target question_at lookup_from route_at matchit_on_literals form_urlencoded_on_literals is_utf8 utf8_lossy utf8_valid_len chars encode
+status = refl
+
+status_of_one : question (codes "GET") (codes "/status?who=alice") ≡ Buffered BadQuery
+unfolding question with_target question_at lookup_from route_at matchit_on_literals form_urlencoded_on_literals is_utf8 utf8_lossy utf8_valid_len chars encode
+status_of_one = refl
+
+status_posted : question (codes "POST") (codes "/status") ≡ Buffered WantsGet
+unfolding question with_target question_at lookup_from route_at matchit_on_literals form_urlencoded_on_literals is_utf8 utf8_lossy utf8_valid_len chars encode
+status_posted = refl
 
 rank : question (codes "GET") (codes "/account?who=alice") ≡ Buffered (Rank (codes "alice") formats.Json)
 unfolding question with_target question_at lookup_from route_at matchit_on_literals form_urlencoded_on_literals is_utf8 utf8_lossy utf8_valid_len chars encode

@@ -30,7 +30,7 @@ use Rattle.pid_http_requests.specs.declared.question.Question.TheVariants.{Expor
 use Rattle.pid_http_requests.specs.declared.question.Question.TheVariants.{Lookup, Submission}
 use Rattle.pid_http_requests.specs.declared.question.Question.TheVariants.{Pending, Changes}
 use Rattle.pid_http_requests.specs.declared.question.Question.TheVariants.{Queue, Submissions}
-use Rattle.pid_http_requests.specs.declared.question.Question.TheVariants.{Rank, Command}
+use Rattle.pid_http_requests.specs.declared.question.Question.TheVariants.{Status, Rank, Command}
 use Rattle.pid_http_stream.specs.declared.handler.Wanted.{Wanted}
 use Rattle.pid_http_stream.specs.declared.handler.Wanted.TheVariants.{Buffered, Streamed}
 
@@ -90,6 +90,10 @@ submissions_asked fields =
     (author_said (value (codes "author") fields))) (after_said (value (codes "before") fields)))
     (format_beside_three (codes "path") (codes "author") (codes "before") fields)
 
+-- how much the registry holds
+abbrev pub status_asked : Fields → Option Question
+status_asked fields = option_map Status (format_in fields)
+
 -- the rank of the account `who`
 abbrev pub rank_asked : Fields → Option Question
 rank_asked fields =
@@ -124,6 +128,7 @@ question_at method routes.Pending path fields = buffered (pending_asked fields)
 question_at method routes.Changes path fields = buffered (changes_asked fields)
 question_at method routes.Queue path fields = buffered (queue_asked fields)
 question_at method routes.Submissions path fields = buffered (submissions_asked fields)
+question_at method routes.Status path fields = buffered (status_asked fields)
 question_at method routes.Account path fields = buffered (account_asked method fields)
 question_at method routes.Submit path fields = buffered (verb_asked verbs.Submit fields)
 question_at method routes.Comment path fields = buffered (verb_asked verbs.Comment fields)

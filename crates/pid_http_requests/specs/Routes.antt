@@ -7,7 +7,7 @@ use Rattle.pid_http_requests.specs.declared.route.Route.{Route}
 use Rattle.pid_http_requests.specs.declared.route.Route.TheVariants.{Export, Read, Children}
 use Rattle.pid_http_requests.specs.declared.route.Route.TheVariants.{Lookup, Submission, Pending}
 use Rattle.pid_http_requests.specs.declared.route.Route.TheVariants.{Changes, Queue, Submissions}
-use Rattle.pid_http_requests.specs.declared.route.Route.TheVariants.{Account, Submit}
+use Rattle.pid_http_requests.specs.declared.route.Route.TheVariants.{Status, Account, Submit}
 use Rattle.pid_http_requests.specs.declared.route.Route.TheVariants.{Comment, Withdraw, Approve}
 use Rattle.pid_http_requests.specs.declared.route.Route.TheVariants.{Confirm, Reject, Import}
 
@@ -61,6 +61,7 @@ table =
     ∷ literal (codes "/queue") Queue
     ∷ read_route
     ∷ literal (codes "/reject") Reject
+    ∷ literal (codes "/status") Status
     ∷ submission_route
     ∷ literal (codes "/submissions") Submissions
     ∷ literal (codes "/submit") Submit
@@ -82,6 +83,7 @@ method_at Pending = Some (codes "GET")
 method_at Changes = Some (codes "GET")
 method_at Queue = Some (codes "GET")
 method_at Submissions = Some (codes "GET")
+method_at Status = Some (codes "GET")
 method_at Account = None
 method_at Submit = Some (codes "POST")
 method_at Comment = Some (codes "POST")

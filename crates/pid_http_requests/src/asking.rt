@@ -14,6 +14,7 @@ ghost use Rattle.pid_http_requests.specs.Questions.{
   changes_asked,
   queue_asked,
   submissions_asked,
+  status_asked,
   rank_asked,
   account_asked,
   verb_asked,
@@ -140,6 +141,13 @@ fn submissions_of(
     }))
 }
 
+fn status_of(fields: &[(String, String)]) -> Option<Question>
+    ensures { result ≡ status_asked (texts_of fields.now) }
+{
+    let format = format_of(fields)?;
+    Some(Question::Status { format })
+}
+
 fn rank_of(alloc: Global, fields: &[(String, String)]) -> Result<Option<Question>, AllocError>
     ensures { IfOk result (λ asked. asked ≡ rank_asked (texts_of fields.now)) }
 {
@@ -206,6 +214,7 @@ pub(crate) fn ask_route(
         Route::Changes => Ok(buffered(changes_of(fields))),
         Route::Queue => Ok(buffered(queue_of(fields))),
         Route::Submissions => Ok(buffered(submissions_of(alloc, fields)?)),
+        Route::Status => Ok(buffered(status_of(fields))),
         Route::Account => Ok(buffered(account_of(alloc, method, fields)?)),
         Route::Submit => Ok(buffered(command_of(Verb::Submit, fields))),
         Route::Comment => Ok(buffered(command_of(Verb::Comment, fields))),

@@ -85,6 +85,10 @@ pub enum Question {
         before: u32,
         format: Format,
     },
+    /// How much the registry holds.
+    Status {
+        format: Format,
+    },
     /// The rank of an account.
     Rank {
         who: Account,

@@ -26,6 +26,8 @@ pub enum Route {
     Queue,
     /// `/submissions`
     Submissions,
+    /// `/status`
+    Status,
     /// `/account`
     Account,
     /// `/submit`
@@ -58,6 +60,7 @@ pub(crate) fn path_of(route: Route) -> &'static str
         Route::Changes => "/changes",
         Route::Queue => "/queue",
         Route::Submissions => "/submissions",
+        Route::Status => "/status",
         Route::Account => "/account",
         Route::Submit => "/submit",
         Route::Comment => "/comment",
@@ -82,7 +85,8 @@ pub(crate) fn method_for(route: Route) -> Option<Method>
         | Route::Pending
         | Route::Changes
         | Route::Queue
-        | Route::Submissions => Some(Method::GET),
+        | Route::Submissions
+        | Route::Status => Some(Method::GET),
         Route::Account => None,
         Route::Submit
         | Route::Comment

@@ -48,6 +48,7 @@ fn build_router(alloc: Global) -> Result<Router<Route>, InsertError>
         Route::Changes,
         Route::Queue,
         Route::Submissions,
+        Route::Status,
         Route::Account,
         Route::Submit,
         Route::Comment,

@@ -85,10 +85,13 @@ page_among most search looked_at = record {
   submissions = first_sought most search looked_at;
 }
 
--- a page looks at the first of those that are below the bound, at most so many
+-- the first of those that are below the bound, at most so many
+abbrev pub searched_in : ℕ → Search → Views → List Listing
+searched_in searched search v = take searched (listings_before search.before v)
+
+-- a page looks at these
 abbrev pub submissions_of : (most searched : ℕ) → Search → Views → ListingPage
-submissions_of most searched search v =
-    page_among most search (take searched (listings_before search.before v))
+submissions_of most searched search v = page_among most search (searched_in searched search v)
 
 -- the submission of a value of the code
 abbrev pub listed_of : Listed → Listing

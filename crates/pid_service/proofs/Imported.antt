@@ -26,7 +26,7 @@ use Rattle.pid_service.specs.declared.registry.Registry.{Registry}
 use Rattle.pid_service.specs.Histories.{IsMemoryOrStore, IsReached, Shows}
 use Rattle.pid_service.specs.Importing.{ObeysImport, ReadsImport}
 use Rattle.pid_service.specs.Steps.Importing.{AnswersPast, EndSpares, IsPlain}
-use Rattle.pid_service.specs.KeptViews.{KeepsRight}
+use Rattle.pid_service.specs.KeptViews.{KeepsNothing, KeepsRight, kept_views}
 use Rattle.pid_service.specs.Obeying.{Obeys}
 use Rattle.pid_service.specs.Registries.{connection, is_live}
 
@@ -109,13 +109,13 @@ module _ {S : Type 0} (store : Ghosts S) where
 
   refused_by : (r : Registry S store) (h : History) (c : Asked) (e : Refusal) → Shows store r h → RefusesImport h c e → Obeys store (Err e) r h c
   refused_by r h c e shows (inl told) = told_so r h c (Err e) shows told.0 told.1
-  refused_by r h c e shows (inr fault) = inr (fault, inl shows)
+  refused_by r h c e shows (inr fault) = inr (inl fault, inl shows)
 
   pub refused_obeyed : (old new : Registry S store) (h : History) (c : Asked) (e : Refusal) → Shows store old h → is_live new ≡ is_live old → KeepsRight store new h → EndsImport store (connection new) (Err (stops.Refused e)) h c → ObeysImport store (Err (imports.Refused e)) new h c
   refused_obeyed old new h c e shows same names stops = refused_by new h c e (shows_still old new h shows same stops.0 names) stops.1
 
-  pub failed_obeyed : (old new : Registry S store) (h : History) (c : Asked) (e : Refusal) → Shows store old h → is_live new ≡ false → IsReached (after h c) → EndsImport store (connection new) (Err (stops.Failed e)) h c → ObeysImport store (Err (imports.Refused e)) new h c
-  failed_obeyed old new h c e shows off reached stops = inr (stops.1, inr (record { has_failed = off; before = shows.history; next = reached; leaves = stops.0 }))
+  pub failed_obeyed : (old new : Registry S store) (h : History) (c : Asked) (e : Refusal) → Shows store old h → is_live new ≡ false → KeepsNothing (kept_views new) → IsReached (after h c) → EndsImport store (connection new) (Err (stops.Failed e)) h c → ObeysImport store (Err (imports.Refused e)) new h c
+  failed_obeyed old new h c e shows off none reached stops = inr (stops.1, inr (record { has_failed = off; forgotten = none; before = shows.history; next = reached; leaves = stops.0 }))
 
   pub body_carried : (old new : Registry S store) (h : History) (c : Asked) (stop : Stop) → stop ≡ stops.Body → Shows store old h → is_live new ≡ is_live old → KeepsRight store new h
       → EndsImport store (connection new) (Err stop) h c → ObeysImport store (Err imports.Body) new h c
@@ -126,11 +126,11 @@ module _ {S : Type 0} (store : Ghosts S) where
   refused_carried old new h c stop e is shows same names ends = refused_obeyed old new h c e shows same names (subst (λ (s : Stop). EndsImport store (connection new) (Err s) h c) is ends)
 
   -- what stops it, told as a fault
-  pub failed_carried : (old new : Registry S store) (h : History) (c : Asked) (stop : Stop) (refusal told : Refusal) → stop ≡ stops.Failed refusal → (IsMemoryOrStore refusal → told ≡ refusal) → Shows store old h → is_live new ≡ false → IsReached (after h c)
+  pub failed_carried : (old new : Registry S store) (h : History) (c : Asked) (stop : Stop) (refusal told : Refusal) → stop ≡ stops.Failed refusal → (IsMemoryOrStore refusal → told ≡ refusal) → Shows store old h → is_live new ≡ false → KeepsNothing (kept_views new) → IsReached (after h c)
       → EndsImport store (connection new) (Err stop) h c → ObeysImport store (Err (imports.Refused told)) new h c
-  failed_carried old new h c stop refusal told is same shows off reached ends =
+  failed_carried old new h c stop refusal told is same shows off none reached ends =
       let so : EndsImport store (connection new) (Err (stops.Failed refusal)) h c = subst (λ (s : Stop). EndsImport store (connection new) (Err s) h c) is ends in
-      subst (λ (e : Refusal). ObeysImport store (Err (imports.Refused e)) new h c) (sym (same so.1)) (failed_obeyed old new h c refusal shows off reached so)
+      subst (λ (e : Refusal). ObeysImport store (Err (imports.Refused e)) new h c) (sym (same so.1)) (failed_obeyed old new h c refusal shows off none reached so)
 
   -- bytes in memory
 

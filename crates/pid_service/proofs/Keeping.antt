@@ -6,10 +6,9 @@ use Rattle.pid_lookup.specs.CacheAgreement.{Agrees}
 use Rattle.pid_moderation.specs.Items.{Items, name_at}
 use Rattle.pid_moderation.specs.Views.{Views}
 use Rattle.pid_service.specs.ItemTexts.{text_of_items}
-use Rattle.pid_service.specs.KeptViews.{HoldsWaiting, IsRightFor, nothing}
+use Rattle.pid_service.specs.KeptViews.{HoldsWaiting, IsRightFor, KeepsNothing, nothing}
 use Rattle.pid_service.specs.declared.kept_views.KeptItems.{KeptItems}
 use Rattle.pid_service.specs.declared.kept_views.KeptViews.{KeptViews}
-use Rattle.pid_service.specs.Steps.KeptViews.{KeepsNothing}
 
 -- what is kept of the items is right about them
 abbrev pub ItemsRight : KeptItems → Items → Type 0

@@ -9,18 +9,19 @@ use Rattle.pid_moderation.specs.declared.refusal.Refusal.TheVariants.{BadText, F
 use Rattle.pid_service.specs.declared.importing.ImportEnd.{ImportEnd}
 use Rattle.pid_service.specs.declared.importing.ImportEnd.TheVariants.{Refused, Body}
 use Rattle.pid_service.specs.Asking.{MayGive}
-use Rattle.pid_service.specs.Histories.{IsMemoryOrStore}
+use Rattle.pid_service.specs.Histories.{IsMemoryOrStore, OverHistory}
+use Rattle.pid_moderation.specs.History.{Asked, Reading}
 use Rattle.sqlite_trees.specs.declared.store.Store.{Ghosts}
 use Rattle.pid_service.specs.declared.registry.Registry.{Registry}
-use Rattle.pid_service.specs.Importing.{EndIsNotFailed, EndLasts, ForgetsAll, IsEndFault, leaves_live}
-use Rattle.pid_service.specs.Obeying.{Lasts}
-use Rattle.pid_service.specs.Registries.{is_live}
+use Rattle.pid_service.specs.Importing.{EndIsNotFailed, EndLasts, ForgetsAll, IsEndFault, OfRefusal, leaves_live}
+use Rattle.pid_service.specs.Obeying.{ImportFaults, Lasts}
+use Rattle.pid_service.specs.Registries.{KeepsLimit, is_live}
 use Rattle.pid_service.specs.Steps.Importing.{EndStaysLive}
 use Rattle.pid_service.specs.Steps.Obeying.{StaysLive}
 use Rattle.pid_service.specs.Steps.Running.{fault_in}
 use Rattle.pid_service.proofs.Runs.{no_fault}
 
-no_outcome : (e : Refusal) → IsMemoryOrStore e → is_outcome (Err e) ≡ true → ⊥
+pub no_outcome : (e : Refusal) → IsMemoryOrStore e → is_outcome (Err e) ≡ true → ⊥
 no_outcome e (inl is) told = let no : is_outcome (Err Memory) ≡ true = subst (λ (x : Refusal). is_outcome (Err x) ≡ true) is told in let bad : ⊥ = cc in bad
 no_outcome e (inr is) told = let no : is_outcome (Err Store) ≡ true = subst (λ (x : Refusal). is_outcome (Err x) ≡ true) is told in let bad : ⊥ = cc in bad
 
@@ -78,19 +79,23 @@ carried (Ok reply) before after same = same
 carried (Err e) before after (fault, off) = (fault_alive e fault, inl fault)
 
 module _ {S : Type 0} (store : Ghosts S) (old new : Registry S store) where
-  pub lasting : (r : Result Reply Refusal) → StaysLive r (is_live old) (is_live new) → Lasts store old new r
-  lasting r held = record {
+  pub lasting : (r : Result Reply Refusal) → StaysLive r (is_live old) (is_live new) → KeepsLimit store old new → Lasts store old new r
+  lasting r held limit = record {
     alive = λ on. alive_so r (is_live old) (is_live new) held;
     stays = stays_live r (is_live old) (is_live new) held;
     fails = fails_so r (is_live old) (is_live new) held;
+    limit = limit;
   }
 
-  pub end_lasting : (r : Result Reply ImportEnd) → ForgetsAll store old new → EndStaysLive r (is_live old) (is_live new) → EndLasts store old new r
-  end_lasting r forgets held = record {
+  pub end_lasting : (asks : Reading → Asked) (r : Result Reply ImportEnd) → ForgetsAll store old new → EndStaysLive r (is_live old) (is_live new) → KeepsLimit store old new
+      → OverHistory store old new (λ h. (reading : Reading) → IfErr r (OfRefusal (ImportFaults store old new h (asks reading)))) → EndLasts store old new asks r
+  end_lasting asks r forgets held limit caused = record {
     forgets = forgets;
     alive = λ on. end_alive r (is_live old) (is_live new) held;
     stays = end_stays r (is_live old) (is_live new) held;
     fails = end_fails r (is_live old) (is_live new) held;
+    limit = limit;
+    caused = caused;
   }
 
 -- ---- a list

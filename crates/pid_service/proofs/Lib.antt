@@ -19,3 +19,4 @@ pub mod WalkEnds
 pub mod CountedLines
 pub mod PendingNumbers
 pub mod KeptNumbers
+pub mod ImportCauses

@@ -22,7 +22,7 @@ use Rattle.pid_service.specs.declared.registry.Registry.{Registry}
 use Rattle.pid_service.specs.Histories.{IsReached, Shows, IsMemoryOrStore}
 use Rattle.pid_service.specs.Asking.{IsCausedAs}
 use Rattle.pid_service.specs.Steps.Judging.{IsJudgedFor, JudgesCommand}
-use Rattle.pid_service.specs.KeptViews.{IsRightFor, kept_by, kept_views, nothing}
+use Rattle.pid_service.specs.KeptViews.{IsRightFor, KeepsNothing, kept_by, kept_views, nothing}
 use Rattle.pid_service.specs.declared.kept_views.KeptViews.{KeptViews}
 use Rattle.pid_service.specs.Obeying.{Forgets, IsAnswered, IsRefusedFor, Obeys}
 use Rattle.pid_service.specs.Registries.{HasCleanDisk, OnlyReads, connection, is_live}
@@ -53,11 +53,12 @@ module _ {S : Type 0} (store : Ghosts S) where
   )
 
   pub failed : (old new : Registry S store) (h : History) (c : Asked) (change : Change) (reply : Reply) (e : Refusal) → Shows store old h → JudgesCommand h c (Ok (Accepted change reply)) → IsReached (after h c)
-      → ((v : Views) → AtRest store (connection old) v → FitsViews change v → LeavesEither store (connection new) v (changed change v)) → is_live new ≡ false → IsMemoryOrStore e → Obeys store (Err e) new h c
-  failed old new h c change reply e shows told reached either off fault = inr (
+      → ((v : Views) → AtRest store (connection old) v → FitsViews change v → LeavesEither store (connection new) v (changed change v)) → is_live new ≡ false → KeepsNothing (kept_views new) → IsMemoryOrStore e → Obeys store (Err e) new h c
+  failed old new h c change reply e shows told reached either off none fault = inr (
     fault,
     inr (record {
       has_failed = off;
+      forgotten = none;
       before = shows.history;
       next = reached;
       leaves = subst (λ (w : Views). LeavesEither store (connection new) (views_of h) w) (sym told.1) (either (views_of h) shows.tables told.2);

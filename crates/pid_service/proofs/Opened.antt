@@ -1,10 +1,11 @@
 -- What an opened database is, by what it was.
 use Rattle.std.proofs.Common.{◌≡◌, ◌⊎◌, inl, inr, [], Bool, true, false, IsTrue, Some, Result, Ok, Err, IfErr, IfOk, MatchResult, refl, rules, sym, subst}
 use Rattle.sqlite.specs.Held.{Held, state}
-use Rattle.sqlite.specs.State.{State}
-use Rattle.sqlite.proofs.StateLemmas.{survives_then}
+use Rattle.sqlite.specs.State.{State, Survives}
+use Rattle.sqlite.proofs.StateLemmas.{survives_then, survives_weaker}
 use Rattle.sqlite_trees.specs.declared.store.Store.{Ghosts}
 use Rattle.sqlite.specs.Effect.{Database}
+use Rattle.sqlite.specs.Tree.{Trees}
 use Rattle.pid_moderation.specs.History.{History, new_history}
 use Rattle.pid_moderation.specs.Views.{Views, views_of}
 use Rattle.pid_tables_rows.specs.declared.fault.TableFault.{TableFault}
@@ -116,6 +117,13 @@ once_then_reads a b c once reads = record {
   written = once.written;
   survives = survives_then a b c (λ db. db ≡ once.written) (λ _. ⊥) (λ db. db ≡ once.written) (λ clean db is. is) (λ clean db none. absurd none) once.survives reads.survives;
 }
+
+-- nothing is written but what makes a registry
+pub made_then_reads : (IsMade : Trees → Type 0) (a b c : State) → Survives a b IsMade → OnlyReads b c → Survives a c IsMade
+made_then_reads IsMade a b c made reads = survives_then a b c IsMade (λ _. ⊥) IsMade (λ clean db is. is) (λ clean db none. absurd none) made reads.survives
+
+pub made_by_reads : (IsMade : Trees → Type 0) (a b : State) → OnlyReads a b → Survives a b IsMade
+made_by_reads IsMade a b reads = survives_weaker a b (λ _. ⊥) IsMade (λ clean db none. absurd none) reads.survives
 
 -- what is taken back is seen as before
 pub seen_back : (old new : State) → (IsTrue old.is_open → old.now ≡ old.committed) → IsTakenBack old new → IsTrue new.is_open → IsTrue old.is_open × (new.now ≡ old.now)

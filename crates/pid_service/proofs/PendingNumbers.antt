@@ -1,5 +1,5 @@
 -- The numbers of what is pending, after each change and page by page.
-use Rattle.std.proofs.Common.{◌≡◌, ℕ, zero, suc, ◌+◌, ◌-◌, ◌≤◌, ◌<◌, List, [], ◌∷◌, ◌++◌, length, map, filter, take, drop, get_or, Bool, true, false, cond, None, Some, Option, IfSome, refl, sym, ap, subst, ◌∙◌, arith, add-one}
+use Rattle.std.proofs.Common.{◌≡◌, ℕ, zero, suc, ◌+◌, ◌-◌, ◌≤◌, ◌<◌, List, [], ◌∷◌, ◌++◌, length, map, filter, take, drop, get_or, Bool, true, false, cond, None, Some, Option, IfSome, refl, sym, ap, subst, ◌∙◌, arith, add-one, length-append}
 use Rattle.std.specs.Prelude.{◌&&◌, ◌==◌, nat_lt, not, slice_get, option_map, if◌then◌else◌, Vec}
 use Rattle.std.specs.declared.alloc.Global.{Global}
 use Rattle.std.specs.List.{cons_option}
@@ -27,8 +27,8 @@ use Rattle.pid_tables_lists.specs.Pages.{last_of}
 use Rattle.pid_tables_lists.specs.Steps.PendingRows.{AreStandingIn}
 use Rattle.pid_tables_lists.proofs.PendingLists.{page_in}
 use Rattle.pid_service.specs.KeptViews.{HoldsWaiting, numbers_waiting}
-use Rattle.pid_service.specs.Steps.Waiting.{its_number}
 use Rattle.pid_tables_lists.specs.ByNumber.{standings_at}
+use Rattle.pid_service.specs.Steps.Waiting.{its_number}
 
 -- ---- what a change does
 
@@ -152,6 +152,22 @@ next_page law v most after page before told =
     let head : map its_number page ≡ map pending_number (take most all) = numbers_told page ∙ ap (map pending_number) told in
     (λ i. (before ++ head i) ++ rest i) ∙ append_assoc before (map pending_number (take most all)) (map pending_number (drop most all))
     ∙ ap (λ l. before ++ l) (sym (map-append pending_number (take most all) (drop most all)) ∙ ap (map pending_number) (take-append-drop most all))
+
+-- the same of their counts
+
+pub last_count : (v : Views) (most after : ℕ) (page : List Pending) (before : ℕ) → map told_of page ≡ pending_in most after v → length page < most → before + length page ≡ before + length (waiting_above after v)
+last_count v most after page before told short =
+    let many : length (pending_in most after v) ≡ length page = sym (ap length told) ∙ length-map page told_of in
+    ap (λ n. before + n) (sym many ∙ ap length (take_short most (waiting_above after v) (omega (arith, many, short))))
+
+pub next_count : PendingGoOn → (v : Views) (most after : ℕ) (page : List Pending) (before : ℕ) → map told_of page ≡ pending_in most after v
+    → (before + length page) + length (waiting_above (last_of pending_number after (map told_of page)) v) ≡ before + length (waiting_above after v)
+next_count law v most after page before told =
+    let all = waiting_above after v in
+    let many : length page ≡ length (take most all) = sym (length-map page told_of) ∙ ap length told in
+    let rest : length (waiting_above (last_of pending_number after (map told_of page)) v) ≡ length (drop most all) = ap (λ p. length (waiting_above (last_of pending_number after p) v)) told ∙ ap length (law most after v) in
+    let both : length all ≡ length (take most all) + length (drop most all) = sym (ap length (take-append-drop most all)) ∙ length-append (take most all) (drop most all) in
+    omega (arith, many, rest, both)
 
 -- the last one of a page
 pub last_is : (page : List Pending) (n after : ℕ) (p : Pending) → n + 1 ≡ length page → slice_get page n ≡ Some p → last_of pending_number after (map told_of page) ≡ p.number

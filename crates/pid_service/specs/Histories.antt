@@ -11,7 +11,7 @@ use Rattle.pid_service_laws.specs.Registries.{Showing}
 use Rattle.pid_tables_rows.specs.Clauses.{AtRest, LeavesEither}
 use Rattle.pid_service.specs.declared.registry.Registry.{Registry}
 use Rattle.pid_service.specs.Registries.{HasCleanDisk, connection, is_live}
-use Rattle.pid_service.specs.KeptViews.{KeepsRight}
+use Rattle.pid_service.specs.KeptViews.{KeepsNothing, KeepsRight, kept_views}
 
 -- Commands lead to the history from its beginning, at least as many accepted as its mark says. The
 -- mark is in no table.
@@ -32,10 +32,11 @@ module _ {S : Type 0} (store : Ghosts S) where
     pub tables : AtRest store (connection r) (views_of h)
     pub kept : KeepsRight store r h
 
-  -- The registry has failed. Everything that a crash may leave shows the one history or the other,
-  -- and commands lead to both.
+  -- The registry has failed, and keeps nothing in memory. Everything that a crash may leave shows
+  -- the one history or the other, and commands lead to both.
   pub record FailsBetween (r : Registry S store) (h after : History) : Type 0 where
     pub has_failed : is_live r ≡ false
+    pub forgotten : KeepsNothing (kept_views r)
     pub before : IsReached h
     pub next : IsReached after
     pub leaves : LeavesEither store (connection r) (views_of h) (views_of after)

@@ -17,8 +17,8 @@ use Rattle.pid_service.specs.declared.importing.ImportEnd.TheVariants.{Refused, 
 use Rattle.pid_service.specs.declared.registry.Registry.{Registry}
 use Rattle.pid_service.specs.Histories.{IsMemoryOrStore, OverHistory, Shows}
 use Rattle.pid_service.specs.KeptViews.{kept_by, nothing}
-use Rattle.pid_service.specs.Obeying.{Lasts, Obeys}
-use Rattle.pid_service.specs.Registries.{HasCleanDisk, is_live}
+use Rattle.pid_service.specs.Obeying.{ImportFaults, Lasts, Obeys}
+use Rattle.pid_service.specs.Registries.{HasCleanDisk, KeepsLimit, is_live}
 
 -- how much of the input was read: all of it, if it is not too long; one byte more than a file may
 -- have, if it has that, which is refused as a broken form, or as a registry that has failed refuses
@@ -61,6 +61,11 @@ abbrev pub IsEndFault : ImportEnd → Type 0
 IsEndFault (Refused e) = IsMemoryOrStore e
 IsEndFault Body = ⊥
 
+-- this holds of its refusal, unless the input failed
+abbrev pub OfRefusal : (Refusal → Type 0) → ImportEnd → Type 0
+OfRefusal Holds (Refused e) = Holds e
+OfRefusal Holds Body = Unit {0}
+
 -- what a registry that has failed answers, unless the input failed
 abbrev pub AnswersFailed : Result Reply ImportEnd → Type 0
 AnswersFailed result = (result ≡ Err (Refused Failed)) ⊎ (result ≡ Err Body)
@@ -77,14 +82,21 @@ module _ {S : Type 0} (store : Ghosts S) where
   ForgetsAll old new = (h : History) → Shows store old h
       → (kept_by new ≡ nothing) ⊎ Shows store new h
 
-  -- What becomes of a registry that is to obey an import of an input, whatever its disk does.
-  pub record EndLasts (old new : Registry S store) (result : Result Reply ImportEnd) : Type 0 where
+  -- What becomes of a registry that is to obey an import of an input. All but `caused` is so
+  -- whatever its disk does.
+  pub record EndLasts (old new : Registry S store) (asks : Reading → Asked)
+      (result : Result Reply ImportEnd) : Type 0 where
     pub forgets : ForgetsAll old new
     -- a live one does not answer that it had failed
     pub alive : is_live old ≡ true → IfErr result EndIsNotFailed
     -- nor does one fail but with the answer that memory ran out or the store failed
     pub stays : is_live old ≡ true → leaves_live result ≡ true → is_live new ≡ true
     pub fails : is_live old ≡ true → is_live new ≡ false → IsErrAnd result IsEndFault
+    -- no limit of steps was set
+    pub limit : KeepsLimit store old new
+    -- a fault has its cause, or the registry has failed, over an import that depends on its file
+    pub caused : OverHistory store old new (λ h. (reading : Reading)
+        → IfErr result (OfRefusal (ImportFaults store old new h (asks reading))))
 
   -- An import of these bytes was obeyed.
   pub record IsImported (old new : Registry S store) (asks : Reading → Asked) (file : List ℕ)
@@ -97,6 +109,9 @@ module _ {S : Type 0} (store : Ghosts S) where
         → (result ≡ Err BadText) × (new ≡ old)
     pub obeyed : OverHistory store old new
         (λ h. Obeys store result new h (asks (file_reading file)))
+    -- a fault has its cause, or the registry has failed, over an import that depends on its file
+    pub caused : OverHistory store old new (λ h. (reading : Reading)
+        → IfErr result (ImportFaults store old new h (asks reading)))
     pub forgets : ForgetsAll old new
     pub lasts : Lasts store old new result
 

@@ -26,6 +26,11 @@ kept_by r = r.kept.items
 abbrev pub nothing : KeptItems
 nothing = record { names = []; text = None }
 
+-- nothing is kept
+pub record KeepsNothing (k : KeptViews) : Type 0 where
+  pub items : k.items ≡ nothing
+  pub pending : k.pending ≡ None
+
 -- the numbers of what is pending, rising
 abbrev pub numbers_waiting : Views → List ℕ
 numbers_waiting v = map (λ (s : ℕ × Standing). s.0) (waiting_above 0 v)

@@ -7,7 +7,9 @@ use Rattle.pid_moderation.specs.declared.command.Command.{Command}
 use Rattle.pid_moderation.specs.declared.command.Reply.{Reply}
 use Rattle.pid_moderation.specs.declared.refusal.Refusal.{Refusal}
 use Rattle.pid_moderation.specs.declared.refusal.Refusal.TheVariants.{BadText, Failed}
+use Rattle.pid_moderation.specs.BeforeFile.{WaitsForFile}
 use Rattle.pid_moderation.specs.CheckTables.{is_broken}
+use Rattle.pid_moderation.specs.FactsOfViews.{NoRows, facts_at}
 use Rattle.pid_moderation.specs.History.{Asked, History, is_import}
 use Rattle.pid_moderation.specs.Judgement.{after, answer, judge}
 use Rattle.pid_moderation.specs.Views.{items_of, views_of}
@@ -16,7 +18,7 @@ use Rattle.pid_service.specs.declared.registry.Registry.{Registry}
 use Rattle.pid_service.specs.Asking.{FaultIsCaused}
 use Rattle.pid_service.specs.Histories.{IsMemoryOrStore, OverHistory, Shows, showing}
 use Rattle.pid_service.specs.KeptViews.{kept_by, nothing}
-use Rattle.pid_service.specs.Registries.{HasCleanDisk, is_live}
+use Rattle.pid_service.specs.Registries.{HasCleanDisk, KeepsLimit, is_live}
 
 -- What a session asks of a command (`CommandLeaves` of pid_service_laws). The answer is that of the
 -- judgement over the history, and the registry shows the history after the command. Or memory ran
@@ -40,20 +42,35 @@ IsRefusedFor store old new h c e = (answer (judge (views_of h) c) ≡ Err e)
     ⊎ (((is_live new ≡ true) × FaultIsCaused store old new e)
     ⊎ ((is_live new ≡ false) × IsAnswered h c))
 
+-- the answer of an import depends on its file: no reply is kept for it, and no check before those of
+-- the file fails
+abbrev pub DependsOnFile : History → Asked → Type 0
+DependsOnFile h c = WaitsForFile (facts_at (views_of h) c.account c.key NoRows)
+
+-- A fault of an import has its cause in the call, and the registry is live still; or it has failed,
+-- over an import that depends on its file.
+abbrev pub ImportFaults : {S : Type 0} → (store : Ghosts S) → Registry S store → Registry S store
+    → History → Asked → Refusal → Type 0
+ImportFaults store old new h c e = IsMemoryOrStore e
+    → ((is_live new ≡ true) × FaultIsCaused store old new e)
+    ⊎ ((is_live new ≡ false) × DependsOnFile h c)
+
 -- Of a command that leaves other items no name is kept in memory, unless the registry shows the
 -- history as before. So one that has failed keeps no old name either.
 abbrev pub Forgets : {S : Type 0} → (store : Ghosts S) → Registry S store → History → Asked → Type 0
 Forgets store r h c = items_of (after h c) ≢ items_of h → (kept_by r ≡ nothing) ⊎ Shows store r h
 
 module _ {S : Type 0} (store : Ghosts S) where
-  -- What becomes of a live registry that is to obey, whatever its disk does.
+  -- What becomes of a registry that is to obey, whatever its disk does.
   pub record Lasts (old new : Registry S store) (result : Result Reply Refusal) : Type 0 where
-    -- it does not answer that it had failed
+    -- a live one does not answer that it had failed
     pub alive : is_live old ≡ true → IfErr result (λ e. e ≢ Failed)
     -- an outcome leaves it live
     pub stays : is_live old ≡ true → is_outcome result ≡ true → is_live new ≡ true
     -- and if it has failed since, memory ran out or its store failed
     pub fails : is_live old ≡ true → is_live new ≡ false → IsErrAnd result IsMemoryOrStore
+    -- no limit of steps was set
+    pub limit : KeepsLimit store old new
 
   -- A command was obeyed.
   pub record IsObeyed (old new : Registry S store) (command : Command)
@@ -71,6 +88,9 @@ module _ {S : Type 0} (store : Ghosts S) where
     -- judgement does not refuse.
     pub caused : OverHistory store old new (λ h. is_import command.act ≡ false
         → IfErr result (IsRefusedFor store old new h (asks command)))
+    -- An import has its refusal from the judgement, as `obeyed` says, or for such a fault.
+    pub import_caused : OverHistory store old new (λ h. is_import command.act ≡ true
+        → IfErr result (ImportFaults store old new h (asks command)))
     -- if it leaves other items, no name is kept in memory
     pub forgets : OverHistory store old new (λ h. Forgets store new h (asks command))
     pub lasts : Lasts old new result

@@ -18,6 +18,7 @@ use Rattle.pid_tables.specs.declared.migration.Step.{Step}
 use Rattle.pid_tables.specs.declared.migration.Step.TheVariants.{Created, Moved, Already}
 use Rattle.pid_tables.specs.Bringing.{NamesLatest}
 use Rattle.pid_tables.specs.Clauses as tables
+use Rattle.pid_tables.specs.Statements.{IsMadeBy, registry_statements}
 use Rattle.pid_service.specs.declared.registry.Registry.{Registry}
 use Rattle.pid_service.specs.Histories.{IsReached, Shows}
 use Rattle.pid_service.specs.Registries as registries
@@ -102,6 +103,12 @@ module _ {S : Type 0} (store : Ghosts S) where
   step_of (Ok r) = Ok r.1
   step_of (Err e) = Err e.0
 
+  -- where there is no table, whatever else there is, nothing is written but what makes a registry: a
+  -- crash leaves what it left before, or all of it
+  abbrev pub MakesRegistry : Held S → Held S → Type 0
+  MakesRegistry old new = HasNoTable (seen store old).schema
+      → clauses.Survives store old new (IsMadeBy store registry_statements old)
+
   -- What an opening leaves of a connection, whatever is in the file.
   pub record OpensAtOnce {X : Type 0} (old new : Held S) (result : Result X TableFault)
       : Type 0 where
@@ -112,6 +119,7 @@ module _ {S : Type 0} (store : Ghosts S) where
     -- After a fault nothing of the step is seen; or it may have been made, and the fault says what
     -- fails of what is seen now.
     pub back : IfErr result (λ e. tables.IsTakenBack store old new ⊎ MayHaveMade old e new)
+    pub made : MakesRegistry old new
 
   -- What an opening answers, by what there is, while the disk returns what was written.
   pub record ExplainsOpening {X : Type 0} (old new : Held S) (result : Result X TableFault)
@@ -170,6 +178,7 @@ module _ {S : Type 0} (store : Ghosts S) where
     -- seen
     pub once : tables.IsOneStep store conn (moved_to result)
     pub back : IfErr result (λ e. tables.IsTakenBack store conn e.1)
+    pub made : MakesRegistry conn (moved_to result)
     -- One that fails, or finds nothing to do, leaves all that is seen as it was.
     pub unchanged : MatchResult result (λ r. r.1 ≡ Already → SeesTheSame conn r.0)
         (λ e. SeesTheSame conn e.1)

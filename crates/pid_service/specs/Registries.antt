@@ -23,6 +23,10 @@ module _ {S : Type 0} (store : Ghosts S) where
   abbrev pub OnlyReads : Registry S store → Registry S store → Type 0
   OnlyReads old new = clauses.OnlyReads store (connection old) (connection new)
 
+  -- no limit of steps was set, which is a cause of faults: it is as it was
+  abbrev pub KeepsLimit : Registry S store → Registry S store → Type 0
+  KeepsLimit old new = (connection new).step_limit ≡ (connection old).step_limit
+
   -- It was asked questions alone: it is live or has failed as before, what was at rest stays as it
   -- was, and one that has failed is the same.
   pub record OnlyAsked (start now : Registry S store) : Type 0 where

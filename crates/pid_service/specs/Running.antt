@@ -18,7 +18,7 @@ use Rattle.pid_service.specs.Asking.{MayGive}
 use Rattle.pid_service.specs.Histories.{Shows, FailsBetween, IsMemoryOrStore, OverHistory}
 use Rattle.pid_service.specs.KeptViews.{kept_by, nothing}
 use Rattle.pid_service.specs.Obeying.{Forgets}
-use Rattle.pid_service.specs.Registries.{HasCleanDisk, is_live}
+use Rattle.pid_service.specs.Registries.{HasCleanDisk, KeepsLimit, is_live}
 
 -- it does not say that the registry had failed before
 abbrev pub ReplyIsNotFailed : Result Reply Refusal → Type 0
@@ -82,5 +82,7 @@ module _ {S : Type 0} (store : Ghosts S) where
     -- ran out of memory, or its store failed,
     pub stays : is_live old ≡ true → report.fault ≡ None → is_live new ≡ true
     pub fails : is_live old ≡ true → is_live new ≡ false → IsSomeAnd report.fault IsMemoryOrStore
-    -- and no live one replies that it had failed.
+    -- no live one replies that it had failed,
     pub alive : is_live old ≡ true → AllByRecursion ReplyIsNotFailed report.replies.items
+    -- and no limit of steps was set.
+    pub limit : KeepsLimit store old new

@@ -4,7 +4,6 @@ pub mod Exports
 pub mod Importing
 pub mod ItemTexts
 pub mod Judging
-pub mod KeptViews
 pub mod TextSinks
 pub mod Obeying
 pub mod Opening

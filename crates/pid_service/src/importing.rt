@@ -1,7 +1,9 @@
 //! An import, whose file comes as an input or as bytes.
-ghost use Rattle.std.specs.Prelude.{◌≡◌, ◌≢◌, Bool, [], false, Err, IfErr};
+ghost use Rattle.std.specs.Prelude.{◌≡◌, ◌≢◌, Bool, [], true, false, Err, IfErr};
 ghost use Rattle.pid_moderation.specs.BeforeFile.{import_of};
-ghost use Rattle.pid_service.specs.Histories.{IsMemoryOrStore};
+ghost use Rattle.pid_moderation.specs.History.{History, Reading, asked, is_import};
+ghost use Rattle.pid_tables.specs.Judging.{WhereOpen};
+ghost use Rattle.pid_service.specs.Histories.{IsMemoryOrStore, OverHistory, Shows};
 ghost use Rattle.pid_service.specs.Importing.{
   AnswersFailed,
   EndIsNotFailed,
@@ -11,14 +13,16 @@ ghost use Rattle.pid_service.specs.Importing.{
   IsImported,
   InputIsRead,
   ObeysText,
+  OfRefusal,
 };
 ghost use Rattle.pid_service.specs.KeptViews.{kept_by, nothing};
-ghost use Rattle.pid_service.specs.Obeying.{Obeys};
-ghost use Rattle.pid_service.specs.Registries.{HasCleanDisk, is_live as lives};
+ghost use Rattle.pid_service.specs.Obeying.{ImportFaults, Obeys};
+ghost use Rattle.pid_service.specs.Registries.{HasCleanDisk, KeepsLimit, is_live as lives};
 ghost use Rattle.pid_service.specs.Steps.Importing.{
   AnswersPast,
   CarriesText,
   EndStaysLive,
+  FaultStays,
   IsPlain,
   OverBytes,
   TakesText,
@@ -126,7 +130,12 @@ impl<S: Alter + Drop> Registry<S> {
         ensures forgets { kept_by self.new ≡ nothing }
         ensures reads { InputIsRead I.Input input.old input.new result }
         ensures held { EndStaysLive result (lives self.old) (lives self.new) }
+        ensures limit { KeepsLimit S.Store self.old self.new }
+        ensures caused { HasCleanDisk S.Store self.new → (h : History)
+            → Shows S.Store self.old h → WhereOpen h command.now facts.old items
+            (IfErr result (OfRefusal (FaultStays (lives self.new)))) }
     {
+        pid_service_laws::judgements_are_outcomes(); // proof only
         self.kept.clear();
         match bring_in(
             &mut self.tables.conn,
@@ -155,12 +164,18 @@ impl<S: Alter + Drop> Registry<S> {
         ensures none { kept_by self.old ≡ nothing → kept_by self.new ≡ nothing }
         ensures reads { InputIsRead I.Input input.old input.new result }
         ensures held { EndStaysLive result (lives self.old) (lives self.new) }
+        ensures limit { KeepsLimit S.Store self.old self.new }
+        ensures caused { OverHistory S.Store self.old self.new
+            (λ h. (reading : Reading) → is_import command.now.act ≡ true
+            → IfErr result (OfRefusal (ImportFaults S.Store self.old self.new h
+            (asked command.now reading)))) }
     {
         pid_moderation::laws::command_is_well_made(command); // proof only
         laws::commands_lead_on(); // proof only
         laws::reached_histories_are_kept(); // proof only
         pid_tables::laws::texts_read_to_files(); // proof only
         pid_tables::laws::long_files_are_refused(); // proof only
+        pid_service_laws::judgements_are_outcomes(); // proof only
         match judge_import(&mut self.tables, self.alloc, command) {
             Early::Answered(answer) => answer_past(answer, input),
             Early::Open { mut facts, items } => self.carry_in(&mut facts, items, command, input),
@@ -177,6 +192,11 @@ impl<S: Alter + Drop> Registry<S> {
             (SparesNames result self.new) }
         ensures none { kept_by self.old ≡ nothing → kept_by self.new ≡ nothing }
         ensures held { StaysLive result (lives self.old) (lives self.new) }
+        ensures limit { KeepsLimit S.Store self.old self.new }
+        ensures caused { OverHistory S.Store self.old self.new
+            (λ h. (reading : Reading) → is_import command.now.act ≡ true
+            → IfErr result (ImportFaults S.Store self.old self.new h
+            (asked command.now reading))) }
     {
         let mut input = SliceInput::new(file);
         let end = self.import_act(command, &mut input);
@@ -201,7 +221,7 @@ impl<S: Alter + Drop> Registry<S> {
         ensures obeyed { HasRead result (I.to_come input.old) (I.to_come input.new)
             (ObeysText S.Store self.old self.new result (import_of account key)) }
         ensures reads { InputIsRead I.Input input.old input.new result }
-        ensures lasts { EndLasts S.Store self.old self.new result }
+        ensures lasts { EndLasts S.Store self.old self.new (import_of account key) result }
     {
         if !self.live {
             return match skip_input(FILE_BYTES, input) {

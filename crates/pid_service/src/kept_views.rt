@@ -14,8 +14,7 @@ ghost use Rattle.pid_moderation.specs.Changes.{FitsEffect, FitsViews, affected, 
 ghost use Rattle.pid_moderation.specs.CheckTables.{is_pending};
 ghost use Rattle.pid_moderation.specs.Views.{Views};
 ghost use Rattle.pid_tables_rows.specs.Shows.{AreViews};
-ghost use Rattle.pid_service.specs.KeptViews.{HoldsWaiting, IsRightFor, nothing};
-ghost use Rattle.pid_service.specs.Steps.KeptViews.{KeepsNothing};
+ghost use Rattle.pid_service.specs.KeptViews.{HoldsWaiting, IsRightFor, KeepsNothing, nothing};
 
 use crate::waiting::add_number;
 use pid_lookup::NameCache;

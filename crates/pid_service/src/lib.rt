@@ -19,6 +19,7 @@ mod pending;
 mod reading;
 mod registry;
 mod running;
+mod status;
 mod waiting;
 mod writing;
 
@@ -39,6 +40,6 @@ pub use pid_ident::{Account, Input, Key, Name, Output, Path, Text};
 pub use pid_lookup::{Answer, Args, BadField, LookupRefusal, args_of};
 pub use pid_moderation::{
     Act, ChangedItem, Changes, Command, Comment, Discussion, File, Item, Pending, Proposal, Queued,
-    Rank, Refusal, Reply, State, Submission, SubmissionPage, Verb, command_of, reply_line,
+    Rank, Refusal, Reply, State, Status, Submission, SubmissionPage, Verb, command_of, reply_line,
 };
 pub use pid_tables::{Step, TableFault};

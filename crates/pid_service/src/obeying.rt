@@ -7,7 +7,7 @@ ghost use Rattle.pid_tables.specs.Files.{asks};
 ghost use Rattle.pid_service.specs.Histories.{OverHistory};
 ghost use Rattle.pid_service.specs.KeptViews.{kept_by, nothing};
 ghost use Rattle.pid_service.specs.Obeying.{IsObeyed, Obeys};
-ghost use Rattle.pid_service.specs.Registries.{HasCleanDisk};
+ghost use Rattle.pid_service.specs.Registries.{HasCleanDisk, KeepsLimit};
 ghost use Rattle.pid_service.specs.Steps.Obeying.{IsAccepted, LivesOrFails, SparesNames};
 
 use crate::judging::{Judged, judge};
@@ -29,6 +29,7 @@ impl<S: Alter + Drop> Registry<S> {
             → (kept_by self.new ≡ nothing) ⊎ (items_of (after h c) ≡ items_of h) }
         ensures none { kept_by self.old ≡ nothing → kept_by self.new ≡ nothing }
         ensures held { LivesOrFails S.Store result self.old self.new }
+        ensures limit { KeepsLimit S.Store self.old self.new }
     {
         laws::reached_histories_are_kept(); // proof only
         pid_tables::laws::views_of_sound_histories(); // proof only

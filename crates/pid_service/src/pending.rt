@@ -16,7 +16,7 @@ use sqlite::Alter;
 impl<S: Alter + Drop> Registry<S> {
     // Reads the numbers of what is pending, unless that was done, and keeps them if memory is there
     // for them.
-    fn keep_pending(&mut self) -> Result<(), Refusal>
+    pub(crate) fn keep_pending(&mut self) -> Result<(), Refusal>
         ensures { Answers S.Store self.old self.new result (λ h _. Unit {0}) }
     {
         if !self.live {

@@ -15,7 +15,7 @@ ghost use Rattle.std.specs.Prelude.{
 ghost use Rattle.std.specs.List.{AllByRecursion};
 ghost use Rattle.pid_tables.specs.Files.{asks};
 ghost use Rattle.pid_service.specs.Histories.{IsMemoryOrStore, OverHistory};
-ghost use Rattle.pid_service.specs.Registries.{HasCleanDisk, is_live as lives};
+ghost use Rattle.pid_service.specs.Registries.{HasCleanDisk, KeepsLimit, is_live as lives};
 ghost use Rattle.pid_service.specs.Running.{ReplyIsNotFailed, ForgetsRun, IsRun, Runs};
 ghost use Rattle.pid_service.specs.Steps.Running.{CountsReplies, fault_in};
 
@@ -65,6 +65,7 @@ impl<S: Alter + Drop> Registry<S> {
             → (lives self.new ≡ true) ⊎ IsSomeAnd result.fault IsMemoryOrStore }
         ensures alive { lives self.old ≡ true
             → AllByRecursion ReplyIsNotFailed result.replies.items }
+        ensures limit { KeepsLimit S.Store self.old self.new }
     {
         for command in commands {
             let outcome = self.obey_lent(command);

@@ -3,16 +3,18 @@ ghost use Rattle.std.specs.Prelude.{
   ◌≡◌,
   ◌∷◌,
   ◌++◌,
+  ◌+◌,
   [],
   true,
   false,
   nat_lt,
   IfSome,
   filter,
+  length,
   map,
   take,
 };
-ghost use Rattle.pid_moderation.specs.PendingPages.{told_of};
+ghost use Rattle.pid_moderation.specs.PendingPages.{told_of, waiting_above};
 ghost use Rattle.pid_tables_rows.specs.Clauses.{Reads};
 ghost use Rattle.pid_tables_lists.specs.Laws.{pending_number};
 ghost use Rattle.pid_tables_lists.specs.Pages.{last_of};
@@ -83,6 +85,40 @@ pub(crate) fn waiting_numbers<S: Alter + Drop>(
         after = last_number(after, page.as_slice());
     }
     Ok(None)
+}
+
+// A count and the length of a page.
+fn plus(count: u32, page: &[Pending]) -> Option<u32>
+    ensures { IfSome result (λ n. n ≡ count + length page.now) }
+{
+    let more = u32::try_from(page.len()).ok()?;
+    count.checked_add(more)
+}
+
+/// How many submissions are pending, by pages of them.
+pub(crate) fn count_waiting<S: Alter + Drop>(
+    tables: &mut Tables<S>,
+    alloc: Global,
+) -> Result<u32, TableFault>
+    requires { tables.old.conn.in_transaction ≡ false }
+    ensures { Reads S.Store tables.old.conn tables.new.conn result
+        (λ v n. n ≡ length (waiting_above 0 v)) }
+{
+    pid_tables_lists::laws::pending_go_on(); // proof only
+    let mut count = 0u32;
+    let mut after = 0;
+    for _ in 0..u32::MAX {
+        let page = tables.pending_page(alloc, after)?;
+        let Some(more) = plus(count, page.as_slice()) else {
+            return Err(TableFault::Memory);
+        };
+        if page.len() < PAGE {
+            return Ok(more);
+        }
+        count = more;
+        after = last_number(after, page.as_slice());
+    }
+    Err(TableFault::Memory)
 }
 
 /// The first numbers above a number, as many as a page holds. None if memory runs out.

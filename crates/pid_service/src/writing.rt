@@ -18,6 +18,7 @@ pub(crate) fn write<S: Alter>(
     requires { conn.old.in_transaction ≡ false }
     ensures settled { conn.new.in_transaction ≡ false }
     ensures clean { HasCleanDisk S.Store conn.new → HasCleanDisk S.Store conn.old }
+    ensures limit { conn.new.step_limit ≡ conn.old.step_limit }
     ensures stands { (v : Views) → AtRest S.Store conn.old v → FitsViews change.now v
         → OnOk result (AtRest S.Store conn.new (changed change.now v)) }
     ensures either { (v : Views) → AtRest S.Store conn.old v → FitsViews change.now v

@@ -1,5 +1,5 @@
 -- What calls that write in one transaction leave, whatever the database.
-use Rattle.std.proofs.Common.{◌≡◌, inl, inr, true, false, [], Ok, Err, Result, IfErr, OnErr, IsTrue, refl, sym, subst, ◌∙◌}
+use Rattle.std.proofs.Common.{◌≡◌, inl, inr, true, false, [], Ok, Err, Result, IfErr, OnErr, OnOk, IsTrue, refl, sym, subst, ◌∙◌}
 use Rattle.sqlite.proofs.Callers.{survives_begin}
 use Rattle.sqlite.proofs.StateLemmas.{survives_then}
 use Rattle.sqlite.specs.Held.{Held, state}
@@ -15,7 +15,7 @@ use Rattle.pid_tables_rows.specs.Shows.{Shows}
 use Rattle.pid_tables_rows.proofs.GoingLemmas.{earlier}
 use Rattle.pid_tables_rows.proofs.LeaveLemmas.{on_err, shows_found}
 use Rattle.pid_tables_rows.proofs.OnlyReading.{reads_then}
-use Rattle.pid_tables.specs.AtOnce.{IsOneStep, IsTakenBack, WritesAtOnce}
+use Rattle.pid_tables.specs.AtOnce.{IsCommitted, IsOneStep, IsTakenBack, WritesAtOnce}
 use Rattle.pid_tables.specs.Creation.{AreMade, IsUndone, RestsBare}
 use Rattle.pid_tables.proofs.MoveLemmas.{all_err, never_told, or_never}
 
@@ -150,6 +150,11 @@ module _ {S X E : Type 0} (g : Ghosts S) (old mid end : Held S) (r : Result X E)
             ];
           };
         }
+
+-- what is known of these trees is known of what is kept
+pub kept_as : {X E : Type 0} (P : Trees → Type 0) (trees : Trees) (s : State) (r : Result X E) → P trees → OnOk r (IsCommitted (λ db. db ≡ trees) s) → OnOk r (IsCommitted P s)
+kept_as P trees s (Ok x) holds kept = record { is_open = kept.is_open; sees = subst P (sym kept.sees) holds; leaves = kept.leaves }
+kept_as P trees s (Err e) holds kept = tt
 
 -- ---- no table
 

@@ -5,6 +5,7 @@ use Rattle.sqlite.specs.Change.{is_used}
 use Rattle.sqlite.specs.Effect.{Database}
 use Rattle.sqlite.specs.Held.{Held, state}
 use Rattle.sqlite.specs.State.{State, HasCleanDisk, Survives}
+use Rattle.sqlite.specs.Tree.{Trees}
 use Rattle.sqlite_rules.specs.Lists.{Has}
 use Rattle.sqlite_trees.specs.declared.store.Store.{Ghosts}
 use Rattle.pid_moderation.specs.History.{new_history}
@@ -24,7 +25,7 @@ use Rattle.pid_tables_rows.proofs.LeaveLemmas.{rests_in_two}
 use Rattle.pid_tables_rows.proofs.OnlyReading.{reads_then, rests_in_still}
 use Rattle.pid_tables_check.specs.Shapes.{HasNoTable, HasSomeTable, IsMadeFirst}
 use Rattle.pid_tables_check.proofs.Complete.{made_first}
-use Rattle.pid_tables.specs.AtOnce.{IsOneStep}
+use Rattle.pid_tables.specs.AtOnce.{IsCommitted, IsOneStep}
 use Rattle.pid_tables.specs.Creation.{table_names, IsNameTaken, RestsBare}
 use Rattle.pid_tables.specs.Statements.{Statement, IsMadeBy}
 use Rattle.pid_tables.specs.Bringing.{Brings, Left, Raised, HandsLatest, NamesLatest, Refuses, Stays}
@@ -58,6 +59,14 @@ with_step P Q what found (Ok x) is step h = (step ∙ ap step_for is, h)
 with_step P Q what found (Err e) is step h = h
 
 -- what is made of the database that was read before
+made_before : {S : Type 0} (g : Ghosts S) (statements : List Statement) (old mid : Held S) → OnlyReads (state g old) (state g mid) → (IsTrue (state g mid).is_open → (state g mid).now ≡ (state g old).now) → (db : Trees) → IsMadeBy g statements mid db → IsMadeBy g statements old db
+made_before g statements old mid reads same db is = record { was_open = reads.was_open is.was_open; first = is.first; same = is.same ∙ same is.was_open; last = is.last; carried = is.carried; made = is.made }
+
+pub reads_then_kept : {S X E : Type 0} (g : Ghosts S) (statements : List Statement) (old mid new : Held S) (r : Result X E) → OnlyReads (state g old) (state g mid) → (IsTrue (state g mid).is_open → (state g mid).now ≡ (state g old).now)
+    → OnOk r (IsCommitted (IsMadeBy g statements mid) (state g new)) → OnOk r (IsCommitted (IsMadeBy g statements old) (state g new))
+reads_then_kept g statements old mid new (Ok x) reads same kept = record { is_open = kept.is_open; sees = made_before g statements old mid reads same (state g new).now.trees kept.sees; leaves = kept.leaves }
+reads_then_kept g statements old mid new (Err e) reads same kept = tt
+
 pub reads_then_made : {S : Type 0} (g : Ghosts S) (statements : List Statement) (old mid new : Held S) → OnlyReads (state g old) (state g mid) → (IsTrue (state g mid).is_open → (state g mid).now ≡ (state g old).now) → IsOneStep (state g mid) (state g new)
     → (HasCleanDisk (state g new) → Survives (state g mid) (state g new) (IsMadeBy g statements mid)) → Survives (state g old) (state g new) (IsMadeBy g statements old)
 reads_then_made g statements old mid new reads same once made =
@@ -70,7 +79,7 @@ reads_then_made g statements old mid new reads same once made =
       closes = whole.closes;
       crash = λ clean db may. elim ((made clean).crash clean db may) [
         | inl before ↦ elim (reads.survives.crash (earlier (state g mid) (state g new) once.survives clean) db before) [ inl first ↦ inl first | inr none ↦ absurd none ]
-        | inr is ↦ inr (record { was_open = reads.was_open is.was_open; first = is.first; same = is.same ∙ same is.was_open; last = is.last; carried = is.carried; made = is.made })
+        | inr is ↦ inr (made_before g statements old mid reads same db is)
       ];
     }
 

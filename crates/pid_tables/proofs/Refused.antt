@@ -33,7 +33,7 @@ refusal_told h c HasChildren told = told_by h c HasChildren (told (λ bad. let n
 refusal_told h c NothingToDo told = told_by h c NothingToDo (told (λ bad. let no : ⊥ = cc in no))
 refusal_told h c (FileFault f) told = told_by h c (FileFault f) (told (λ bad. let no : ⊥ = cc in no))
 refusal_told h c Full told = told_by h c Full (told (λ bad. let no : ⊥ = cc in no))
-refusal_told h c Memory told = inr (inl refl)
+refusal_told h c Memory told = inr refl
 refusal_told h c Store told = told_by h c Store (told (λ bad. let no : ⊥ = cc in no))
 refusal_told h c Failed told = told_by h c Failed (told (λ bad. let no : ⊥ = cc in no))
 refusal_told h c Changed told = told_by h c Changed (told (λ bad. let no : ⊥ = cc in no))

@@ -12,6 +12,13 @@ pub record IsOneStep (old new : State) : Type 0 where
   pub written : Trees
   pub survives : Survives old new (λ db. db ≡ written)
 
+-- all of it is seen: the connection is open and sees such trees, and a crash leaves those that it
+-- sees
+pub record IsCommitted (IsSuch : Trees → Type 0) (s : State) : Type 0 where
+  pub is_open : IsTrue s.is_open
+  pub sees : IsSuch s.now.trees
+  pub leaves : (db : Trees) → s.may_leave db → db ≡ s.now.trees
+
 -- nothing of it is seen: while it is open, the connection was open before, and rests on the
 -- database that it rested on
 pub record IsTakenBack (old new : State) : Type 0 where

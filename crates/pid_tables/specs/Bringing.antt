@@ -1,5 +1,5 @@
 -- What a database that is moved to schema 2 had, and what becomes of it.
-use Rattle.std.specs.Prelude.{◌≡◌, ◌⊎◌, ℕ, false, List, Option, Some, codes}
+use Rattle.std.specs.Prelude.{◌≡◌, ◌⊎◌, ℕ, false, List, Some, codes}
 use Rattle.std.specs.Prelude.{Result, IfErr, IfOk, OnOk, MatchResult, IsTrue}
 use Rattle.sqlite.specs.Effect.{Database}
 use Rattle.sqlite.specs.Order.{Row}
@@ -18,6 +18,7 @@ use Rattle.pid_tables_rows.specs.Leaves.{AtRest, OnlyReads, RestsIn}
 use Rattle.pid_tables_check.specs.Checking.{Explains, FindsVersion}
 use Rattle.pid_tables_check.specs.Conditions.{label_row}
 use Rattle.pid_tables_check.specs.Shapes.{HasNoTable, HasSomeTable, IsMadeFirst, ShowsRows}
+use Rattle.pid_tables.specs.AtOnce.{IsCommitted}
 use Rattle.pid_tables.specs.Creation.{IsNameTaken, RestsBare}
 use Rattle.pid_tables.specs.declared.migration.Step.{Step}
 use Rattle.pid_tables.specs.declared.migration.Step.TheVariants.{Created, Moved, Already}
@@ -105,6 +106,8 @@ pub record MigratesNone (IsMade : Trees → Type 0) (old new : State)
     (result : Result Step TableFault) : Type 0 where
   -- Nothing is written but what makes a registry: a crash leaves what it left before, or all of it.
   pub made : HasNoTable old.now.schema → Survives old new IsMade
+  -- If a value is answered, the connection sees all of it, and a crash leaves it.
+  pub done : HasCleanDisk new → HasNoTable old.now.schema → OnOk result (IsCommitted IsMade new)
   -- It answers no other step than that they were made, and reports no later schema.
   pub bare : HasCleanDisk new → HasNoTable old.now.schema
       → MatchResult result (λ step. step ≡ Created) IsNotNewerSchema

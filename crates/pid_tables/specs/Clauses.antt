@@ -1,13 +1,12 @@
 -- What clauses say of a connection while tables are made or moved: the definitions of Creation,
 -- AtOnce, Bringing, Making and ShowsOrBlank, of what the connections show; `store` is `S.Store`.
-use Rattle.std.specs.Prelude.{ℕ, List, Option, Result}
+use Rattle.std.specs.Prelude.{ℕ, Result}
 use Rattle.sqlite.specs.Held.{Held, state}
 use Rattle.sqlite.specs.State as states
 use Rattle.sqlite_trees.specs.declared.store.Store.{Ghosts}
 use Rattle.pid_moderation.specs.declared.command.Command.{Command}
 use Rattle.pid_moderation.specs.History.{History}
 use Rattle.pid_tables_rows.specs.declared.fault.TableFault.{TableFault}
-use Rattle.pid_tables_rows.specs.declared.version.Version.{Version}
 use Rattle.pid_reader.specs.LookingBack.{Item}
 use Rattle.pid_tables.specs.declared.judging.Early.{Early}
 use Rattle.pid_tables.specs.declared.migration.Step.{Step}
@@ -31,8 +30,8 @@ module _ {S : Type 0} (store : Ghosts S) where
   abbrev pub IsFaultOfTaken : Held S → Held S → TableFault → Type 0
   IsFaultOfTaken old new fault = creation.IsFaultOfTaken (state store old) (state store new) fault
 
-  abbrev pub FailsToCommit : {X : Type 0} → Held S → Held S → Result X TableFault → Type 0
-  FailsToCommit old new result = creation.FailsToCommit (state store old) (state store new) result
+  abbrev pub EndsCommit : {X : Type 0} → Held S → Held S → Result X TableFault → Type 0
+  EndsCommit old new result = creation.EndsCommit (state store old) (state store new) result
 
   abbrev pub PutsName : Held S → Held S → Result Put TableFault → ℕ → Item → Type 0
   PutsName old new result n item = putting.PutsName (state store old) (state store new)

@@ -19,6 +19,7 @@ use Rattle.pid_tables_rows.specs.Faults.{IsMemoryOrStore, IsNotNewerSchema}
 use Rattle.pid_tables_rows.specs.Schema.{no_schema}
 use Rattle.pid_tables_rows.specs.Shows.{Shows, counts_of}
 use Rattle.pid_tables_rows.specs.Leaves.{AtRest, OnlyReads, Written, as_found}
+use Rattle.pid_tables.specs.AtOnce.{IsCommitted}
 
 -- the schema that the tables make, in this order
 abbrev pub making : List Table → Schema
@@ -47,11 +48,13 @@ pub record IsUndone (old new : State) : Type 0 where
   pub sees : IsTrue new.is_open → new.now ≡ old.committed
   pub committed : IsTrue new.is_open → new.committed ≡ old.committed
 
--- What a commit that fails leaves.
-pub record FailsToCommit {X : Type 0} (old new : State) (result : Result X TableFault)
+-- What a commit leaves.
+pub record EndsCommit {X : Type 0} (old new : State) (result : Result X TableFault)
     : Type 0 where
+  -- if it answers a value, what the transaction saw; else a fault has its cause,
+  pub done : HasCleanDisk new → OnOk result (IsCommitted (λ db. db ≡ old.now.trees) new)
   pub caused : HasCleanDisk new → IsTrue old.in_transaction → IfErr result (IsCaused old new)
-  -- while it is open, the connection shows the views that were held
+  -- and while it is open, the connection shows the views that were held
   pub given_back : (v w : Views) → Written (counts_of w) old v w
       → OnErr result (IsTrue new.is_open → Shows new.now v)
   pub undone : HasCleanDisk new → IsTrue old.in_transaction → OnErr result (IsUndone old new)

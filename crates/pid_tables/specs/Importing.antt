@@ -7,6 +7,7 @@ use Rattle.pid_reader.specs.WholeInputs.{IsWhole}
 use Rattle.pid_moderation.specs.declared.command.Reply.{Reply}
 use Rattle.pid_moderation.specs.declared.refusal.Refusal.{Refusal}
 use Rattle.pid_moderation.specs.declared.refusal.Refusal.TheVariants as refusals
+use Rattle.pid_moderation.specs.declared.refusal.Refusal.TheVariants.{Memory}
 use Rattle.pid_moderation.specs.CheckTables.{most_file_bytes}
 use Rattle.pid_moderation.specs.History.{Asked, History}
 use Rattle.pid_moderation.specs.Judgement.{judge, answer, after}
@@ -16,9 +17,9 @@ use Rattle.pid_tables.specs.declared.put_file.Stop.{Stop}
 use Rattle.pid_tables.specs.declared.put_file.Stop.TheVariants as stops
 use Rattle.pid_tables.specs.Faults.{IsMemoryOrStore}
 
--- the judgement refuses, and nothing changes; or there was no memory, or the store failed
+-- the judgement refuses, and nothing changes; or there was no memory
 abbrev pub RefusesImport : History → Asked → Refusal → Type 0
-RefusesImport h c e = ((answer (judge (views_of h) c) ≡ Err e) × (after h c ≡ h)) ⊎ IsMemoryOrStore e
+RefusesImport h c e = ((answer (judge (views_of h) c) ≡ Err e) × (after h c ≡ h)) ⊎ (e ≡ Memory)
 
 -- What an answer to an import says: how much of the input was read, by what is still to come and
 -- the text that came, and what the transaction leaves of a history and the import.

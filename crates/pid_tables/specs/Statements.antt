@@ -1,13 +1,15 @@
 -- What statements in turn make of a database, whatever tables it has, and those of a new registry.
 -- A text means what SQLite takes it for there, by the names that the database has.
-use Rattle.std.specs.Prelude.{◌≡◌, ◌++◌, ℕ, List, [], ◌∷◌, Ok, IsTrue, codes}
-use Rattle.sqlite.specs.Held.{Held}
+use Rattle.std.specs.Prelude.{◌≡◌, ◌++◌, ℕ, List, [], ◌∷◌, Result, Ok, OnOk, IsTrue, codes}
+use Rattle.sqlite.specs.Held.{Held, state}
 use Rattle.sqlite.specs.Order.{Row}
 use Rattle.sqlite.specs.Tree.{Trees}
 use Rattle.sqlite.specs.declared.types.Value.TheVariants.{Text}
 use Rattle.sqlite_trees.specs.declared.store.Store.{Ghosts}
-use Rattle.pid_tables_rows.specs.Clauses.{Executes, is_open, seen}
+use Rattle.pid_tables_rows.specs.Clauses.{Executes, HasCleanDisk, Survives, is_open, seen}
 use Rattle.pid_tables_rows.specs.TableRows.{number}
+use Rattle.pid_tables_rows.specs.declared.fault.TableFault.{TableFault}
+use Rattle.pid_tables.specs.AtOnce.{IsCommitted}
 
 -- a text of SQL and its parameters, `?1` first
 abbrev pub Statement : Type 0
@@ -78,3 +80,12 @@ module _ {S : Type 0} (store : Ghosts S) where
     pub last : Held S
     pub carried : CarriedOut statements first last
     pub made : db ≡ (seen store last).trees
+
+  -- Nothing but the statements is written, all of them or none.
+  pub record Carries {X : Type 0} (statements : List Statement) (old new : Held S)
+      (result : Result X TableFault) : Type 0 where
+    -- a crash leaves what it left before, or what they make of the database
+    pub survives : Survives store old new (IsMadeBy statements old)
+    -- if a value is answered, the connection sees what they make, and a crash leaves it
+    pub done : HasCleanDisk store new
+        → OnOk result (IsCommitted (IsMadeBy statements old) (state store new))

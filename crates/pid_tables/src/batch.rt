@@ -33,7 +33,7 @@ ghost use Rattle.pid_tables_rows.specs.Writes.{
 ghost use Rattle.pid_tables.specs.Applies.{CountsFit};
 ghost use Rattle.pid_tables.specs.Steps.Applies.{recounted, turn_of};
 ghost use Rattle.pid_tables.specs.Steps.Clauses.{WritesChange};
-ghost use Rattle.pid_tables.specs.Clauses.{FailsToCommit, PutsName};
+ghost use Rattle.pid_tables.specs.Clauses.{EndsCommit, PutsName};
 ghost use Rattle.pid_tables_rows.specs.Clauses.{
   AtRest,
   ChangesTo,
@@ -308,8 +308,9 @@ pub fn commit<S: Alter>(batch: Batch<'_, S>) -> Result<(), TableFault>
         → OnOk result (AtRest S.Store batch.exit.0.now w) }
     ensures either { (v w : Views) → Written S.Store batch.entry.conn.now (counts_of w) v w
         → LeavesEither S.Store batch.exit.0.now v w }
-    // After a fault: it has its cause, and the connection sees what was committed before.
-    ensures fails { FailsToCommit S.Store batch.entry.conn.now batch.exit.0.now result }
+    // It sees what the transaction saw. Or a fault has its cause, and it sees what was committed
+    // before.
+    ensures ends { EndsCommit S.Store batch.entry.conn.now batch.exit.0.now result }
 {
     batch.commit()?;
     Ok(())

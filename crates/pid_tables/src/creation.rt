@@ -24,7 +24,7 @@ ghost use Rattle.pid_tables_rows.specs.Steps.Shows.{meta_of};
 ghost use Rattle.pid_tables_rows.specs.TableRows.{number};
 ghost use Rattle.pid_tables_rows.specs.Writes.{with_rank};
 ghost use Rattle.pid_tables.specs.Creation.{table_names};
-ghost use Rattle.pid_tables.specs.Statements.{IsMadeBy, new_label_text, registry_statements};
+ghost use Rattle.pid_tables.specs.Statements.{Carries, new_label_text, registry_statements};
 ghost use Rattle.pid_tables.specs.Steps.MakingTables.{
   making,
   Creates,
@@ -51,7 +51,6 @@ ghost use Rattle.pid_tables_rows.specs.Clauses.{
   ChangesTo,
   GoesOn,
   HasCleanDisk,
-  Survives,
   is_open,
   seen,
 };
@@ -241,14 +240,13 @@ fn fill<S: Alter>(tx: &mut Transaction<'_, S>) -> Result<(), TableFault>
 /// If a name is taken that one of the tables wants, it answers `Damaged`, or else `Memory` or
 /// `Store`, and changes nothing. If there are tables of other names, the new ones are made all in
 /// one step, or after a fault none of them: a crash leaves what it left before, or what the
-/// statements of a new registry make of it, which are the same in any database. What these show
-/// together with other tables, no clause says.
+/// statements of a new registry make of it, which are the same in any database. `Ok` says that they
+/// were carried out. What these show together with other tables, no clause says.
 pub fn create<S: Alter>(conn: &mut Connection<S>) -> Result<(), TableFault>
     requires { conn.old.in_transaction ≡ false }
     // Whatever the database, it is one step, and nothing but the statements of a new registry.
     ensures at_once { WritesAtOnce S.Store conn.old conn.new result }
-    ensures statements { Survives S.Store conn.old conn.new
-        (IsMadeBy S.Store registry_statements conn.old) }
+    ensures statements { Carries S.Store registry_statements conn.old conn.new result }
     ensures makes { MakesNew S.Store conn.old conn.new result }
     ensures spares { MakesNothing S.Store conn.old conn.new result }
     ensures met { HasCleanDisk S.Store conn.new → (v : Views) → AtRest S.Store conn.old v

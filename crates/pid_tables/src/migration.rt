@@ -19,7 +19,6 @@ ghost use Rattle.pid_tables_rows.specs.Clauses.{
   HasCleanDisk,
   OnlyReads,
   RestsIn,
-  Survives,
   is_open,
   seen,
 };
@@ -36,7 +35,7 @@ ghost use Rattle.pid_tables.specs.Clauses.{
   RestsBare,
   WritesAtOnce,
 };
-ghost use Rattle.pid_tables.specs.Statements.{IsMadeBy, registry_statements};
+ghost use Rattle.pid_tables.specs.Statements.{Carries, registry_statements};
 ghost use Rattle.pid_tables.specs.Steps.Clauses.{FindsShown};
 ghost use Rattle.pid_tables.specs.Bringing.{NamesLatest};
 ghost use Rattle.pid_tables.specs.Steps.Bringing.{IsStanding, TellsLatest, is_latest, step_for};
@@ -156,7 +155,7 @@ fn bring<S: Alter>(conn: &mut Connection<S>, found: Option<Version>) -> Result<S
         → MatchResult result (λ _. ⊥)
         (λ fault. IsNotNewerSchema fault × OnlyReads S.Store conn.old conn.new) }
     ensures made { found ≡ None
-        → Survives S.Store conn.old conn.new (IsMadeBy S.Store registry_statements conn.old) }
+        → Carries S.Store registry_statements conn.old conn.new result }
     ensures moved { HasCleanDisk S.Store conn.new → found ≡ Some One → (v : Views)
         → RestsIn S.Store One conn.old v → MatchResult result (λ _. AtRest S.Store conn.new v)
         (λ fault. IsMemoryOrStore fault × RestsIn S.Store One conn.new v) }
@@ -182,9 +181,9 @@ fn bring<S: Alter>(conn: &mut Connection<S>, found: Option<Version>) -> Result<S
 /// Tables of schema 1 are judged before, as `check` does it, and moved in one transaction. Whatever
 /// a crash leaves of that shows the same history, in schema 1 or in schema 2. Tables whose labels
 /// name schema 2 are not judged. If there is no table of a registry, whatever others there are,
-/// nothing is written but the statements of a new registry. A fault other than `Memory` and `Store`
-/// changes nothing; after those two the connection shows what it showed, and the call may be made
-/// again.
+/// nothing is written but the statements of a new registry, and `Ok` says that they were carried
+/// out. A fault other than `Memory` and `Store` changes nothing; after those two the connection
+/// shows what it showed, and the call may be made again.
 pub fn migrate<S: Alter>(conn: &mut Connection<S>, alloc: Global) -> Result<Step, TableFault>
     requires { conn.old.in_transaction ≡ false }
     // Whatever there is, it is one step.

@@ -1,12 +1,13 @@
 -- What the queries of the tables show, whatever the schema.
-use Rattle.std.specs.Prelude.{IfSome, IfNone, Vec}
-use Rattle.std.proofs.Common.{◌≡◌, ℕ, List, [], true, false, cond, Option, Some, None, Ok, Err, Result, MatchResult, IfOk, IfErr, refl, sym, ap, subst, ◌∙◌}
+use Rattle.std.specs.Prelude.{IfSome, IfNone, IsSome}
+use Rattle.std.proofs.Common.{◌≡◌, ℕ, List, [], true, false, cond, Option, Some, None, Ok, Err, Result, refl, sym, subst}
 use Rattle.sqlite.specs.Order.{Row}
 use Rattle.sqlite.specs.Schema.{Schema}
 use Rattle.sqlite.specs.Listing.{understood, reads_listing, if_select, is_select, listing_schema}
 use Rattle.sqlite.specs.Effect.{Database, Reads}
-use Rattle.sqlite.specs.State.{State, Shown, ShowsRows as ShowsAnswer}
-use Rattle.sqlite.specs.Given.{IsPlain}
+use Rattle.sqlite.specs.State.{State, Shown, CommitsShowing, ShowsRows as ShowsAnswer}
+use Rattle.sqlite.specs.Tree.{Trees}
+use Rattle.sqlite.specs.Given.{IsPlain, Returns}
 use Rattle.sqlite.specs.Clock.{timed as at_time}
 use Rattle.sqlite.specs.Command.{Command}
 use Rattle.sqlite_schema.specs.declared.command.Returning.{Returning}
@@ -22,10 +23,6 @@ use Rattle.pid_tables_check.specs.Queries.{query_of}
 use Rattle.pid_tables_check.specs.declared.shape.Table.{Table}
 use Rattle.pid_tables_check.specs.declared.shape.Table.TheVariants.{Meta, Account, Item, Submission, Remark, Receipt, Since}
 use Rattle.pid_tables_check.specs.Shapes.{CanBeAsked, ShowsRows, ShowsLater}
-use Rattle.std.specs.declared.alloc.Global.{Global}
-use Rattle.pid_tables_rows.proofs.ReadLemmas.{shown_same}
-use Rattle.pid_tables_rows.specs.declared.fault.TableFault.{TableFault}
-use Rattle.pid_tables_rows.specs.Faults.{IsMemoryOrStore}
 
 -- a statement, if it is one, that shows nothing of a write and reads no time
 abbrev IsPlainIfAsked : Result Compiled CompileError → Type 0
@@ -87,24 +84,28 @@ plain table schema = elim (reads_listing schema (query_of table)) as (λ b. IsPl
 pub asked_plain : (table : Table) (schema : Schema) → CanBeAsked schema (query_of table) → IsPlain (understood schema (query_of table))
 asked_plain table schema asked = subst IsPlain (sym asked.1) (subst IsPlainIfAsked asked.1 (plain table schema))
 
-rows_shown : (table : Table) (old new : State) (rows : List Row) → Shown (query_of table) [] old new rows → ShowsRows old.now (query_of table) rows
+pub rows_shown : (table : Table) (old new : State) (rows : List Row) → Shown (query_of table) [] old new rows → ShowsRows old.now (query_of table) rows
 unfolding Shown
 rows_shown table old new rows h =
     let is_plain = subst IsPlainIfAsked h.1.is (plain table old.now.schema) in
     let it = subst (ShowsAnswer old new (query_of table) h.0 (at_time [] h.0.formats h.1.now) rows) is_plain.0 h.2 in
     record { query = h.0; is = h.1.is; source = it.0; from = it.1; answer = subst (λ formats. Reads h.0.command it.0 (at_time [] formats h.1.now) rows) is_plain.1 it.2 }
 
-pub answered : (table : Table) (sql : List ℕ) → sql ≡ query_of table → (old new : State) (r : Result (Vec Row Global) TableFault) → IfOk r (λ rows. Shown sql [] old new rows.items)
-    → ((schema : Schema) → old.now.schema ≡ schema → IsPlain (understood schema sql) → IfErr r IsMemoryOrStore)
-    → (d : Database) → old.now ≡ d → CanBeAsked d.schema (query_of table) → MatchResult r (λ rows. ShowsRows d (query_of table) rows.items × (new.now ≡ d)) IsMemoryOrStore
-answered table sql text old new (Ok rows) told fault d is asked =
-    let shown = subst (λ q. Shown q [] old new rows.items) text told in
-    let plain = asked_plain table old.now.schema (subst (λ (x : Database). CanBeAsked x.schema (query_of table)) (sym is) asked) in (
-      subst (λ (x : Database). ShowsRows x (query_of table) rows.items) is (rows_shown table old new rows.items shown),
-      (shown_same (query_of table) [] old new rows.items plain shown).0.now_is ∙ is,
-    )
-answered table sql text old new (Err e) told fault d is asked =
-    fault d.schema (ap (λ (x : Database). x.schema) is) (subst (λ q. IsPlain (understood d.schema q)) (sym text) (asked_plain table d.schema asked))
+-- so it commits nothing, and shows nothing of a write
+pub commits_none : (table : Table) (s : State) (db : Trees) → CommitsShowing (query_of table) [] s db → ⊥
+unfolding CommitsShowing
+commits_none table s db h =
+    let plain = subst IsPlainIfAsked h.1.is (plain table s.now.schema) in
+    let bad = subst IsSome plain.0 h.2 in
+    let none : ⊥ = cc in
+    none
+
+pub returns_none : (table : Table) (schema : Schema) → Returns (understood schema (query_of table)) → ⊥
+returns_none table schema h = go (understood schema (query_of table)) (plain table schema) h
+  where
+    go : (r : Result Compiled CompileError) → IsPlainIfAsked r → Returns r → ⊥
+    go (Ok c) plain some = let bad = subst IsSome plain.0 some in let none : ⊥ = cc in none
+    go (Err e) plain some = some
 
 pub later_shown : (db : Database) (rows : List Row) (o : Option ℕ) → ShowsRows db (query_of Meta) rows → IfSome o (λ n. IsNewer n rows) → IfNone o ((n : ℕ) → IsNewer n rows → ⊥) → ShowsLater db o
 later_shown db rows (Some n) shows found none = (rows, shows, found)

@@ -18,6 +18,7 @@ pub mod SubmissionFacts
 pub mod Asking
 pub mod AskedTexts
 pub mod Labels
+pub mod Walking
 pub mod Complete
 pub mod NumberFacts
 pub mod SinceFacts

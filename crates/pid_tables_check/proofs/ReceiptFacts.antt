@@ -1,18 +1,27 @@
 -- What makes rows of receipts those of a registry.
-use Rattle.std.proofs.Common.{◌≡◌, ℕ, ◌<◌, ◌≤◌, List, [], ◌∷◌, length, true, refl, sym, ap, subst, ◌∙◌, arith}
+use Rattle.std.proofs.Common.{◌≡◌, ◌↔◌, ◌++◌, inl, inr, Bool, IsTrue, ℕ, ◌<◌, ◌≤◌, List, [], ◌∷◌, length, true, refl, sym, ap, subst, ◌∙◌, arith}
 use Rattle.sqlite.specs.declared.types.Value.TheVariants.{Text}
 use Rattle.sqlite.specs.Order.{Row, column}
 use Rattle.pid_ident.specs.Words.{is_account, is_key}
 use Rattle.pid_moderation.specs.declared.command.Reply.TheVariants.{Done, Numbered, Counts}
 use Rattle.pid_tables_rows.specs.TableRows.{number}
 use Rattle.pid_tables_check.specs.Conditions.{IsReceiptRow}
-use Rattle.pid_tables_check.specs.Steps.AuthorSets.{IsNumbered, HasReply, HasCounts}
-use Rattle.pid_tables_check.proofs.ItemFacts.{texts_same}
+use Rattle.pid_tables_check.specs.Steps.AuthorSets.{IsByAuthor, IsNumbered, HasReply, HasCounts}
+use Rattle.pid_tables_check.specs.Steps.AuthorSets.{AreAuthorsOf}
+use Rattle.pid_tables_check.specs.Steps.Keeping.{AreOfAuthors}
+use Rattle.pid_tables_check.specs.declared.authors.Authors.{Authors}
+use Rattle.pid_tables_check.proofs.ItemFacts.{split, before, last, texts_same}
 use Rattle.pid_tables_check.proofs.RemarkFacts.{numbers_same}
 
 module _ (rows : List Row) (r : Row) (account : List ℕ) where
   kinds : (m n : ℕ) → column r 2 ≡ number m → column r 2 ≡ number n → m ≡ n
   kinds m n p q = numbers_same m n (sym p ∙ q)
+
+  pub numbered_so : (n : ℕ) (by : Bool) → column r 3 ≡ number n → column r 4 ≡ number 0 → column r 5 ≡ number 0 → (IsTrue by ↔ IsByAuthor rows n account) → IsTrue by ↔ IsNumbered rows r account
+  numbered_so n by first second third is = (
+    λ yes. (n, first, second, third, is.0 yes),
+    λ it. is.1 (subst (λ k. IsByAuthor rows k account) (numbers_same it.0 n (sym it.1 ∙ first)) it.4),
+  )
 
   pub done : column r 2 ≡ number 0 → ((column r 3 ≡ number 0) × (column r 4 ≡ number 0) × (column r 5 ≡ number 0)) → HasReply rows r account
   done e it = (Done, e, it.0, it.1, it.2, tt)
@@ -84,3 +93,15 @@ module _ (rows : List Row) (r : Row) where
 
   pub account_is : (account : List ℕ) → column r 0 ≡ Text account → IsReceiptRow rows r → (is_account account ≡ true) × HasReply rows r account
   account_is account is it = let of = account_of it in subst (λ a. (is_account a ≡ true) × HasReply rows r a) (texts_same _ _ (sym of.1 ∙ is)) (of.2, of.3)
+
+-- the receipts so far, and one more
+pub one_receipt : (authors : Authors) (rows : List Row) (r : Row) (good row next : Bool) → (IsTrue next ↔ (IsTrue good × IsTrue row)) → ((submissions : List Row) → AreAuthorsOf authors submissions → IsTrue row ↔ IsReceiptRow submissions r)
+    → AreOfAuthors authors rows good → AreOfAuthors authors (rows ++ r ∷ []) next
+one_receipt authors rows r good row next both one are submissions of =
+    let here = one submissions of in
+    let so_far = are submissions of in (
+      λ yes x h.
+          let each = both.0 yes in
+          elim (split rows r x h) [ inl early ↦ so_far.0 each.0 x early | inr same ↦ subst (IsReceiptRow submissions) (sym same) (here.0 each.1) ],
+      λ all. both.1 (so_far.1 (λ x h. all x (before rows r x h)), here.1 (all r (last rows r))),
+    )

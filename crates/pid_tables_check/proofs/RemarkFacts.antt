@@ -46,7 +46,7 @@ equal Less h = absurd cc
 equal Equal h = refl
 equal Greater h = absurd cc
 
-pair_tied : (a b c d : ℕ) → is_eq (ordering_then (nat_cmp a c) (nat_cmp b d)) ≡ true → (a ≡ c) × (b ≡ d)
+pub pair_tied : (a b c d : ℕ) → is_eq (ordering_then (nat_cmp a c) (nat_cmp b d)) ≡ true → (a ≡ c) × (b ≡ d)
 pair_tied a b c d h = go (nat_cmp a c) refl h
   where
     go : (o : Ordering) → nat_cmp a c ≡ o → is_eq (ordering_then o (nat_cmp b d)) ≡ true → (a ≡ c) × (b ≡ d)
@@ -57,7 +57,7 @@ pair_tied a b c d h = go (nat_cmp a c) refl h
 itself : (a : ℕ) → nat_cmp a a ≡ Equal
 itself a = tied_itself nat_cmp_total a
 
-pair_itself : (a b : ℕ) → is_eq (ordering_then (nat_cmp a a) (nat_cmp b b)) ≡ true
+pub pair_itself : (a b : ℕ) → is_eq (ordering_then (nat_cmp a a) (nat_cmp b b)) ≡ true
 pair_itself a b = λ i. is_eq (ordering_then (itself a i) (itself b i))
 
 pub place_added : (places next : BTreeSet (ℕ × ℕ)) (rows : List Row) (r : Row) (n p : ℕ) → column r 0 ≡ number n → column r 1 ≡ number p

@@ -1,5 +1,5 @@
 -- What makes rows of submissions those of a registry.
-use Rattle.std.proofs.Common.{◌≡◌, ◌≢◌, ℕ, ◌≤◌, List, [], ◌∷◌, length, true, false, refl, sym, ap, subst, ◌∙◌, arith}
+use Rattle.std.proofs.Common.{◌≡◌, ◌≢◌, ◌↔◌, inl, inr, IsTrue, ℕ, ◌≤◌, List, [], ◌∷◌, ◌++◌, length, true, false, refl, sym, ap, subst, ◌∙◌, arith}
 use Rattle.std.specs.Prelude.{IsUtf8, String}
 use Rattle.std.specs.BTreeSet.{BTreeSet}
 use Rattle.std.specs.declared.alloc.Global.{Global}
@@ -18,10 +18,11 @@ use Rattle.pid_tables_rows.specs.TableRows.{number, form_of, name_of}
 use Rattle.pid_tables_check.specs.Conditions.{HasAccount, AreAccounts, IsDecided, IsSubmissionRow, AreSubmissions}
 use Rattle.pid_tables_check.specs.Steps.NamesRead.{IsAmong, IsDecidedAmong, IsSubmissionAmong, StandsInRows}
 use Rattle.pid_tables_check.specs.Steps.NameSets.{AreNamesOf}
-use Rattle.std.specs.List.{All}
+use Rattle.sqlite_rules.specs.Lists.{Has}
+use Rattle.pid_tables_check.specs.Steps.Keeping.{AreFit}
+use Rattle.pid_tables_check.specs.declared.submission.Fit.{Fit}
 use Rattle.pid_tables_check.specs.Steps.NumberSets.{CountFromOne}
-use Rattle.pid_tables_check.proofs.Each.{each_member, each_place}
-use Rattle.pid_tables_check.proofs.ItemFacts.{texts_same}
+use Rattle.pid_tables_check.proofs.ItemFacts.{split, before, last, texts_same}
 use Rattle.pid_tables_check.proofs.AccountFacts.{account_named}
 
 numbers_same : (m n : ℕ) → number m ≡ number n → m ≡ n
@@ -162,11 +163,60 @@ module _ (accounts : List Row) (good : AreAccounts accounts) (names : BTreeSet (
     state = decided_among it.standing.submitted.author it.standing.state it.state;
   }
 
-  pub submissions_made : (rows : List Row) → All (IsSubmissionAmong names (length rows)) rows → CountFromOne rows → AreSubmissions accounts rows
-  submissions_made rows all counted = record { each = λ r h. row_of (length rows) r (each_member (IsSubmissionAmong names (length rows)) rows all r h); counted = counted }
+  pub submissions_made : (rows : List Row) → ((r : Row) → Has rows r → IsSubmissionAmong names (length rows) r) → CountFromOne rows → AreSubmissions accounts rows
+  submissions_made rows all counted = record { each = λ r h. row_of (length rows) r (all r h); counted = counted }
 
-  pub submissions_among : (rows : List Row) → AreSubmissions accounts rows → All (IsSubmissionAmong names (length rows)) rows
-  submissions_among rows good = each_place (IsSubmissionAmong names (length rows)) rows (λ r h. row_among (length rows) r (good.each r h))
+  pub submissions_among : (rows : List Row) → AreSubmissions accounts rows → (r : Row) → Has rows r → IsSubmissionAmong names (length rows) r
+  submissions_among rows good r h = row_among (length rows) r (good.each r h)
 
 pub counted_of : (accounts rows : List Row) → AreSubmissions accounts rows → CountFromOne rows
 counted_of accounts rows good = good.counted
+
+-- ---- one row more
+
+within_count : (names : BTreeSet (String Global)) (r : Row) (n m : ℕ) (it : IsSubmissionAmong names n r) → it.num ≤ m → IsSubmissionAmong names m r
+within_count names r n m it most = record {
+  num = it.num;
+  standing = it.standing;
+  is = it.is;
+  within = (it.within.0, most);
+  author = it.author;
+  path = it.path;
+  proposal = it.proposal;
+  note = it.note;
+  state = it.state;
+}
+
+module _ (names : BTreeSet (String Global)) (r : Row) where
+  num_is : (n count : ℕ) → column r 0 ≡ number n → (it : IsSubmissionAmong names count r) → it.num ≡ n
+  num_is n count first it = numbers_same it.num n (sym (ap (λ (x : Row). column x 0) it.is) ∙ first)
+
+  -- with its own number as the count, and so with any count that is no less
+  pub to_own : (n count : ℕ) → column r 0 ≡ number n → IsSubmissionAmong names count r → IsSubmissionAmong names n r
+  to_own n count first it = let same = num_is n count first it in within_count names r count n it (omega (arith, same))
+
+  pub from_own : (n : ℕ) → column r 0 ≡ number n → IsSubmissionAmong names n r → (count : ℕ) → (n ≤ count) ↔ IsSubmissionAmong names count r
+  from_own n first it count = (λ most. within_count names r n count it (omega (arith, most, it.within.1)), λ other. let same = num_is n count first other in omega (arith, same, other.within.1))
+
+  module _ (rows : List Row) (fit : Fit) (are : AreFit names rows fit) where
+    pub misfit : ((count : ℕ) → IsSubmissionAmong names count r → ⊥) → AreFit names (rows ++ r ∷ []) (record fit { good = false })
+    misfit none count = (λ yes. absurd cc, λ all. absurd (none count (all r (last rows r))))
+
+    pub fits : (n greatest : ℕ) → ((count : ℕ) → (n ≤ count) ↔ IsSubmissionAmong names count r) → ((most : ℕ) → (greatest ≤ most) ↔ ((fit.greatest ≤ most) × (n ≤ most))) → AreFit names (rows ++ r ∷ []) (record fit { greatest = greatest })
+    fits n greatest own bound count = (
+      λ yes x h.
+          let both = (bound count).0 yes.1 in
+          elim (split rows r x h) [
+            | inl early ↦ (are count).0 (yes.0, both.0) x early
+            | inr same ↦ subst (IsSubmissionAmong names count) (sym same) ((own count).0 both.1)
+          ],
+      λ all. let was = (are count).1 (λ x h. all x (before rows r x h)) in (was.0, (bound count).1 (was.1, (own count).1 (all r (last rows r)))),
+    )
+
+-- the submissions go with the accounts if they fit their count and count from 1
+module _ (names : BTreeSet (String Global)) (rows : List Row) (fit : Fit) (count : ℕ) (is : count ≡ length rows) (are : AreFit names rows fit) (accounts : List Row) (listed : AreNamesOf names accounts) (good : AreAccounts accounts) where
+  pub all_fit : IsTrue fit.good → fit.greatest ≤ count → CountFromOne rows → AreSubmissions accounts rows
+  all_fit on most counted = submissions_made accounts good names listed rows (subst (λ k. (r : Row) → Has rows r → IsSubmissionAmong names k r) is ((are count).0 (on, most))) counted
+
+  pub fit_of : AreSubmissions accounts rows → IsTrue fit.good × (fit.greatest ≤ count)
+  fit_of all = (are count).1 (subst (λ k. (r : Row) → Has rows r → IsSubmissionAmong names k r) (sym is) (submissions_among accounts good names listed rows all))

@@ -1,10 +1,10 @@
 //! Accounts: each has a name and a rank, `root` is one, and some account is an administrator.
-ghost use Rattle.std.specs.Prelude.{◌≡◌, ◌≤◌, ◌↔◌, ℕ, IsTrue, IfOk, IfErr, codes};
+ghost use Rattle.std.specs.Prelude.{◌≡◌, ◌≤◌, ◌↔◌, ℕ, false, IsTrue, IfOk, IfErr, codes};
 ghost use Rattle.std.specs.List.{All, Any};
 ghost use Rattle.sqlite.specs.declared.types.Value.TheVariants.{Text as TextValue};
 ghost use Rattle.sqlite.specs.Order.{column};
 ghost use Rattle.pid_tables_rows.specs.TableRows.{number};
-ghost use Rattle.pid_tables_rows.specs.Clauses.{GoesOn};
+ghost use Rattle.pid_tables_rows.specs.Clauses.{OnlyReads};
 ghost use Rattle.pid_tables_rows.specs.Faults.{IsMemoryOrStore};
 ghost use Rattle.pid_tables_check.specs.Conditions.{IsAccountRow, AreAccounts};
 ghost use Rattle.pid_tables_check.specs.Steps.Clauses.{KeepsTable};
@@ -17,7 +17,7 @@ use crate::shape::Table;
 use crate::value::{number_at, text_at};
 use pid_ident::is_account;
 use pid_tables_rows::TableFault;
-use sqlite::{Alter, Row, Transaction};
+use sqlite::{Alter, Connection, Row};
 use std::alloc::Global;
 use std::collections::BTreeSet;
 
@@ -111,14 +111,14 @@ fn keep_accounts(rows: &[Row], alloc: Global) -> Result<Accounts, TableFault>
 
 /// Reads the accounts, and judges whether they are those of a registry.
 pub(crate) fn read_accounts<S: Alter>(
-    tx: &mut Transaction<'_, S>,
+    conn: &mut Connection<S>,
     alloc: Global,
 ) -> Result<Accounts, TableFault>
-    ensures same_reference { tx.new.conn.ghost_name ≡ tx.old.conn.ghost_name }
-    ensures goes { GoesOn S.Store tx.old.conn.now tx.new.conn.now result }
-    ensures keeps { KeepsTable S.Store tx.old.conn.now tx.new.conn.now result table.Account
+    requires { conn.old.in_transaction ≡ false }
+    ensures rests { OnlyReads S.Store conn.old conn.new }
+    ensures keeps { KeepsTable S.Store conn.old conn.new result table.Account
         KeepsAccounts }
 {
-    let rows = table_rows(tx, Table::Account)?;
+    let rows = table_rows(conn, Table::Account, alloc)?;
     keep_accounts(rows.as_slice(), alloc)
 }

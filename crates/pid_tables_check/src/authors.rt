@@ -1,53 +1,179 @@
-//! The numbers of submissions with their authors as a set.
+//! The authors of submissions: each name is kept once, and each submission has the place of one.
 ghost use Rattle.std.specs.Prelude.{
   ◌≡◌,
+  ◌⊎◌,
   ◌↔◌,
   ◌++◌,
   ◌∷◌,
+  ℕ,
   List,
   [],
+  None,
   IsTrue,
   IfOk,
   IfErr,
   OnOk,
   string_bytes,
 };
+ghost use Rattle.std.specs.BTreeMap.{btree_map_len, get_by_text};
 ghost use Rattle.sqlite.specs.declared.types.Value.TheVariants.{Text as TextValue};
 ghost use Rattle.sqlite.specs.Order.{column, Row as Values};
 ghost use Rattle.pid_tables_rows.specs.TableRows.{number};
-ghost use Rattle.pid_tables_check.specs.Steps.AuthorSets.{AreAuthorsOf, IsByAuthor};
+ghost use Rattle.pid_tables_check.specs.Steps.AuthorSets.{
+  AddsName,
+  AreAuthorsOf,
+  HasPlace,
+  IsByAuthor,
+  IsInTurn,
+  PlacesName,
+};
 ghost use Rattle.pid_tables_rows.specs.Faults.{IsMemoryOrStore};
 
 use crate::value::{number_at, text_at};
 use pid_tables_rows::TableFault;
 use sqlite::Row;
 use std::alloc::Global;
-use std::collections::BTreeSet;
+use std::collections::{BTreeMap, BTreeSet};
 
-fn insert_author(
-    authors: &mut BTreeSet<(u64, String)>,
-    submission: u64,
-    author: String,
+/// The names of authors with their places, and of each submission its author's place: those whose
+/// numbers came in turn, from 1 on, and the others.
+#[derive(Drop)]
+pub(crate) struct Authors {
+    names: BTreeMap<String, u32>,
+    turn: Vec<u32>,
+    others: BTreeSet<(u64, u32)>,
+}
+
+/// No authors yet.
+pub(crate) fn no_authors(alloc: Global) -> Authors
+    ensures { AreAuthorsOf result [] }
+{
+    Authors {
+        names: BTreeMap::new(alloc),
+        turn: Vec::new(alloc),
+        others: BTreeSet::new(alloc),
+    }
+}
+
+fn insert_name(
+    names: &mut BTreeMap<String, u32>,
+    name: String,
+    place: u32,
 ) -> Result<(), TableFault>
-    ensures added { (rows : List Values) (row : Values) → column row 0 ≡ number submission
-        → column row 1 ≡ TextValue (string_bytes author)
-        → AreAuthorsOf authors.old rows → OnOk result
-        (AreAuthorsOf authors.new (rows ++ row ∷ [])) }
+    ensures added { get_by_text names.old (string_bytes name) ≡ None
+        → OnOk result (AddsName names.old names.new (string_bytes name) place) }
     ensures untold { IfErr result IsMemoryOrStore }
 {
-    let inserted = authors.insert((submission, author)).is_ok();
+    let inserted = names.insert(name, place).is_ok();
     if !inserted {
         return Err(TableFault::Memory);
     }
     Ok(())
 }
 
-// Adds the number and the author of a row.
-fn add_author(
-    authors: &mut BTreeSet<(u64, String)>,
-    alloc: Global,
-    row: &Row,
+fn next_place(names: &BTreeMap<String, u32>) -> Result<u32, TableFault>
+    ensures next { IfOk result (λ place. place ≡ btree_map_len names.now) }
+    ensures untold { IfErr result IsMemoryOrStore }
+{
+    match u32::try_from(names.len()) {
+        Ok(place) => Ok(place),
+        Err(_) => Err(TableFault::Memory),
+    }
+}
+
+// A name that is not there yet.
+fn add_name(names: &mut BTreeMap<String, u32>, alloc: Global, name: &str) -> Result<u32, TableFault>
+    ensures placed { get_by_text names.old name.now ≡ None
+        → IfOk result (PlacesName names.old names.new name.now) }
+    ensures untold { IfErr result IsMemoryOrStore }
+{
+    let place = next_place(names)?;
+    let owned = String::from_str(alloc, name)?;
+    insert_name(names, owned, place)?;
+    Ok(place)
+}
+
+fn place_in(names: &BTreeMap<String, u32>, name: &str) -> Option<u32>
+    ensures { result ≡ get_by_text names.now name.now }
+{
+    match names.get(name) {
+        Some(place) => Some(*place),
+        None => None,
+    }
+}
+
+// The place of a name, which is kept from now on.
+fn place_of(names: &mut BTreeMap<String, u32>, alloc: Global, name: &str) -> Result<u32, TableFault>
+    ensures placed { IfOk result (PlacesName names.old names.new name.now) }
+    ensures untold { IfErr result IsMemoryOrStore }
+{
+    match place_in(names, name) {
+        Some(place) => Ok(place),
+        None => add_name(names, alloc, name),
+    }
+}
+
+fn insert_other(
+    others: &mut BTreeSet<(u64, u32)>,
+    submission: u64,
+    place: u32,
 ) -> Result<(), TableFault>
+    ensures added { (turn : List ℕ) (n k : ℕ) → OnOk result (HasPlace turn others.new n k
+        ↔ (HasPlace turn others.old n k ⊎ ((submission ≡ n) × (place ≡ k)))) }
+    ensures untold { IfErr result IsMemoryOrStore }
+{
+    match others.insert((submission, place)) {
+        Ok(_) => Ok(()),
+        Err(_) => Err(TableFault::Memory),
+    }
+}
+
+fn push_place(turn: &mut Vec<u32>, place: u32) -> Result<(), TableFault>
+    ensures pushed { OnOk result (turn.new.items ≡ turn.old.items ++ place ∷ []) }
+    ensures untold { IfErr result IsMemoryOrStore }
+{
+    let pushed = turn.push(place).is_ok();
+    if !pushed {
+        return Err(TableFault::Memory);
+    }
+    Ok(())
+}
+
+fn insert_place(
+    turn: &mut Vec<u32>,
+    others: &mut BTreeSet<(u64, u32)>,
+    submission: u64,
+    place: u32,
+) -> Result<(), TableFault>
+    ensures added { (n k : ℕ) → OnOk result (HasPlace turn.new.items others.new n k
+        ↔ (HasPlace turn.old.items others.old n k ⊎ ((submission ≡ n) × (place ≡ k)))) }
+    ensures untold { IfErr result IsMemoryOrStore }
+{
+    if submission > 0 && submission - 1 == turn.len() as u64 {
+        push_place(turn, place)?;
+        return Ok(());
+    }
+    insert_other(others, submission, place)
+}
+
+fn insert_author(
+    authors: &mut Authors,
+    alloc: Global,
+    submission: u64,
+    author: &str,
+) -> Result<(), TableFault>
+    ensures added { (rows : List Values) (row : Values) → column row 0 ≡ number submission
+        → column row 1 ≡ TextValue author.now → AreAuthorsOf authors.old rows
+        → OnOk result (AreAuthorsOf authors.new (rows ++ row ∷ [])) }
+    ensures untold { IfErr result IsMemoryOrStore }
+{
+    let place = place_of(&mut authors.names, alloc, author)?;
+    insert_place(&mut authors.turn, &mut authors.others, submission, place)?;
+    Ok(())
+}
+
+/// Adds the number and the author of a row.
+pub(crate) fn add_author(authors: &mut Authors, alloc: Global, row: &Row) -> Result<(), TableFault>
     ensures added { (rows : List Values) → AreAuthorsOf authors.old rows
         → OnOk result (AreAuthorsOf authors.new (rows ++ row.now ∷ [])) }
     ensures untold { IfErr result IsMemoryOrStore }
@@ -56,37 +182,39 @@ fn add_author(
         None => Ok(()),
         Some(submission) => match text_at(row, 1) {
             None => Ok(()),
-            Some(text) => {
-                let author = String::from_str(alloc, text)?;
-                insert_author(authors, submission, author)
-            }
+            Some(author) => insert_author(authors, alloc, submission, author),
         },
     }
 }
 
-/// The numbers of submissions with their authors.
-pub(crate) fn authors_of(rows: &[Row], alloc: Global) -> Result<BTreeSet<(u64, String)>, TableFault>
-    ensures authors { IfOk result (λ authors. AreAuthorsOf authors rows.now) }
-    ensures untold { IfErr result IsMemoryOrStore }
+fn is_in_turn(turn: &[u32], submission: u64, place: u32) -> bool
+    ensures { IsTrue result ↔ IsInTurn turn.now submission place }
 {
-    let mut authors = BTreeSet::new(alloc);
-    for row in rows {
-        add_author(&mut authors, alloc, row)?;
+    if submission == 0 {
+        return false;
     }
-    Ok(authors)
+    match turn.get((submission - 1) as usize) {
+        Some(found) => *found == place,
+        None => false,
+    }
+}
+
+fn has_place(authors: &Authors, submission: u64, place: u32) -> bool
+    ensures { IsTrue result ↔ HasPlace authors.now.turn.items authors.now.others submission place }
+{
+    if is_in_turn(authors.turn.as_slice(), submission, place) {
+        return true;
+    }
+    authors.others.contains(&(submission, place))
 }
 
 /// Whether a submission has this number and this author.
-pub(crate) fn is_by(
-    authors: &BTreeSet<(u64, String)>,
-    alloc: Global,
-    submission: u64,
-    account: &str,
-) -> Result<bool, TableFault>
-    ensures judged { IfOk result (λ is. (rows : List Values) → AreAuthorsOf authors.now rows
-        → IsTrue is ↔ IsByAuthor rows submission account.now) }
-    ensures untold { IfErr result IsMemoryOrStore }
+pub(crate) fn is_by(authors: &Authors, submission: u64, account: &str) -> bool
+    ensures { (rows : List Values) → AreAuthorsOf authors.now rows
+        → IsTrue result ↔ IsByAuthor rows submission account.now }
 {
-    let author = String::from_str(alloc, account)?;
-    Ok(authors.contains(&(submission, author)))
+    match place_in(&authors.names, account) {
+        Some(place) => has_place(authors, submission, place),
+        None => false,
+    }
 }

@@ -1,9 +1,8 @@
-//! The check of all tables: first which are there, and then their rows in one transaction that is
-//! rolled back.
+//! The check of all tables: first which are there, and then their rows.
 ghost use Rattle.std.specs.Prelude.{◌≡◌, ◌↔◌, false, None, Some, MatchResult};
 ghost use Rattle.pid_tables_rows.specs.Faults.{IsMemoryOrStore};
 ghost use Rattle.pid_tables_rows.specs.declared.version.Version.{Version as Schema};
-ghost use Rattle.pid_tables_rows.specs.Clauses.{GoesOn, HasCleanDisk, OnlyReads, is_open, seen};
+ghost use Rattle.pid_tables_rows.specs.Clauses.{HasCleanDisk, OnlyReads, is_open, seen};
 ghost use Rattle.pid_tables_check.specs.declared.shape.Table.TheVariants.{Meta};
 ghost use Rattle.pid_tables_check.specs.Checking.{
   Explains,
@@ -23,24 +22,24 @@ use crate::read::table_rows;
 use crate::shape::{Table, has_each_table, has_some_table, tables_of};
 use crate::tables::read_tables;
 use pid_tables_rows::{TableFault, Version};
-use sqlite::{Alter, Connection, Row, Transaction};
+use sqlite::{Alter, Connection, Row};
 use std::alloc::Global;
 
 fn check_rows<S: Alter>(
-    tx: &mut Transaction<'_, S>,
+    conn: &mut Connection<S>,
     alloc: Global,
     version: Version,
     meta: Vec<Row>,
 ) -> Result<(), TableFault>
-    ensures same_reference { tx.new.conn.ghost_name ≡ tx.old.conn.ghost_name }
-    ensures goes { GoesOn S.Store tx.old.conn.now tx.new.conn.now result }
-    ensures told { JudgesRows S.Store tx.old.conn.now tx.new.conn.now result
+    requires { conn.old.in_transaction ≡ false }
+    ensures rests { OnlyReads S.Store conn.old conn.new }
+    ensures told { JudgesRows S.Store conn.old conn.new result
         (λ d. HasTables version d.schema × ShowsRows d (query_of Meta) meta.items)
         (λ d x. ShowsRegistry version d) (TellsDamage version) }
 {
     let labels = meta.as_slice();
     let revision = revision_told(labels);
-    let judged = read_tables(tx, alloc, version, revision)?;
+    let judged = read_tables(conn, alloc, version, revision)?;
     if !judged.good {
         return Err(TableFault::Damaged);
     }
@@ -50,42 +49,26 @@ fn check_rows<S: Alter>(
     Ok(())
 }
 
+// The rows of the tables, each of which is there.
 fn check_tables<S: Alter>(
-    tx: &mut Transaction<'_, S>,
-    alloc: Global,
-    version: Option<Version>,
-) -> Result<(), TableFault>
-    ensures same_reference { tx.new.conn.ghost_name ≡ tx.old.conn.ghost_name }
-    ensures goes { GoesOn S.Store tx.old.conn.now tx.new.conn.now result }
-    ensures told { JudgesRows S.Store tx.old.conn.now tx.new.conn.now result
-        (λ d. HasEachTable d.schema × HasTablesOf version d.schema)
-        (λ d x. ShowsFound version d) (TellsLater version) }
-{
-    let meta = table_rows(tx, Table::Meta)?;
-    if let Some(number) = newer(meta.as_slice()) {
-        return Err(TableFault::NewerSchema(number));
-    }
-    match version {
-        None => Err(TableFault::Damaged),
-        Some(version) => check_rows(tx, alloc, version, meta),
-    }
-}
-
-// The check if each of the six tables is there, and the tables are those of this schema.
-fn check_whole<S: Alter>(
     conn: &mut Connection<S>,
     alloc: Global,
     version: Option<Version>,
 ) -> Result<(), TableFault>
     requires { conn.old.in_transaction ≡ false }
     ensures rests { OnlyReads S.Store conn.old conn.new }
-    ensures told { HasCleanDisk S.Store conn.new → HasEachTable (seen S.Store conn.old).schema
-        → HasTablesOf version (seen S.Store conn.old).schema
-        → MatchResult result (λ x. ShowsFound version (seen S.Store conn.old))
-        (TellsLater version (seen S.Store conn.old)) }
+    ensures told { JudgesRows S.Store conn.old conn.new result
+        (λ d. HasEachTable d.schema × HasTablesOf version d.schema)
+        (λ d x. ShowsFound version d) (TellsLater version) }
 {
-    let mut tx = conn.transaction();
-    check_tables(&mut tx, alloc, version)
+    let meta = table_rows(conn, Table::Meta, alloc)?;
+    if let Some(number) = newer(meta.as_slice()) {
+        return Err(TableFault::NewerSchema(number));
+    }
+    match version {
+        None => Err(TableFault::Damaged),
+        Some(version) => check_rows(conn, alloc, version, meta),
+    }
 }
 
 /// The schema of the tables, if they are those of some registry; `None` if there is no table.
@@ -120,11 +103,11 @@ pub fn check<S: Alter>(
 {
     if has_each_table(conn)? {
         let version = tables_of(conn)?;
-        check_whole(conn, alloc, version)?;
+        check_tables(conn, alloc, version)?;
         return Ok(version);
     }
     if has_some_table(conn)? {
-        check_lacking(conn)?;
+        check_lacking(conn, alloc)?;
     }
     Ok(None)
 }

@@ -7,13 +7,14 @@ ghost use Rattle.std.specs.Prelude.{
   List,
   [],
   true,
+  false,
   Some,
   IsTrue,
   IfOk,
   IfErr,
   OnOk,
 };
-ghost use Rattle.pid_tables_rows.specs.Clauses.{GoesOn};
+ghost use Rattle.pid_tables_rows.specs.Clauses.{OnlyReads};
 ghost use Rattle.std.specs.List.{All};
 ghost use Rattle.std.specs.BTreeSet.{contains};
 ghost use Rattle.sqlite.specs.Order.{Row as Values};
@@ -31,7 +32,7 @@ use crate::words::{has_name, path_at};
 use pid_ident::Path;
 use pid_moderation::ITEMS;
 use pid_tables_rows::TableFault;
-use sqlite::{Alter, Row, Transaction};
+use sqlite::{Alter, Connection, Row};
 use std::alloc::Global;
 use std::collections::BTreeSet;
 
@@ -124,14 +125,14 @@ fn keep_items(rows: &[Row], alloc: Global) -> Result<Items, TableFault>
 
 /// Reads the items, and judges whether they are those of a registry.
 pub(crate) fn read_items<S: Alter>(
-    tx: &mut Transaction<'_, S>,
+    conn: &mut Connection<S>,
     alloc: Global,
 ) -> Result<Items, TableFault>
-    ensures same_reference { tx.new.conn.ghost_name ≡ tx.old.conn.ghost_name }
-    ensures goes { GoesOn S.Store tx.old.conn.now tx.new.conn.now result }
-    ensures keeps { KeepsTable S.Store tx.old.conn.now tx.new.conn.now result table.Item
+    requires { conn.old.in_transaction ≡ false }
+    ensures rests { OnlyReads S.Store conn.old conn.new }
+    ensures keeps { KeepsTable S.Store conn.old conn.new result table.Item
         KeepsItems }
 {
-    let rows = table_rows(tx, Table::Item)?;
+    let rows = table_rows(conn, Table::Item, alloc)?;
     keep_items(rows.as_slice(), alloc)
 }

@@ -1,9 +1,20 @@
 //! The numbers of submissions, which count from 1.
-ghost use Rattle.std.specs.Prelude.{◌≡◌, ◌↔◌, ◌++◌, ◌∷◌, List, [], IsTrue, IfOk, IfErr, OnOk};
+ghost use Rattle.std.specs.Prelude.{
+  ◌≡◌,
+  ◌↔◌,
+  ◌++◌,
+  ◌∷◌,
+  List,
+  [],
+  length,
+  IsTrue,
+  IfErr,
+  OnOk,
+};
 ghost use Rattle.sqlite.specs.Order.{column, Row as Values};
 ghost use Rattle.pid_tables_rows.specs.TableRows.{number};
 ghost use Rattle.pid_tables_rows.specs.Faults.{IsMemoryOrStore};
-ghost use Rattle.pid_tables_check.specs.Steps.NumberSets.{AreNumbersOf, CountFromOne};
+ghost use Rattle.pid_tables_check.specs.Steps.NumberSets.{AreNumbersOf, CountFromOne, HasNumber};
 
 use crate::value::number_at;
 use pid_tables_rows::TableFault;
@@ -11,42 +22,69 @@ use sqlite::Row;
 use std::alloc::Global;
 use std::collections::BTreeSet;
 
-// Adds the number of a row.
-fn add_number(numbers: &mut BTreeSet<u64>, row: &Row) -> Result<(), TableFault>
+/// The numbers of some rows: how many came in turn, from 1 on, and the others.
+#[derive(Drop)]
+pub(crate) struct Numbers {
+    turn: u64,
+    others: BTreeSet<u64>,
+}
+
+/// No numbers yet.
+pub(crate) fn no_numbers(alloc: Global) -> Numbers
+    ensures { AreNumbersOf result [] }
+{
+    Numbers {
+        turn: 0,
+        others: BTreeSet::new(alloc),
+    }
+}
+
+fn insert_number(numbers: &mut Numbers, num: u64) -> Result<(), TableFault>
+    ensures added { (rows : List Values) (row : Values) → column row 0 ≡ number num
+        → AreNumbersOf numbers.old rows
+        → OnOk result (AreNumbersOf numbers.new (rows ++ row ∷ [])) }
+    ensures untold { IfErr result IsMemoryOrStore }
+{
+    if num > 0 && num - 1 == numbers.turn {
+        numbers.turn = num;
+        return Ok(());
+    }
+    match numbers.others.insert(num) {
+        Ok(_) => Ok(()),
+        Err(_) => Err(TableFault::Memory),
+    }
+}
+
+/// Adds the number of a row.
+pub(crate) fn add_number(numbers: &mut Numbers, row: &Row) -> Result<(), TableFault>
     ensures added { (rows : List Values) → AreNumbersOf numbers.old rows
         → OnOk result (AreNumbersOf numbers.new (rows ++ row.now ∷ [])) }
     ensures untold { IfErr result IsMemoryOrStore }
 {
     match number_at(row, 0) {
         None => Ok(()),
-        Some(number) => match numbers.insert(number) {
-            Ok(_) => Ok(()),
-            Err(_) => Err(TableFault::Memory),
-        },
+        Some(num) => insert_number(numbers, num),
     }
 }
 
-fn numbers_of(rows: &[Row], alloc: Global) -> Result<BTreeSet<u64>, TableFault>
-    ensures numbers { IfOk result (λ numbers. AreNumbersOf numbers rows.now) }
-    ensures untold { IfErr result IsMemoryOrStore }
+fn has_number(numbers: &Numbers, num: u64) -> bool
+    ensures { IsTrue result ↔ HasNumber numbers.now num }
 {
-    let mut numbers = BTreeSet::new(alloc);
-    for row in rows {
-        add_number(&mut numbers, row)?;
+    if num > 0 && num <= numbers.turn {
+        return true;
     }
-    Ok(numbers)
+    numbers.others.contains(&num)
 }
 
 /// Whether each number up to the count of the rows is there.
-pub(crate) fn count_from_one(rows: &[Row], alloc: Global) -> Result<bool, TableFault>
-    ensures judged { IfOk result (λ good. IsTrue good ↔ CountFromOne rows.now) }
-    ensures untold { IfErr result IsMemoryOrStore }
+pub(crate) fn count_from_one(numbers: &Numbers, count: u64) -> bool
+    ensures { (rows : List Values) → AreNumbersOf numbers.now rows → count ≡ length rows
+        → IsTrue result ↔ CountFromOne rows }
 {
-    let numbers = numbers_of(rows, alloc)?;
-    for at in 0..rows.len() {
-        if !numbers.contains(&(at as u64 + 1)) {
-            return Ok(false);
+    for at in 0..count {
+        if !has_number(numbers, at + 1) {
+            return false;
         }
     }
-    Ok(true)
+    true
 }

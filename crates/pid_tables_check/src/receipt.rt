@@ -1,11 +1,10 @@
 //! Receipts: each keeps a reply that is its account's own, under a key.
-ghost use Rattle.std.specs.Prelude.{◌≡◌, ◌↔◌, ◌+◌, ◌≤◌, List, ℕ, true, IsTrue, IfOk, IfErr};
+ghost use Rattle.std.specs.Prelude.{◌≡◌, ◌↔◌, ◌+◌, ◌≤◌, List, ℕ, true, false, IsTrue};
 ghost use Rattle.sqlite.specs.declared.types.Value.TheVariants.{Text as TextValue};
 ghost use Rattle.sqlite.specs.Order.{column, Row as Values};
 ghost use Rattle.pid_ident.specs.Words.{is_key as key_test};
-ghost use Rattle.std.specs.List.{All};
 ghost use Rattle.pid_tables_rows.specs.TableRows.{number};
-ghost use Rattle.pid_tables_rows.specs.Clauses.{GoesOn};
+ghost use Rattle.pid_tables_rows.specs.Clauses.{OnlyReads};
 ghost use Rattle.pid_tables_check.specs.Conditions.{IsReceiptRow};
 ghost use Rattle.pid_tables_check.specs.Steps.Clauses.{KeepsTable};
 ghost use Rattle.pid_tables_check.specs.Steps.Keeping.{AreOfAuthors};
@@ -16,18 +15,16 @@ ghost use Rattle.pid_tables_check.specs.Steps.AuthorSets.{
   HasCounts,
   IsNumbered,
 };
-ghost use Rattle.pid_tables_rows.specs.Faults.{IsMemoryOrStore};
 
-use crate::authors::is_by;
-use crate::read::table_rows;
+use crate::authors::{Authors, is_by};
+use crate::read::{Keeper, keep_rows};
 use crate::shape::Table;
+use crate::tables::are_both;
 use crate::value::{number_at, text_at};
 use pid_ident::{is_account, is_key};
 use pid_moderation::ITEMS;
 use pid_tables_rows::TableFault;
-use sqlite::{Alter, Row, Transaction};
-use std::alloc::Global;
-use std::collections::BTreeSet;
+use sqlite::{Alter, Connection, Row};
 
 fn is_zero(row: &Row, at: usize) -> bool
     ensures { IsTrue result ↔ (column row.now at ≡ number 0) }
@@ -67,44 +64,32 @@ fn is_done(row: &Row) -> bool
     is_zero(row, 3) && is_zero(row, 4) && is_zero(row, 5)
 }
 
-fn is_numbered(
-    row: &Row,
-    authors: &BTreeSet<(u64, String)>,
-    alloc: Global,
-    account: &str,
-) -> Result<bool, TableFault>
-    ensures judged { IfOk result (λ good. (rows : List Values) → AreAuthorsOf authors.now rows
-        → IsTrue good ↔ IsNumbered rows row.now account.now) }
-    ensures untold { IfErr result IsMemoryOrStore }
+fn is_numbered(row: &Row, authors: &Authors, account: &str) -> bool
+    ensures { (rows : List Values) → AreAuthorsOf authors.now rows
+        → IsTrue result ↔ IsNumbered rows row.now account.now }
 {
     if !is_zero(row, 4) {
-        return Ok(false);
+        return false;
     }
     if !is_zero(row, 5) {
-        return Ok(false);
+        return false;
     }
     match number_at(row, 3) {
-        None => Ok(false),
-        Some(submission) => is_by(authors, alloc, submission, account),
+        None => false,
+        Some(submission) => is_by(authors, submission, account),
     }
 }
 
-fn is_own(
-    row: &Row,
-    authors: &BTreeSet<(u64, String)>,
-    alloc: Global,
-    account: &str,
-) -> Result<bool, TableFault>
-    ensures judged { IfOk result (λ good. (rows : List Values) → AreAuthorsOf authors.now rows
-        → IsTrue good ↔ HasReply rows row.now account.now) }
-    ensures untold { IfErr result IsMemoryOrStore }
+fn is_own(row: &Row, authors: &Authors, account: &str) -> bool
+    ensures { (rows : List Values) → AreAuthorsOf authors.now rows
+        → IsTrue result ↔ HasReply rows row.now account.now }
 {
     match number_at(row, 2) {
-        None => Ok(false),
-        Some(0) => Ok(is_done(row)),
-        Some(1) => is_numbered(row, authors, alloc, account),
-        Some(2) => Ok(has_counts(row)),
-        Some(_) => Ok(false),
+        None => false,
+        Some(0) => is_done(row),
+        Some(1) => is_numbered(row, authors, account),
+        Some(2) => has_counts(row),
+        Some(_) => false,
     }
 }
 
@@ -118,63 +103,60 @@ fn has_key(row: &Row) -> bool
     }
 }
 
-fn is_receipt_row(
-    row: &Row,
-    authors: &BTreeSet<(u64, String)>,
-    alloc: Global,
-) -> Result<bool, TableFault>
-    ensures judged { IfOk result (λ good. (rows : List Values) → AreAuthorsOf authors.now rows
-        → IsTrue good ↔ IsReceiptRow rows row.now) }
-    ensures untold { IfErr result IsMemoryOrStore }
+fn is_receipt_row(row: &Row, authors: &Authors) -> bool
+    ensures { (rows : List Values) → AreAuthorsOf authors.now rows
+        → IsTrue result ↔ IsReceiptRow rows row.now }
 {
     if row.column_count() != 6 {
-        return Ok(false);
+        return false;
     }
     if !has_key(row) {
-        return Ok(false);
+        return false;
     }
     match text_at(row, 0) {
-        None => Ok(false),
+        None => false,
         Some(account) => {
             if !is_account(account) {
-                return Ok(false);
+                return false;
             }
-            is_own(row, authors, alloc, account)
+            is_own(row, authors, account)
         }
     }
 }
 
-fn are_receipt_rows(
-    rows: &[Row],
-    authors: &BTreeSet<(u64, String)>,
-    alloc: Global,
-) -> Result<bool, TableFault>
-    ensures judged { IfOk result (λ good. (submissions : List Values)
-        → AreAuthorsOf authors.now submissions
-        → IsTrue good ↔ All (IsReceiptRow submissions) rows.now) }
-    ensures untold { IfErr result IsMemoryOrStore }
-{
-    for row in rows {
-        let good = is_receipt_row(row, authors, alloc)?;
-        if !good {
-            return Ok(false);
-        }
+// Whether the receipts so far go with the authors.
+#[derive(Drop)]
+struct ReceiptKeeper<'a> {
+    authors: &'a Authors,
+    good: bool,
+}
+
+impl Keeper for ReceiptKeeper<'_> {
+    ghost use Rattle.pid_tables_check.specs.Steps.Keeping.{TakesReceipts};
+
+    ghost keeps = { TakesReceipts };
+
+    fn keep(&mut self, row: &Row) -> Result<(), TableFault> {
+        self.good = are_both(self.good, is_receipt_row(row, self.authors));
+        Ok(())
     }
-    Ok(true)
 }
 
 /// Reads the receipts, and judges whether they are those of a registry whose submissions have these
 /// authors.
 pub(crate) fn read_receipts<S: Alter>(
-    tx: &mut Transaction<'_, S>,
-    authors: &BTreeSet<(u64, String)>,
-    alloc: Global,
+    conn: &mut Connection<S>,
+    authors: &Authors,
 ) -> Result<bool, TableFault>
-    ensures same_reference { tx.new.conn.ghost_name ≡ tx.old.conn.ghost_name }
-    ensures goes { GoesOn S.Store tx.old.conn.now tx.new.conn.now result }
-    ensures keeps { KeepsTable S.Store tx.old.conn.now tx.new.conn.now result table.Receipt
+    requires { conn.old.in_transaction ≡ false }
+    ensures rests { OnlyReads S.Store conn.old conn.new }
+    ensures keeps { KeepsTable S.Store conn.old conn.new result table.Receipt
         (AreOfAuthors authors.now) }
 {
-    let rows = table_rows(tx, Table::Receipt)?;
-    are_receipt_rows(rows.as_slice(), authors, alloc)
+    let mut keeper = ReceiptKeeper {
+        authors,
+        good: true,
+    };
+    keep_rows(conn, Table::Receipt, &mut keeper)?;
+    Ok(keeper.good)
 }

@@ -1,10 +1,10 @@
 //! The numbers of changes: each item has one, which is at most the revision.
-ghost use Rattle.std.specs.Prelude.{◌≡◌, ◌↔◌, ◌≤◌, ℕ, IsTrue, IfOk, IfErr};
+ghost use Rattle.std.specs.Prelude.{◌≡◌, ◌↔◌, ◌≤◌, ℕ, false, IsTrue, IfOk, IfErr};
 ghost use Rattle.std.specs.List.{All};
 ghost use Rattle.sqlite.specs.declared.types.Value.TheVariants.{Text as TextValue};
 ghost use Rattle.sqlite.specs.Order.{column};
 ghost use Rattle.pid_ident.specs.PathTexts.{IsPath, path_text};
-ghost use Rattle.pid_tables_rows.specs.Clauses.{GoesOn};
+ghost use Rattle.pid_tables_rows.specs.Clauses.{OnlyReads};
 ghost use Rattle.pid_tables_rows.specs.Faults.{IsMemoryOrStore};
 ghost use Rattle.pid_tables_rows.specs.TableRows.{number};
 ghost use Rattle.pid_tables_check.specs.Conditions.{IsSinceRow};
@@ -19,7 +19,7 @@ use crate::value::number_at;
 use crate::words::has_path;
 use pid_ident::Path;
 use pid_tables_rows::TableFault;
-use sqlite::{Alter, Row, Transaction};
+use sqlite::{Alter, Connection, Row};
 use std::alloc::Global;
 use std::collections::BTreeSet;
 
@@ -70,16 +70,16 @@ fn are_sinces(
 /// Reads the numbers of changes, and judges whether they go with the paths of the items and the
 /// revision.
 pub(crate) fn read_sinces<S: Alter>(
-    tx: &mut Transaction<'_, S>,
+    conn: &mut Connection<S>,
     items: &BTreeSet<Path>,
     revision: u64,
     alloc: Global,
 ) -> Result<bool, TableFault>
-    ensures same_reference { tx.new.conn.ghost_name ≡ tx.old.conn.ghost_name }
-    ensures goes { GoesOn S.Store tx.old.conn.now tx.new.conn.now result }
-    ensures keeps { KeepsTable S.Store tx.old.conn.now tx.new.conn.now result table.Since
+    requires { conn.old.in_transaction ≡ false }
+    ensures rests { OnlyReads S.Store conn.old conn.new }
+    ensures keeps { KeepsTable S.Store conn.old conn.new result table.Since
         (GoWith items.now revision) }
 {
-    let rows = table_rows(tx, Table::Since)?;
+    let rows = table_rows(conn, Table::Since, alloc)?;
     are_sinces(rows.as_slice(), items, revision, alloc)
 }

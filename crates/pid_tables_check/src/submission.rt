@@ -1,7 +1,26 @@
 //! Submissions: each is one of an account, in a state that it may have.
-ghost use Rattle.std.specs.Prelude.{◌≡◌, ◌≢◌, ◌↔◌, ◌≤◌, List, ℕ, length, true, IsTrue, IfOk, IfErr};
+ghost use Rattle.std.specs.Prelude.{
+  ◌≡◌,
+  ◌≢◌,
+  ◌↔◌,
+  ◌≤◌,
+  ◌++◌,
+  ◌∷◌,
+  List,
+  [],
+  ℕ,
+  suc,
+  length,
+  true,
+  false,
+  IsTrue,
+  IfOk,
+  IfErr,
+  IfSome,
+  IfNone,
+};
 ghost use Rattle.sqlite.specs.declared.types.Value.TheVariants.{Text as TextValue};
-ghost use Rattle.sqlite.specs.Order.{column};
+ghost use Rattle.sqlite.specs.Order.{column, Row as Values};
 ghost use Rattle.pid_moderation.specs.WellMade.{ProposesName};
 ghost use Rattle.pid_tables_rows.specs.TableRows.{number, form_of, name_of, state_number};
 ghost use Rattle.pid_moderation.specs.Submissions.{decider_of, reason_of};
@@ -12,21 +31,21 @@ ghost use Rattle.pid_tables_check.specs.Steps.NamesRead.{
   IsSubmissionAmong,
   StandsInRows,
 };
-ghost use Rattle.std.specs.List.{All};
-ghost use Rattle.pid_tables_rows.specs.Clauses.{GoesOn};
+ghost use Rattle.pid_tables_rows.specs.Clauses.{OnlyReads};
 ghost use Rattle.pid_tables_check.specs.Steps.Clauses.{KeepsTable};
-ghost use Rattle.pid_tables_check.specs.Steps.Keeping.{AreOfAccounts, KeepsSubmissions};
+ghost use Rattle.pid_tables_check.specs.Steps.Keeping.{AreFit, AreOfAccounts, KeepsSubmissions};
+ghost use Rattle.pid_tables_check.specs.Steps.NumberSets.{AreNumbersOf};
 ghost use Rattle.pid_tables_check.specs.declared.shape.Table.TheVariants as table;
 
-use crate::authors::authors_of;
+use crate::authors::{Authors, add_author, no_authors};
 use crate::names;
-use crate::numbers::count_from_one;
-use crate::read::table_rows;
+use crate::numbers::{Numbers, add_number, count_from_one, no_numbers};
+use crate::read::{Keeper, keep_rows};
 use crate::shape::Table;
 use crate::value::{number_at, text_at};
 use crate::words::{has_filled_text, has_name, has_path, has_text, is_blank};
 use pid_tables_rows::TableFault;
-use sqlite::{Alter, Row, Transaction};
+use sqlite::{Alter, Connection, Row};
 use std::alloc::Global;
 use std::collections::BTreeSet;
 
@@ -118,25 +137,88 @@ fn is_submission_row(row: &Row, names: &BTreeSet<String>, count: u64) -> bool
     }
 }
 
-fn are_submission_rows(rows: &[Row], names: &BTreeSet<String>) -> bool
-    ensures { IsTrue result ↔ All (IsSubmissionAmong names.now (length rows.now)) rows.now }
+// The number of a row that is a submission's, if the number is at most the count.
+fn submission_number(row: &Row, names: &BTreeSet<String>) -> Option<u64>
+    ensures found { IfSome result (λ n. (count : ℕ) → (n ≤ count)
+        ↔ IsSubmissionAmong names.now count row.now) }
+    ensures none { IfNone result ((count : ℕ) → IsSubmissionAmong names.now count row.now → ⊥) }
 {
-    let count = rows.len() as u64;
-    rows.iter().all(|row| is_submission_row(row, names, count))
+    match number_at(row, 0) {
+        None => None,
+        Some(num) => {
+            if is_submission_row(row, names, num) {
+                Some(num)
+            } else {
+                None
+            }
+        }
+    }
 }
 
-fn are_submissions(
-    rows: &[Row],
-    names: &BTreeSet<String>,
-    alloc: Global,
-) -> Result<bool, TableFault>
-    ensures judged { IfOk result (λ good. AreOfAccounts names.now rows.now good) }
+/// What rows say of the count: whether they are submissions' if it is no less than the greatest of
+/// their numbers.
+#[derive(Clone, Copy)]
+pub(crate) struct Fit {
+    good: bool,
+    greatest: u64,
+}
+
+fn greater(one: u64, other: u64) -> u64
+    ensures { (most : ℕ) → (result ≤ most) ↔ ((one ≤ most) × (other ≤ most)) }
+{
+    if one > other { one } else { other }
+}
+
+// The fit with one more row.
+fn fit_row(fit: Fit, row: &Row, names: &BTreeSet<String>) -> Fit
+    ensures { (rows : List Values) → AreFit names.now rows fit
+        → AreFit names.now (rows ++ row.now ∷ []) result }
+{
+    match submission_number(row, names) {
+        None => Fit {
+            good: false,
+            greatest: fit.greatest,
+        },
+        Some(num) => Fit {
+            good: fit.good,
+            greatest: greater(fit.greatest, num),
+        },
+    }
+}
+
+fn one_more(count: u64) -> Result<u64, TableFault>
+    ensures next { IfOk result (λ next. next ≡ suc count) }
     ensures untold { IfErr result IsMemoryOrStore }
 {
-    if !are_submission_rows(rows, names) {
-        return Ok(false);
+    match count.checked_add(1) {
+        Some(next) => Ok(next),
+        None => Err(TableFault::Memory),
     }
-    count_from_one(rows, alloc)
+}
+
+// What judging the submissions takes of the rows so far.
+#[derive(Drop)]
+struct SubmissionKeeper<'a> {
+    names: &'a BTreeSet<String>,
+    alloc: Global,
+    count: u64,
+    fit: Fit,
+    numbers: Numbers,
+    authors: Authors,
+}
+
+impl Keeper for SubmissionKeeper<'_> {
+    ghost use Rattle.pid_tables_check.specs.Steps.Keeping.{TakesSubmissions};
+
+    ghost keeps = { TakesSubmissions };
+
+    fn keep(&mut self, row: &Row) -> Result<(), TableFault> {
+        self.count = one_more(self.count)?;
+        self.fit = fit_row(self.fit, row, self.names);
+        add_number(&mut self.numbers, row)?;
+        add_author(&mut self.authors, self.alloc, row)?;
+        Ok(())
+    }
 }
 
 /// What is kept of the submissions.
@@ -144,38 +226,49 @@ fn are_submissions(
 pub(crate) struct Submissions {
     pub(crate) good: bool,
     pub(crate) count: u64,
-    pub(crate) authors: BTreeSet<(u64, String)>,
+    pub(crate) authors: Authors,
 }
 
-fn keep_submissions(
-    rows: &[Row],
-    names: &BTreeSet<String>,
-    alloc: Global,
-) -> Result<Submissions, TableFault>
-    ensures keeps { IfOk result (KeepsSubmissions names.now rows.now) }
-    ensures untold { IfErr result IsMemoryOrStore }
+fn are_submissions(fit: Fit, numbers: &Numbers, count: u64) -> bool
+    ensures { (names : _) (rows : List Values) → count ≡ length rows → AreFit names rows fit
+        → AreNumbersOf numbers.now rows → AreOfAccounts names rows result }
 {
-    let good = are_submissions(rows, names, alloc)?;
-    let authors = authors_of(rows, alloc)?;
-    Ok(Submissions {
-        good,
-        count: rows.len() as u64,
-        authors,
-    })
+    if !fit.good {
+        return false;
+    }
+    if fit.greatest > count {
+        return false;
+    }
+    count_from_one(numbers, count)
 }
 
 /// Reads the submissions, and judges whether they are those of a registry with accounts of these
 /// names.
 pub(crate) fn read_submissions<S: Alter>(
-    tx: &mut Transaction<'_, S>,
+    conn: &mut Connection<S>,
     names: &BTreeSet<String>,
     alloc: Global,
 ) -> Result<Submissions, TableFault>
-    ensures same_reference { tx.new.conn.ghost_name ≡ tx.old.conn.ghost_name }
-    ensures goes { GoesOn S.Store tx.old.conn.now tx.new.conn.now result }
-    ensures keeps { KeepsTable S.Store tx.old.conn.now tx.new.conn.now result table.Submission
+    requires { conn.old.in_transaction ≡ false }
+    ensures rests { OnlyReads S.Store conn.old conn.new }
+    ensures keeps { KeepsTable S.Store conn.old conn.new result table.Submission
         (KeepsSubmissions names.now) }
 {
-    let rows = table_rows(tx, Table::Submission)?;
-    keep_submissions(rows.as_slice(), names, alloc)
+    let mut keeper = SubmissionKeeper {
+        names,
+        alloc,
+        count: 0,
+        fit: Fit {
+            good: true,
+            greatest: 0,
+        },
+        numbers: no_numbers(alloc),
+        authors: no_authors(alloc),
+    };
+    keep_rows(conn, Table::Submission, &mut keeper)?;
+    Ok(Submissions {
+        good: are_submissions(keeper.fit, &keeper.numbers, keeper.count),
+        count: keeper.count,
+        authors: keeper.authors,
+    })
 }

@@ -1,8 +1,8 @@
 //! The tables of a schema, one after the other: of each is kept whether its rows are good, and what
 //! judging the others takes. Whatever was found, each is read.
-ghost use Rattle.std.specs.Prelude.{◌≡◌, ◌↔◌, IsTrue};
+ghost use Rattle.std.specs.Prelude.{◌≡◌, ◌↔◌, false, IsTrue};
 ghost use Rattle.pid_tables_rows.specs.Faults.{IsMemoryOrStore};
-ghost use Rattle.pid_tables_rows.specs.Clauses.{GoesOn};
+ghost use Rattle.pid_tables_rows.specs.Clauses.{OnlyReads};
 ghost use Rattle.pid_tables_check.specs.Shapes.{HasTables, HasEachTable};
 ghost use Rattle.pid_tables_check.specs.Steps.Keeping.{ShowsNamed, ShowsSubmitted, ShowsJudged};
 ghost use Rattle.pid_tables_check.specs.Steps.Clauses.{JudgesRows};
@@ -14,7 +14,7 @@ use crate::remark::read_remarks;
 use crate::since::read_sinces;
 use crate::submission::read_submissions;
 use pid_tables_rows::{TableFault, Version};
-use sqlite::{Alter, Transaction};
+use sqlite::{Alter, Connection};
 use std::alloc::Global;
 
 /// What is kept of some tables: whether all their rows are good, and how many the first of them
@@ -33,7 +33,8 @@ pub(crate) struct Judged {
     pub(crate) submissions: u64,
 }
 
-fn are_both(one: bool, other: bool) -> bool
+/// Whether both are so.
+pub(crate) fn are_both(one: bool, other: bool) -> bool
     ensures { IsTrue result ↔ (IsTrue one × IsTrue other) }
 {
     one && other
@@ -41,17 +42,17 @@ fn are_both(one: bool, other: bool) -> bool
 
 // The items, and in schema 2 their numbers.
 fn read_named<S: Alter>(
-    tx: &mut Transaction<'_, S>,
+    conn: &mut Connection<S>,
     alloc: Global,
     version: Version,
     revision: u64,
 ) -> Result<Part, TableFault>
-    ensures same_reference { tx.new.conn.ghost_name ≡ tx.old.conn.ghost_name }
-    ensures goes { GoesOn S.Store tx.old.conn.now tx.new.conn.now result }
-    ensures told { JudgesRows S.Store tx.old.conn.now tx.new.conn.now result
+    requires { conn.old.in_transaction ≡ false }
+    ensures rests { OnlyReads S.Store conn.old conn.new }
+    ensures told { JudgesRows S.Store conn.old conn.new result
         (λ d. HasTables version d.schema) (ShowsNamed version revision) (λ d. IsMemoryOrStore) }
 {
-    let items = read_items(tx, alloc)?;
+    let items = read_items(conn, alloc)?;
     let count = items.count;
     match version {
         Version::One => Ok(Part {
@@ -59,7 +60,7 @@ fn read_named<S: Alter>(
             count,
         }),
         Version::Two => {
-            let dated = read_sinces(tx, &items.paths, revision, alloc)?;
+            let dated = read_sinces(conn, &items.paths, revision, alloc)?;
             Ok(Part {
                 good: are_both(items.good, dated),
                 count,
@@ -69,15 +70,15 @@ fn read_named<S: Alter>(
 }
 
 // The submissions, with the accounts and the receipts.
-fn read_submitted<S: Alter>(tx: &mut Transaction<'_, S>, alloc: Global) -> Result<Part, TableFault>
-    ensures same_reference { tx.new.conn.ghost_name ≡ tx.old.conn.ghost_name }
-    ensures goes { GoesOn S.Store tx.old.conn.now tx.new.conn.now result }
-    ensures told { JudgesRows S.Store tx.old.conn.now tx.new.conn.now result
+fn read_submitted<S: Alter>(conn: &mut Connection<S>, alloc: Global) -> Result<Part, TableFault>
+    requires { conn.old.in_transaction ≡ false }
+    ensures rests { OnlyReads S.Store conn.old conn.new }
+    ensures told { JudgesRows S.Store conn.old conn.new result
         (λ d. HasEachTable d.schema) ShowsSubmitted (λ d. IsMemoryOrStore) }
 {
-    let accounts = read_accounts(tx, alloc)?;
-    let submissions = read_submissions(tx, &accounts.names, alloc)?;
-    let receipts = read_receipts(tx, &submissions.authors, alloc)?;
+    let accounts = read_accounts(conn, alloc)?;
+    let submissions = read_submissions(conn, &accounts.names, alloc)?;
+    let receipts = read_receipts(conn, &submissions.authors)?;
     let good = are_both(accounts.good, are_both(submissions.good, receipts));
     Ok(Part {
         good,
@@ -87,19 +88,19 @@ fn read_submitted<S: Alter>(tx: &mut Transaction<'_, S>, alloc: Global) -> Resul
 
 /// Reads and judges the tables of a schema other than `meta`, which has this revision.
 pub(crate) fn read_tables<S: Alter>(
-    tx: &mut Transaction<'_, S>,
+    conn: &mut Connection<S>,
     alloc: Global,
     version: Version,
     revision: u64,
 ) -> Result<Judged, TableFault>
-    ensures same_reference { tx.new.conn.ghost_name ≡ tx.old.conn.ghost_name }
-    ensures goes { GoesOn S.Store tx.old.conn.now tx.new.conn.now result }
-    ensures told { JudgesRows S.Store tx.old.conn.now tx.new.conn.now result
+    requires { conn.old.in_transaction ≡ false }
+    ensures rests { OnlyReads S.Store conn.old conn.new }
+    ensures told { JudgesRows S.Store conn.old conn.new result
         (λ d. HasTables version d.schema) (ShowsJudged version revision) (λ d. IsMemoryOrStore) }
 {
-    let submitted = read_submitted(tx, alloc)?;
-    let named = read_named(tx, alloc, version, revision)?;
-    let remarks = read_remarks(tx, alloc)?;
+    let submitted = read_submitted(conn, alloc)?;
+    let named = read_named(conn, alloc, version, revision)?;
+    let remarks = read_remarks(conn, alloc)?;
     Ok(Judged {
         good: are_both(submitted.good, are_both(named.good, remarks)),
         items: named.count,

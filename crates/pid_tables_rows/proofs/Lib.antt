@@ -36,4 +36,5 @@ pub mod SinceFilled
 pub mod SinceCascade
 pub mod SinceRemoved
 pub mod MovingLemmas
+pub mod AccountRows
 pub mod WorkedRows

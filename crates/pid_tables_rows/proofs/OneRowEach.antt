@@ -51,7 +51,7 @@ none_among p [] x none h = absurd h
 none_among p (y ∷ xs) x none (inl same) = ap p same ∙ (or_parts _ _ none).0
 none_among p (y ∷ xs) x none (inr later) = none_among p xs x (or_parts _ _ none).1 later
 
-agrees : (a b : Row) (k : List ℕ) → column a 1 ≡ Text k → column b 1 ≡ Text k → agree plain (1 ∷ []) a (1 ∷ []) b ≡ true
+pub agrees : (a b : Row) (k : List ℕ) → column a 1 ≡ Text k → column b 1 ≡ Text k → agree plain (1 ∷ []) a (1 ∷ []) b ≡ true
 unfolding first_key
 agrees a b k p q = (λ i. equal Binary (p i) (q i) && true) ∙ ap (λ t. t && true) (text_equal k)
 

@@ -2,6 +2,7 @@ pub mod Faults
 pub mod Schema
 pub mod PairRows
 pub mod TableRows
+pub mod Accounts
 pub mod Answers
 pub mod Shows
 pub mod Causes

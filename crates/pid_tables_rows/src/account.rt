@@ -1,5 +1,15 @@
 //! The table of accounts and their ranks.
-ghost use Rattle.std.specs.Prelude.{◌≡◌, false, None, IfErr, IsSome, option_map, slice_get};
+ghost use Rattle.std.specs.Prelude.{
+  ◌≡◌,
+  false,
+  length,
+  None,
+  IfErr,
+  IsSome,
+  option_map,
+  slice_get,
+};
+ghost use Rattle.pid_tables_rows.specs.Accounts.{HasAccounts};
 ghost use Rattle.pid_tables_rows.specs.Steps.Answers.{rank_row};
 ghost use Rattle.pid_tables_rows.specs.Faults.{IsNotNewerSchema};
 ghost use Rattle.pid_tables_rows.specs.Writes.{with_rank};
@@ -75,4 +85,21 @@ pub fn rank<S: Alter>(conn: &mut Connection<S>, name: &str) -> Result<Option<Ran
         Some(row) => Ok(Some(rank_at(row, 0)?)),
         None => Ok(None),
     }
+}
+
+fn account_rows<S: Alter>(conn: &mut Connection<S>) -> Result<Vec<Row>, TableFault>
+    requires { conn.old.in_transaction ≡ false }
+    ensures { Reads S.Store conn.old conn.new result
+        (λ v rows. HasAccounts v (length rows.items)) }
+{
+    read_rows(conn, "SELECT rank FROM account", &[])
+}
+
+/// How many accounts there are. The rows are held in memory while they are counted.
+pub fn accounts<S: Alter>(conn: &mut Connection<S>) -> Result<u64, TableFault>
+    requires { conn.old.in_transaction ≡ false }
+    ensures { Reads S.Store conn.old conn.new result (λ v n. HasAccounts v n) }
+{
+    let rows = account_rows(conn)?;
+    Ok(rows.len() as u64)
 }

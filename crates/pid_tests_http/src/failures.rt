@@ -26,6 +26,7 @@ GET /pending?after=1&format=text | 503 Service Unavailable text refused 18 Faile
 GET /changes | 503 Service Unavailable json {"ok":false,"refused":18,"word":"Failed"}
 GET /queue | 503 Service Unavailable json {"ok":false,"refused":18,"word":"Failed"}
 GET /submissions?author=root&format=text | 503 Service Unavailable text refused 18 Failed;
+GET /status | 503 Service Unavailable json {"ok":false,"refused":18,"word":"Failed"}
 GET /account?who=root&format=text | 503 Service Unavailable text refused 18 Failed;
 POST /account root who=alice&rank=0 | 503 Service Unavailable json {"ok":false,"refused":18,"word":"Failed"}
 POST /submit?format=text root path=PC/8086&name=Intel | 503 Service Unavailable text refused 18 Failed;

@@ -135,6 +135,9 @@ GET /submissions?author=alice&path=PC/8086&before=3 | 200 OK json {"before":0,"s
 "reason":"","remarks":0,"state":"approved"}]}
 GET /submissions?path=PC&format=text | 400 Bad Request text refused 1 BadPath;
 GET /submissions?author=Bob&format=text | 400 Bad Request json {"ok":false,"refused":3,"word":"BadText"}
+GET /status | 200 OK json {"accounts":3,"items":1,"pending":1,"revision":11,"submissions":4}
+GET /status?format=text | 200 OK text accounts 3;items 1;pending 1;revision 11;submissions 4;
+POST /status root format=text | 405 Method Not Allowed allow GET
 "#;
 
 // The tabs of names and of remarks stand for themselves here.

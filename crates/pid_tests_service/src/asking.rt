@@ -3,8 +3,8 @@
 //! A row is a command, as `comment alice num=1&text=seen`, where the key of a caller is before a
 //! slash; or `import`, the caller and the file, which comes whole, or in chunks with `slowly`, or
 //! from an input that fails after it with `broken`; or a question: `export`, `length` (of the
-//! export), `read`, `rank` with an account, `children` with a path or `top`, `submission` and
-//! `pending` with a number, `changes` with a revision and a path, if there is one, `lookup` with its
+//! export), `read`, `rank` with an account, `status`, `children` with a path or `top`, `submission`
+//! and `pending` with a number, `changes` with a revision and a path, if there is one, `lookup` with its
 //! fields. In a row `;` ends a line of a file and `>` is a tab.
 use pid_ident::{Account, FaultyInput, FaultyOutput, Key, Path, PathText};
 use pid_lookup::{Answer, LookupRefusal, args_of};
@@ -169,6 +169,26 @@ fn rank<S: Alter + Drop>(
     match registry.rank(&Account::of(alloc, who)?) {
         Ok(Some(rank)) => Ok(rank.number().to_string(alloc)?),
         Ok(None) => Ok(String::from_str(alloc, "none")?),
+        Err(refusal) => refused(alloc, refusal),
+    }
+}
+
+// How many accounts, items, pending submissions and submissions there are after the revision.
+fn status<S: Alter + Drop>(registry: &mut Registry<S>, alloc: Global) -> Result<String, Fail> {
+    match registry.status() {
+        Ok(found) => {
+            let mut told = found.revision.to_string(alloc)?;
+            for count in [
+                found.accounts,
+                found.items as u64,
+                found.pending as u64,
+                found.submissions as u64,
+            ] {
+                told.push(' ')?;
+                told.push_str(count.to_string(alloc)?.as_str())?;
+            }
+            Ok(told)
+        }
         Err(refusal) => refused(alloc, refusal),
     }
 }
@@ -349,6 +369,7 @@ pub(crate) fn told<S: Alter + Drop>(
         "length" => length(registry, alloc),
         "read" => read(registry, alloc, rest),
         "rank" => rank(registry, alloc, rest),
+        "status" => status(registry, alloc),
         "children" => children(registry, alloc, rest),
         "pending" => pending(registry, alloc, rest.parse::<u32>()?),
         "submission" => submission(registry, alloc, rest.parse::<u32>()?),

@@ -111,8 +111,9 @@ export | # PCI ID registry;1af4  Red Hat, Inc.;8086  Intel Corporation;>1237  44
 >>1af4 1100  Qemu machine;C 01  Mass;S 8086;>1100  Board;
 ";
 
-// What is pending is asked for before and after each command that changes it.
+// What is pending, and how much there is, before and after the commands that change it.
 const WAITING: &str = "\
+status | 0 1 0 0 0
 pending 0 | 
 submit root path=PC/8086&name=a | ok 1
 submit root path=PC/8086&name=b | ok 2
@@ -120,16 +121,20 @@ pending 0 | 1 root PC/8086 a;2 root PC/8086 b;
 account root who=bob&rank=2 | ok
 reject bob num=1&reason=no | ok
 pending 0 | 2 root PC/8086 b;
+status | 4 2 0 1 2
 submit root path=PC/10ec&name=c | ok 3
 import bob 8086  Intel Corporation; | ok added=1 renamed=0 same=0
 pending 0 | 2 root PC/8086 b;3 root PC/10ec c;
+status | 6 2 1 2 3
 withdraw root num=3 | ok
 approve bob num=2 | ok
 pending 0 | 
+status | 8 2 1 0 3
 submit root path=PC/10ec&name=d | ok 4
 comment bob num=4&text=seen | ok
 pending 0 | 4 root PC/10ec d;
 pending 4 | 
+status | 10 2 1 1 4
 ";
 
 const RANKS: &str = "\

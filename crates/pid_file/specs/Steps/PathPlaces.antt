@@ -1,8 +1,6 @@
--- What orders paths without their texts: the letter, and then the numbers.
-use Rattle.std.specs.Prelude.{ℕ, List, [], ◌∷◌, slice_get}
-use Rattle.std.specs.declared.cmp.Ordering.{Ordering}
-use Rattle.std.specs.Option.{option_cmp}
-use Rattle.std.specs.Ordering.{nat_cmp, ordering_then}
+-- What orders paths without their texts: the letter, and then the numbers; and numbers that are
+-- ordered so.
+use Rattle.std.specs.Prelude.{ℕ, ◌+◌, ◌*◌, List, [], ◌∷◌}
 use Rattle.pid_file.specs.declared.path.Path.{Path}
 use Rattle.pid_file.specs.declared.path.Path.TheVariants.{Vendor, Device, Subsystem, Class, Subclass, ProgIf, Generic}
 
@@ -24,10 +22,27 @@ numbers_of (Subclass c s) = c ∷ s ∷ []
 numbers_of (ProgIf c s p) = c ∷ s ∷ p ∷ []
 numbers_of (Generic v d) = v ∷ d ∷ []
 
--- by the number at a place: a missing one comes before every other
-abbrev pub cmp_at : ℕ → List ℕ → List ℕ → Ordering
-cmp_at i ms ns = option_cmp nat_cmp (slice_get ms i) (slice_get ns i)
+-- the letter and the first number, as one number
+abbrev pub path_head : Path → ℕ
+path_head (Vendor v) = 67 * 131072 + v
+path_head (Device v d) = 67 * 131072 + v
+path_head (Subsystem v d s e) = 67 * 131072 + v
+path_head (Class c) = 68 * 131072 + c
+path_head (Subclass c s) = 68 * 131072 + c
+path_head (ProgIf c s p) = 68 * 131072 + c
+path_head (Generic v d) = 83 * 131072 + v
 
--- by the numbers after the first, of which there are at most three
-abbrev pub rest_cmp : List ℕ → List ℕ → Ordering
-rest_cmp ms ns = ordering_then (cmp_at 1 ms ns) (ordering_then (cmp_at 2 ms ns) (cmp_at 3 ms ns))
+-- the numbers after the first, of which there are at most three, as one number: each has 17 bits
+-- and counts from one, and a missing one is zero
+abbrev pub path_rest : Path → ℕ
+path_rest (Vendor v) = 0
+path_rest (Device v d) = (d + 1) * 17179869184
+path_rest (Subsystem v d s e) = (d + 1) * 17179869184 + (s + 1) * 131072 + (e + 1)
+path_rest (Class c) = 0
+path_rest (Subclass c s) = (s + 1) * 17179869184
+path_rest (ProgIf c s p) = (s + 1) * 17179869184 + (p + 1) * 131072
+path_rest (Generic v d) = (d + 1) * 17179869184
+
+-- the whole path as one number
+abbrev pub path_key : Path → ℕ
+path_key path = path_head path * 18446744073709551616 + path_rest path

@@ -1,6 +1,6 @@
 //! The bytewise order of the texts of paths, without the texts: the letter decides, and then the
-//! numbers.
-ghost use Rattle.std.specs.Prelude.{◌≡◌, Some, slice_get};
+//! numbers, each packed with others into one.
+ghost use Rattle.std.specs.Prelude.{◌≡◌};
 ghost use Rattle.std.specs.Ordering.{on, eq_by_cmp, as_partial_cmp};
 ghost use Rattle.std.specs.Cmp.{
   on_total,
@@ -12,84 +12,61 @@ ghost use Rattle.std.specs.Cmp.Lexicographic.{nat_list_cmp_total};
 ghost use Rattle.std.specs.Cmp.Rules.{comparing};
 ghost use Rattle.std.proofs.Common.{refl, rules};
 ghost use Rattle.pid_file.specs.PathTexts.{IsPath, path_text, path_cmp};
-ghost use Rattle.pid_file.specs.Steps.PathPlaces.{letter_of, numbers_of, rest_cmp};
+ghost use Rattle.pid_file.specs.Steps.PathPlaces.{path_head, path_rest, path_key};
 
 use super::Path;
 use std::cmp::Ordering;
 
 // The letter and the first number: most paths differ there.
-#[derive(Clone, Copy)]
-struct Head {
-    letter: u8,
-    first: u16,
-}
-
-fn head_of(path: Path) -> Head
-    ensures letter { result.letter ≡ letter_of path }
-    ensures first { Some result.first ≡ slice_get (numbers_of path) 0 }
+fn head_of(path: Path) -> u64
+    ensures head { result ≡ path_head path }
     ensures in_range { IsPath path }
 {
-    let (letter, first) = match path {
+    match path {
         Path::Vendor { vendor } | Path::Device { vendor, .. } | Path::Subsystem { vendor, .. } => {
-            (b'C', vendor)
+            b'C' as u64 * 131_072 + vendor as u64
         }
         Path::Class { class } | Path::Subclass { class, .. } | Path::ProgIf { class, .. } => {
-            (b'D', class as u16)
+            b'D' as u64 * 131_072 + class as u64
         }
-        Path::Generic { vendor, .. } => (b'S', vendor),
-    };
-    Head { letter, first }
+        Path::Generic { vendor, .. } => b'S' as u64 * 131_072 + vendor as u64,
+    }
 }
 
-// The numbers after the first.
-#[derive(Clone, Copy)]
-struct Rest {
-    second: Option<u16>,
-    third: Option<u16>,
-    fourth: Option<u16>,
-}
-
-fn rest_of(path: Path) -> Rest
-    ensures second { result.second ≡ slice_get (numbers_of path) 1 }
-    ensures third { result.third ≡ slice_get (numbers_of path) 2 }
-    ensures fourth { result.fourth ≡ slice_get (numbers_of path) 3 }
+// The numbers after the first: each has 17 bits and counts from one, and a missing one is zero.
+fn rest_of(path: Path) -> u64
+    ensures { result ≡ path_rest path }
 {
-    let (second, third, fourth) = match path {
-        Path::Vendor { .. } | Path::Class { .. } => (None, None, None),
-        Path::Device { device, .. } | Path::Generic { device, .. } => (Some(device), None, None),
+    match path {
+        Path::Vendor { .. } | Path::Class { .. } => 0,
+        Path::Device { device, .. } | Path::Generic { device, .. } => {
+            (device as u64 + 1) * 17_179_869_184
+        }
         Path::Subsystem {
             device,
             subvendor,
             subdevice,
             ..
-        } => (Some(device), Some(subvendor), Some(subdevice)),
-        Path::Subclass { subclass, .. } => (Some(subclass as u16), None, None),
+        } => {
+            (device as u64 + 1) * 17_179_869_184
+                + (subvendor as u64 + 1) * 131_072
+                + (subdevice as u64 + 1)
+        }
+        Path::Subclass { subclass, .. } => (subclass as u64 + 1) * 17_179_869_184,
         Path::ProgIf {
             subclass,
             progif,
             ..
-        } => (Some(subclass as u16), Some(progif as u16), None),
-    };
-    Rest {
-        second,
-        third,
-        fourth,
+        } => (subclass as u64 + 1) * 17_179_869_184 + (progif as u64 + 1) * 131_072,
     }
 }
 
-// By the numbers after the first: a missing one comes before every other.
-fn compare_rests(mine: Path, theirs: Path) -> Ordering
-    ensures { result ≡ rest_cmp (numbers_of mine) (numbers_of theirs) }
+/// A number for each path, ordered as the paths are.
+pub(crate) fn key_of(path: Path) -> u128
+    ensures key { result ≡ path_key path }
+    ensures in_range { IsPath path }
 {
-    let mine = rest_of(mine);
-    let theirs = rest_of(theirs);
-    let by_second = mine.second.cmp(&theirs.second);
-    if by_second.is_ne() {
-        return by_second;
-    }
-    let by_third = mine.third.cmp(&theirs.third);
-    let by_fourth = mine.fourth.cmp(&theirs.fourth);
-    by_third.then(by_fourth)
+    head_of(path) as u128 * 18_446_744_073_709_551_616 + rest_of(path) as u128
 }
 
 impl PartialEq for Path {
@@ -129,11 +106,9 @@ impl Ord for Path {
     fn cmp(&self, other: &Path) -> Ordering {
         let mine = head_of(*self);
         let theirs = head_of(*other);
-        let by_letter = mine.letter.cmp(&theirs.letter);
-        let by_head = by_letter.then(mine.first.cmp(&theirs.first));
-        if by_head.is_ne() {
-            return by_head;
+        if mine != theirs {
+            return mine.cmp(&theirs);
         }
-        compare_rests(*self, *other)
+        rest_of(*self).cmp(&rest_of(*other))
     }
 }

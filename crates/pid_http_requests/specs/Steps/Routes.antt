@@ -4,7 +4,7 @@ use Rattle.pid_http_requests.specs.declared.route.Route.{Route}
 use Rattle.pid_http_requests.specs.declared.route.Route.TheVariants.{Export, Read, Children}
 use Rattle.pid_http_requests.specs.declared.route.Route.TheVariants.{Lookup, Submission, Pending}
 use Rattle.pid_http_requests.specs.declared.route.Route.TheVariants.{Changes, Queue, Submissions}
-use Rattle.pid_http_requests.specs.declared.route.Route.TheVariants.{Account, Submit}
+use Rattle.pid_http_requests.specs.declared.route.Route.TheVariants.{Status, Account, Submit}
 use Rattle.pid_http_requests.specs.declared.route.Route.TheVariants.{Comment, Withdraw, Approve}
 use Rattle.pid_http_requests.specs.declared.route.Route.TheVariants.{Confirm, Reject, Import}
 
@@ -19,6 +19,7 @@ route_path Pending = codes "/pending"
 route_path Changes = codes "/changes"
 route_path Queue = codes "/queue"
 route_path Submissions = codes "/submissions"
+route_path Status = codes "/status"
 route_path Account = codes "/account"
 route_path Submit = codes "/submit"
 route_path Comment = codes "/comment"

@@ -1,12 +1,12 @@
 -- Steps of an import.
-use Rattle.std.specs.Prelude.{◌≡◌, ◌≢◌, ◌⊎◌, ◌≤◌, ◌+◌, ℕ, Bool, true, List, [], length}
+use Rattle.std.specs.Prelude.{◌≡◌, ◌≢◌, ◌⊎◌, ◌≤◌, ◌+◌, ℕ, Bool, true, false, List, [], length}
 use Rattle.std.specs.Prelude.{Result, Ok, Err}
 use Rattle.sqlite_trees.specs.declared.store.Store.{Ghosts}
 use Rattle.pid_moderation.specs.declared.command.Command.{Command}
 use Rattle.pid_moderation.specs.declared.command.Reply.{Reply}
 use Rattle.pid_moderation.specs.declared.facts.Facts.{Facts}
 use Rattle.pid_moderation.specs.declared.refusal.Refusal.{Refusal}
-use Rattle.pid_moderation.specs.declared.refusal.Refusal.TheVariants.{BadText, Failed, Store}
+use Rattle.pid_moderation.specs.declared.refusal.Refusal.TheVariants.{BadText, Failed, Memory, Store}
 use Rattle.pid_moderation.specs.CheckTables.{most_file_bytes}
 use Rattle.pid_moderation.specs.History.{Asked, History, asked, is_import}
 use Rattle.pid_moderation.specs.Judgement.{after}
@@ -27,6 +27,10 @@ abbrev pub EndStaysLive : Result Reply ImportEnd → (before after : Bool) → T
 EndStaysLive (Ok reply) before after = after ≡ before
 EndStaysLive (Err (Refused e)) before after = (e ≢ Failed) × (IsMemoryOrStore e ⊎ (after ≡ before))
 EndStaysLive (Err Body) before after = after ≡ before
+
+-- after a fault the registry is live only if memory ran out
+abbrev pub FaultStays : (live : Bool) → Refusal → Type 0
+FaultStays live e = IsMemoryOrStore e → ((live ≡ true) × (e ≡ Memory)) ⊎ (live ≡ false)
 
 -- the answer that was known before, unless the text is too long or the input failed
 abbrev pub AnswersPast : Result Reply Refusal → Result Reply ImportEnd → List ℕ → Type 0

@@ -1,14 +1,19 @@
 -- What is kept of tables that were read and judged, and what it says of their rows.
-use Rattle.std.specs.Prelude.{◌≡◌, ◌↔◌, ℕ, Bool, List, length, IsTrue, String}
+use Rattle.std.specs.Prelude.{◌≡◌, ◌↔◌, ◌≤◌, ℕ, Bool, List, length, IsTrue, String}
 use Rattle.std.specs.declared.alloc.Global.{Global}
 use Rattle.std.specs.BTreeSet.{BTreeSet}
 use Rattle.sqlite.specs.Effect.{Database}
 use Rattle.sqlite.specs.Order.{Row}
+use Rattle.sqlite_rules.specs.Lists.{Has}
 use Rattle.pid_file.specs.declared.path.Path.{Path}
 use Rattle.pid_tables_rows.specs.declared.version.Version.{Version}
 use Rattle.pid_tables_rows.specs.declared.version.Version.TheVariants.{One, Two}
 use Rattle.pid_tables_check.specs.declared.account.Accounts.{Accounts}
+use Rattle.pid_tables_check.specs.declared.authors.Authors.{Authors}
+use Rattle.pid_tables_check.specs.declared.receipt.ReceiptKeeper.{ReceiptKeeper}
 use Rattle.pid_tables_check.specs.declared.item.Items.{Items}
+use Rattle.pid_tables_check.specs.declared.submission.Fit.{Fit}
+use Rattle.pid_tables_check.specs.declared.submission.SubmissionKeeper.{SubmissionKeeper}
 use Rattle.pid_tables_check.specs.declared.submission.Submissions.{Submissions}
 use Rattle.pid_tables_check.specs.declared.tables.Part.{Part}
 use Rattle.pid_tables_check.specs.declared.tables.Judged.{Judged}
@@ -16,6 +21,8 @@ use Rattle.pid_tables_check.specs.declared.shape.Table.TheVariants.{Meta, Accoun
 use Rattle.pid_tables_check.specs.declared.shape.Table.TheVariants.{Receipt}
 use Rattle.pid_tables_check.specs.Steps.AuthorSets.{AreAuthorsOf}
 use Rattle.pid_tables_check.specs.Steps.NameSets.{AreNamesOf}
+use Rattle.pid_tables_check.specs.Steps.NamesRead.{IsSubmissionAmong}
+use Rattle.pid_tables_check.specs.Steps.NumberSets.{AreNumbersOf}
 use Rattle.pid_tables_check.specs.Steps.PathSets.{ArePathsOf}
 use Rattle.pid_tables_check.specs.Queries.{query_of}
 use Rattle.pid_tables_check.specs.Shapes.{ShowsRows, ShowsSinces, ShowsTables}
@@ -47,6 +54,20 @@ abbrev pub AreOfAccounts : BTreeSet (String Global) → List Row → Bool → Ty
 AreOfAccounts names rows good = (accounts : List Row) → AreNamesOf names accounts
     → AreAccounts accounts → IsPartJudged (AreSubmissions accounts) rows good
 
+-- they are submissions' rows for each count that is no less than the greatest number
+abbrev pub AreFit : BTreeSet (String Global) → List Row → Fit → Type 0
+AreFit names rows fit = (count : ℕ) → (IsTrue fit.good × (fit.greatest ≤ count))
+    ↔ ((r : Row) → Has rows r → IsSubmissionAmong names count r)
+
+-- the keeper took these rows
+pub record TakesSubmissions (first : SubmissionKeeper) (rows : List Row)
+    (it : SubmissionKeeper) : Type 0 where
+  pub names : it.names.now ≡ first.names.now
+  pub count : it.count ≡ length rows
+  pub fit : AreFit it.names.now rows it.fit
+  pub numbers : AreNumbersOf it.numbers rows
+  pub authors : AreAuthorsOf it.authors rows
+
 pub record KeepsSubmissions (names : BTreeSet (String Global)) (rows : List Row)
     (it : Submissions) : Type 0 where
   pub count : it.count ≡ length rows
@@ -54,9 +75,14 @@ pub record KeepsSubmissions (names : BTreeSet (String Global)) (rows : List Row)
   pub good : AreOfAccounts names rows it.good
 
 -- the receipts go with any submissions that have these authors
-abbrev pub AreOfAuthors : BTreeSet (ℕ × String Global) → List Row → Bool → Type 0
+abbrev pub AreOfAuthors : Authors → List Row → Bool → Type 0
 AreOfAuthors authors rows good = (submissions : List Row) → AreAuthorsOf authors submissions
     → IsPartJudged (AreReceipts submissions) rows good
+
+-- the keeper took these rows
+pub record TakesReceipts (first : ReceiptKeeper) (rows : List Row) (it : ReceiptKeeper) : Type 0 where
+  pub authors : it.authors.now ≡ first.authors.now
+  pub good : AreOfAuthors it.authors.now rows it.good
 
 -- ---- several tables
 

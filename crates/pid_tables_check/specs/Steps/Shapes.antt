@@ -1,7 +1,6 @@
 -- Steps of Shapes.
 use Rattle.std.specs.Prelude.{Option, Some, None}
 use Rattle.sqlite.specs.Schema.{Schema}
-use Rattle.sqlite_rules.specs.Lists.{Has}
 use Rattle.pid_tables_rows.specs.declared.version.Version.{Version}
 use Rattle.pid_tables_check.specs.Shapes.{HasTables}
 

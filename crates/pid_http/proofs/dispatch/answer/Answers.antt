@@ -59,6 +59,9 @@ returns-in-Queue g c = rw c.in-Queue.is (whoever _ _ _ c.args.head.now _ _ c.que
 pub returns-in-Submissions : goal.returns-in-Submissions
 returns-in-Submissions g c = rw (c.in-Submissions.is, ← c.as_ref.ensures.value) (whoever _ _ _ c.args.head.now _ _ c.answer_submissions.ensures)
 
+pub returns-in-Status : goal.returns-in-Status
+returns-in-Status g c = rw c.in-Status.is (whoever _ _ _ c.args.head.now _ _ c.status.ensures)
+
 pub returns-in-Rank : goal.returns-in-Rank
 returns-in-Rank g c = rw c.in-Rank.is (whoever _ _ _ c.args.head.now _ _ c.rank.ensures)
 

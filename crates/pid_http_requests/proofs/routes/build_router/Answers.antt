@@ -17,7 +17,7 @@ loop-route-preserved c =
 pub returns : goal.returns
 unfolding with_all matchit_on_literals
 returns c =
-    let at_end : c.loop-route.route-index ≡ 17 = omega (arith, c.loop-route-test.false, c.loop-route.auto.route-index-end) in
+    let at_end : c.loop-route.route-index ≡ 18 = omega (arith, c.loop-route-test.false, c.loop-route.auto.route-index-end) in
     rw at_end at c.loop-route.invariant.0
 
 pub returns-in-Err : goal.returns-in-Err

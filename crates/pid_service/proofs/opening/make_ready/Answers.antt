@@ -7,7 +7,7 @@ use Rattle.pid_tables_rows.specs.Faults.{IsNotNewerSchema}
 use Rattle.pid_tables_check.specs.Checking.{Explains}
 use Rattle.pid_tables_rows.proofs.LeaveLemmas.{rests_in_two}
 use Rattle.pid_tables_rows.proofs.OnlyReading.{reads_then}
-use Rattle.pid_service.proofs.Opened.{back_behind, brought_reads, explained_now, explains_now, judged_now, judged_ready, kept_ok, once_then_reads, refused_reads, step_shown, step_rests, still_views, told_then}
+use Rattle.pid_service.proofs.Opened.{back_behind, brought_reads, explained_now, explains_now, judged_now, judged_ready, kept_ok, made_then_reads, once_then_reads, refused_reads, step_shown, step_rests, still_views, told_then}
 use Rattle.pid_service.proofs.opening.make_ready.Goals as goal
 
 -- ---- a migration that failed
@@ -18,6 +18,7 @@ returns-in-Err-clause-at_once g c = record {
   clean = c.migrate.ensures.at_once.clean;
   once = c.migrate.ensures.at_once.once;
   back = inl c.in-Err.ensures.at_once.back;
+  made = c.migrate.ensures.none.made;
 }
 
 pub returns-in-Err-clause-ready : goal.returns-in-Err-clause-ready
@@ -57,6 +58,7 @@ returns-in-Ok-clause-at_once g c =
       once = once_then_reads old mid new c.in-Ok.ensures.at_once.once c.judge_tables.ensures.rests;
       back = back_behind g.S.Store c.args.tables.now.conn c.migrate.new.conn c.judge_tables.new.tables.conn c.judge_tables.ensures.rests (λ clean version v rest. c.in-Ok.ensures.shown.kept clean version v rest) c.in-Ok.field-0 c.judge_tables.result
           c.in-Ok.ensures.judged.only_read c.in-Ok.ensures.judged.found (λ clean. explains_now mid new c.judge_tables.result c.judge_tables.ensures.same (c.judge_tables.ensures.told clean));
+      made = λ none. made_then_reads _ old mid new (c.migrate.ensures.none.made none) c.judge_tables.ensures.rests;
     }
 
 pub returns-in-Ok-clause-ready : goal.returns-in-Ok-clause-ready

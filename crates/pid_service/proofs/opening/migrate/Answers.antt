@@ -17,6 +17,7 @@ returns-in-Ok-clause-at_once g c off =
       settled = c.migrate.ensures.at_once.settled;
       once = c.migrate.ensures.at_once.once;
       back = tt;
+      made = c.migrate.ensures.none.made;
       unchanged = λ is. seen_back old new (c.is_autocommit.ensures.settled (c.is_autocommit.ensures.value ∙ ap not off)) (reads_back old new (c.in-Ok.ensures.judged.only_read is));
       only_read = λ is. c.in-Ok.ensures.judged.only_read is;
     }
@@ -55,6 +56,7 @@ returns-in-Err-clause-at_once g c off = record {
   settled = c.migrate.ensures.at_once.settled;
   once = c.migrate.ensures.at_once.once;
   back = c.in-Err.ensures.at_once.back;
+  made = c.migrate.ensures.none.made;
   unchanged = seen_back (state g.S.Store c.args.conn) (state g.S.Store c.migrate.new.conn) (c.is_autocommit.ensures.settled (c.is_autocommit.ensures.value ∙ ap not off)) c.in-Err.ensures.at_once.back;
   only_read = λ clean told. c.in-Err.ensures.at_once.unchanged clean told;
 }

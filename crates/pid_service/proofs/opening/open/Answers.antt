@@ -7,7 +7,7 @@ use Rattle.pid_tables.specs.Bringing.{Fails}
 use Rattle.pid_tables.specs.Clauses.{ShowsOrBlank}
 use Rattle.pid_tables.proofs.AtOnceLemmas.{reads_back, reads_once}
 use Rattle.pid_tables_check.proofs.Asking.{nothing_read}
-use Rattle.pid_service.proofs.Opened.{at_once_of, explains_of, kept_of, moved}
+use Rattle.pid_service.proofs.Opened.{at_once_of, explains_of, kept_of, made_by_reads, moved}
 use Rattle.pid_service.proofs.Keeping.{nothing_kept}
 use Rattle.pid_service.proofs.opening.open.Goals as goal
 
@@ -23,7 +23,7 @@ pub returns-in_default-clause-at_once : goal.returns-in_default-clause-at_once
 returns-in_default-clause-at_once g c off =
     let here = state g.S.Store c.args.conn in
     let same = nothing_read here off in
-    record { settled = off; clean = λ clean. clean; once = reads_once here here same; back = inl (reads_back here here same) }
+    record { settled = off; clean = λ clean. clean; once = reads_once here here same; back = inl (reads_back here here same); made = λ none. made_by_reads _ here here same }
 
 pub returns-in_default-clause-explains : goal.returns-in_default-clause-explains
 returns-in_default-clause-explains g c off =

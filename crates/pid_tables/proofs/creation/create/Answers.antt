@@ -1,10 +1,11 @@
 use Rattle.std.proofs.Common.{◌≡◌, Bool, true, false, Ok, IsTrue, refl, sym, rules, arith, ◌∙◌, subst}
 use Rattle.sqlite.specs.Held.{state}
-use Rattle.sqlite.specs.State.{HasCleanDisk, Survives}
+use Rattle.sqlite.specs.State.{HasCleanDisk}
 use Rattle.sqlite.proofs.StateLemmas.{clean_if_open, survives_then}
 use Rattle.sqlite.proofs.Callers.{survives_begin}
 use Rattle.pid_moderation.specs.History.{new_history}
 use Rattle.pid_moderation.specs.Views.{views_of}
+use Rattle.pid_tables_rows.specs.Clauses.{seen}
 use Rattle.pid_tables_rows.specs.Leaves.{OnlyReads}
 use Rattle.pid_tables_rows.specs.Faults.{IsMemoryOrStore, IsNotNewerSchema}
 use Rattle.pid_tables_rows.proofs.CauseLemmas.{passed_on, passed_from}
@@ -13,10 +14,10 @@ use Rattle.pid_tables_rows.proofs.GoingLemmas.{earlier}
 use Rattle.pid_tables_rows.proofs.OnlyReading.{reads_begun}
 use Rattle.pid_tables.proofs.MetLemmas.{reads_if_never, met_at_rest}
 use Rattle.pid_tables.proofs.MoveLemmas.{all_never, all_untold, not_on_ok}
-use Rattle.pid_tables.proofs.AtOnceLemmas.{reads_at_once, reads_never, commit_at_once, commit_bare, committed_as, still_bare}
+use Rattle.pid_tables.proofs.AtOnceLemmas.{reads_at_once, reads_never, commit_at_once, commit_bare, committed_as, kept_as, still_bare}
 use Rattle.pid_tables.specs.AtOnce.{WritesAtOnce}
 use Rattle.pid_tables.specs.Creation.{IsNameTaken, MakesNew, MakesNothing}
-use Rattle.pid_tables.specs.Statements.{IsMadeBy, registry_statements}
+use Rattle.pid_tables.specs.Statements.{Carries, IsMadeBy, registry_statements}
 use Rattle.pid_tables.proofs.creation.create.Goals as goal
 
 -- ---- a call fails, and all is given up
@@ -40,9 +41,11 @@ returns-in_err-fill-clause-statements g c =
     let first = c.fill.new.tx.conn.now in
     let goes = rw c.transaction-batch.ensures.begun at c.fill.ensures.goes in
     let made = IsMadeBy g.S.Store registry_statements c.args.conn.now in
-    subst (λ h. Survives old (state g.S.Store h) made) same
-    (reads_never made old (state g.S.Store end) (reads_begun g.S.Store c.args.conn.now first end c.fill.result (clean_if_open (g.S.Store.view first.store) (g.met.S.Store.shut_if_dirty first.store))
-    (clean_if_open (g.S.Store.view end.store) (g.met.S.Store.shut_if_dirty end.store)) goes c.drop-batch.ensures.ended c.drop-batch.ensures.undone c.drop-batch.ensures.survives))
+    subst (λ h. Carries g.S.Store registry_statements c.args.conn.now h c.from_residual.result) same (record {
+      survives = reads_never made old (state g.S.Store end) (reads_begun g.S.Store c.args.conn.now first end c.fill.result (clean_if_open (g.S.Store.view first.store) (g.met.S.Store.shut_if_dirty first.store))
+          (clean_if_open (g.S.Store.view end.store) (g.met.S.Store.shut_if_dirty end.store)) goes c.drop-batch.ensures.ended c.drop-batch.ensures.undone c.drop-batch.ensures.survives);
+      done = λ clean. not_on_ok c.from_residual.result _ _ c.from_residual.ensures.1;
+    })
 
 pub returns-in_err-fill-clause-makes : goal.returns-in_err-fill-clause-makes
 returns-in_err-fill-clause-makes g c =
@@ -102,8 +105,8 @@ returns-clause-at_once g c =
     let goes = rw c.transaction-batch.ensures.begun at c.in_ok-fill.ensures.goes in
     subst (λ h. WritesAtOnce (state g.S.Store c.args.conn.now) (state g.S.Store h) c.commit.result) same
     (commit_at_once g.S.Store c.args.conn.now first end (Ok c.in_ok-fill.field-0) goes c.commit.ensures.survives (clean_if_open (g.S.Store.view end.store) (g.met.S.Store.shut_if_dirty end.store)) c.commit.result c.commit.ensures.ended
-    (λ clean. c.commit.ensures.fails.undone clean (goes.going (earlier (state g.S.Store first) (state g.S.Store end) c.commit.ensures.survives clean) refl).1)
-    (λ clean. all_untold (state g.S.Store first) (state g.S.Store end) c.commit.result (c.commit.ensures.fails.caused clean (goes.going (earlier (state g.S.Store first) (state g.S.Store end) c.commit.ensures.survives clean) refl).1)))
+    (λ clean. c.commit.ensures.ends.undone clean (goes.going (earlier (state g.S.Store first) (state g.S.Store end) c.commit.ensures.survives clean) refl).1)
+    (λ clean. all_untold (state g.S.Store first) (state g.S.Store end) c.commit.result (c.commit.ensures.ends.caused clean (goes.going (earlier (state g.S.Store first) (state g.S.Store end) c.commit.ensures.survives clean) refl).1)))
 
 pub returns-clause-statements : goal.returns-clause-statements
 returns-clause-statements g c =
@@ -114,16 +117,19 @@ returns-clause-statements g c =
     let goes = rw c.transaction-batch.ensures.begun at c.in_ok-fill.ensures.goes in
     let carried = rw c.transaction-batch.ensures.begun at c.in_ok-fill.ensures.carried in
     let made = IsMadeBy g.S.Store registry_statements old in
-    subst (λ h. Survives (state g.S.Store old) (state g.S.Store h) made) same
-    (committed_as g.S.Store old first end (Ok c.in_ok-fill.field-0) goes c.commit.ensures.survives made
-    (λ clean. record {
+    let is_made : HasCleanDisk (state g.S.Store first) → made (seen g.S.Store first).trees = λ clean. record {
       was_open = goes.was_open clean (goes.going clean refl).0;
       first = record old { in_transaction = true };
       same = refl;
       last = first;
       carried = carried clean refl;
       made = refl;
-    }))
+    } in
+    subst (λ h. Carries g.S.Store registry_statements old h c.commit.result) same (record {
+      survives = committed_as g.S.Store old first end (Ok c.in_ok-fill.field-0) goes c.commit.ensures.survives made is_made;
+      done = λ clean.
+          kept_as made (seen g.S.Store first).trees (state g.S.Store end) c.commit.result (is_made (earlier (state g.S.Store first) (state g.S.Store end) c.commit.ensures.survives clean)) (c.commit.ensures.ends.done clean);
+    })
 
 pub returns-clause-makes : goal.returns-clause-makes
 returns-clause-makes g c =
@@ -136,10 +142,10 @@ returns-clause-makes g c =
     subst (λ h. MakesNew old (state g.S.Store h) c.commit.result) same (record {
       made = λ rest. c.commit.ensures.stands (views_of new_history) (λ clean. ((goes.going clean refl).0, shows clean refl rest.empty));
       untold = λ clean rest.
-          all_untold (state g.S.Store first) (state g.S.Store end) c.commit.result (c.commit.ensures.fails.caused clean (goes.going (earlier (state g.S.Store first) (state g.S.Store end) c.commit.ensures.survives clean) refl).1);
+          all_untold (state g.S.Store first) (state g.S.Store end) c.commit.result (c.commit.ensures.ends.caused clean (goes.going (earlier (state g.S.Store first) (state g.S.Store end) c.commit.ensures.survives clean) refl).1);
       bare = λ rest.
           commit_bare g.S.Store c.args.conn.now first end (Ok c.in_ok-fill.field-0) goes c.commit.ensures.survives (clean_if_open (g.S.Store.view end.store) (g.met.S.Store.shut_if_dirty end.store)) c.commit.result
-          c.commit.ensures.ended (λ clean. c.commit.ensures.fails.undone clean (goes.going (earlier (state g.S.Store first) (state g.S.Store end) c.commit.ensures.survives clean) refl).1) (λ clean. shows clean refl rest.empty) rest;
+          c.commit.ensures.ended (λ clean. c.commit.ensures.ends.undone clean (goes.going (earlier (state g.S.Store first) (state g.S.Store end) c.commit.ensures.survives clean) refl).1) (λ clean. shows clean refl rest.empty) rest;
     })
 
 -- no name was taken, since all were made
@@ -177,4 +183,4 @@ returns-clause-never g c clean =
     let late : HasCleanDisk (state g.S.Store end) = search rules in
     let goes = rw c.transaction-batch.ensures.begun at c.in_ok-fill.ensures.goes in
     all_never c.commit.result (all_untold (state g.S.Store first) (state g.S.Store end) c.commit.result
-    (c.commit.ensures.fails.caused late (goes.going (earlier (state g.S.Store first) (state g.S.Store end) c.commit.ensures.survives late) refl).1))
+    (c.commit.ensures.ends.caused late (goes.going (earlier (state g.S.Store first) (state g.S.Store end) c.commit.ensures.survives late) refl).1))

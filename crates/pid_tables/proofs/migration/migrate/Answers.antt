@@ -2,7 +2,7 @@ use Rattle.std.proofs.Common.{◌≡◌, None, Some}
 use Rattle.sqlite.specs.Held.{state}
 use Rattle.pid_moderation.specs.History.{new_history}
 use Rattle.pid_moderation.specs.Views.{views_of}
-use Rattle.pid_tables_rows.specs.declared.version.Version.TheVariants.{One, Two}
+use Rattle.pid_tables_rows.specs.declared.version.Version.TheVariants.{One}
 use Rattle.pid_tables_rows.specs.Faults.{IsMemoryOrStore, IsNotNewerSchema}
 use Rattle.pid_tables_rows.specs.Leaves.{AtRest, OnlyReads, RestsIn}
 use Rattle.pid_tables_rows.proofs.CauseLemmas.{passed_from, passed_on}
@@ -13,7 +13,7 @@ use Rattle.pid_tables.specs.Bringing.{Refuses, Fails}
 use Rattle.pid_tables.specs.Creation.{RestsBare}
 use Rattle.pid_tables.specs.Statements.{IsMadeBy, registry_statements}
 use Rattle.pid_tables.proofs.AtOnceLemmas.{reads_at_once, reads_never, reads_then_at_once, still_bare}
-use Rattle.pid_tables.proofs.BringLemmas.{made_alone, with_step, none_there, still_met, met_reads, left_alone, or_untold, brought, named_brought, read_alone, one_found, ok_rests, left_rests, kept_rests, hands_latest, reads_then_made}
+use Rattle.pid_tables.proofs.BringLemmas.{made_alone, with_step, none_there, still_met, met_reads, left_alone, or_untold, brought, named_brought, read_alone, one_found, ok_rests, left_rests, kept_rests, hands_latest, reads_then_kept, reads_then_made}
 use Rattle.pid_tables.proofs.StandLemmas.{standing_latest, tables_some, untold_told}
 use Rattle.pid_tables.proofs.MoveLemmas.{not_ok, not_on_ok}
 use Rattle.pid_tables.proofs.migration.migrate.Goals as goal
@@ -59,6 +59,7 @@ returns-in_err-found-clause-none g c =
     let bad = c.in_err-found.ensures.shown in
     record {
       made = λ none. reads_never (IsMadeBy g.S.Store registry_statements c.args.conn.now) old mid reads;
+      done = λ clean none. not_on_ok c.from_residual.result _ _ c.from_residual.ensures.1;
       bare = λ clean none. passed_on c.from_residual.result _ _ IsNotNewerSchema c.from_residual.ensures.1 (untold_never _ (bad.bare clean none));
       met = λ clean none met. passed_on c.from_residual.result _ _ (λ fault. IsNotNewerSchema fault × OnlyReads old mid) c.from_residual.ensures.1 (untold_never _ (bad.bare clean none), reads);
       shut = λ clean closed. passed_on c.from_residual.result _ _ (λ fault. IsMemoryOrStore fault × OnlyReads old mid) c.from_residual.ensures.1 (bad.shut clean closed, reads);
@@ -140,7 +141,10 @@ returns-clause-none g c =
     record {
       made = λ none.
           reads_then_made g.S.Store registry_statements c.args.conn.now c.standing.new.conn c.bring.new.conn reads c.standing.ensures.same c.bring.ensures.at_once.once
-          (λ clean. c.bring.ensures.made (good.bare (c.bring.ensures.at_once.clean clean) none));
+          (λ clean. (c.bring.ensures.made (good.bare (c.bring.ensures.at_once.clean clean) none)).survives);
+      done = λ clean none.
+          reads_then_kept g.S.Store registry_statements c.args.conn.now c.standing.new.conn c.bring.new.conn c.bring.result reads c.standing.ensures.same
+          ((c.bring.ensures.made (good.bare (c.bring.ensures.at_once.clean clean) none)).done clean);
       bare = λ clean none. made_alone c.in_ok-found.found c.bring.result (good.bare (c.bring.ensures.at_once.clean clean) none) c.bring.ensures.step (c.bring.ensures.never clean);
       met = λ clean none met.
           met_reads old mid (state g.S.Store c.bring.new.conn) c.bring.result reads (c.bring.ensures.met clean (good.bare (c.bring.ensures.at_once.clean clean) none) (still_met old mid reads c.standing.ensures.same met));

@@ -45,7 +45,7 @@ returns-clause-kept g c v rest =
     subst (λ h. OnErr c.commit.result (RestsIn One (state g.S.Store h) v)) same
     (failed_rests g.S.Store One c.args.conn.now first end (Ok c.in_ok-move_tables.field-0) c.commit.result v (clean_if_open (g.S.Store.view end.store) (g.met.S.Store.shut_if_dirty end.store))
     rest goes (λ clean. shows clean refl (counts_of v) v rest.shows) c.commit.ensures.ended c.commit.ensures.survives
-    (λ clean. c.commit.ensures.fails.undone clean (goes.going (earlier (state g.S.Store first) (state g.S.Store end) c.commit.ensures.survives clean) refl).1))
+    (λ clean. c.commit.ensures.ends.undone clean (goes.going (earlier (state g.S.Store first) (state g.S.Store end) c.commit.ensures.survives clean) refl).1))
 
 pub returns-in_err-move_tables-clause-untold : goal.returns-in_err-move_tables-clause-untold
 returns-in_err-move_tables-clause-untold g c clean v rest =
@@ -64,7 +64,7 @@ returns-clause-untold g c clean v rest =
     let late : HasCleanDisk (state g.S.Store end) = search rules in
     let goes = rw c.transaction-batch.ensures.begun at c.in_ok-move_tables.ensures.goes in
     all_untold (state g.S.Store first) (state g.S.Store end) c.commit.result
-    (c.commit.ensures.fails.caused late (goes.going (earlier (state g.S.Store first) (state g.S.Store end) c.commit.ensures.survives late) refl).1)
+    (c.commit.ensures.ends.caused late (goes.going (earlier (state g.S.Store first) (state g.S.Store end) c.commit.ensures.survives late) refl).1)
 
 -- ---- whatever the database
 
@@ -88,8 +88,8 @@ returns-clause-at_once g c =
     let goes = rw c.transaction-batch.ensures.begun at c.in_ok-move_tables.ensures.goes in
     subst (λ h. WritesAtOnce (state g.S.Store c.args.conn.now) (state g.S.Store h) c.commit.result) same
     (commit_at_once g.S.Store c.args.conn.now first end (Ok c.in_ok-move_tables.field-0) goes c.commit.ensures.survives (clean_if_open (g.S.Store.view end.store) (g.met.S.Store.shut_if_dirty end.store)) c.commit.result c.commit.ensures.ended
-    (λ clean. c.commit.ensures.fails.undone clean (goes.going (earlier (state g.S.Store first) (state g.S.Store end) c.commit.ensures.survives clean) refl).1)
-    (λ clean. all_untold (state g.S.Store first) (state g.S.Store end) c.commit.result (c.commit.ensures.fails.caused clean (goes.going (earlier (state g.S.Store first) (state g.S.Store end) c.commit.ensures.survives clean) refl).1)))
+    (λ clean. c.commit.ensures.ends.undone clean (goes.going (earlier (state g.S.Store first) (state g.S.Store end) c.commit.ensures.survives clean) refl).1)
+    (λ clean. all_untold (state g.S.Store first) (state g.S.Store end) c.commit.result (c.commit.ensures.ends.caused clean (goes.going (earlier (state g.S.Store first) (state g.S.Store end) c.commit.ensures.survives clean) refl).1)))
 
 pub returns-in_err-move_tables-clause-never : goal.returns-in_err-move_tables-clause-never
 returns-in_err-move_tables-clause-never g c clean = passed_from c.from_residual.result _ IsNotNewerSchema c.from_residual.ensures.1 c.in_err-move_tables.ensures.never
@@ -102,4 +102,4 @@ returns-clause-never g c clean =
     let late : HasCleanDisk (state g.S.Store end) = search rules in
     let goes = rw c.transaction-batch.ensures.begun at c.in_ok-move_tables.ensures.goes in
     all_never c.commit.result (all_untold (state g.S.Store first) (state g.S.Store end) c.commit.result
-    (c.commit.ensures.fails.caused late (goes.going (earlier (state g.S.Store first) (state g.S.Store end) c.commit.ensures.survives late) refl).1))
+    (c.commit.ensures.ends.caused late (goes.going (earlier (state g.S.Store first) (state g.S.Store end) c.commit.ensures.survives late) refl).1))

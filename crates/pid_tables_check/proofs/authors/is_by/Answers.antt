@@ -1,5 +1,11 @@
-use Rattle.pid_tables_check.proofs.AuthorFacts.{by_key}
+use Rattle.std.proofs.Common.{sym}
+use Rattle.pid_tables_check.proofs.AuthorFacts.{by_place, by_none}
 use Rattle.pid_tables_check.proofs.authors.is_by.Goals as goal
 
-pub returns-clause-judged : goal.returns-clause-judged
-returns-clause-judged c rows are = by_key c.args.authors.now rows c.args.submission c.in_ok-author.author c.args.account.now c.contains.result c.utf8.account c.in_ok-author.ensures.ok c.contains.ensures are
+pub returns-in-Some : goal.returns-in-Some
+returns-in-Some c rows are =
+    let it = by_place c.args.authors.now rows are c.args.submission c.args.account.now c.utf8.account c.in-Some.place (sym c.in-Some.ensures) in
+    (λ yes. it.0 (c.has_place.ensures.0 yes), λ by. c.has_place.ensures.1 (it.1 by))
+
+pub returns-in-None : goal.returns-in-None
+returns-in-None c rows are = (λ no. absurd cc, λ by. absurd (by_none c.args.authors.now rows are c.args.submission c.args.account.now c.utf8.account (sym c.in-None.ensures) by))

@@ -1,4 +1,4 @@
-use Rattle.std.proofs.Common.{Ok, subst, ◌∙◌}
+use Rattle.std.proofs.Common.{Ok, refl, subst, ◌∙◌}
 use Rattle.sqlite.specs.Effect.{Database}
 use Rattle.sqlite.specs.Held.{state}
 use Rattle.pid_tables_rows.proofs.CauseLemmas.{passed_on}
@@ -9,27 +9,27 @@ use Rattle.pid_tables_check.specs.Shapes.{HasSomeTable}
 use Rattle.pid_tables_check.proofs.Telling.{whole_fault, whole_found, lacked, told_stored, off_on}
 use Rattle.pid_tables_check.proofs.checking.check.Goals as goal
 
-pub returns-in_err-check_whole-clause-told : goal.returns-in_err-check_whole-clause-told
-returns-in_err-check_whole-clause-told g c clean =
+pub returns-in_err-check_tables-clause-told : goal.returns-in_err-check_tables-clause-told
+returns-in_err-check_tables-clause-told g c clean =
     let a = (state g.S.Store c.args.conn.now).now in
     let b = (state g.S.Store c.has_each_table.new.conn).now in
     let d = (state g.S.Store c.tables_of.new.conn).now in
-    let late = c.in_err-check_whole.ensures.rests.clean clean in
+    let late = c.in_err-check_tables.ensures.rests.clean clean in
     let mid = c.in_ok-version.ensures.rests.clean late in
-    passed_on c.from_residual-in_err-check_whole.result _ _ (Explains a) c.from_residual-in_err-check_whole.ensures.1
-    (whole_fault a b d c.in_ok-version.version (c.in_ok-has_each_table.ensures.same mid) (c.in_ok-version.ensures.same late) ((c.in_ok-has_each_table.ensures.asked mid).0 c.if-branch.true) (c.in_ok-version.ensures.found late) _ (c.in_err-check_whole.ensures.told clean))
+    passed_on c.from_residual-in_err-check_tables.result _ _ (Explains a) c.from_residual-in_err-check_tables.ensures.1
+    (whole_fault a b d c.in_ok-version.version (c.in_ok-has_each_table.ensures.same mid) (c.in_ok-version.ensures.same late) ((c.in_ok-has_each_table.ensures.asked mid).0 c.if-branch.true) (c.in_ok-version.ensures.found late) _ (λ each has. c.in_err-check_tables.ensures.told clean _ refl (each, has)))
 
-pub returns-in_err-check_whole-clause-stored : goal.returns-in_err-check_whole-clause-stored
-returns-in_err-check_whole-clause-stored g c clean = told_stored (state g.S.Store c.args.conn.now).now c.from_residual-in_err-check_whole.result (returns-in_err-check_whole-clause-told g c clean)
+pub returns-in_err-check_tables-clause-stored : goal.returns-in_err-check_tables-clause-stored
+returns-in_err-check_tables-clause-stored g c clean = told_stored (state g.S.Store c.args.conn.now).now c.from_residual-in_err-check_tables.result (returns-in_err-check_tables-clause-told g c clean)
 
 pub returns-then-branch-clause-told : goal.returns-then-branch-clause-told
 returns-then-branch-clause-told g c clean =
     let a = (state g.S.Store c.args.conn.now).now in
     let b = (state g.S.Store c.has_each_table.new.conn).now in
     let d = (state g.S.Store c.tables_of.new.conn).now in
-    let late = c.in_ok-check_whole.ensures.rests.clean clean in
+    let late = c.in_ok-check_tables.ensures.rests.clean clean in
     let mid = c.in_ok-version.ensures.rests.clean late in
-    whole_found a b d c.in_ok-version.version (c.in_ok-has_each_table.ensures.same mid) (c.in_ok-version.ensures.same late) ((c.in_ok-has_each_table.ensures.asked mid).0 c.if-branch.true) (c.in_ok-version.ensures.found late) (c.in_ok-check_whole.ensures.told clean)
+    whole_found a b d c.in_ok-version.version (c.in_ok-has_each_table.ensures.same mid) (c.in_ok-version.ensures.same late) ((c.in_ok-has_each_table.ensures.asked mid).0 c.if-branch.true) (c.in_ok-version.ensures.found late) (λ each has. (c.in_ok-check_tables.ensures.told clean _ refl (each, has)).0)
 
 pub returns-then-branch-clause-stored : goal.returns-then-branch-clause-stored
 returns-then-branch-clause-stored g c clean = told_stored (state g.S.Store c.args.conn.now).now (Ok c.in_ok-version.version) (returns-then-branch-clause-told g c clean)

@@ -1,4 +1,4 @@
-use Rattle.std.proofs.Common.{◌≡◌, MatchResult, Option, None, Some, ℕ, List, inl, refl, sym, subst, ◌∙◌, arith}
+use Rattle.std.proofs.Common.{◌≡◌, MatchResult, Option, None, Some, ℕ, List, inl, refl, sym, subst, ◌∙◌}
 use Rattle.sqlite.specs.Held.{state}
 use Rattle.sqlite.specs.Order.{Row}
 use Rattle.sqlite.specs.State.{HasCleanDisk}
@@ -22,11 +22,11 @@ returns-in-None-clause-told g c clean d is has =
 
 pub returns-in-Some-version-clause-told : goal.returns-in-Some-version-clause-told
 returns-in-Some-version-clause-told g c clean d is has =
-    let early : HasCleanDisk (state g.S.Store c.table_rows.new.tx.conn.now) = omega (arith, clean, c.check_rows.ensures.goes.survives.clean) in
+    let early : HasCleanDisk (state g.S.Store c.table_rows.new.conn) = c.check_rows.ensures.rests.clean clean in
     let it = c.in_ok-meta.ensures.answers early d is (has.0 _ (inl refl)) in
     let none = subst (λ (m : List Row). (n : ℕ) → IsNewer n m → ⊥) c.as_slice.ensures.value c.in_default.ensures.none in
     let version = c.in-Some-version.version in
     let tables = subst (λ (o : Option Version). HasTablesOf o d.schema) c.in-Some-version.is has.1 in
-    let end = (state g.S.Store c.check_rows.new.tx.conn.now).now in
+    let end = (state g.S.Store c.check_rows.new.conn).now in
     subst (λ (o : Option Version). MatchResult c.check_rows.result (λ x. ShowsFound o d × (end ≡ d)) (TellsLater o d)) (sym c.in-Some-version.is)
     (rest_told version d (end ≡ d) c.check_rows.result (c.in_ok-meta.meta.items, it.0, none) (c.check_rows.ensures.told clean d it.1 (tables, it.0)))

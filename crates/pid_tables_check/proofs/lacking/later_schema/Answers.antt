@@ -1,26 +1,18 @@
-use Rattle.std.proofs.Common.{◌≡◌, rules, arith, subst, refl}
+use Rattle.std.proofs.Common.{refl, sym, subst}
 use Rattle.sqlite.specs.Held.{state}
-use Rattle.sqlite.specs.State.{HasCleanDisk}
-use Rattle.sqlite.proofs.StateLemmas.{clean_if_open}
-use Rattle.pid_tables_rows.specs.Leaves.{OnlyReads}
-use Rattle.pid_tables_rows.proofs.OnlyReading.{reads_begun}
-use Rattle.pid_tables_check.proofs.Telling.{first_of}
+use Rattle.pid_tables_rows.specs.Faults.{IsMemoryOrStore}
+use Rattle.pid_tables_rows.proofs.CauseLemmas.{passed_on}
+use Rattle.pid_tables_check.specs.declared.shape.Table.TheVariants.{Meta}
+use Rattle.pid_tables_check.specs.Queries.{query_of}
+use Rattle.pid_tables_check.specs.Shapes.{ShowsRows}
+use Rattle.pid_tables_check.proofs.Labels.{later_shown}
 use Rattle.pid_tables_check.proofs.lacking.later_schema.Goals as goal
 
-pub returns-clause-rests : goal.returns-clause-rests
-returns-clause-rests g c =
-    let end = c.drop-tx.new.self.0 in
-    let same : end ≡ c.conn-1.given.0 = search rules in
-    let first = c.read_later.new.tx.conn.now in
-    let goes = rw c.transaction-tx.ensures.begun at c.read_later.ensures.goes in
-    subst (λ h. OnlyReads (state g.S.Store c.args.conn.now) (state g.S.Store h)) same
-    (reads_begun g.S.Store c.args.conn.now first end c.read_later.result (clean_if_open (g.S.Store.view first.store) (g.met.S.Store.shut_if_dirty first.store))
-    (clean_if_open (g.S.Store.view end.store) (g.met.S.Store.shut_if_dirty end.store)) goes c.drop-tx.ensures.ended c.drop-tx.ensures.undone c.drop-tx.ensures.survives)
+pub returns-in_err-rows-clause-shows : goal.returns-in_err-rows-clause-shows
+returns-in_err-rows-clause-shows g c clean asked = passed_on c.from_residual.result _ _ IsMemoryOrStore c.from_residual.ensures.1 (c.in_err-rows.ensures.answers clean _ refl asked)
 
 pub returns-clause-shows : goal.returns-clause-shows
 returns-clause-shows g c clean asked =
-    let end = c.drop-tx.new.self.0 in
-    let same : end ≡ c.conn-1.given.0 = search rules in
-    let late : HasCleanDisk (state g.S.Store end) = search rules in
-    let mid : HasCleanDisk (state g.S.Store c.read_later.new.tx.conn.now) = omega (arith, c.drop-tx.ensures.survives.clean) in
-    first_of _ _ _ c.read_later.result ((rw c.transaction-tx.ensures.begun at c.read_later.ensures.shows) mid _ refl asked)
+    let d = (state g.S.Store c.args.conn.now).now in
+    let it = c.in_ok-rows.ensures.answers clean d refl asked in
+    later_shown d c.as_slice.result.now c.newer.result (subst (ShowsRows d (query_of Meta)) (sym c.as_slice.ensures.value) it.0) c.newer.ensures.found c.newer.ensures.none

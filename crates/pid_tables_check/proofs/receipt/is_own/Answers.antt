@@ -1,19 +1,19 @@
 use Rattle.std.proofs.Common.{◌≡◌, rules}
 use Rattle.sqlite.specs.Order.{column}
 use Rattle.pid_tables_rows.specs.TableRows.{number}
-use Rattle.pid_tables_check.proofs.Each.{if_ok}
 use Rattle.pid_tables_check.proofs.ReceiptFacts.{numbered, numbered_back, counted, counted_back}
 use Rattle.pid_tables_check.proofs.receipt.is_own.Goals as goal
 
-pub returns-in-Some-eq1-clause-judged : goal.returns-in-Some-eq1-clause-judged
-returns-in-Some-eq1-clause-judged c =
+pub returns-in-Some-eq1 : goal.returns-in-Some-eq1
+returns-in-Some-eq1 c rows are =
     let r = c.args.row.now in
     let account = c.args.account.now in
     let e : column r 2 ≡ number 1 = search rules in
-    if_ok c.is_numbered.result (λ good h rows are. let it = h rows are in (λ yes. numbered rows r account e (it.0 yes), λ reply. it.1 (numbered_back rows r account e reply))) c.is_numbered.ensures.judged
+    let it = c.is_numbered.ensures rows are in
+    (λ yes. numbered rows r account e (it.0 yes), λ reply. it.1 (numbered_back rows r account e reply))
 
-pub returns-in-Some-eq2-clause-judged : goal.returns-in-Some-eq2-clause-judged
-returns-in-Some-eq2-clause-judged c rows are =
+pub returns-in-Some-eq2 : goal.returns-in-Some-eq2
+returns-in-Some-eq2 c rows are =
     let r = c.args.row.now in
     let account = c.args.account.now in
     let e : column r 2 ≡ number 2 = search rules in

@@ -1,21 +1,19 @@
 use Rattle.std.proofs.Common.{◌≡◌, length, true, refl, rules, arith}
 use Rattle.pid_ident.specs.Words.{is_account}
-use Rattle.pid_tables_check.proofs.Each.{if_ok}
 use Rattle.pid_tables_check.proofs.WordTexts.{account_utf8}
 use Rattle.pid_tables_check.proofs.ReceiptFacts.{receipt_made, account_of, account_is}
 use Rattle.pid_tables_check.proofs.receipt.is_receipt_row.Goals as goal
 
-pub returns-in-None-clause-judged : goal.returns-in-None-clause-judged
-returns-in-None-clause-judged c rows are = (λ no. absurd cc, λ it. let of = account_of rows c.args.row.now it in absurd (c.in-None.ensures.none of.0 of.1 (account_utf8 of.0 of.2)))
+pub returns-in-None : goal.returns-in-None
+returns-in-None c rows are = (λ no. absurd cc, λ it. let of = account_of rows c.args.row.now it in absurd (c.in-None.ensures.none of.0 of.1 (account_utf8 of.0 of.2)))
 
-pub returns-else-not-is_account-clause-judged : goal.returns-else-not-is_account-clause-judged
-returns-else-not-is_account-clause-judged c =
+pub returns-else-not-is_account : goal.returns-else-not-is_account
+returns-else-not-is_account c rows are =
     let r = c.args.row.now in
     let account = c.in-Some.account.now in
     let len : length r ≡ 6 = grind (arith, c.if-column_count-ne6.false, c.column_count.ensures) in
     let known : is_account account ≡ true = search rules in
     let found = c.in-Some.ensures.found in
     let key = c.if-not-has_key.ensures.0 refl in
-    if_ok c.is_own.result (λ good h rows are.
-    let it = h rows are in
-    (λ yes. receipt_made rows r account len found known key (it.0 yes), λ row. it.1 (account_is rows r account found row).1)) c.is_own.ensures.judged
+    let it = c.is_own.ensures rows are in
+    (λ yes. receipt_made rows r account len found known key (it.0 yes), λ row. it.1 (account_is rows r account found row).1)

@@ -1,17 +1,22 @@
-use Rattle.std.proofs.Common.{refl}
-use Rattle.pid_tables_check.proofs.Each.{if_ok}
-use Rattle.pid_tables_check.proofs.SubmissionFacts.{submissions_made, submissions_among, counted_of}
+use Rattle.std.proofs.Common.{arith}
+use Rattle.pid_tables_check.proofs.Judged.{not_both, not_not}
+use Rattle.pid_tables_check.proofs.SubmissionFacts.{all_fit, fit_of, counted_of}
 use Rattle.pid_tables_check.proofs.submission.are_submissions.Goals as goal
 
-pub returns-then-not-are_submission_rows-clause-judged : goal.returns-then-not-are_submission_rows-clause-judged
-returns-then-not-are_submission_rows-clause-judged c accounts are good = (
-  λ no. absurd cc,
-  λ all. c.if-not-are_submission_rows.ensures.1 (submissions_among accounts good c.args.names.now are c.args.rows.now all),
-)
+pub returns-then-not-fit : goal.returns-then-not-fit
+returns-then-not-fit c names rows is are numbers accounts listed good =
+    let fit = c.args.fit in
+    (λ no. absurd cc, λ all. absurd (not_both fit.good c.if-not-fit.true (fit_of names rows fit c.args.count is are accounts listed good all).0))
 
-pub returns-clause-judged : goal.returns-clause-judged
-returns-clause-judged c =
-    let rows = c.args.rows.now in
-    let among = c.if-not-are_submission_rows.ensures.0 refl in
-    if_ok c.count_from_one.result (λ yes it accounts are good.
-    (λ on. submissions_made accounts good c.args.names.now are rows among (it.0 on), λ all. it.1 (counted_of accounts rows all))) c.count_from_one.ensures.judged
+pub returns-then-fit-count : goal.returns-then-fit-count
+returns-then-fit-count c names rows is are numbers accounts listed good =
+    let fit = c.args.fit in
+    (λ no. absurd cc, λ all. let it = fit_of names rows fit c.args.count is are accounts listed good all in absurd (omega (arith, c.if-fit-count.true, it.1)))
+
+pub returns : goal.returns
+returns c names rows is are numbers accounts listed good =
+    let fit = c.args.fit in
+    let by = c.count_from_one.ensures rows numbers is in (
+      λ yes. all_fit names rows fit c.args.count is are accounts listed good (not_not fit.good c.if-not-fit.false) (omega (arith, c.if-fit-count.false)) (by.0 yes),
+      λ all. by.1 (counted_of accounts rows all),
+    )

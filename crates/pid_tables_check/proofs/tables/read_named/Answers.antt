@@ -1,4 +1,4 @@
-use Rattle.std.proofs.Common.{inl, inr, refl, subst, arith}
+use Rattle.std.proofs.Common.{inl, inr, refl, subst}
 use Rattle.sqlite.specs.Held.{state}
 use Rattle.sqlite.specs.State.{HasCleanDisk}
 use Rattle.pid_tables_rows.specs.Faults.{IsMemoryOrStore}
@@ -20,14 +20,14 @@ returns-in-One-clause-told g c clean d is has =
 
 pub returns-in_err-dated-in-Two-clause-told : goal.returns-in_err-dated-in-Two-clause-told
 returns-in_err-dated-in-Two-clause-told g c clean d is has =
-    let mid : HasCleanDisk (state g.S.Store c.read_items.new.tx.conn.now) = omega (arith, clean, c.read_sinces.ensures.goes.survives.clean) in
+    let mid : HasCleanDisk (state g.S.Store c.read_items.new.conn) = c.read_sinces.ensures.rests.clean clean in
     let one = c.in_ok-items.ensures.keeps mid d is (tables_each _ d.schema has _ (inr (inr (inl refl)))) in
     let tables = subst (λ (v : Version). HasTables v d.schema) c.in-Two.is has in
     passed_on c.from_residual-in_err-dated-in-Two.result _ _ IsMemoryOrStore c.from_residual-in_err-dated-in-Two.ensures.1 (c.in_err-dated-in-Two.ensures.keeps clean d one.1 tables.2)
 
 pub returns-clause-told : goal.returns-clause-told
 returns-clause-told g c clean d is has =
-    let mid : HasCleanDisk (state g.S.Store c.read_items.new.tx.conn.now) = omega (arith, clean, c.read_sinces.ensures.goes.survives.clean) in
+    let mid : HasCleanDisk (state g.S.Store c.read_items.new.conn) = c.read_sinces.ensures.rests.clean clean in
     let one = c.in_ok-items.ensures.keeps mid d is (tables_each _ d.schema has _ (inr (inr (inl refl)))) in
     let tables = subst (λ (v : Version). HasTables v d.schema) c.in-Two.is has in
     let two = c.in_ok-dated-in-Two.ensures.keeps clean d one.1 tables.2 in

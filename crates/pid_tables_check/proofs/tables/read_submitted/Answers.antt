@@ -1,4 +1,4 @@
-use Rattle.std.proofs.Common.{inl, inr, refl, arith}
+use Rattle.std.proofs.Common.{inl, inr, refl}
 use Rattle.sqlite.specs.Held.{state}
 use Rattle.sqlite.specs.State.{HasCleanDisk}
 use Rattle.pid_tables_rows.specs.Faults.{IsMemoryOrStore}
@@ -11,22 +11,22 @@ returns-in_err-accounts-clause-told g c clean d is has = passed_on c.from_residu
 
 pub returns-in_err-submissions-clause-told : goal.returns-in_err-submissions-clause-told
 returns-in_err-submissions-clause-told g c clean d is has =
-    let mid : HasCleanDisk (state g.S.Store c.read_accounts.new.tx.conn.now) = omega (arith, clean, c.read_submissions.ensures.goes.survives.clean) in
+    let mid : HasCleanDisk (state g.S.Store c.read_accounts.new.conn) = c.read_submissions.ensures.rests.clean clean in
     let one = c.in_ok-accounts.ensures.keeps mid d is (has _ (inr (inl refl))) in
     passed_on c.from_residual-in_err-submissions.result _ _ IsMemoryOrStore c.from_residual-in_err-submissions.ensures.1 (c.in_err-submissions.ensures.keeps clean d one.1 (has _ (inr (inr (inr (inl refl))))))
 
 pub returns-in_err-receipts-clause-told : goal.returns-in_err-receipts-clause-told
 returns-in_err-receipts-clause-told g c clean d is has =
-    let late : HasCleanDisk (state g.S.Store c.read_submissions.new.tx.conn.now) = omega (arith, clean, c.read_receipts.ensures.goes.survives.clean) in
-    let mid : HasCleanDisk (state g.S.Store c.read_accounts.new.tx.conn.now) = omega (arith, late, c.read_submissions.ensures.goes.survives.clean) in
+    let late : HasCleanDisk (state g.S.Store c.read_submissions.new.conn) = c.read_receipts.ensures.rests.clean clean in
+    let mid : HasCleanDisk (state g.S.Store c.read_accounts.new.conn) = c.read_submissions.ensures.rests.clean late in
     let one = c.in_ok-accounts.ensures.keeps mid d is (has _ (inr (inl refl))) in
     let two = c.in_ok-submissions.ensures.keeps late d one.1 (has _ (inr (inr (inr (inl refl))))) in
     passed_on c.from_residual-in_err-receipts.result _ _ IsMemoryOrStore c.from_residual-in_err-receipts.ensures.1 (c.in_err-receipts.ensures.keeps clean d two.1 (has _ (inr (inr (inr (inr (inr (inl refl))))))))
 
 pub returns-clause-told : goal.returns-clause-told
 returns-clause-told g c clean d is has =
-    let late : HasCleanDisk (state g.S.Store c.read_submissions.new.tx.conn.now) = omega (arith, clean, c.read_receipts.ensures.goes.survives.clean) in
-    let mid : HasCleanDisk (state g.S.Store c.read_accounts.new.tx.conn.now) = omega (arith, late, c.read_submissions.ensures.goes.survives.clean) in
+    let late : HasCleanDisk (state g.S.Store c.read_submissions.new.conn) = c.read_receipts.ensures.rests.clean clean in
+    let mid : HasCleanDisk (state g.S.Store c.read_accounts.new.conn) = c.read_submissions.ensures.rests.clean late in
     let one = c.in_ok-accounts.ensures.keeps mid d is (has _ (inr (inl refl))) in
     let two = c.in_ok-submissions.ensures.keeps late d one.1 (has _ (inr (inr (inr (inl refl))))) in
     let three = c.in_ok-receipts.ensures.keeps clean d two.1 (has _ (inr (inr (inr (inr (inr (inl refl))))))) in

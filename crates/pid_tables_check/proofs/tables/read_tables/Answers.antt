@@ -1,4 +1,4 @@
-use Rattle.std.proofs.Common.{inl, inr, refl, arith}
+use Rattle.std.proofs.Common.{inl, inr, refl}
 use Rattle.sqlite.specs.Held.{state}
 use Rattle.sqlite.specs.State.{HasCleanDisk}
 use Rattle.pid_tables_rows.specs.Faults.{IsMemoryOrStore}
@@ -9,22 +9,22 @@ use Rattle.pid_tables_check.proofs.tables.read_tables.Goals as goal
 
 pub returns-in_err-named-clause-told : goal.returns-in_err-named-clause-told
 returns-in_err-named-clause-told g c clean d is has =
-    let mid : HasCleanDisk (state g.S.Store c.read_submitted.new.tx.conn.now) = omega (arith, clean, c.read_named.ensures.goes.survives.clean) in
+    let mid : HasCleanDisk (state g.S.Store c.read_submitted.new.conn) = c.read_named.ensures.rests.clean clean in
     let one = c.in_ok-submitted.ensures.told mid d is (tables_each _ d.schema has) in
     passed_on c.from_residual-in_err-named.result _ _ IsMemoryOrStore c.from_residual-in_err-named.ensures.1 (c.in_err-named.ensures.told clean d one.1 has)
 
 pub returns-in_err-remarks-clause-told : goal.returns-in_err-remarks-clause-told
 returns-in_err-remarks-clause-told g c clean d is has =
-    let late : HasCleanDisk (state g.S.Store c.read_named.new.tx.conn.now) = omega (arith, clean, c.read_remarks.ensures.goes.survives.clean) in
-    let mid : HasCleanDisk (state g.S.Store c.read_submitted.new.tx.conn.now) = omega (arith, late, c.read_named.ensures.goes.survives.clean) in
+    let late : HasCleanDisk (state g.S.Store c.read_named.new.conn) = c.read_remarks.ensures.rests.clean clean in
+    let mid : HasCleanDisk (state g.S.Store c.read_submitted.new.conn) = c.read_named.ensures.rests.clean late in
     let one = c.in_ok-submitted.ensures.told mid d is (tables_each _ d.schema has) in
     let two = c.in_ok-named.ensures.told late d one.1 has in
     passed_on c.from_residual-in_err-remarks.result _ _ IsMemoryOrStore c.from_residual-in_err-remarks.ensures.1 (c.in_err-remarks.ensures.keeps clean d two.1 (tables_each _ d.schema has _ (inr (inr (inr (inr (inl refl)))))))
 
 pub returns-clause-told : goal.returns-clause-told
 returns-clause-told g c clean d is has =
-    let late : HasCleanDisk (state g.S.Store c.read_named.new.tx.conn.now) = omega (arith, clean, c.read_remarks.ensures.goes.survives.clean) in
-    let mid : HasCleanDisk (state g.S.Store c.read_submitted.new.tx.conn.now) = omega (arith, late, c.read_named.ensures.goes.survives.clean) in
+    let late : HasCleanDisk (state g.S.Store c.read_named.new.conn) = c.read_remarks.ensures.rests.clean clean in
+    let mid : HasCleanDisk (state g.S.Store c.read_submitted.new.conn) = c.read_named.ensures.rests.clean late in
     let one = c.in_ok-submitted.ensures.told mid d is (tables_each _ d.schema has) in
     let two = c.in_ok-named.ensures.told late d one.1 has in
     let three = c.in_ok-remarks.ensures.keeps clean d two.1 (tables_each _ d.schema has _ (inr (inr (inr (inr (inl refl)))))) in

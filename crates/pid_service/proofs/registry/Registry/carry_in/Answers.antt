@@ -1,8 +1,9 @@
-use Rattle.std.proofs.Common.{◌≡◌, refl, rules}
+use Rattle.std.proofs.Common.{◌≡◌, inr, refl, rules}
 use Rattle.pid_tables.specs.declared.put_file.Stop.TheVariants as stops
 use Rattle.pid_moderation.specs.History.{asked}
 use Rattle.pid_tables.specs.Files.{file_reading}
 use Rattle.pid_service.proofs.Imported.{body_carried, body_read, failed_carried, failed_read, ok_obeyed, refused_carried, refused_read}
+use Rattle.pid_service.proofs.ImportCauses.{refused_stays}
 use Rattle.pid_service.proofs.Keeping.{nothing_kept}
 use Rattle.pid_service.proofs.registry.Registry.carry_in.Goals as goal
 
@@ -50,6 +51,17 @@ returns-in-Err-Failed-clause-obeyed g c =
       consumed = r.1;
       read = failed_read c.in-Err-Failed.field-0 c.in-Err-Failed.refusal c.stopping.result _ r.0 is r.2;
       holds = λ clean h w.
-          failed_carried g.S.Store c.args.self.now _ h (asked c.args.command.now (file_reading r.0)) c.in-Err-Failed.field-0 c.in-Err-Failed.refusal c.stopping.result is c.stopping.ensures.same w.shows refl w.reached
+          failed_carried g.S.Store c.args.self.now _ h (asked c.args.command.now (file_reading r.0)) c.in-Err-Failed.field-0 c.in-Err-Failed.refusal c.stopping.result is c.stopping.ensures.same w.shows refl c.clear.ensures w.reached
           (r.3 clean h w.shows.tables w.shows.history.marked w.import w.waits w.many);
     }
+
+-- ---- whether it is live after a fault
+
+pub returns-in-Err-Refused-clause-caused : goal.returns-in-Err-Refused-clause-caused
+returns-in-Err-Refused-clause-caused g c clean h shows marked import waits many =
+    let is : c.in-Err-Refused.field-0 ≡ stops.Refused c.in-Err-Refused.refusal = search rules in
+    let r = c.in-Err-Refused.ensures.stops in
+    refused_stays g.S.Store c.judgements_are_outcomes.ensures c.bring_in.new.conn c.args.self.now.live h (asked c.args.command.now (file_reading r.0)) c.in-Err-Refused.field-0 c.in-Err-Refused.refusal is shows.lives (r.3 clean h shows.tables marked import waits many)
+
+pub returns-in-Err-Failed-clause-caused : goal.returns-in-Err-Failed-clause-caused
+returns-in-Err-Failed-clause-caused g c clean h shows marked import waits many fault = inr refl

@@ -12,7 +12,7 @@ returns-in-Ok-clause-obeyed g c h asks to =
 pub returns-in-Err-clause-obeyed : goal.returns-in-Err-clause-obeyed
 returns-in-Err-clause-obeyed g c h asks to =
     failed g.S.Store c.args.self.now _ h asks c.args.change.now c.args.reply c.refusal_of.result to.shows to.judged to.reached
-    (λ v rest fit. c.in-Err.ensures.either v rest fit) refl c.refusal_of.ensures.fault
+    (λ v rest fit. c.in-Err.ensures.either v rest fit) refl c.clear.ensures c.refusal_of.ensures.fault
 
 pub returns-in-Ok-clause-spares : goal.returns-in-Ok-clause-spares
 returns-in-Ok-clause-spares g c h asks to = accepted_spares _ h asks c.args.change.now c.args.reply to.judged c.follow.ensures.spares

@@ -1,9 +1,10 @@
-use Rattle.std.proofs.Common.{◌≡◌, ◌≤◌, length, refl, rules, subst, true}
+use Rattle.std.proofs.Common.{◌≡◌, ◌≤◌, IfErr, length, refl, rules, subst, true}
 use Rattle.pid_moderation.specs.declared.command.Command.{Command}
 use Rattle.pid_moderation.specs.CheckTables.{most_file_bytes}
 use Rattle.pid_moderation.specs.History.{asked, is_import}
 use Rattle.pid_tables.specs.Files.{file_reading}
 use Rattle.pid_service.specs.Obeying.{Obeys}
+use Rattle.pid_service.proofs.ImportCauses.{Faults}
 use Rattle.pid_service.proofs.Lasting.{lasting}
 use Rattle.pid_service.proofs.registry.Registry.import.Goals as goal
 
@@ -18,6 +19,9 @@ returns g c =
       obeyed = λ clean h shows.
           subst (λ (k : Command). Obeys g.S.Store c.import_bytes.result c.import_bytes.new.self h (asked k (file_reading c.args.file.now))) c.import_command-command.ensures
           (c.import_bytes.ensures.obeyed clean h shows import short);
+      caused = λ clean h shows reading.
+          subst (λ (k : Command). IfErr c.import_bytes.result (Faults g.S.Store c.args.self.now.tables.conn c.import_bytes.new.self.tables.conn c.import_bytes.new.self.live h (asked k reading))) c.import_command-command.ensures
+          (c.import_bytes.ensures.caused clean h shows reading import);
       forgets = c.import_bytes.ensures.forgets;
-      lasts = lasting g.S.Store c.args.self.now c.import_bytes.new.self c.import_bytes.result c.import_bytes.ensures.held;
+      lasts = lasting g.S.Store c.args.self.now c.import_bytes.new.self c.import_bytes.result c.import_bytes.ensures.held c.import_bytes.ensures.limit;
     }

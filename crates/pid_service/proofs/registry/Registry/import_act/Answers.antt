@@ -1,6 +1,7 @@
 use Rattle.std.proofs.Common.{inl, inr, refl}
 use Rattle.pid_moderation.specs.History.{asked}
 use Rattle.pid_tables.specs.Files.{file_reading}
+use Rattle.pid_service.proofs.ImportCauses.{Faults, bad_text, early_faults, open_faults, past_faults}
 use Rattle.pid_service.proofs.Imported.{past_obeyed, past_spares}
 use Rattle.pid_service.proofs.Lasting.{still_live}
 use Rattle.pid_service.proofs.Obeyed.{only_read}
@@ -52,3 +53,19 @@ returns-in-Open-clause-forgets g c h shows = inl c.carry_in.ensures.forgets
 
 pub returns-in-Answered-clause-held : goal.returns-in-Answered-clause-held
 returns-in-Answered-clause-held g c = still_live c.answer_past.result (c.answer_past.ensures.alive c.in-Answered.ensures.alive) c.args.self.now.live
+
+pub returns-in-Answered-clause-caused : goal.returns-in-Answered-clause-caused
+returns-in-Answered-clause-caused g c clean h shows reading import =
+    let old = c.args.self.now.tables.conn in
+    let new = c.judge_import.new.tables.conn in
+    let live = c.args.self.now.live in
+    past_faults (Faults g.S.Store old new live h (asked c.args.command.now reading)) c.in-Answered.answer c.answer_past.result c.answer_past.ensures.past.text c.answer_past.ensures.past.holds
+    (early_faults g.S.Store old new live c.judgements_are_outcomes.ensures shows.lives h c.args.command.now reading c.in-Answered.answer
+    (c.in-Answered.ensures.caused clean h (c.reached_histories_are_kept.ensures.sound h shows.history) shows.tables))
+    bad_text
+
+pub returns-in-Open-clause-caused : goal.returns-in-Open-clause-caused
+returns-in-Open-clause-caused g c clean h shows reading import =
+    let early = c.in-Open.ensures.judged (c.carry_in.ensures.clean clean) h (c.reached_histories_are_kept.ensures.sound h shows.history) shows.tables in
+    open_faults g.S.Store c.args.self.now.tables.conn c.carry_in.new.self.tables.conn c.carry_in.new.self.live h c.args.command.now reading _ c.carry_in.result early.0
+    (c.carry_in.ensures.caused clean h (only_read g.S.Store c.args.self.now _ h refl c.judge_import.ensures.rests refl shows) shows.history.marked import early.0 early.1)

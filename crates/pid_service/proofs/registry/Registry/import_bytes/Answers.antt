@@ -1,4 +1,6 @@
 use Rattle.std.proofs.Common.{sym, ◌∙◌}
+use Rattle.pid_moderation.specs.History.{asked}
+use Rattle.pid_service.proofs.ImportCauses.{Faults, plain_faults}
 use Rattle.pid_service.proofs.Imported.{bytes_obeyed, bytes_spare}
 use Rattle.pid_service.proofs.registry.Registry.import_bytes.Goals as goal
 
@@ -14,3 +16,8 @@ returns-clause-spares g c clean h shows import short = let r = c.import_act-end.
 
 pub returns-clause-held : goal.returns-clause-held
 returns-clause-held g c = c.plain.ensures.held c.args.self.now.live c.import_act-end.new.self.live c.import_act-end.ensures.held
+
+pub returns-clause-caused : goal.returns-clause-caused
+returns-clause-caused g c clean h shows reading import =
+    plain_faults (Faults g.S.Store c.args.self.now.tables.conn c.import_act-end.new.self.tables.conn c.import_act-end.new.self.live h (asked c.args.command.now reading)) c.import_act-end.result c.plain.result c.plain.ensures.same
+    (λ e. absurd (let none = c.import_act-end.ensures.reads.fault e in let no : ⊥ = cc in no)) (c.import_act-end.ensures.caused clean h shows reading import)

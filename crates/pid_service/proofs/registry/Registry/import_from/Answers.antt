@@ -1,8 +1,10 @@
-use Rattle.std.proofs.Common.{◌≡◌, refl, subst, true}
+use Rattle.std.proofs.Common.{◌≡◌, IfErr, refl, subst, true}
+use Rattle.pid_moderation.specs.BeforeFile.{import_of}
 use Rattle.pid_moderation.specs.declared.command.Command.{Command}
 use Rattle.pid_moderation.specs.History.{asked, is_import}
 use Rattle.pid_tables.specs.Files.{file_reading}
-use Rattle.pid_service.specs.Importing.{ObeysImport}
+use Rattle.pid_service.specs.Importing.{ObeysImport, OfRefusal}
+use Rattle.pid_service.proofs.ImportCauses.{Faults}
 use Rattle.pid_service.proofs.Lasting.{end_lasting}
 use Rattle.pid_service.proofs.registry.Registry.import_from.Goals as goal
 
@@ -18,4 +20,9 @@ returns-clause-obeyed g c = let r = c.import_act.ensures.taken in
     }
 
 pub returns-clause-lasts : goal.returns-clause-lasts
-returns-clause-lasts g c = end_lasting g.S.Store c.args.self.now c.import_act.new.self c.import_act.result c.import_act.ensures.forgets c.import_act.ensures.held
+returns-clause-lasts g c =
+    let import : is_import c.import_command-command.result.act ≡ true = rw c.import_command-command.ensures refl in
+    end_lasting g.S.Store c.args.self.now c.import_act.new.self (import_of c.args.account c.args.key) c.import_act.result c.import_act.ensures.forgets c.import_act.ensures.held c.import_act.ensures.limit
+    (λ clean h shows reading.
+    subst (λ (k : Command). IfErr c.import_act.result (OfRefusal (Faults g.S.Store c.args.self.now.tables.conn c.import_act.new.self.tables.conn c.import_act.new.self.live h (asked k reading)))) c.import_command-command.ensures
+    (c.import_act.ensures.caused clean h shows reading import))

@@ -1,9 +1,9 @@
-use Rattle.std.proofs.Common.{◌≡◌, inl, inr, false, Ok, ap, refl, rules, subst}
+use Rattle.std.proofs.Common.{◌≡◌, inl, inr, false, Ok, ap, refl, rules, subst, ◌∙◌}
 use Rattle.pid_moderation.specs.History.{Asked, History, is_import}
 use Rattle.pid_moderation.specs.CheckTables.{is_broken}
 use Rattle.pid_moderation.specs.Judgement.{answer}
 use Rattle.pid_moderation.specs.Views.{items_of, views_of}
-use Rattle.pid_tables.specs.Files.{asks, file_of, file_reading}
+use Rattle.pid_tables.specs.Files.{asks, file_of, file_reading, reading_of}
 use Rattle.pid_service.specs.declared.judging.Judged.{Judged}
 use Rattle.pid_service.specs.declared.judging.Judged.TheVariants.{Accepted}
 use Rattle.pid_service.specs.Histories.{Shows}
@@ -11,6 +11,7 @@ use Rattle.pid_service.specs.Obeying.{Obeys}
 use Rattle.pid_service.specs.Registries.{HasCleanDisk}
 use Rattle.pid_service.specs.Steps.Judging.{JudgesCommand}
 use Rattle.pid_service.specs.Steps.Obeying.{SparesNames}
+use Rattle.pid_service.proofs.ImportCauses.{bad_text}
 use Rattle.pid_service.proofs.Imported.{file_given}
 use Rattle.pid_service.proofs.Lasting.{carried, lasting, not_failed}
 use Rattle.pid_service.proofs.Obeyed.{broken_form, broken_spares, failed_over, judged_for, kept, only_read, refused, refused_spares, spare_forgets, then_spares, well_made}
@@ -28,8 +29,9 @@ returns-then-breaks_form-clause-does g c =
       form = λ on broken. (refl, refl);
       obeyed = λ clean h shows. broken_form g.S.Store c.args.self.now h (asks c.args.command.now) shows (is h);
       caused = λ clean h shows other. inl (ap answer (is h));
+      import_caused = λ clean h shows import. bad_text;
       forgets = λ clean h shows other. inr shows;
-      lasts = lasting g.S.Store c.args.self.now c.args.self.now _ (not_failed, inr refl);
+      lasts = lasting g.S.Store c.args.self.now c.args.self.now _ (not_failed, inr refl) refl;
     }
 
 pub returns-then-breaks_form-clause-spares : goal.returns-then-breaks_form-clause-spares
@@ -49,8 +51,9 @@ returns-in-Import-clause-does g c =
           file_given g.S.Store (λ (a : Asked). Obeys g.S.Store c.import_bytes.result c.import_bytes.new.self h a) c.args.command.now c.in-Import.file c.as_bytes.result.now c.in-Import.is c.as_bytes.ensures sound
           (λ import short. c.import_bytes.ensures.obeyed clean h shows import short);
       caused = search rules;
+      import_caused = λ clean h shows import. c.import_bytes.ensures.caused clean h shows (reading_of c.args.command.now.act) import;
       forgets = λ clean h shows other. c.import_bytes.ensures.forgets h shows;
-      lasts = lasting g.S.Store c.args.self.now c.import_bytes.new.self c.import_bytes.result c.import_bytes.ensures.held;
+      lasts = lasting g.S.Store c.args.self.now c.import_bytes.new.self c.import_bytes.result c.import_bytes.ensures.held c.import_bytes.ensures.limit;
     }
 
 pub returns-in-Import-clause-spares : goal.returns-in-Import-clause-spares
@@ -72,9 +75,10 @@ returns-in-Err-clause-does g c =
       obeyed = λ clean h shows.
           refused g.S.Store _ h (asks c.args.command.now) c.in-Err.refusal (only_read g.S.Store c.args.self.now _ h refl c.judge.ensures.rests refl shows)
           (c.in-Err.ensures.judged clean h reading shows.history shows.tables other);
+      import_caused = search rules;
       caused = λ clean h shows same. judged_for g.S.Store c.args.self.now.tables.conn c.judge.new.tables.conn c.args.self.now.live h (asks c.args.command.now) c.in-Err.refusal shows.lives (c.in-Err.ensures.caused clean h reading shows.history shows.tables other);
       forgets = λ clean h shows same. inr (only_read g.S.Store c.args.self.now _ h refl c.judge.ensures.rests refl shows);
-      lasts = lasting g.S.Store c.args.self.now _ _ (c.in-Err.ensures.alive, inr refl);
+      lasts = lasting g.S.Store c.args.self.now _ _ (c.in-Err.ensures.alive, inr refl) c.judge.ensures.rests.survives.limit;
     }
 
 pub returns-in-Err-clause-spares : goal.returns-in-Err-clause-spares
@@ -95,9 +99,10 @@ returns-in-Ok-Kept-clause-does g c =
       obeyed = λ clean h shows.
           kept g.S.Store _ h (asks c.args.command.now) c.in-Ok-Kept.reply (only_read g.S.Store c.args.self.now _ h refl c.judge.ensures.rests refl shows)
           (subst (λ (j : Judged). JudgesCommand h (asks c.args.command.now) (Ok j)) c.in-Ok-Kept.field-0-is (c.in-Ok-Kept.ensures.judged clean h reading shows.history shows.tables other));
+      import_caused = search rules;
       caused = λ clean h shows same. tt;
       forgets = λ clean h shows same. inr (only_read g.S.Store c.args.self.now _ h refl c.judge.ensures.rests refl shows);
-      lasts = lasting g.S.Store c.args.self.now _ _ refl;
+      lasts = lasting g.S.Store c.args.self.now _ _ refl c.judge.ensures.rests.survives.limit;
     }
 
 pub returns-in-Ok-Kept-clause-spares : goal.returns-in-Ok-Kept-clause-spares
@@ -125,6 +130,7 @@ returns-in-Ok-Accepted-clause-does g c =
             reached = c.commands_lead_on.ensures h (asks c.args.command.now) shows.history (well_made c.args.command.now reading other c.command_is_well_made.ensures);
             judged = told clean h shows;
           });
+      import_caused = search rules;
       caused = λ clean h shows same.
           failed_over g.S.Store c.args.self.now c.carry_out.new.self c.args.self.now.live h (asks c.args.command.now) c.in-Ok-Accepted.change c.in-Ok-Accepted.reply c.carry_out.result c.carry_out.ensures.held (told clean h shows);
       forgets = λ clean h shows.
@@ -135,7 +141,7 @@ returns-in-Ok-Accepted-clause-does g c =
             reached = c.commands_lead_on.ensures h (asks c.args.command.now) shows.history (well_made c.args.command.now reading other c.command_is_well_made.ensures);
             judged = told clean h shows;
           }));
-      lasts = lasting g.S.Store c.args.self.now c.carry_out.new.self c.carry_out.result (carried c.carry_out.result c.args.self.now.live c.carry_out.new.self.live c.carry_out.ensures.held);
+      lasts = lasting g.S.Store c.args.self.now c.carry_out.new.self c.carry_out.result (carried c.carry_out.result c.args.self.now.live c.carry_out.new.self.live c.carry_out.ensures.held) (c.carry_out.ensures.limit ∙ c.judge.ensures.rests.survives.limit);
     }
 
 pub returns-in-Ok-Accepted-clause-spares : goal.returns-in-Ok-Accepted-clause-spares

@@ -21,6 +21,7 @@ returns-in-Ok g c = record {
   stays = λ on none. stays_so c.run_into.result.fault c.run_into.new.self.live (c.run_into.ensures.held on) none;
   fails = λ on off. fault_so c.run_into.result.fault c.run_into.new.self.live (c.run_into.ensures.held on) off;
   alive = c.run_into.ensures.alive;
+  limit = c.run_into.ensures.limit;
 }
 
 pub returns-in-Err : goal.returns-in-Err
@@ -39,4 +40,5 @@ returns-in-Err g c =
       stays = λ on fine. on;
       fails = λ on off. inl refl;
       alive = λ on. subst (AllByRecursion ReplyIsNotFailed) (sym none) tt;
+      limit = refl;
     }

@@ -48,6 +48,7 @@ loop-command-preserved g c =
           (one_more asks c.args.commands.now i c.command-item.result (omega (arith, c.loop-command-test.true)) (sym c.command-item.is))
           c.obey_lent-outcome.ensures.none (c.loop-command.invariant.7 was h shows)
           (c.obey_lent-outcome.ensures.spares clean (after_all h (take i all)) (c.loop-command.invariant.4 was h shows).1) none,
+      c.obey_lent-outcome.ensures.does.lasts.limit ∙ c.loop-command.invariant.8,
     )
 
 pub returns-then-is_some-clause-forgets : goal.returns-then-is_some-clause-forgets

@@ -1,0 +1,20 @@
+use Rattle.std.proofs.Common.{◌≡◌, refl, ap}
+use Rattle.pid_moderation.specs.RegistryStatus.{status_of_registry, registry_status_of}
+use Rattle.pid_moderation.specs.declared.lists.Status.{Status}
+use Rattle.pid_http_requests.specs.declared.format.Format.{Format}
+use Rattle.pid_http_replies.specs.StatusAnswers.{status_answer}
+use Rattle.pid_http.specs.Answering.{answer_over}
+use Rattle.pid_http.specs.Errands as errands
+use Rattle.pid_http.proofs.Meeting.{IsQuestion, question_met, replied}
+use Rattle.pid_http.proofs.overviews.status.Goals as goal
+
+question : (format : Format) → IsQuestion format (λ (status : Status). status_answer format (registry_status_of status)) (λ h (status : Status). registry_status_of status ≡ status_of_registry h) (errands.Status format)
+unfolding answer_over
+question format = record {
+  over = λ h x e. ap (status_answer format) e;
+  refused = λ e. (refl, refl);
+  no_command = refl;
+}
+
+pub returns : goal.returns
+returns g c = replied _ _ _ _ _ _ c.status_outcome.ensures (question_met _ c.clauses_meet_lives.ensures.looks _ _ _ _ _ _ _ (question c.args.format) c.status-found.ensures)

@@ -1,0 +1,71 @@
+//! The reply with how much a registry holds.
+ghost use Rattle.std.specs.Prelude.{◌≡◌, ◌++◌, decimal, string_bytes, IfOk, OnOk};
+ghost use Rattle.pid_moderation.specs.RegistryStatus.{registry_status_of};
+ghost use Rattle.serde_json.specs.View.{view};
+ghost use Rattle.pid_http_replies.specs.Replying.{MakesReply};
+ghost use Rattle.pid_http_replies.specs.StatusAnswers.{
+  status_answer,
+  status_data,
+  status_text as text_of_status,
+};
+ghost use Rattle.pid_http_replies.specs.WordLines.{word_line};
+
+use crate::reply::{json_reply, text_reply};
+use crate::text::push_line;
+use http::StatusCode;
+use itoa::Buffer;
+use pid_http_requests::Format;
+use pid_http_stream::Reply;
+use pid_moderation::Status;
+use serde_json::{Value, json};
+use std::alloc::{AllocError, Global};
+
+fn status_value(alloc: Global, status: &Status) -> Result<Value, AllocError>
+    ensures { IfOk result (λ value. view value ≡ status_data (registry_status_of status.now)) }
+{
+    json!(in alloc; {
+        "accounts": status.accounts,
+        "items": status.items,
+        "pending": status.pending,
+        "revision": status.revision,
+        "submissions": status.submissions
+    })
+}
+
+fn push_count(text: &mut String, word: &str, count: u64) -> Result<(), AllocError>
+    ensures { OnOk result (string_bytes text.new
+        ≡ string_bytes text.old ++ word_line word.now (decimal count)) }
+{
+    let mut digits = Buffer::new();
+    push_line(text, word, digits.format(count))
+}
+
+fn status_text(alloc: Global, status: &Status) -> Result<String, AllocError>
+    ensures { IfOk result (λ text. string_bytes text
+        ≡ text_of_status (registry_status_of status.now)) }
+{
+    let mut text = String::new(alloc);
+    push_count(&mut text, "accounts", status.accounts)?;
+    push_count(&mut text, "items", u64::from(status.items))?;
+    push_count(&mut text, "pending", u64::from(status.pending))?;
+    push_count(&mut text, "revision", status.revision)?;
+    push_count(&mut text, "submissions", u64::from(status.submissions))?;
+    Ok(text)
+}
+
+/// The reply with how many accounts, items, pending submissions, accepted commands and submissions
+/// a registry has. The text has a line for each count: its key and the count.
+pub fn status_reply(alloc: Global, format: Format, status: &Status) -> Result<Reply, AllocError>
+    ensures { MakesReply result (status_answer format (registry_status_of status.now)) }
+{
+    match format {
+        Format::Json => {
+            let value = status_value(alloc, status)?;
+            json_reply(alloc, StatusCode::OK, value)
+        }
+        Format::Text => {
+            let text = status_text(alloc, status)?;
+            Ok(text_reply(StatusCode::OK, text))
+        }
+    }
+}

@@ -1,0 +1,108 @@
+//! How much a registry holds.
+ghost use Rattle.std.specs.Prelude.{◌≡◌, false, length};
+ghost use Rattle.pid_moderation.specs.PendingPages.{waiting_above};
+ghost use Rattle.pid_moderation.specs.RegistryStatus.{
+  IsStatusIn,
+  registry_status_of,
+  status_of_registry,
+};
+ghost use Rattle.pid_tables_rows.specs.Clauses.{Reads};
+ghost use Rattle.pid_service.specs.Asking.{Answers};
+ghost use Rattle.pid_service.specs.KeptViews.{HoldsWaiting};
+
+use crate::laws;
+use crate::registry::Registry;
+use crate::waiting::count_waiting;
+use pid_moderation::{Refusal, Status};
+use pid_tables::{TableFault, Tables, refusal_of};
+use pid_tables_rows::account::accounts;
+use pid_tables_rows::meta::{revision, submissions};
+use sqlite::Alter;
+use std::alloc::Global;
+
+// How many submissions are pending: their numbers are counted, if they are kept.
+fn pending_count<S: Alter + Drop>(
+    tables: &mut Tables<S>,
+    alloc: Global,
+    numbers: &Option<Vec<u32>>,
+) -> Result<u32, TableFault>
+    requires { tables.old.conn.in_transaction ≡ false }
+    ensures { Reads S.Store tables.old.conn tables.new.conn result
+        (λ v n. HoldsWaiting numbers.now v → n ≡ length (waiting_above 0 v)) }
+{
+    match numbers {
+        Some(numbers) => match u32::try_from(numbers.len()) {
+            Ok(count) => Ok(count),
+            Err(_) => Err(TableFault::Memory),
+        },
+        None => count_waiting(tables, alloc),
+    }
+}
+
+// The status where so many submissions are pending.
+fn status_with<S: Alter + Drop>(tables: &mut Tables<S>, pending: u32) -> Result<Status, TableFault>
+    requires { tables.old.conn.in_transaction ≡ false }
+    ensures { Reads S.Store tables.old.conn tables.new.conn result
+        (λ v status. pending ≡ length (waiting_above 0 v)
+        → IsStatusIn v (registry_status_of status)) }
+{
+    let accounts = accounts(&mut tables.conn)?;
+    let items = tables.items()?;
+    let revision = revision(&mut tables.conn)?;
+    let submissions = submissions(&mut tables.conn)?;
+    Ok(Status {
+        accounts,
+        items,
+        pending,
+        revision,
+        submissions,
+    })
+}
+
+// The status, by the numbers of what is pending, if they are kept.
+fn status_by<S: Alter + Drop>(
+    tables: &mut Tables<S>,
+    alloc: Global,
+    numbers: &Option<Vec<u32>>,
+) -> Result<Status, TableFault>
+    requires { tables.old.conn.in_transaction ≡ false }
+    ensures { Reads S.Store tables.old.conn tables.new.conn result
+        (λ v status. HoldsWaiting numbers.now v → IsStatusIn v (registry_status_of status)) }
+{
+    let pending = pending_count(tables, alloc, numbers)?;
+    status_with(tables, pending)
+}
+
+impl<S: Alter + Drop> Registry<S> {
+    // The status by the tables and by what is kept.
+    fn status_now(&mut self) -> Result<Status, Refusal>
+        ensures { Answers S.Store self.old self.new result
+            (λ h status. registry_status_of status ≡ status_of_registry h) }
+    {
+        if !self.live {
+            return Err(Refusal::Failed);
+        }
+        laws::reached_histories_are_kept(); // proof only
+        pid_moderation::laws::views_tell_status(); // proof only
+        match status_by(&mut self.tables, self.alloc, &self.kept.pending) {
+            Ok(status) => Ok(status),
+            Err(fault) => Err(refusal_of(fault)),
+        }
+    }
+
+    /// How many accounts, items, pending submissions and submissions there are, and the revision.
+    /// Accounts are counted in their table, and what is pending by the numbers that `pending` keeps
+    /// in memory; the other counts are in the tables.
+    pub fn status(&mut self) -> Result<Status, Refusal>
+        ensures { Answers S.Store self.old self.new result
+            (λ h status. registry_status_of status ≡ status_of_registry h) }
+    {
+        if !self.live {
+            return Err(Refusal::Failed);
+        }
+        match self.keep_pending() {
+            Ok(()) => self.status_now(),
+            Err(refusal) => Err(refusal),
+        }
+    }
+}
