@@ -1,4 +1,4 @@
-use Rattle.std.proofs.Common.{◌∙◌, subst, ap}
+use Rattle.std.proofs.Common.{◌∙◌, ap}
 use Rattle.pid_service.specs.Registries.{is_live}
 use Rattle.pid_script.proofs.RegistryWords.{exported}
 use Rattle.pid_script.proofs.registry.RegistryModerated.export.Goals as goal
