@@ -1,3 +1,5 @@
 pub mod Runs
 pub mod Sessions
 pub mod Lines
+pub mod Exports
+pub mod Ends

@@ -3,4 +3,9 @@ pub mod Serving
 pub mod Jobs
 pub mod Sessions
 pub mod Files
+pub mod OnFiles
+pub mod Exports
+pub mod Ends
+pub mod Lookups
+pub mod Plain
 pub mod Steps

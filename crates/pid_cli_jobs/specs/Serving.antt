@@ -37,15 +37,20 @@ ReportsEnd AcceptFault streams w end = (end ≡ Told 3)
     × TriesLine w.output w.output_after (served_line streams)
     × TriesLine w.faults w.faults_after socket_line
 
--- Streams were served, one for each connection of so many, while the registry was live.
+-- Streams were served, one for each connection of so many, while the registry was live, and it is
+-- reported how many.
+pub record ReportsStreams (connections : ℕ) (live : Bool) (w : Writers) (end : JobEnd) : Type 0 where
+  pub serving : Serving
+  pub counted : CountsStreams serving.end connections serving.streams
+  pub lasts : IsLiveAt serving.end serving.streams live
+  pub reports : ReportsEnd serving.end serving.streams w end
+
+-- the same, after the line of where it listens
 pub record HasServed (port : Port) (live : Bool) (w : Writers) (end : JobEnd) : Type 0 where
   -- what the output had taken before the first of them
   pub between : Option (List ℕ)
   pub listens : Appends w.output between (listening_line port.number)
-  pub serving : Serving
-  pub counted : CountsStreams serving.end port.connections serving.streams
-  pub lasts : IsLiveAt serving.end serving.streams live
-  pub reports : ReportsEnd serving.end serving.streams (record w { output = between }) end
+  pub streams : ReportsStreams port.connections live (record w { output = between }) end
 
 -- Serving on a port, after which the registry is live or not.
 pub data Serves (port : Port) (live : Bool) (w : Writers) (end : JobEnd) : Type 0 where

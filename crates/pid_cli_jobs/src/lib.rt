@@ -16,5 +16,5 @@ pub use files::open_file;
 pub use job_end::JobEnd;
 pub use jobs::{RegistryJob, migrate_on, work_on};
 pub use replies::{print_answer, print_reply, tell_reply, tell_unopened};
-pub use running::run_words;
+pub use running::{PlainJob, answer_plain, export_through, report_end, run_words};
 pub use serving::Port;

@@ -1,4 +1,6 @@
 //! Lookups in a pci.ids file.
+ghost use Rattle.pid_cli_jobs.specs.Lookups.{LooksUpText};
+
 use crate::job_end::JobEnd;
 use crate::replies::print_answer;
 use pid_cli_words::LookupWords;
@@ -51,7 +53,14 @@ pub fn print_lookup<I: Input, O: Output, F: Output>(
     input: &mut I,
     output: &mut O,
     faults: &mut F,
-) -> JobEnd {
+) -> JobEnd
+    ensures { LooksUpText lookup.now (I.to_come input.old) (record {
+      output = O.taken output.old;
+      output_after = O.taken output.new;
+      faults = F.taken faults.old;
+      faults_after = F.taken faults.new;
+    }) result }
+{
     let Lookup { flags, args, size } = *lookup;
     match lookup_in(alloc, LARGEST, input, flags, &args, size) {
         Ok(found) => print_answer(found, output, faults),

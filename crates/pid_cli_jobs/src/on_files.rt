@@ -1,56 +1,101 @@
-//! The jobs of a registry in a file or in memory.
+//! The jobs on a registry in a file or in memory.
+ghost use Rattle.sqlite_wal.specs.Files.{image_at};
+ghost use Rattle.pid_cli_jobs.specs.Jobs.{work_of};
+ghost use Rattle.pid_cli_jobs.specs.OnFiles.{
+  DoesInFiles,
+  DoesOn,
+  DoesThere,
+  WorksOnNew,
+  file_task_of,
+};
+
 use crate::files::open_file;
 use crate::job_end::JobEnd;
 use crate::jobs::{RegistryJob, migrate_on, work_on};
 use crate::replies::tell_unopened;
 use pid_ident::{Input, Output};
 use pid_service::TableFault;
-use sqlite::{Connection, FileStore};
+use sqlite::{Alter, Connection, FileStore, MemStore};
 use sqlite_disk::{Disk, Start};
+use sqlite_std_file::FileFrom;
+use sqlite_trees::store::Store;
 
-// Closes a connection that a job handed back. If the log cannot be copied into the file, it stays
-// for the next opening.
-fn close_back<D: Disk + Drop>(back: Option<Connection<FileStore<D>>>) {
+/// A job on the files of a registry.
+#[derive(Drop)]
+pub enum FileJob<I> {
+    /// A job of the registry that is opened there.
+    Work(RegistryJob<I>),
+    /// Moves the tables to the newest schema.
+    Migrate,
+}
+
+fn do_on<S: Alter + Drop, I: Input + Drop, O: Output, F: Output>(
+    rt: &HostRuntime,
+    conn: Connection<S>,
+    job: FileJob<I>,
+    output: &mut O,
+    faults: &mut F,
+) -> (JobEnd, Option<Connection<S>>)
+    ensures { DoesOn S.Store O.Output conn (file_task_of I.Input job) (record {
+      output = output.old;
+      output_after = output.new;
+      faults = F.taken faults.old;
+      faults_after = F.taken faults.new;
+      end = result.0;
+    }) result.1 }
+{
+    match job {
+        FileJob::Work(job) => work_on(rt, conn, job, output, faults),
+        FileJob::Migrate => migrate_on(rt.alloc(), conn, output, faults),
+    }
+}
+
+// Does a job on a connection to files, and closes it if it came back. No other function names a
+// store of files together with a drop, since each one that does takes half a minute to prove.
+fn do_there<D: Disk + Drop, I: Input + Drop, O: Output, F: Output>(
+    rt: &HostRuntime,
+    conn: Connection<FileStore<D>>,
+    job: FileJob<I>,
+    output: &mut O,
+    faults: &mut F,
+) -> JobEnd
+    ensures { DoesThere D.Disk O.Output conn (file_task_of I.Input job) (record {
+      output = output.old;
+      output_after = output.new;
+      faults = F.taken faults.old;
+      faults_after = F.taken faults.new;
+      end = result;
+    }) }
+{
+    let (end, back) = do_on(rt, conn, job, output, faults);
     if let Some(conn) = back {
+        // If the log cannot be copied into the file, it stays for the next opening.
         let _ = conn.close();
     }
+    end
 }
 
-/// Does the job on a registry file, which is created if it does not exist. Afterwards, all that was
-/// committed is in the file or in the log next to it. `start` is as for `open_file`.
-pub fn work_on_file<S: Start, I: Input + Drop, O: Output, F: Output>(
+/// Does the job on the files of a registry, which are created if they do not exist. Afterwards, all
+/// that was committed is in the file or in the log next to it. `start` is as for `open_file`.
+pub fn do_in_files<S: Start, I: Input + Drop, O: Output, F: Output>(
     rt: &HostRuntime,
     start: S,
-    file: &str,
-    job: RegistryJob<I>,
+    path: &str,
+    job: FileJob<I>,
     output: &mut O,
     faults: &mut F,
-) -> JobEnd {
-    match open_file(rt, file, start) {
-        Ok(conn) => {
-            let (end, back) = work_on(rt, conn, job, output, faults);
-            close_back(back);
-            end
-        }
-        Err(fault) => JobEnd::Told(tell_unopened(fault, faults)),
-    }
-}
-
-/// Moves the tables of a registry file, which is created if it does not exist, to the newest
-/// schema. `start` is as for `open_file`.
-pub fn migrate_file<S: Start, O: Output, F: Output>(
-    rt: &HostRuntime,
-    start: S,
-    file: &str,
-    output: &mut O,
-    faults: &mut F,
-) -> JobEnd {
-    match open_file(rt, file, start) {
-        Ok(conn) => {
-            let (end, back) = migrate_on(rt.alloc(), conn, output, faults);
-            close_back(back);
-            end
-        }
+) -> JobEnd
+    ensures { DoesInFiles ⟦<FileFrom<S> as Disk>⟧ (image_at S.Start) O.Output
+        (file_task_of I.Input job) (record {
+          output = output.old;
+          output_after = output.new;
+          faults = F.taken faults.old;
+          faults_after = F.taken faults.new;
+          end = result;
+        }) }
+{
+    match open_file(rt, path, start) {
+        Ok(conn) => do_there(rt, conn, job, output, faults),
         Err(fault) => JobEnd::Told(tell_unopened(fault, faults)),
     }
 }
@@ -61,7 +106,15 @@ pub fn work_on_memory<I: Input + Drop, O: Output, F: Output>(
     job: RegistryJob<I>,
     output: &mut O,
     faults: &mut F,
-) -> JobEnd {
+) -> JobEnd
+    ensures { WorksOnNew ⟦<MemStore as Store>⟧ O.Output (work_of I.Input job) (record {
+      output = output.old;
+      output_after = output.new;
+      faults = F.taken faults.old;
+      faults_after = F.taken faults.new;
+      end = result;
+    }) }
+{
     match Connection::open_in_memory(rt.alloc()) {
         Ok(conn) => {
             let (end, _) = work_on(rt, conn, job, output, faults);

@@ -1,15 +1,34 @@
 //! The job that the arguments name, on the streams of the process.
+ghost use Rattle.std.specs.Prelude.{◌≡◌, IfOk, IsErrOf, None};
+ghost use Rattle.std.specs.Io.Buffered.{writer_contents};
+ghost use Rattle.sqlite_wal.specs.Files.{image_at};
+ghost use Rattle.pid_cli_words.specs.Jobs.{text_given};
+ghost use Rattle.pid_cli_jobs.specs.Ends.{ReportsLast, exit_status};
+ghost use Rattle.pid_cli_jobs.specs.Exports.{ExportsThrough};
+ghost use Rattle.pid_cli_jobs.specs.Jobs.{ToImport};
+ghost use Rattle.pid_cli_jobs.specs.OnFiles.{DoesInFiles, ToWork};
+ghost use Rattle.pid_cli_jobs.specs.Plain.{
+  AnswersPlain,
+  DoesPlain,
+  ImportsFile,
+  IsBadSender,
+  LooksUpInFile,
+};
+
 use crate::job_end::JobEnd;
 use crate::jobs::RegistryJob;
 use crate::lookups::{print_lookup, read_words};
-use crate::on_files::{migrate_file, work_on_file, work_on_memory};
+use crate::on_files::{FileJob, do_in_files, work_on_memory};
 use crate::replies::{print_reply, tell_reply};
 use crate::serving::Port;
 use pid_cli_words::{Counted, Job, LookupWords, Progress, job_of, tell_no_job};
 use pid_file::{TextEnd, Watched, run_check, run_tidy, tell_end, tell_failed};
 use pid_ident::{Account, Input, Key, Output, Plain, WordFault};
 use pid_moderation::Refusal;
-use sqlite_disk::Start;
+use sqlite::MemStore;
+use sqlite_disk::{Disk, Start};
+use sqlite_std_file::FileFrom;
+use sqlite_trees::store::Store;
 use std::alloc::Global;
 use std::fs;
 use std::fs::File;
@@ -66,10 +85,10 @@ pub fn run_words<S: Start, I: Read + Drop, O: Write + Drop, F: Write + Drop>(
     }
 }
 
-// A job whose output is not buffered. `files` are the registry file and the pci.ids file; `sender`
-// is the account and the key.
+/// A job whose output is not buffered. `files` are the registry file and the pci.ids file; `sender`
+/// is the account and the key.
 #[derive(Clone, Copy)]
-enum PlainJob<'a> {
+pub enum PlainJob<'a> {
     Lookup(LookupWords<'a>),
     Script(Option<&'a str>),
     Import {
@@ -90,11 +109,34 @@ fn run_plain<S: Start, I: Read + Drop, O: Write + Drop, F: Write + Drop>(
 ) -> u8 {
     let mut output = Plain::new(Watched::new(output));
     let mut faults = Plain::new(faults);
-    let end = match do_plain(rt, start, job, Plain::new(input), &mut output, &mut faults) {
-        JobEnd::Replied(reply) => print_reply(reply, &mut output),
+    let input = Plain::new(input);
+    let end = answer_plain(rt, start, job, input, &mut output, &mut faults);
+    report_end(end, output.into_inner().is_unread(), &mut faults)
+}
+
+/// Does a job, and then prints the reply to an import, or to a lookup whose arguments are refused:
+/// once all files are closed. `start` is as for `open_file`.
+pub fn answer_plain<S: Start, I: Input + Drop, O: Output, F: Output>(
+    rt: &HostRuntime,
+    start: S,
+    job: PlainJob<'_>,
+    input: I,
+    output: &mut O,
+    faults: &mut F,
+) -> JobEnd
+    ensures { AnswersPlain ⟦<FileFrom<S> as Disk>⟧ (image_at S.Start) ⟦<MemStore as Store>⟧
+        O.Output job.entry (I.to_come input) (record {
+          output = output.old;
+          output_after = output.new;
+          faults = F.taken faults.old;
+          faults_after = F.taken faults.new;
+          end = result;
+        }) }
+{
+    match do_plain(rt, start, job, input, output, faults) {
+        JobEnd::Replied(reply) => print_reply(reply, output),
         end => end,
-    };
-    status(end, output.into_inner().is_unread(), &mut faults)
+    }
 }
 
 fn do_plain<S: Start, I: Input + Drop, O: Output, F: Output>(
@@ -104,24 +146,41 @@ fn do_plain<S: Start, I: Input + Drop, O: Output, F: Output>(
     input: I,
     output: &mut O,
     faults: &mut F,
-) -> JobEnd {
+) -> JobEnd
+    ensures { DoesPlain ⟦<FileFrom<S> as Disk>⟧ (image_at S.Start) ⟦<MemStore as Store>⟧
+        O.Output job.entry (I.to_come input) (record {
+          output = output.old;
+          output_after = output.new;
+          faults = F.taken faults.old;
+          faults_after = F.taken faults.new;
+          end = result;
+        }) }
+{
     match job {
         PlainJob::Lookup(words) => run_lookup(rt, &words, output, faults),
         PlainJob::Script(Some(file)) => {
-            work_on_file(rt, start, file, RegistryJob::Script(input), output, faults)
+            let job = FileJob::Work(RegistryJob::Script(input));
+            do_in_files(rt, start, file, job, output, faults)
         }
         PlainJob::Script(None) => work_on_memory(rt, RegistryJob::Script(input), output, faults),
         PlainJob::Import { files, sender } => run_import(rt, start, files, sender, output, faults),
         PlainJob::Serve(file, port) => {
-            let job: RegistryJob<I> = RegistryJob::Serve(port);
-            work_on_file(rt, start, file, job, output, faults)
+            let job: FileJob<I> = FileJob::Work(RegistryJob::Serve(port));
+            do_in_files(rt, start, file, job, output, faults)
         }
-        PlainJob::Migrate(file) => migrate_file(rt, start, file, output, faults),
+        PlainJob::Migrate(file) => {
+            let job: FileJob<I> = FileJob::Migrate;
+            do_in_files(rt, start, file, job, output, faults)
+        }
     }
 }
 
-// Prints what is still to be printed at an end, and returns the exit status.
-fn status<F: Output>(end: JobEnd, is_unread: bool, faults: &mut F) -> u8 {
+/// Reports what is still to be reported at an end, and returns the exit status. `is_unread` says
+/// that the reader of the output has gone away.
+pub fn report_end<F: Output>(end: JobEnd, is_unread: bool, faults: &mut F) -> u8
+    ensures status { result ≡ exit_status end }
+    ensures told { ReportsLast end is_unread (F.taken faults.old) (F.taken faults.new) }
+{
     match end {
         JobEnd::Told(status) => status,
         JobEnd::Replied(reply) => tell_reply(reply, faults),
@@ -140,33 +199,45 @@ fn run_export<S: Start, O: Write + Drop, F: Write + Drop>(
     let is_told = rt.stderr().is_terminal() && !rt.stdout().is_terminal();
     let mut progress = Progress::new(rt, "exporting", is_told);
     let mut faults = Plain::new(faults);
-    let output = Counted::new(output, &mut progress);
-    let (end, is_unread) = print_export(rt, start, db, output, &mut faults);
+    let output = Watched::new(Counted::new(output, &mut progress));
+    let (end, is_unread) = match BufWriter::with_capacity(rt.alloc(), BUFFER, output) {
+        Ok(buffer) => {
+            let (end, output) = export_through(rt, start, db, buffer, &mut faults);
+            (end, output.is_unread())
+        }
+        Err(_) => (JobEnd::Told(tell_end(TextEnd::Memory, &mut faults)), false),
+    };
     progress.clear();
-    status(end, is_unread, &mut faults)
+    report_end(end, is_unread, &mut faults)
 }
 
-// Prints the registry of a file through a buffer. Also returns whether the reader of the output has
-// gone away.
-fn print_export<S: Start, O: Write + Drop, F: Output>(
+/// Prints the registry of a file through a buffer, and hands back the writer that this is over: if
+/// the end is `Told(0)`, all of the text went there. `start` is as for `open_file`.
+pub fn export_through<S: Start, O: Write + Drop, F: Output>(
     rt: &HostRuntime,
     start: S,
     db: &str,
-    output: O,
+    buffer: BufWriter<O>,
     faults: &mut F,
-) -> (JobEnd, bool) {
-    let Ok(buffer) = BufWriter::with_capacity(rt.alloc(), BUFFER, Watched::new(output)) else {
-        return (JobEnd::Told(tell_end(TextEnd::Memory, faults)), false);
-    };
+) -> (JobEnd, O)
+    ensures { ExportsThrough ⟦<FileFrom<S> as Disk>⟧ (image_at S.Start)
+        ⟦<Plain<BufWriter<O>> as Output>⟧ (record {
+          output = writer_contents O.contents buffer;
+          output_after = O.contents result.1;
+          faults = F.taken faults.old;
+          faults_after = F.taken faults.new;
+        }) result.0 }
+{
     let mut output = Plain::new(buffer);
-    let job: RegistryJob<Plain<Stdin>> = RegistryJob::Export;
-    let end = work_on_file(rt, start, db, job, &mut output, faults);
+    let job: FileJob<Plain<Stdin>> = FileJob::Work(RegistryJob::Export);
+    let end = do_in_files(rt, start, db, job, &mut output, faults);
     let mut buffer = output.into_inner();
     let end = match (end, buffer.flush()) {
         (JobEnd::Told(0), Err(_)) => JobEnd::FileFailed,
         _ => end,
     };
-    (end, buffer.get_ref().is_unread())
+    let (output, _) = buffer.into_parts();
+    (end, output)
 }
 
 fn run_lookup<O: Output, F: Output>(
@@ -174,7 +245,15 @@ fn run_lookup<O: Output, F: Output>(
     words: &LookupWords<'_>,
     output: &mut O,
     faults: &mut F,
-) -> JobEnd {
+) -> JobEnd
+    ensures { LooksUpInFile O.Output (record {
+      output = output.old;
+      output_after = output.new;
+      faults = F.taken faults.old;
+      faults_after = F.taken faults.new;
+      end = result;
+    }) }
+{
     let lookup = match read_words(rt.alloc(), words) {
         Ok(Ok(lookup)) => lookup,
         Ok(Err(_)) => return JobEnd::Replied(Err(Refusal::BadText)),
@@ -194,7 +273,16 @@ fn run_import<S: Start, O: Output, F: Output>(
     sender: (&str, Option<&str>),
     output: &mut O,
     faults: &mut F,
-) -> JobEnd {
+) -> JobEnd
+    ensures { ImportsFile ⟦<FileFrom<S> as Disk>⟧ (image_at S.Start) O.Output
+        sender.entry.0.now (text_given sender.entry.1) (record {
+          output = output.old;
+          output_after = output.new;
+          faults = F.taken faults.old;
+          faults_after = F.taken faults.new;
+          end = result;
+        }) }
+{
     let (db, ids) = files;
     match sender_of(rt.alloc(), sender) {
         Ok(sender) => match fs::open(rt, ids) {
@@ -215,7 +303,16 @@ fn bring_in_file<S: Start, O: Output, F: Output>(
     file: File,
     output: &mut O,
     faults: &mut F,
-) -> JobEnd {
+) -> JobEnd
+    ensures { DoesInFiles ⟦<FileFrom<S> as Disk>⟧ (image_at S.Start) O.Output
+        (ToWork (ToImport sender.0 sender.1 None)) (record {
+          output = output.old;
+          output_after = output.new;
+          faults = F.taken faults.old;
+          faults_after = F.taken faults.new;
+          end = result;
+        }) }
+{
     let (account, key) = sender;
     let mut progress = Progress::new(rt, "importing", rt.stderr().is_terminal());
     let job = RegistryJob::Import {
@@ -223,7 +320,7 @@ fn bring_in_file<S: Start, O: Output, F: Output>(
         key,
         input: Plain::new(Counted::new(file, &mut progress)),
     };
-    let end = work_on_file(rt, start, db, job, output, faults);
+    let end = do_in_files(rt, start, db, FileJob::Work(job), output, faults);
     progress.clear();
     end
 }
@@ -231,7 +328,12 @@ fn bring_in_file<S: Start, O: Output, F: Output>(
 fn sender_of(
     alloc: Global,
     sender: (&str, Option<&str>),
-) -> Result<(Account, Option<Key>), WordFault> {
+) -> Result<(Account, Option<Key>), WordFault>
+    ensures ok { IfOk result (λ s. (s.0 ≡ sender.entry.0.now)
+        × (s.1 ≡ text_given sender.entry.1)) }
+    ensures bad { IsErrOf result WordFault.Bad → IsBadSender sender.entry.0.now
+        (text_given sender.entry.1) }
+{
     let (account, key) = sender;
     let account = Account::of(alloc, account)?;
     match key {

@@ -2,11 +2,10 @@
 ghost use Rattle.std.specs.Prelude.{◌≡◌};
 ghost use Rattle.pid_file.specs.Told.{TriesLine};
 ghost use Rattle.pid_http.specs.Known.{LivesOn};
-ghost use Rattle.pid_http_listener.specs.Servings.{CountsStreams, IsLiveAt};
 ghost use Rattle.pid_service.specs.Registries.{is_live};
-ghost use Rattle.pid_cli_jobs.specs.Serving.{ReportsEnd, Serves, socket_line};
+ghost use Rattle.pid_cli_jobs.specs.Serving.{ReportsEnd, ReportsStreams, Serves, socket_line};
 ghost use Rattle.pid_cli_jobs.specs.Sessions.{IsPartOfSession};
-ghost use Rattle.pid_cli_jobs.specs.Steps.Serving.{IsLoopback};
+ghost use Rattle.pid_cli_jobs.specs.Steps.Serving.{GivesStreams, IsLoopback};
 
 use crate::job_end::JobEnd;
 use crate::replies::write_count;
@@ -90,24 +89,52 @@ fn report<O: Output, F: Output>(serving: Serving, output: &mut O, faults: &mut F
     }
 }
 
-// Serves so many connections of a listener.
-fn serve_listener<S: Alter + Drop>(
+// Gives the streams of so many connections to a server, one after the other, and reports how many
+// it was given. It knows nothing of the server, so it can't give it none and count some.
+fn give_streams<S: StreamServer, O: Output, F: Output>(
+    alloc: Global,
+    listener: &TcpListener,
+    server: &mut S,
+    connections: u32,
+    output: &mut O,
+    faults: &mut F,
+) -> JobEnd
+    ensures goes { S.goes server.old server.new }
+    ensures gives { GivesStreams S.StreamServer server.old server.new connections (record {
+      output = O.taken output.old;
+      output_after = O.taken output.new;
+      faults = F.taken faults.old;
+      faults_after = F.taken faults.new;
+    }) result }
+{
+    let serving = serve_on(alloc, listener, server, connections);
+    report(serving, output, faults)
+}
+
+// Serves a registry to so many connections of a listener.
+fn serve_listener<S: Alter + Drop, O: Output, F: Output>(
     alloc: Global,
     registry: &mut Registry<S>,
+    listener: (&TcpListener, u32),
     routes: &Routes,
-    listener: &TcpListener,
-    connections: u32,
-) -> Serving
+    output: &mut O,
+    faults: &mut F,
+) -> JobEnd
     ensures lives { LivesOn S.Store registry.old registry.new }
-    ensures counted { CountsStreams result.end connections result.streams }
-    ensures lasts { IsLiveAt result.end result.streams (is_live registry.new) }
+    ensures streams { ReportsStreams listener.entry.1 (is_live registry.new) (record {
+      output = O.taken output.old;
+      output_after = O.taken output.new;
+      faults = F.taken faults.old;
+      faults_after = F.taken faults.new;
+    }) result }
 {
+    let (listener, connections) = listener;
     let mut server = Server {
         alloc,
         registry,
         routes,
     };
-    serve_on(alloc, listener, &mut server, connections)
+    give_streams(alloc, listener, &mut server, connections, output, faults)
 }
 
 // The address of a port for clients on this machine, and for no others.
@@ -153,14 +180,8 @@ pub fn serve_registry<S: Alter + Drop, O: Output, F: Output>(
     let number = u64::from(port.number);
     match write_count("listening on 127.0.0.1:", number, output) {
         Ok(()) => {
-            let serving = serve_listener(
-                rt.alloc(),
-                registry,
-                &routes,
-                &listener,
-                port.connections,
-            );
-            report(serving, output, faults)
+            let listener = (&listener, port.connections);
+            serve_listener(rt.alloc(), registry, listener, &routes, output, faults)
         }
         Err(_) => JobEnd::FileFailed,
     }

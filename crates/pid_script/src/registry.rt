@@ -38,6 +38,8 @@ impl<S: Alter + Drop> Moderated for Registry<S> {
     fn export<O: Output>(&mut self, out: &mut O) -> Result<(), ExportFault> {
         pid_service::laws::clauses_meet_lives::<S>(); // proof only
         pid_service::laws::items_print_as_their_tree(); // proof only
+        // So the text is kept in memory and goes out whole. If it can't be, it goes out in parts.
+        let _ = Registry::export_length(self);
         Registry::export(self, out)
     }
 }

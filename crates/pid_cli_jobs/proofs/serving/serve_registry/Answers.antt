@@ -17,10 +17,7 @@ returns-in-Ok-write_count-clause-serves g c =
       listens = subst (λ n. Appends old between (count_line word n)) c.from-number.ensures
           (taken_whole old between (count_line word c.from-number.result) c.write_count.result
           c.in-Ok-write_count.field-0 c.in-Ok-write_count.is c.write_count.ensures);
-      serving = c.serve_listener-serving.result;
-      counted = c.serve_listener-serving.ensures.counted;
-      lasts = c.serve_listener-serving.ensures.lasts;
-      reports = c.report.ensures;
+      streams = c.serve_listener.ensures.streams;
     })
 
 pub returns-clause-serves : goal.returns-clause-serves

@@ -1,0 +1,35 @@
+-- Ends of jobs, by what they came to.
+use Rattle.std.specs.Prelude.{◌≡◌, ◌⊎◌, ℕ, List, Option, Result}
+use Rattle.std.proofs.Common.{refl, sym, ap, inl, inr}
+use Rattle.pid_file.specs.TextEnds.{status_of}
+use Rattle.pid_file.specs.declared.text_end.TextEnd.{TextEnd}
+use Rattle.pid_file.specs.declared.text_end.TextEnd.TheVariants as texts
+use Rattle.pid_moderation.specs.declared.command.Reply.{Reply}
+use Rattle.pid_moderation.specs.declared.refusal.Refusal.{Refusal}
+use Rattle.pid_cli_jobs.specs.declared.job_end.JobEnd.{JobEnd}
+use Rattle.pid_cli_jobs.specs.declared.job_end.JobEnd.TheVariants.{Told, Replied, FileFailed}
+use Rattle.pid_cli_jobs.specs.Ends.{PrintsReply}
+use Rattle.pid_cli_jobs.specs.Lookups.{end_of_unread}
+
+-- how a text that was not read ends a job
+pub unread_failed : (why : TextEnd) → (why ≡ texts.ReadFault) ⊎ (why ≡ texts.WriteFault)
+    → FileFailed ≡ end_of_unread why
+unread_failed why (inl is) = sym (ap end_of_unread is)
+unread_failed why (inr is) = sym (ap end_of_unread is)
+
+pub unread_told : (why : TextEnd) → (why ≡ texts.ReadFault → ⊥) → (why ≡ texts.WriteFault → ⊥)
+    → Told (status_of why) ≡ end_of_unread why
+unread_told texts.Done read write = refl
+unread_told (texts.Line line kind) read write = refl
+unread_told texts.TooManyEntries read write = refl
+unread_told texts.TooLarge read write = refl
+unread_told texts.Memory read write = refl
+unread_told texts.ReadFault read write = absurd (read refl)
+unread_told texts.WriteFault read write = absurd (write refl)
+
+-- nothing is printed of an end without a reply
+pub not_printed : (done : JobEnd) (taken : Option (List ℕ))
+    → ((reply : Result Reply Refusal) → done ≡ Replied reply → ⊥) → PrintsReply done done taken taken
+not_printed (Told status) taken no_reply = (refl, refl)
+not_printed (Replied reply) taken no_reply = absurd (no_reply reply refl)
+not_printed FileFailed taken no_reply = (refl, refl)

@@ -1,0 +1,18 @@
+use Rattle.std.proofs.Common.{ap, refl}
+use Rattle.pid_cli_jobs.specs.declared.job_end.JobEnd.TheVariants.{Told}
+use Rattle.pid_cli_jobs.specs.OnFiles.{InFiles, NoFiles}
+use Rattle.pid_cli_jobs.proofs.on_files.do_in_files.Goals as goal
+
+pub returns-in-Ok : goal.returns-in-Ok
+returns-in-Ok g c = InFiles (record {
+  conn = c.in-Ok.conn;
+  opens = c.in-Ok.ensures;
+  there = c.do_there.ensures;
+})
+
+pub returns-in-Err : goal.returns-in-Err
+returns-in-Err g c = NoFiles c.in-Err.fault (record {
+  silent = refl;
+  told = c.tell_unopened.ensures.told;
+  ends = ap Told c.tell_unopened.ensures.status;
+})

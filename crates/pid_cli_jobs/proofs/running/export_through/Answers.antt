@@ -1,0 +1,35 @@
+use Rattle.std.proofs.Common.{ap, refl, sym, inl, inr, ◌∙◌}
+use Rattle.std.specs.Io.Buffered.{writer_contents}
+use Rattle.pid_cli_jobs.specs.Ends.{exit_status}
+use Rattle.pid_cli_jobs.proofs.Exports.{kept_through}
+use Rattle.pid_cli_jobs.proofs.running.export_through.Goals as goal
+use Rattle.pid_cli_jobs.proofs.running.export_through.Goals.{in-Told-eq0-Err, in_default, in_default-2, in_default-3}
+
+pub returns : goal.returns
+returns g c = record {
+  into = record {
+    output = c.new-output.result;
+    output_after = c.do_in_files-end.new.output;
+    faults = g.F.Output.taken c.args.faults.now;
+    faults_after = g.F.Output.taken c.do_in_files-end.new.faults;
+    end = c.do_in_files-end.result;
+  };
+  exports = c.do_in_files-end.ensures;
+  begins = ap (writer_contents g.O.Write.contents) c.new-output.ensures.wraps;
+  reports = (refl, refl);
+  ends = elim c.match-end.branch [
+    | in-Told-eq0-Err w ↦ inr w.end-is
+    | in_default w ↦ inl w.end-is
+    | in_default-2 w ↦ inl w.end-is
+    | in_default-3 w ↦ inl w.end-is
+  ];
+  sent = λ done. elim c.match-end.branch [
+    | in-Told-eq0-Err w ↦ let failed = w.end-is in absurd cc
+    | in_default w ↦ kept_through g.O.Write.contents c.do_in_files-end.new.output.inner c.into_inner-buffer.result
+        c.flush.new.self c.into_parts-output.result.0 c.into_inner-buffer.ensures w.in_default.ensures.ok
+        c.into_parts-output.ensures.inner w.in_default.ensures.bytes
+    | in_default-2 w ↦ absurd (w.in_default.field-0-0-test.1
+        (ap exit_status (sym w.in_default.is-0 ∙ sym w.end-is ∙ done)))
+    | in_default-3 w ↦ absurd (w.in_default.not-Told-0 0 (sym w.end-is ∙ done))
+  ];
+}

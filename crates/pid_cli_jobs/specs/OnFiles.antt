@@ -1,0 +1,67 @@
+-- Jobs on the files of a registry, or on a new one in memory. Choices of this project.
+use Rattle.std.specs.Prelude.{Option}
+use Rattle.sqlite.specs.Files.{over_files}
+use Rattle.sqlite.specs.Held.{Held, IsNew, state}
+use Rattle.sqlite.specs.Steps.{IsEmpty, over_memory}
+use Rattle.sqlite_disk.specs.declared.Disk as disk
+use Rattle.sqlite_store.specs.declared.store.FileStore.{FileStore}
+use Rattle.sqlite_trees.specs.declared.memory.MemStore.{MemStore}
+use Rattle.sqlite_trees.specs.declared.store.Store.{Ghosts}
+use Rattle.sqlite_wal.specs.Recovery.{Image}
+use Rattle.pid_file.specs.declared.io.Input as inputs
+use Rattle.pid_file.specs.declared.io.Output as outputs
+use Rattle.pid_tables_rows.specs.declared.fault.TableFault.{TableFault}
+use Rattle.pid_tables_rows.specs.declared.fault.TableFault.TheVariants.{Memory}
+use Rattle.pid_cli_jobs.specs.declared.on_files.FileJob.{FileJob}
+use Rattle.pid_cli_jobs.specs.declared.on_files.FileJob.TheVariants as jobs
+use Rattle.pid_cli_jobs.specs.Files.{OpensFiles}
+use Rattle.pid_cli_jobs.specs.Jobs.{Work, Wrote, work_of}
+use Rattle.pid_cli_jobs.specs.Sessions.{Migrates, TellsUnopened, WorksOn}
+
+-- what a job is to do on files
+pub data FileTask : Type 0 where
+  ToWork : Work → FileTask
+  ToMigrate : FileTask
+
+abbrev pub file_task_of : {I : Type 0} → inputs.Ghosts I → FileJob I → FileTask
+file_task_of reader (jobs.Work job) = ToWork (work_of reader job)
+file_task_of reader jobs.Migrate = ToMigrate
+
+-- a session of the registry on a connection, or a migration of its tables
+abbrev pub DoesOn : {S W : Type 0} → (store : Ghosts S) → outputs.Ghosts W → Held S → FileTask
+    → Wrote W → Option (Held S) → Type 0
+DoesOn store writer conn (ToWork work) w back = WorksOn store writer conn work w back
+DoesOn store writer conn ToMigrate w back = Migrates store writer conn w back
+
+module _ {E W : Type 0} (files : disk.Ghosts E) (writer : outputs.Ghosts W) where
+  -- the same, on a connection to files, and something came back
+  pub record DoesThere (conn : Held (FileStore E files)) (task : FileTask) (w : Wrote W)
+      : Type 0 where
+    pub back : Option (Held (FileStore E files))
+    pub does : DoesOn over_files writer conn task w back
+
+module _ {E W : Type 0} (files : disk.Ghosts E) (image : Image) (writer : outputs.Ghosts W) where
+  -- a connection was opened on what the files held, and the task was done there
+  pub record OpensAndDoes (task : FileTask) (w : Wrote W) : Type 0 where
+    pub conn : Held (FileStore E files)
+    pub opens : OpensFiles image conn
+    pub there : DoesThere files writer conn task w
+
+  -- a job on the files, or why they were not opened
+  pub data DoesInFiles (task : FileTask) (w : Wrote W) : Type 0 where
+    InFiles : OpensAndDoes task w → DoesInFiles task w
+    NoFiles : (fault : TableFault) → TellsUnopened fault w → DoesInFiles task w
+
+module _ {W : Type 0} (memory : Ghosts MemStore) (writer : outputs.Ghosts W) where
+  -- a new connection to an empty database was opened in memory, and this was done there
+  pub record MakesAndWorks (work : Work) (w : Wrote W) : Type 0 where
+    pub conn : Held MemStore
+    pub empty : IsEmpty (state over_memory conn)
+    pub fresh : IsNew conn
+    pub back : Option (Held MemStore)
+    pub works : WorksOn memory writer conn work w back
+
+  -- a job on a new registry, or out of memory
+  pub data WorksOnNew (work : Work) (w : Wrote W) : Type 0 where
+    InMemory : MakesAndWorks work w → WorksOnNew work w
+    NoMemory : TellsUnopened Memory w → WorksOnNew work w
