@@ -18,6 +18,10 @@ def small(room):
     return room.registry(SMALL)
 
 
+def middle(room):
+    return room.registry(MIDDLE)
+
+
 def large(room):
     return room.registry(LARGE)
 
@@ -85,7 +89,7 @@ def changes_then(room, database, asks, count):
 
 def published_after_change(room):
     """The first request after an item was renamed, beside one walk of the items."""
-    database, count, asked = room.registry(MIDDLE), 3, get("/pci.ids")
+    database, count, asked = middle(room), 3, get("/pci.ids")
     without = changes_then(room, database, [], count)
     took = (changes_then(room, database, [asked], count) - without) / count
     export = Profile(room.folder, [room.program, "export", "--db", database])
@@ -95,12 +99,12 @@ def published_after_change(room):
 # -- beside a smaller registry
 
 
-def of_both_sizes(target):
-    """The same request of a large registry and of a small one."""
+def of_both_sizes(target, smaller=small):
+    """The same request of a large registry and of a smaller one."""
 
     def measure(room):
         times = []
-        for database in large(room), small(room):
+        for database in large(room), smaller(room):
             asked = target(database)
             with our_server(room, database) as server:
                 times.append(server.ask(asked))
@@ -109,8 +113,8 @@ def of_both_sizes(target):
     return measure
 
 
-def pending(_):
-    return "/pending"
+def same(target):
+    return lambda _: target
 
 
 def nothing_new(database):
@@ -268,8 +272,16 @@ ROWS = [
         published(large), 10, 4),
     Row("pci-ids-changed", "`GET /pci.ids`, first after a change / `export`'s one walk", OURS,
         published_after_change, 1.2, 0.1),
-    Row("pending", "`GET /pending`, ten of 1,000,000 / ten of 1,000", OURS, of_both_sizes(pending),
-        5, 1.5),
+    Row("pending", "`GET /pending`, ten of 1,000,000 / ten of 1,000", OURS,
+        of_both_sizes(same("/pending")), 5, 1.5),
+    Row("queue", "`GET /queue`, so", OURS, of_both_sizes(same("/queue")), 5),
+    Row("submissions", "`GET /submissions`, the latest of 1,000,000 / of 1,000", OURS,
+        of_both_sizes(same("/submissions")), 5),
+    Row("submissions-none", "the same of an author with none, 1,000,000 / 10,000 submissions", OURS,
+        of_both_sizes(same("/submissions?author=nobody"), middle), 5),
+    Row("account", "`GET /account`, 1,000,000 submissions / 1,000", OURS,
+        of_both_sizes(same("/account?who=root")), 5),
+    Row("status", "`GET /status`, so", OURS, of_both_sizes(same("/status")), 5),
     Row("changes", "`GET /changes`, nothing new, 100,000 items / 1,000 items", OURS,
         of_both_sizes(nothing_new), 5, 1.5),
     Row("changes-all", "`GET /changes`, 100,000 items, all changed / selects", KITS,
