@@ -1,6 +1,6 @@
 -- What a script comes to: the replies to its lines, and how it ends. All are choices of this
 -- project.
-use Rattle.std.specs.Prelude.{◌≡◌, ◌⊎◌, ◌≤◌, ◌<◌, ◌+◌, ◌-◌, ◌*◌, ◌^◌, min, length, ℕ, false}
+use Rattle.std.specs.Prelude.{◌≡◌, ◌≤◌, ◌<◌, ◌+◌, ◌-◌, ◌*◌, ◌^◌, min, length, ℕ, false}
 use Rattle.std.specs.Prelude.{List, [], ◌∷◌, ◌++◌, Some, IsSome, Option}
 use Rattle.pid_file.specs.declared.io.ReadFault.{ReadFault as InputFault}
 use Rattle.pid_file.specs.declared.io.WriteFault.{WriteFault as OutputFault}

@@ -11,9 +11,7 @@ ghost use Rattle.std.specs.Prelude.{
   vec_capacity,
   ◌++◌,
   ℕ,
-  List,
   [],
-  Option,
   length,
   IsSome,
   IfSome,
@@ -21,16 +19,21 @@ ghost use Rattle.std.specs.Prelude.{
   OnOk,
   Err,
 };
-ghost use Rattle.pid_reader.specs.Lines.{drop_cr, lines_of};
-ghost use Rattle.pid_moderation.specs.History.{History};
+ghost use Rattle.pid_reader.specs.Lines.{drop_cr};
 ghost use Rattle.pid_script.specs.ScriptLines.{ask_of};
-ghost use Rattle.pid_script.specs.Steps.Progress.{Answered, HasAnswered, Ended, EndsText};
+ghost use Rattle.pid_script.specs.Steps.Progress.{
+  AnswersPiece,
+  AnswersLast,
+  EndsInPiece,
+  EndsInLast,
+  EndsAll,
+};
 ghost use Rattle.pid_script.specs.Steps.Progress.{script_end};
 ghost use Rattle.pid_script.specs.Calling.{CallsGo};
 ghost use Rattle.pid_script.specs.Steps.Output.{out, AnswersLine, Unfit};
 ghost use Rattle.pid_script.specs.Scripts.{passage, IsScript, KeepsFaults, MakesReads};
 ghost use Rattle.pid_service_laws.specs.CallLaws.{StaysClean};
-ghost use Rattle.pid_script.specs.RegistryStates.{OverStanding, ShowsOrHasFailed};
+ghost use Rattle.pid_script.specs.RegistryStates.{OverStanding};
 
 use crate::answering::answer_line;
 use crate::line::LONGEST_LINE;
@@ -123,20 +126,12 @@ fn take_lines<R: Moderated, O: Output>(
 ) -> Result<(), LineEnd>
     ensures honest { StaysClean R.showing registry.old registry.new }
     ensures calls { CallsGo R.showing registry.old registry.new }
-    ensures answered { R.showing.is_clean registry.new
-        → (h : History) (start : Option (List ℕ)) (first : _) (text : List ℕ)
-        → ShowsOrHasFailed R.Moderated first h
-        → HasAnswered R.Moderated h start first registry.old
-        (out (O.taken output.old) held.old.items) kept.old.items text
-        → OnOk result (HasAnswered R.Moderated h start first registry.new
-        (out (O.taken output.new) held.new.items) kept.new.items (text ++ piece.now)) }
-    ensures ended { R.showing.is_clean registry.new
-        → (h : History) (start : Option (List ℕ)) (first : _) (text more : List ℕ)
-        → ShowsOrHasFailed R.Moderated first h
-        → HasAnswered R.Moderated h start first registry.old
-        (out (O.taken output.old) held.old.items) kept.old.items text
-        → IfErr result (λ e. Ended R.Moderated e h start first registry.new
-        (out (O.taken output.new) held.new.items) (lines_of ((text ++ piece.now) ++ more))) }
+    ensures answered { AnswersPiece R.Moderated result registry.old registry.new
+        (out (O.taken output.old) held.old.items) (out (O.taken output.new) held.new.items)
+        kept.old.items kept.new.items piece.now }
+    ensures ended { EndsInPiece R.Moderated result registry.old registry.new
+        (out (O.taken output.old) held.old.items) (out (O.taken output.new) held.new.items)
+        kept.old.items piece.now }
     ensures fault { result ≡ Err LineEnd.WriteFault → IsSome (O.write_fault output.new) }
 {
     let mut rest = piece;
@@ -164,20 +159,12 @@ fn take_piece<R: Moderated, O: Output>(
     ensures honest { StaysClean R.showing registry.old registry.new }
     ensures calls { CallsGo R.showing registry.old registry.new }
     ensures empty { OnOk result (held.new.items ≡ []) }
-    ensures answered { R.showing.is_clean registry.new
-        → (h : History) (start : Option (List ℕ)) (first : _) (text : List ℕ)
-        → ShowsOrHasFailed R.Moderated first h
-        → HasAnswered R.Moderated h start first registry.old
-        (out (O.taken output.old) held.old.items) kept.old.items text
-        → OnOk result (HasAnswered R.Moderated h start first registry.new
-        (out (O.taken output.new) held.new.items) kept.new.items (text ++ piece.now)) }
-    ensures ended { R.showing.is_clean registry.new
-        → (h : History) (start : Option (List ℕ)) (first : _) (text more : List ℕ)
-        → ShowsOrHasFailed R.Moderated first h
-        → HasAnswered R.Moderated h start first registry.old
-        (out (O.taken output.old) held.old.items) kept.old.items text
-        → IfErr result (λ e. Ended R.Moderated e h start first registry.new
-        (out (O.taken output.new) held.new.items) (lines_of ((text ++ piece.now) ++ more))) }
+    ensures answered { AnswersPiece R.Moderated result registry.old registry.new
+        (out (O.taken output.old) held.old.items) (out (O.taken output.new) held.new.items)
+        kept.old.items kept.new.items piece.now }
+    ensures ended { EndsInPiece R.Moderated result registry.old registry.new
+        (out (O.taken output.old) held.old.items) (out (O.taken output.new) held.new.items)
+        kept.old.items piece.now }
     ensures fault { result ≡ Err LineEnd.WriteFault → IsSome (O.write_fault output.new) }
 {
     if let Err(end) = take_lines(alloc, registry, output, held, kept, piece) {
@@ -196,20 +183,12 @@ fn answer_last<R: Moderated, O: Output>(
 ) -> Result<(), LineEnd>
     ensures honest { StaysClean R.showing registry.old registry.new }
     ensures calls { CallsGo R.showing registry.old registry.new }
-    ensures answered { R.showing.is_clean registry.new
-        → (h : History) (start : Option (List ℕ)) (first : _) (text : List ℕ)
-        → ShowsOrHasFailed R.Moderated first h
-        → HasAnswered R.Moderated h start first registry.old
-        (out (O.taken output.old) held.old.items) kept.now text
-        → OnOk result (Answered R.Moderated h start first registry.new
-        (out (O.taken output.new) held.new.items) (lines_of text)) }
-    ensures ended { R.showing.is_clean registry.new
-        → (h : History) (start : Option (List ℕ)) (first : _) (text : List ℕ)
-        → ShowsOrHasFailed R.Moderated first h
-        → HasAnswered R.Moderated h start first registry.old
-        (out (O.taken output.old) held.old.items) kept.now text
-        → IfErr result (λ e. Ended R.Moderated e h start first registry.new
-        (out (O.taken output.new) held.new.items) (lines_of text)) }
+    ensures answered { AnswersLast R.Moderated result registry.old registry.new
+        (out (O.taken output.old) held.old.items) (out (O.taken output.new) held.new.items)
+        kept.now }
+    ensures ended { EndsInLast R.Moderated result registry.old registry.new
+        (out (O.taken output.old) held.old.items) (out (O.taken output.new) held.new.items)
+        kept.now }
     ensures fault { result ≡ Err LineEnd.WriteFault → IsSome (O.write_fault output.new) }
 {
     if kept.is_empty() {
@@ -228,13 +207,9 @@ fn end_text<R: Moderated, O: Output>(
 ) -> Result<(), LineEnd>
     ensures honest { StaysClean R.showing registry.old registry.new }
     ensures calls { CallsGo R.showing registry.old registry.new }
-    ensures ends { R.showing.is_clean registry.new
-        → (h : History) (start : Option (List ℕ)) (first : _) (text : List ℕ)
-        → ShowsOrHasFailed R.Moderated first h
-        → HasAnswered R.Moderated h start first registry.old
-        (out (O.taken output.old) held.old.items) kept.now text
-        → EndsText R.Moderated result h start first registry.new
-        (out (O.taken output.new) held.new.items) text }
+    ensures ends { EndsAll R.Moderated result registry.old registry.new
+        (out (O.taken output.old) held.old.items) (out (O.taken output.new) held.new.items)
+        kept.now }
     ensures fault { result ≡ Err LineEnd.WriteFault → IsSome (O.write_fault output.new) }
 {
     if let Err(end) = answer_last(alloc, registry, output, held, kept) {

@@ -1,5 +1,5 @@
 -- How far a script has come within the text that was read.
-use Rattle.std.specs.Prelude.{◌≡◌, ℕ, List, [], ◌++◌, Option, Result, Ok, Err}
+use Rattle.std.specs.Prelude.{◌≡◌, ℕ, List, [], ◌++◌, Option, Result, Ok, Err, IfErr, OnOk}
 use Rattle.std.specs.Io.KnownBytes.{Appends}
 use Rattle.pid_reader.specs.Lines.{lines_of}
 use Rattle.pid_reader.specs.WholeLines.{whole_lines, open_part}
@@ -15,7 +15,7 @@ use Rattle.pid_script.specs.Replies.{replies, commands_of_lines, history_after}
 use Rattle.pid_script.specs.Steps.Output.{Out}
 use Rattle.pid_script.specs.Scripts.{NoneTooLong, NoneCalls, passage, AnswersLines, StopsAtLine}
 use Rattle.pid_script.specs.Scripts.{EndsTooLong, FailsToWrite}
-use Rattle.pid_script.specs.RegistryStates.{Becomes}
+use Rattle.pid_script.specs.RegistryStates.{Becomes, ShowsOrHasFailed}
 
 module _ {R : Type 0} (registry : Ghosts R) where
   -- The lines were answered. Of the replies to those that wait, none of which is a command, some
@@ -57,6 +57,41 @@ module _ {R : Type 0} (registry : Ghosts R) where
   EndsText (Ok x) h start old new now text =
       AnswersLines registry h (passage old new start now.taken) (lines_of text)
   EndsText (Err end) h start old new now text = Ended end h start old new now (lines_of text)
+
+  -- whatever the text before is that was answered so far, over whatever history
+  abbrev pub FromAnswered : R → R → Out → List ℕ
+      → (History → Option (List ℕ) → R → List ℕ → Type 0) → Type 0
+  FromAnswered old new was kept Holds = registry.showing.is_clean new → (h : History)
+      (start : Option (List ℕ)) (first : R) (text : List ℕ) → ShowsOrHasFailed registry first h
+      → HasAnswered h start first old was kept text → Holds h start first text
+
+  -- the text goes on with a piece, and it is answered so far too
+  abbrev pub AnswersPiece : Result (Unit {0}) LineEnd → R → R → Out → Out → (kept kept_after
+      piece : List ℕ) → Type 0
+  AnswersPiece result old new was now kept kept_after piece = FromAnswered old new was kept
+      (λ h start first text. OnOk result
+      (HasAnswered h start first new now kept_after (text ++ piece)))
+
+  -- a line of the piece ended it, whatever more comes
+  abbrev pub EndsInPiece : Result (Unit {0}) LineEnd → R → R → Out → Out → (kept piece : List ℕ)
+      → Type 0
+  EndsInPiece result old new was now kept piece = registry.showing.is_clean new → (h : History)
+      (start : Option (List ℕ)) (first : R) (text more : List ℕ)
+      → ShowsOrHasFailed registry first h → HasAnswered h start first old was kept text
+      → IfErr result (λ e. Ended e h start first new now (lines_of ((text ++ piece) ++ more)))
+
+  -- the text has ended, and its last line is answered, or ended it
+  abbrev pub AnswersLast : Result (Unit {0}) LineEnd → R → R → Out → Out → List ℕ → Type 0
+  AnswersLast result old new was now kept = FromAnswered old new was kept
+      (λ h start first text. OnOk result (Answered h start first new now (lines_of text)))
+
+  abbrev pub EndsInLast : Result (Unit {0}) LineEnd → R → R → Out → Out → List ℕ → Type 0
+  EndsInLast result old new was now kept = FromAnswered old new was kept
+      (λ h start first text. IfErr result (λ e. Ended e h start first new now (lines_of text)))
+
+  abbrev pub EndsAll : Result (Unit {0}) LineEnd → R → R → Out → Out → List ℕ → Type 0
+  EndsAll result old new was now kept = FromAnswered old new was kept
+      (λ h start first text. EndsText result h start first new now text)
 
 -- the end of a script that such an end makes
 abbrev pub script_end : Result (Unit {0}) LineEnd → ScriptEnd
