@@ -185,7 +185,8 @@ class Counts:
             self.add(report.nodeid, (0, 1, 0))
 
     def pytest_report_teststatus(self, report):
-        noted = dict(report.user_properties)
+        # The report on a file that cannot be collected has none.
+        noted = dict(getattr(report, "user_properties", ()))
         if report.when == "call" and report.passed and "cases" in noted:
             passed = noted["cases"][0]
             return "passed", ".", f"{passed} passed, {noted['seconds']:.1f} s"
