@@ -27,13 +27,15 @@ def imported(name):
 
 
 def export_line(room):
-    """One export of an open registry."""
+    """The first export of an open registry: the text is kept from then on."""
     ours, theirs = room.imported("100,000 items")[:2]
     size = len(ran([room.program, "export", "--db", ours]))
-    with Script(room.script(ours)) as script:
-        least = min(script.time_of_export(size) for _ in range(ROUNDS))
+    times = []
+    for _ in range(ROUNDS):
+        with Script(room.script(ours)) as script:
+            times.append(script.time_of_export(size))
     [whole] = in_turn([[room.sqlite, theirs, "export", "1"]], rounds=9)
-    return Figures(least, whole - room.idle)
+    return Figures(min(times), whole - room.idle)
 
 
 def export_process(room):
