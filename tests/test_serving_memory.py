@@ -26,6 +26,13 @@ VENDORS = b"".join(b"%04x  %s\n" % (vendor, b"n" * 56) for vendor in range(65_53
 # What a request may take beside what it holds, in KiB: buffers, and pages of the file.
 FEW = 512
 
+# What a request gets that finds no room.
+NO_ROOM = (
+    b"",
+    reply("503 Service Unavailable", JSON, refusal(16, "Memory")),
+    reply("503 Service Unavailable", TEXT, b"refused 16 Memory\n"),
+)
+
 # What is taken at once in such a size is given back at once, and does not hide what is taken next
 # (mallopt(3)).
 ENVIRONMENT = dict(os.environ, MALLOC_MMAP_THRESHOLD_="131072")
@@ -189,13 +196,14 @@ def real_file(measured, folder):
 
 def limited(cases, database):
     """A server that may take a MiB more than it has: files and the text pass through. A form and
-    lists do not fit: their connections end without a reply, and the server goes on."""
+    lists do not fit: they are refused, or their connections end without a reply, and the server
+    goes on."""
     requests = {
         "the text of 4 MiB": (question(b"/pci.ids"), reply("200 OK", TEXT, HEADER + VENDORS)),
         "a file of 4 MiB": (posted("/import", "root", VENDORS), counts(0, 65_536)),
-        "a form of 4 MiB": (posted("/comment", "root", FORM), b""),
-        "a list of 65,536 items": (question(b"/children"), b""),
-        "the same list as text": (question(b"/children?format=text"), b""),
+        "a form of 4 MiB": (posted("/comment", "root", FORM), None),
+        "a list of 65,536 items": (question(b"/children"), None),
+        "the same list as text": (question(b"/children?format=text"), None),
         "a small form": (
             posted("/submit", "root", b"path=PC/8086&name=Intel"),
             reply("200 OK", JSON, b'{"num":1,"ok":true}'),
@@ -209,7 +217,10 @@ def limited(cases, database):
         size = server.told("VmSize") * KIB + 2 * FEW * KIB
         resource.prlimit(server.process.pid, resource.RLIMIT_AS, (size, size))
         for name, (sent, want) in requests.items():
-            cases.equal(f"little memory: {name}", server.answered(sent), want)
+            answered = server.answered(sent)
+            if want is None and answered in NO_ROOM:
+                want = answered
+            cases.equal(f"little memory: {name}", answered, want)
 
 
 def test_memory(cases, folder):
