@@ -1,26 +1,26 @@
 -- What makes rows of accounts those of a registry.
-use Rattle.std.proofs.Common.{◌≡◌, ℕ, List, codes, ap}
-use Rattle.std.specs.Prelude.{IsUtf8}
-use Rattle.std.specs.List.{All, Any}
+use Rattle.std.proofs.Common.{◌≡◌, inl, inr, ℕ, Bool, List, [], ◌∷◌, ◌++◌, IsTrue, refl, sym, ap, ◌∙◌, codes}
+use Rattle.std.specs.Prelude.{◌↔◌, ◌||◌, IsUtf8}
+use Rattle.std.proofs.lemmas.Bool.{or_cases, or_left, or_right}
+use Rattle.sqlite.specs.declared.types.Value.{Value}
 use Rattle.sqlite.specs.declared.types.Value.TheVariants.{Text}
 use Rattle.sqlite.specs.Order.{Row, column}
-use Rattle.pid_tables_rows.specs.TableRows.{number}
-use Rattle.pid_tables_check.specs.Conditions.{IsAccountRow, AreAccounts}
-use Rattle.pid_tables_check.proofs.Each.{each_member, each_place, some_member, some_place}
+use Rattle.pid_tables_check.specs.Conditions.{HasValue, IsAccountRow}
+use Rattle.pid_tables_check.proofs.ItemFacts.{split, last, value_before}
 use Rattle.pid_tables_check.proofs.WordTexts.{account_utf8}
 
 pub account_named : (r : Row) → IsAccountRow r → (name : List ℕ) × (column r 0 ≡ Text name) × IsUtf8 name
 account_named r row = (row.name, ap (λ (x : Row). column x 0) row.is, account_utf8 row.name row.good)
 
-module _ (rows : List Row) where
-  pub accounts_made : All IsAccountRow rows → Any (λ r. column r 0 ≡ Text (codes "root")) rows → Any (λ r. column r 1 ≡ number 3) rows → AreAccounts rows
-  accounts_made all root administrator = record { each = each_member IsAccountRow rows all; root = some_member _ rows root; administrator = some_member _ rows administrator }
+-- one row more, and some row has the value
+pub value_or : (rows : List Row) (r : Row) (at : ℕ) (v : Value) (was row : Bool) → (IsTrue was ↔ HasValue rows at v) → (IsTrue row ↔ (column r at ≡ v)) → IsTrue (was || row) ↔ HasValue (rows ++ r ∷ []) at v
+value_or rows r at v was row so_far here = (
+  λ yes. elim (or_cases was row yes) [ inl early ↦ value_before rows r at v (so_far.0 early) | inr new ↦ (r, last rows r, here.0 new) ],
+  λ it. elim (split rows r it.0 it.1) [
+    | inl early ↦ or_left was row (so_far.1 (it.0, early, it.2))
+    | inr same ↦ or_right was row (here.1 (ap (λ (x : Row). column x at) (sym same) ∙ it.2))
+  ],
+)
 
-  pub rows_of : AreAccounts rows → All IsAccountRow rows
-  rows_of good = each_place IsAccountRow rows good.each
-
-  pub root_of : AreAccounts rows → Any (λ r. column r 0 ≡ Text (codes "root")) rows
-  root_of good = some_place _ rows good.root.0 good.root.1 good.root.2
-
-  pub administrator_of : AreAccounts rows → Any (λ r. column r 1 ≡ number 3) rows
-  administrator_of good = some_place _ rows good.administrator.0 good.administrator.1 good.administrator.2
+pub root_utf8 : IsUtf8 (codes "root")
+root_utf8 = account_utf8 (codes "root") refl

@@ -1,11 +1,11 @@
 -- The set of the paths of items, and what makes rows of items those of a registry.
-use Rattle.std.proofs.Common.{◌≡◌, ◌⊎◌, inl, inr, ℕ, ◌+◌, ◌<◌, ◌≤◌, List, [], ◌∷◌, ◌++◌, length, get_or, take, Bool, true, false, cond, Some, refl, sym, ap, subst, ◌∙◌, arith}
-use Rattle.std.specs.List.{All, list_any}
+use Rattle.std.proofs.Common.{◌≡◌, ◌⊎◌, inl, inr, ℕ, ◌≤◌, List, [], ◌∷◌, ◌++◌, length, Bool, IsTrue, true, false, cond, refl, sym, ap, subst, ◌∙◌, arith}
+use Rattle.std.specs.Prelude.{◌↔◌}
+use Rattle.std.specs.List.{list_any}
 use Rattle.std.specs.Ordering.{is_eq}
 use Rattle.std.specs.BTreeSet.{BTreeSet, contains}
 use Rattle.std.specs.Cmp.Lexicographic.{nat_list_cmp_total}
 use Rattle.std.proofs.lemmas.Cmp.{tied_itself}
-use Rattle.std.proofs.lemmas.List.{take_more, take_all}
 use Rattle.sqlite.specs.declared.types.Value.{Value}
 use Rattle.sqlite.specs.declared.types.Value.TheVariants.{Text}
 use Rattle.sqlite.specs.Order.{Row, column}
@@ -18,8 +18,8 @@ use Rattle.pid_moderation.specs.CheckTables.{most_items}
 use Rattle.pid_tables_rows.proofs.SetLemmas.{tied}
 use Rattle.pid_file.proofs.Kin.{same_path, parent_in_range}
 use Rattle.pid_tables_check.specs.Conditions.{HasValue, HasItemRow, AreItems}
-use Rattle.pid_tables_check.specs.Steps.PathSets.{ArePathsOf, HasPathText, IsItemAmong}
-use Rattle.pid_tables_check.proofs.Each.{each_member, each_place}
+use Rattle.pid_tables_check.specs.Steps.PathSets.{ArePathsOf, HasParent, HasPath, HasPathText, HasEachParent, IsItemAlone}
+use Rattle.pid_tables_check.specs.Steps.Keeping.{AreEach, IsPartJudged}
 
 -- ---- a list with one more element
 
@@ -43,6 +43,19 @@ value_before rows r at v h = (h.0, before rows r h.0 h.1, h.2)
 
 pub texts_same : (p q : List ℕ) → Text p ≡ Text q → p ≡ q
 texts_same p q e = cc
+
+-- one row more, and each is so
+pub one_row : (Is : Row → Type 0) (rows : List Row) (r : Row) (good row next : Bool) → (IsTrue next ↔ (IsTrue good × IsTrue row)) → (IsTrue row ↔ Is r) → IsPartJudged (AreEach Is) rows good → IsPartJudged (AreEach Is) (rows ++ r ∷ []) next
+one_row Is rows r good row next both one are = (
+  λ yes x h.
+      let each = both.0 yes in
+      elim (split rows r x h) [ inl early ↦ are.0 each.0 x early | inr same ↦ subst Is (sym same) (one.0 each.1) ],
+  λ all. both.1 (are.1 (λ x h. all x (before rows r x h)), one.1 (all r (last rows r))),
+)
+
+-- each of no rows is
+pub no_row : (Is : Row → Type 0) → IsPartJudged (AreEach Is) [] true
+no_row Is = (λ yes r h. absurd h, λ all. refl)
 
 -- ---- the set
 
@@ -85,12 +98,6 @@ path_added paths next rows r p in_range is added are path = (
   ]),
 )
 
-pub paths_whole : (paths : BTreeSet Path) (rows : List Row) (i : ℕ) → length rows ≤ i → ArePathsOf paths (take i rows) → ArePathsOf paths rows
-paths_whole paths rows i all are = subst (ArePathsOf paths) (take_all i rows all) are
-
-pub paths_step : (paths : BTreeSet Path) (rows : List Row) (i : ℕ) (r : Row) → i < length rows → get_or rows i r ≡ r → ArePathsOf paths (take i rows ++ r ∷ []) → ArePathsOf paths (take (i + 1) rows)
-paths_step paths rows i r less is are = subst (ArePathsOf paths) (sym (take_more rows i r less ∙ ap (λ x. take i rows ++ x ∷ []) is)) are
-
 module _ (paths : BTreeSet Path) (rows : List Row) (are : ArePathsOf paths rows) (p : Path) where
   pub path_known : contains path_cmp paths p ≡ true → HasItemRow rows p
   path_known there = let it = (are p).0 there in subst (λ t. HasValue rows 0 (Text t)) it.2 it.3
@@ -106,33 +113,48 @@ two (x ∷ []) e = absurd (omega (arith, e))
 two (x ∷ y ∷ []) e = refl
 two (x ∷ y ∷ z ∷ r) e = absurd (omega (arith, e))
 
-pub among_made : (paths : BTreeSet Path) (r : Row) (p : Path) → length r ≡ 2 → IsPath p → column r 0 ≡ Text (path_text p) → ((name : List ℕ) × (column r 1 ≡ Text name) × (is_name name ≡ true))
-    → ((above : Path) → parent_of p ≡ Some above → contains path_cmp paths above ≡ true) → IsItemAmong paths r
-among_made paths r p len range is name parent =
-    record { path = p; name = name.0; is = two r len ∙ (λ i. is i ∷ name.1 i ∷ []); in_range = range; good = name.2; parent = parent }
+module _ (r : Row) where
+  pub item_made : length r ≡ 2 → HasPath r → ((name : List ℕ) × (column r 1 ≡ Text name) × (is_name name ≡ true)) → IsItemAlone r
+  item_made len at name = record { path = at.0; name = name.0; is = two r len ∙ (λ i. at.2 i ∷ name.1 i ∷ []); in_range = at.1; good = name.2 }
 
-pub among_named : (paths : BTreeSet Path) (r : Row) → IsItemAmong paths r → (name : List ℕ) × (column r 1 ≡ Text name) × (is_name name ≡ true)
-among_named paths r it = (it.name, ap (λ (x : Row). column x 1) it.is, it.good)
+  pub item_length : IsItemAlone r → length r ≡ 2
+  item_length it = ap length it.is
 
-pub among_parent : (paths : BTreeSet Path) (r : Row) (p : Path) → IsPath p → column r 0 ≡ Text (path_text p) → IsItemAmong paths r → (above : Path) → parent_of p ≡ Some above → contains path_cmp paths above ≡ true
-among_parent paths r p range is it above e =
-    let same : it.path ≡ p = same_path it.path p it.in_range range (texts_same _ _ (sym (ap (λ (x : Row). column x 0) it.is) ∙ is)) in
-    it.parent above (ap parent_of same ∙ e)
+  pub item_path : IsItemAlone r → HasPath r
+  item_path it = (it.path, it.in_range, ap (λ (x : Row). column x 0) it.is)
 
-pub among_path : (paths : BTreeSet Path) (r : Row) → IsItemAmong paths r → (p : Path) × IsPath p × (column r 0 ≡ Text (path_text p))
-among_path paths r it = (it.path, it.in_range, ap (λ (x : Row). column x 0) it.is)
+  pub item_name : IsItemAlone r → (name : List ℕ) × (column r 1 ≡ Text name) × (is_name name ≡ true)
+  item_name it = (it.name, ap (λ (x : Row). column x 1) it.is, it.good)
+
+-- ---- the parents of paths
+
+pub path_itself : (p : Path) → is_eq (path_cmp p p) ≡ true
+path_itself p = ap is_eq (tied_itself nat_list_cmp_total (path_text p))
+
+-- a path that is equal to one in range is that path, if it is in range
+pub parent_kept : (paths : BTreeSet Path) (p : Path) → IsPath p → HasParent paths p → (q : Path) → is_eq (path_cmp q p) ≡ true → IsPath q → HasParent paths q
+parent_kept paths p range has q same in_range above e =
+    let is : q ≡ p = same_path q p in_range range (tied (path_text q) (path_text p) same) in
+    has above (sym (ap parent_of is) ∙ e)
 
 -- ---- all rows
 
-pub items_made : (paths : BTreeSet Path) (rows : List Row) → ArePathsOf paths rows → length rows ≤ most_items → All (IsItemAmong paths) rows → AreItems rows
-items_made paths rows are few all = record {
-  each = λ r h.
-      let it = each_member (IsItemAmong paths) rows all r h in
-      record { path = it.path; name = it.name; is = it.is; in_range = it.in_range; good = it.good; parent = λ above e. path_known paths rows are above (it.parent above e) };
-  limit = few;
-}
+module _ (paths : BTreeSet Path) (rows : List Row) (are : ArePathsOf paths rows) where
+  pub items_made : length rows ≤ most_items → AreEach IsItemAlone rows → HasEachParent paths → AreItems rows
+  items_made few all hold = record {
+    each = λ r h.
+        let it = all r h in
+        let there = path_listed paths rows are it.path it.in_range (r, h, ap (λ (x : Row). column x 0) it.is) in
+        record { path = it.path; name = it.name; is = it.is; in_range = it.in_range; good = it.good; parent = λ above e. path_known paths rows are above (hold it.path there it.in_range above e) };
+    limit = few;
+  }
 
-pub items_among : (paths : BTreeSet Path) (rows : List Row) → ArePathsOf paths rows → AreItems rows → All (IsItemAmong paths) rows
-items_among paths rows are good = each_place (IsItemAmong paths) rows (λ r h.
-    let it = good.each r h in
-    record { path = it.path; name = it.name; is = it.is; in_range = it.in_range; good = it.good; parent = λ above e. path_listed paths rows are above (parent_in_range it.path above e it.in_range) (it.parent above e) })
+  pub parents_of : AreItems rows → HasEachParent paths
+  parents_of good p there range above e =
+      let has = path_known paths rows are p there in
+      let it = good.each has.0 has.1 in
+      let same : it.path ≡ p = same_path it.path p it.in_range range (texts_same _ _ (sym (ap (λ (x : Row). column x 0) it.is) ∙ has.2)) in
+      path_listed paths rows are above (parent_in_range p above e range) (it.parent above (ap parent_of same ∙ e))
+
+pub items_alone : (rows : List Row) → AreItems rows → AreEach IsItemAlone rows
+items_alone rows good r h = let it = good.each r h in record { path = it.path; name = it.name; is = it.is; in_range = it.in_range; good = it.good }

@@ -1,8 +1,7 @@
 -- All conditions of rows that were judged.
-use Rattle.std.proofs.Common.{◌≡◌, Bool, true, false, not, inl, inr, refl, ℕ, ◌≤◌, List, length, IsTrue, sym, subst, subst₂, codes}
+use Rattle.std.proofs.Common.{◌≡◌, Bool, true, false, not, refl, ℕ, ◌≤◌, List, length, IsTrue, sym, subst, subst₂}
 use Rattle.sqlite.specs.Effect.{Database}
 use Rattle.sqlite.specs.Order.{Row}
-use Rattle.sqlite_rules.specs.Lists.{Has}
 use Rattle.pid_moderation.specs.CheckTables.{most_revision}
 use Rattle.pid_tables_rows.specs.Faults.{IsMemoryOrStore}
 use Rattle.pid_tables_rows.specs.declared.fault.TableFault.{TableFault}
@@ -10,14 +9,13 @@ use Rattle.pid_tables_rows.specs.declared.fault.TableFault.TheVariants.{Memory, 
 use Rattle.pid_tables_rows.specs.declared.version.Version.{Version}
 use Rattle.pid_tables_rows.specs.declared.version.Version.TheVariants.{One, Two}
 use Rattle.pid_tables_check.specs.Checking.{ShowsRegistry, ShowsDamage}
-use Rattle.pid_tables_check.specs.Conditions.{Rows, label_row, AreLabels, AreSinces, AreNumbered, AreCounted}
+use Rattle.pid_tables_check.specs.Conditions.{Rows, AreLabels, AreSinces, AreNumbered, AreCounted}
 use Rattle.pid_tables_check.specs.Steps.Keeping.{AreDated, ShowsJudged}
 use Rattle.pid_tables_check.specs.Queries.{query_of}
 use Rattle.pid_tables_check.specs.Steps.Reading.{TellsDamage}
 use Rattle.pid_tables_check.specs.Shapes.{ShowsRows}
 use Rattle.pid_tables_check.specs.declared.shape.Table.TheVariants.{Meta}
 use Rattle.pid_tables_check.specs.declared.tables.Judged.{Judged}
-use Rattle.pid_tables_check.proofs.LabelFacts.{same_revision}
 
 pub not_both : (b : Bool) → not b ≡ true → b ≡ true → ⊥
 not_both true off on = cc
@@ -37,13 +35,14 @@ numbered : (version : Version) (n : ℕ) (t : Rows) → AreDated version n t.ite
 numbered One n t good = tt
 numbered Two n t good = good
 
--- schema 1 tells no revision; schema 2 tells the one that the labels have
-counts_of : (version : Version) (n : ℕ) (t : Rows) → ((m : ℕ) → m ≤ most_revision → Has t.meta (label_row (codes "revision", m)) → Has t.meta (label_row (codes "revision", n))) → AreCounted version t
-    → AreDated version n t.items t.sinces × AreLabels version (length t.items) (length t.submissions) n t.meta
+-- what is told of the revision: the number of the labels, if they are those of schema 2
+abbrev pub IsRevisionOf : ℕ → List Row → Type 0
+IsRevisionOf n meta = (items submissions m : ℕ) → m ≤ most_revision → AreLabels Two items submissions m meta → n ≡ m
+
+counts_of : (version : Version) (n : ℕ) (t : Rows) → IsRevisionOf n t.meta → AreCounted version t → AreDated version n t.items t.sinces × AreLabels version (length t.items) (length t.submissions) n t.meta
 counts_of One n t told good = (tt, record { each = good.labels.each; there = good.labels.there })
 counts_of Two n t told good =
-    let has = told good.revision good.limit (good.labels.there (codes "revision", good.revision) (inr (inr (inr (inl refl))))) in
-    let same : good.revision ≡ n = same_revision (length t.items) (length t.submissions) good.revision n t.meta good.labels has in
+    let same : good.revision ≡ n = sym (told (length t.items) (length t.submissions) good.revision good.limit good.labels) in
     (subst (λ m. AreSinces m t.items t.sinces) same good.sinces, subst (λ m. AreLabels Two (length t.items) (length t.submissions) m t.meta) same good.labels)
 
 module _ (version : Version) (n : ℕ) (d : Database) (it : Judged) (meta : List Row) (shown : ShowsRows d (query_of Meta) meta) (all : ShowsJudged version n d it) where
@@ -65,7 +64,7 @@ module _ (version : Version) (n : ℕ) (d : Database) (it : Judged) (meta : List
         },
       )
 
-  pub damage_shown : ((m : ℕ) → m ≤ most_revision → Has meta (label_row (codes "revision", m)) → Has meta (label_row (codes "revision", n)))
+  pub damage_shown : IsRevisionOf n meta
       → (IsTrue it.good → AreLabels version it.items it.submissions n meta → ⊥) → ShowsDamage version d
   damage_shown told bad = (
     whole,

@@ -1,9 +1,7 @@
 -- What is kept of tables, put together.
-use Rattle.std.proofs.Common.{◌≡◌, ℕ, Bool, List, [], IsTrue, Ok, Err, Result, MatchResult, IfOk, IfErr, ◌↔◌, sym, subst}
+use Rattle.std.proofs.Common.{◌≡◌, ℕ, Bool, List, [], IsTrue, ◌↔◌, sym, subst}
 use Rattle.sqlite.specs.Effect.{Database}
 use Rattle.sqlite.specs.Order.{Row}
-use Rattle.pid_tables_rows.specs.Faults.{IsMemoryOrStore}
-use Rattle.pid_tables_rows.specs.declared.fault.TableFault.{TableFault}
 use Rattle.pid_tables_rows.specs.declared.version.Version.{Version}
 use Rattle.pid_tables_rows.specs.declared.version.Version.TheVariants.{One, Two}
 use Rattle.pid_tables_check.specs.Conditions.{AreRemarks}
@@ -16,12 +14,6 @@ use Rattle.pid_tables_check.specs.declared.submission.Submissions.{Submissions}
 use Rattle.pid_tables_check.specs.declared.tables.Part.{Part}
 use Rattle.pid_tables_check.specs.declared.shape.Table.{Table}
 use Rattle.pid_tables_check.specs.declared.shape.Table.TheVariants.{Account, Item, Submission, Remark, Receipt, Since}
-
--- rows were read, and this was kept of them
-pub kept : {X : Type 0} (Shows : List Row → Type 0) (Says : List Row → X → Type 0) (Q : Type 0) (rows slice : List Row) (r : Result X TableFault) → slice ≡ rows → Shows rows × Q → IfOk r (Says slice) → IfErr r IsMemoryOrStore
-    → MatchResult r (λ x. ((rows : List Row) × Shows rows × Says rows x) × Q) IsMemoryOrStore
-kept Shows Says Q rows slice (Ok x) same it says fault = ((rows, it.0, subst (λ l. Says l x) same says), it.1)
-kept Shows Says Q rows slice (Err e) same it says fault = fault
 
 -- the query of a table answers rows of which this is kept
 abbrev pub Has : Database → Table → (List Row → Type 0) → Type 0

@@ -1,5 +1,5 @@
 -- What the queries of the tables show, whatever the schema.
-use Rattle.std.specs.Prelude.{IfSome, IfNone, IsSome}
+use Rattle.std.specs.Prelude.{IsSome}
 use Rattle.std.proofs.Common.{◌≡◌, ℕ, List, [], true, false, cond, Option, Some, None, Ok, Err, Result, refl, sym, subst}
 use Rattle.sqlite.specs.Order.{Row}
 use Rattle.sqlite.specs.Schema.{Schema}
@@ -18,11 +18,11 @@ use Rattle.sqlite_resolve.specs.Compile.{first, compiled, planned, meaning, comm
 use Rattle.sqlite_resolve.specs.Lowering.{Checked, and_then}
 use Rattle.sqlite_syntax.specs.declared.statement.Parsed.{Parsed}
 use Rattle.sqlite_tied.specs.Compute.{everything}
-use Rattle.pid_tables_check.specs.Conditions.{IsNewer}
 use Rattle.pid_tables_check.specs.Queries.{query_of}
 use Rattle.pid_tables_check.specs.declared.shape.Table.{Table}
 use Rattle.pid_tables_check.specs.declared.shape.Table.TheVariants.{Meta, Account, Item, Submission, Remark, Receipt, Since}
 use Rattle.pid_tables_check.specs.Shapes.{CanBeAsked, ShowsRows, ShowsLater}
+use Rattle.pid_tables_check.specs.Steps.Labels.{IsLater}
 
 -- a statement, if it is one, that shows nothing of a write and reads no time
 abbrev IsPlainIfAsked : Result Compiled CompileError → Type 0
@@ -107,6 +107,6 @@ returns_none table schema h = go (understood schema (query_of table)) (plain tab
     go (Ok c) plain some = let bad = subst IsSome plain.0 some in let none : ⊥ = cc in none
     go (Err e) plain some = some
 
-pub later_shown : (db : Database) (rows : List Row) (o : Option ℕ) → ShowsRows db (query_of Meta) rows → IfSome o (λ n. IsNewer n rows) → IfNone o ((n : ℕ) → IsNewer n rows → ⊥) → ShowsLater db o
-later_shown db rows (Some n) shows found none = (rows, shows, found)
-later_shown db rows None shows found none = (rows, shows, none)
+pub later_shown : (db : Database) (rows : List Row) (o : Option ℕ) → ShowsRows db (query_of Meta) rows → IsLater rows o → ShowsLater db o
+later_shown db rows (Some n) shows it = (rows, shows, it)
+later_shown db rows None shows it = (rows, shows, it)

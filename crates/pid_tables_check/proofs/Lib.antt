@@ -11,6 +11,7 @@ pub mod WordTexts
 pub mod AccountFacts
 pub mod Moved
 pub mod PathWords
+pub mod KeyWalk
 pub mod ItemFacts
 pub mod LabelFacts
 pub mod NameFacts

@@ -1,5 +1,5 @@
 -- The set of the names of accounts.
-use Rattle.std.proofs.Common.{◌≡◌, inl, inr, ℕ, ◌+◌, ◌<◌, List, [], ◌∷◌, ◌++◌, length, get_or, take, Bool, true, false, refl, sym, ap, subst, ◌∙◌, Ordering, Less, Equal, Greater}
+use Rattle.std.proofs.Common.{◌≡◌, inl, inr, ℕ, List, [], ◌∷◌, ◌++◌, Bool, true, false, refl, sym, ap, ◌∙◌, Ordering, Less, Equal, Greater}
 use Rattle.std.specs.Prelude.{◌||◌, IsUtf8, string_bytes, String, is_ok, OnOk, Result, Ok, Err}
 use Rattle.std.specs.List.{list_any}
 use Rattle.std.specs.Ordering.{is_eq, match_ordering}
@@ -9,7 +9,6 @@ use Rattle.std.specs.declared.alloc.Global.{Global}
 use Rattle.std.specs.Cmp.Lexicographic.{nat_list_cmp_total}
 use Rattle.std.proofs.lemmas.Bool.{or_cases, or_left, or_right}
 use Rattle.std.proofs.lemmas.Cmp.{tied_itself}
-use Rattle.std.proofs.lemmas.List.{take_more}
 use Rattle.sqlite.specs.declared.types.Value.TheVariants.{Text}
 use Rattle.sqlite.specs.Order.{Row, column}
 use Rattle.pid_ident.specs.Trees.{text_cmp}
@@ -74,6 +73,3 @@ name_added names next key rows r is keys are name utf8 =
 pub on_is_ok : {X E : Type 0} {P : Type 0} (r : Result X E) → is_ok r ≡ true → OnOk r P → P
 on_is_ok (Ok x) h p = p
 on_is_ok (Err e) h p = absurd cc
-
-pub names_step : (names : BTreeSet (String Global)) (rows : List Row) (i : ℕ) (r : Row) → i < length rows → get_or rows i r ≡ r → AreNamesOf names (take i rows ++ r ∷ []) → AreNamesOf names (take (i + 1) rows)
-names_step names rows i r less is are = subst (AreNamesOf names) (sym (take_more rows i r less ∙ ap (λ x. take i rows ++ x ∷ []) is)) are

@@ -1,5 +1,5 @@
 -- What makes rows of receipts those of a registry.
-use Rattle.std.proofs.Common.{◌≡◌, ◌↔◌, ◌++◌, inl, inr, Bool, IsTrue, ℕ, ◌<◌, ◌≤◌, List, [], ◌∷◌, length, true, refl, sym, ap, subst, ◌∙◌, arith}
+use Rattle.std.proofs.Common.{◌≡◌, ◌↔◌, ◌++◌, Bool, IsTrue, ℕ, ◌<◌, ◌≤◌, List, [], ◌∷◌, length, true, refl, sym, ap, subst, ◌∙◌, arith}
 use Rattle.sqlite.specs.declared.types.Value.TheVariants.{Text}
 use Rattle.sqlite.specs.Order.{Row, column}
 use Rattle.pid_ident.specs.Words.{is_account, is_key}
@@ -10,7 +10,7 @@ use Rattle.pid_tables_check.specs.Steps.AuthorSets.{IsByAuthor, IsNumbered, HasR
 use Rattle.pid_tables_check.specs.Steps.AuthorSets.{AreAuthorsOf}
 use Rattle.pid_tables_check.specs.Steps.Keeping.{AreOfAuthors}
 use Rattle.pid_tables_check.specs.declared.authors.Authors.{Authors}
-use Rattle.pid_tables_check.proofs.ItemFacts.{split, before, last, texts_same}
+use Rattle.pid_tables_check.proofs.ItemFacts.{one_row, texts_same}
 use Rattle.pid_tables_check.proofs.RemarkFacts.{numbers_same}
 
 module _ (rows : List Row) (r : Row) (account : List ℕ) where
@@ -97,11 +97,4 @@ module _ (rows : List Row) (r : Row) where
 -- the receipts so far, and one more
 pub one_receipt : (authors : Authors) (rows : List Row) (r : Row) (good row next : Bool) → (IsTrue next ↔ (IsTrue good × IsTrue row)) → ((submissions : List Row) → AreAuthorsOf authors submissions → IsTrue row ↔ IsReceiptRow submissions r)
     → AreOfAuthors authors rows good → AreOfAuthors authors (rows ++ r ∷ []) next
-one_receipt authors rows r good row next both one are submissions of =
-    let here = one submissions of in
-    let so_far = are submissions of in (
-      λ yes x h.
-          let each = both.0 yes in
-          elim (split rows r x h) [ inl early ↦ so_far.0 each.0 x early | inr same ↦ subst (IsReceiptRow submissions) (sym same) (here.0 each.1) ],
-      λ all. both.1 (so_far.1 (λ x h. all x (before rows r x h)), here.1 (all r (last rows r))),
-    )
+one_receipt authors rows r good row next both one are submissions of = one_row (IsReceiptRow submissions) rows r good row next both (one submissions of) (are submissions of)

@@ -1,11 +1,10 @@
 -- The set of the places of remarks, and what makes rows of remarks those of a registry.
-use Rattle.std.proofs.Common.{◌≡◌, ◌⊎◌, inl, inr, ℕ, ◌+◌, ◌-◌, ◌<◌, ◌≤◌, List, [], ◌∷◌, ◌++◌, length, get_or, take, Bool, true, false, cond, refl, sym, ap, subst, ◌∙◌, arith, Ordering, Less, Equal, Greater}
-use Rattle.std.specs.List.{All}
+use Rattle.std.proofs.Common.{◌≡◌, ◌⊎◌, inl, inr, ℕ, ◌-◌, ◌≤◌, List, [], ◌∷◌, ◌++◌, length, Bool, true, false, cond, refl, sym, ap, subst, subst₂, ◌∙◌, arith, Ordering, Less, Equal, Greater}
+use Rattle.std.specs.List.{list_any}
 use Rattle.std.specs.Ordering.{is_eq, nat_cmp, ordering_then}
 use Rattle.std.specs.FinMap.{nat_cmp-IsAntisymmetric}
 use Rattle.std.specs.BTreeSet.{BTreeSet, contains}
 use Rattle.std.proofs.lemmas.Cmp.{tied_itself, nat_cmp_total}
-use Rattle.std.proofs.lemmas.List.{take_more}
 use Rattle.sqlite.specs.declared.types.Value.TheVariants.{Text}
 use Rattle.sqlite.specs.Order.{Row, column}
 use Rattle.pid_ident.specs.Bytes.{is_empty}
@@ -13,8 +12,8 @@ use Rattle.pid_ident.specs.Words.{is_text}
 use Rattle.pid_moderation.specs.CheckTables.{most_remarks}
 use Rattle.pid_tables_rows.specs.TableRows.{number}
 use Rattle.pid_tables_check.specs.Conditions.{HasRemark, AreRemarks}
-use Rattle.pid_tables_check.specs.Steps.PlaceSets.{pair_cmp, ArePlacesOf, FollowsPlace, HasPlace, IsRemarkAmong}
-use Rattle.pid_tables_check.proofs.Each.{each_member, each_place}
+use Rattle.pid_tables_check.specs.Steps.PlaceSets.{pair_cmp, ArePlacesOf, FollowEach, FollowsPlace, IsRemark}
+use Rattle.pid_tables_check.specs.Steps.Keeping.{AreEach}
 use Rattle.pid_tables_check.proofs.ItemFacts.{split, before, last}
 
 pub numbers_same : (m n : ℕ) → number m ≡ number n → m ≡ n
@@ -76,9 +75,6 @@ place_added places next rows r n p first second added are num place = (
   ]),
 )
 
-pub places_step : (places : BTreeSet (ℕ × ℕ)) (rows : List Row) (i : ℕ) (r : Row) → i < length rows → get_or rows i r ≡ r → ArePlacesOf places (take i rows ++ r ∷ []) → ArePlacesOf places (take (i + 1) rows)
-places_step places rows i r less is are = subst (ArePlacesOf places) (sym (take_more rows i r less ∙ ap (λ x. take i rows ++ x ∷ []) is)) are
-
 pub follows_made : (places : BTreeSet (ℕ × ℕ)) (num place : ℕ) → 2 ≤ place → place ≤ most_remarks → contains pair_cmp places (num, place - 1) ≡ true → FollowsPlace places num place
 follows_made places num place low high there = (omega (arith, low), high, λ earlier least next. let same : place - 1 ≡ earlier = omega (arith, next) in subst (λ e. contains pair_cmp places (num, e) ≡ true) same there)
 
@@ -95,35 +91,58 @@ four (a ∷ []) len = absurd (omega (arith, len))
 four (a ∷ b ∷ []) len = absurd (omega (arith, len))
 four (a ∷ b ∷ c ∷ []) len = absurd (omega (arith, len))
 
-module _ (places : BTreeSet (ℕ × ℕ)) (r : Row) where
-  pub place_of : IsRemarkAmong places r → HasPlace places r
-  place_of it = (it.num, it.place, ap (λ (x : Row). column x 0) it.is, ap (λ (x : Row). column x 1) it.is, it.follows)
+module _ (r : Row) where
+  pub num_of : IsRemark r → (n : ℕ) × (column r 0 ≡ number n)
+  num_of it = (it.num, ap (λ (x : Row). column x 0) it.is)
 
-  pub body_of : IsRemarkAmong places r → (text : List ℕ) × (column r 3 ≡ Text text) × (is_text text ≡ true) × (is_empty text ≡ false)
-  body_of it = (it.body, ap (λ (x : Row). column x 3) it.is, it.text, it.filled)
+  pub place_of : IsRemark r → (n : ℕ) × (column r 1 ≡ number n)
+  place_of it = (it.place, ap (λ (x : Row). column x 1) it.is)
 
-  pub author_of : IsRemarkAmong places r → (author : List ℕ) × (column r 2 ≡ Text author)
+  pub author_of : IsRemark r → (author : List ℕ) × (column r 2 ≡ Text author)
   author_of it = (it.author, ap (λ (x : Row). column x 2) it.is)
 
-  pub remark_made : length r ≡ 4 → HasPlace places r → ((author : List ℕ) × (column r 2 ≡ Text author)) → ((text : List ℕ) × (column r 3 ≡ Text text) × (is_text text ≡ true) × (is_empty text ≡ false)) → IsRemarkAmong places r
-  remark_made len at author body = record {
-    num = at.0;
-    place = at.1;
+  pub body_of : IsRemark r → (text : List ℕ) × (column r 3 ≡ Text text) × (is_text text ≡ true) × (is_empty text ≡ false)
+  body_of it = (it.body, ap (λ (x : Row). column x 3) it.is, it.text, it.filled)
+
+  pub remark_made : length r ≡ 4 → ((n : ℕ) × (column r 0 ≡ number n)) → ((n : ℕ) × (column r 1 ≡ number n)) → ((author : List ℕ) × (column r 2 ≡ Text author)) → ((text : List ℕ) × (column r 3 ≡ Text text) × (is_text text ≡ true) × (is_empty text ≡ false)) → IsRemark r
+  remark_made len num place author body = record {
+    num = num.0;
+    place = place.0;
     author = author.0;
     body = body.0;
-    is = four r len ∙ (λ i. at.2 i ∷ at.3 i ∷ author.1 i ∷ body.1 i ∷ []);
-    follows = at.4;
+    is = four r len ∙ (λ i. num.1 i ∷ place.1 i ∷ author.1 i ∷ body.1 i ∷ []);
     text = body.2;
     filled = body.3;
   }
 
-module _ (places : BTreeSet (ℕ × ℕ)) (rows : List Row) (are : ArePlacesOf places rows) where
-  pub remarks_made : All (IsRemarkAmong places) rows → AreRemarks rows
-  remarks_made all r h =
-      let it = each_member (IsRemarkAmong places) rows all r h in
-      record { num = it.num; place = it.place; author = it.author; body = it.body; is = it.is; within = (it.follows.0, it.follows.1); before = λ earlier low next. (are it.num earlier).0 (it.follows.2 earlier low next); text = it.text; filled = it.filled }
+-- ---- places that follow one another
 
-  pub remarks_among : AreRemarks rows → All (IsRemarkAmong places) rows
-  remarks_among good = each_place (IsRemarkAmong places) rows (λ r h.
-      let it = good r h in
-      record { num = it.num; place = it.place; author = it.author; body = it.body; is = it.is; follows = (it.within.0, it.within.1, λ earlier low next. (are it.num earlier).1 (it.before earlier low next)); text = it.text; filled = it.filled })
+pub place_itself : (at : ℕ × ℕ) → is_eq (pair_cmp at at) ≡ true
+place_itself at = pair_itself at.0 at.1
+
+pub follow_kept : (places : BTreeSet (ℕ × ℕ)) (at : ℕ × ℕ) → FollowsPlace places at.0 at.1 → (other : ℕ × ℕ) → is_eq (pair_cmp other at) ≡ true → FollowsPlace places other.0 other.1
+follow_kept places at follows other same =
+    let both = pair_tied other.0 other.1 at.0 at.1 same in
+    subst₂ (FollowsPlace places) (sym both.0) (sym both.1) follows
+
+module _ (places : BTreeSet (ℕ × ℕ)) (rows : List Row) (are : ArePlacesOf places rows) where
+  pub remarks_made : AreEach IsRemark rows → FollowEach places → AreRemarks rows
+  remarks_made all follow r h =
+      let it = all r h in
+      let there = (are it.num it.place).1 (r, h, ap (λ (x : Row). column x 0) it.is, ap (λ (x : Row). column x 1) it.is) in
+      let at = follow (it.num, it.place) there in
+      record { num = it.num; place = it.place; author = it.author; body = it.body; is = it.is; within = (at.0, at.1); before = λ earlier low next. (are it.num earlier).0 (at.2 earlier low next); text = it.text; filled = it.filled }
+
+  pub follow_of : AreRemarks rows → FollowEach places
+  follow_of good at there =
+      let has = (are at.0 at.1).0 there in
+      let it = good has.0 has.1 in
+      let num : it.num ≡ at.0 = numbers_same _ _ (sym (ap (λ (x : Row). column x 0) it.is) ∙ has.2) in
+      let place : it.place ≡ at.1 = numbers_same _ _ (sym (ap (λ (x : Row). column x 1) it.is) ∙ has.3) in
+      subst₂ (FollowsPlace places) num place (it.within.0, it.within.1, λ earlier low next. (are it.num earlier).1 (it.before earlier low next))
+
+pub remarks_alone : (rows : List Row) → AreRemarks rows → AreEach IsRemark rows
+remarks_alone rows good r h = let it = good r h in record { num = it.num; place = it.place; author = it.author; body = it.body; is = it.is; text = it.text; filled = it.filled }
+
+pub no_places : (places : BTreeSet (ℕ × ℕ)) → places.keys ≡ [] → ArePlacesOf places []
+no_places places none num place = (λ there. absurd (let bad : false ≡ true = sym (ap (λ (ks : List (ℕ × ℕ)). list_any (λ k. is_eq (pair_cmp (num, place) k)) ks) none) ∙ there in cc), λ it. absurd it.1)

@@ -1,34 +1,32 @@
 -- What makes rows of item_since go with the items and the revision.
 use Rattle.std.proofs.Common.{◌≡◌, ℕ, ◌≤◌, List, [], ◌∷◌, length, ap, ◌∙◌}
-use Rattle.std.specs.List.{All}
 use Rattle.std.specs.BTreeSet.{BTreeSet, IsSubset}
-use Rattle.sqlite.specs.declared.types.Value.TheVariants.{Text}
 use Rattle.sqlite.specs.Order.{Row, column}
 use Rattle.pid_file.specs.declared.path.Path.{Path}
-use Rattle.pid_ident.specs.PathTexts.{IsPath, path_text, path_cmp}
+use Rattle.pid_ident.specs.PathTexts.{path_cmp}
 use Rattle.pid_tables_rows.specs.TableRows.{number}
 use Rattle.pid_tables_check.specs.Conditions.{IsSinceRow, AreSinces}
-use Rattle.pid_tables_check.specs.Steps.PathSets.{ArePathsOf}
-use Rattle.pid_tables_check.proofs.Each.{each_member, each_place}
+use Rattle.pid_tables_check.specs.Steps.PathSets.{ArePathsOf, HasPath}
+use Rattle.pid_tables_check.specs.Steps.Keeping.{AreEach}
 use Rattle.pid_tables_check.proofs.ItemFacts.{two, path_known, path_listed}
 
 module _ (revision : ℕ) (r : Row) where
-  pub since_made : length r ≡ 2 → ((p : Path) × IsPath p × (column r 0 ≡ Text (path_text p))) → ((since : ℕ) × (column r 1 ≡ number since) × (since ≤ revision)) → IsSinceRow revision r
+  pub since_made : length r ≡ 2 → HasPath r → ((since : ℕ) × (column r 1 ≡ number since) × (since ≤ revision)) → IsSinceRow revision r
   since_made len path since = record { path = path.0; since = since.0; is = two r len ∙ (λ i. path.2 i ∷ since.1 i ∷ []); in_range = path.1; within = since.2 }
 
   pub since_length : IsSinceRow revision r → length r ≡ 2
   since_length it = ap length it.is
 
-  pub since_path : IsSinceRow revision r → (p : Path) × IsPath p × (column r 0 ≡ Text (path_text p))
+  pub since_path : IsSinceRow revision r → HasPath r
   since_path it = (it.path, it.in_range, ap (λ (x : Row). column x 0) it.is)
 
   pub since_number : IsSinceRow revision r → (since : ℕ) × (column r 1 ≡ number since) × (since ≤ revision)
   since_number it = (it.since, ap (λ (x : Row). column x 1) it.is, it.within)
 
 module _ (revision : ℕ) (items sinces : List Row) (all paths : BTreeSet Path) (have : ArePathsOf all items) (are : ArePathsOf paths sinces) where
-  pub sinces_made : All (IsSinceRow revision) sinces → IsSubset path_cmp all paths → AreSinces revision items sinces
+  pub sinces_made : AreEach (IsSinceRow revision) sinces → IsSubset path_cmp all paths → AreSinces revision items sinces
   sinces_made each among = record {
-    each = each_member (IsSinceRow revision) sinces each;
+    each = each;
     there = λ path range has. path_known paths sinces are path (among path (path_listed all items have path range has));
   }
 
@@ -36,6 +34,3 @@ module _ (revision : ℕ) (items sinces : List Row) (all paths : BTreeSet Path) 
   subset_of good path there =
       let it = (have path).0 there in
       (are path).1 (it.0, it.1, it.2, good.there it.0 it.1 it.3)
-
-pub sinces_of : (revision : ℕ) (items sinces : List Row) → AreSinces revision items sinces → All (IsSinceRow revision) sinces
-sinces_of revision items sinces good = each_place (IsSinceRow revision) sinces good.each

@@ -1,19 +1,17 @@
 //! Accounts: each has a name and a rank, `root` is one, and some account is an administrator.
-ghost use Rattle.std.specs.Prelude.{◌≡◌, ◌≤◌, ◌↔◌, ℕ, false, IsTrue, IfOk, IfErr, codes};
-ghost use Rattle.std.specs.List.{All, Any};
-ghost use Rattle.sqlite.specs.declared.types.Value.TheVariants.{Text as TextValue};
-ghost use Rattle.sqlite.specs.Order.{column};
+ghost use Rattle.std.specs.Prelude.{◌≡◌, ◌≤◌, ◌↔◌, List, ℕ, false, IsTrue};
+ghost use Rattle.sqlite.specs.Order.{column, Row as Values};
 ghost use Rattle.pid_tables_rows.specs.TableRows.{number};
 ghost use Rattle.pid_tables_rows.specs.Clauses.{OnlyReads};
-ghost use Rattle.pid_tables_rows.specs.Faults.{IsMemoryOrStore};
 ghost use Rattle.pid_tables_check.specs.Conditions.{IsAccountRow, AreAccounts};
 ghost use Rattle.pid_tables_check.specs.Steps.Clauses.{KeepsTable};
-ghost use Rattle.pid_tables_check.specs.Steps.Keeping.{KeepsAccounts};
+ghost use Rattle.pid_tables_check.specs.Steps.Keeping.{KeepsAccounts, TakesAccounts};
 ghost use Rattle.pid_tables_check.specs.declared.shape.Table.TheVariants as table;
 
-use crate::names::names_of;
-use crate::read::table_rows;
+use crate::names::{add_name, has_name};
+use crate::read::{Keeper, keep_rows};
 use crate::shape::Table;
+use crate::tables::are_both;
 use crate::value::{number_at, text_at};
 use pid_ident::is_account;
 use pid_tables_rows::TableFault;
@@ -42,21 +40,6 @@ fn is_account_row(row: &Row) -> bool
     }
 }
 
-fn are_account_rows(rows: &[Row]) -> bool
-    ensures { IsTrue result ↔ All IsAccountRow rows.now }
-{
-    rows.iter().all(is_account_row)
-}
-
-fn has_name(row: &Row, name: &str) -> bool
-    ensures { IsTrue result ↔ (column row.now 0 ≡ TextValue name.now) }
-{
-    match text_at(row, 0) {
-        Some(text) => text == name,
-        None => false,
-    }
-}
-
 fn is_administrator(row: &Row) -> bool
     ensures { IsTrue result ↔ (column row.now 1 ≡ number 3) }
 {
@@ -66,29 +49,40 @@ fn is_administrator(row: &Row) -> bool
     }
 }
 
-fn have_root(rows: &[Row]) -> bool
-    ensures { IsTrue result ↔ Any (λ r. column r 0 ≡ TextValue (codes "root")) rows.now }
-{
-    rows.iter().any(|row| has_name(row, "root"))
+// What judging the accounts takes of the rows so far: `good` says whether each alone is an
+// account's, and `administrator` whether one is that of an administrator.
+#[derive(Drop)]
+struct AccountKeeper {
+    alloc: Global,
+    good: bool,
+    administrator: bool,
+    names: BTreeSet<String>,
 }
 
-fn have_administrator(rows: &[Row]) -> bool
-    ensures { IsTrue result ↔ Any (λ r. column r 1 ≡ number 3) rows.now }
-{
-    rows.iter().any(is_administrator)
+impl Keeper for AccountKeeper {
+    ghost use Rattle.pid_tables_check.specs.Steps.Keeping.{TakesAccounts};
+
+    ghost keeps = { λ first rows it. TakesAccounts rows it };
+
+    fn keep(&mut self, row: &Row) -> Result<(), TableFault> {
+        self.good = are_both(self.good, is_account_row(row));
+        self.administrator = self.administrator | is_administrator(row);
+        add_name(&mut self.names, self.alloc, row)?;
+        Ok(())
+    }
 }
 
-#[tactic(auto, using(crate::proofs::AccountFacts::accounts_made, crate::proofs::AccountFacts::rows_of, crate::proofs::AccountFacts::root_of, crate::proofs::AccountFacts::administrator_of))]
-fn are_accounts(rows: &[Row]) -> bool
-    ensures { IsTrue result ↔ AreAccounts rows.now }
+fn are_accounts(keeper: &AccountKeeper) -> bool
+    ensures { (rows : List Values) → TakesAccounts rows keeper.now
+        → IsTrue result ↔ AreAccounts rows }
 {
-    if !are_account_rows(rows) {
+    if !keeper.good {
         return false;
     }
-    if !have_root(rows) {
+    if !has_name(&keeper.names, "root") {
         return false;
     }
-    have_administrator(rows)
+    keeper.administrator
 }
 
 /// What is kept of the accounts.
@@ -96,17 +90,6 @@ fn are_accounts(rows: &[Row]) -> bool
 pub(crate) struct Accounts {
     pub(crate) good: bool,
     pub(crate) names: BTreeSet<String>,
-}
-
-fn keep_accounts(rows: &[Row], alloc: Global) -> Result<Accounts, TableFault>
-    ensures keeps { IfOk result (KeepsAccounts rows.now) }
-    ensures untold { IfErr result IsMemoryOrStore }
-{
-    let names = names_of(rows, alloc)?;
-    Ok(Accounts {
-        good: are_accounts(rows),
-        names,
-    })
 }
 
 /// Reads the accounts, and judges whether they are those of a registry.
@@ -119,6 +102,15 @@ pub(crate) fn read_accounts<S: Alter>(
     ensures keeps { KeepsTable S.Store conn.old conn.new result table.Account
         KeepsAccounts }
 {
-    let rows = table_rows(conn, Table::Account, alloc)?;
-    keep_accounts(rows.as_slice(), alloc)
+    let mut keeper = AccountKeeper {
+        alloc,
+        good: true,
+        administrator: false,
+        names: BTreeSet::new(alloc),
+    };
+    keep_rows(conn, Table::Account, &mut keeper)?;
+    Ok(Accounts {
+        good: are_accounts(&keeper),
+        names: keeper.names,
+    })
 }

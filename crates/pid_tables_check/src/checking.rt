@@ -3,7 +3,6 @@ ghost use Rattle.std.specs.Prelude.{◌≡◌, ◌↔◌, false, None, Some, Mat
 ghost use Rattle.pid_tables_rows.specs.Faults.{IsMemoryOrStore};
 ghost use Rattle.pid_tables_rows.specs.declared.version.Version.{Version as Schema};
 ghost use Rattle.pid_tables_rows.specs.Clauses.{HasCleanDisk, OnlyReads, is_open, seen};
-ghost use Rattle.pid_tables_check.specs.declared.shape.Table.TheVariants.{Meta};
 ghost use Rattle.pid_tables_check.specs.Checking.{
   Explains,
   FindsVersion,
@@ -11,33 +10,31 @@ ghost use Rattle.pid_tables_check.specs.Checking.{
   ShowsRegistry,
 };
 ghost use Rattle.pid_tables_check.specs.Steps.Clauses.{JudgesRows};
-ghost use Rattle.pid_tables_check.specs.Queries.{query_of};
+ghost use Rattle.pid_tables_check.specs.Steps.Labels.{ShowsLabels};
 ghost use Rattle.pid_tables_check.specs.Steps.Reading.{ShowsFound, TellsDamage, TellsLater};
-ghost use Rattle.pid_tables_check.specs.Shapes.{HasEachTable, HasTables, IsMadeFirst, ShowsRows};
+ghost use Rattle.pid_tables_check.specs.Shapes.{HasEachTable, HasTables, IsMadeFirst};
 ghost use Rattle.pid_tables_check.specs.Steps.Shapes.{HasTablesOf};
 
 use crate::lacking::check_lacking;
-use crate::meta::{are_labels, newer, revision_told};
-use crate::read::table_rows;
-use crate::shape::{Table, has_each_table, has_some_table, tables_of};
+use crate::meta::{Labels, are_labels, read_labels, revision_told};
+use crate::shape::{has_each_table, has_some_table, tables_of};
 use crate::tables::read_tables;
 use pid_tables_rows::{TableFault, Version};
-use sqlite::{Alter, Connection, Row};
+use sqlite::{Alter, Connection};
 use std::alloc::Global;
 
 fn check_rows<S: Alter>(
     conn: &mut Connection<S>,
     alloc: Global,
     version: Version,
-    meta: Vec<Row>,
+    labels: Labels,
 ) -> Result<(), TableFault>
     requires { conn.old.in_transaction ≡ false }
     ensures rests { OnlyReads S.Store conn.old conn.new }
     ensures told { JudgesRows S.Store conn.old conn.new result
-        (λ d. HasTables version d.schema × ShowsRows d (query_of Meta) meta.items)
+        (λ d. HasTables version d.schema × ShowsLabels d labels)
         (λ d x. ShowsRegistry version d) (TellsDamage version) }
 {
-    let labels = meta.as_slice();
     let revision = revision_told(labels);
     let judged = read_tables(conn, alloc, version, revision)?;
     if !judged.good {
@@ -61,13 +58,13 @@ fn check_tables<S: Alter>(
         (λ d. HasEachTable d.schema × HasTablesOf version d.schema)
         (λ d x. ShowsFound version d) (TellsLater version) }
 {
-    let meta = table_rows(conn, Table::Meta, alloc)?;
-    if let Some(number) = newer(meta.as_slice()) {
+    let labels = read_labels(conn)?;
+    if let Some(number) = labels.later {
         return Err(TableFault::NewerSchema(number));
     }
     match version {
         None => Err(TableFault::Damaged),
-        Some(version) => check_rows(conn, alloc, version, meta),
+        Some(version) => check_rows(conn, alloc, version, labels),
     }
 }
 
@@ -107,7 +104,7 @@ pub fn check<S: Alter>(
         return Ok(version);
     }
     if has_some_table(conn)? {
-        check_lacking(conn, alloc)?;
+        check_lacking(conn)?;
     }
     Ok(None)
 }

@@ -15,19 +15,19 @@ ghost use Rattle.std.specs.Prelude.{
   OnOk,
 };
 ghost use Rattle.pid_tables_rows.specs.Clauses.{OnlyReads};
-ghost use Rattle.std.specs.List.{All};
 ghost use Rattle.std.specs.BTreeSet.{contains};
 ghost use Rattle.sqlite.specs.Order.{Row as Values};
-ghost use Rattle.pid_ident.specs.PathTexts.{path_cmp, parent_of};
+ghost use Rattle.pid_ident.specs.PathTexts.{IsPath, path_cmp, parent_of};
 ghost use Rattle.pid_tables_check.specs.Conditions.{AreItems};
-ghost use Rattle.pid_tables_check.specs.Steps.PathSets.{ArePathsOf, IsItemAmong};
+ghost use Rattle.pid_tables_check.specs.Steps.PathSets.{ArePathsOf, HasPath, HasEachParent, IsItemAlone};
 ghost use Rattle.pid_tables_check.specs.Steps.Clauses.{KeepsTable};
-ghost use Rattle.pid_tables_check.specs.Steps.Keeping.{KeepsItems};
+ghost use Rattle.pid_tables_check.specs.Steps.Keeping.{KeepsItems, TakesItems};
 ghost use Rattle.pid_tables_check.specs.declared.shape.Table.TheVariants as table;
 ghost use Rattle.pid_tables_rows.specs.Faults.{IsMemoryOrStore};
 
-use crate::read::table_rows;
+use crate::read::{Keeper, keep_rows, one_more};
 use crate::shape::Table;
+use crate::tables::are_both;
 use crate::words::{has_name, path_at};
 use pid_ident::Path;
 use pid_moderation::ITEMS;
@@ -36,36 +36,39 @@ use sqlite::{Alter, Connection, Row};
 use std::alloc::Global;
 use std::collections::BTreeSet;
 
-// Adds the path of a row.
-fn add_path(paths: &mut BTreeSet<Path>, row: &Row) -> Result<(), TableFault>
+/// Adds the path of a row, and answers whether it has one.
+pub(crate) fn add_path(paths: &mut BTreeSet<Path>, row: &Row) -> Result<bool, TableFault>
     ensures added { (rows : List Values) → ArePathsOf paths.old rows
         → OnOk result (ArePathsOf paths.new (rows ++ row.now ∷ [])) }
+    ensures there { IfOk result (λ there. IsTrue there ↔ HasPath row.now) }
     ensures untold { IfErr result IsMemoryOrStore }
 {
     match path_at(row, 0) {
-        None => Ok(()),
+        None => Ok(false),
         Some(path) => match paths.insert(path) {
-            Ok(_) => Ok(()),
+            Ok(_) => Ok(true),
             Err(_) => Err(TableFault::Memory),
         },
     }
 }
 
-/// The paths in the first column of the rows.
-pub(crate) fn paths_of(rows: &[Row], alloc: Global) -> Result<BTreeSet<Path>, TableFault>
-    ensures paths { IfOk result (λ paths. ArePathsOf paths rows.now) }
-    ensures untold { IfErr result IsMemoryOrStore }
+// Whether a row is an item's, whatever its parent. It is known whether it has a path.
+fn is_item_row(row: &Row, has_path: bool) -> bool
+    ensures { (IsTrue has_path ↔ HasPath row.now) → IsTrue result ↔ IsItemAlone row.now }
 {
-    let mut paths = BTreeSet::new(alloc);
-    for row in rows {
-        add_path(&mut paths, row)?;
+    if !has_path {
+        return false;
     }
-    Ok(paths)
+    if row.column_count() != 2 {
+        return false;
+    }
+    has_name(row, 1)
 }
 
 fn has_parent(paths: &BTreeSet<Path>, path: Path) -> bool
-    ensures { IsTrue result ↔ ((above : _) → parent_of path ≡ Some above
+    ensures parent { IsTrue result ↔ ((above : _) → parent_of path ≡ Some above
         → contains path_cmp paths.now above ≡ true) }
+    ensures in_range { IsPath path }
 {
     match path.parent() {
         Some(parent) => paths.contains(&parent),
@@ -73,34 +76,48 @@ fn has_parent(paths: &BTreeSet<Path>, path: Path) -> bool
     }
 }
 
-fn is_item_row(row: &Row, paths: &BTreeSet<Path>) -> bool
-    ensures { IsTrue result ↔ IsItemAmong paths.now row.now }
+fn hold_parents(paths: &BTreeSet<Path>) -> bool
+    ensures { IsTrue result ↔ HasEachParent paths.now }
 {
-    if row.column_count() != 2 {
-        return false;
+    for path in paths.iter() {
+        if !has_parent(paths, *path) {
+            return false;
+        }
     }
-    let Some(path) = path_at(row, 0) else {
-        return false;
-    };
-    if !has_name(row, 1) {
-        return false;
-    }
-    has_parent(paths, path)
+    true
 }
 
-fn are_item_rows(rows: &[Row], paths: &BTreeSet<Path>) -> bool
-    ensures { IsTrue result ↔ All (IsItemAmong paths.now) rows.now }
-{
-    rows.iter().all(|row| is_item_row(row, paths))
+// What judging the items takes of the rows so far: `good` says whether each alone is an item's.
+#[derive(Drop)]
+struct ItemKeeper {
+    good: bool,
+    count: u64,
+    paths: BTreeSet<Path>,
 }
 
-fn are_items(rows: &[Row], paths: &BTreeSet<Path>) -> bool
-    ensures { ArePathsOf paths.now rows.now → IsTrue result ↔ AreItems rows.now }
+impl Keeper for ItemKeeper {
+    ghost use Rattle.pid_tables_check.specs.Steps.Keeping.{TakesItems};
+
+    ghost keeps = { λ first rows it. TakesItems rows it };
+
+    fn keep(&mut self, row: &Row) -> Result<(), TableFault> {
+        self.count = one_more(self.count)?;
+        let has_path = add_path(&mut self.paths, row)?;
+        self.good = are_both(self.good, is_item_row(row, has_path));
+        Ok(())
+    }
+}
+
+fn are_items(keeper: &ItemKeeper) -> bool
+    ensures { (rows : List Values) → TakesItems rows keeper.now → IsTrue result ↔ AreItems rows }
 {
-    if rows.len() > ITEMS as usize {
+    if !keeper.good {
         return false;
     }
-    are_item_rows(rows, paths)
+    if keeper.count > ITEMS as u64 {
+        return false;
+    }
+    hold_parents(&keeper.paths)
 }
 
 /// What is kept of the items.
@@ -109,18 +126,6 @@ pub(crate) struct Items {
     pub(crate) good: bool,
     pub(crate) count: u64,
     pub(crate) paths: BTreeSet<Path>,
-}
-
-fn keep_items(rows: &[Row], alloc: Global) -> Result<Items, TableFault>
-    ensures keeps { IfOk result (KeepsItems rows.now) }
-    ensures untold { IfErr result IsMemoryOrStore }
-{
-    let paths = paths_of(rows, alloc)?;
-    Ok(Items {
-        good: are_items(rows, &paths),
-        count: rows.len() as u64,
-        paths,
-    })
 }
 
 /// Reads the items, and judges whether they are those of a registry.
@@ -133,6 +138,15 @@ pub(crate) fn read_items<S: Alter>(
     ensures keeps { KeepsTable S.Store conn.old conn.new result table.Item
         KeepsItems }
 {
-    let rows = table_rows(conn, Table::Item, alloc)?;
-    keep_items(rows.as_slice(), alloc)
+    let mut keeper = ItemKeeper {
+        good: true,
+        count: 0,
+        paths: BTreeSet::new(alloc),
+    };
+    keep_rows(conn, Table::Item, &mut keeper)?;
+    Ok(Items {
+        good: are_items(&keeper),
+        count: keeper.count,
+        paths: keeper.paths,
+    })
 }

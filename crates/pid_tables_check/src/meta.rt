@@ -1,18 +1,45 @@
 //! The table of labels: the number of the schema, how many items and submissions there are, and the
 //! revision.
-ghost use Rattle.std.specs.Prelude.{◌≡◌, ◌↔◌, ◌<◌, ◌≤◌, ℕ, IsTrue, IfSome, IfNone, codes};
-ghost use Rattle.std.specs.List.{All, Any};
+ghost use Rattle.std.specs.Prelude.{
+  ◌≡◌,
+  ◌↔◌,
+  ◌<◌,
+  ◌≤◌,
+  ◌++◌,
+  ◌∷◌,
+  ℕ,
+  List,
+  [],
+  false,
+  IsTrue,
+  IfSome,
+  IfNone,
+  codes,
+};
 ghost use Rattle.sqlite.specs.declared.types.Value.TheVariants.{Text as TextValue};
-ghost use Rattle.sqlite.specs.Order.{column};
-ghost use Rattle.sqlite_rules.specs.Lists.{Has};
-ghost use Rattle.pid_tables_check.specs.Conditions.{label_row, IsNewer, AreLabels};
-ghost use Rattle.pid_tables_check.specs.Steps.Labels.{IsCount, IsLabelled, HasMore};
+ghost use Rattle.sqlite.specs.Order.{column, Row as Values};
 ghost use Rattle.pid_moderation.specs.CheckTables.{most_revision};
+ghost use Rattle.pid_tables_rows.specs.Clauses.{OnlyReads};
+ghost use Rattle.pid_tables_check.specs.Conditions.{label_row, AreLabels};
+ghost use Rattle.pid_tables_check.specs.Steps.Clauses.{KeepsTable};
+ghost use Rattle.pid_tables_check.specs.Steps.Labels.{
+  IsLabel,
+  IsLater,
+  IsOf,
+  IsToldOfSchema,
+  IsToldOfLabel,
+  TakesLabels,
+};
+ghost use Rattle.pid_tables_check.specs.declared.meta.Told.TheVariants.{Never, Once};
+ghost use Rattle.pid_tables_check.specs.declared.shape.Table.TheVariants as table;
 
+use crate::read::{Keeper, keep_rows};
+use crate::shape::Table;
+use crate::tables::are_both;
 use crate::value::{number_at, text_at};
 use pid_moderation::REVISIONS;
-use pid_tables_rows::Version;
-use sqlite::Row;
+use pid_tables_rows::{TableFault, Version};
+use sqlite::{Alter, Connection, Row};
 
 fn has_label(row: &Row, label: &str) -> bool
     ensures { IsTrue result ↔ (column row.now 0 ≡ TextValue label.now) }
@@ -37,15 +64,6 @@ fn labelled(row: &Row, label: &str) -> Option<u64>
     number_at(row, 1)
 }
 
-fn is_labelled(row: &Row, label: &str, number: u64) -> bool
-    ensures { IsTrue result ↔ (row.now ≡ label_row (label.now, number)) }
-{
-    match labelled(row, label) {
-        Some(told) => told == number,
-        None => false,
-    }
-}
-
 fn later(row: &Row) -> Option<u64>
     ensures found { IfSome result (λ n. (2 < n) × (row.now ≡ label_row (codes "schema", n))) }
     ensures none { IfNone result ((n : ℕ) → 2 < n → row.now ≡ label_row (codes "schema", n) → ⊥) }
@@ -56,126 +74,170 @@ fn later(row: &Row) -> Option<u64>
     }
 }
 
-/// The number of a later schema.
-pub(crate) fn newer(rows: &[Row]) -> Option<u64>
-    ensures found { IfSome result (λ n. IsNewer n rows.now) }
-    ensures none { IfNone result ((n : ℕ) → IsNewer n rows.now → ⊥) }
+// The number of a later schema, with one more row.
+fn later_so_far(found: Option<u64>, row: &Row) -> Option<u64>
+    ensures { (rows : List Values) → IsLater rows found
+        → IsLater (rows ++ row.now ∷ []) result }
 {
-    for row in rows {
-        if let Some(number) = later(row) {
-            return Some(number);
-        }
-    }
-    None
-}
-
-// The number under the label of the revision, if it is within the limit.
-fn revision(row: &Row) -> Option<u64>
-    ensures found { IfSome result (λ n. (n ≤ most_revision)
-        × (row.now ≡ label_row (codes "revision", n))) }
-    ensures none { IfNone result ((n : ℕ) → n ≤ most_revision
-        → row.now ≡ label_row (codes "revision", n) → ⊥) }
-{
-    match labelled(row, "revision") {
-        Some(number) => {
-            if number <= REVISIONS {
-                Some(number)
-            } else {
-                None
-            }
-        }
-        None => None,
+    match found {
+        Some(number) => Some(number),
+        None => later(row),
     }
 }
 
-// The revision, within its limit.
-fn revision_in(rows: &[Row]) -> Option<u64>
-    ensures found { IfSome result (λ n. (n ≤ most_revision)
-        × Has rows.now (label_row (codes "revision", n))) }
-    ensures none { IfNone result ((n : ℕ) → n ≤ most_revision
-        → Has rows.now (label_row (codes "revision", n)) → ⊥) }
+/// What rows say of a label: no number, one, or several.
+#[derive(Clone, Copy)]
+pub(crate) enum Told {
+    Never,
+    Once(u64),
+    Several,
+}
+
+// What the rows say of a label, with one more.
+fn told_so_far(told: Told, label: &str, row: &Row) -> Told
+    ensures { (rows : List Values) → IsToldOfLabel label.now rows told
+        → IsToldOfLabel label.now (rows ++ row.now ∷ []) result }
 {
-    for row in rows {
-        if let Some(number) = revision(row) {
-            return Some(number);
-        }
+    let Some(number) = labelled(row, label) else {
+        return told;
+    };
+    match told {
+        Told::Never => Told::Once(number),
+        Told::Once(one) => if one == number {
+            Told::Once(one)
+        } else {
+            Told::Several
+        },
+        Told::Several => Told::Several,
     }
-    None
+}
+
+fn is_never(told: Told) -> bool
+    ensures { IsTrue result ↔ (told ≡ Never) }
+{
+    match told {
+        Told::Never => true,
+        Told::Once(_) => false,
+        Told::Several => false,
+    }
+}
+
+fn is_once(told: Told, number: u64) -> bool
+    ensures { IsTrue result ↔ (told ≡ Once number) }
+{
+    match told {
+        Told::Never => false,
+        Told::Once(one) => one == number,
+        Told::Several => false,
+    }
+}
+
+fn is_of(row: &Row, label: &str) -> bool
+    ensures { IsTrue result ↔ IsOf label.now row.now }
+{
+    match labelled(row, label) {
+        Some(_) => true,
+        None => false,
+    }
+}
+
+fn is_label(row: &Row) -> bool
+    ensures { IsTrue result ↔ IsLabel row.now }
+{
+    is_of(row, "schema")
+        || is_of(row, "items")
+        || is_of(row, "submissions")
+        || is_of(row, "revision")
+}
+
+/// What is kept of the labels: whether each row is one, what the rows say of each, and the number of
+/// a later schema, if a row says one.
+#[derive(Clone, Copy)]
+pub(crate) struct Labels {
+    good: bool,
+    pub(crate) later: Option<u64>,
+    schema: Told,
+    items: Told,
+    submissions: Told,
+    revision: Told,
+}
+
+impl Keeper for Labels {
+    ghost use Rattle.pid_tables_check.specs.Steps.Labels.{TakesLabels};
+
+    ghost keeps = { λ first rows it. TakesLabels rows it };
+
+    fn keep(&mut self, row: &Row) -> Result<(), TableFault> {
+        self.good = are_both(self.good, is_label(row));
+        self.later = later_so_far(self.later, row);
+        self.schema = told_so_far(self.schema, "schema", row);
+        self.items = told_so_far(self.items, "items", row);
+        self.submissions = told_so_far(self.submissions, "submissions", row);
+        self.revision = told_so_far(self.revision, "revision", row);
+        Ok(())
+    }
+}
+
+/// Reads the labels.
+pub(crate) fn read_labels<S: Alter>(conn: &mut Connection<S>) -> Result<Labels, TableFault>
+    requires { conn.old.in_transaction ≡ false }
+    ensures rests { OnlyReads S.Store conn.old conn.new }
+    ensures keeps { KeepsTable S.Store conn.old conn.new result table.Meta
+        TakesLabels }
+{
+    let mut labels = Labels {
+        good: true,
+        later: None,
+        schema: Told::Never,
+        items: Told::Never,
+        submissions: Told::Never,
+        revision: Told::Never,
+    };
+    keep_rows(conn, Table::Meta, &mut labels)?;
+    Ok(labels)
 }
 
 /// The revision that the labels have, or else 0.
-pub(crate) fn revision_told(rows: &[Row]) -> u64
+pub(crate) fn revision_told(labels: Labels) -> u64
     ensures limit { result ≤ most_revision }
-    ensures told { (n : ℕ) → n ≤ most_revision → Has rows.now (label_row (codes "revision", n))
-        → Has rows.now (label_row (codes "revision", result)) }
+    ensures told { (n : ℕ) → n ≤ most_revision → labels.revision ≡ Once n → result ≡ n }
 {
-    match revision_in(rows) {
-        Some(number) => number,
-        None => 0,
+    match labels.revision {
+        Told::Never => 0,
+        Told::Once(number) => { if number <= REVISIONS { number } else { 0 } }
+        Told::Several => 0,
     }
 }
 
-fn is_count(row: &Row, schema: u64, items: u64, submissions: u64) -> bool
-    ensures { IsTrue result ↔ IsCount schema items submissions row.now }
-{
-    is_labelled(row, "schema", schema)
-        || is_labelled(row, "items", items)
-        || is_labelled(row, "submissions", submissions)
-}
-
-fn is_label(row: &Row, version: Version, items: u64, submissions: u64, revision: u64) -> bool
-    ensures { IsTrue result ↔ IsLabelled version items submissions revision row.now }
+fn is_told_of_schema(labels: Labels, version: Version, revision: u64) -> bool
+    ensures { IsTrue result ↔ IsToldOfSchema version revision labels }
 {
     match version {
-        Version::One => is_count(row, 1, items, submissions),
-        Version::Two => {
-            is_count(row, 2, items, submissions) || is_labelled(row, "revision", revision)
-        }
-    }
-}
-
-fn have(rows: &[Row], label: &str, number: u64) -> bool
-    ensures { IsTrue result ↔ Any (λ r. r ≡ label_row (label.now, number)) rows.now }
-{
-    rows.iter().any(|row| is_labelled(row, label, number))
-}
-
-fn are_each(rows: &[Row], version: Version, items: u64, submissions: u64, revision: u64) -> bool
-    ensures { IsTrue result ↔ All (IsLabelled version items submissions revision) rows.now }
-{
-    rows.iter()
-        .all(|row| is_label(row, version, items, submissions, revision))
-}
-
-fn have_more(rows: &[Row], version: Version, revision: u64) -> bool
-    ensures { IsTrue result ↔ HasMore version revision rows.now }
-{
-    match version {
-        Version::One => have(rows, "schema", 1),
-        Version::Two => have(rows, "schema", 2) && have(rows, "revision", revision),
+        Version::One => is_once(labels.schema, 1) && is_never(labels.revision),
+        Version::Two => is_once(labels.schema, 2) && is_once(labels.revision, revision),
     }
 }
 
 /// Whether the rows of meta are those of a registry in a schema, with so many items and submissions
 /// and this revision.
-#[tactic(auto, using(crate::proofs::LabelFacts::labels_made, crate::proofs::LabelFacts::labels_of, crate::proofs::LabelFacts::more_of, crate::proofs::LabelFacts::items_of, crate::proofs::LabelFacts::submissions_of))]
 pub(crate) fn are_labels(
-    rows: &[Row],
+    labels: Labels,
     version: Version,
     items: u64,
     submissions: u64,
     revision: u64,
 ) -> bool
-    ensures { IsTrue result ↔ AreLabels version items submissions revision rows.now }
+    ensures { (rows : List Values) → TakesLabels rows labels
+        → IsTrue result ↔ AreLabels version items submissions revision rows }
 {
-    if !are_each(rows, version, items, submissions, revision) {
+    if !labels.good {
         return false;
     }
-    if !have_more(rows, version, revision) {
+    if !is_once(labels.items, items) {
         return false;
     }
-    if !have(rows, "items", items) {
+    if !is_once(labels.submissions, submissions) {
         return false;
     }
-    have(rows, "submissions", submissions)
+    is_told_of_schema(labels, version, revision)
 }

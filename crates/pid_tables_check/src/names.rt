@@ -1,5 +1,5 @@
 //! The names of accounts as a set.
-ghost use Rattle.std.specs.Prelude.{◌≡◌, ◌↔◌, ◌++◌, ◌∷◌, List, [], true, IsTrue, IfOk, IfErr, OnOk};
+ghost use Rattle.std.specs.Prelude.{◌≡◌, ◌↔◌, ◌++◌, ◌∷◌, List, [], true, IsTrue, IfErr, OnOk};
 ghost use Rattle.std.specs.Prelude.{string_bytes};
 ghost use Rattle.sqlite.specs.declared.types.Value.TheVariants.{Text as TextValue};
 ghost use Rattle.std.specs.BTreeSet.{contains_text};
@@ -26,8 +26,12 @@ fn insert_name(names: &mut BTreeSet<String>, name: String) -> Result<(), TableFa
     Ok(())
 }
 
-// Adds the name in a row.
-fn add_name(names: &mut BTreeSet<String>, alloc: Global, row: &Row) -> Result<(), TableFault>
+/// Adds the name in a row.
+pub(crate) fn add_name(
+    names: &mut BTreeSet<String>,
+    alloc: Global,
+    row: &Row,
+) -> Result<(), TableFault>
     ensures added { (rows : List Values) → AreNamesOf names.old rows
         → OnOk result (AreNamesOf names.new (rows ++ row.now ∷ [])) }
     ensures untold { IfErr result IsMemoryOrStore }
@@ -39,18 +43,6 @@ fn add_name(names: &mut BTreeSet<String>, alloc: Global, row: &Row) -> Result<()
             insert_name(names, name)
         }
     }
-}
-
-/// The names of accounts.
-pub(crate) fn names_of(rows: &[Row], alloc: Global) -> Result<BTreeSet<String>, TableFault>
-    ensures names { IfOk result (λ names. AreNamesOf names rows.now) }
-    ensures untold { IfErr result IsMemoryOrStore }
-{
-    let mut names = BTreeSet::new(alloc);
-    for row in rows {
-        add_name(&mut names, alloc, row)?;
-    }
-    Ok(names)
 }
 
 /// Whether it is the name of an account.

@@ -1,17 +1,15 @@
 //! The rows of one table, one at a time.
-ghost use Rattle.std.specs.Prelude.{◌≡◌, ◌++◌, ◌∷◌, List, [], false, IfErr, OnOk};
+ghost use Rattle.std.specs.Prelude.{◌≡◌, ◌++◌, ◌∷◌, List, [], suc, false, IfOk, IfErr, OnOk};
 ghost use Rattle.sqlite.specs.Order.{Row as Values};
-ghost use Rattle.pid_tables_check.specs.Queries.{query_of};
 ghost use Rattle.pid_tables_rows.specs.Clauses.{OnlyReads};
 ghost use Rattle.pid_tables_rows.specs.Faults.{IsMemoryOrStore};
-ghost use Rattle.pid_tables_check.specs.Steps.Clauses.{AnswersTable, KeepsTable};
+ghost use Rattle.pid_tables_check.specs.Steps.Clauses.{KeepsTable};
 
 use crate::shape::{Table, query};
 use pid_tables_rows::TableFault;
 use sqlite::{Alter, Connection, Row};
-use std::alloc::Global;
 
-/// What keeps of rows what judging them takes.
+/// Keeps of rows what judging them needs.
 pub(crate) trait Keeper {
     ghost use Rattle.std.specs.Prelude.{List};
     ghost use Rattle.sqlite.specs.Order.{Row as Values};
@@ -50,40 +48,13 @@ pub(crate) fn keep_rows<S: Alter, K: Keeper>(
     Err(TableFault::Memory)
 }
 
-/// The rows themselves.
-#[derive(Drop)]
-struct Kept {
-    rows: Vec<Row>,
-}
-
-impl Keeper for Kept {
-    ghost use Rattle.std.specs.Prelude.{◌≡◌};
-
-    ghost keeps = { λ first rows kept. kept.rows.items ≡ rows };
-
-    fn keep(&mut self, row: &Row) -> Result<(), TableFault> {
-        let copy = row.copy()?;
-        let pushed = self.rows.push(copy).is_ok();
-        if !pushed {
-            return Err(TableFault::Memory);
-        }
-        Ok(())
-    }
-}
-
-/// All rows of a table, in some order, all held in memory at once.
-pub(crate) fn table_rows<S: Alter>(
-    conn: &mut Connection<S>,
-    table: Table,
-    alloc: Global,
-) -> Result<Vec<Row>, TableFault>
-    requires { conn.old.in_transaction ≡ false }
-    ensures rests { OnlyReads S.Store conn.old conn.new }
-    ensures answers { AnswersTable S.Store conn.old conn.new result (query_of table) }
+/// The count of rows with one more.
+pub(crate) fn one_more(count: u64) -> Result<u64, TableFault>
+    ensures next { IfOk result (λ next. next ≡ suc count) }
+    ensures untold { IfErr result IsMemoryOrStore }
 {
-    let mut kept = Kept {
-        rows: Vec::new(alloc),
-    };
-    keep_rows(conn, table, &mut kept)?;
-    Ok(kept.rows)
+    match count.checked_add(1) {
+        Some(next) => Ok(next),
+        None => Err(TableFault::Memory),
+    }
 }

@@ -1,24 +1,24 @@
 //! Remarks: those on a submission count from 1, and none is empty.
-ghost use Rattle.std.specs.Prelude.{◌≡◌, ◌↔◌, ◌++◌, ◌∷◌, List, [], false, IsTrue, IfOk, IfErr, OnOk};
-ghost use Rattle.std.specs.List.{All};
+ghost use Rattle.std.specs.Prelude.{◌≡◌, ◌↔◌, ◌++◌, ◌∷◌, List, [], false, IsTrue, IfErr, OnOk};
 ghost use Rattle.sqlite.specs.Order.{column, Row as Values};
 ghost use Rattle.pid_tables_rows.specs.TableRows.{number};
 ghost use Rattle.pid_tables_rows.specs.Clauses.{OnlyReads};
 ghost use Rattle.pid_tables_check.specs.Conditions.{AreRemarks};
 ghost use Rattle.pid_tables_check.specs.Steps.Clauses.{KeepsTable};
-ghost use Rattle.pid_tables_check.specs.Steps.Keeping.{IsPartJudged};
+ghost use Rattle.pid_tables_check.specs.Steps.Keeping.{IsPartJudged, TakesRemarks};
 ghost use Rattle.pid_tables_check.specs.declared.shape.Table.TheVariants as table;
 ghost use Rattle.pid_tables_check.specs.Steps.PlaceSets.{
   ArePlacesOf,
+  FollowEach,
   FollowsPlace,
-  HasPlace,
-  IsRemarkAmong,
+  IsRemark,
 };
 ghost use Rattle.pid_tables_rows.specs.Faults.{IsMemoryOrStore};
 
-use crate::read::table_rows;
+use crate::read::{Keeper, keep_rows};
 use crate::shape::Table;
-use crate::value::{has_words, number_at};
+use crate::tables::are_both;
+use crate::value::{has_number, has_words, number_at};
 use crate::words::has_filled_text;
 use pid_moderation::REMARKS;
 use pid_tables_rows::TableFault;
@@ -57,17 +57,6 @@ fn add_place(places: &mut BTreeSet<(u64, u64)>, row: &Row) -> Result<(), TableFa
     }
 }
 
-fn places_of(rows: &[Row], alloc: Global) -> Result<BTreeSet<(u64, u64)>, TableFault>
-    ensures places { IfOk result (λ places. ArePlacesOf places rows.now) }
-    ensures untold { IfErr result IsMemoryOrStore }
-{
-    let mut places = BTreeSet::new(alloc);
-    for row in rows {
-        add_place(&mut places, row)?;
-    }
-    Ok(places)
-}
-
 fn follows(places: &BTreeSet<(u64, u64)>, submission: u64, place: u64) -> bool
     ensures { IsTrue result ↔ FollowsPlace places.now submission place }
 {
@@ -80,26 +69,29 @@ fn follows(places: &BTreeSet<(u64, u64)>, submission: u64, place: u64) -> bool
     places.contains(&(submission, place - 1))
 }
 
-fn has_place(row: &Row, places: &BTreeSet<(u64, u64)>) -> bool
-    ensures { IsTrue result ↔ HasPlace places.now row.now }
+fn follow_each(places: &BTreeSet<(u64, u64)>) -> bool
+    ensures { IsTrue result ↔ FollowEach places.now }
 {
-    match number_at(row, 0) {
-        None => false,
-        Some(submission) => match number_at(row, 1) {
-            None => false,
-            Some(place) => follows(places, submission, place),
-        },
+    for place in places.iter() {
+        if !follows(places, place.0, place.1) {
+            return false;
+        }
     }
+    true
 }
 
-#[tactic(auto, using(crate::proofs::RemarkFacts::place_of, crate::proofs::RemarkFacts::author_of, crate::proofs::RemarkFacts::body_of))]
-fn is_remark_row(row: &Row, places: &BTreeSet<(u64, u64)>) -> bool
-    ensures { IsTrue result ↔ IsRemarkAmong places.now row.now }
+// Whether a row is a remark's, whatever its place.
+#[tactic(auto, using(crate::proofs::RemarkFacts::num_of, crate::proofs::RemarkFacts::place_of, crate::proofs::RemarkFacts::author_of, crate::proofs::RemarkFacts::body_of))]
+fn is_remark_row(row: &Row) -> bool
+    ensures { IsTrue result ↔ IsRemark row.now }
 {
     if row.column_count() != 4 {
         return false;
     }
-    if !has_place(row, places) {
+    if !has_number(row, 0) {
+        return false;
+    }
+    if !has_number(row, 1) {
         return false;
     }
     if !has_words(row, 2) {
@@ -108,18 +100,33 @@ fn is_remark_row(row: &Row, places: &BTreeSet<(u64, u64)>) -> bool
     has_filled_text(row, 3)
 }
 
-fn are_remark_rows(rows: &[Row], places: &BTreeSet<(u64, u64)>) -> bool
-    ensures { IsTrue result ↔ All (IsRemarkAmong places.now) rows.now }
-{
-    rows.iter().all(|row| is_remark_row(row, places))
+// What judging the remarks takes of the rows so far: `good` says whether each alone is a remark's.
+#[derive(Drop)]
+struct RemarkKeeper {
+    good: bool,
+    places: BTreeSet<(u64, u64)>,
 }
 
-fn are_remarks(rows: &[Row], alloc: Global) -> Result<bool, TableFault>
-    ensures judged { IfOk result (IsPartJudged AreRemarks rows.now) }
-    ensures untold { IfErr result IsMemoryOrStore }
+impl Keeper for RemarkKeeper {
+    ghost use Rattle.pid_tables_check.specs.Steps.Keeping.{TakesRemarks};
+
+    ghost keeps = { λ first rows it. TakesRemarks rows it };
+
+    fn keep(&mut self, row: &Row) -> Result<(), TableFault> {
+        self.good = are_both(self.good, is_remark_row(row));
+        add_place(&mut self.places, row)?;
+        Ok(())
+    }
+}
+
+fn are_remarks(keeper: &RemarkKeeper) -> bool
+    ensures { (rows : List Values) → TakesRemarks rows keeper.now
+        → IsTrue result ↔ AreRemarks rows }
 {
-    let places = places_of(rows, alloc)?;
-    Ok(are_remark_rows(rows, &places))
+    if !keeper.good {
+        return false;
+    }
+    follow_each(&keeper.places)
 }
 
 /// Reads the remarks, and judges whether they are those of a registry.
@@ -132,6 +139,10 @@ pub(crate) fn read_remarks<S: Alter>(
     ensures keeps { KeepsTable S.Store conn.old conn.new result table.Remark
         (IsPartJudged AreRemarks) }
 {
-    let rows = table_rows(conn, Table::Remark, alloc)?;
-    are_remarks(rows.as_slice(), alloc)
+    let mut keeper = RemarkKeeper {
+        good: true,
+        places: BTreeSet::new(alloc),
+    };
+    keep_rows(conn, Table::Remark, &mut keeper)?;
+    Ok(are_remarks(&keeper))
 }

@@ -1,22 +1,19 @@
 //! The numbers of changes: each item has one, which is at most the revision.
-ghost use Rattle.std.specs.Prelude.{◌≡◌, ◌↔◌, ◌≤◌, ℕ, false, IsTrue, IfOk, IfErr};
-ghost use Rattle.std.specs.List.{All};
-ghost use Rattle.sqlite.specs.declared.types.Value.TheVariants.{Text as TextValue};
-ghost use Rattle.sqlite.specs.Order.{column};
-ghost use Rattle.pid_ident.specs.PathTexts.{IsPath, path_text};
+ghost use Rattle.std.specs.Prelude.{◌≡◌, ◌↔◌, ◌≤◌, List, ℕ, false, IsTrue};
+ghost use Rattle.sqlite.specs.Order.{column, Row as Values};
 ghost use Rattle.pid_tables_rows.specs.Clauses.{OnlyReads};
-ghost use Rattle.pid_tables_rows.specs.Faults.{IsMemoryOrStore};
 ghost use Rattle.pid_tables_rows.specs.TableRows.{number};
 ghost use Rattle.pid_tables_check.specs.Conditions.{IsSinceRow};
+ghost use Rattle.pid_tables_check.specs.Steps.PathSets.{HasPath};
 ghost use Rattle.pid_tables_check.specs.Steps.Clauses.{KeepsTable};
-ghost use Rattle.pid_tables_check.specs.Steps.Keeping.{GoWith};
+ghost use Rattle.pid_tables_check.specs.Steps.Keeping.{GoWith, TakesSinces};
 ghost use Rattle.pid_tables_check.specs.declared.shape.Table.TheVariants as table;
 
-use crate::item::paths_of;
-use crate::read::table_rows;
+use crate::item::add_path;
+use crate::read::{Keeper, keep_rows};
 use crate::shape::Table;
+use crate::tables::are_both;
 use crate::value::number_at;
-use crate::words::has_path;
 use pid_ident::Path;
 use pid_tables_rows::TableFault;
 use sqlite::{Alter, Connection, Row};
@@ -33,38 +30,47 @@ fn is_within(row: &Row, revision: u64) -> bool
     }
 }
 
-fn is_since_row(row: &Row, revision: u64) -> bool
-    ensures { IsTrue result ↔ IsSinceRow revision row.now }
+// Whether a row is one of a number. It is known whether it has a path.
+fn is_since_row(row: &Row, has_path: bool, revision: u64) -> bool
+    ensures { (IsTrue has_path ↔ HasPath row.now) → IsTrue result ↔ IsSinceRow revision row.now }
 {
-    if row.column_count() != 2 {
+    if !has_path {
         return false;
     }
-    if !has_path(row, 0) {
+    if row.column_count() != 2 {
         return false;
     }
     is_within(row, revision)
 }
 
-fn are_since_rows(rows: &[Row], revision: u64) -> bool
-    ensures { IsTrue result ↔ All (IsSinceRow revision) rows.now }
-{
-    rows.iter().all(|row| is_since_row(row, revision))
+// What judging the numbers takes of the rows so far.
+#[derive(Drop)]
+struct SinceKeeper {
+    revision: u64,
+    good: bool,
+    paths: BTreeSet<Path>,
 }
 
-fn are_sinces(
-    rows: &[Row],
-    items: &BTreeSet<Path>,
-    revision: u64,
-    alloc: Global,
-) -> Result<bool, TableFault>
-    ensures judged { IfOk result (λ good. GoWith items.now revision rows.now good) }
-    ensures untold { IfErr result IsMemoryOrStore }
-{
-    if !are_since_rows(rows, revision) {
-        return Ok(false);
+impl Keeper for SinceKeeper {
+    ghost use Rattle.pid_tables_check.specs.Steps.Keeping.{TakesSinces};
+
+    ghost keeps = { TakesSinces };
+
+    fn keep(&mut self, row: &Row) -> Result<(), TableFault> {
+        let has_path = add_path(&mut self.paths, row)?;
+        self.good = are_both(self.good, is_since_row(row, has_path, self.revision));
+        Ok(())
     }
-    let paths = paths_of(rows, alloc)?;
-    Ok(items.is_subset(&paths))
+}
+
+fn are_sinces(keeper: &SinceKeeper, items: &BTreeSet<Path>) -> bool
+    ensures { (first : _) (rows : List Values) → TakesSinces first rows keeper.now
+        → GoWith items.now keeper.now.revision rows result }
+{
+    if !keeper.good {
+        return false;
+    }
+    items.is_subset(&keeper.paths)
 }
 
 /// Reads the numbers of changes, and judges whether they go with the paths of the items and the
@@ -80,6 +86,11 @@ pub(crate) fn read_sinces<S: Alter>(
     ensures keeps { KeepsTable S.Store conn.old conn.new result table.Since
         (GoWith items.now revision) }
 {
-    let rows = table_rows(conn, Table::Since, alloc)?;
-    are_sinces(rows.as_slice(), items, revision, alloc)
+    let mut keeper = SinceKeeper {
+        revision,
+        good: true,
+        paths: BTreeSet::new(alloc),
+    };
+    keep_rows(conn, Table::Since, &mut keeper)?;
+    Ok(are_sinces(&keeper, items))
 }

@@ -9,13 +9,10 @@ ghost use Rattle.std.specs.Prelude.{
   List,
   [],
   ℕ,
-  suc,
   length,
   true,
   false,
   IsTrue,
-  IfOk,
-  IfErr,
   IfSome,
   IfNone,
 };
@@ -24,7 +21,6 @@ ghost use Rattle.sqlite.specs.Order.{column, Row as Values};
 ghost use Rattle.pid_moderation.specs.WellMade.{ProposesName};
 ghost use Rattle.pid_tables_rows.specs.TableRows.{number, form_of, name_of, state_number};
 ghost use Rattle.pid_moderation.specs.Submissions.{decider_of, reason_of};
-ghost use Rattle.pid_tables_rows.specs.Faults.{IsMemoryOrStore};
 ghost use Rattle.pid_tables_check.specs.Steps.NamesRead.{
   IsAmong,
   IsDecidedAmong,
@@ -40,7 +36,7 @@ ghost use Rattle.pid_tables_check.specs.declared.shape.Table.TheVariants as tabl
 use crate::authors::{Authors, add_author, no_authors};
 use crate::names;
 use crate::numbers::{Numbers, add_number, count_from_one, no_numbers};
-use crate::read::{Keeper, keep_rows};
+use crate::read::{Keeper, keep_rows, one_more};
 use crate::shape::Table;
 use crate::value::{number_at, text_at};
 use crate::words::{has_filled_text, has_name, has_path, has_text, is_blank};
@@ -183,16 +179,6 @@ fn fit_row(fit: Fit, row: &Row, names: &BTreeSet<String>) -> Fit
             good: fit.good,
             greatest: greater(fit.greatest, num),
         },
-    }
-}
-
-fn one_more(count: u64) -> Result<u64, TableFault>
-    ensures next { IfOk result (λ next. next ≡ suc count) }
-    ensures untold { IfErr result IsMemoryOrStore }
-{
-    match count.checked_add(1) {
-        Some(next) => Ok(next),
-        None => Err(TableFault::Memory),
     }
 }
 

@@ -51,3 +51,13 @@ pub(crate) fn number_at(row: &Row, at: usize) -> Option<u64>
         _ => None,
     }
 }
+
+/// Whether there is a number in a column, which is not negative.
+pub(crate) fn has_number(row: &Row, at: usize) -> bool
+    ensures { IsTrue result ↔ ((n : ℕ) × (column row.now at ≡ number n)) }
+{
+    match number_at(row, at) {
+        Some(_) => true,
+        None => false,
+    }
+}

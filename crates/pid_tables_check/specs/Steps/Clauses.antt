@@ -1,7 +1,6 @@
 -- What clauses say of a connection in a transaction: the definitions of Reading, of what the
 -- connections show.
-use Rattle.std.specs.Prelude.{ℕ, List, Result, Vec}
-use Rattle.std.specs.declared.alloc.Global.{Global}
+use Rattle.std.specs.Prelude.{List, Result}
 use Rattle.sqlite.specs.Effect.{Database}
 use Rattle.sqlite.specs.Held.{Held, state}
 use Rattle.sqlite.specs.Order.{Row}
@@ -15,10 +14,6 @@ module _ {S : Type 0} (store : Ghosts S) where
       → (Database → X → Type 0) → (Database → TableFault → Type 0) → Type 0
   JudgesRows old new result Has Says Fails = reading.JudgesRows (state store old)
       (state store new) result Has Says Fails
-
-  abbrev pub AnswersTable : Held S → Held S → Result (Vec Row Global) TableFault → List ℕ → Type 0
-  AnswersTable old new result text = reading.AnswersTable (state store old) (state store new)
-      result text
 
   abbrev pub KeepsTable : {X : Type 0} → Held S → Held S → Result X TableFault → Table
       → (List Row → X → Type 0) → Type 0

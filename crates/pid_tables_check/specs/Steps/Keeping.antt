@@ -8,10 +8,15 @@ use Rattle.sqlite_rules.specs.Lists.{Has}
 use Rattle.pid_file.specs.declared.path.Path.{Path}
 use Rattle.pid_tables_rows.specs.declared.version.Version.{Version}
 use Rattle.pid_tables_rows.specs.declared.version.Version.TheVariants.{One, Two}
+use Rattle.pid_tables_rows.specs.TableRows.{number}
+use Rattle.pid_tables_check.specs.declared.account.AccountKeeper.{AccountKeeper}
 use Rattle.pid_tables_check.specs.declared.account.Accounts.{Accounts}
 use Rattle.pid_tables_check.specs.declared.authors.Authors.{Authors}
 use Rattle.pid_tables_check.specs.declared.receipt.ReceiptKeeper.{ReceiptKeeper}
+use Rattle.pid_tables_check.specs.declared.item.ItemKeeper.{ItemKeeper}
 use Rattle.pid_tables_check.specs.declared.item.Items.{Items}
+use Rattle.pid_tables_check.specs.declared.remark.RemarkKeeper.{RemarkKeeper}
+use Rattle.pid_tables_check.specs.declared.since.SinceKeeper.{SinceKeeper}
 use Rattle.pid_tables_check.specs.declared.submission.Fit.{Fit}
 use Rattle.pid_tables_check.specs.declared.submission.SubmissionKeeper.{SubmissionKeeper}
 use Rattle.pid_tables_check.specs.declared.submission.Submissions.{Submissions}
@@ -23,11 +28,13 @@ use Rattle.pid_tables_check.specs.Steps.AuthorSets.{AreAuthorsOf}
 use Rattle.pid_tables_check.specs.Steps.NameSets.{AreNamesOf}
 use Rattle.pid_tables_check.specs.Steps.NamesRead.{IsSubmissionAmong}
 use Rattle.pid_tables_check.specs.Steps.NumberSets.{AreNumbersOf}
-use Rattle.pid_tables_check.specs.Steps.PathSets.{ArePathsOf}
+use Rattle.pid_tables_check.specs.Steps.PathSets.{ArePathsOf, IsItemAlone}
+use Rattle.pid_tables_check.specs.Steps.PlaceSets.{ArePlacesOf, IsRemark}
 use Rattle.pid_tables_check.specs.Queries.{query_of}
 use Rattle.pid_tables_check.specs.Shapes.{ShowsRows, ShowsSinces, ShowsTables}
 use Rattle.pid_tables_check.specs.Conditions.{Rows, AreAccounts, AreItems, AreSubmissions}
 use Rattle.pid_tables_check.specs.Conditions.{AreRemarks, AreReceipts, AreSinces}
+use Rattle.pid_tables_check.specs.Conditions.{HasValue, IsAccountRow, IsSinceRow}
 
 -- ---- one table
 
@@ -35,14 +42,34 @@ use Rattle.pid_tables_check.specs.Conditions.{AreRemarks, AreReceipts, AreSinces
 abbrev pub IsPartJudged : (List Row → Type 0) → List Row → Bool → Type 0
 IsPartJudged Are rows good = IsTrue good ↔ Are rows
 
+-- each row is so
+abbrev pub AreEach : (Row → Type 0) → List Row → Type 0
+AreEach Is rows = (r : Row) → Has rows r → Is r
+
+-- A record whose name begins with Takes: the keeper took these rows.
+pub record TakesAccounts (rows : List Row) (it : AccountKeeper) : Type 0 where
+  pub good : IsPartJudged (AreEach IsAccountRow) rows it.good
+  pub administrator : IsTrue it.administrator ↔ HasValue rows 1 (number 3)
+  pub names : AreNamesOf it.names rows
+
 pub record KeepsAccounts (rows : List Row) (it : Accounts) : Type 0 where
   pub names : AreNamesOf it.names rows
   pub good : IsPartJudged AreAccounts rows it.good
+
+pub record TakesItems (rows : List Row) (it : ItemKeeper) : Type 0 where
+  pub good : IsPartJudged (AreEach IsItemAlone) rows it.good
+  pub count : it.count ≡ length rows
+  pub paths : ArePathsOf it.paths rows
 
 pub record KeepsItems (rows : List Row) (it : Items) : Type 0 where
   pub count : it.count ≡ length rows
   pub paths : ArePathsOf it.paths rows
   pub good : IsPartJudged AreItems rows it.good
+
+pub record TakesSinces (first : SinceKeeper) (rows : List Row) (it : SinceKeeper) : Type 0 where
+  pub revision : it.revision ≡ first.revision
+  pub good : IsPartJudged (AreEach (IsSinceRow it.revision)) rows it.good
+  pub paths : ArePathsOf it.paths rows
 
 -- the numbers of changes go with any items that have these paths
 abbrev pub GoWith : BTreeSet Path → ℕ → List Row → Bool → Type 0
@@ -59,7 +86,6 @@ abbrev pub AreFit : BTreeSet (String Global) → List Row → Fit → Type 0
 AreFit names rows fit = (count : ℕ) → (IsTrue fit.good × (fit.greatest ≤ count))
     ↔ ((r : Row) → Has rows r → IsSubmissionAmong names count r)
 
--- the keeper took these rows
 pub record TakesSubmissions (first : SubmissionKeeper) (rows : List Row)
     (it : SubmissionKeeper) : Type 0 where
   pub names : it.names.now ≡ first.names.now
@@ -79,7 +105,10 @@ abbrev pub AreOfAuthors : Authors → List Row → Bool → Type 0
 AreOfAuthors authors rows good = (submissions : List Row) → AreAuthorsOf authors submissions
     → IsPartJudged (AreReceipts submissions) rows good
 
--- the keeper took these rows
+pub record TakesRemarks (rows : List Row) (it : RemarkKeeper) : Type 0 where
+  pub good : IsPartJudged (AreEach IsRemark) rows it.good
+  pub places : ArePlacesOf it.places rows
+
 pub record TakesReceipts (first : ReceiptKeeper) (rows : List Row) (it : ReceiptKeeper) : Type 0 where
   pub authors : it.authors.now ≡ first.authors.now
   pub good : AreOfAuthors it.authors.now rows it.good

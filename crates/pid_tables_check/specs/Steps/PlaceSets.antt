@@ -1,10 +1,10 @@
--- The places of remarks as a set, and rows of remarks judged by it.
+-- The places of remarks as a set, and what makes a row a remark's.
 use Rattle.std.specs.Prelude.{◌≡◌, ◌↔◌, ◌≤◌, ℕ, suc, true, false, List, [], ◌∷◌}
 use Rattle.std.specs.declared.cmp.Ordering.{Ordering}
 use Rattle.std.specs.Ordering.{nat_cmp, ordering_then}
 use Rattle.std.specs.BTreeSet.{BTreeSet, contains}
 use Rattle.sqlite.specs.declared.types.Value.TheVariants.{Text}
-use Rattle.sqlite.specs.Order.{Row, column}
+use Rattle.sqlite.specs.Order.{Row}
 use Rattle.pid_ident.specs.Bytes.{is_empty}
 use Rattle.pid_ident.specs.Words.{is_text}
 use Rattle.pid_moderation.specs.CheckTables.{most_remarks}
@@ -26,16 +26,17 @@ FollowsPlace places num place = (1 ≤ place) × (place ≤ most_remarks)
     × ((earlier : ℕ) → 1 ≤ earlier → place ≡ suc earlier
     → contains pair_cmp places (num, earlier) ≡ true)
 
-abbrev pub HasPlace : BTreeSet (ℕ × ℕ) → Row → Type 0
-HasPlace places r = (num : ℕ) × (place : ℕ) × (column r 0 ≡ number num)
-    × (column r 1 ≡ number place) × FollowsPlace places num place
+-- each place of the set follows another one there, or is the first
+abbrev pub FollowEach : BTreeSet (ℕ × ℕ) → Type 0
+FollowEach places = (at : ℕ × ℕ) → contains pair_cmp places at ≡ true
+    → FollowsPlace places at.0 at.1
 
-pub record IsRemarkAmong (places : BTreeSet (ℕ × ℕ)) (r : Row) : Type 0 where
+-- a remark, whatever its place
+pub record IsRemark (r : Row) : Type 0 where
   pub num : ℕ
   pub place : ℕ
   pub author : List ℕ
   pub body : List ℕ
   pub is : r ≡ number num ∷ number place ∷ Text author ∷ Text body ∷ []
-  pub follows : FollowsPlace places num place
   pub text : is_text body ≡ true
   pub filled : is_empty body ≡ false

@@ -1,6 +1,5 @@
 -- What calls in a transaction say of the rows that the transaction shows.
-use Rattle.std.specs.Prelude.{◌≡◌, ℕ, List, Option, Some, None, Result, MatchResult, Vec}
-use Rattle.std.specs.declared.alloc.Global.{Global}
+use Rattle.std.specs.Prelude.{◌≡◌, List, Option, Some, None, Result, MatchResult}
 use Rattle.sqlite.specs.Effect.{Database}
 use Rattle.sqlite.specs.Order.{Row}
 use Rattle.sqlite.specs.State.{State, HasCleanDisk}
@@ -21,12 +20,7 @@ abbrev pub JudgesRows : {X : Type 0} → State → State → Result X TableFault
 JudgesRows old new result Has Says Fails = HasCleanDisk new → (d : Database) → old.now ≡ d → Has d
     → MatchResult result (λ x. Says d x × (new.now ≡ d)) (Fails d)
 
--- the rows that a query answers, if it can be asked
-abbrev pub AnswersTable : State → State → Result (Vec Row Global) TableFault → List ℕ → Type 0
-AnswersTable old new result text = JudgesRows old new result (λ d. CanBeAsked d.schema text)
-    (λ d rows. ShowsRows d text rows.items) (λ d. IsMemoryOrStore)
-
--- the same, with what is kept of the rows of a table
+-- what is kept of the rows that the query of a table answers, if it can be asked
 abbrev pub KeepsTable : {X : Type 0} → State → State → Result X TableFault → Table
     → (List Row → X → Type 0) → Type 0
 KeepsTable old new result table Says = JudgesRows old new result

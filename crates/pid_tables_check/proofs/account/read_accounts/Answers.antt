@@ -1,13 +1,15 @@
 use Rattle.pid_tables_rows.specs.Faults.{IsMemoryOrStore}
 use Rattle.pid_tables_rows.proofs.CauseLemmas.{passed_on}
-use Rattle.pid_tables_check.specs.Queries.{query_of}
-use Rattle.pid_tables_check.specs.Shapes.{ShowsRows}
-use Rattle.pid_tables_check.specs.declared.shape.Table.TheVariants.{Account}
-use Rattle.pid_tables_check.proofs.KeepingFacts.{kept}
+use Rattle.pid_tables_check.specs.Conditions.{IsAccountRow}
+use Rattle.pid_tables_check.proofs.ItemFacts.{no_row}
+use Rattle.pid_tables_check.proofs.NameFacts.{no_names}
 use Rattle.pid_tables_check.proofs.account.read_accounts.Goals as goal
 
-pub returns-in_err-rows-clause-keeps : goal.returns-in_err-rows-clause-keeps
-returns-in_err-rows-clause-keeps g c clean d is asked = passed_on c.from_residual.result _ _ IsMemoryOrStore c.from_residual.ensures.1 (c.in_err-rows.ensures.answers clean d is asked)
+pub returns-in_err-keep_rows-clause-keeps : goal.returns-in_err-keep_rows-clause-keeps
+returns-in_err-keep_rows-clause-keeps g c clean d is asked = passed_on c.from_residual.result _ _ IsMemoryOrStore c.from_residual.ensures.1 (c.in_err-keep_rows.ensures.keeps clean d is asked)
 
 pub returns-clause-keeps : goal.returns-clause-keeps
-returns-clause-keeps g c clean d is asked = kept (ShowsRows d (query_of Account)) _ _ c.in_ok-rows.rows.items c.as_slice.result.now c.keep_accounts.result c.as_slice.ensures.value (c.in_ok-rows.ensures.answers clean d is asked) c.keep_accounts.ensures.keeps c.keep_accounts.ensures.untold
+returns-clause-keeps g c clean d is asked =
+    let it = c.in_ok-keep_rows.ensures.keeps clean d is asked in
+    let taken = it.0.2 (record { good = no_row IsAccountRow; administrator = (λ no. absurd cc, λ some. absurd some.1); names = no_names _ c.new.ensures.empty }) in
+    ((it.0.0, it.0.1, record { names = taken.names; good = c.are_accounts.ensures it.0.0 taken }), it.1)

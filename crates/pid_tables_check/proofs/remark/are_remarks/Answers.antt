@@ -1,8 +1,13 @@
-use Rattle.pid_tables_check.proofs.RemarkFacts.{remarks_made, remarks_among}
+use Rattle.pid_tables_check.proofs.Telling.{off_on}
+use Rattle.pid_tables_check.proofs.RemarkFacts.{remarks_made, remarks_alone, follow_of}
 use Rattle.pid_tables_check.proofs.remark.are_remarks.Goals as goal
 
-pub returns-clause-judged : goal.returns-clause-judged
-returns-clause-judged c =
-    let places = c.in_ok-places.places in
-    let are = c.in_ok-places.ensures.places in
-    (λ yes. remarks_made places c.args.rows.now are (c.are_remark_rows.ensures.0 yes), λ good. c.are_remark_rows.ensures.1 (remarks_among places c.args.rows.now are good))
+pub returns-then-not-keeper : goal.returns-then-not-keeper
+returns-then-not-keeper c rows are = (λ no. absurd cc, λ good. absurd (off_on c.args.keeper.now.good c.if-not-keeper.true (are.good.1 (remarks_alone rows good))))
+
+pub returns : goal.returns
+returns c rows are =
+    let keeper = c.args.keeper.now in (
+      λ yes. remarks_made keeper.places rows are.places (are.good.0 c.if-not-keeper.false) (c.follow_each.ensures.0 yes),
+      λ good. c.follow_each.ensures.1 (follow_of keeper.places rows are.places good),
+    )

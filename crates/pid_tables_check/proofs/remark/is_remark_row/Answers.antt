@@ -6,4 +6,4 @@ pub returns : goal.returns
 returns c =
     let r = c.args.row.now in
     let len : length r ≡ 4 = grind (arith, c.if-column_count-ne4.false, c.column_count.ensures) in
-    (λ yes. remark_made c.args.places.now r len (c.if-not-has_place.ensures.0 refl) (c.if-not-has_words.ensures.0 refl) (c.has_filled_text.ensures.0 yes), λ it. c.has_filled_text.ensures.1 (body_of c.args.places.now r it))
+    (λ yes. remark_made r len (c.if-not-has_number.ensures.0 refl) (c.if-not-has_number-2.ensures.0 refl) (c.if-not-has_words.ensures.0 refl) (c.has_filled_text.ensures.0 yes), λ it. c.has_filled_text.ensures.1 (body_of r it))

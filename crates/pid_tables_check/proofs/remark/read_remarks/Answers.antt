@@ -1,13 +1,15 @@
 use Rattle.pid_tables_rows.specs.Faults.{IsMemoryOrStore}
 use Rattle.pid_tables_rows.proofs.CauseLemmas.{passed_on}
-use Rattle.pid_tables_check.specs.Queries.{query_of}
-use Rattle.pid_tables_check.specs.Shapes.{ShowsRows}
-use Rattle.pid_tables_check.specs.declared.shape.Table.TheVariants.{Remark}
-use Rattle.pid_tables_check.proofs.KeepingFacts.{kept}
+use Rattle.pid_tables_check.specs.Steps.PlaceSets.{IsRemark}
+use Rattle.pid_tables_check.proofs.ItemFacts.{no_row}
+use Rattle.pid_tables_check.proofs.RemarkFacts.{no_places}
 use Rattle.pid_tables_check.proofs.remark.read_remarks.Goals as goal
 
-pub returns-in_err-rows-clause-keeps : goal.returns-in_err-rows-clause-keeps
-returns-in_err-rows-clause-keeps g c clean d is asked = passed_on c.from_residual.result _ _ IsMemoryOrStore c.from_residual.ensures.1 (c.in_err-rows.ensures.answers clean d is asked)
+pub returns-in_err-keep_rows-clause-keeps : goal.returns-in_err-keep_rows-clause-keeps
+returns-in_err-keep_rows-clause-keeps g c clean d is asked = passed_on c.from_residual.result _ _ IsMemoryOrStore c.from_residual.ensures.1 (c.in_err-keep_rows.ensures.keeps clean d is asked)
 
 pub returns-clause-keeps : goal.returns-clause-keeps
-returns-clause-keeps g c clean d is asked = kept (ShowsRows d (query_of Remark)) _ _ c.in_ok-rows.rows.items c.as_slice.result.now c.are_remarks.result c.as_slice.ensures.value (c.in_ok-rows.ensures.answers clean d is asked) c.are_remarks.ensures.judged c.are_remarks.ensures.untold
+returns-clause-keeps g c clean d is asked =
+    let it = c.in_ok-keep_rows.ensures.keeps clean d is asked in
+    let taken = it.0.2 (record { good = no_row IsRemark; places = no_places _ c.new.ensures.empty }) in
+    ((it.0.0, it.0.1, c.are_remarks.ensures it.0.0 taken), it.1)

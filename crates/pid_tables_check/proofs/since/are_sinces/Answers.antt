@@ -1,15 +1,14 @@
-use Rattle.std.proofs.Common.{refl}
-use Rattle.pid_tables_check.proofs.SinceFacts.{sinces_made, sinces_of, subset_of}
+use Rattle.pid_tables_check.proofs.Telling.{off_on}
+use Rattle.pid_tables_check.proofs.SinceFacts.{sinces_made, subset_of}
 use Rattle.pid_tables_check.proofs.since.are_sinces.Goals as goal
 
-pub returns-then-not-are_since_rows-clause-judged : goal.returns-then-not-are_since_rows-clause-judged
-returns-then-not-are_since_rows-clause-judged c items have = (λ no. absurd cc, λ good. c.if-not-are_since_rows.ensures.1 (sinces_of c.args.revision items c.args.rows.now good))
+pub returns-then-not-keeper : goal.returns-then-not-keeper
+returns-then-not-keeper c first rows are items have = (λ no. absurd cc, λ good. absurd (off_on c.args.keeper.now.good c.if-not-keeper.true (are.good.1 good.each)))
 
-pub returns-clause-judged : goal.returns-clause-judged
-returns-clause-judged c items have =
-    let all = c.args.items.now in
-    let paths = c.in_ok-paths.paths in
-    let are = c.in_ok-paths.ensures.paths in (
-      λ yes. sinces_made c.args.revision items c.args.rows.now all paths have are (c.if-not-are_since_rows.ensures.0 refl) (c.is_subset.ensures.0 yes),
-      λ good. c.is_subset.ensures.1 (subset_of c.args.revision items c.args.rows.now all paths have are good),
+pub returns : goal.returns
+returns c first rows are items have =
+    let keeper = c.args.keeper.now in
+    let all = c.args.items.now in (
+      λ yes. sinces_made keeper.revision items rows all keeper.paths have are.paths (are.good.0 c.if-not-keeper.false) (c.is_subset.ensures.0 yes),
+      λ good. c.is_subset.ensures.1 (subset_of keeper.revision items rows all keeper.paths have are.paths good),
     )

@@ -1,13 +1,16 @@
+use Rattle.std.proofs.Common.{refl, subst}
 use Rattle.pid_tables_rows.specs.Faults.{IsMemoryOrStore}
 use Rattle.pid_tables_rows.proofs.CauseLemmas.{passed_on}
-use Rattle.pid_tables_check.specs.Queries.{query_of}
-use Rattle.pid_tables_check.specs.Shapes.{ShowsRows}
-use Rattle.pid_tables_check.specs.declared.shape.Table.TheVariants.{Since}
-use Rattle.pid_tables_check.proofs.KeepingFacts.{kept}
+use Rattle.pid_tables_check.specs.Conditions.{IsSinceRow}
+use Rattle.pid_tables_check.specs.Steps.Keeping.{GoWith}
+use Rattle.pid_tables_check.proofs.ItemFacts.{no_paths, no_row}
 use Rattle.pid_tables_check.proofs.since.read_sinces.Goals as goal
 
-pub returns-in_err-rows-clause-keeps : goal.returns-in_err-rows-clause-keeps
-returns-in_err-rows-clause-keeps g c clean d is asked = passed_on c.from_residual.result _ _ IsMemoryOrStore c.from_residual.ensures.1 (c.in_err-rows.ensures.answers clean d is asked)
+pub returns-in_err-keep_rows-clause-keeps : goal.returns-in_err-keep_rows-clause-keeps
+returns-in_err-keep_rows-clause-keeps g c clean d is asked = passed_on c.from_residual.result _ _ IsMemoryOrStore c.from_residual.ensures.1 (c.in_err-keep_rows.ensures.keeps clean d is asked)
 
 pub returns-clause-keeps : goal.returns-clause-keeps
-returns-clause-keeps g c clean d is asked = kept (ShowsRows d (query_of Since)) _ _ c.in_ok-rows.rows.items c.as_slice.result.now c.are_sinces.result c.as_slice.ensures.value (c.in_ok-rows.ensures.answers clean d is asked) c.are_sinces.ensures.judged c.are_sinces.ensures.untold
+returns-clause-keeps g c clean d is asked =
+    let it = c.in_ok-keep_rows.ensures.keeps clean d is asked in
+    let taken = it.0.2 (record { revision = refl; good = no_row (IsSinceRow c.args.revision); paths = no_paths _ c.new.ensures.empty }) in
+    ((it.0.0, it.0.1, subst (λ revision. GoWith c.args.items.now revision it.0.0 c.are_sinces.result) taken.revision (c.are_sinces.ensures _ it.0.0 taken)), it.1)
