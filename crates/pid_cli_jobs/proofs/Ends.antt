@@ -1,9 +1,10 @@
 -- Ends of jobs, by what they came to.
-use Rattle.std.specs.Prelude.{◌≡◌, ◌⊎◌, ℕ, List, Option, Result}
+use Rattle.std.specs.Prelude.{◌≡◌, ◌⊎◌, Result}
 use Rattle.std.proofs.Common.{refl, sym, ap, inl, inr}
 use Rattle.pid_file.specs.TextEnds.{status_of}
 use Rattle.pid_file.specs.declared.text_end.TextEnd.{TextEnd}
 use Rattle.pid_file.specs.declared.text_end.TextEnd.TheVariants as texts
+use Rattle.pid_file.specs.Writing.{WriterUse}
 use Rattle.pid_moderation.specs.declared.command.Reply.{Reply}
 use Rattle.pid_moderation.specs.declared.refusal.Refusal.{Refusal}
 use Rattle.pid_cli_jobs.specs.declared.job_end.JobEnd.{JobEnd}
@@ -28,8 +29,8 @@ unread_told texts.ReadFault read write = absurd (read refl)
 unread_told texts.WriteFault read write = absurd (write refl)
 
 -- nothing is printed of an end without a reply
-pub not_printed : (done : JobEnd) (taken : Option (List ℕ))
-    → ((reply : Result Reply Refusal) → done ≡ Replied reply → ⊥) → PrintsReply done done taken taken
-not_printed (Told status) taken no_reply = (refl, refl)
-not_printed (Replied reply) taken no_reply = absurd (no_reply reply refl)
-not_printed FileFailed taken no_reply = (refl, refl)
+pub not_printed : (done : JobEnd) (w : WriterUse) → w.after ≡ w.before
+    → ((reply : Result Reply Refusal) → done ≡ Replied reply → ⊥) → PrintsReply done done w
+not_printed (Told status) w same no_reply = (refl, same)
+not_printed (Replied reply) w same no_reply = absurd (no_reply reply refl)
+not_printed FileFailed w same no_reply = (refl, same)

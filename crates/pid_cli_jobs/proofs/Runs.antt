@@ -1,5 +1,5 @@
 -- What the next run finds in the files of an earlier one.
-use Rattle.std.specs.Prelude.{◌≡◌, ◌⊎◌, true, false, List, IsTrue}
+use Rattle.std.specs.Prelude.{◌⊎◌, true, false, List, IsTrue}
 use Rattle.std.proofs.Common.{inl, inr, sym, ap, subst}
 use Rattle.std.proofs.Math.Logic.{∥∥₁_map}
 use Rattle.sqlite.proofs.Theorems.{next_run}

@@ -1,6 +1,6 @@
 -- Runs of the program on the files of a database, each with a store of its own. Choices of this
 -- project.
-use Rattle.std.specs.Prelude.{◌≡◌, List, [], ◌∷◌, ◌++◌, IsTrue, Ok}
+use Rattle.std.specs.Prelude.{List, [], ◌∷◌, ◌++◌, IsTrue, Ok}
 use Rattle.sqlite.specs.Closing.{IsCopied}
 use Rattle.sqlite.specs.Files.{IsClosed, IsOpened, file_state, over_files}
 use Rattle.sqlite.specs.Held.{AreDatabases, Held}

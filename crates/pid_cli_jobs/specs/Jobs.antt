@@ -4,11 +4,9 @@ use Rattle.std.specs.Prelude.{◌≡◌, false, ℕ, List, Option, IfSome, Resul
 use Rattle.sqlite_trees.specs.declared.store.Store.{Ghosts}
 use Rattle.pid_file.specs.declared.io.Input as inputs
 use Rattle.pid_file.specs.declared.io.Output as outputs
-use Rattle.pid_file.specs.Tidied.{Writers}
+use Rattle.pid_file.specs.Writing.{WriterUse, use_of}
 use Rattle.pid_moderation.specs.declared.command.Reply.{Reply}
-use Rattle.pid_moderation.specs.declared.refusal.Refusal.{Refusal}
 use Rattle.pid_moderation.specs.BeforeFile.{import_of}
-use Rattle.pid_moderation.specs.History.{History}
 use Rattle.pid_script.specs.declared.moderated.Moderated as moderated
 use Rattle.pid_script.specs.declared.script_end.ScriptEnd.{ScriptEnd}
 use Rattle.pid_script.specs.declared.script_end.ScriptEnd.TheVariants as scripts
@@ -29,6 +27,7 @@ use Rattle.pid_cli_jobs.specs.declared.job_end.JobEnd.TheVariants.{Told, Replied
 use Rattle.pid_cli_jobs.specs.declared.jobs.RegistryJob.{RegistryJob}
 use Rattle.pid_cli_jobs.specs.declared.jobs.RegistryJob.TheVariants as jobs
 use Rattle.pid_cli_jobs.specs.declared.serving.Port.{Port}
+use Rattle.pid_cli_jobs.specs.Lines.{Streams}
 use Rattle.pid_cli_jobs.specs.Serving.{Serves}
 
 -- what a job is to do with a registry; of an input, with what it has to come
@@ -44,21 +43,19 @@ work_of reader (jobs.Import account key input) = ToImport account key (reader.to
 work_of reader jobs.Export = ToExport
 work_of reader (jobs.Serve port) = ToServe port
 
--- The writer of a job and what its faults had taken, before the job and after it; and how it ended.
+-- The writer of a job before it and after it, what became of the writer of faults, and how the job
+-- ended.
 pub record Wrote (W : Type 0) : Type 0 where
   pub output : W
   pub output_after : W
-  pub faults : Option (List ℕ)
-  pub faults_after : Option (List ℕ)
+  pub faults : WriterUse
   pub end : JobEnd
 
--- what the two had taken
-abbrev pub taken_by : {W : Type 0} → outputs.Ghosts W → Wrote W → Writers
-taken_by writer w = record {
-  output = writer.taken w.output;
-  output_after = writer.taken w.output_after;
+-- what became of the two
+abbrev pub streams_of : {W : Type 0} → outputs.Ghosts W → Wrote W → Streams
+streams_of writer w = record {
+  output = use_of writer w.output w.output_after;
   faults = w.faults;
-  faults_after = w.faults_after;
 }
 
 -- a fault of the reader or the writer is still to be reported
@@ -114,10 +111,10 @@ module _ {S : Type 0} (store : Ghosts S) where
       → Registry S store → Wrote W → Type 0
   DoesWork writer (ToAnswer to_come) old new w = RunsLines old new to_come (writer.taken w.output)
       (writer.taken w.output_after) w.end
-      × (w.faults_after ≡ w.faults)
+      × (w.faults.after ≡ w.faults.before)
   DoesWork writer (ToImport account key to_come) old new w = BringsIn old new account key to_come
       w.end
-      × (w.output_after ≡ w.output) × (w.faults_after ≡ w.faults)
+      × (w.output_after ≡ w.output) × (w.faults.after ≡ w.faults.before)
   DoesWork writer ToExport old new w = PrintsAll writer old new w.output w.output_after w.end
-      × (w.faults_after ≡ w.faults)
-  DoesWork writer (ToServe port) old new w = Serves port (is_live new) (taken_by writer w) w.end
+      × (w.faults.after ≡ w.faults.before)
+  DoesWork writer (ToServe port) old new w = Serves port (is_live new) (streams_of writer w) w.end

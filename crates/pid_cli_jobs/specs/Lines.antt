@@ -1,7 +1,9 @@
 -- The lines that a job prints, and the status with which it ends: choices of this project.
-use Rattle.std.specs.Prelude.{◌≡◌, ℕ, List, ◌++◌, codes, decimal, Option, Result, Ok, Err}
+use Rattle.std.specs.Prelude.{◌≡◌, ℕ, List, ◌++◌, codes, decimal, Result, Ok, Err}
 use Rattle.std.specs.Io.KnownBytes.{Appends}
-use Rattle.pid_file.specs.Sending.{SendsFront}
+use Rattle.pid_file.specs.TextEnds.{fault_line}
+use Rattle.pid_file.specs.Writing.{FailsWithin, TriesLine, WriterUse}
+use Rattle.pid_file.specs.declared.text_end.TextEnd.TheVariants.{Memory}
 use Rattle.pid_lookup.specs.declared.answer.Answer.{Answer}
 use Rattle.pid_lookup.specs.declared.answer.Answer.TheVariants as answers
 use Rattle.pid_lookup.specs.declared.answering.LookupRefusal.{LookupRefusal}
@@ -61,20 +63,31 @@ unopened_line fault = unopened_word fault
 abbrev pub count_line : List ℕ → ℕ → List ℕ
 count_line word count = word ++ decimal count ++ codes "\n"
 
+-- what became of the output, and of the writer of faults
+pub record Streams : Type 0 where
+  pub output : WriterUse
+  pub faults : WriterUse
+
 -- A job that prints this line and then ends with this status: the writer took the whole line, or it
--- failed after a prefix of it.
-abbrev pub PrintsLine : JobEnd → Option (List ℕ) → Option (List ℕ) → List ℕ → ℕ → Type 0
-PrintsLine (Told status) old new line wanted = (status ≡ wanted) × Appends old new line
-PrintsLine FileFailed old new line wanted = SendsFront old new line
-PrintsLine (Replied reply) old new line wanted = ⊥
+-- failed within it.
+abbrev pub PrintsLine : JobEnd → WriterUse → List ℕ → ℕ → Type 0
+PrintsLine (Told status) w line wanted = (status ≡ wanted) × Appends w.before w.after line
+PrintsLine FileFailed w line wanted = FailsWithin w line
+PrintsLine (Replied reply) w line wanted = ⊥
 
 -- What becomes of the answer to a look-up, or of its refusal: its line, and the status after it.
 -- Out of memory nothing is printed.
-abbrev pub PrintsAnswer : {X : Type 0} → Result Answer (LookupRefusal X) → JobEnd
-    → Option (List ℕ) → Option (List ℕ) → Type 0
-PrintsAnswer (Ok answer) end old new = PrintsLine end old new (lookup_line answer)
-    (lookup_status answer)
-PrintsAnswer (Err look_ups.BadFlags) end old new = PrintsLine end old new
+abbrev pub PrintsAnswer : {X : Type 0} → Result Answer (LookupRefusal X) → JobEnd → WriterUse
+    → Type 0
+PrintsAnswer (Ok answer) end w = PrintsLine end w (lookup_line answer) (lookup_status answer)
+PrintsAnswer (Err look_ups.BadFlags) end w = PrintsLine end w
     (unanswered_line unanswered.BadFlags) 1
-PrintsAnswer (Err look_ups.Memory) end old new = (end ≡ Told 3) × (new ≡ old)
-PrintsAnswer (Err (look_ups.Names fault)) end old new = (end ≡ Told 3) × (new ≡ old)
+PrintsAnswer (Err look_ups.Memory) end w = (end ≡ Told 3) × (w.after ≡ w.before)
+PrintsAnswer (Err (look_ups.Names fault)) end w = (end ≡ Told 3) × (w.after ≡ w.before)
+
+-- What standard error gets of it: out of memory is reported, and nothing else.
+abbrev pub ReportsAnswer : {X : Type 0} → Result Answer (LookupRefusal X) → WriterUse → Type 0
+ReportsAnswer (Ok _) w = w.after ≡ w.before
+ReportsAnswer (Err look_ups.BadFlags) w = w.after ≡ w.before
+ReportsAnswer (Err look_ups.Memory) w = TriesLine w (fault_line Memory)
+ReportsAnswer (Err (look_ups.Names _)) w = TriesLine w (fault_line Memory)

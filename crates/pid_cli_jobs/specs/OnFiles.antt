@@ -41,10 +41,11 @@ module _ {E W : Type 0} (files : disk.Ghosts E) (writer : outputs.Ghosts W) wher
     pub does : DoesOn over_files writer conn task w back
 
 module _ {E W : Type 0} (files : disk.Ghosts E) (image : Image) (writer : outputs.Ghosts W) where
-  -- a connection was opened on what the files held, and the task was done there
+  -- a new connection was opened on what the files held, and the task was done there
   pub record OpensAndDoes (task : FileTask) (w : Wrote W) : Type 0 where
     pub conn : Held (FileStore E files)
     pub opens : OpensFiles image conn
+    pub fresh : IsNew conn
     pub there : DoesThere files writer conn task w
 
   -- a job on the files, or why they were not opened

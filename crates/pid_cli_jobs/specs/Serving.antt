@@ -2,10 +2,8 @@
 use Rattle.std.specs.Prelude.{◌≡◌, ℕ, Bool, List, codes, Option}
 use Rattle.std.specs.Io.KnownBytes.{Appends}
 use Rattle.pid_file.specs.declared.text_end.TextEnd.TheVariants.{Memory}
-use Rattle.pid_file.specs.Sending.{SendsFront}
 use Rattle.pid_file.specs.TextEnds.{fault_line}
-use Rattle.pid_file.specs.Tidied.{Writers}
-use Rattle.pid_file.specs.Told.{TriesLine}
+use Rattle.pid_file.specs.Writing.{FailsWithin, TriesLine}
 use Rattle.pid_http_listener.specs.declared.serving.Serving.{Serving}
 use Rattle.pid_http_listener.specs.declared.serving.ServingEnd.{ServingEnd}
 use Rattle.pid_http_listener.specs.declared.serving.ServingEnd.TheVariants.{All, NotLive}
@@ -14,7 +12,7 @@ use Rattle.pid_http_listener.specs.Servings.{CountsStreams, IsLiveAt}
 use Rattle.pid_cli_jobs.specs.declared.job_end.JobEnd.{JobEnd}
 use Rattle.pid_cli_jobs.specs.declared.job_end.JobEnd.TheVariants.{Told, FileFailed}
 use Rattle.pid_cli_jobs.specs.declared.serving.Port.{Port}
-use Rattle.pid_cli_jobs.specs.Lines.{PrintsLine, count_line}
+use Rattle.pid_cli_jobs.specs.Lines.{PrintsLine, Streams, count_line}
 
 -- where it listens; how many streams were started; that a socket failed
 abbrev pub listening_line : ℕ → List ℕ
@@ -28,39 +26,40 @@ socket_line = codes "socket: failed\n"
 
 -- The number of streams is printed, and the status says how the serving ended: 0 if all connections
 -- were served, 3 if the registry failed. That no connection could be accepted is reported too.
-abbrev pub ReportsEnd : ServingEnd → ℕ → Writers → JobEnd → Type 0
-ReportsEnd All streams w end = PrintsLine end w.output w.output_after (served_line streams) 0
-    × (w.faults_after ≡ w.faults)
-ReportsEnd NotLive streams w end = PrintsLine end w.output w.output_after (served_line streams) 3
-    × (w.faults_after ≡ w.faults)
+abbrev pub ReportsEnd : ServingEnd → ℕ → Streams → JobEnd → Type 0
+ReportsEnd All streams w end = PrintsLine end w.output (served_line streams) 0
+    × (w.faults.after ≡ w.faults.before)
+ReportsEnd NotLive streams w end = PrintsLine end w.output (served_line streams) 3
+    × (w.faults.after ≡ w.faults.before)
 ReportsEnd AcceptFault streams w end = (end ≡ Told 3)
-    × TriesLine w.output w.output_after (served_line streams)
-    × TriesLine w.faults w.faults_after socket_line
+    × TriesLine w.output (served_line streams)
+    × TriesLine w.faults socket_line
 
 -- Streams were served, one for each connection of so many, while the registry was live, and it is
 -- reported how many.
-pub record ReportsStreams (connections : ℕ) (live : Bool) (w : Writers) (end : JobEnd) : Type 0 where
+pub record ReportsStreams (connections : ℕ) (live : Bool) (w : Streams) (end : JobEnd) : Type 0 where
   pub serving : Serving
   pub counted : CountsStreams serving.end connections serving.streams
   pub lasts : IsLiveAt serving.end serving.streams live
   pub reports : ReportsEnd serving.end serving.streams w end
 
 -- the same, after the line of where it listens
-pub record HasServed (port : Port) (live : Bool) (w : Writers) (end : JobEnd) : Type 0 where
+pub record HasServed (port : Port) (live : Bool) (w : Streams) (end : JobEnd) : Type 0 where
   -- what the output had taken before the first of them
   pub between : Option (List ℕ)
-  pub listens : Appends w.output between (listening_line port.number)
-  pub streams : ReportsStreams port.connections live (record w { output = between }) end
+  pub listens : Appends w.output.before between (listening_line port.number)
+  pub streams : ReportsStreams port.connections live
+      (record w { output = record w.output { before = between } }) end
 
 -- Serving on a port, after which the registry is live or not.
-pub data Serves (port : Port) (live : Bool) (w : Writers) (end : JobEnd) : Type 0 where
+pub data Serves (port : Port) (live : Bool) (w : Streams) (end : JobEnd) : Type 0 where
   -- the port could not be had
-  Unbound : end ≡ Told 3 → w.output_after ≡ w.output
-      → TriesLine w.faults w.faults_after socket_line → Serves port live w end
+  Unbound : end ≡ Told 3 → w.output.after ≡ w.output.before
+      → TriesLine w.faults socket_line → Serves port live w end
   -- out of memory for the table of routes
-  Unrouted : end ≡ Told 3 → w.output_after ≡ w.output
-      → TriesLine w.faults w.faults_after (fault_line Memory) → Serves port live w end
+  Unrouted : end ≡ Told 3 → w.output.after ≡ w.output.before
+      → TriesLine w.faults (fault_line Memory) → Serves port live w end
   -- the line of where it listens did not go out whole, and nothing was accepted
-  Unheard : end ≡ FileFailed → SendsFront w.output w.output_after (listening_line port.number)
-      → w.faults_after ≡ w.faults → Serves port live w end
+  Unheard : end ≡ FileFailed → FailsWithin w.output (listening_line port.number)
+      → w.faults.after ≡ w.faults.before → Serves port live w end
   Served : HasServed port live w end → Serves port live w end

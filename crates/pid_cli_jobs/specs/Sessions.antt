@@ -1,9 +1,9 @@
 -- A session: a registry from the opening of a connection to its end. Choices of this project.
-use Rattle.std.specs.Prelude.{◌≡◌, if◌then◌else◌, ℕ, List, Option, Some, None, Ok, Err}
+use Rattle.std.specs.Prelude.{◌≡◌, if◌then◌else◌, List, Option, Some, None, Ok, Err}
 use Rattle.sqlite.specs.Held.{Held}
 use Rattle.sqlite_trees.specs.declared.store.Store.{Ghosts}
 use Rattle.pid_file.specs.declared.io.Output as outputs
-use Rattle.pid_file.specs.Told.{TriesLine}
+use Rattle.pid_file.specs.Writing.{TriesLine, use_of}
 use Rattle.pid_service_laws.specs.Calls.{Call}
 use Rattle.pid_service_laws.specs.Registries.{CallsLead}
 use Rattle.pid_service.specs.declared.registry.Registry.{Registry}
@@ -19,7 +19,7 @@ use Rattle.pid_cli_jobs.specs.Lines.{PrintsLine, step_line, unopened_line}
 -- A job that found no registry prints nothing, reports why, and ends with status 3.
 pub record TellsUnopened {W : Type 0} (fault : TableFault) (w : Wrote W) : Type 0 where
   pub silent : w.output_after ≡ w.output
-  pub told : TriesLine w.faults w.faults_after (unopened_line fault)
+  pub told : TriesLine w.faults (unopened_line fault)
   pub ends : w.end ≡ Told 3
 
 module _ {S : Type 0} (store : Ghosts S) where
@@ -47,9 +47,10 @@ module _ {S : Type 0} (store : Ghosts S) where
     pub step : Step
     pub moved : Held S
     pub moves : MovesTo store conn (Ok (moved, step))
-    pub prints : PrintsLine w.end (writer.taken w.output) (writer.taken w.output_after)
-        (step_line step) 0
-    pub silent : w.faults_after ≡ w.faults
+    -- no limit of steps was set
+    pub limit : moved.step_limit ≡ conn.step_limit
+    pub prints : PrintsLine w.end (use_of writer w.output w.output_after) (step_line step) 0
+    pub silent : w.faults.after ≡ w.faults.before
     pub hands : back ≡ Some moved
 
   pub record IsUnmoved {W : Type 0} (conn : Held S) (w : Wrote W) (back : Option (Held S))
@@ -72,6 +73,8 @@ module _ {S : Type 0} (store : Ghosts S) where
       (w : Wrote W) (back : Option (Held S)) : Type 0 where
     pub opened : Registry S store
     pub opens : OpensTo store conn (Ok opened)
+    -- no limit of steps was set before
+    pub limit : (connection opened).step_limit ≡ conn.step_limit
     pub ended : Registry S store
     pub goes : IsPartOfSession opened ended
     pub does : DoesWork store writer work opened ended w

@@ -1,5 +1,6 @@
 //! The files of a database.
 ghost use Rattle.std.specs.Prelude.{IfOk};
+ghost use Rattle.sqlite.specs.Held.{IsNew};
 ghost use Rattle.sqlite_wal.specs.Files.{image_at};
 ghost use Rattle.pid_cli_jobs.specs.Files.{OpensFiles};
 
@@ -16,7 +17,8 @@ pub fn open_file<S: Start>(
     path: &str,
     start: S,
 ) -> Result<Connection<FileStore<FileFrom<S>>>, TableFault>
-    ensures { IfOk result (λ conn. OpensFiles (image_at S.Start) conn) }
+    ensures opened { IfOk result (λ conn. OpensFiles (image_at S.Start) conn) }
+    ensures fresh { IfOk result IsNew }
 {
     match Connection::open_from(rt, path, false, start) {
         Ok(conn) => Ok(conn),

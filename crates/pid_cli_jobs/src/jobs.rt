@@ -1,5 +1,6 @@
 //! The jobs of a registry, on any store. Each returns the connection if the registry is live.
 ghost use Rattle.std.specs.Prelude.{◌≡◌};
+ghost use Rattle.pid_file.specs.Writing.{use_of};
 ghost use Rattle.pid_cli_jobs.specs.Jobs.{BringsIn, DoesWork, PrintsAll, RunsLines, work_of};
 ghost use Rattle.pid_cli_jobs.specs.Sessions.{IsPartOfSession, Migrates, WorksOn};
 ghost use Rattle.pid_cli_jobs.specs.Sessions.{handed_back as back_of};
@@ -90,8 +91,7 @@ fn do_job<S: Alter + Drop, I: Input + Drop, O: Output, F: Output>(
         registry.old registry.new (record {
           output = output.old;
           output_after = output.new;
-          faults = F.taken faults.old;
-          faults_after = F.taken faults.new;
+          faults = use_of F.Output faults.old faults.new;
           end = result;
         }) }
 {
@@ -135,8 +135,7 @@ pub fn work_on<S: Alter + Drop, I: Input + Drop, O: Output, F: Output>(
     ensures { WorksOn S.Store O.Output conn (work_of I.Input job) (record {
       output = output.old;
       output_after = output.new;
-      faults = F.taken faults.old;
-      faults_after = F.taken faults.new;
+      faults = use_of F.Output faults.old faults.new;
       end = result.0;
     }) result.1 }
 {
@@ -160,8 +159,7 @@ pub fn migrate_on<S: Alter + Drop, O: Output, F: Output>(
     ensures { Migrates S.Store O.Output conn (record {
       output = output.old;
       output_after = output.new;
-      faults = F.taken faults.old;
-      faults_after = F.taken faults.new;
+      faults = use_of F.Output faults.old faults.new;
       end = result.0;
     }) result.1 }
 {

@@ -1,5 +1,9 @@
 //! Lookups in a pci.ids file.
-ghost use Rattle.pid_cli_jobs.specs.Lookups.{LooksUpText};
+ghost use Rattle.std.specs.Prelude.{◌≡◌, ◌++◌, IfOk, OnOk};
+ghost use Rattle.pid_file.specs.Writing.{use_of};
+ghost use Rattle.pid_lookup.specs.Fields.{bytes_of};
+ghost use Rattle.pid_cli_words.specs.Jobs.{text_given};
+ghost use Rattle.pid_cli_jobs.specs.Lookups.{IsReadFrom, LooksUpText, field_given, fields_given};
 
 use crate::job_end::JobEnd;
 use crate::replies::print_answer;
@@ -17,29 +21,48 @@ pub struct Lookup {
     pub size: u32,
 }
 
+// Adds a field if its value is given.
+fn push_given(
+    alloc: Global,
+    fields: &mut Vec<(String, String)>,
+    name: &str,
+    value: Option<&str>,
+) -> Result<(), AllocError>
+    ensures { OnOk result (bytes_of fields.new.items
+        ≡ bytes_of fields.old.items ++ field_given name.now (text_given value.entry)) }
+{
+    let Some(value) = value else {
+        return Ok(());
+    };
+    let name = String::from_str(alloc, name)?;
+    let value = String::from_str(alloc, value)?;
+    fields.push((name, value))?;
+    Ok(())
+}
+
+fn fields_of(alloc: Global, words: &LookupWords<'_>) -> Result<Vec<(String, String)>, AllocError>
+    ensures { IfOk result (λ fields. bytes_of fields.items ≡ fields_given words.now) }
+{
+    let mut fields = Vec::new(alloc);
+    push_given(alloc, &mut fields, "flags", Some(words.flags))?;
+    push_given(alloc, &mut fields, "size", words.size)?;
+    push_given(alloc, &mut fields, "vendor", words.vendor)?;
+    push_given(alloc, &mut fields, "device", words.device)?;
+    push_given(alloc, &mut fields, "subvendor", words.subvendor)?;
+    push_given(alloc, &mut fields, "subdevice", words.subdevice)?;
+    push_given(alloc, &mut fields, "class", words.class)?;
+    push_given(alloc, &mut fields, "progif", words.progif)?;
+    Ok(fields)
+}
+
 /// Checks the values of the arguments and returns the lookup that they ask for.
 pub fn read_words(
     alloc: Global,
     words: &LookupWords<'_>,
-) -> Result<Result<Lookup, BadField>, AllocError> {
-    let given = [
-        ("flags", Some(words.flags)),
-        ("size", words.size),
-        ("vendor", words.vendor),
-        ("device", words.device),
-        ("subvendor", words.subvendor),
-        ("subdevice", words.subdevice),
-        ("class", words.class),
-        ("progif", words.progif),
-    ];
-    let mut fields = Vec::new(alloc);
-    for (name, value) in given {
-        if let Some(value) = value {
-            let name = String::from_str(alloc, name)?;
-            let value = String::from_str(alloc, value)?;
-            fields.push((name, value))?;
-        }
-    }
+) -> Result<Result<Lookup, BadField>, AllocError>
+    ensures { IfOk result (λ read. IsReadFrom (fields_given words.now) read) }
+{
+    let fields = fields_of(alloc, words)?;
     match args_of(&fields) {
         Ok((flags, args, size)) => Ok(Ok(Lookup { flags, args, size })),
         Err(bad) => Ok(Err(bad)),
@@ -55,10 +78,8 @@ pub fn print_lookup<I: Input, O: Output, F: Output>(
     faults: &mut F,
 ) -> JobEnd
     ensures { LooksUpText lookup.now (I.to_come input.old) (record {
-      output = O.taken output.old;
-      output_after = O.taken output.new;
-      faults = F.taken faults.old;
-      faults_after = F.taken faults.new;
+      output = use_of O.Output output.old output.new;
+      faults = use_of F.Output faults.old faults.new;
     }) result }
 {
     let Lookup { flags, args, size } = *lookup;

@@ -1,5 +1,6 @@
 //! The jobs on a registry in a file or in memory.
 ghost use Rattle.sqlite_wal.specs.Files.{image_at};
+ghost use Rattle.pid_file.specs.Writing.{use_of};
 ghost use Rattle.pid_cli_jobs.specs.Jobs.{work_of};
 ghost use Rattle.pid_cli_jobs.specs.OnFiles.{
   DoesInFiles,
@@ -39,8 +40,7 @@ fn do_on<S: Alter + Drop, I: Input + Drop, O: Output, F: Output>(
     ensures { DoesOn S.Store O.Output conn (file_task_of I.Input job) (record {
       output = output.old;
       output_after = output.new;
-      faults = F.taken faults.old;
-      faults_after = F.taken faults.new;
+      faults = use_of F.Output faults.old faults.new;
       end = result.0;
     }) result.1 }
 {
@@ -62,8 +62,7 @@ fn do_there<D: Disk + Drop, I: Input + Drop, O: Output, F: Output>(
     ensures { DoesThere D.Disk O.Output conn (file_task_of I.Input job) (record {
       output = output.old;
       output_after = output.new;
-      faults = F.taken faults.old;
-      faults_after = F.taken faults.new;
+      faults = use_of F.Output faults.old faults.new;
       end = result;
     }) }
 {
@@ -89,8 +88,7 @@ pub fn do_in_files<S: Start, I: Input + Drop, O: Output, F: Output>(
         (file_task_of I.Input job) (record {
           output = output.old;
           output_after = output.new;
-          faults = F.taken faults.old;
-          faults_after = F.taken faults.new;
+          faults = use_of F.Output faults.old faults.new;
           end = result;
         }) }
 {
@@ -110,8 +108,7 @@ pub fn work_on_memory<I: Input + Drop, O: Output, F: Output>(
     ensures { WorksOnNew ⟦<MemStore as Store>⟧ O.Output (work_of I.Input job) (record {
       output = output.old;
       output_after = output.new;
-      faults = F.taken faults.old;
-      faults_after = F.taken faults.new;
+      faults = use_of F.Output faults.old faults.new;
       end = result;
     }) }
 {

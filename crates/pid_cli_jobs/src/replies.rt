@@ -1,10 +1,11 @@
 //! The lines that jobs print.
-ghost use Rattle.std.specs.Prelude.{◌≡◌, ℕ, List, Option};
+ghost use Rattle.std.specs.Prelude.{◌≡◌, Some, IfErr};
 ghost use Rattle.pid_file.specs.Sending.{Sends};
-ghost use Rattle.pid_file.specs.Told.{TriesLine};
+ghost use Rattle.pid_file.specs.Writing.{TriesLine, use_of};
 ghost use Rattle.pid_moderation.specs.ReplyLines.{outcome_line};
 ghost use Rattle.pid_cli_jobs.specs.Lines.{
   PrintsAnswer,
+  ReportsAnswer,
   PrintsLine,
   lookup_line,
   lookup_status,
@@ -14,6 +15,7 @@ ghost use Rattle.pid_cli_jobs.specs.Lines.{
   unopened_line,
   unopened_word,
 };
+ghost use Rattle.pid_cli_jobs.specs.Steps.Lines.{EndsBy};
 
 use crate::job_end::JobEnd;
 use itoa::Buffer;
@@ -40,7 +42,7 @@ fn status_of(reply: Result<Reply, Refusal>) -> u8
 /// Prints the reply to a command, for which no memory is taken. The exit status is 0 if it was
 /// accepted, 3 if memory or the store failed, else 1.
 pub fn print_reply<O: Output>(reply: Result<Reply, Refusal>, output: &mut O) -> JobEnd
-    ensures { PrintsLine result (O.taken output.old) (O.taken output.new) (outcome_line reply)
+    ensures { PrintsLine result (use_of O.Output output.old output.new) (outcome_line reply)
         (reply_status reply) }
 {
     match write_reply_line(output, reply) {
@@ -53,7 +55,7 @@ pub fn print_reply<O: Output>(reply: Result<Reply, Refusal>, output: &mut O) -> 
 /// exit status of a failure.
 pub fn tell_reply<F: Output>(reply: Result<Reply, Refusal>, faults: &mut F) -> u8
     ensures status { result ≡ FAILED }
-    ensures told { TriesLine (F.taken faults.old) (F.taken faults.new) (outcome_line reply) }
+    ensures told { TriesLine (use_of F.Output faults.old faults.new) (outcome_line reply) }
 {
     let _ = write_reply_line(faults, reply);
     FAILED
@@ -61,8 +63,7 @@ pub fn tell_reply<F: Output>(reply: Result<Reply, Refusal>, faults: &mut F) -> u
 
 // Ends with the status if the line went out.
 fn ends_with(printed: Result<(), WriteFault>, status: u8) -> JobEnd
-    ensures { (old now : Option (List ℕ)) (line : List ℕ) → Sends printed old now line
-        → PrintsLine result old now line status }
+    ensures { EndsBy printed status result }
 {
     match printed {
         Ok(()) => JobEnd::Told(status),
@@ -71,7 +72,8 @@ fn ends_with(printed: Result<(), WriteFault>, status: u8) -> JobEnd
 }
 
 fn write_answer<O: Output>(answer: &Answer, output: &mut O) -> Result<(), WriteFault>
-    ensures { Sends result (O.taken output.old) (O.taken output.new) (lookup_line answer.now) }
+    ensures sent { Sends result (O.taken output.old) (O.taken output.new) (lookup_line answer.now) }
+    ensures fault { IfErr result (λ f. O.write_fault output.new ≡ Some f) }
 {
     match answer {
         Answer::Text(text) => write_parts(output, &[b"text ", text.as_bytes(), b"\n"]),
@@ -95,7 +97,8 @@ pub fn print_answer<O: Output, F: Output>(
     output: &mut O,
     faults: &mut F,
 ) -> JobEnd
-    ensures { PrintsAnswer found result (O.taken output.old) (O.taken output.new) }
+    ensures printed { PrintsAnswer found result (use_of O.Output output.old output.new) }
+    ensures reported { ReportsAnswer found (use_of F.Output faults.old faults.new) }
 {
     match found {
         Ok(answer) => {
@@ -124,7 +127,7 @@ fn step_text(step: Step) -> &'static str
 
 /// Prints what a migration did, with exit status 0.
 pub fn print_step<O: Output>(step: Step, output: &mut O) -> JobEnd
-    ensures { PrintsLine result (O.taken output.old) (O.taken output.new) (step_line step) 0 }
+    ensures { PrintsLine result (use_of O.Output output.old output.new) (step_line step) 0 }
 {
     let printed = write_all(output, step_text(step).as_bytes());
     ends_with(printed, 0)
@@ -142,7 +145,8 @@ fn unopened_reason(fault: TableFault) -> &'static str
 }
 
 fn write_unopened<F: Output>(fault: TableFault, faults: &mut F) -> Result<(), WriteFault>
-    ensures { Sends result (F.taken faults.old) (F.taken faults.new) (unopened_line fault) }
+    ensures sent { Sends result (F.taken faults.old) (F.taken faults.new) (unopened_line fault) }
+    ensures fault { IfErr result (λ f. F.write_fault faults.new ≡ Some f) }
 {
     let reason = unopened_reason(fault).as_bytes();
     match fault {
@@ -158,7 +162,7 @@ fn write_unopened<F: Output>(fault: TableFault, faults: &mut F) -> Result<(), Wr
 /// Reports why a registry was not opened, and returns the exit status.
 pub fn tell_unopened<F: Output>(fault: TableFault, faults: &mut F) -> u8
     ensures status { result ≡ FAILED }
-    ensures told { TriesLine (F.taken faults.old) (F.taken faults.new) (unopened_line fault) }
+    ensures told { TriesLine (use_of F.Output faults.old faults.new) (unopened_line fault) }
 {
     let _ = write_unopened(fault, faults);
     FAILED
@@ -166,7 +170,9 @@ pub fn tell_unopened<F: Output>(fault: TableFault, faults: &mut F) -> u8
 
 /// Prints a word and a count, as a line.
 pub fn write_count<O: Output>(word: &str, count: u64, output: &mut O) -> Result<(), WriteFault>
-    ensures { Sends result (O.taken output.old) (O.taken output.new) (count_line word.now count) }
+    ensures sent { Sends result (O.taken output.old) (O.taken output.new)
+        (count_line word.now count) }
+    ensures fault { IfErr result (λ f. O.write_fault output.new ≡ Some f) }
 {
     let mut digits = Buffer::new();
     let count = digits.format(count).as_bytes();

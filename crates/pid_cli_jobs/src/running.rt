@@ -2,10 +2,12 @@
 ghost use Rattle.std.specs.Prelude.{◌≡◌, IfOk, IsErrOf, None};
 ghost use Rattle.std.specs.Io.Buffered.{writer_contents};
 ghost use Rattle.sqlite_wal.specs.Files.{image_at};
+ghost use Rattle.pid_file.specs.Writing.{use_of};
 ghost use Rattle.pid_cli_words.specs.Jobs.{text_given};
 ghost use Rattle.pid_cli_jobs.specs.Ends.{ReportsLast, exit_status};
 ghost use Rattle.pid_cli_jobs.specs.Exports.{ExportsThrough};
 ghost use Rattle.pid_cli_jobs.specs.Jobs.{ToImport};
+ghost use Rattle.pid_cli_jobs.specs.Lookups.{fields_given};
 ghost use Rattle.pid_cli_jobs.specs.OnFiles.{DoesInFiles, ToWork};
 ghost use Rattle.pid_cli_jobs.specs.Plain.{
   AnswersPlain,
@@ -128,8 +130,7 @@ pub fn answer_plain<S: Start, I: Input + Drop, O: Output, F: Output>(
         O.Output job.entry (I.to_come input) (record {
           output = output.old;
           output_after = output.new;
-          faults = F.taken faults.old;
-          faults_after = F.taken faults.new;
+          faults = use_of F.Output faults.old faults.new;
           end = result;
         }) }
 {
@@ -151,8 +152,7 @@ fn do_plain<S: Start, I: Input + Drop, O: Output, F: Output>(
         O.Output job.entry (I.to_come input) (record {
           output = output.old;
           output_after = output.new;
-          faults = F.taken faults.old;
-          faults_after = F.taken faults.new;
+          faults = use_of F.Output faults.old faults.new;
           end = result;
         }) }
 {
@@ -179,7 +179,7 @@ fn do_plain<S: Start, I: Input + Drop, O: Output, F: Output>(
 /// that the reader of the output has gone away.
 pub fn report_end<F: Output>(end: JobEnd, is_unread: bool, faults: &mut F) -> u8
     ensures status { result ≡ exit_status end }
-    ensures told { ReportsLast end is_unread (F.taken faults.old) (F.taken faults.new) }
+    ensures told { ReportsLast end is_unread (use_of F.Output faults.old faults.new) }
 {
     match end {
         JobEnd::Told(status) => status,
@@ -224,8 +224,7 @@ pub fn export_through<S: Start, O: Write + Drop, F: Output>(
         ⟦<Plain<BufWriter<O>> as Output>⟧ (record {
           output = writer_contents O.contents buffer;
           output_after = O.contents result.1;
-          faults = F.taken faults.old;
-          faults_after = F.taken faults.new;
+          faults = use_of F.Output faults.old faults.new;
         }) result.0 }
 {
     let mut output = Plain::new(buffer);
@@ -246,11 +245,10 @@ fn run_lookup<O: Output, F: Output>(
     output: &mut O,
     faults: &mut F,
 ) -> JobEnd
-    ensures { LooksUpInFile O.Output (record {
+    ensures { LooksUpInFile O.Output (fields_given words.now) (record {
       output = output.old;
       output_after = output.new;
-      faults = F.taken faults.old;
-      faults_after = F.taken faults.new;
+      faults = use_of F.Output faults.old faults.new;
       end = result;
     }) }
 {
@@ -278,8 +276,7 @@ fn run_import<S: Start, O: Output, F: Output>(
         sender.entry.0.now (text_given sender.entry.1) (record {
           output = output.old;
           output_after = output.new;
-          faults = F.taken faults.old;
-          faults_after = F.taken faults.new;
+          faults = use_of F.Output faults.old faults.new;
           end = result;
         }) }
 {
@@ -308,8 +305,7 @@ fn bring_in_file<S: Start, O: Output, F: Output>(
         (ToWork (ToImport sender.0 sender.1 None)) (record {
           output = output.old;
           output_after = output.new;
-          faults = F.taken faults.old;
-          faults_after = F.taken faults.new;
+          faults = use_of F.Output faults.old faults.new;
           end = result;
         }) }
 {

@@ -1,6 +1,6 @@
 //! Serving a registry over HTTP to clients on this machine.
 ghost use Rattle.std.specs.Prelude.{◌≡◌};
-ghost use Rattle.pid_file.specs.Told.{TriesLine};
+ghost use Rattle.pid_file.specs.Writing.{TriesLine, use_of};
 ghost use Rattle.pid_http.specs.Known.{LivesOn};
 ghost use Rattle.pid_service.specs.Registries.{is_live};
 ghost use Rattle.pid_cli_jobs.specs.Serving.{ReportsEnd, ReportsStreams, Serves, socket_line};
@@ -65,7 +65,7 @@ impl<S: Alter + Drop> StreamServer for Server<'_, '_, S> {
 
 fn tell_socket<F: Output>(faults: &mut F) -> JobEnd
     ensures ends { result ≡ JobEnd.Told FAILED }
-    ensures told { TriesLine (F.taken faults.old) (F.taken faults.new) socket_line }
+    ensures told { TriesLine (use_of F.Output faults.old faults.new) socket_line }
 {
     let _ = write_all(faults, b"socket: failed\n");
     JobEnd::Told(FAILED)
@@ -74,10 +74,8 @@ fn tell_socket<F: Output>(faults: &mut F) -> JobEnd
 // Reports the number of streams that were started, and how the serving ended.
 fn report<O: Output, F: Output>(serving: Serving, output: &mut O, faults: &mut F) -> JobEnd
     ensures { ReportsEnd serving.end serving.streams (record {
-      output = O.taken output.old;
-      output_after = O.taken output.new;
-      faults = F.taken faults.old;
-      faults_after = F.taken faults.new;
+      output = use_of O.Output output.old output.new;
+      faults = use_of F.Output faults.old faults.new;
     }) result }
 {
     let printed = write_count("served ", u64::from(serving.streams), output);
@@ -101,10 +99,8 @@ fn give_streams<S: StreamServer, O: Output, F: Output>(
 ) -> JobEnd
     ensures goes { S.goes server.old server.new }
     ensures gives { GivesStreams S.StreamServer server.old server.new connections (record {
-      output = O.taken output.old;
-      output_after = O.taken output.new;
-      faults = F.taken faults.old;
-      faults_after = F.taken faults.new;
+      output = use_of O.Output output.old output.new;
+      faults = use_of F.Output faults.old faults.new;
     }) result }
 {
     let serving = serve_on(alloc, listener, server, connections);
@@ -122,10 +118,8 @@ fn serve_listener<S: Alter + Drop, O: Output, F: Output>(
 ) -> JobEnd
     ensures lives { LivesOn S.Store registry.old registry.new }
     ensures streams { ReportsStreams listener.entry.1 (is_live registry.new) (record {
-      output = O.taken output.old;
-      output_after = O.taken output.new;
-      faults = F.taken faults.old;
-      faults_after = F.taken faults.new;
+      output = use_of O.Output output.old output.new;
+      faults = use_of F.Output faults.old faults.new;
     }) result }
 {
     let (listener, connections) = listener;
@@ -165,10 +159,8 @@ pub fn serve_registry<S: Alter + Drop, O: Output, F: Output>(
 ) -> JobEnd
     ensures goes { IsPartOfSession S.Store registry.old registry.new }
     ensures serves { Serves port (is_live registry.new) (record {
-      output = O.taken output.old;
-      output_after = O.taken output.new;
-      faults = F.taken faults.old;
-      faults_after = F.taken faults.new;
+      output = use_of O.Output output.old output.new;
+      faults = use_of F.Output faults.old faults.new;
     }) result }
 {
     let Ok(listener) = listen(rt, address_of(port.number), port.number) else {

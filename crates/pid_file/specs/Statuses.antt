@@ -1,12 +1,11 @@
 -- What the exit status of a process says about its text.
 use Rattle.std.specs.Prelude.{◌≡◌, ℕ, ◌⊎◌, List, Option}
-use Rattle.std.specs.Io.KnownBytes.{Appends}
+use Rattle.std.specs.Io.KnownBytes.{Appends, Keeps}
 use Rattle.pid_file.specs.declared.text_end.TextEnd.{TextEnd}
-use Rattle.pid_file.specs.Trees.{TreeMap}
-use Rattle.pid_file.specs.Printing.{print}
 use Rattle.pid_file.specs.Checked.{ok_line, count_of}
 use Rattle.pid_file.specs.TextEnds.{fault_line, status_of}
-use Rattle.pid_file.specs.Judgements.{IsFaultOf, IsGood, ReadsWithin}
+use Rattle.pid_file.specs.Judgements.{IsFaultOf, IsGood}
+use Rattle.pid_file.specs.Tidied.{Prints, Writers}
 
 -- 0: the text is good; 1: it is not; 3: it was not judged, or the output could not be written
 pub record IsStatusFor (text : List ℕ) (status : ℕ) : Type 0 where
@@ -14,13 +13,24 @@ pub record IsStatusFor (text : List ℕ) (status : ℕ) : Type 0 where
   pub good : status ≡ 0 → IsGood text
   pub refused : status ≡ 1 → ¬ (IsGood text)
 
--- what the output of `tidy` got at status 0: the canonical form of the text, and nothing else
-abbrev pub GotTidied : List ℕ → Option (List ℕ) → Option (List ℕ) → Type 0
-GotTidied text old new = (t : TreeMap) × ReadsWithin text t × Appends old new (print t)
+-- one line was written: that of the fault for which the text is refused
+pub record TellsRefusal (text : List ℕ) (old new : Option (List ℕ)) : Type 0 where
+  pub end : TextEnd
+  pub refused : status_of end ≡ 1
+  pub is_fault : IsFaultOf end text
+  pub told : Appends old new (fault_line end)
 
--- what the output of `check` got by the status: the count of a good text or the first fault of
--- another, and nothing else
-pub record GotChecked (text : List ℕ) (status : ℕ) (old new : Option (List ℕ)) : Type 0 where
-  pub good : status ≡ 0 → Appends old new (ok_line (count_of text))
-  pub refused : status ≡ 1 → (end : TextEnd) × (status_of end ≡ 1) × IsFaultOf end text
-      × Appends old new (fault_line end)
+-- What `tidy` wrote by the status, and nothing else: to the output the canonical form of a good
+-- text, or to the writer of faults the line of the first fault of a bad one.
+pub record GotTidied (text : List ℕ) (status : ℕ) (w : Writers) : Type 0 where
+  pub good : status ≡ 0 → Prints text w
+  pub refused : status ≡ 1 → Keeps w.output w.output_after
+      × TellsRefusal text w.faults w.faults_after
+
+-- What `check` wrote by the status, and nothing else: to the output the count of a good text, or the
+-- line of the first fault of a bad one.
+pub record GotChecked (text : List ℕ) (status : ℕ) (w : Writers) : Type 0 where
+  pub good : status ≡ 0 → Appends w.output w.output_after (ok_line (count_of text))
+      × Keeps w.faults w.faults_after
+  pub refused : status ≡ 1 → TellsRefusal text w.output w.output_after
+      × Keeps w.faults w.faults_after

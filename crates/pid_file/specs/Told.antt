@@ -1,5 +1,5 @@
 -- How the fault of a text is reported.
-use Rattle.std.specs.Prelude.{ℕ, ◌⊎◌, List, Option}
+use Rattle.std.specs.Prelude.{ℕ, List, Option}
 use Rattle.std.specs.Io.KnownBytes.{Appends, Keeps}
 use Rattle.pid_file.specs.Sending.{SendsFront}
 use Rattle.pid_file.specs.Judgements.{IsFaultOf}
@@ -19,10 +19,6 @@ pub record TellsFront (text : List ℕ) (old new : Option (List ℕ)) : Type 0 w
   pub end : TextEnd
   pub is_fault : IsFaultOf end text
   pub told : SendsFront old new (fault_line end)
-
--- the writer took the line, or failed within it
-abbrev pub TriesLine : Option (List ℕ) → Option (List ℕ) → List ℕ → Type 0
-TriesLine old new line = Appends old new line ⊎ SendsFront old new line
 
 -- an end without a result: a fault of the text and out of memory are reported, a fault of the
 -- reader is not

@@ -14,7 +14,7 @@ use Rattle.pid_service.specs.Asking.{Answers, MayGive}
 use Rattle.pid_service.specs.Histories.{Shows}
 use Rattle.pid_service.specs.KeptViews.{HoldsWaiting, kept_by, kept_views, numbers_waiting}
 use Rattle.pid_service.specs.Registries.{HasCleanDisk, OnlyReads, connection, is_live}
-use Rattle.pid_service.proofs.Keeping.{ItemsRight}
+use Rattle.pid_service.proofs.Keeping.{ItemsRight, left_then}
 use Rattle.pid_service.proofs.Questions.{fault_since}
 
 module _ {S : Type 0} (store : Ghosts S) where
@@ -42,6 +42,7 @@ module _ {S : Type 0} (store : Ghosts S) where
     fault = subst (λ (b : Bool). IfErr r (MayGive b)) f.lives a.fault;
     lives = a.lives ∙ f.lives;
     rests = reads_then (state store (connection old)) (state store (connection mid)) (state store (connection new)) f.rests a.rests;
+    leaves = left_then (kept_views old) (kept_views mid) (kept_views new) f.leaves a.leaves;
     told = λ clean h shows. a.told clean h (f.told (a.rests.clean clean) h shows).1;
     caused = λ clean h shows. fault_since store r (connection old) (connection mid) (connection new) f.rests a.rests clean (a.caused clean h (f.told (a.rests.clean clean) h shows).1);
   }

@@ -1,5 +1,5 @@
 -- What an opened database is, by what it was.
-use Rattle.std.proofs.Common.{◌≡◌, ◌⊎◌, inl, inr, [], Bool, true, false, IsTrue, Some, Result, Ok, Err, IfErr, IfOk, MatchResult, refl, rules, sym, subst}
+use Rattle.std.proofs.Common.{◌≡◌, ◌⊎◌, inl, inr, [], Bool, true, false, IsTrue, Some, Result, Ok, Err, IfErr, IfOk, OnOk, MatchResult, refl, rules, sym, subst}
 use Rattle.sqlite.specs.Held.{Held, state}
 use Rattle.sqlite.specs.State.{State, Survives}
 use Rattle.sqlite.proofs.StateLemmas.{survives_then, survives_weaker}
@@ -16,7 +16,7 @@ use Rattle.pid_tables_rows.specs.Clauses as clauses
 use Rattle.pid_tables_rows.specs.Leaves.{AtRest, OnlyReads, RestsIn}
 use Rattle.pid_tables_check.specs.Checking.{Explains, FindsVersion}
 use Rattle.pid_tables_check.specs.Shapes.{HasSomeTable}
-use Rattle.pid_tables.specs.AtOnce.{IsOneStep, IsTakenBack}
+use Rattle.pid_tables.specs.AtOnce.{IsCommitted, IsOneStep, IsTakenBack}
 use Rattle.pid_tables.specs.Clauses as tables
 use Rattle.pid_tables.proofs.AtOnceLemmas.{reads_back}
 use Rattle.pid_tables.specs.Creation.{RestsBare}
@@ -25,7 +25,7 @@ use Rattle.pid_lookup.specs.CacheEntries.{Entries}
 use Rattle.pid_tables.specs.declared.migration.Step.{Step}
 use Rattle.pid_tables.specs.declared.migration.Step.TheVariants.{Created, Moved, Already}
 use Rattle.pid_tables.specs.ShowsOrBlank.{ShowsOrBlank}
-use Rattle.pid_service.specs.Opening.{ExplainsNow, ExplainsOpening, KeepsTables, OpensAtOnce, IsFound, MayHaveMade, KeepsViews}
+use Rattle.pid_service.specs.Opening.{ExplainsNow, ExplainsOpening, HasWritten, KeepsTables, OpensAtOnce, IsFound, MayHaveMade, KeepsViews}
 use Rattle.pid_tables_rows.proofs.OnlyReading.{reads_then, rests_in_still}
 
 -- what a step tells where the tables were not there, were in schema 1, and were in the schema of today
@@ -124,6 +124,15 @@ made_then_reads IsMade a b c made reads = survives_then a b c IsMade (λ _. ⊥)
 
 pub made_by_reads : (IsMade : Trees → Type 0) (a b : State) → OnlyReads a b → Survives a b IsMade
 made_by_reads IsMade a b reads = survives_weaker a b (λ _. ⊥) IsMade (λ clean db none. absurd none) reads.survives
+
+-- what was committed is there after reads
+pub committed_then_reads : {S X : Type 0} (store : Ghosts S) (IsMade : Trees → Type 0) (mid new : Held S) (r : Result X TableFault) → IsCommitted IsMade (state store mid) → clauses.OnlyReads store mid new
+    → (IsTrue (clauses.is_open store new) → clauses.seen store new ≡ clauses.seen store mid) → clauses.HasCleanDisk store new → OnOk r (HasWritten store IsMade new)
+committed_then_reads store IsMade mid new (Err e) made reads same clean = tt
+committed_then_reads store IsMade mid new (Ok x) made reads same clean = record {
+  sees = λ opened. subst (λ (d : Database). IsMade d.trees) (sym (same opened)) made.sees;
+  leaves = λ db may. elim (reads.survives.crash clean db may) [ inl before ↦ subst IsMade (sym (made.leaves db before)) made.sees | inr none ↦ absurd none ];
+}
 
 -- what is taken back is seen as before
 pub seen_back : (old new : State) → (IsTrue old.is_open → old.now ≡ old.committed) → IsTakenBack old new → IsTrue new.is_open → IsTrue old.is_open × (new.now ≡ old.now)

@@ -20,7 +20,7 @@ use Rattle.pid_tables_rows.specs.Clauses as clauses
 use Rattle.pid_tables_rows.specs.declared.fault.TableFault.TheVariants as faults
 use Rattle.pid_service.specs.declared.registry.Registry.{Registry}
 use Rattle.pid_service.specs.Asking.{Answers, IsCausedAs, MayGive}
-use Rattle.pid_service.specs.KeptViews.{kept_views}
+use Rattle.pid_service.specs.KeptViews.{LeavesKept, kept_views}
 use Rattle.pid_service.specs.Registries.{OnlyAsked, OnlyReads, connection, is_live}
 use Rattle.pid_service.proofs.Obeyed.{only_read}
 
@@ -51,6 +51,7 @@ module _ {S : Type 0} (store : Ghosts S) where
     fault = subst (λ (b : Bool). IfErr r (MayGive b)) same a.fault;
     lives = a.lives ∙ same;
     rests = reads_then (state store (connection old)) (state store (connection mid)) (state store (connection new)) reads a.rests;
+    leaves = subst (λ k. LeavesKept k (kept_views new)) kept a.leaves;
     told = λ clean h shows. a.told clean h (only_read store old mid h same reads kept shows);
     caused = λ clean h shows. fault_since r (connection old) (connection mid) (connection new) reads a.rests clean (a.caused clean h (only_read store old mid h same reads kept shows));
   }

@@ -1,6 +1,7 @@
 -- Commands of a list, obeyed one after another.
 use Rattle.std.proofs.Common.{◌≡◌, ◌⊎◌, inl, inr, ℕ, zero, suc, ◌+◌, ◌<◌, List, [], ◌∷◌, ◌++◌, length, take, drop, map, get_or, add-one, Option, Some, None, Result, Ok, Err, IsErrAnd, is_some, true, false, refl, sym, subst, ap, ◌∙◌, arith}
 use Rattle.sqlite_trees.specs.declared.store.Store.{Ghosts}
+use Rattle.pid_moderation.specs.declared.command.Command.{Command}
 use Rattle.pid_moderation.specs.declared.command.Reply.{Reply}
 use Rattle.pid_moderation.specs.declared.refusal.Refusal.{Refusal}
 use Rattle.pid_moderation.specs.declared.refusal.Refusal.TheVariants.{BadPath, BadName, BadText, NoAccount, RankTooLow, NoSubmission, NotPending, NotAuthor, OwnDecision, ParentMissing, HasChildren, NothingToDo, FileFault, Full, Memory, Store, Failed, Changed}
@@ -10,9 +11,9 @@ use Rattle.pid_moderation.specs.Views.{items_of, views_of}
 use Rattle.pid_service.specs.declared.registry.Registry.{Registry}
 use Rattle.pid_service.specs.Histories.{Shows, IsMemoryOrStore}
 use Rattle.pid_service.specs.KeptViews.{kept_by, nothing}
-use Rattle.pid_service.specs.Obeying.{Forgets, Obeys}
+use Rattle.pid_service.specs.Obeying.{Forgets, IsObeyed, Obeys}
 use Rattle.pid_service.specs.declared.running.RunReport.{RunReport}
-use Rattle.pid_service.specs.Running.{EndsRun, ForgetsNext, ForgetsRun, LeaveItems, Runs}
+use Rattle.pid_service.specs.Running.{EndsRun, ForgetsNext, ForgetsRun, LeaveItems, ObeysInTurn, Runs, RunsInTurn, EndsTurn}
 use Rattle.pid_service.specs.Steps.Running.{fault_in}
 use Rattle.pid_service.proofs.Judged.{refused_stays}
 
@@ -133,6 +134,67 @@ module _ {S : Type 0} (store : Ghosts S) {X : Type 0} (f : X → Asked) where
         ends = subst (λ n. EndsRun store report.fault (drop n (map f cs)) r (after_all h (take n (map f cs)))) (sym count)
             (subst (λ (x : Option Refusal). EndsRun store x (map f cs) r h) (sym is) (at_first r h cs e fault (omega (arith, count, less)) shows));
       }
+
+-- ---- one after another
+
+at_place : {X : Type 0} (cs : List X) (i : ℕ) (x : X) → i < length cs → get_or cs i x ≡ x → (take (suc i) cs ≡ take i cs ++ x ∷ []) × (drop i cs ≡ x ∷ drop (suc i) cs)
+at_place [] i x low is = absurd (omega (arith, low))
+at_place (y ∷ cs) zero x low is = (ap (λ z. z ∷ []) is, ap (λ z. z ∷ cs) is)
+at_place (y ∷ cs) (suc i) x low is = let below = at_place cs i x (omega (arith, low)) is in (ap (λ l. y ∷ l) below.0, below.1)
+
+module _ {S : Type 0} (store : Ghosts S) where
+  -- at the start
+  pub turn_none : (rs : List (Result Reply Refusal)) (r : Registry S store) → rs ≡ [] → ObeysInTurn store [] rs r r
+  turn_none rs r none = subst (λ (l : List (Result Reply Refusal)). ObeysInTurn store [] l r r) (sym none) refl
+
+  turn_then : (cs : List Command) (rs : List (Result Reply Refusal)) (old mid new : Registry S store) (c : Command) (r : Result Reply Refusal) → ObeysInTurn store cs rs old mid → IsObeyed store mid new c r
+      → ObeysInTurn store (cs ++ c ∷ []) (rs ++ r ∷ []) old new
+  turn_then [] [] old mid new c r same one = (new, subst (λ (k : Registry S store). IsObeyed store k new c r) same one, refl)
+  turn_then [] (s ∷ rs) old mid new c r turn one = absurd turn
+  turn_then (x ∷ cs) [] old mid new c r turn one = absurd turn
+  turn_then (x ∷ cs) (s ∷ rs) old mid new c r turn one = (turn.0, turn.1, turn_then cs rs turn.0 mid new c r turn.2 one)
+
+  -- one command more
+  pub turn_more : (cs : List Command) (i : ℕ) (rs : List (Result Reply Refusal)) (old mid new : Registry S store) (c : Command) (r : Result Reply Refusal) → i < length cs → get_or cs i c ≡ c → ObeysInTurn store (take i cs) rs old mid
+      → IsObeyed store mid new c r → ObeysInTurn store (take (i + 1) cs) (rs ++ r ∷ []) old new
+  turn_more cs i rs old mid new c r low is turn one =
+      subst (λ (l : List Command). ObeysInTurn store l (rs ++ r ∷ []) old new) (sym (ap (λ k. take k cs) (add-one i) ∙ (at_place cs i c low is).0)) (turn_then (take i cs) rs old mid new c r turn one)
+
+  stops_with : (fault : Option Refusal) (mid new : Registry S store) (c : Command) (rest : List Command) (r : Result Reply Refusal) → IsObeyed store mid new c r → fault ≡ fault_in r → is_some fault ≡ true → EndsTurn store fault (c ∷ rest) mid new
+  stops_with None mid new c rest r one same some = absurd (let no : ⊥ = cc in no)
+  stops_with (Some e) mid new c rest r one same some = inl (subst (λ (k : Result Reply Refusal). IsObeyed store mid new c k) (told_fault r e (sym same)).0 one)
+
+  -- so many were obeyed, and it stops there
+  in_turn : (report : RunReport) (cs : List Command) (i : ℕ) (old mid new : Registry S store) → length report.replies.items ≡ i → ObeysInTurn store (take i cs) report.replies.items old mid → EndsTurn store report.fault (drop i cs) mid new
+      → RunsInTurn store old new cs report
+  in_turn report cs i old mid new many turn stops = record {
+    reached = mid;
+    obeyed = subst (λ n. ObeysInTurn store (take n cs) report.replies.items old mid) (sym many) turn;
+    stops = subst (λ n. EndsTurn store report.fault (drop n cs) mid new) (sym many) stops;
+  }
+
+  -- at the fault of the next command
+  pub turn_stops : (report : RunReport) (cs : List Command) (i : ℕ) (old mid new : Registry S store) (c : Command) (r : Result Reply Refusal) → i < length cs → get_or cs i c ≡ c → length report.replies.items ≡ i
+      → ObeysInTurn store (take i cs) report.replies.items old mid → IsObeyed store mid new c r → report.fault ≡ fault_in r → is_some report.fault ≡ true → RunsInTurn store old new cs report
+  turn_stops report cs i old mid new c r low is many turn one same some =
+      in_turn report cs i old mid new many turn
+      (subst (λ (l : List Command). EndsTurn store report.fault l mid new) (sym (at_place cs i c low is).1) (stops_with report.fault mid new c (drop (suc i) cs) r one same some))
+
+  -- at the end of the list
+  pub turn_ends : (report : RunReport) (cs : List Command) (i : ℕ) (old new : Registry S store) → length report.replies.items ≡ i → ObeysInTurn store (take i cs) report.replies.items old new → report.fault ≡ None → RunsInTurn store old new cs report
+  turn_ends report cs i old new many turn none =
+      in_turn report cs i old new new many turn (subst (λ (f : Option Refusal). EndsTurn store f (drop i cs) new new) (sym none) refl)
+
+  at_once : (cs : List Command) (r : Registry S store) → 0 < length cs → EndsTurn store (Some Memory) cs r r
+  at_once [] r less = absurd (omega (arith, less))
+  at_once (c ∷ cs) r less = inr (refl, refl)
+
+  -- no memory for the replies
+  pub turn_short : (report : RunReport) (cs : List Command) (r : Registry S store) → report.replies.items ≡ [] → report.fault ≡ Some Memory → length report.replies.items < length cs → RunsInTurn store r r cs report
+  turn_short report cs r none is less =
+      let many : length report.replies.items ≡ 0 = ap length none in
+      in_turn report cs 0 r r r many (turn_none report.replies.items r none)
+      (subst (λ (f : Option Refusal). EndsTurn store f cs r r) (sym is) (at_once cs r (omega (arith, many, less))))
 
 -- names in memory
 

@@ -11,6 +11,7 @@ use Rattle.pid_tables_rows.specs.Clauses as clauses
 use Rattle.pid_tables_rows.specs.declared.fault.TableFault.TheVariants as faults
 use Rattle.pid_service.specs.declared.registry.Registry.{Registry}
 use Rattle.pid_service.specs.Histories.{Shows, IsMemoryOrStore, OverHistory}
+use Rattle.pid_service.specs.KeptViews.{LeavesKept, kept_views}
 use Rattle.pid_service.specs.Registries.{OnlyReads, connection, is_live}
 
 -- a live registry fails with `Memory` and `Store` alone, one that has failed with `Failed` alone
@@ -47,6 +48,7 @@ module _ {S : Type 0} (store : Ghosts S) where
     pub fault : IfErr result (MayGive (is_live old))
     pub lives : is_live new ≡ is_live old
     pub rests : OnlyReads store old new
+    pub leaves : LeavesKept (kept_views old) (kept_views new)
     pub told : TellsHistory old new result Says (λ h e. IsMemoryOrStore e)
     pub caused : OverHistory store old new (λ h. IfErr result (λ e. FaultIsCaused old new e))
 
@@ -57,6 +59,7 @@ module _ {S : Type 0} (store : Ghosts S) where
     pub fault : IfErr result (λ e. (e ≡ NoSubmission) ⊎ MayGive (is_live old) e)
     pub lives : is_live new ≡ is_live old
     pub rests : OnlyReads store old new
+    pub leaves : LeavesKept (kept_views old) (kept_views new)
     pub told : TellsHistory old new result (λ h x. found h ≡ Some (means x))
         (λ h e. IsMissing (found h) e)
     pub caused : OverHistory store old new

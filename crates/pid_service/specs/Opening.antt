@@ -3,6 +3,7 @@ use Rattle.std.specs.Prelude.{◌≡◌, ◌⊎◌, true, false, IsTrue, Some, R
 use Rattle.std.specs.Prelude.{MatchResult, OnOk}
 use Rattle.sqlite.specs.Held.{Held, state}
 use Rattle.sqlite.specs.Effect.{Database}
+use Rattle.sqlite.specs.Tree.{Trees}
 use Rattle.sqlite_trees.specs.declared.store.Store.{Ghosts}
 use Rattle.pid_moderation.specs.History.{History, new_history}
 use Rattle.pid_moderation.specs.Views.{Views, views_of}
@@ -110,6 +111,11 @@ module _ {S : Type 0} (store : Ghosts S) where
   WritesRegistry old new = HasNoTable (seen store old).schema
       → clauses.Survives store old new (IsMadeBy store registry_statements old)
 
+  -- such trees were committed: a crash leaves them, and the connection sees them while it is open
+  pub record HasWritten (IsSuch : Trees → Type 0) (conn : Held S) : Type 0 where
+    pub sees : IsTrue (clauses.is_open store conn) → IsSuch (seen store conn).trees
+    pub leaves : (db : Trees) → (state store conn).may_leave db → IsSuch db
+
   -- What an opening leaves of a connection, whatever is in the file.
   pub record OpensAtOnce {X : Type 0} (old new : Held S) (result : Result X TableFault)
       : Type 0 where
@@ -121,6 +127,9 @@ module _ {S : Type 0} (store : Ghosts S) where
     -- fails of what is seen now.
     pub back : IfErr result (λ e. tables.IsTakenBack store old new ⊎ MayHaveMade old e new)
     pub made : WritesRegistry old new
+    -- a registry that is opened there was written and committed whole
+    pub done : clauses.HasCleanDisk store new → HasNoTable (seen store old).schema
+        → OnOk result (HasWritten (IsMadeBy store registry_statements old) new)
 
   -- What an opening answers, by what there is, while the disk returns what was written.
   pub record ExplainsOpening {X : Type 0} (old new : Held S) (result : Result X TableFault)

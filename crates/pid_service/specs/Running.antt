@@ -1,13 +1,14 @@
 -- A list of commands, obeyed in order up to a fault.
 use Rattle.std.specs.Prelude.{◌≡◌, ◌≢◌, ◌⊎◌, ◌<◌, ◌≤◌, true, false, List, [], ◌∷◌, length, take}
 use Rattle.std.specs.Prelude.{drop}
-use Rattle.std.specs.Prelude.{map, Option, Some, None, Result, IfErr, IfSome, IsSome, IsSomeAnd}
+use Rattle.std.specs.Prelude.{map, Option, Some, None, Result, Err}
+use Rattle.std.specs.Prelude.{IfErr, IfSome, IsSome, IsSomeAnd}
 use Rattle.std.specs.List.{AllByRecursion}
 use Rattle.sqlite_trees.specs.declared.store.Store.{Ghosts}
 use Rattle.pid_moderation.specs.declared.command.Command.{Command}
 use Rattle.pid_moderation.specs.declared.command.Reply.{Reply}
 use Rattle.pid_moderation.specs.declared.refusal.Refusal.{Refusal}
-use Rattle.pid_moderation.specs.declared.refusal.Refusal.TheVariants.{Failed}
+use Rattle.pid_moderation.specs.declared.refusal.Refusal.TheVariants.{Failed, Memory}
 use Rattle.pid_moderation.specs.History.{Asked, History}
 use Rattle.pid_moderation.specs.Judgement.{after, after_all, answers}
 use Rattle.pid_moderation.specs.Views.{items_of}
@@ -17,7 +18,7 @@ use Rattle.pid_service.specs.declared.running.RunReport.{RunReport}
 use Rattle.pid_service.specs.Asking.{MayGive}
 use Rattle.pid_service.specs.Histories.{Shows, FailsBetween, IsMemoryOrStore, OverHistory}
 use Rattle.pid_service.specs.KeptViews.{kept_by, nothing}
-use Rattle.pid_service.specs.Obeying.{Forgets}
+use Rattle.pid_service.specs.Obeying.{Forgets, IsObeyed}
 use Rattle.pid_service.specs.Registries.{HasCleanDisk, KeepsLimit, is_live}
 
 -- it does not say that the registry had failed before
@@ -61,6 +62,31 @@ module _ {S : Type 0} (store : Ghosts S) where
     pub next : ForgetsNext (drop (length report.replies.items) commands) r
         (after_all h (take (length report.replies.items) commands))
 
+  -- from the first registry to the second these were obeyed one after another, as `obey` does it,
+  -- with these replies
+  abbrev pub ObeysInTurn : List Command → List (Result Reply Refusal) → Registry S store
+      → Registry S store → Type 0
+  ObeysInTurn [] [] old new = new ≡ old
+  ObeysInTurn (command ∷ rest) (reply ∷ replies) old new = (next : Registry S store)
+      × IsObeyed store old next command reply × ObeysInTurn rest replies next new
+  ObeysInTurn [] (reply ∷ replies) old new = ⊥
+  ObeysInTurn (command ∷ rest) [] old new = ⊥
+
+  -- the fault is what the next command was answered, or memory ran out before it
+  abbrev pub EndsTurn : Option Refusal → List Command → Registry S store → Registry S store → Type 0
+  EndsTurn None rest old new = new ≡ old
+  EndsTurn (Some e) [] old new = ⊥
+  EndsTurn (Some e) (command ∷ rest) old new = IsObeyed store old new command (Err e)
+      ⊎ ((e ≡ Memory) × (new ≡ old))
+
+  -- the first commands were obeyed, as many as have a reply, and the list stopped there
+  pub record RunsInTurn (old new : Registry S store) (commands : List Command)
+      (report : RunReport) : Type 0 where
+    pub reached : Registry S store
+    pub obeyed : ObeysInTurn (take (length report.replies.items) commands) report.replies.items
+        old reached
+    pub stops : EndsTurn report.fault (drop (length report.replies.items) commands) reached new
+
   -- A list of commands was obeyed, up to a fault.
   pub record IsRun (old new : Registry S store) (commands : List Command)
       (report : RunReport) : Type 0 where
@@ -76,6 +102,9 @@ module _ {S : Type 0} (store : Ghosts S) where
         → length report.replies.items < length commands
     pub most : length report.replies.items ≤ length commands
     pub ran : OverHistory store old new (λ h. Runs report new h (map asks commands))
+    -- whatever its disk does, a live one obeys each command as if it came alone, so that a fault
+    -- has its cause
+    pub in_turn : is_live old ≡ true → RunsInTurn old new commands report
     -- if some command left other items, no name is kept in memory
     pub forgets : OverHistory store old new (λ h. ForgetsRun report new h (map asks commands))
     -- Whatever its disk does: without a fault a live registry stays live, one that has failed since

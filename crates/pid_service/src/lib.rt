@@ -36,10 +36,14 @@ pub use registry::Registry;
 pub use running::RunReport;
 
 // What its callers need of the crates below.
-pub use pid_ident::{Account, Input, Key, Name, Output, Path, Text};
-pub use pid_lookup::{Answer, Args, BadField, LookupRefusal, args_of};
+pub use pid_ident::{
+    Account, Id8, Id16, Input, Key, LineKind, Name, Output, Path, PathKind, ReadFault, Text,
+    WordFault, WriteFault,
+};
+pub use pid_lookup::{Answer, AnswerText, Args, BadField, LookupRefusal, args_of};
 pub use pid_moderation::{
-    Act, ChangedItem, Changes, Command, Comment, Discussion, File, Item, Pending, Proposal, Queued,
-    Rank, Refusal, Reply, State, Status, Submission, SubmissionPage, Verb, command_of, reply_line,
+    Act, ChangedItem, Changes, Command, Comment, Discussion, Expected, File, FileFault, Item,
+    Listed, Pending, Proposal, Queued, Rank, Refusal, Reply, State, Status, Submission,
+    SubmissionPage, Verb, command_of, reply_line,
 };
 pub use pid_tables::{Step, TableFault};

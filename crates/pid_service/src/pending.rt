@@ -23,6 +23,9 @@ impl<S: Alter + Drop> Registry<S> {
             return Err(Refusal::Failed);
         }
         laws::reached_histories_are_kept(); // proof only
+        if self.kept.pending.is_some() {
+            return Ok(());
+        }
         if self.kept.pending_read {
             return Ok(());
         }

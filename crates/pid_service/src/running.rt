@@ -16,7 +16,7 @@ ghost use Rattle.std.specs.List.{AllByRecursion};
 ghost use Rattle.pid_tables.specs.Files.{asks};
 ghost use Rattle.pid_service.specs.Histories.{IsMemoryOrStore, OverHistory};
 ghost use Rattle.pid_service.specs.Registries.{HasCleanDisk, KeepsLimit, is_live as lives};
-ghost use Rattle.pid_service.specs.Running.{ReplyIsNotFailed, ForgetsRun, IsRun, Runs};
+ghost use Rattle.pid_service.specs.Running.{ReplyIsNotFailed, ForgetsRun, IsRun, Runs, RunsInTurn};
 ghost use Rattle.pid_service.specs.Steps.Running.{CountsReplies, fault_in};
 
 use crate::registry::Registry;
@@ -59,6 +59,7 @@ impl<S: Alter + Drop> Registry<S> {
         ensures counts { CountsReplies result commands.now }
         ensures ran { OverHistory S.Store self.old self.new
             (λ h. Runs S.Store result self.new h (map asks commands.now)) }
+        ensures in_turn { RunsInTurn S.Store self.old self.new commands.now result }
         ensures forgets { OverHistory S.Store self.old self.new
             (λ h. ForgetsRun S.Store result self.new h (map asks commands.now)) }
         ensures held { lives self.old ≡ true
@@ -88,8 +89,9 @@ impl<S: Alter + Drop> Registry<S> {
 
     /// Obeys commands in order, up to the first at which memory runs out or the store fails.
     ///
-    /// The memory for the replies is taken first, so that none is lost. A registry that has failed
-    /// obeys nothing, with the fault `Failed`.
+    /// Each is obeyed as by `obey`, whose clauses say what its reply and the fault stand for. The
+    /// memory for the replies is taken first, so that none is lost. A registry that has failed obeys
+    /// nothing, with the fault `Failed`.
     pub fn run(&mut self, commands: &[Command]) -> RunReport
         ensures { IsRun S.Store self.old self.new commands.now result }
     {

@@ -5,10 +5,10 @@ use Rattle.std.specs.declared.net.ipv4_addr.Ipv4Addr.{Ipv4Addr}
 use Rattle.std.specs.declared.net.socket_addr.SocketAddr.{SocketAddr}
 use Rattle.std.specs.Net.Addr.{ipv4_octets}
 use Rattle.std.specs.Net.Socket.{socket_ip, socket_port}
-use Rattle.pid_file.specs.Tidied.{Writers}
 use Rattle.pid_http_listener.specs.declared.server.StreamServer as servers
 use Rattle.pid_http_listener.specs.Streams.{IsGivenMore}
 use Rattle.pid_cli_jobs.specs.declared.job_end.JobEnd.{JobEnd}
+use Rattle.pid_cli_jobs.specs.Lines.{Streams}
 use Rattle.pid_cli_jobs.specs.Serving.{ReportsStreams}
 
 -- 127.0.0.1 (RFC 1122, 3.2.1.3) and this port: no other machine reaches it
@@ -20,6 +20,6 @@ pub record IsLoopback (address : SocketAddr) (port : ℕ) : Type 0 where
 
 -- A server was given streams, and it is reported how many: just those that it counts, if it does.
 pub record GivesStreams {S : Type 0} (server : servers.Ghosts S) (old new : S) (connections : ℕ)
-    (w : Writers) (end : JobEnd) : Type 0 where
+    (w : Streams) (end : JobEnd) : Type 0 where
   pub streams : ReportsStreams connections (server.live new) w end
   pub given : IsGivenMore streams.serving.streams (server.given old) (server.given new)

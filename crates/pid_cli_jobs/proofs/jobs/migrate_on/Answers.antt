@@ -1,7 +1,9 @@
 use Rattle.std.proofs.Common.{ap, refl, subst}
 use Rattle.pid_service.specs.Opening.{MovesTo}
+use Rattle.pid_tables_rows.specs.declared.fault.TableFault.TheVariants.{Store}
 use Rattle.pid_cli_jobs.specs.declared.job_end.JobEnd.TheVariants.{Told}
 use Rattle.pid_cli_jobs.specs.Sessions.{Migrated, Unmoved}
+use Rattle.pid_cli_jobs.proofs.Sessions.{moved_limit}
 use Rattle.pid_cli_jobs.proofs.jobs.migrate_on.Goals as goal
 
 pub returns-in-Ok : goal.returns-in-Ok
@@ -9,6 +11,8 @@ returns-in-Ok g c = Migrated (record {
   step = c.in-Ok.step;
   moved = c.in-Ok.conn;
   moves = subst (λ r. MovesTo g.S.Store c.args.conn r) c.in-Ok.is c.migrate.ensures.history;
+  limit = moved_limit g.S.Store c.args.conn Store c.migrate.result c.in-Ok.conn c.in-Ok.step
+      c.in-Ok.is c.migrate.ensures.busy c.migrate.ensures.at_once;
   prints = c.print_step.ensures;
   silent = refl;
   hands = refl;

@@ -1,13 +1,17 @@
 use Rattle.std.proofs.Common.{ap, refl, subst}
 use Rattle.pid_service.specs.Opening.{OpensTo}
+use Rattle.pid_tables_rows.specs.declared.fault.TableFault.TheVariants.{Store}
 use Rattle.pid_cli_jobs.specs.declared.job_end.JobEnd.TheVariants.{Told}
 use Rattle.pid_cli_jobs.specs.Sessions.{Session, Unopened}
+use Rattle.pid_cli_jobs.proofs.Sessions.{opened_limit}
 use Rattle.pid_cli_jobs.proofs.jobs.work_on.Goals as goal
 
 pub returns-in-Ok : goal.returns-in-Ok
 returns-in-Ok g c = Session (record {
   opened = c.in-Ok.registry;
   opens = subst (λ r. OpensTo g.S.Store c.args.conn r) c.in-Ok.is c.open.ensures.history;
+  limit = opened_limit g.S.Store c.args.conn Store c.open.result c.in-Ok.registry c.in-Ok.is
+      c.open.ensures.busy c.open.ensures.at_once;
   ended = c.do_job-end.new.registry;
   goes = c.do_job-end.ensures.goes;
   does = c.do_job-end.ensures.does;

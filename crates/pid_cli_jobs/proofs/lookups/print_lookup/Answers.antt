@@ -6,14 +6,16 @@ use Rattle.pid_cli_jobs.proofs.Ends.{unread_failed, unread_told}
 use Rattle.pid_cli_jobs.proofs.lookups.print_lookup.Goals as goal
 
 pub returns-in-Ok : goal.returns-in-Ok
-returns-in-Ok g c = Answered c.in-Ok.found c.in-Ok.ensures.bad_flags c.in-Ok.ensures.answer c.print_answer.ensures
+returns-in-Ok g c = Answered c.in-Ok.found c.in-Ok.ensures.bad_flags c.in-Ok.ensures.answer c.print_answer.ensures.printed c.print_answer.ensures.reported
 
 pub returns-in-ReadFault : goal.returns-in-ReadFault
-returns-in-ReadFault g c = Unread c.tell_unread.result
+returns-in-ReadFault g c = Unread c.tell_unread.result c.tell_unread.ensures.not_done
+    c.tell_unread.ensures.write_fault
     (IfSome_then (g.I.Input.to_come c.args.input.now) c.in-Err.ensures.answer c.tell_unread.ensures.told) refl
     (unread_failed c.tell_unread.result c.in-ReadFault.is)
 
 pub returns-in_default : goal.returns-in_default
-returns-in_default g c = Unread c.tell_unread.result
+returns-in_default g c = Unread c.tell_unread.result c.tell_unread.ensures.not_done
+    c.tell_unread.ensures.write_fault
     (IfSome_then (g.I.Input.to_come c.args.input.now) c.in-Err.ensures.answer c.tell_unread.ensures.told) refl
     (ap Told c.status.ensures ∙ unread_told c.tell_unread.result c.in_default.not-ReadFault c.in_default.not-WriteFault)

@@ -6,7 +6,8 @@ use Rattle.pid_cli_jobs.proofs.on_files.do_in_files.Goals as goal
 pub returns-in-Ok : goal.returns-in-Ok
 returns-in-Ok g c = InFiles (record {
   conn = c.in-Ok.conn;
-  opens = c.in-Ok.ensures;
+  opens = c.in-Ok.ensures.opened;
+  fresh = c.in-Ok.ensures.fresh;
   there = c.do_there.ensures;
 })
 

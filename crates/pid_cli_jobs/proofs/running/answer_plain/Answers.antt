@@ -1,3 +1,5 @@
+use Rattle.std.proofs.Common.{refl}
+use Rattle.pid_file.specs.Writing.{use_of}
 use Rattle.pid_cli_jobs.proofs.Ends.{not_printed}
 use Rattle.pid_cli_jobs.proofs.running.answer_plain.Goals as goal
 
@@ -6,5 +8,6 @@ returns-in_default g c = record {
   between = c.do_plain.new.output;
   done = c.do_plain.result;
   does = c.do_plain.ensures;
-  prints = not_printed c.do_plain.result (g.O.Output.taken c.do_plain.new.output) c.in_default.not-Replied;
+  prints = not_printed c.do_plain.result
+      (use_of g.O.Output c.do_plain.new.output c.do_plain.new.output) refl c.in_default.not-Replied;
 }

@@ -1,5 +1,6 @@
 use Rattle.std.proofs.Common.{ap, refl, sym, inl, inr, ◌∙◌}
 use Rattle.std.specs.Io.Buffered.{writer_contents}
+use Rattle.pid_file.specs.Writing.{use_of}
 use Rattle.pid_cli_jobs.specs.Ends.{exit_status}
 use Rattle.pid_cli_jobs.proofs.Exports.{kept_through}
 use Rattle.pid_cli_jobs.proofs.running.export_through.Goals as goal
@@ -10,13 +11,12 @@ returns g c = record {
   into = record {
     output = c.new-output.result;
     output_after = c.do_in_files-end.new.output;
-    faults = g.F.Output.taken c.args.faults.now;
-    faults_after = g.F.Output.taken c.do_in_files-end.new.faults;
+    faults = use_of g.F.Output c.args.faults.now c.do_in_files-end.new.faults;
     end = c.do_in_files-end.result;
   };
   exports = c.do_in_files-end.ensures;
   begins = ap (writer_contents g.O.Write.contents) c.new-output.ensures.wraps;
-  reports = (refl, refl);
+  reports = refl;
   ends = elim c.match-end.branch [
     | in-Told-eq0-Err w ↦ inr w.end-is
     | in_default w ↦ inl w.end-is

@@ -1,7 +1,5 @@
 use Rattle.std.proofs.Common.{rules}
 use Rattle.pid_http.specs.Known.{LivesOn}
-use Rattle.pid_service.specs.Registries.{is_live}
-use Rattle.pid_cli_jobs.specs.Serving.{ReportsStreams}
 use Rattle.pid_cli_jobs.proofs.serving.serve_listener.Goals as goal
 
 pub returns-clause-lives : goal.returns-clause-lives

@@ -1,12 +1,14 @@
-use Rattle.std.proofs.Common.{sym, subst, ◌∙◌, IfSome}
+use Rattle.std.proofs.Common.{sym, ap, subst, ◌∙◌, IfSome}
 use Rattle.std.specs.Io.Buffered.{writer_contents}
+use Rattle.pid_file.specs.Statuses.{GotTidied}
+use Rattle.pid_file.specs.TextEnds.{status_of}
 use Rattle.pid_file.specs.Tidied.{IsTidied, Writers}
-use Rattle.pid_file.proofs.Flushed.{got, is_done, map_some}
+use Rattle.pid_file.proofs.Flushed.{got_nothing, got_same, got_tidied, map_some, through}
 use Rattle.pid_file.proofs.process.run_tidy.Goals as goal
-use Rattle.pid_file.proofs.process.run_tidy.Goals.{in-Done-Err, in_default-2, in_default-2-2}
+use Rattle.pid_file.proofs.process.run_tidy.Goals.{in-Ok-flush, in-Err}
 
-pub returns-clause-printed : goal.returns-clause-printed
-returns-clause-printed g c =
+pub returns-clause-wrote : goal.returns-clause-wrote
+returns-clause-wrote g c =
     let input = g.I.Read.remaining c.args.input in
     let kept : Writers = record {
       output = writer_contents (λ w. g.O.Write.contents w.inner) c.new-output.result.inner;
@@ -14,17 +16,21 @@ returns-clause-printed g c =
       faults = g.F.Write.contents c.new-faults.result.inner;
       faults_after = g.F.Write.contents c.tidy-end.new.faults.inner;
     } in
+    let wrote : Writers = record {
+      output = g.O.Write.contents c.args.output;
+      output_after = g.O.Write.contents c.into_inner-output.result;
+      faults = g.F.Write.contents c.args.faults;
+      faults_after = g.F.Write.contents c.into_inner-faults.result;
+    } in
     let tidied : IfSome input (λ text. IsTidied c.tidy-end.result text kept) = subst (λ x. IfSome (g.I.Read.remaining x) (λ text. IsTidied c.tidy-end.result text kept)) c.new-input.ensures.wraps c.tidy-end.ensures.tidied in
-    elim c.match-end.branch [
-      | in-Done-Err w ↦ map_some input (λ text t zero.
-          let done = is_done c.match-end.end (sym c.status-status.ensures ∙ zero) in
-          absurd cc) tidied
-      | in_default-2 w ↦ map_some input (λ text t zero.
-          got g.O.Write.contents text c.args.output c.into_inner.result c.new.result c.into_parts-watched.result.0 c.new-output.result.inner c.in-Ok.buffer c.tidy-end.new.output.inner c.into_inner-buffer.result c.flush.new.self kept.faults kept.faults_after
+    map_some input (λ text t. elim c.match-flush.branch [
+      | in-Ok-flush w ↦ subst (λ s. GotTidied text s wrote) (sym (c.status-status.ensures.status ∙ ap status_of w.end-is))
+          (got_tidied c.tidy-end.result text kept wrote t
+          (through g.O.Write.contents c.args.output c.into_inner-output.result c.new.result c.into_parts-watched.result.0 c.new-output.result.inner c.in-Ok.buffer c.tidy-end.new.output.inner c.into_inner-buffer.result c.flush.new.self
           c.new-output.ensures.wraps c.in-Ok.ensures.inner c.in-Ok.ensures.empty c.new.ensures.inner
-          c.into_inner-buffer.ensures w.in_default-2.ensures.ok c.into_parts-watched.ensures.inner c.into_inner.ensures
-          (subst (λ e. IsTidied e text kept) w.in_default-2.is-0 t) w.in_default-2.ensures.bytes) tidied
-      | in_default-2-2 w ↦ map_some input (λ text t zero.
-          let done = is_done c.match-end.end (sym c.status-status.ensures ∙ zero) in
-          absurd (w.in_default-2.not-Done-0 (sym w.end-is ∙ done))) tidied
-    ]
+          c.into_inner-buffer.ensures w.in-Ok-flush.ensures.ok c.into_parts-watched.ensures.inner c.into_inner-output.ensures
+          w.in-Ok-flush.ensures.bytes)
+          (λ good. got_same kept.faults kept.faults_after wrote.faults wrote.faults_after (ap g.F.Write.contents (sym c.new-faults.ensures.wraps))
+          (ap g.F.Write.contents c.into_inner-faults.ensures ∙ c.status-status.ensures.silent (λ three. good (ap status_of (sym w.end-is) ∙ three)))))
+      | in-Err w ↦ got_nothing text c.status-status.result wrote (c.status-status.ensures.status ∙ ap status_of w.end-is)
+    ]) tidied

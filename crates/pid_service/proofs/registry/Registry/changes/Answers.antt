@@ -5,6 +5,7 @@ use Rattle.pid_moderation.specs.declared.lists.ChangedItem.{ChangedItem}
 use Rattle.pid_moderation.specs.Views.{since_of, views_of}
 use Rattle.pid_moderation.specs.declared.lists.TheConstants.{PAGE}
 use Rattle.pid_service.proofs.Causes.{caused_by}
+use Rattle.pid_service.proofs.Keeping.{left_same}
 use Rattle.pid_service.proofs.Obeyed.{only_read}
 use Rattle.pid_service.proofs.Questions.{answers_then, none_changed}
 use Rattle.pid_service.proofs.registry.Registry.changes.Goals as goal
@@ -21,6 +22,7 @@ returns-in-Err g c = record {
   fault = search rules;
   lives = search rules;
   rests = search rules;
+  leaves = left_same _;
   told = search rules;
   caused = λ clean h shows.
       caused_by g.S.Store c.args.self.now.tables.conn c.revision.new.conn c.in-Err.fault c.refusal_of.result c.refusal_of.ensures.same (c.in-Err.ensures.told clean (views_of h) shows.tables (c.reached_histories_are_kept.ensures.readable h shows.history));
@@ -32,6 +34,7 @@ returns-then-revision-since g c = record {
   fault = tt;
   lives = refl;
   rests = c.revision.ensures.rests;
+  leaves = left_same _;
   told = λ clean h shows.
       let now : c.in-Ok.revision ≡ (views_of h).revision = c.in-Ok.ensures.told clean (views_of h) shows.tables in
       let past : c.in-Ok.revision ≤ c.args.since = search rules in

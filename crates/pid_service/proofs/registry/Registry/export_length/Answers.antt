@@ -2,6 +2,7 @@ use Rattle.std.proofs.Common.{◌≡◌, true, length, rules, refl, ap, ◌∙�
 use Rattle.pid_moderation.specs.Views.{views_of}
 use Rattle.pid_service.proofs.Causes.{caused_by}
 use Rattle.pid_service.proofs.Exported.{text_kept, text_told}
+use Rattle.pid_service.proofs.Keeping.{left_same}
 use Rattle.pid_service.proofs.Questions.{answers_then}
 use Rattle.pid_service.proofs.registry.Registry.export_length.Goals as goal
 
@@ -11,6 +12,7 @@ returns-in-Some g c = record {
   fault = tt;
   lives = refl;
   rests = search rules;
+  leaves = left_same _;
   told = λ clean h shows.
       let many : c.len.result ≡ length c.in-Some.text.items = search rules in
       (many ∙ ap length (text_told g.S.Store c.args.self.now h c.in-Some.text c.in-Some.is clean shows (c.items_print_as_their_tree.ensures h)), shows);
@@ -23,6 +25,7 @@ returns-in-Ok g c = record {
   fault = tt;
   lives = refl;
   rests = c.items_text.ensures.rests;
+  leaves = record { names = refl; text = search rules; pending = λ some. refl };
   told = λ clean h shows.
       let told = c.in-Ok.ensures.told clean (views_of h) shows.tables (c.reached_histories_are_kept.ensures.readable h shows.history) in
       (told.counted ∙ ap length (c.items_print_as_their_tree.ensures h), text_kept g.S.Store c.args.self.now _ h shows refl refl refl c.items_text.ensures.rests told.kept);
@@ -35,6 +38,7 @@ returns-in-Err g c = record {
   fault = search rules;
   lives = search rules;
   rests = search rules;
+  leaves = left_same _;
   told = search rules;
   caused = λ clean h shows.
       caused_by g.S.Store c.args.self.now.tables.conn c.items_text.new.tables.conn c.in-Err.fault c.refusal_of.result c.refusal_of.ensures.same (c.in-Err.ensures.told clean (views_of h) shows.tables (c.reached_histories_are_kept.ensures.readable h shows.history));

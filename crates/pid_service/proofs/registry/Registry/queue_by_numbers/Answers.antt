@@ -1,6 +1,7 @@
 use Rattle.std.proofs.Common.{map, ap, refl, rules, ◌∙◌}
 use Rattle.pid_moderation.specs.QueuePages.{entry_in}
 use Rattle.pid_moderation.specs.Views.{views_of}
+use Rattle.pid_service.proofs.Keeping.{left_same}
 use Rattle.pid_service.proofs.KeptNumbers.{numbers_told}
 use Rattle.pid_service.proofs.Obeyed.{only_read}
 use Rattle.pid_service.proofs.PendingNumbers.{page_numbered}
@@ -12,6 +13,7 @@ returns-in-Ok g c = record {
   fault = tt;
   lives = refl;
   rests = c.queue_at.ensures.rests;
+  leaves = left_same _;
   told = λ clean h shows. (
     c.in-Ok.ensures.told clean (views_of h) shows.tables
         ∙ ap (map (entry_in (views_of h)))

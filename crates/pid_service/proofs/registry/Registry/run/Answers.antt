@@ -5,7 +5,7 @@ use Rattle.pid_service.specs.Running.{ReplyIsNotFailed}
 use Rattle.pid_tables.specs.Files.{asks}
 use Rattle.std.specs.Prelude.{map}
 use Rattle.pid_service.proofs.Lasting.{fault_so, given_live, most_so, stays_so}
-use Rattle.pid_service.proofs.Runs.{forgets_none, runs_none}
+use Rattle.pid_service.proofs.Runs.{forgets_none, runs_none, turn_short}
 use Rattle.pid_service.proofs.registry.Registry.run.Goals as goal
 
 pub returns-in-Ok : goal.returns-in-Ok
@@ -17,6 +17,7 @@ returns-in-Ok g c = record {
   cut = λ on. c.run_into.ensures.counts.cut;
   most = most_so c.run_into.result.fault (length c.run_into.result.replies.items) (length c.args.commands.now) c.run_into.ensures.counts.complete c.run_into.ensures.counts.cut;
   ran = c.run_into.ensures.ran;
+  in_turn = λ on. c.run_into.ensures.in_turn;
   forgets = c.run_into.ensures.forgets;
   stays = λ on none. stays_so c.run_into.result.fault c.run_into.new.self.live (c.run_into.ensures.held on) none;
   fails = λ on off. fault_so c.run_into.result.fault c.run_into.new.self.live (c.run_into.ensures.held on) off;
@@ -36,6 +37,7 @@ returns-in-Err g c =
       cut = search rules;
       most = search rules;
       ran = λ clean h shows. runs_none g.S.Store asks _ _ h c.args.commands.now Memory none refl (inl refl) less shows;
+      in_turn = λ on. turn_short g.S.Store _ c.args.commands.now c.args.self.now none refl less;
       forgets = λ clean h shows. forgets_none g.S.Store _ c.args.self.now h (map asks c.args.commands.now) none shows;
       stays = λ on fine. on;
       fails = λ on off. inl refl;

@@ -1,11 +1,11 @@
-use Rattle.std.proofs.Common.{◌≡◌, ℕ, ◌+◌, List, [], ◌∷◌, length, length-append, take, drop, map, suc, not, true, is_ok, inr, sym, ap, subst, ◌∙◌, arith}
+use Rattle.std.proofs.Common.{◌≡◌, ℕ, ◌+◌, List, [], ◌∷◌, length, length-append, take, drop, map, suc, not, true, is_ok, inr, refl, sym, ap, subst, ◌∙◌, arith}
 use Rattle.pid_moderation.specs.History.{Asked}
 use Rattle.pid_moderation.specs.Judgement.{after_all}
 use Rattle.pid_tables.specs.Files.{asks}
 use Rattle.std.specs.List.{AllByRecursion}
-use Rattle.pid_service.specs.Running.{ReplyIsNotFailed}
+use Rattle.pid_service.specs.Running.{ObeysInTurn, ReplyIsNotFailed}
 use Rattle.pid_service.proofs.Lasting.{all_more, on_after, some_fault}
-use Rattle.pid_service.proofs.Runs.{ends_at, forgets_at, forgets_more, next_is, none_of, none_then, obeyed_more, one_more, so_many}
+use Rattle.pid_service.proofs.Runs.{ends_at, forgets_at, forgets_more, next_is, none_of, none_then, obeyed_more, one_more, so_many, turn_ends, turn_more, turn_stops}
 use Rattle.pid_service.proofs.registry.Registry.run_into.Goals as goal
 
 pub returns-then-is_some-clause-ran : goal.returns-then-is_some-clause-ran
@@ -49,6 +49,9 @@ loop-command-preserved g c =
           c.obey_lent-outcome.ensures.none (c.loop-command.invariant.7 was h shows)
           (c.obey_lent-outcome.ensures.spares clean (after_all h (take i all)) (c.loop-command.invariant.4 was h shows).1) none,
       c.obey_lent-outcome.ensures.does.lasts.limit ∙ c.loop-command.invariant.8,
+      subst (λ l. ObeysInTurn g.S.Store (take (i + 1) c.args.commands.now) l c.args.self.now c.obey_lent-outcome.new.self) (sym (rw good at c.push.ensures.items))
+          (turn_more g.S.Store c.args.commands.now i c.loop-command.replies.items c.args.self.now c.loop-command.self c.obey_lent-outcome.new.self c.command-item.result c.obey_lent-outcome.result
+          (omega (arith, c.loop-command-test.true)) (sym c.command-item.is) c.loop-command.invariant.9 c.obey_lent-outcome.ensures.does),
     )
 
 pub returns-then-is_some-clause-forgets : goal.returns-then-is_some-clause-forgets
@@ -63,3 +66,12 @@ returns-then-is_some-clause-forgets g c clean h shows =
 
 pub returns-then-is_some-clause-held : goal.returns-then-is_some-clause-held
 returns-then-is_some-clause-held g c on = inr (some_fault c.fault_of-fault.result (sym c.is_some.ensures ∙ c.if-is_some.true) c.fault_of-fault.ensures.fault)
+
+pub returns-then-is_some-clause-in_turn : goal.returns-then-is_some-clause-in_turn
+returns-then-is_some-clause-in_turn g c =
+    turn_stops g.S.Store _ c.args.commands.now c.loop-command.command-index c.args.self.now c.loop-command.self c.obey_lent-outcome.new.self c.command-item.result c.obey_lent-outcome.result
+    (omega (arith, c.loop-command-test.true)) (sym c.command-item.is) c.loop-command.invariant.1 c.loop-command.invariant.9 c.obey_lent-outcome.ensures.does
+    c.fault_of-fault.ensures.told (sym c.is_some.ensures ∙ c.if-is_some.true)
+
+pub returns-clause-in_turn : goal.returns-clause-in_turn
+returns-clause-in_turn g c = turn_ends g.S.Store _ c.args.commands.now c.loop-command.command-index c.args.self.now c.loop-command.self c.loop-command.invariant.1 c.loop-command.invariant.9 refl

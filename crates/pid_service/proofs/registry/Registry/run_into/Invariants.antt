@@ -6,7 +6,7 @@ use Rattle.pid_tables.specs.Files.{asks}
 use Rattle.pid_service.specs.Histories.{Shows}
 use Rattle.pid_service.specs.Registries.{HasCleanDisk, KeepsLimit, is_live}
 use Rattle.pid_service.specs.KeptViews.{kept_by, nothing}
-use Rattle.pid_service.specs.Running.{ReplyIsNotFailed, LeaveItems}
+use Rattle.pid_service.specs.Running.{ReplyIsNotFailed, LeaveItems, ObeysInTurn}
 use Rattle.pid_service.proofs.registry.Registry.run_into.Given as goal
 
 abbrev pub invariant-loop-command : goal.invariant-loop-command
@@ -19,3 +19,4 @@ invariant-loop-command g l =
     × (is_live l.fn.self ≡ true → AllByRecursion ReplyIsNotFailed l.replies.items)
     × (HasCleanDisk g.S.Store l.self → (h : History) → Shows g.S.Store l.fn.self h → (kept_by l.self ≡ nothing) ⊎ LeaveItems h (take l.command-index (map asks l.commands)))
     × KeepsLimit g.S.Store l.fn.self l.self
+    × ObeysInTurn g.S.Store (take l.command-index l.commands) l.replies.items l.fn.self l.self

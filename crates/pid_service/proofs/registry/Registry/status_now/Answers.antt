@@ -2,6 +2,7 @@ use Rattle.std.proofs.Common.{refl, rules}
 use Rattle.pid_moderation.specs.Views.{views_of}
 use Rattle.pid_moderation.specs.RegistryStatus.{registry_status_of}
 use Rattle.pid_service.proofs.Causes.{caused_by}
+use Rattle.pid_service.proofs.Keeping.{left_same}
 use Rattle.pid_service.proofs.Obeyed.{only_read}
 use Rattle.pid_service.proofs.registry.Registry.status_now.Goals as goal
 
@@ -11,6 +12,7 @@ returns-in-Ok g c = record {
   fault = tt;
   lives = refl;
   rests = c.in-Ok.ensures.rests;
+  leaves = left_same _;
   told = λ clean h shows. (
     (c.views_tell_status.ensures h (registry_status_of c.in-Ok.status)).0 (c.in-Ok.ensures.told clean (views_of h) shows.tables (shows.kept (c.in-Ok.ensures.rests.clean clean)).pending),
     only_read g.S.Store c.args.self.now _ h refl c.in-Ok.ensures.rests refl shows,
@@ -24,6 +26,7 @@ returns-in-Err g c = record {
   fault = search rules;
   lives = search rules;
   rests = search rules;
+  leaves = left_same _;
   told = search rules;
   caused = λ clean h shows.
       caused_by g.S.Store c.args.self.now.tables.conn c.status_by.new.tables.conn c.in-Err.fault c.refusal_of.result c.refusal_of.ensures.same

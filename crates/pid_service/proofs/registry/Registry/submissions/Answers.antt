@@ -1,6 +1,7 @@
 use Rattle.std.proofs.Common.{rules}
 use Rattle.pid_moderation.specs.Views.{views_of}
 use Rattle.pid_service.proofs.Causes.{caused_by}
+use Rattle.pid_service.proofs.Keeping.{left_same}
 use Rattle.pid_service.proofs.registry.Registry.submissions.Goals as goal
 
 pub returns-in-Err : goal.returns-in-Err
@@ -9,6 +10,7 @@ returns-in-Err g c = record {
   fault = search rules;
   lives = search rules;
   rests = search rules;
+  leaves = left_same _;
   told = search rules;
   caused = λ clean h shows.
       caused_by g.S.Store c.args.self.now.tables.conn c.submissions_page.new.conn c.in-Err.fault c.refusal_of.result c.refusal_of.ensures.same (c.in-Err.ensures.told clean (views_of h) shows.tables (c.reached_histories_are_kept.ensures.readable h shows.history));
