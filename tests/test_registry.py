@@ -5,7 +5,7 @@ import subprocess
 
 import pytest
 
-from http_server import JSON, TEXT, Server
+from http_server import JSON, TEXT, Server, posted
 from program import HEADER, REAL_FILE, WHOLE
 from registry import asked, bring_in, copied, moderated, script, texts_of_schema, work
 
@@ -215,6 +215,31 @@ def test_small(cases, folder):
     cases.equal("a faulty text changes nothing", bring_in(path, b"9999  New\n9999 \n"), faulty)
     try_changed(cases, path)
     cases.equal("items as before", asked(path, "SELECT * FROM item ORDER BY path"), items)
+
+
+def items_alone(path):
+    """What sqlite3 finds in a registry's file that was copied without its log."""
+    copy = path + ".alone"
+    shutil.copy(path, copy)
+    return asked(copy, "SELECT path, name FROM item ORDER BY path")
+
+
+def test_closed(cases, folder):
+    """When the program has ended, all changes are in the registry's file, and its log may be
+    deleted."""
+    path = os.path.join(folder, "closed.db")
+    work(b"", "migrate", "--db", path)
+    cases.equal("closed: a new registry", items_alone(path), "")
+    script(path, "import root file=8086++Intel")
+    cases.equal("closed: by a script", items_alone(path), "PC/8086|Intel\n")
+    bring_in(path, b"1af4  Red Hat\n")
+    want = "PC/1af4|Red Hat\nPC/8086|Intel\n"
+    cases.equal("closed: by an import", items_alone(path), want)
+    with Server(path, 1, program=WHOLE) as server:
+        server.raw(posted("/import", "root", b"1b36  Other\n"))
+        server.ended()
+    want = "PC/1af4|Red Hat\nPC/1b36|Other\nPC/8086|Intel\n"
+    cases.equal("closed: by a server", items_alone(path), want)
 
 
 # A registry whose submissions wait, one of them sent under a key: eight commands.

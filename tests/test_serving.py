@@ -2,6 +2,7 @@
 a server that is killed."""
 import json
 import os
+import resource
 import signal
 import socket
 import subprocess
@@ -446,6 +447,19 @@ def test_clients(cases, folder):
                 client.sendall(b"GET /pending HTTP/1.1\r\n\r\n")
                 told.add(read_reply(stream))
             cases.equal("http: 5,000 requests on one connection", told, {(200, b"[]")})
+
+
+def test_many_connections(cases, folder):
+    """More connections than the server may have files open, of which deploy/systemd/pciids.service
+    allows as many: each is closed once it was served."""
+    files, connections = 64, 100
+    with Server(os.path.join(folder, "many"), connections) as server:
+        resource.prlimit(server.process.pid, resource.RLIMIT_NOFILE, (files, files))
+        told = [server.raw(b"GET /pending HTTP/1.1\r\n\r\n") for _ in range(connections)]
+        want = [reply("200 OK", JSON, b"[]")] * connections
+        cases.equal("http: many connections", told, want)
+        end = (b"served %d\n" % connections, b"", 0)
+        cases.equal("http: many connections: the end", server.ended(), end)
 
 
 def test_broken_off(cases, folder):

@@ -3,6 +3,7 @@ turn: a client that does what docs/HTTP.md says of such replies gets every answe
 nothing that was acknowledged is lost."""
 import bisect
 import os
+import resource
 import socket
 import tempfile
 import time
@@ -10,7 +11,7 @@ from typing import NamedTuple
 
 import pytest
 
-from http_server import JSON, OK, TEXT, Server, refusal, reply
+from http_server import JSON, OK, TEXT, Server, posted, refusal, reply
 from program import HEADER, WHOLE
 from registry import work
 from shims import ROOM, SAMPLE, first_of
@@ -356,3 +357,21 @@ def test_three_requests(cases, shims):
             break
     print(f"three requests: {at - first} requests for memory refused after the opening")
     cases.equal("three requests: requests were refused", at - first > 100, True)
+
+
+def test_last_connection(cases, folder):
+    """The registry fails at a command of the third connection, where no file may grow any more: the
+    server ends with that connection, and counts it as the last one."""
+    question = b"GET /pending HTTP/1.1\r\n\r\n"
+    command = posted("/account", "root", b"who=alice&rank=0")
+    # A write past the limit fails then, and no signal ends the program (setrlimit(2)).
+    how = {"program": WHOLE, "restore_signals": False}
+    with Server(os.path.join(folder, "r.db"), 5, **how) as server:
+        for _ in range(2):
+            server.raw(question)
+        resource.prlimit(server.process.pid, resource.RLIMIT_FSIZE, (0, 0))
+        told = server.raw(command + question)
+        cases.equal(
+            "serve: no file may grow", told, b"".join(refused_as("POST", it) for it in (17, 18))
+        )
+        cases.equal("serve: the last connection", server.ended(), (b"served 3\n", b"", 3))
