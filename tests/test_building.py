@@ -10,8 +10,10 @@ import program
 
 SCRIPT = os.path.join(program.TOP, "tools", "libraries.py")
 
-# Two crates that need one another's end, and two that can be built at the same time between them.
-CRATES = "low: std_thing\nleft: low\nright: low\ntop: left right\nprogram: top\n"
+# Two crates that need one another's end, two that can be built at the same time between them, and
+# one for which no other crate waits.
+CRATES = "low: std_thing\nleft: low\nright: low\naside: low\ntop: left right\nprogram: top aside\n"
+NAMES = ("aside", "left", "low", "right", "top")
 
 # Takes a while, and notes the crate, its jobs, and the libraries that it finds below.
 RT = """#!/usr/bin/env python3
@@ -34,8 +36,8 @@ print("end", crate, file=note, flush=True)
 
 
 def make(folder):
-    """A repository of five crates without code, and the toolchain's stand-in."""
-    for crate in ("low", "left", "right", "top", "program"):
+    """A repository of six crates without code, and the toolchain's stand-in."""
+    for crate in (*NAMES, "program"):
         os.makedirs(os.path.join(folder, "crates", crate, "src"))
         with open(os.path.join(folder, "crates", crate, "src", "lib.rt"), "w") as file:
             file.write("//! Nothing.\n")
@@ -84,17 +86,17 @@ def test_builds(cases):
         told, faults = start(folder).communicate(timeout=60)
         cases.equal("nothing goes wrong", faults, "")
         lines = sorted(told.splitlines())
-        wanted = [f"crate {it}: modules stand" for it in ("left", "low", "right", "top")]
+        wanted = [f"crate {it}: modules stand" for it in NAMES]
         cases.equal("each crate is reported", lines, wanted)
         noted = notes(folder)
         cases.equal(
             "the lowest crate gets all processors", noted[0], "begin low lib --jobs 4 over new"
         )
-        both = sorted(noted[2:4])
-        jobs = {"left": 4, "right": 1}
+        jobs = {"aside": 1, "left": 2, "right": 2}
         wanted = [f"begin {it} lib --jobs {n} over low new" for it, n in jobs.items()]
-        cases.equal("a second crate goes on beside the first", both, wanted)
-        cases.equal("the last one", noted[6], "begin top lib --jobs 4 over left low right new")
+        cases.equal("two share the processors, one is beside them", sorted(noted[2:5]), wanted)
+        top = [it for it in noted if it.startswith("begin top")]
+        cases.equal("the last one", top, ["begin top lib --jobs 4 over left low right new"])
         cases.equal("no lane is left", lanes(folder), [])
         stamp = os.path.join(folder, "crates", "top", "out", "rlib", "stamp")
         cases.equal("the library is where it belongs", os.path.exists(stamp), True)

@@ -5,9 +5,9 @@
 
 `rt` locks all crates below the one that it builds. So each crate is built in a lane: a folder in
 which the sources and the libraries below it are hard links. Its `out` folder then moves back. The
-crate with the longest chain of crates above it gets all processors, and others go on beside it with
-what it leaves idle. Prints `crate NAME: modules stand` when a crate is built; what `rt` prints goes
-to standard error if it fails.
+crates for which the longest chain of crates waits share the processors, and others go on beside
+them with what they leave idle. Prints `crate NAME: modules stand` when a crate is built; what `rt`
+prints goes to standard error if it fails.
 """
 
 import os
@@ -70,29 +70,38 @@ class Build:
         self.below = {crate: below(self.uses, crate) for crate in self.crates}
         self.processors = processors
         self.built, self.jobs, self.failed = set(), {}, False
+        # Those that are built beside the ones for which the longest chain waits.
+        self.beside = set()
         self.changed = threading.Condition()
         self.started = []
-        self.chains = {}
+        self.sizes = {crate: size(crate) for crate in self.crates}
+        # The longest chain that waits for a crate.
+        self.above = {}
         for crate in reversed(self.crates):
-            above = [self.chains[it] for it in self.chains if crate in self.uses[it]]
-            self.chains[crate] = size(crate) + max(above, default=0)
+            users = [it for it in self.above if crate in self.uses[it]]
+            self.above[crate] = max((self.chain(it) for it in users), default=0)
+
+    def chain(self, crate):
+        return self.sizes[crate] + self.above[crate]
 
     def ready(self):
-        """Returns the crates that can be built now, those with the longest chain above them
-        first."""
+        """Returns the crates that can be built now, those with the longest chain first."""
         waiting = [it for it in self.crates if it not in self.built and it not in self.jobs]
         ready = [it for it in waiting if self.built.issuperset(self.below[it])]
-        return sorted(ready, key=lambda it: -self.chains[it])
+        return sorted(ready, key=lambda it: -self.chain(it))
 
     def run(self):
         """Builds all crates. Returns whether that succeeded."""
         threads = []
         with self.changed:
             while not self.failed and len(self.built) < len(self.crates):
-                for crate in self.ready():
-                    jobs = self.jobs_for(crate)
-                    if jobs:
-                        self.jobs[crate] = jobs
+                ready = self.ready()
+                self.jobs.update(self.shares(ready))
+                for crate in ready:
+                    if crate not in self.jobs and len(self.beside) < max(1, self.processors // 2):
+                        self.jobs[crate] = 1
+                        self.beside.add(crate)
+                    if crate in self.jobs:
                         threads.append(threading.Thread(target=self.build, args=(crate,)))
                         threads[-1].start()
                 self.changed.wait(timeout=1)
@@ -100,18 +109,16 @@ class Build:
             thread.join()
         return not self.failed
 
-    def jobs_for(self, crate):
-        """Returns how many jobs a crate can have now: all processors for the one that most crates
-        wait for; half of them for the only other one that is left, or else a job, as long as half
-        of the processors have no such crate."""
-        waiting = [it for it in self.crates if it not in self.built]
-        if crate == max(waiting, key=self.chains.get):
-            return self.processors
-        half = max(1, self.processors // 2)
-        if len(waiting) == 2:
-            return half
-        beside = sum(1 for jobs in self.jobs.values() if jobs < self.processors)
-        return 1 if beside < half else 0
+    def shares(self, ready):
+        """Returns how many jobs each of these crates has if the longest chain waits for it: its
+        share of the processors, by its size, among all such crates that can be or are built."""
+        unbuilt = [it for it in self.crates if it not in self.built]
+        first = max(unbuilt, key=self.chain)
+        started = [*ready, *(it for it in self.jobs if it not in self.beside)]
+        leading = [it for it in started if self.above[it] == self.above[first]]
+        total = sum(self.sizes[it] for it in leading)
+        parts = {it: self.processors * self.sizes[it] / total for it in leading if it in ready}
+        return {it: max(1, round(part)) for it, part in parts.items()}
 
     def build(self, crate):
         """Builds one crate in a lane of its own."""
@@ -121,6 +128,7 @@ class Build:
         finally:
             with self.changed:
                 del self.jobs[crate]
+                self.beside.discard(crate)
                 self.failed = self.failed or not succeeded
                 self.built.add(crate)
                 self.changed.notify()
@@ -164,10 +172,10 @@ class Build:
                 os.rename(os.path.join(source, part), os.path.join(target, part))
 
     def rt_lib(self, place, jobs):
-        """Builds the crate in this folder; one beside that with all processors waits for it."""
-        beside = ["nice"] if jobs < self.processors else []
+        """Builds the crate in this folder; one beside others gives way to them."""
+        nice = ["nice"] if os.path.basename(place) in self.beside else []
         process = subprocess.Popen(
-            [*beside, "rt", "lib", "--jobs", str(jobs)],
+            [*nice, "rt", "lib", "--jobs", str(jobs)],
             cwd=place,
             stdin=subprocess.DEVNULL,
             stdout=subprocess.PIPE,
