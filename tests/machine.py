@@ -210,7 +210,13 @@ def stops(story):
     story.same("neither a request nor publishing starts it", hold, "inactive", 3)
     story.works("a start by hand", "systemctl start pciids")
     story.is_up("it answers then")
+    place = hang(story, "pciids-publish")
+    under_way = story.machine.until("pgrep -x sleep")
+    story.cases.equal("machine: a publishing is under way", under_way, True)
     story.works("a job takes hold", f"{HOLD} take test")
+    failed = "systemctl is-failed pciids-publish"
+    story.same("the publishing ends without a fault", failed, "inactive", 1)
+    story.machine.run(f"rm -r {place}; systemctl daemon-reload")
     story.machine.run(f"{IS_UP}; systemctl start pciids")
     story.works("nor has it while a job has it stopped", "systemctl start pciids-publish")
     story.same("nothing starts the server while a job has it stopped", hold, "inactive", 3)
@@ -231,14 +237,20 @@ def left(story):
     story.works("a question after them", f"{ASK}/pending -f")
 
 
-def kill_backup(story):
-    """A backup that hangs in its copy, with the server stopped, is killed."""
-    place = "/run/systemd/system/pciids-backup.service.d"
+def hang(story, unit):
+    """Starts a unit that hangs before its work. Returns the folder that makes it hang."""
+    place = f"/run/systemd/system/{unit}.service.d"
     story.machine.run(
         f"mkdir -p {place};"
         f" printf '[Service]\\nExecStartPre=/bin/sleep 600\\n' > {place}/hang.conf;"
-        " systemctl daemon-reload; systemctl start --no-block pciids-backup"
+        f" systemctl daemon-reload; systemctl start --no-block {unit}"
     )
+    return place
+
+
+def kill_backup(story):
+    """A backup that hangs in its copy, with the server stopped, is killed."""
+    place = hang(story, "pciids-backup")
     held = story.machine.until(f"test -L {MARK} && pgrep -x sleep")
     story.cases.equal("machine: a backup has the server stopped", held, True)
     story.same("it does not run as root", "ps -o user= -C sleep", "pciids")
