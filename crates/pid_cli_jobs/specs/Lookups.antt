@@ -1,10 +1,10 @@
 -- Look-ups in a pci.ids file: what is printed, and how the job ends. Choices of this project.
-use Rattle.std.specs.Prelude.{◌≡◌, ◌≢◌, ◌↔◌, ℕ, true, List, Option, IsSome, IfSome}
+use Rattle.std.specs.Prelude.{◌≡◌, ◌≢◌, ◌↔◌, ℕ, true, List, Option, IfSome}
 use Rattle.std.specs.Prelude.{[], ◌∷◌, ◌++◌, Some, None, codes, Result, Ok, Err, IsErrOf}
 use Rattle.std.specs.declared.alloc.AllocError.{AllocError}
 use Rattle.pid_file.specs.InputTexts.{ReadsInput}
 use Rattle.pid_file.specs.TextEnds.{status_of}
-use Rattle.pid_file.specs.Told.{IsTold}
+use Rattle.pid_file.specs.Told.{IsTold, ReportsEnd}
 use Rattle.pid_file.specs.declared.text_end.TextEnd.{TextEnd}
 use Rattle.pid_file.specs.declared.text_end.TheConstants.{LARGEST}
 use Rattle.pid_file.specs.declared.text_end.TextEnd.TheVariants.{Done, ReadFault, WriteFault}
@@ -73,7 +73,7 @@ pub data LooksUpText (lookup : Lookup) (to_come : Option (List ℕ)) (w : Stream
       → IfSome to_come (λ text. IsFoundIn lookup text found)
       → PrintsAnswer found end w.output → ReportsAnswer found w.faults
       → LooksUpText lookup to_come w end
-  Unread : (why : TextEnd) → why ≢ Done → (why ≡ WriteFault → IsSome w.faults.fault)
+  Unread : (why : TextEnd) → why ≢ Done → ReportsEnd why w.faults
       → IfSome to_come (λ text. IsTold why text w.faults.before w.faults.after)
       → w.output.after ≡ w.output.before → end ≡ end_of_unread why
       → LooksUpText lookup to_come w end

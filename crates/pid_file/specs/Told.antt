@@ -4,6 +4,7 @@ use Rattle.std.specs.Io.KnownBytes.{Appends, Keeps}
 use Rattle.pid_file.specs.Sending.{SendsFront}
 use Rattle.pid_file.specs.Judgements.{IsFaultOf}
 use Rattle.pid_file.specs.TextEnds.{fault_line}
+use Rattle.pid_file.specs.Writing.{FailsWithin, WriterUse}
 use Rattle.pid_file.specs.declared.text_end.TextEnd.{TextEnd}
 use Rattle.pid_file.specs.declared.text_end.TextEnd.TheVariants.{Done, Line, TooManyEntries}
 use Rattle.pid_file.specs.declared.text_end.TextEnd.TheVariants.{TooLarge, Memory, ReadFault}
@@ -30,3 +31,13 @@ IsTold TooLarge text old new = TellsFault TooLarge text old new
 IsTold Memory text old new = TellsFault Memory text old new
 IsTold ReadFault text old new = Keeps old new
 IsTold WriteFault text old new = TellsFront text old new
+
+-- the writer failed within the line of some end
+pub record FailsInLine (w : WriterUse) : Type 0 where
+  pub end : TextEnd
+  pub failed : FailsWithin w (fault_line end)
+
+-- whatever the text is: the writer took the line of the end, or it failed within such a line
+abbrev pub ReportsEnd : TextEnd → WriterUse → Type 0
+ReportsEnd WriteFault w = FailsInLine w
+ReportsEnd end w = Appends w.before w.after (fault_line end)

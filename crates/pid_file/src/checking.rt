@@ -45,8 +45,7 @@ pub fn check<I: Input, O: Output>(alloc: Global, input: &mut I, output: &mut O) 
 fn write_counted<O: Output>(counted: Result<u64, InputEnd<Never>>, output: &mut O) -> TextEnd
     ensures checked { (text : List ℕ) → ReadsInput HasEntries LARGEST counted text
         → IsChecked result text (O.taken output.old) (O.taken output.new) }
-    ensures read_fault { result ≡ TextEnd.ReadFault → counted ≡ Err InputEnd.ReadFault }
-    ensures read_fault_first { counted ≡ Err InputEnd.ReadFault → result ≡ TextEnd.ReadFault }
+    ensures read_fault { (result ≡ TextEnd.ReadFault) ↔ (counted ≡ Err InputEnd.ReadFault) }
     ensures write_fault { result ≡ TextEnd.WriteFault → IsSome (O.write_fault output.new) }
 {
     match counted {

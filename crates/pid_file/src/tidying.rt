@@ -55,8 +55,7 @@ fn print_read<O: Output, F: Output>(
           faults = F.taken faults.old;
           faults_after = F.taken faults.new;
         }) }
-    ensures read_fault { result ≡ TextEnd.ReadFault → read ≡ Err InputEnd.ReadFault }
-    ensures read_fault_first { read ≡ Err InputEnd.ReadFault → result ≡ TextEnd.ReadFault }
+    ensures read_fault { (result ≡ TextEnd.ReadFault) ↔ (read ≡ Err InputEnd.ReadFault) }
     ensures write_fault { result ≡ TextEnd.WriteFault
         → IsSome (O.write_fault output.new) ⊎ IsSome (F.write_fault faults.new) }
     ensures nothing_printed { PrintsNothing result (O.taken output.old) (O.taken output.new) }

@@ -1,7 +1,8 @@
 //! Reporting why a text was not read.
-ghost use Rattle.std.specs.Prelude.{◌≡◌, ◌≢◌, ℕ, List, Err, IsSome};
+ghost use Rattle.std.specs.Prelude.{◌≡◌, ◌≢◌, ◌↔◌, ℕ, List};
 ghost use Rattle.pid_file.specs.InputTexts.{IsUnread};
-ghost use Rattle.pid_file.specs.Told.{IsTold};
+ghost use Rattle.pid_file.specs.Told.{IsTold, ReportsEnd};
+ghost use Rattle.pid_file.specs.Writing.{use_of};
 
 use crate::counter::Never;
 use crate::io::Output;
@@ -14,9 +15,8 @@ use crate::whole_input::InputEnd;
 pub fn tell_unread<F: Output>(end: InputEnd<Never>, faults: &mut F) -> TextEnd
     ensures told { (text : List ℕ) → IsUnread LARGEST end text
         → IsTold result text (F.taken faults.old) (F.taken faults.new) }
-    ensures read_fault { result ≡ TextEnd.ReadFault → end ≡ InputEnd.ReadFault }
-    ensures read_fault_first { end ≡ InputEnd.ReadFault → result ≡ TextEnd.ReadFault }
-    ensures write_fault { result ≡ TextEnd.WriteFault → IsSome (F.write_fault faults.new) }
+    ensures reports { ReportsEnd result (use_of F.Output faults.old faults.new) }
+    ensures read_fault { (result ≡ TextEnd.ReadFault) ↔ (end ≡ InputEnd.ReadFault) }
     ensures not_done { result ≢ TextEnd.Done }
 {
     let end = match end {

@@ -10,12 +10,12 @@ returns-in-Ok g c = Answered c.in-Ok.found c.in-Ok.ensures.bad_flags c.in-Ok.ens
 
 pub returns-in-ReadFault : goal.returns-in-ReadFault
 returns-in-ReadFault g c = Unread c.tell_unread.result c.tell_unread.ensures.not_done
-    c.tell_unread.ensures.write_fault
+    c.tell_unread.ensures.reports
     (IfSome_then (g.I.Input.to_come c.args.input.now) c.in-Err.ensures.answer c.tell_unread.ensures.told) refl
     (unread_failed c.tell_unread.result c.in-ReadFault.is)
 
 pub returns-in_default : goal.returns-in_default
 returns-in_default g c = Unread c.tell_unread.result c.tell_unread.ensures.not_done
-    c.tell_unread.ensures.write_fault
+    c.tell_unread.ensures.reports
     (IfSome_then (g.I.Input.to_come c.args.input.now) c.in-Err.ensures.answer c.tell_unread.ensures.told) refl
     (ap Told c.status.ensures ∙ unread_told c.tell_unread.result c.in_default.not-ReadFault c.in_default.not-WriteFault)
