@@ -1,6 +1,6 @@
 -- What is kept in memory, beside the views that it is right about.
-use Rattle.std.proofs.Common.{◌≡◌, ℕ, List, Option, Some, None, IfSome, is_some, false, rules, refl, sym, subst, ap, ◌∙◌}
-use Rattle.std.specs.Prelude.{IsSome, Vec}
+use Rattle.std.proofs.Common.{◌≡◌, ℕ, Option, None, IfSome, rules, refl, sym, subst}
+use Rattle.std.specs.Prelude.{Vec}
 use Rattle.std.specs.declared.alloc.Global.{Global}
 use Rattle.pid_lookup.specs.CacheAgreement.{Agrees}
 use Rattle.pid_moderation.specs.Items.{Items, name_at}
@@ -32,26 +32,4 @@ same_items k old new same right = subst (λ (items : Items). ItemsRight k items)
 -- ---- what is kept stays
 
 pub left_same : (k : KeptViews) → LeavesKept k k
-left_same k = record { names = refl; text = λ some. refl; pending = λ some. refl }
-
-left_part : {X : Type 0} (a b c : Option X) → (IsSome a → b ≡ a) → (IsSome b → c ≡ b) → IsSome a → c ≡ a
-left_part a b c first second some = let same = first some in second (subst IsSome (sym same) some) ∙ same
-
-pub left_then : (a b c : KeptViews) → LeavesKept a b → LeavesKept b c → LeavesKept a c
-left_then a b c first second = record {
-  names = second.names ∙ first.names;
-  text = left_part a.items.text b.items.text c.items.text first.text second.text;
-  pending = left_part a.pending b.pending c.pending first.pending second.pending;
-}
-
-no_part : {X : Type 0} (a b : Option X) → is_some a ≡ false → IsSome a → b ≡ a
-no_part None b none some = absurd (let no : ⊥ = cc in no)
-no_part (Some x) b none some = absurd (let no : ⊥ = cc in no)
-
--- numbers are kept where none were
-pub left_anew : (old new : KeptViews) → new.items ≡ old.items → is_some old.pending ≡ false → LeavesKept old new
-left_anew old new same none = record {
-  names = ap (λ (k : KeptItems). k.names) same;
-  text = λ some. ap (λ (k : KeptItems). k.text) same;
-  pending = no_part old.pending new.pending none;
-}
+left_same k = record { names = refl; text = λ some. refl; pending = λ some. refl; read = λ was. (was, refl) }

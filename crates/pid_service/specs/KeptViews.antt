@@ -1,5 +1,5 @@
 -- What a registry keeps in memory of what is asked for again and again.
-use Rattle.std.specs.Prelude.{◌≡◌, ℕ, List, [], Option, None, IfSome, IsSome, Vec, map}
+use Rattle.std.specs.Prelude.{◌≡◌, ℕ, true, List, [], Option, None, IfSome, IsSome, Vec, map}
 use Rattle.std.specs.declared.alloc.Global.{Global}
 use Rattle.sqlite_trees.specs.declared.store.Store.{Ghosts}
 use Rattle.pid_moderation.specs.History.{History}
@@ -32,11 +32,13 @@ pub record KeepsNothing (k : KeptViews) : Type 0 where
   pub pending : k.pending ≡ None
 
 -- What is kept stays: the names, and the text and the numbers if there are any. If there are none,
--- they may come to be kept.
+-- they may come to be kept: the numbers only if they were not read before.
 pub record LeavesKept (old new : KeptViews) : Type 0 where
   pub names : new.items.names ≡ old.items.names
   pub text : IsSome old.items.text → new.items.text ≡ old.items.text
   pub pending : IsSome old.pending → new.pending ≡ old.pending
+  -- numbers that were read still count as read, so that no question reads them again
+  pub read : old.pending_read ≡ true → (new.pending_read ≡ true) × (new.pending ≡ old.pending)
 
 -- the numbers of what is pending, rising
 abbrev pub numbers_waiting : Views → List ℕ
