@@ -6,9 +6,9 @@ use Rattle.pid_moderation.specs.declared.command.Command.{Command}
 use Rattle.pid_moderation.specs.declared.command.Reply.{Reply}
 use Rattle.pid_moderation.specs.declared.facts.Facts.{Facts}
 use Rattle.pid_moderation.specs.declared.refusal.Refusal.{Refusal}
-use Rattle.pid_moderation.specs.declared.refusal.Refusal.TheVariants.{BadText, Memory, Store}
+use Rattle.pid_moderation.specs.declared.refusal.Refusal.TheVariants.{BadText, Memory}
 use Rattle.pid_moderation.specs.BeforeFile.{WaitsForFile, import_of}
-use Rattle.pid_moderation.specs.History.{Asked, Good, History, Reading, TooLong, asked}
+use Rattle.pid_moderation.specs.History.{Asked, Good, History, Reading, asked}
 use Rattle.pid_moderation.specs.Judgement.{judge, answer}
 use Rattle.pid_moderation.specs.Views.{Views, views_of}
 use Rattle.pid_service_laws.specs.Outcomes.{is_outcome}

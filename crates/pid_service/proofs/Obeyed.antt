@@ -1,5 +1,5 @@
 -- What a registry shows after a command, by how far it came.
-use Rattle.std.proofs.Common.{◌≡◌, ◌⊎◌, inl, inr, Bool, true, false, [], Result, Ok, Err, IfErr, IsErrAnd, MatchResult, refl, sym, subst, ap, ◌∙◌, arith}
+use Rattle.std.proofs.Common.{◌≡◌, ◌⊎◌, inl, inr, Bool, true, false, Result, Ok, Err, IfErr, IsErrAnd, MatchResult, refl, sym, subst, ap, ◌∙◌, arith}
 use Rattle.sqlite.specs.Held.{Held}
 use Rattle.sqlite_trees.specs.declared.store.Store.{Ghosts}
 use Rattle.pid_moderation.specs.declared.change.Change.{Change}
@@ -16,7 +16,6 @@ use Rattle.pid_moderation.specs.Judgement as Outcomes
 use Rattle.pid_moderation.specs.Views.{Views, items_of, views_of}
 use Rattle.pid_moderation.specs.WellMade.{HasGoodFile, IsWellMade}
 use Rattle.pid_tables_rows.specs.Clauses.{AtRest, LeavesEither}
-use Rattle.pid_lookup.specs.CacheEntries.{Entries}
 use Rattle.pid_service.specs.declared.judging.Judged.TheVariants.{Kept, Accepted}
 use Rattle.pid_service.specs.declared.registry.Registry.{Registry}
 use Rattle.pid_service.specs.Histories.{IsReached, Shows, IsMemoryOrStore}

@@ -1,5 +1,5 @@
 -- What an opened database is, by what it was.
-use Rattle.std.proofs.Common.{◌≡◌, ◌⊎◌, inl, inr, [], Bool, true, false, IsTrue, Some, Result, Ok, Err, IfErr, IfOk, OnOk, MatchResult, refl, rules, sym, subst}
+use Rattle.std.proofs.Common.{◌≡◌, ◌⊎◌, inl, inr, Bool, true, false, IsTrue, Some, Result, Ok, Err, IfErr, IfOk, OnOk, MatchResult, refl, sym, subst}
 use Rattle.sqlite.specs.Held.{Held, state}
 use Rattle.sqlite.specs.State.{State, Survives}
 use Rattle.sqlite.proofs.StateLemmas.{survives_then, survives_weaker}
@@ -7,7 +7,7 @@ use Rattle.sqlite_trees.specs.declared.store.Store.{Ghosts}
 use Rattle.sqlite.specs.Effect.{Database}
 use Rattle.sqlite.specs.Tree.{Trees}
 use Rattle.pid_moderation.specs.History.{History, new_history}
-use Rattle.pid_moderation.specs.Views.{Views, views_of}
+use Rattle.pid_moderation.specs.Views.{views_of}
 use Rattle.pid_tables_rows.specs.declared.fault.TableFault.{TableFault}
 use Rattle.pid_tables_rows.specs.declared.fault.TableFault.TheVariants.{Memory, Store, NewerSchema, Damaged}
 use Rattle.pid_tables_rows.specs.declared.version.Version.TheVariants.{One, Two}
@@ -21,7 +21,6 @@ use Rattle.pid_tables.specs.Clauses as tables
 use Rattle.pid_tables.proofs.AtOnceLemmas.{reads_back}
 use Rattle.pid_tables.specs.Creation.{RestsBare}
 use Rattle.pid_tables.specs.Bringing.{Brings, Left, Raised, Refuses, Fails, Stays}
-use Rattle.pid_lookup.specs.CacheEntries.{Entries}
 use Rattle.pid_tables.specs.declared.migration.Step.{Step}
 use Rattle.pid_tables.specs.declared.migration.Step.TheVariants.{Created, Moved, Already}
 use Rattle.pid_tables.specs.ShowsOrBlank.{ShowsOrBlank}

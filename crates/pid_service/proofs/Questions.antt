@@ -2,7 +2,7 @@
 use Rattle.std.proofs.Common.{◌≡◌, refl, rules, ℕ, ◌≤◌, Bool, true, false, ◌&&◌, List, [], ◌∷◌, Result, Ok, Err, IfErr, sym, ap, subst, ◌∙◌}
 use Rattle.std.specs.List.{AllByRecursion}
 use Rattle.std.specs.Ordering.{is_lt}
-use Rattle.std.specs.Prelude.{filter, map, take}
+use Rattle.std.specs.Prelude.{map, take}
 use Rattle.std.proofs.lemmas.Bool.{le-ltb}
 use Rattle.sqlite.specs.Held.{Held, state}
 use Rattle.sqlite_trees.proofs.ListLemmas.{filter_none}

@@ -1,6 +1,6 @@
 -- What an import is answered whose file comes as an input, and what the registry shows afterwards.
 use Rattle.std.specs.Prelude.{◌≡◌, ◌≢◌, ◌⊎◌, ◌<◌, ◌≤◌, ◌+◌, ℕ, Bool, true, false}
-use Rattle.std.specs.Prelude.{List, [], length, Option, Result, Ok, Err, IfErr, IsErrAnd, IsSome}
+use Rattle.std.specs.Prelude.{List, length, Option, Result, Ok, Err, IfErr, IsErrAnd, IsSome}
 use Rattle.std.specs.Io.KnownBytes.{Consumes}
 use Rattle.sqlite_trees.specs.declared.store.Store.{Ghosts}
 use Rattle.pid_file.specs.declared.io.Input as inputs

@@ -1,5 +1,5 @@
 -- What a registry answers to a command, and what it shows afterwards.
-use Rattle.std.specs.Prelude.{◌≡◌, ◌≢◌, ◌⊎◌, true, false, [], Result, Ok, Err, IfErr, IsErrAnd}
+use Rattle.std.specs.Prelude.{◌≡◌, ◌≢◌, ◌⊎◌, true, false, Result, Ok, Err, IfErr, IsErrAnd}
 use Rattle.sqlite_trees.specs.declared.store.Store.{Ghosts}
 use Rattle.pid_service_laws.specs.Outcomes.{is_outcome}
 use Rattle.pid_service_laws.specs.Registries.{CommandLeaves}

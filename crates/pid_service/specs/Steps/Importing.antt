@@ -1,5 +1,5 @@
 -- Steps of an import.
-use Rattle.std.specs.Prelude.{◌≡◌, ◌≢◌, ◌⊎◌, ◌≤◌, ◌+◌, ℕ, Bool, true, false, List, [], length}
+use Rattle.std.specs.Prelude.{◌≡◌, ◌≢◌, ◌⊎◌, ◌≤◌, ◌+◌, ℕ, Bool, true, false, List, length}
 use Rattle.std.specs.Prelude.{Result, Ok, Err}
 use Rattle.sqlite_trees.specs.declared.store.Store.{Ghosts}
 use Rattle.pid_moderation.specs.declared.command.Command.{Command}

@@ -1,5 +1,5 @@
 -- What a command leaves, for those that call its steps.
-use Rattle.std.specs.Prelude.{◌≡◌, ◌≢◌, ◌⊎◌, Bool, false, [], Result, Ok, IsErrAnd, MatchResult}
+use Rattle.std.specs.Prelude.{◌≡◌, ◌≢◌, ◌⊎◌, Bool, false, Result, Ok, IsErrAnd, MatchResult}
 use Rattle.sqlite_trees.specs.declared.store.Store.{Ghosts}
 use Rattle.pid_moderation.specs.declared.change.Change.{Change}
 use Rattle.pid_moderation.specs.declared.command.Reply.{Reply}

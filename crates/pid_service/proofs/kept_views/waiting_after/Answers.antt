@@ -1,4 +1,4 @@
-use Rattle.std.proofs.Common.{◌≡◌, ◌∷◌, ◌++◌, [], refl, subst}
+use Rattle.std.proofs.Common.{◌≡◌, subst}
 use Rattle.pid_service.specs.KeptViews.{HoldsWaiting, numbers_waiting}
 use Rattle.pid_service.proofs.PendingNumbers.{decided_holds, submitted_holds}
 use Rattle.pid_service.proofs.kept_views.waiting_after.Goals as goal

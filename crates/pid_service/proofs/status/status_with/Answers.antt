@@ -1,5 +1,4 @@
 use Rattle.std.proofs.Common.{◌≡◌, length, rules}
-use Rattle.pid_moderation.specs.RegistryStatus.{RegistryStatus}
 use Rattle.pid_tables_rows.specs.Accounts.{HasAccounts}
 use Rattle.pid_service.proofs.status.status_with.Goals as goal
 
