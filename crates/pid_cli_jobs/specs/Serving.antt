@@ -26,12 +26,12 @@ socket_line = codes "socket: failed\n"
 
 -- The number of streams is printed, and the status says how the serving ended: 0 if all connections
 -- were served, 3 if the registry failed. That no connection could be accepted is reported too.
-abbrev pub ReportsEnd : ServingEnd → ℕ → Streams → JobEnd → Type 0
-ReportsEnd All streams w end = PrintsLine end w.output (served_line streams) 0
+abbrev pub ReportsServing : ServingEnd → ℕ → Streams → JobEnd → Type 0
+ReportsServing All streams w end = PrintsLine end w.output (served_line streams) 0
     × (w.faults.after ≡ w.faults.before)
-ReportsEnd NotLive streams w end = PrintsLine end w.output (served_line streams) 3
+ReportsServing NotLive streams w end = PrintsLine end w.output (served_line streams) 3
     × (w.faults.after ≡ w.faults.before)
-ReportsEnd AcceptFault streams w end = (end ≡ Told 3)
+ReportsServing AcceptFault streams w end = (end ≡ Told 3)
     × TriesLine w.output (served_line streams)
     × TriesLine w.faults socket_line
 
@@ -41,7 +41,7 @@ pub record ReportsStreams (connections : ℕ) (live : Bool) (w : Streams) (end :
   pub serving : Serving
   pub counted : CountsStreams serving.end connections serving.streams
   pub lasts : IsLiveAt serving.end serving.streams live
-  pub reports : ReportsEnd serving.end serving.streams w end
+  pub reports : ReportsServing serving.end serving.streams w end
 
 -- the same, after the line of where it listens
 pub record HasServed (port : Port) (live : Bool) (w : Streams) (end : JobEnd) : Type 0 where

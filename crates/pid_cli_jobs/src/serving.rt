@@ -3,7 +3,7 @@ ghost use Rattle.std.specs.Prelude.{◌≡◌};
 ghost use Rattle.pid_file.specs.Writing.{TriesLine, use_of};
 ghost use Rattle.pid_http.specs.Known.{LivesOn};
 ghost use Rattle.pid_service.specs.Registries.{is_live};
-ghost use Rattle.pid_cli_jobs.specs.Serving.{ReportsEnd, ReportsStreams, Serves, socket_line};
+ghost use Rattle.pid_cli_jobs.specs.Serving.{ReportsServing, ReportsStreams, Serves, socket_line};
 ghost use Rattle.pid_cli_jobs.specs.Sessions.{IsPartOfSession};
 ghost use Rattle.pid_cli_jobs.specs.Steps.Serving.{GivesStreams, IsLoopback};
 
@@ -73,7 +73,7 @@ fn tell_socket<F: Output>(faults: &mut F) -> JobEnd
 
 // Reports the number of streams that were started, and how the serving ended.
 fn report<O: Output, F: Output>(serving: Serving, output: &mut O, faults: &mut F) -> JobEnd
-    ensures { ReportsEnd serving.end serving.streams (record {
+    ensures { ReportsServing serving.end serving.streams (record {
       output = use_of O.Output output.old output.new;
       faults = use_of F.Output faults.old faults.new;
     }) result }
