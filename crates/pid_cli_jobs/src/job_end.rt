@@ -2,7 +2,7 @@
 use pid_moderation::{Refusal, Reply};
 
 /// How a job ends.
-#[derive(Clone, Copy, Debug, PartialEq, Eq)]
+#[derive(Clone, Copy)]
 pub enum JobEnd {
     /// Everything is printed, and this is the exit status.
     Told(u8),

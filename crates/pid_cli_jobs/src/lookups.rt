@@ -14,7 +14,7 @@ use pid_lookup::{Args, BadField, args_of, lookup_in};
 use std::alloc::{AllocError, Global};
 
 /// A lookup whose values were checked.
-#[derive(Clone, Copy, Debug)]
+#[derive(Clone, Copy)]
 pub struct Lookup {
     pub flags: u32,
     pub args: Args,

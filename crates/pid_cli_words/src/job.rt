@@ -9,7 +9,7 @@ use std::alloc::AllocError;
 use thiserror::Error;
 
 /// What the program is asked to do. Texts are as they were given.
-#[derive(Clone, Copy, Debug)]
+#[derive(Clone, Copy)]
 pub enum Job<'a> {
     Tidy,
     Check,
@@ -39,7 +39,7 @@ pub enum Job<'a> {
 }
 
 /// The file and the values of a lookup. The values are not checked yet.
-#[derive(Clone, Copy, Debug)]
+#[derive(Clone, Copy)]
 pub struct LookupWords<'a> {
     pub ids: &'a str,
     pub flags: &'a str,

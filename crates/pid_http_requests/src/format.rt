@@ -1,7 +1,7 @@
 //! The two forms of replies.
 
 /// How a reply is written.
-#[derive(Clone, Copy, Debug, PartialEq, Eq)]
+#[derive(Clone, Copy)]
 pub enum Format {
     /// As one JSON value (RFC 8259). Also if a request names no format.
     Json,

@@ -7,7 +7,7 @@ use pid_lookup::{Args, args_of};
 
 /// A look-up: its flags, what is looked up, and the size of the buffer that its answer is cut to,
 /// in bytes.
-#[derive(Clone, Copy, Debug, PartialEq, Eq)]
+#[derive(Clone, Copy)]
 pub struct LookupQuery {
     pub flags: u32,
     pub args: Args,

@@ -41,7 +41,7 @@ use pid_moderation::{REVISIONS, submission_number};
 use std::alloc::{AllocError, Global};
 
 /// Below what children are asked for.
-#[derive(Clone, Copy, Debug)]
+#[derive(Clone, Copy)]
 pub enum Above {
     /// Below nothing: the vendors and the classes.
     Top,
@@ -52,7 +52,7 @@ pub enum Above {
 }
 
 /// Where a page of items begins.
-#[derive(Clone, Copy, Debug)]
+#[derive(Clone, Copy)]
 pub enum Start {
     /// With the first item.
     First,
@@ -63,7 +63,7 @@ pub enum Start {
 }
 
 /// For which path submissions are looked for.
-#[derive(Clone, Copy, Debug)]
+#[derive(Clone, Copy)]
 pub enum Sought {
     /// For any.
     Anywhere,

@@ -28,7 +28,7 @@ use std::alloc::{AllocError, Global};
 /// What a request whose body is held in memory asks for by its method and its target.
 ///
 /// The first that holds is answered, in the order of the first six.
-#[derive(Debug, Drop)]
+#[derive(Drop)]
 pub enum Question {
     /// The method is neither GET nor POST.
     AnotherMethod,

@@ -6,7 +6,7 @@ ghost use Rattle.pid_http_requests.specs.Steps.Routes.{route_path};
 use http::Method;
 
 /// What a path is the way to.
-#[derive(Clone, Copy, Debug, PartialEq, Eq)]
+#[derive(Clone, Copy)]
 pub enum Route {
     /// `/pci.ids`
     Export,

@@ -11,7 +11,7 @@ use pid_http_stream::Head;
 use pid_ident::{is_account, is_key};
 
 /// Who sends a command, and under which key.
-#[derive(Clone, Copy, Debug)]
+#[derive(Clone, Copy)]
 pub struct Sender<'a> {
     pub account: &'a str,
     pub key: Option<&'a str>,

@@ -8,7 +8,7 @@ use crate::limits::LONGEST_BODY;
 use httparse::spans::HeaderSpan;
 
 /// What a head says of the body after it.
-#[derive(Clone, Copy, Debug, PartialEq, Eq)]
+#[derive(Clone, Copy)]
 pub enum BodyLength {
     /// It is sent in a transfer encoding.
     Encoded,

@@ -15,7 +15,7 @@ use pid_ident::{Input, Output};
 use thiserror::Error;
 
 /// What a head asks for, as a handler understands it, by how it wants the body after the head.
-#[derive(Clone, Copy, Debug, PartialEq, Eq)]
+#[derive(Clone, Copy)]
 pub enum Wanted<Q, U> {
     /// Whole, in memory.
     Buffered(Q),
@@ -40,12 +40,12 @@ pub struct Reply {
 }
 
 /// No reply was made: memory was refused, or the body of the request did not come whole.
-#[derive(Clone, Copy, Debug, PartialEq, Eq, Error)]
+#[derive(Clone, Copy, Debug, Error)]
 #[error("no reply was made")]
 pub struct NoReply;
 
 /// Why a handler did not write a body whole.
-#[derive(Clone, Copy, Debug, PartialEq, Eq, Error)]
+#[derive(Clone, Copy, Debug, Error)]
 pub enum BodyStop {
     #[error("the writer failed")]
     Writer,

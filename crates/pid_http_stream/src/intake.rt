@@ -38,7 +38,7 @@ use httparse::spans::{HeaderSpan, RequestSpans};
 use pid_ident::Output;
 
 /// Why reading stops.
-#[derive(Clone, Copy, Debug, PartialEq, Eq)]
+#[derive(Clone, Copy)]
 pub(crate) enum Stop {
     ReadFault,
     TurnsSpent,
@@ -46,7 +46,7 @@ pub(crate) enum Stop {
 }
 
 /// What came of one read.
-#[derive(Clone, Copy, Debug, PartialEq, Eq)]
+#[derive(Clone, Copy)]
 pub(crate) enum Filled {
     Piece,
     End,
@@ -54,7 +54,7 @@ pub(crate) enum Filled {
 }
 
 /// What the bytes begin with, once a head has come or can't come any more.
-#[derive(Clone, Copy, Debug)]
+#[derive(Clone, Copy)]
 pub(crate) enum HeadRead {
     /// A head, and the length of the body after it.
     Head { spans: RequestSpans, body: usize },

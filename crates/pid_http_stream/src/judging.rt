@@ -31,7 +31,7 @@ use httparse::spans::{HeaderSpan, RequestSpans, parse_request};
 use thiserror::Error;
 
 /// Why a stream is refused.
-#[derive(Clone, Copy, Debug, PartialEq, Eq, Error)]
+#[derive(Clone, Copy, Debug, Error)]
 pub enum StreamFault {
     /// The bytes begin with no head, or with one that has too many fields or is too long, or whose
     /// Content-Length is no length.
@@ -62,7 +62,7 @@ impl StreamFault {
 }
 
 /// What the bytes that came begin with.
-#[derive(Clone, Copy, Debug)]
+#[derive(Clone, Copy)]
 pub(crate) enum Judged {
     /// No whole head yet: more bytes can make it one.
     More,

@@ -5,7 +5,7 @@ use http::StatusCode;
 use thiserror::Error;
 
 /// Why a request is refused before anything is asked for it. The reply has the number and the word.
-#[derive(Clone, Copy, Debug, PartialEq, Eq, Error)]
+#[derive(Clone, Copy, Debug, Error)]
 pub enum RequestRefusal {
     #[error("no head of a request, or one that is too long or says no length")]
     BadHead,

@@ -17,7 +17,7 @@ pub enum Content {
 
 /// A reply without its body. Its status is none of those that never have a body: 1xx, 204 and 304
 /// (RFC 9110, section 6.4.1).
-#[derive(Clone, Copy, Debug, PartialEq, Eq)]
+#[derive(Clone, Copy)]
 pub struct ReplyHead {
     pub status: StatusCode,
     pub content: Content,

@@ -14,7 +14,7 @@ use crate::reply_head::ReplyHead;
 use pid_ident::Output;
 
 /// How far a reply was written.
-#[derive(Clone, Copy, Debug, PartialEq, Eq)]
+#[derive(Clone, Copy)]
 pub(crate) enum Sent {
     Whole,
     WriteFault,

@@ -70,7 +70,7 @@ pub enum StreamEnd {
 }
 
 /// How many replies were written whole, and how it ended.
-#[derive(Clone, Copy, Debug, PartialEq, Eq)]
+#[derive(Clone, Copy, PartialEq, Eq)]
 pub struct Served {
     /// The count, up to the greatest of its type, with the refusal that ends a stream.
     pub answered: u64,
@@ -78,7 +78,7 @@ pub struct Served {
 }
 
 /// What became of one request.
-#[derive(Clone, Copy, Debug, PartialEq, Eq)]
+#[derive(Clone, Copy)]
 pub(crate) enum Answered {
     /// The reply was written, and the stream goes on.
     Open,

@@ -8,7 +8,7 @@ use std::alloc::{AllocError, Global};
 use std::marker::Model;
 
 /// The name of an account: 1 to 32 of `a` to `z`, `0` to `9` and `-`.
-#[derive(Debug, Drop)]
+#[derive(Drop)]
 pub struct Account {
     text: String,
 }

@@ -8,7 +8,7 @@ use std::alloc::{AllocError, Global};
 use std::marker::Model;
 
 /// The key of a command: 1 to 64 bytes of visible ASCII.
-#[derive(Debug, Drop)]
+#[derive(Drop)]
 pub struct Key {
     text: String,
 }

@@ -8,7 +8,7 @@ use std::marker::Model;
 
 /// A note, a comment or a reason: text of at most 4,000 bytes that holds no control byte but tabs.
 /// It may be empty.
-#[derive(Debug, Drop)]
+#[derive(Drop)]
 pub struct Text {
     text: String,
 }

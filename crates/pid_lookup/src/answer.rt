@@ -4,7 +4,7 @@ ghost use Rattle.std.specs.Prelude.{◌≡◌};
 use std::marker::Model;
 
 /// The text of an answer: bytes, since a cut may split a character.
-#[derive(Debug, Drop)]
+#[derive(Drop)]
 pub struct AnswerText {
     bytes: Vec<u8>,
 }
@@ -42,7 +42,7 @@ impl AnswerText {
 }
 
 /// The answer of a look-up.
-#[derive(Debug, Drop)]
+#[derive(Drop)]
 pub enum Answer {
     /// What libpci writes into its buffer, or the text that it answers in place of the buffer.
     Text(AnswerText),

@@ -5,7 +5,7 @@ use crate::rank::Rank;
 use pid_ident::{Account, Key, Name, Path, Text};
 
 /// A reply that is kept under a key. No reply is kept under it yet.
-#[derive(Debug, Drop)]
+#[derive(Drop)]
 pub struct Receipt {
     pub account: Account,
     pub key: Key,
@@ -13,7 +13,7 @@ pub struct Receipt {
 }
 
 /// What becomes of the item of a path.
-#[derive(Debug, Drop)]
+#[derive(Drop)]
 pub enum Edit {
     /// There is no item yet.
     Add(Name),
@@ -24,7 +24,7 @@ pub enum Edit {
 }
 
 /// An item that is added, renamed or removed.
-#[derive(Debug, Drop)]
+#[derive(Drop)]
 pub struct Write {
     pub path: Path,
     pub edit: Edit,
@@ -33,7 +33,7 @@ pub struct Write {
 }
 
 /// What becomes of ranks, submissions, remarks and items.
-#[derive(Debug, Drop)]
+#[derive(Drop)]
 pub enum Effect {
     /// None of these changes.
     Nothing,
@@ -71,7 +71,7 @@ pub enum Effect {
 }
 
 /// What an accepted command does. A kept reply does nothing.
-#[derive(Debug, Drop)]
+#[derive(Drop)]
 pub struct Change {
     pub effect: Effect,
     /// The reply that is kept from now on, if the command has a key.

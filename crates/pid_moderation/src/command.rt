@@ -7,7 +7,7 @@ use std::alloc::AllocError;
 use std::marker::Model;
 
 /// What a submission proposes for its path: a name, which adds or renames the item, or its removal.
-#[derive(Debug, Drop)]
+#[derive(Drop)]
 pub enum Proposal {
     Name(Name),
     Removal,
@@ -26,7 +26,7 @@ impl Proposal {
 }
 
 /// What an approval expects of the item at the submission's path.
-#[derive(Debug, Drop)]
+#[derive(Drop)]
 pub enum Expected {
     /// Whatever it is.
     Anything,
@@ -37,7 +37,7 @@ pub enum Expected {
 }
 
 /// The bytes of a file that is to be imported, of any length.
-#[derive(Debug, Drop)]
+#[derive(Drop)]
 pub struct File {
     bytes: Vec<u8>,
 }
@@ -67,7 +67,7 @@ impl File {
 }
 
 /// What a command asks for.
-#[derive(Debug, Drop)]
+#[derive(Drop)]
 pub enum Act {
     /// Sets the rank of an account, and adds the account if it is new.
     Account {
@@ -106,7 +106,7 @@ pub enum Act {
 }
 
 /// What an account asks of the registry. Under a key it is obeyed once.
-#[derive(Debug, Drop)]
+#[derive(Drop)]
 pub struct Command {
     pub account: Account,
     pub key: Option<Key>,

@@ -5,7 +5,7 @@ use crate::refusal::FileFault;
 use pid_ident::{Account, Name, Path, Text};
 
 /// Whether a submission is pending, or how it ended.
-#[derive(Debug, Drop)]
+#[derive(Drop)]
 pub enum State {
     Pending,
     Approved { decider: Account },
@@ -14,7 +14,7 @@ pub enum State {
 }
 
 /// The submission that a command names.
-#[derive(Debug, Drop)]
+#[derive(Drop)]
 pub struct Named {
     pub author: Account,
     pub path: Path,
@@ -25,7 +25,7 @@ pub struct Named {
 }
 
 /// What a file that is not too long comes to.
-#[derive(Clone, Copy, Debug, PartialEq, Eq)]
+#[derive(Clone, Copy)]
 pub enum Verdict {
     /// How many of its paths are new, get another name, and have their names already; and how many
     /// items there are then.
@@ -40,7 +40,7 @@ pub enum Verdict {
 }
 
 /// What a command is judged by. What it does not look at is None, 0 or false.
-#[derive(Debug, Drop)]
+#[derive(Drop)]
 pub struct Facts {
     /// The rank of the account that sent the command; None of one that is not known.
     pub rank: Option<Rank>,

@@ -10,14 +10,14 @@ pub const PAGE: usize = 100;
 pub const SEARCHED: usize = 10_000;
 
 /// A path and the name of the item there.
-#[derive(Debug, Drop)]
+#[derive(Drop)]
 pub struct Item {
     pub path: Path,
     pub name: Name,
 }
 
 /// A submission as it stands. `author` proposed for `path` what `proposal` says.
-#[derive(Debug, Drop)]
+#[derive(Drop)]
 pub struct Submission {
     pub author: Account,
     pub path: Path,
@@ -27,28 +27,28 @@ pub struct Submission {
 }
 
 /// A remark on a submission.
-#[derive(Debug, Drop)]
+#[derive(Drop)]
 pub struct Comment {
     pub author: Account,
     pub text: Text,
 }
 
 /// A pending submission and its number.
-#[derive(Debug, Drop)]
+#[derive(Drop)]
 pub struct Pending {
     pub number: u32,
     pub submission: Submission,
 }
 
 /// A submission as it stands, and the remarks on it in their order.
-#[derive(Debug, Drop)]
+#[derive(Drop)]
 pub struct Discussion {
     pub submission: Submission,
     pub remarks: Vec<Comment>,
 }
 
 /// An item, and the number of the last change of its name.
-#[derive(Debug, Drop)]
+#[derive(Drop)]
 pub struct ChangedItem {
     pub path: Path,
     pub name: Name,
@@ -56,14 +56,14 @@ pub struct ChangedItem {
 }
 
 /// Items that were added or renamed, and the revision of the registry at that moment.
-#[derive(Debug, Drop)]
+#[derive(Drop)]
 pub struct Changes {
     pub revision: u64,
     pub items: Vec<ChangedItem>,
 }
 
 /// A submission as it stands, its number, and how many remarks it has.
-#[derive(Debug, Drop)]
+#[derive(Drop)]
 pub struct Listed {
     pub number: u32,
     pub submission: Submission,
@@ -72,7 +72,7 @@ pub struct Listed {
 
 /// Submissions that a search found, the latest first. The next page has those below `before`; 0
 /// where there is none.
-#[derive(Debug, Drop)]
+#[derive(Drop)]
 pub struct SubmissionPage {
     pub before: u32,
     pub submissions: Vec<Listed>,
@@ -80,7 +80,7 @@ pub struct SubmissionPage {
 
 /// A pending submission and its number, the name that the path has today, and how many remarks it
 /// has.
-#[derive(Debug, Drop)]
+#[derive(Drop)]
 pub struct Queued {
     pub number: u32,
     pub submission: Submission,
@@ -90,7 +90,7 @@ pub struct Queued {
 
 /// How many accounts, items and pending submissions a registry has, its revision, and how many
 /// submissions were made in all.
-#[derive(Debug, Drop)]
+#[derive(Drop)]
 pub struct Status {
     pub accounts: u64,
     pub items: u32,

@@ -1,7 +1,7 @@
 //! How the answer to a line ends a script.
 
 /// How the answer to a line ends a script.
-#[derive(Clone, Copy, Debug, PartialEq, Eq)]
+#[derive(Clone, Copy)]
 pub enum LineEnd {
     /// Memory or the store refused, or the registry had failed.
     Stopped,

@@ -15,7 +15,7 @@ use sqlite::Alter;
 use std::alloc::Global;
 
 /// What is known of an import before its file is read.
-#[derive(Debug, Drop)]
+#[derive(Drop)]
 pub enum Early {
     /// It is answered whatever its file is, if that is not too long.
     Answered(Result<Reply, Refusal>),

@@ -19,7 +19,12 @@ ghost use Rattle.std.specs.BTreeSet.{contains};
 ghost use Rattle.sqlite.specs.Order.{Row as Values};
 ghost use Rattle.pid_ident.specs.PathTexts.{IsPath, path_cmp, parent_of};
 ghost use Rattle.pid_tables_check.specs.Conditions.{AreItems};
-ghost use Rattle.pid_tables_check.specs.Steps.PathSets.{ArePathsOf, HasPath, HasEachParent, IsItemAlone};
+ghost use Rattle.pid_tables_check.specs.Steps.PathSets.{
+  ArePathsOf,
+  HasPath,
+  HasEachParent,
+  IsItemAlone,
+};
 ghost use Rattle.pid_tables_check.specs.Steps.Clauses.{KeepsTable};
 ghost use Rattle.pid_tables_check.specs.Steps.Keeping.{KeepsItems, TakesItems};
 ghost use Rattle.pid_tables_check.specs.declared.shape.Table.TheVariants as table;
