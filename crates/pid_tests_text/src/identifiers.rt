@@ -3,121 +3,129 @@ use pid_ident::{
     Account, FaultyOutput, Input, Key, Name, Output, Path, PathText, Plain, Text, WordFault,
     WriteFault, write_all, write_parts,
 };
+use std::alloc::Global;
 use std::io;
 use std::io::{ErrorKind, Read, Write};
 use std::test::Fail;
 
-#[test]
-fn names_are_kept(rt: HostRuntime) -> Result<(), Fail> {
-    let longest = "a".repeat(rt.alloc(), 1000)?;
-    for word in ["a\tb #  ", "Intel Corporation", "Société", longest.as_str()] {
-        let name = Name::of(rt.alloc(), word)?;
-        assert_eq!(rt; name.as_str(), word);
-        assert_eq!(rt; name.copy()?.as_str(), word);
+// A kind of word, a word, and whether it is kept as it is; `bad` is one that breaks the rules. `;`
+// is LF, and a letter with a star and a number stands for so many of it.
+const WORDS: &str = "\
+name|a\tb #  |kept
+name|Intel Corporation|kept
+name|Intel|kept
+name|Société|kept
+name|a*1000|kept
+name||bad
+name| a|bad
+name|\ta|bad
+name|a;b|bad
+name|a\u{7f}|bad
+name|a*1001|bad
+text||kept
+text| seen\t|kept
+text|a*4000|kept
+text|a;b|bad
+text|a*4001|bad
+account|root|kept
+account|alice-2|kept
+account|0|kept
+account|abcdefghijklmnopqrstuvwxyz012345|kept
+account||bad
+account|Root|bad
+account|a b|bad
+account|abcdefghijklmnopqrstuvwxyz0123456|bad
+key|k1|kept
+key|!~|kept
+key|k*64|kept
+key||bad
+key|a b|bad
+key|é|bad
+key|k*65|bad
+path|PC/8086|kept
+path|PC/8086/1237|kept
+path|PC/8086/1237/1af41100|kept
+path|PD/01|kept
+path|PD/01/01|kept
+path|PD/01/01/80|kept
+path|PS/1af4/1100|kept
+path||bad
+path|PC|bad
+path|PC/|bad
+path|PC/80A6|bad
+path|PC/8086/|bad
+path|PC/8086/1237/1af4|bad
+path|PD/0101|bad
+path|PS/1af4|bad
+path|PC/8086/1237/1af41100/|bad
+path|pc/8086|bad
+";
+
+fn word_of(alloc: Global, text: &str) -> Result<String, Fail> {
+    match text.split_once('*') {
+        Some((letter, count)) => Ok(letter.repeat(alloc, count.parse::<usize>()?)?),
+        None => Ok(text.replace(alloc, ";", "\n")?),
     }
-    let longer = "a".repeat(rt.alloc(), 1001)?;
-    for word in ["", " a", "\ta", "a\nb", "a\u{7f}", longer.as_str()] {
-        assert!(rt;
-            matches!(Name::of(rt.alloc(), word), Err(WordFault::Bad)),
-            "{word:?}"
-        );
+}
+
+// What is said of a word that is kept, and copied, as it is, and differs from another one.
+fn kept(is_so: bool) -> Result<&'static str, WordFault> {
+    Ok(if is_so { "kept" } else { "changed" })
+}
+
+fn name_of(alloc: Global, word: &str) -> Result<&'static str, WordFault> {
+    let name = Name::of(alloc, word)?;
+    let (copy, other) = (name.copy()?, Name::of(alloc, "Intel ")?);
+    kept(name.as_str() == word && copy.as_str() == word && name == copy && name != other)
+}
+
+fn text_of(alloc: Global, word: &str) -> Result<&'static str, WordFault> {
+    let text = Text::of(alloc, word)?;
+    let (copy, other) = (text.copy()?, Text::of(alloc, "seen")?);
+    kept(text.as_str() == word && copy.as_str() == word && text == copy && text != other)
+}
+
+fn account_of(alloc: Global, word: &str) -> Result<&'static str, WordFault> {
+    let account = Account::of(alloc, word)?;
+    let (copy, other) = (account.copy()?, Account::of(alloc, "boot")?);
+    kept(account.as_str() == word && copy.as_str() == word && account == copy && account != other)
+}
+
+fn key_of(alloc: Global, word: &str) -> Result<&'static str, WordFault> {
+    let key = Key::of(alloc, word)?;
+    let (copy, other) = (key.copy()?, Key::of(alloc, "K1")?);
+    kept(key.as_str() == word && copy.as_str() == word && key == copy && key != other)
+}
+
+fn path_of(alloc: Global, word: &str) -> Result<&'static str, WordFault> {
+    match Path::parse(word) {
+        Some(path) => kept(path.path_text(alloc)?.as_str() == word),
+        None => Err(WordFault::Bad),
     }
-    Ok(())
+}
+
+fn told(alloc: Global, kind: &str, word: &str) -> &'static str {
+    let told = match kind {
+        "name" => name_of(alloc, word),
+        "text" => text_of(alloc, word),
+        "account" => account_of(alloc, word),
+        "key" => key_of(alloc, word),
+        _ => path_of(alloc, word),
+    };
+    match told {
+        Ok(told) => told,
+        Err(WordFault::Bad) => "bad",
+        Err(WordFault::Memory) => "no memory",
+    }
 }
 
 #[test]
-fn texts_are_kept(rt: HostRuntime) -> Result<(), Fail> {
-    let longest = "a".repeat(rt.alloc(), 4000)?;
-    for word in ["", " seen\t", longest.as_str()] {
-        let text = Text::of(rt.alloc(), word)?;
-        assert_eq!(rt; text.as_str(), word);
-        assert_eq!(rt; text.copy()?.as_str(), word);
-    }
-    let longer = "a".repeat(rt.alloc(), 4001)?;
-    for word in ["a\nb", longer.as_str()] {
-        assert!(rt;
-            matches!(Text::of(rt.alloc(), word), Err(WordFault::Bad)),
-            "{word:?}"
-        );
-    }
-    Ok(())
-}
-
-#[test]
-fn accounts_and_keys_are_kept(rt: HostRuntime) -> Result<(), Fail> {
-    let longest = "k".repeat(rt.alloc(), 64)?;
-    for word in ["root", "alice-2", "0", "abcdefghijklmnopqrstuvwxyz012345"] {
-        let account = Account::of(rt.alloc(), word)?;
-        assert_eq!(rt; account.as_str(), word);
-        assert_eq!(rt; account.copy()?.as_str(), word);
-    }
-    for word in ["", "Root", "a b", "abcdefghijklmnopqrstuvwxyz0123456"] {
-        assert!(rt;
-            matches!(Account::of(rt.alloc(), word), Err(WordFault::Bad)),
-            "{word:?}"
-        );
-    }
-    for word in ["k1", "!~", longest.as_str()] {
-        let key = Key::of(rt.alloc(), word)?;
-        assert_eq!(rt; key.as_str(), word);
-        assert_eq!(rt; key.copy()?.as_str(), word);
-    }
-    let longer = "k".repeat(rt.alloc(), 65)?;
-    for word in ["", "a b", "é", longer.as_str()] {
-        assert!(rt;
-            matches!(Key::of(rt.alloc(), word), Err(WordFault::Bad)),
-            "{word:?}"
-        );
-    }
-    Ok(())
-}
-
-#[test]
-fn words_compare_by_their_bytes(rt: HostRuntime) -> Result<(), Fail> {
-    let name = Name::of(rt.alloc(), "Intel")?;
-    assert!(rt; name == name.copy()?);
-    assert!(rt; name != Name::of(rt.alloc(), "Intel ")?);
-    let account = Account::of(rt.alloc(), "root")?;
-    assert!(rt; account == account.copy()?);
-    assert!(rt; account != Account::of(rt.alloc(), "boot")?);
-    let key = Key::of(rt.alloc(), "k1")?;
-    assert!(rt; key == key.copy()?);
-    assert!(rt; key != Key::of(rt.alloc(), "K1")?);
-    let text = Text::of(rt.alloc(), "")?;
-    assert!(rt; text == text.copy()?);
-    assert!(rt; text != Text::of(rt.alloc(), "seen")?);
-    Ok(())
-}
-
-const PATHS: [&str; 7] = [
-    "PC/8086",
-    "PC/8086/1237",
-    "PC/8086/1237/1af41100",
-    "PD/01",
-    "PD/01/01",
-    "PD/01/01/80",
-    "PS/1af4/1100",
-];
-
-#[test]
-fn paths_and_their_texts(rt: HostRuntime) -> Result<(), Fail> {
-    for text in PATHS {
-        let path = Path::parse(text).ok_or("no path")?;
-        assert_eq!(rt; path.path_text(rt.alloc())?.as_str(), text);
-    }
-    for text in [
-        "",
-        "PC",
-        "PC/",
-        "PC/80A6",
-        "PC/8086/",
-        "PC/8086/1237/1af4",
-        "PD/0101",
-        "PS/1af4",
-        "PC/8086/1237/1af41100/",
-        "pc/8086",
-    ] {
-        assert!(rt; Path::parse(text).is_none(), "{text}");
+fn words_and_paths_are_kept(rt: HostRuntime) -> Result<(), Fail> {
+    for row in WORDS.lines() {
+        let (kind, rest) = row.split_once('|').ok_or("a kind")?;
+        let (text, want) = rest.split_once('|').ok_or("a word")?;
+        let word = word_of(rt.alloc(), text)?;
+        assert!(rt; told(rt.alloc(), kind, word.as_str()) == want, "{row}");
     }
     Ok(())
 }
@@ -148,17 +156,18 @@ impl Read for Hiccups<'_> {
 }
 
 #[test]
-fn an_interrupted_read_is_made_again(rt: HostRuntime) -> Result<(), Fail> {
+fn an_interrupted_read_is_made_again(rt: HostRuntime) {
     let mut input = Plain::new(Hiccups {
         rest: b"ab",
         interrupted: false,
     });
     let mut buffer = [0u8; 8];
-    assert_eq!(rt; input.read(&mut buffer)?, 1);
-    assert_eq!(rt; buffer[0], b'a');
-    assert_eq!(rt; input.read(&mut buffer)?, 1);
-    assert_eq!(rt; input.read(&mut buffer)?, 0);
-    Ok(())
+    for (count, first) in [(1, b'a'), (1, b'b'), (0, b'b')] {
+        assert!(rt;
+            input.read(&mut buffer) == Ok(count) && buffer[0] == first,
+            "{count}"
+        );
+    }
 }
 
 // A writer whose calls end in order: interrupted, one byte taken, broken or none taken.
@@ -184,37 +193,38 @@ impl Write for Worn {
     }
 }
 
-#[test]
-fn faults_are_told_apart(rt: HostRuntime) -> Result<(), Fail> {
-    for (is_broken, fault) in [(true, WriteFault::Device), (false, WriteFault::Zero)] {
-        let mut out = Plain::new(Worn {
-            calls: 0,
-            is_broken,
-        });
-        assert_eq!(rt; out.write(b"ab"), Ok(1));
-        assert_eq!(rt; out.write(b"b"), Err(fault));
-        assert_eq!(rt; out.write(b"b"), Err(fault));
-        assert_eq!(rt; out.into_inner().calls, 3);
-    }
-    Ok(())
+// Whether a worn writer fails so, and is called no more.
+fn fails_so(is_broken: bool, fault: WriteFault) -> bool {
+    let calls = 0;
+    let mut out = Plain::new(Worn { calls, is_broken });
+    out.write(b"ab") == Ok(1)
+        && out.write(b"b") == Err(fault)
+        && out.write(b"b") == Err(fault)
+        && out.into_inner().calls == 3
+}
+
+// Whether a writer that fails after so many calls took these bytes.
+fn takes(alloc: Global, calls: u64, fault: WriteFault, taken: &[u8]) -> bool {
+    let mut out = FaultyOutput::new(alloc, 2).failing_after(calls, fault);
+    let parts: [&[u8]; 3] = [b"abc", b"", b"defg"];
+    write_parts(&mut out, &parts) == Err(fault) && out.taken.as_slice() == taken
 }
 
 #[test]
-fn a_writer_fails_in_mid_stream(rt: HostRuntime) -> Result<(), Fail> {
-    for calls in 0..4u64 {
-        for fault in [WriteFault::Device, WriteFault::Zero] {
-            let mut out = FaultyOutput::new(rt.alloc(), 2).failing_after(calls, fault);
-            let parts: [&[u8]; 3] = [b"abc", b"", b"defg"];
-            assert_eq!(rt; write_parts(&mut out, &parts), Err(fault));
-            let whole: [&[u8]; 4] = [b"", b"ab", b"abc", b"abcde"];
-            assert_eq!(rt; out.taken.as_slice(), whole[calls as usize]);
+fn writers_fail(rt: HostRuntime) {
+    assert!(rt; fails_so(true, WriteFault::Device));
+    assert!(rt; fails_so(false, WriteFault::Zero));
+    for fault in [WriteFault::Device, WriteFault::Zero] {
+        let whole: [&[u8]; 4] = [b"", b"ab", b"abc", b"abcde"];
+        let mut calls = 0u64;
+        for taken in whole {
+            assert!(rt; takes(rt.alloc(), calls, fault, taken), "{calls}");
+            calls = calls.saturating_add(1);
         }
     }
     let mut out = FaultyOutput::new(rt.alloc(), 2);
-    write_all(&mut out, b"abc")?;
-    assert_eq!(rt; out.taken.as_slice(), b"abc".as_slice());
+    assert!(rt; write_all(&mut out, b"abc").is_ok() && out.taken.as_slice() == b"abc".as_slice());
     let mut plain = Plain::new(Vec::new(rt.alloc()));
-    write_all(&mut plain, b"abc")?;
-    assert_eq!(rt; plain.into_inner().as_slice(), b"abc".as_slice());
-    Ok(())
+    assert!(rt; write_all(&mut plain, b"abc").is_ok());
+    assert!(rt; plain.into_inner().as_slice() == b"abc".as_slice());
 }

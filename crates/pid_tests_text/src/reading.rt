@@ -1,108 +1,87 @@
 //! Worked rows, through each of the readers.
 
+use crate::texts::is_checked;
 use pid_ident::{LineKind, Path};
 use pid_reader::{Counter, CutEnd, Cutter, Feeder, LineFault, Lines, Never, ReadRefusal, read_ids};
 use pid_tree::TreeItems;
 use std::alloc::{AllocError, Global};
 use std::test::Fail;
 
-type Answer = Result<usize, ReadRefusal>;
+type Answer = Result<u64, ReadRefusal>;
 
-const THREE: &[u8] = b"8086   Intel\n\t1237\t 440FX\n10EC\tRealtek\n";
+// What texts read to: how many entries they have, or their first fault. `;` is LF, `>` a tab, `^`
+// CR, and `0` to `2` after a backslash are the bytes 7, 11 and 255.
+const ROWS: &str = r"
+ | ok 0
+8086   Intel;>1237> 440FX;10EC>Realtek; | ok 3
+8086  a>b #  ; | ok 1
+>1237  X | line 1: 3 NoParent
+8086  I;# c;;>1237  X | ok 2
+8086  I^; | ok 1
+S 1af4;1af4  Red Hat; | line 1: 8 VendorMissing
+8086  Intel Corporation;>1237  440FX;>>1af4 1100  Qemu machine;1af4  Red Hat, Inc.; | ok 4
+ 8086  I | line 1: 4 BadId
+8086 | line 1: 4 BadId
+8086  | line 1: 5 NoName
+8086  I;>>1af4 1100  X | line 2: 3 NoParent
+8086  I;>>>x | line 2: 2 TooDeep
+C 1  x | line 1: 4 BadId
+A b;>junk;>>>>deep;8086  I | ok 1
+8086  I;8086  J | line 2: 7 Duplicate
+#\2 | line 1: 1 NotUtf8
+1af4  Red Hat;S 1AF4;>1100  Qemu;>0001  Net;C 01  Mass;8086  I;S 1af4;>0002  Blk; | ok 6
+1af4  R;S 1af4x | line 2: 4 BadId
+1af4  R;S 1af | line 2: 4 BadId
+1af4  R;S 1af4 | ok 1
+1af4  R;S 1af4;>1100  X;>>1  Y | line 4: 2 TooDeep
+1af4  R;S 1af4;>1100  X;S 1af4;>1100  Z | line 5: 7 Duplicate
+1af4  R;S 8086 | line 2: 8 VendorMissing
+>>>x | line 1: 2 TooDeep
+^ | ok 0
+A>b | line 1: 4 BadId
+C 01 | line 1: 4 BadId
+8086  I;>1237  X;10ec  R;>>1af4 1100  Y | line 4: 3 NoParent
+8086  \0 | line 1: 6 BadName
+8086  I\1 | line 1: 6 BadName
+C 01  M;>06  S;>>80  P;>>80  Q | line 4: 7 Duplicate
+";
 
-const QEMU: &[u8] =
-    b"8086  Intel Corporation\n\t1237  440FX\n\t\t1af4 1100  Qemu machine\n1af4  Red Hat, Inc.\n";
-
-const GENERICS: &[u8] =
-    b"1af4  Red Hat\nS 1AF4\n\t1100  Qemu\n\t0001  Net\nC 01  Mass\n8086  I\nS 1af4\n\t0002  Blk\n";
-
-fn fault(line: usize, kind: LineKind) -> Answer {
-    Err(ReadRefusal::Line { line, kind })
-}
-
-// What each of these texts reads to: the number of its entries, or its first refusal.
-fn rows() -> [(&'static [u8], Answer); 32] {
-    [
-        (b"", Ok(0)),
-        (THREE, Ok(3)),
-        (b"8086  a\tb #  \n", Ok(1)),
-        (b"\t1237  X", fault(1, LineKind::NoParent)),
-        (b"8086  I\n# c\n\n\t1237  X", Ok(2)),
-        (b"8086  I\r\n", Ok(1)),
-        (
-            b"S 1af4\n1af4  Red Hat\n",
-            fault(1, LineKind::VendorMissing),
-        ),
-        (QEMU, Ok(4)),
-        (b" 8086  I", fault(1, LineKind::BadId)),
-        (b"8086", fault(1, LineKind::BadId)),
-        (b"8086 ", fault(1, LineKind::NoName)),
-        (b"8086  I\n\t\t1af4 1100  X", fault(2, LineKind::NoParent)),
-        (b"8086  I\n\t\t\tx", fault(2, LineKind::TooDeep)),
-        (b"C 1  x", fault(1, LineKind::BadId)),
-        (b"A b\n\tjunk\n\t\t\t\tdeep\n8086  I", Ok(1)),
-        (b"8086  I\n8086  J", fault(2, LineKind::Duplicate)),
-        (b"\x23\xff", fault(1, LineKind::NotUtf8)),
-        (GENERICS, Ok(6)),
-        (b"1af4  R\nS 1af4x", fault(2, LineKind::BadId)),
-        (b"1af4  R\nS 1af", fault(2, LineKind::BadId)),
-        (b"1af4  R\nS 1af4", Ok(1)),
-        (
-            b"1af4  R\nS 1af4\n\t1100  X\n\t\t1  Y",
-            fault(4, LineKind::TooDeep),
-        ),
-        (
-            b"1af4  R\nS 1af4\n\t1100  X\nS 1af4\n\t1100  Z",
-            fault(5, LineKind::Duplicate),
-        ),
-        (b"1af4  R\nS 8086", fault(2, LineKind::VendorMissing)),
-        (b"\t\t\tx", fault(1, LineKind::TooDeep)),
-        (b"\r", Ok(0)),
-        (b"A\tb", fault(1, LineKind::BadId)),
-        (b"C 01", fault(1, LineKind::BadId)),
-        (
-            b"8086  I\n\t1237  X\n10ec  R\n\t\t1af4 1100  Y",
-            fault(4, LineKind::NoParent),
-        ),
-        (b"8086  \x07", fault(1, LineKind::BadName)),
-        (b"8086  I\x0b", fault(1, LineKind::BadName)),
-        (
-            b"C 01  M\n\t06  S\n\t\t80  P\n\t\t80  Q",
-            fault(4, LineKind::Duplicate),
-        ),
-    ]
+fn text_of(alloc: Global, row: &str) -> Result<Vec<u8>, AllocError> {
+    let mut text = Vec::new(alloc);
+    let mut is_code = false;
+    for byte in row.as_bytes() {
+        let code = match *byte {
+            b'0' if is_code => 7,
+            b'1' if is_code => 11,
+            b'2' if is_code => 255,
+            b';' => b'\n',
+            b'>' => b'\t',
+            b'^' => b'\r',
+            other => other,
+        };
+        is_code = *byte == b'\\';
+        if !is_code {
+            text.push(code)?;
+        }
+    }
+    Ok(text)
 }
 
 fn by_read_ids(alloc: Global, text: &[u8]) -> Answer {
-    Ok(read_ids(alloc, text)?.len())
+    Ok(read_ids(alloc, text)?.len() as u64)
 }
 
 // The same by the reader of lines, which looks at no earlier path: it passes over the two kinds
 // that need them.
 fn by_lines(text: &[u8]) -> Answer {
-    let mut told = 0usize;
+    let mut told = 0u64;
     for item in Lines::new(text) {
         match item {
             Ok(_) => told = told.saturating_add(1),
-            Err(fault) => return fault_at(fault),
+            Err(LineFault { line, kind }) => return Err(ReadRefusal::Line { line, kind }),
         }
     }
     Ok(told)
-}
-
-fn fault_at(fault: LineFault) -> Answer {
-    let LineFault { line, kind } = fault;
-    Err(ReadRefusal::Line { line, kind })
-}
-
-fn needs_earlier_paths(answer: Answer) -> bool {
-    matches!(
-        answer,
-        Err(ReadRefusal::Line {
-            kind: LineKind::Duplicate | LineKind::VendorMissing,
-            ..
-        })
-    )
 }
 
 // The answer of a feeder that is fed pieces of this many bytes.
@@ -111,7 +90,7 @@ fn by_pieces(alloc: Global, text: &[u8], size: usize) -> Answer {
     for piece in text.chunks(size.max(1)) {
         feeder.feed(piece)?;
     }
-    Ok(feeder.finish()?.len())
+    Ok(feeder.finish()?.len() as u64)
 }
 
 // The answer of a feeder that is fed the text in two pieces.
@@ -120,7 +99,7 @@ fn by_cutting(alloc: Global, text: &[u8], at: usize) -> Answer {
     let mut feeder = Feeder::new(alloc);
     feeder.feed(front)?;
     feeder.feed(behind)?;
-    Ok(feeder.finish()?.len())
+    Ok(feeder.finish()?.len() as u64)
 }
 
 fn refusal_in(end: CutEnd<Never>) -> ReadRefusal {
@@ -131,7 +110,7 @@ fn refusal_in(end: CutEnd<Never>) -> ReadRefusal {
 }
 
 // The count of a counter after a cutter that is fed the text in two pieces.
-fn by_counting(alloc: Global, text: &[u8], at: usize) -> Result<u64, ReadRefusal> {
+fn by_counting(alloc: Global, text: &[u8], at: usize) -> Answer {
     let (front, behind) = text.split_at(at.min(text.len()));
     let mut cutter = Cutter::new(alloc);
     let mut counter = Counter { count: 0 };
@@ -146,69 +125,117 @@ fn by_counting(alloc: Global, text: &[u8], at: usize) -> Result<u64, ReadRefusal
     }
 }
 
-#[test]
-fn rows_whole_and_cut(rt: HostRuntime) {
-    for (text, want) in rows() {
-        assert_eq!(rt; by_read_ids(rt.alloc(), text), want, "{text:?}");
-        assert_eq!(rt; by_pieces(rt.alloc(), text, 1), want, "{text:?}");
-        if !needs_earlier_paths(want) {
-            assert_eq!(rt; by_lines(text), want, "{text:?}");
-        }
-        for at in 0..text.len() {
-            assert_eq!(rt; by_cutting(rt.alloc(), text, at), want, "{text:?} at {at}");
-            let counted = want.map(|n| n as u64);
-            assert_eq!(rt;
-                by_counting(rt.alloc(), text, at),
-                counted,
-                "{text:?} at {at}"
-            );
-        }
+fn line_of(alloc: Global, answer: Answer) -> Result<String, AllocError> {
+    match answer {
+        Ok(count) => format!(in alloc; "ok {count}"),
+        Err(refusal) => format!(in alloc; "{refusal}"),
     }
 }
 
+// Whether the readers of whole texts answer so, and those of pieces of some sizes.
+fn is_read(alloc: Global, text: &[u8], want: Answer, line: &str) -> bool {
+    let needs_earlier_paths = line.ends_with("7 Duplicate") || line.ends_with("8 VendorMissing");
+    by_pieces(alloc, text, 1) == want
+        && by_pieces(alloc, text, 7) == want
+        && (needs_earlier_paths || by_lines(text) == want)
+        && is_checked(alloc, text, 1, line)
+        && is_checked(alloc, text, 2, line)
+        && is_checked(alloc, text, 7, line)
+        && is_checked(alloc, text, 16_384, line)
+        && is_checked(alloc, text, 65_536, line)
+}
+
+// Whether they do that are fed the text in two pieces of any sizes.
+fn is_cut(alloc: Global, text: &[u8], want: Answer) -> bool {
+    for at in 0..text.len() {
+        if by_cutting(alloc, text, at) != want || by_counting(alloc, text, at) != want {
+            return false;
+        }
+    }
+    true
+}
+
+fn is_row_so(alloc: Global, row: &str) -> Result<bool, Fail> {
+    let (text, line) = row.split_once(" | ").ok_or("a row")?;
+    let text = text_of(alloc, text)?;
+    let answer = by_read_ids(alloc, &text);
+    let is_so = line_of(alloc, answer)?.as_str() == line;
+    Ok(is_so && is_read(alloc, &text, answer, line) && is_cut(alloc, &text, answer))
+}
+
 #[test]
-fn prefixes_have_one_answer(rt: HostRuntime) {
+fn rows_whole_and_cut(rt: HostRuntime) -> Result<(), Fail> {
+    for row in ROWS.lines().skip(1) {
+        assert!(rt; is_row_so(rt.alloc(), row)?, "{row}");
+    }
+    Ok(())
+}
+
+const QEMU: &[u8] =
+    b"8086  Intel Corporation\n\t1237  440FX\n\t\t1af4 1100  Qemu machine\n1af4  Red Hat, Inc.\n";
+
+// Each prefix of a file has one answer, however it is read.
+#[test]
+fn prefixes_have_one_answer(rt: HostRuntime) -> Result<(), Fail> {
+    let alloc = rt.alloc();
     for end in 0..=QEMU.len() {
         let (text, _) = QEMU.split_at(end);
-        let whole = by_read_ids(rt.alloc(), text);
-        assert_eq!(rt; by_pieces(rt.alloc(), text, 1), whole, "{end}");
-        assert_eq!(rt; by_pieces(rt.alloc(), text, 7), whole, "{end}");
+        let whole = by_read_ids(alloc, text);
+        let line = line_of(alloc, whole)?;
+        assert!(rt; is_read(alloc, text, whole, line.as_str()), "{end}");
     }
+    Ok(())
 }
+
+const GENERICS: &[u8] =
+    b"1af4  Red Hat\nS 1AF4\n\t1100  Qemu\n\t0001  Net\nC 01  Mass\n8086  I\nS 1af4\n\t0002  Blk\n";
 
 // To be run with each allocation refused in turn.
 #[test]
 fn want_of_memory_changes_no_answer(rt: HostRuntime) {
-    for answer in [
-        by_read_ids(rt.alloc(), GENERICS),
-        by_pieces(rt.alloc(), GENERICS, 3),
-    ] {
-        assert!(rt;
-            matches!(answer, Ok(6) | Err(ReadRefusal::Memory)),
-            "{answer:?}"
-        );
-    }
-    let refused = by_read_ids(rt.alloc(), b"8086  I\n8086  J\n");
-    let duplicate = fault(2, LineKind::Duplicate);
-    assert!(rt;
-        refused == duplicate || refused == Err(ReadRefusal::Memory),
-        "{refused:?}"
-    );
+    let alloc = rt.alloc();
+    let whole = by_read_ids(alloc, GENERICS);
+    assert!(rt; matches!(whole, Ok(6) | Err(ReadRefusal::Memory)));
+    let fed = by_pieces(alloc, GENERICS, 3);
+    assert!(rt; matches!(fed, Ok(6) | Err(ReadRefusal::Memory)));
+    let (line, kind) = (2, LineKind::Duplicate);
+    let refused = by_read_ids(alloc, b"8086  I\n8086  J\n");
+    let wanted = Err(ReadRefusal::Line { line, kind });
+    assert!(rt; refused == wanted || refused == Err(ReadRefusal::Memory));
 }
 
 #[test]
 fn names_are_kept(rt: HostRuntime) -> Result<(), Fail> {
     let tree = read_ids(rt.alloc(), b"8086  a\tb #  \n\t1237 I\r\n")?;
-    let vendor = tree
-        .get(&Path::Vendor { vendor: 0x8086 })
-        .ok_or("no vendor")?;
-    assert_eq!(rt; vendor.as_str(), "a\tb #  ");
-    let device = Path::Device {
-        vendor: 0x8086,
-        device: 0x1237,
-    };
-    assert_eq!(rt; tree.get(&device).ok_or("no device")?.as_str(), "I");
+    let (vendor, device) = (0x8086, 0x1237);
+    let first = tree.get(&Path::Vendor { vendor }).ok_or("no vendor")?;
+    let second = tree
+        .get(&Path::Device { vendor, device })
+        .ok_or("no device")?;
+    assert!(rt; first.as_str() == "a\tb #  " && second.as_str() == "I");
     Ok(())
+}
+
+// Whether a cutter takes the first piece or not, and then no more, whatever it is fed.
+fn is_refused_ever_after(alloc: Global, front: &[u8], behind: &[u8]) -> bool {
+    let mut sink = Counter { count: 0 };
+    let mut cutter = Cutter::new(alloc);
+    let (line, kind) = (2, LineKind::Duplicate);
+    let wanted = ReadRefusal::Line { line, kind };
+    if cutter.feed(front, &mut sink).is_err() != (front.len() >= 16) {
+        return false;
+    }
+    for _again in 0..2u8 {
+        match cutter.feed(behind, &mut sink) {
+            Ok(()) => return false,
+            Err(end) => {
+                if refusal_in(end) != wanted {
+                    return false;
+                }
+            }
+        }
+    }
+    cutter.finish(&mut sink).is_err() && sink.count == 1
 }
 
 #[test]
@@ -216,106 +243,76 @@ fn refused_ever_after(rt: HostRuntime) {
     let text: &[u8] = b"8086  I\n8086  J\n10ec  R\n";
     for at in 0..=text.len() {
         let (front, behind) = text.split_at(at);
-        let mut sink = Counter { count: 0 };
-        let mut cutter = Cutter::new(rt.alloc());
-        let first = cutter.feed(front, &mut sink).is_err();
-        assert_eq!(rt; first, at >= 16, "{at}");
-        for _again in 0..2u8 {
-            assert!(rt;
-                matches!(
-                    cutter.feed(behind, &mut sink),
-                    Err(CutEnd::Refused(ReadRefusal::Line {
-                        line: 2,
-                        kind: LineKind::Duplicate,
-                    }))
-                )
-            );
-        }
-        assert!(rt; cutter.finish(&mut sink).is_err());
-        assert_eq!(rt; sink.count, 1);
+        assert!(rt; is_refused_ever_after(rt.alloc(), front, behind), "{at}");
     }
 }
 
 #[test]
 fn a_refusal_says_its_line_and_kind(rt: HostRuntime) -> Result<(), Fail> {
-    let kind = LineKind::Duplicate;
-    let refusal = ReadRefusal::Line { line: 2, kind };
-    assert_eq!(rt;
-        format!(in rt.alloc(); "{refusal}")?.as_str(),
-        "line 2: 7 Duplicate"
-    );
-    let fault = LineFault { line: 2, kind };
-    assert_eq!(rt;
-        format!(in rt.alloc(); "{fault}")?.as_str(),
-        "line 2: 7 Duplicate"
-    );
+    let alloc = rt.alloc();
+    let (line, kind) = (2, LineKind::Duplicate);
+    let refusal = ReadRefusal::Line { line, kind };
+    let fault = LineFault { line, kind };
     let end: CutEnd<Never> = CutEnd::Refused(refusal);
-    assert_eq!(rt;
-        format!(in rt.alloc(); "{end}")?.as_str(),
-        "line 2: 7 Duplicate"
-    );
+    let text = format!(in alloc; "{refusal}, {fault}, {end}")?;
+    assert!(rt; text.as_str() == "line 2: 7 Duplicate, line 2: 7 Duplicate, line 2: 7 Duplicate");
     Ok(())
+}
+
+fn is_next(lines: &mut Lines<'_>, line: usize, name: &str) -> bool {
+    match lines.next() {
+        Some(Ok(entry)) => entry.line == line && entry.name == name,
+        _ => false,
+    }
+}
+
+fn is_bad_next(lines: &mut Lines<'_>, at: usize) -> bool {
+    match lines.next() {
+        Some(Err(LineFault { line, kind })) => line == at && kind == LineKind::BadId,
+        _ => false,
+    }
 }
 
 #[test]
 fn lines_one_by_one(rt: HostRuntime) {
     let mut lines = Lines::new(b"8086  I\n# c\n\t1237  A\n\t1237  B\r\nS 1111\n\tzz\n10ec  R");
-    let mut told = 0usize;
-    let wanted = [(1, "I"), (3, "A"), (4, "B")];
-    for (line, name) in wanted {
-        match lines.next() {
-            Some(Ok(entry)) => {
-                assert_eq!(rt; entry.line, line);
-                assert_eq!(rt; entry.name, name);
-                told = told.saturating_add(1);
-            }
-            _ => assert!(rt; false, "line {line}"),
-        }
+    for (line, name) in [(1, "I"), (3, "A"), (4, "B")] {
+        assert!(rt; is_next(&mut lines, line, name), "line {line}");
     }
-    assert_eq!(rt; told, 3);
-    match lines.next() {
-        Some(Err(fault)) => {
-            assert_eq!(rt; fault.line, 6);
-            assert_eq!(rt; fault.kind, LineKind::BadId);
-        }
-        _ => assert!(rt; false, "no fault"),
-    }
+    assert!(rt; is_bad_next(&mut lines, 6));
     assert!(rt; lines.next().is_none());
 }
 
-// The vendors 0000 to ffff, and then devices of the last one.
-fn many(alloc: Global, devices: u32) -> Result<Vec<u8>, AllocError> {
+// The vendors 0000 to ffff, so many devices of the last one, and what follows.
+fn many(alloc: Global, devices: u16, more: &[u8]) -> Result<Vec<u8>, AllocError> {
     let mut text = Vec::new(alloc);
     for vendor in 0..=u16::MAX {
         text.extend_from_slice(&pid_ident::hex4(vendor))?;
         text.extend_from_slice(b"  a\n")?;
     }
-    for device in 0..devices.min(65_535) {
+    for device in 0..devices {
         text.extend_from_slice(b"\t")?;
-        text.extend_from_slice(&pid_ident::hex4(device as u16))?;
+        text.extend_from_slice(&pid_ident::hex4(device))?;
         text.extend_from_slice(b"  a\n")?;
     }
+    text.extend_from_slice(more)?;
     Ok(text)
 }
 
 #[test]
 fn hundred_thousand(rt: HostRuntime) -> Result<(), Fail> {
-    let full = many(rt.alloc(), 34_464)?;
-    assert_eq!(rt; by_read_ids(rt.alloc(), &full), Ok(100_000));
-    let mut more = many(rt.alloc(), 34_464)?;
-    more.extend_from_slice(b"\t86a0  a\n")?;
-    assert_eq!(rt;
-        by_counting(rt.alloc(), &more, 0),
-        Err(ReadRefusal::TooManyEntries)
-    );
-    let mut again = many(rt.alloc(), 34_464)?;
-    again.extend_from_slice(b"\t0000  a\n")?;
-    assert_eq!(rt;
-        by_counting(rt.alloc(), &again, 0),
-        fault(100_001, LineKind::Duplicate).map(|n| n as u64)
-    );
-    let mut block = many(rt.alloc(), 34_464)?;
-    block.extend_from_slice(b"S 0001\n")?;
-    assert_eq!(rt; by_counting(rt.alloc(), &block, 0), Ok(100_000));
+    let alloc = rt.alloc();
+    let full = many(alloc, 34_464, b"")?;
+    assert!(rt; by_read_ids(alloc, &full) == Ok(100_000));
+    let (line, kind) = (100_001, LineKind::Duplicate);
+    let rows: [(&[u8], Answer); 3] = [
+        (b"\t86a0  a\n", Err(ReadRefusal::TooManyEntries)),
+        (b"\t0000  a\n", Err(ReadRefusal::Line { line, kind })),
+        (b"S 0001\n", Ok(100_000)),
+    ];
+    for (more, want) in rows {
+        let text = many(alloc, 34_464, more)?;
+        assert!(rt; by_counting(alloc, &text, 0) == want);
+    }
     Ok(())
 }
