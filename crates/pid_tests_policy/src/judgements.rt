@@ -2,11 +2,10 @@
 use pid_ident::{Account, LineKind, Name, Path, PathText, Text};
 use pid_model::rows::{command_in, fields_of, text_at, value};
 use pid_moderation::{
-    Act, Facts, FileFault, Named, Proposal, Rank, Refusal, Reply, State, Verdict, before_file,
-    breaks_form, decide, reply_line,
+    Act, Command, Facts, FileFault, Named, Proposal, Rank, Refusal, Reply, State, Verdict,
+    before_file, breaks_form, decide, reply_line,
 };
 use std::alloc::Global;
-use std::process::Abort;
 use std::test::Fail;
 
 fn number_at(fields: &[(String, String)], name: &str) -> u32 {
@@ -58,15 +57,18 @@ fn named_at(alloc: Global, fields: &[(String, String)]) -> Result<Option<Named>,
     let Some(author) = value(fields, "author") else {
         return Ok(None);
     };
+    let path = Path::parse(text_at(fields, "path")).ok_or("a path")?;
+    let author = Account::of(alloc, author)?;
     let proposal = match name_at(alloc, fields, "name")? {
         Some(name) => Proposal::Name(name),
         None => Proposal::Removal,
     };
+    let state = state_at(alloc, fields)?;
     Ok(Some(Named {
-        author: Account::of(alloc, author)?,
-        path: Path::parse(text_at(fields, "path")).ok_or("a path")?,
+        author,
+        path,
         proposal,
-        state: state_at(alloc, fields)?,
+        state,
         remarks: number_at(fields, "remarks"),
     }))
 }
@@ -91,6 +93,8 @@ fn file_at(fields: &[(String, String)]) -> Option<Verdict> {
 fn facts_in(alloc: Global, row: &str) -> Result<Facts, Fail> {
     let fields = fields_of(alloc, row)?;
     let fields = fields.as_slice();
+    let present = name_at(alloc, fields, "present")?;
+    let named = named_at(alloc, fields)?;
     Ok(Facts {
         rank: rank_at(fields, "rank"),
         kept: value(fields, "kept").map(|_| Reply::Numbered(7)),
@@ -98,8 +102,8 @@ fn facts_in(alloc: Global, row: &str) -> Result<Facts, Fail> {
         who: rank_at(fields, "who"),
         submissions: number_at(fields, "submissions"),
         items: number_at(fields, "items"),
-        named: named_at(alloc, fields)?,
-        present: name_at(alloc, fields, "present")?,
+        named,
+        present,
         has_parent: value(fields, "parent").is_some(),
         has_children: value(fields, "children").is_some(),
         file: file_at(fields),
@@ -114,16 +118,13 @@ fn answered(alloc: Global, form: &str, facts: &Facts) -> Result<Result<Reply, Re
     }
 }
 
-// Asserts what each row's command is answered over the facts of the row.
-fn expect_answers(rt: &impl Abort, alloc: Global, rows: &str) -> Result<(), Fail> {
-    for row in rows.lines() {
-        let (form, rest) = row.split_once(" | ").ok_or("a command")?;
-        let (facts, expected) = rest.split_once(" | ").ok_or("facts")?;
-        let facts = facts_in(alloc, facts)?;
-        let line = reply_line(alloc, answered(alloc, form, &facts)?)?;
-        assert_eq!(rt; line.as_str().trim_end(), expected, "at {row}");
-    }
-    Ok(())
+// Whether a row's command is answered so over the facts of the row.
+fn is_so(alloc: Global, row: &str) -> Result<bool, Fail> {
+    let (form, rest) = row.split_once(" | ").ok_or("a command")?;
+    let (facts, expected) = rest.split_once(" | ").ok_or("facts")?;
+    let facts = facts_in(alloc, facts)?;
+    let line = reply_line(alloc, answered(alloc, form, &facts)?)?;
+    Ok(line.as_str().trim_end() == expected)
 }
 
 // After each refusal the row where the next check fails too, if there can be one.
@@ -147,11 +148,6 @@ submit alice path=PC/8086&name=a | rank=0 | ok 1
 submit alice path=PC/8086&name=a | kept=yes&rank=0&submissions=2000000000 | ok 7
 ";
 
-#[test]
-fn checks_ranks_and_submissions(rt: HostRuntime) -> Result<(), Fail> {
-    expect_answers(&rt, rt.alloc(), ACCOUNT_AND_SUBMIT_CHECKS)
-}
-
 const AUTHOR_CHECKS: &str = "\
 comment alice num=1&text=a | author=bob&path=PC/8086&name=a | refused 4 NoAccount
 comment alice num=1&text=a | - | refused 4 NoAccount
@@ -170,11 +166,6 @@ withdraw alice num=1 | rank=0&author=alice&path=PC/8086&state=rejected | refused
 withdraw alice num=1 | rank=0&author=alice&path=PC/8086 | ok
 withdraw alice num=1 | kept=yes&rank=0&author=alice&path=PC/8086&state=withdrawn | ok 7
 ";
-
-#[test]
-fn checks_comments_and_withdrawals(rt: HostRuntime) -> Result<(), Fail> {
-    expect_answers(&rt, rt.alloc(), AUTHOR_CHECKS)
-}
 
 const APPROVAL_CHECKS: &str = "\
 approve root num=1 | author=bob&path=PC/8086&name=a&parent=yes | refused 4 NoAccount
@@ -198,11 +189,6 @@ approve root num=1 | rank=1&author=bob&path=PC/8086/1237&name=a&items=100000 | r
 approve root num=1 | rank=2&author=bob&path=PC/8086&present=a&children=yes | refused 12 HasChildren
 approve root num=1 | rank=2&author=bob&path=PC/8086&name=a&parent=yes&items=100000 | refused 15 Full
 ";
-
-#[test]
-fn checks_approvals(rt: HostRuntime) -> Result<(), Fail> {
-    expect_answers(&rt, rt.alloc(), APPROVAL_CHECKS)
-}
 
 const CONFIRMATIONS: &str = "\
 confirm root num=1&was= | rank=2&author=bob&path=PC/8086&name=a&parent=yes | ok
@@ -228,11 +214,6 @@ confirm root num=1&was= | rank=1&author=bob&path=PC/8086/1237&name=a | refused 1
 confirm root num=1&was=a | rank=2&author=bob&path=PC/8086&present=a&children=yes | refused 12 HasChildren
 confirm root num=1&was= | rank=2&author=bob&path=PC/8086&name=a&parent=yes&items=100000 | refused 15 Full
 ";
-
-#[test]
-fn confirms_what_was_seen(rt: HostRuntime) -> Result<(), Fail> {
-    expect_answers(&rt, rt.alloc(), CONFIRMATIONS)
-}
 
 const DECISIONS: &str = "\
 approve root num=1 | rank=2&author=bob&path=PC/8086&name=a&parent=yes&items=99999 | ok
@@ -283,11 +264,6 @@ reject root num=1&reason=no | rank=1&author=bob&path=PD/01/01/80&name=a | ok
 reject root num=1&reason=no | rank=1&author=bob&path=PS/1af4/1100&name=a | ok
 ";
 
-#[test]
-fn decides_on_each_kind_of_path(rt: HostRuntime) -> Result<(), Fail> {
-    expect_answers(&rt, rt.alloc(), KINDS)
-}
-
 // Each word and text as long as it may be.
 const LIMITS: &str = "\
 account *64/root who=*32&rank=1 | rank=3 | ok
@@ -298,16 +274,6 @@ approve *64/*32 num=2000000000 | rank=2&author=bob&path=PC/8086&name=*1000&prese
 reject *64/*32 num=2000000000&reason=*4000 | rank=2&author=bob&path=PC/8086&name=*1000 | ok
 import *64/*32 file=*4194304 | rank=2&file=good&items=100000 | ok added=1 renamed=2 same=3
 ";
-
-#[test]
-fn takes_the_longest_texts(rt: HostRuntime) -> Result<(), Fail> {
-    expect_answers(&rt, rt.alloc(), LIMITS)
-}
-
-#[test]
-fn checks_decisions(rt: HostRuntime) -> Result<(), Fail> {
-    expect_answers(&rt, rt.alloc(), DECISIONS)
-}
 
 const IMPORT_CHECKS: &str = "\
 import root file=a | file=good&items=3 | refused 4 NoAccount
@@ -322,11 +288,6 @@ import root file=a | kept=yes&rank=1&file=faulty | ok 7
 import root file=a | kept=yes&rank=2&file=long | refused 3 BadText
 import root file=a | file=long | refused 3 BadText
 ";
-
-#[test]
-fn checks_imports(rt: HostRuntime) -> Result<(), Fail> {
-    expect_answers(&rt, rt.alloc(), IMPORT_CHECKS)
-}
 
 // At the limit of the revision nothing more is accepted, whatever it is; a kept reply is answered,
 // and what another check refuses has the refusal of that.
@@ -356,19 +317,37 @@ import root file=a | rank=2&file=faulty&revision=9000000000000000000 | refused 1
 ";
 
 #[test]
-fn refuses_what_cannot_be_counted(rt: HostRuntime) -> Result<(), Fail> {
-    expect_answers(&rt, rt.alloc(), REVISION_CHECKS)
+fn answers_each_command(rt: HostRuntime) -> Result<(), Fail> {
+    for rows in [
+        ACCOUNT_AND_SUBMIT_CHECKS,
+        AUTHOR_CHECKS,
+        APPROVAL_CHECKS,
+        CONFIRMATIONS,
+        DECISIONS,
+        KINDS,
+        LIMITS,
+        IMPORT_CHECKS,
+        REVISION_CHECKS,
+    ] {
+        for row in rows.lines() {
+            assert!(rt; is_so(rt.alloc(), row)?, "at {row}");
+        }
+    }
+    Ok(())
+}
+
+// The number of what the command is answered over these facts.
+fn number_over(alloc: Global, row: &str) -> Result<u64, Fail> {
+    let command = command_in(alloc, "account root who=bob&rank=1")??;
+    let facts = facts_in(alloc, row)?;
+    Ok(decide(&facts, &command)?.0.revision)
 }
 
 // What is accepted has the next number, and a kept reply that of the last command.
 #[test]
 fn numbers_changes(rt: HostRuntime) -> Result<(), Fail> {
-    let alloc = rt.alloc();
-    let command = command_in(alloc, "account root who=bob&rank=1")??;
-    let accepted = decide(&facts_in(alloc, "rank=3&revision=41")?, &command)?;
-    assert_eq!(rt; accepted.0.revision, 42);
-    let kept = decide(&facts_in(alloc, "kept=yes&rank=3&revision=41")?, &command)?;
-    assert_eq!(rt; kept.0.revision, 41);
+    assert!(rt; number_over(rt.alloc(), "rank=3&revision=41")? == 42);
+    assert!(rt; number_over(rt.alloc(), "kept=yes&rank=3&revision=41")? == 41);
     Ok(())
 }
 
@@ -383,39 +362,44 @@ kept=yes&rank=1 | ok 7
 kept=yes&rank=3 | ok 7
 ";
 
+// Whether an import over the facts of a row is settled so before its file.
+fn is_settled(alloc: Global, row: &str) -> Result<bool, Fail> {
+    let (facts, expected) = row.split_once(" | ").ok_or("facts")?;
+    match before_file(&facts_in(alloc, facts)?) {
+        Some(outcome) => Ok(reply_line(alloc, outcome)?.as_str().trim_end() == expected),
+        None => Ok(expected == "waits"),
+    }
+}
+
 #[test]
 fn settles_imports_before_their_files(rt: HostRuntime) -> Result<(), Fail> {
-    let alloc = rt.alloc();
     for row in EARLY_IMPORTS.lines() {
-        let (facts, expected) = row.split_once(" | ").ok_or("facts")?;
-        let told = match before_file(&facts_in(alloc, facts)?) {
-            Some(outcome) => reply_line(alloc, outcome)?,
-            None => String::from_str(alloc, "waits")?,
-        };
-        assert_eq!(rt; told.as_str().trim_end(), expected, "at {row}");
+        assert!(rt; is_settled(rt.alloc(), row)?, "at {row}");
     }
     Ok(())
+}
+
+// Whether a command breaks its form, and is refused for it before a reply that is kept.
+fn is_refused(facts: &Facts, command: &Command) -> bool {
+    breaks_form(command) && matches!(decide(facts, command), Err(Refusal::BadText))
 }
 
 // What only a caller that makes a command by hand can ask.
 #[test]
 fn refuses_empty_words_before_kept_replies(rt: HostRuntime) -> Result<(), Fail> {
     let alloc = rt.alloc();
-    let facts = facts_in(alloc, "kept=yes&rank=3&author=bob&path=PC/8086")?;
+    let (facts, number) = (
+        facts_in(alloc, "kept=yes&rank=3&author=bob&path=PC/8086")?,
+        1,
+    );
     let mut command = command_in(alloc, "comment root num=1&text=a")??;
     assert!(rt; !breaks_form(&command));
-    command.act = Act::Comment {
-        number: 1,
-        text: Text::of(alloc, "")?,
-    };
-    assert!(rt; breaks_form(&command));
-    assert!(rt; matches!(&decide(&facts, &command), Err(Refusal::BadText)));
-    command.act = Act::Reject {
-        number: 1,
-        reason: Text::of(alloc, "")?,
-    };
-    assert!(rt; breaks_form(&command));
-    assert!(rt; matches!(&decide(&facts, &command), Err(Refusal::BadText)));
+    let text = Text::of(alloc, "")?;
+    command.act = Act::Comment { number, text };
+    assert!(rt; is_refused(&facts, &command));
+    let reason = Text::of(alloc, "")?;
+    command.act = Act::Reject { number, reason };
+    assert!(rt; is_refused(&facts, &command));
     Ok(())
 }
 
@@ -432,6 +416,18 @@ import k1/root file=a | rank=2&file=good&items=3 | ok added=1 renamed=2 same=3
 import root file=a | rank=2&file=faulty | refused 14 FileFault line=3 kind=7 Duplicate
 ";
 
+// The line of a row's answer, each call made again if memory was refused.
+fn told_at_last(alloc: Global, form: &str, facts: &Facts) -> Result<String, Fail> {
+    let outcome = match answered(alloc, form, facts)? {
+        Err(Refusal::Memory) => answered(alloc, form, facts)?,
+        outcome => outcome,
+    };
+    match reply_line(alloc, outcome) {
+        Ok(line) => Ok(line),
+        Err(_) => Ok(reply_line(alloc, outcome)?),
+    }
+}
+
 // If one request for memory is refused, that is answered, and the same call answers as ever when it
 // is made again. (Run with each request refused in turn; what a row is made of ends the test then.)
 #[test]
@@ -440,16 +436,8 @@ fn tells_want_of_memory(rt: HostRuntime) -> Result<(), Fail> {
     for row in ONE_OF_EACH.lines() {
         let (form, rest) = row.split_once(" | ").ok_or("a command")?;
         let (facts, expected) = rest.split_once(" | ").ok_or("facts")?;
-        let facts = facts_in(alloc, facts)?;
-        let outcome = match answered(alloc, form, &facts)? {
-            Err(Refusal::Memory) => answered(alloc, form, &facts)?,
-            outcome => outcome,
-        };
-        let line = match reply_line(alloc, outcome) {
-            Ok(line) => line,
-            Err(_) => reply_line(alloc, outcome)?,
-        };
-        assert_eq!(rt; line.as_str().trim_end(), expected, "at {row}");
+        let line = told_at_last(alloc, form, &facts_in(alloc, facts)?)?;
+        assert!(rt; line.as_str().trim_end() == expected, "at {row}");
     }
     Ok(())
 }
