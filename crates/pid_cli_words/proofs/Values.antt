@@ -1,5 +1,5 @@
 -- What the getters make of the values that were given.
-use Rattle.std.proofs.Common.{◌≡◌, ◌&&◌, ◌^◌, ℕ, Bool, true, false, List, [], ◌∷◌, length, Option, Some, None, Result, Ok, Err, refl, sym, ap, ◌∙◌}
+use Rattle.std.proofs.Common.{◌≡◌, ◌&&◌, ◌^◌, ℕ, Bool, true, false, List, [], ◌∷◌, length, Option, Some, None, Result, Ok, Err, refl, sym, ap}
 use mathlib.Core.Bool.{true≢false}
 use Rattle.std.proofs.lemmas.Bool.{lt-ltb, ltb-true}
 use Rattle.std.specs.Borrow.{Bor}
@@ -9,11 +9,7 @@ use Rattle.std.specs.Option.{option_map, option_map_or, unwrap_or}
 use Rattle.std.specs.Prelude.{is_some, nat_lt}
 use Rattle.std.specs.Str.Parse.{AllDigits, ParsesUnsigned, ExplainsUnsignedError, HasUnsignedDigitsIfOk, digits_value, without_leading_plus}
 use Rattle.std.specs.declared.num.ParseIntError.{ParseIntError}
-use Rattle.std.specs.Prelude.{IfOk}
-use Rattle.std.specs.declared.alloc.AllocError.{AllocError}
 use Rattle.clap.specs.Matches.{ReadsOne}
-use Rattle.clap.specs.Words.{App, app_of}
-use Rattle.clap.specs.declared.builder.command.Command.{Command}
 use Rattle.clap.specs.Walk.{Text}
 use Rattle.pid_cli_words.specs.Jobs.{number_written}
 
@@ -76,8 +72,3 @@ pairs f g (Some x) a b name rows =
     let first : a ≡ f x = ap (λ o. unwrap_or o a) name in
     let second : b ≡ g x = ap (λ o. unwrap_or o b) rows in
     λ i. Some (sym first i, sym second i)
-
--- a command that was made, and the same with another word for it
-pub said_as : (r : Result Command AllocError) (a b : App) → IfOk r (λ c. app_of c ≡ a) → a ≡ b → IfOk r (λ c. app_of c ≡ b)
-said_as (Ok c) a b h e = h ∙ e
-said_as (Err c) a b h e = tt

@@ -30,38 +30,23 @@ with_rules (rule ∷ more) app = with_rules more (with_rule app rule)
 abbrev pub command : Text → List Rule → App
 command name rules = with_rules rules (new_app name)
 
--- --ids FILE --flags HEX [--size N]
-abbrev pub request_rules : List Rule
-request_rules = required (option (codes "ids")) ∷ required (option (codes "flags"))
-    ∷ option (codes "size") ∷ []
-
--- [--vendor H] [--device H] [--subvendor H]
-abbrev pub device_rules : List Rule
-device_rules = option (codes "vendor") ∷ option (codes "device") ∷ option (codes "subvendor") ∷ []
-
+-- lookup --ids FILE --flags HEX [--size N] [--vendor H] [--device H] [--subvendor H]
 -- [--subdevice H] [--class H] [--progif H]
-abbrev pub class_rules : List Rule
-class_rules = option (codes "subdevice") ∷ option (codes "class") ∷ option (codes "progif") ∷ []
-
--- lookup, with all of these
 abbrev pub lookup : App
-lookup = with_rules class_rules (with_rules device_rules (command (codes "lookup") request_rules))
+lookup = command (codes "lookup") (required (option (codes "ids"))
+    ∷ required (option (codes "flags")) ∷ option (codes "size")
+    ∷ option (codes "vendor") ∷ option (codes "device") ∷ option (codes "subvendor")
+    ∷ option (codes "subdevice") ∷ option (codes "class") ∷ option (codes "progif") ∷ [])
 
 -- script [--db FILE]
 abbrev pub script : App
 script = command (codes "script") (option (codes "db") ∷ [])
 
--- --db FILE --account A
-abbrev pub sender_rules : List Rule
-sender_rules = required (option (codes "db")) ∷ required (option (codes "account")) ∷ []
-
--- [--key K] IDS
-abbrev pub file_rules : List Rule
-file_rules = option (codes "key") ∷ required (operand (codes "ids")) ∷ []
-
--- import, with all of these
+-- import --db FILE --account A [--key K] IDS
 abbrev pub import : App
-import = with_rules file_rules (command (codes "import") sender_rules)
+import = command (codes "import") (required (option (codes "db"))
+    ∷ required (option (codes "account")) ∷ option (codes "key")
+    ∷ required (operand (codes "ids")) ∷ [])
 
 -- export --db FILE
 abbrev pub export : App
@@ -90,25 +75,8 @@ abbrev pub with_subcommands : List App → App → App
 with_subcommands [] app = app
 with_subcommands (sub ∷ more) app = with_subcommands more (with_subcommand app sub.top)
 
--- the subcommands that need no registry
-abbrev pub text_commands : List App
-text_commands = command (codes "tidy") [] ∷ command (codes "check") [] ∷ lookup ∷ []
-
--- those that change a registry
-abbrev pub import_commands : List App
-import_commands = script ∷ import ∷ []
-
--- those that print or serve a registry
-abbrev pub export_commands : List App
-export_commands = export ∷ serve ∷ []
-
--- those that maintain a registry's file
-abbrev pub care_commands : List App
-care_commands = migrate ∷ []
-
 -- `pciids` and its subcommands
 abbrev pub commands : App
-commands = with_subcommands care_commands
-    (with_subcommands export_commands (with_subcommands import_commands
-    (with_subcommands text_commands
-    (with_version (new_app (codes "pciids"))))))
+commands = with_subcommands (command (codes "tidy") [] ∷ command (codes "check") [] ∷ lookup
+    ∷ script ∷ import ∷ export ∷ serve ∷ migrate ∷ [])
+    (with_version (new_app (codes "pciids")))

@@ -1,3 +1,4 @@
 pub mod Commands
 pub mod Jobs
+pub mod Steps
 pub mod WordsFaults

@@ -1,36 +1,10 @@
 //! The commands of the program and their help.
-ghost use Rattle.std.specs.Prelude.{◌≡◌, false, [], IfOk, codes};
-ghost use Rattle.clap.specs.Words.{app_of, new_app, rule_of, with_rule, with_subcommand};
-ghost use Rattle.clap.specs.declared.builder.command.Command.TheViews.{out-Command};
-ghost use Rattle.pid_cli_words.specs.Commands.{
-  care_commands,
-  class_rules,
-  command as command_named,
-  commands as the_commands,
-  from_one_to,
-  device_rules,
-  export,
-  export_commands,
-  file_rules,
-  import,
-  import_commands,
-  lookup,
-  migrate,
-  million,
-  operand,
-  option as option_named,
-  request_rules,
-  required,
-  script,
-  sender_rules,
-  serve,
-  text_commands,
-  with_rules,
-  with_subcommands,
-  with_version,
-};
+ghost use Rattle.std.specs.Prelude.{◌≡◌, IfOk};
+ghost use Rattle.clap.specs.Words.{app_of};
+ghost use Rattle.pid_cli_words.specs.Commands.{commands as the_commands};
 
-use clap::{Arg, Command, value_parser};
+use crate::command::{Argument, Form, Subcommand, with_subcommands};
+use clap::Command;
 use std::alloc::{AllocError, Global};
 
 const VERSION: &str = "0.1.0";
@@ -142,353 +116,181 @@ Prints 'created schema 2', 'moved to schema 2' or 'schema 2 already'. Every
 command that opens a registry upgrades it first. Older versions of pciids
 cannot open an upgraded registry.";
 
-// An option that takes one value, with the name of the value and a line of help.
-fn option<'a>(alloc: Global, name: &'a str, value: &'a str, help: &'a str) -> Arg<'a>
-    ensures rule { rule_of result ≡ option_named name.now }
-    ensures local { result.global ≡ false }
-{
-    Arg::new(alloc, name)
-        .long(name)
-        .value_name(value)
-        .help(help)
-}
+const DB: Argument<'static> = Argument {
+    form: Form::Needed,
+    name: "db",
+    value: "FILE",
+    help: "Registry file, created if it does not exist",
+};
 
-fn db<'a>(alloc: Global) -> Arg<'a>
-    ensures rule { rule_of result ≡ option_named (codes "db") }
-    ensures local { result.global ≡ false }
-{
-    option(
-        alloc,
-        "db",
-        "FILE",
-        "Registry file, created if it does not exist",
-    )
-}
+const SCRIPT_DB: Argument<'static> = Argument {
+    form: Form::Optional,
+    ..DB
+};
 
-fn needed_db<'a>(alloc: Global) -> Arg<'a>
-    ensures rule { rule_of result ≡ required (option_named (codes "db")) }
-    ensures local { result.global ≡ false }
-{
-    db(alloc).required(true)
-}
+const LOOK_UP_ARGUMENTS: [Argument<'static>; 9] = [
+    Argument {
+        form: Form::Needed,
+        name: "ids",
+        value: "FILE",
+        help: "pci.ids file to read",
+    },
+    Argument {
+        form: Form::Needed,
+        name: "flags",
+        value: "HEX",
+        help: "What to look up, 1 to 8 hex digits",
+    },
+    Argument {
+        form: Form::Optional,
+        name: "size",
+        value: "N",
+        help: "Buffer size in bytes [default: 1024]",
+    },
+    Argument {
+        form: Form::Optional,
+        name: "vendor",
+        value: "HEX",
+        help: "Vendor, 4 hex digits",
+    },
+    Argument {
+        form: Form::Optional,
+        name: "device",
+        value: "HEX",
+        help: "Device, 4 hex digits",
+    },
+    Argument {
+        form: Form::Optional,
+        name: "subvendor",
+        value: "HEX",
+        help: "Vendor of the subsystem, 4 hex digits",
+    },
+    Argument {
+        form: Form::Optional,
+        name: "subdevice",
+        value: "HEX",
+        help: "Subsystem, 4 hex digits",
+    },
+    Argument {
+        form: Form::Optional,
+        name: "class",
+        value: "HEX",
+        help: "Class and subclass, 4 hex digits",
+    },
+    Argument {
+        form: Form::Optional,
+        name: "progif",
+        value: "HEX",
+        help: "Programming interface, 2 hex digits",
+    },
+];
 
-fn needed_option<'a>(alloc: Global, name: &'a str, value: &'a str, help: &'a str) -> Arg<'a>
-    ensures rule { rule_of result ≡ required (option_named name.now) }
-    ensures local { result.global ≡ false }
-{
-    option(alloc, name, value, help).required(true)
-}
+const IMPORT_ARGUMENTS: [Argument<'static>; 4] = [
+    DB,
+    Argument {
+        form: Form::Needed,
+        name: "account",
+        value: "ACCOUNT",
+        help: "Account that imports, of rank 2 or 3",
+    },
+    Argument {
+        form: Form::Optional,
+        name: "key",
+        value: "KEY",
+        help: "Key under which the import is done only once",
+    },
+    Argument {
+        form: Form::Operand,
+        name: "ids",
+        value: "IDS",
+        help: "pci.ids file to import",
+    },
+];
 
-fn ids_operand<'a>(alloc: Global) -> Arg<'a>
-    ensures rule { rule_of result ≡ required (operand (codes "ids")) }
-    ensures local { result.global ≡ false }
-{
-    Arg::new(alloc, "ids")
-        .value_name("IDS")
-        .help("pci.ids file to import")
-        .required(true)
-}
+const SERVE_ARGUMENTS: [Argument<'static>; 3] = [
+    DB,
+    Argument {
+        form: Form::Port,
+        name: "port",
+        value: "N",
+        help: "TCP port on 127.0.0.1, 1 to 65535",
+    },
+    Argument {
+        form: Form::Connections,
+        name: "connections",
+        value: "N",
+        help: "Connections to serve, 1 to 1000000",
+    },
+];
 
-fn port<'a>(alloc: Global) -> Arg<'a>
-    ensures rule { rule_of result ≡ required (from_one_to 65535 (option_named (codes "port"))) }
-    ensures local { result.global ≡ false }
-{
-    needed_option(alloc, "port", "N", "TCP port on 127.0.0.1, 1 to 65535").value_parser(
-        value_parser!(u16).range(1..=65535),
-    )
-}
-
-fn connections<'a>(alloc: Global) -> Arg<'a>
-    ensures rule { rule_of result
-        ≡ million (from_one_to 1000000 (option_named (codes "connections"))) }
-    ensures local { result.global ≡ false }
-{
-    option(
-        alloc,
-        "connections",
-        "N",
-        "Connections to serve, 1 to 1000000",
-    )
-    .value_parser(value_parser!(u32).range(1..=1000000))
-    .default_value("1000000")
-}
-
-fn tidy_command<'a>(alloc: Global) -> Command<'a>
-    ensures app { app_of result ≡ command_named (codes "tidy") [] }
-    ensures local { (out-Command result).has_globals ≡ false }
-{
-    Command::new(alloc, "tidy")
-        .about("Prints the canonical form of a pci.ids file (the default)")
-        .override_usage("pciids tidy < FILE")
-        .after_help(TIDY)
-}
-
-fn check_command<'a>(alloc: Global) -> Command<'a>
-    ensures app { app_of result ≡ command_named (codes "check") [] }
-    ensures local { (out-Command result).has_globals ≡ false }
-{
-    Command::new(alloc, "check")
-        .about("Counts the entries of a pci.ids file or reports the first fault")
-        .override_usage("pciids check < FILE")
-        .after_help(FAULTS)
-}
-
-fn lookup_start<'a>(alloc: Global) -> Command<'a>
-    ensures app { app_of result ≡ command_named (codes "lookup") [] }
-    ensures local { (out-Command result).has_globals ≡ false }
-{
-    Command::new(alloc, "lookup")
-        .about("Looks up a name in a pci.ids file, as libpci does")
-        .after_help(LOOK_UPS)
-}
-
-fn with_option<'a>(
-    alloc: Global,
-    command: Command<'a>,
-    name: &'a str,
-    value: &'a str,
-    help: &'a str,
-) -> Result<Command<'a>, AllocError>
-    requires { (out-Command command).has_globals ≡ false }
-    ensures app { IfOk result (λ c. app_of c
-        ≡ with_rule (app_of command.entry) (option_named name.now)) }
-    ensures local { IfOk result (λ c. (out-Command c).has_globals ≡ false) }
-{
-    command.arg(option(alloc, name, value, help))
-}
-
-// The file, what to look up in it, and the size of the buffer.
-fn with_request<'a>(alloc: Global, command: Command<'a>) -> Result<Command<'a>, AllocError>
-    requires { (out-Command command).has_globals ≡ false }
-    ensures app { IfOk result (λ c. app_of c ≡ with_rules request_rules (app_of command.entry)) }
-    ensures local { IfOk result (λ c. (out-Command c).has_globals ≡ false) }
-{
-    command
-        .arg(needed_option(alloc, "ids", "FILE", "pci.ids file to read"))?
-        .arg(needed_option(alloc, "flags", "HEX", "What to look up, 1 to 8 hex digits"))?
-        .arg(option(alloc, "size", "N", "Buffer size in bytes [default: 1024]"))
-}
-
-fn with_device<'a>(alloc: Global, command: Command<'a>) -> Result<Command<'a>, AllocError>
-    requires { (out-Command command).has_globals ≡ false }
-    ensures app { IfOk result (λ c. app_of c ≡ with_rules device_rules (app_of command.entry)) }
-    ensures local { IfOk result (λ c. (out-Command c).has_globals ≡ false) }
-{
-    let command = with_option(alloc, command, "vendor", "HEX", "Vendor, 4 hex digits")?;
-    let command = with_option(alloc, command, "device", "HEX", "Device, 4 hex digits")?;
-    with_option(
-        alloc,
-        command,
-        "subvendor",
-        "HEX",
-        "Vendor of the subsystem, 4 hex digits",
-    )
-}
-
-fn with_class<'a>(alloc: Global, command: Command<'a>) -> Result<Command<'a>, AllocError>
-    requires { (out-Command command).has_globals ≡ false }
-    ensures app { IfOk result (λ c. app_of c ≡ with_rules class_rules (app_of command.entry)) }
-    ensures local { IfOk result (λ c. (out-Command c).has_globals ≡ false) }
-{
-    let command = with_option(
-        alloc,
-        command,
-        "subdevice",
-        "HEX",
-        "Subsystem, 4 hex digits",
-    )?;
-    let command = with_option(
-        alloc,
-        command,
-        "class",
-        "HEX",
-        "Class and subclass, 4 hex digits",
-    )?;
-    with_option(
-        alloc,
-        command,
-        "progif",
-        "HEX",
-        "Programming interface, 2 hex digits",
-    )
-}
-
-fn lookup_command<'a>(alloc: Global) -> Result<Command<'a>, AllocError>
-    ensures app { IfOk result (λ c. app_of c ≡ lookup) }
-    ensures local { IfOk result (λ c. (out-Command c).has_globals ≡ false) }
-{
-    let command = with_request(alloc, lookup_start(alloc))?;
-    let command = with_device(alloc, command)?;
-    with_class(alloc, command)
-}
-
-fn script_start<'a>(alloc: Global) -> Command<'a>
-    ensures app { app_of result ≡ command_named (codes "script") [] }
-    ensures local { (out-Command result).has_globals ≡ false }
-{
-    Command::new(alloc, "script")
-        .about("Runs the commands and queries on standard input, one per line")
-        .after_help(SCRIPTS)
-}
-
-fn script_command<'a>(alloc: Global) -> Result<Command<'a>, AllocError>
-    ensures app { IfOk result (λ c. app_of c ≡ script) }
-    ensures local { IfOk result (λ c. (out-Command c).has_globals ≡ false) }
-{
-    script_start(alloc).arg(db(alloc))
-}
-
-fn import_start<'a>(alloc: Global) -> Command<'a>
-    ensures app { app_of result ≡ command_named (codes "import") [] }
-    ensures local { (out-Command result).has_globals ≡ false }
-{
-    Command::new(alloc, "import")
-        .about("Imports a pci.ids file into a registry")
-        .after_help(IMPORTS)
-}
-
-fn with_sender<'a>(alloc: Global, command: Command<'a>) -> Result<Command<'a>, AllocError>
-    requires { (out-Command command).has_globals ≡ false }
-    ensures app { IfOk result (λ c. app_of c ≡ with_rules sender_rules (app_of command.entry)) }
-    ensures local { IfOk result (λ c. (out-Command c).has_globals ≡ false) }
-{
-    command.arg(needed_db(alloc))?.arg(needed_option(
-        alloc,
-        "account",
-        "ACCOUNT",
-        "Account that imports, of rank 2 or 3",
-    ))
-}
-
-fn with_file<'a>(alloc: Global, command: Command<'a>) -> Result<Command<'a>, AllocError>
-    requires { (out-Command command).has_globals ≡ false }
-    ensures app { IfOk result (λ c. app_of c ≡ with_rules file_rules (app_of command.entry)) }
-    ensures local { IfOk result (λ c. (out-Command c).has_globals ≡ false) }
-{
-    let help = "Key under which the import is done only once";
-    command
-        .arg(option(alloc, "key", "KEY", help))?
-        .arg(ids_operand(alloc))
-}
-
-fn import_command<'a>(alloc: Global) -> Result<Command<'a>, AllocError>
-    ensures app { IfOk result (λ c. app_of c ≡ import) }
-    ensures local { IfOk result (λ c. (out-Command c).has_globals ≡ false) }
-{
-    let command = with_sender(alloc, import_start(alloc))?;
-    with_file(alloc, command)
-}
-
-fn export_start<'a>(alloc: Global) -> Command<'a>
-    ensures app { app_of result ≡ command_named (codes "export") [] }
-    ensures local { (out-Command result).has_globals ≡ false }
-{
-    Command::new(alloc, "export")
-        .about("Prints a registry as a pci.ids file")
-        .after_help(EXPORTS)
-}
-
-fn export_command<'a>(alloc: Global) -> Result<Command<'a>, AllocError>
-    ensures app { IfOk result (λ c. app_of c ≡ export) }
-    ensures local { IfOk result (λ c. (out-Command c).has_globals ≡ false) }
-{
-    export_start(alloc).arg(needed_db(alloc))
-}
-
-fn serve_start<'a>(alloc: Global) -> Command<'a>
-    ensures app { app_of result ≡ command_named (codes "serve") [] }
-    ensures local { (out-Command result).has_globals ≡ false }
-{
-    Command::new(alloc, "serve")
-        .about("Serves a registry over HTTP")
-        .after_help(SERVES)
-}
-
-fn serve_command<'a>(alloc: Global) -> Result<Command<'a>, AllocError>
-    ensures app { IfOk result (λ c. app_of c ≡ serve) }
-    ensures local { IfOk result (λ c. (out-Command c).has_globals ≡ false) }
-{
-    serve_start(alloc)
-        .arg(needed_db(alloc))?
-        .arg(port(alloc))?
-        .arg(connections(alloc))
-}
-
-fn migrate_start<'a>(alloc: Global) -> Command<'a>
-    ensures app { app_of result ≡ command_named (codes "migrate") [] }
-    ensures local { (out-Command result).has_globals ≡ false }
-{
-    Command::new(alloc, "migrate")
-        .about("Upgrades a registry to the newest schema")
-        .after_help(MIGRATES)
-}
-
-fn migrate_command<'a>(alloc: Global) -> Result<Command<'a>, AllocError>
-    ensures app { IfOk result (λ c. app_of c ≡ migrate) }
-    ensures local { IfOk result (λ c. (out-Command c).has_globals ≡ false) }
-{
-    migrate_start(alloc).arg(needed_db(alloc))
-}
-
-fn own_command<'a>(alloc: Global) -> Result<Command<'a>, AllocError>
-    ensures app { IfOk result (λ c. app_of c ≡ with_version (new_app (codes "pciids"))) }
-{
-    Command::new(alloc, "pciids")
-        .version(VERSION)
-        .about("Checks and prints pci.ids files, and keeps a moderated registry of PCI IDs")
-        .override_usage(USAGE)
-        .after_help(COMMANDS)
-        .bin_name("pciids")
-}
-
-fn with_command<'a>(
-    command: Command<'a>,
-    subcommand: Command<'a>,
-) -> Result<Command<'a>, AllocError>
-    requires { (out-Command subcommand).has_globals ≡ false }
-    ensures { IfOk result (λ c. app_of c
-        ≡ with_subcommand (app_of command.entry) (app_of subcommand.entry).top) }
-{
-    command.subcommand(subcommand)
-}
-
-// The commands that need no registry.
-fn with_texts<'a>(alloc: Global, command: Command<'a>) -> Result<Command<'a>, AllocError>
-    ensures { IfOk result (λ c. app_of c ≡ with_subcommands text_commands (app_of command.entry)) }
-{
-    let command = with_command(command, tidy_command(alloc))?;
-    let command = with_command(command, check_command(alloc))?;
-    with_command(command, lookup_command(alloc)?)
-}
-
-fn with_imports<'a>(alloc: Global, command: Command<'a>) -> Result<Command<'a>, AllocError>
-    ensures { IfOk result (λ c. app_of c
-        ≡ with_subcommands import_commands (app_of command.entry)) }
-{
-    let command = with_command(command, script_command(alloc)?)?;
-    with_command(command, import_command(alloc)?)
-}
-
-fn with_exports<'a>(alloc: Global, command: Command<'a>) -> Result<Command<'a>, AllocError>
-    ensures { IfOk result (λ c. app_of c
-        ≡ with_subcommands export_commands (app_of command.entry)) }
-{
-    let command = with_command(command, export_command(alloc)?)?;
-    with_command(command, serve_command(alloc)?)
-}
-
-fn with_care<'a>(alloc: Global, command: Command<'a>) -> Result<Command<'a>, AllocError>
-    ensures { IfOk result (λ c. app_of c ≡ with_subcommands care_commands (app_of command.entry)) }
-{
-    with_command(command, migrate_command(alloc)?)
-}
+const SUBCOMMANDS: [Subcommand<'static>; 8] = [
+    Subcommand {
+        name: "tidy",
+        about: "Prints the canonical form of a pci.ids file (the default)",
+        usage: Some("pciids tidy < FILE"),
+        after_help: TIDY,
+        arguments: &[],
+    },
+    Subcommand {
+        name: "check",
+        about: "Counts the entries of a pci.ids file or reports the first fault",
+        usage: Some("pciids check < FILE"),
+        after_help: FAULTS,
+        arguments: &[],
+    },
+    Subcommand {
+        name: "lookup",
+        about: "Looks up a name in a pci.ids file, as libpci does",
+        usage: None,
+        after_help: LOOK_UPS,
+        arguments: &LOOK_UP_ARGUMENTS,
+    },
+    Subcommand {
+        name: "script",
+        about: "Runs the commands and queries on standard input, one per line",
+        usage: None,
+        after_help: SCRIPTS,
+        arguments: &[SCRIPT_DB],
+    },
+    Subcommand {
+        name: "import",
+        about: "Imports a pci.ids file into a registry",
+        usage: None,
+        after_help: IMPORTS,
+        arguments: &IMPORT_ARGUMENTS,
+    },
+    Subcommand {
+        name: "export",
+        about: "Prints a registry as a pci.ids file",
+        usage: None,
+        after_help: EXPORTS,
+        arguments: &[DB],
+    },
+    Subcommand {
+        name: "serve",
+        about: "Serves a registry over HTTP",
+        usage: None,
+        after_help: SERVES,
+        arguments: &SERVE_ARGUMENTS,
+    },
+    Subcommand {
+        name: "migrate",
+        about: "Upgrades a registry to the newest schema",
+        usage: None,
+        after_help: MIGRATES,
+        arguments: &[DB],
+    },
+];
 
 /// The commands of the program.
 pub fn commands<'a>(alloc: Global) -> Result<Command<'a>, AllocError>
     ensures { IfOk result (λ c. app_of c ≡ the_commands) }
 {
-    let command = with_texts(alloc, own_command(alloc)?)?;
-    let command = with_imports(alloc, command)?;
-    let command = with_exports(alloc, command)?;
-    with_care(alloc, command)
+    let command = Command::new(alloc, "pciids")
+        .version(VERSION)
+        .about("Checks and prints pci.ids files, and keeps a moderated registry of PCI IDs")
+        .override_usage(USAGE)
+        .after_help(COMMANDS)
+        .bin_name("pciids")?;
+    with_subcommands(alloc, command, &SUBCOMMANDS)
 }

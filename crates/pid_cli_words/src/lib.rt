@@ -1,6 +1,7 @@
 //! The command line of the program.
 #![tactic(auto)]
 
+mod command;
 mod commands;
 mod job;
 mod process;
