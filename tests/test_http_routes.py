@@ -418,6 +418,12 @@ def test_routes(cases, folder):
         os.path.join(folder, "text")
     ) as second:
         ask_commands(cases, known, (first, second), COMMANDS, folder)
+        many = os.path.join(folder, "many")
+        with open(many, "wb") as file:
+            file.write(MANY)
+        words = ("-H", "X-Account: mona", "--data-binary", f"@{many}")
+        told = b'{"kind":0,"line":0,"ok":false,"refused":14,"word":"FileFault"}'
+        cases.equal("too many entries", first.curl("/import", *words), (422, JSON, told))
         for target, refusal in QUESTIONS:
             asked_alike(cases, known, (first, second), f"GET {target[:60]}", target, refusal)
         for target in BAD_QUERIES:

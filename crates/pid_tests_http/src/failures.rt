@@ -1,15 +1,17 @@
 //! A registry whose disk stopped while it wrote a command: it has failed, and each route is
 //! answered so.
-use crate::exchange::{expect_rows, serve};
-use crate::lines::push_request;
+use crate::exchange::try_rows;
+use pid_http::serve_stream;
 use pid_http_stream::StreamEnd;
-use pid_ident::FaultyInput;
+use pid_ident::{FaultyInput, FaultyOutput};
 use pid_service::{Registry, open};
-use sqlite::{Alter, Connection, FileStore, Files, Options};
+use sqlite::{Alter, Connection, Files, Options};
 use sqlite_disk::{Fuse, Memory};
 use std::alloc::Global;
-use std::process::Abort;
 use std::test::Fail;
+
+const COMMAND: &[u8] =
+    b"POST /account HTTP/1.1\r\nX-Account: root\r\nContent-Length: 16\r\n\r\nwho=alice&rank=0";
 
 // Each route in a format, as a registry is asked that has failed; then what is known without it.
 const FAILED: &str =
@@ -44,16 +46,40 @@ POST /submit Root path=PC/8086&name=Intel | 400 Bad Request json {"ok":false,"re
 POST /submit root path=PC/80A6&name=Intel | 400 Bad Request json {"ok":false,"refused":1,"word":"BadPath"}
 "#;
 
-type Stopping = Fuse<Memory>;
+// Whether a command left the registry failed, and each row was answered by that one.
+fn has_failed<S: Alter + Drop>(alloc: Global, registry: &mut Registry<S>) -> Result<bool, Fail> {
+    let mut input = FaultyInput::new(COMMAND, 65_536);
+    let mut output = FaultyOutput::new(alloc, 4_096);
+    let served = serve_stream(alloc, registry, &mut input, &mut output, 100);
+    if served.end != StreamEnd::Clean {
+        return Err("the stream ends")?;
+    }
+    if registry.is_live() {
+        return Ok(false);
+    }
+    try_rows(alloc, registry, FAILED, StreamEnd::Clean)?;
+    Ok(true)
+}
 
-// A connection to empty files, of whose log so many calls go well.
-fn connected(alloc: Global, calls: u64) -> Option<Connection<FileStore<Stopping>>> {
+// The same over a connection; `None` if no registry is opened.
+fn failed_over<S: Alter + Drop>(alloc: Global, conn: Connection<S>) -> Result<Option<bool>, Fail> {
+    if !conn.is_autocommit() {
+        return Ok(None);
+    }
+    match open(alloc, conn) {
+        Ok(mut registry) => Ok(Some(has_failed(alloc, &mut registry)?)),
+        Err(_) => Ok(None),
+    }
+}
+
+// The same over empty files, of whose log so many calls go well.
+fn failed_after(alloc: Global, calls: u64) -> Result<Option<bool>, Fail> {
     let files = Files {
         log: Fuse::new(Memory::new(alloc), calls),
         db: Fuse::new(Memory::new(alloc), u64::MAX),
     };
     if !files.may_be_used() {
-        return None;
+        return Ok(None);
     }
     let options = Options {
         cache_pages: 16,
@@ -61,43 +87,8 @@ fn connected(alloc: Global, calls: u64) -> Option<Connection<FileStore<Stopping>
         ..Options::new(7)
     };
     match Connection::open_files(alloc, files, options) {
-        Ok(conn) => Some(conn),
-        Err(_) => None,
-    }
-}
-
-fn opened<S: Alter + Drop>(alloc: Global, conn: Connection<S>) -> Option<Registry<S>> {
-    if !conn.is_autocommit() {
-        return None;
-    }
-    match open(alloc, conn) {
-        Ok(registry) => Some(registry),
-        Err(_) => None,
-    }
-}
-
-// Sends a command, and then each row, if the command left the registry failed. Whether it did.
-fn expect_failed<S: Alter + Drop>(
-    rt: &impl Abort,
-    alloc: Global,
-    registry: &mut Registry<S>,
-) -> Result<bool, Fail> {
-    let mut stream = String::new(alloc);
-    push_request(alloc, &mut stream, "POST /account root who=alice&rank=0")?;
-    let mut input = FaultyInput::new(stream.as_bytes(), 65_536);
-    let outcome = serve(alloc, registry, &mut input, 100);
-    assert_eq!(rt; outcome.served.end, StreamEnd::Clean);
-    if registry.is_live() {
-        return Ok(false);
-    }
-    expect_rows(rt, alloc, registry, FAILED, StreamEnd::Clean)?;
-    Ok(true)
-}
-
-fn is_opened(alloc: Global, calls: u64) -> bool {
-    match connected(alloc, calls) {
-        Some(conn) => opened(alloc, conn).is_some(),
-        None => false,
+        Ok(conn) => failed_over(alloc, conn),
+        Err(_) => Ok(None),
     }
 }
 
@@ -107,32 +98,27 @@ const MOST: u64 = 1_024;
 const HALVINGS: u32 = 10;
 
 // The least number of calls with which a registry is opened.
-fn calls_of_opening(alloc: Global) -> u64 {
+fn calls_of_opening(alloc: Global) -> Result<u64, Fail> {
     let mut low: u64 = 0;
     let mut width = MOST;
     for _ in 0..HALVINGS {
         width /= 2;
-        if !is_opened(alloc, low.saturating_add(width)) {
+        if failed_after(alloc, low.saturating_add(width))?.is_none() {
             low = low.saturating_add(width);
         }
     }
-    low.saturating_add(1)
+    Ok(low.saturating_add(1))
 }
 
 // The disk stops at a call after those of the opening, the first that leaves the registry failed.
 #[test]
 fn each_route_tells_of_a_registry_that_has_failed(rt: HostRuntime) -> Result<(), Fail> {
-    let alloc = rt.alloc();
-    let opening = calls_of_opening(alloc);
+    let opening = calls_of_opening(rt.alloc())?;
     for calls in opening..opening.saturating_add(64) {
-        let Some(conn) = connected(alloc, calls) else {
-            return Err("no connection")?;
-        };
-        let Some(mut registry) = opened(alloc, conn) else {
-            return Err("no registry")?;
-        };
-        if expect_failed(&rt, alloc, &mut registry)? {
-            return Ok(());
+        match failed_after(rt.alloc(), calls)? {
+            None => return Err("no registry")?,
+            Some(true) => return Ok(()),
+            Some(false) => {}
         }
     }
     Err("no registry has failed")?

@@ -1,8 +1,7 @@
 //! Readers and writers that fail under a stream, at each byte.
-use crate::exchange::{TURNS, expect_rows, new_in_memory, serve};
-use crate::streams::{THEIR_REPLIES, THREE};
-use pid_http::serve_stream;
-use pid_http_stream::StreamEnd;
+use crate::exchange::{TURNS, serve_new};
+use crate::streams::{NO_ITEMS, THEIR_REPLIES, THREE};
+use pid_http_stream::{Served, StreamEnd};
 use pid_ident::{FaultyInput, FaultyOutput, WriteFault};
 use std::alloc::Global;
 use std::process::Abort;
@@ -11,23 +10,51 @@ use std::test::Fail;
 // The first request has 79 bytes and its reply 82, the second 25 and 98.
 const REQUESTS: [usize; 2] = [79, 104];
 
-const REPLIES: [usize; 3] = [0, 82, 180];
+const REPLIES: [usize; 2] = [82, 180];
 
-// The requests that came whole are answered.
+// How many of these ends are within so many bytes.
+fn whole_in(ends: [usize; 2], bytes: usize) -> u64 {
+    if bytes < ends[0] {
+        0
+    } else if bytes < ends[1] {
+        1
+    } else {
+        2
+    }
+}
+
+// How many bytes the first replies have.
+fn length_of(replies: u64) -> usize {
+    match replies {
+        0 => 0,
+        1 => REPLIES[0],
+        _ => REPLIES[1],
+    }
+}
+
+// Whether the output is the first bytes of the replies, so many.
+fn are_first(output: &FaultyOutput, count: usize) -> bool {
+    output.taken.len() == count && THEIR_REPLIES.starts_with(&output.taken)
+}
+
+// Whether after so many good reads the requests that came whole are answered.
+fn answers_what_came(alloc: Global, good: usize) -> Result<bool, Fail> {
+    let mut input = FaultyInput::new(THREE, 1).failing_after(good as u64);
+    let mut output = FaultyOutput::new(alloc, 4_096);
+    let session = serve_new(alloc, &mut input, &mut output, TURNS, &[])?;
+    let answered = whole_in(REQUESTS, good);
+    let end = StreamEnd::ReadFault;
+    Ok(
+        session.served == Served { answered, end }
+            && are_first(&output, length_of(answered))
+            && session.is_live,
+    )
+}
+
 #[test]
 fn each_read_fails(rt: HostRuntime) -> Result<(), Fail> {
-    let alloc = rt.alloc();
     for good in 0..=THREE.len() {
-        let mut registry = new_in_memory(alloc)?;
-        let mut input = FaultyInput::new(THREE, 1).failing_after(good as u64);
-        let outcome = serve(alloc, &mut registry, &mut input, TURNS);
-        let whole = REQUESTS.iter().filter(|end| **end <= good).count();
-        assert_eq!(rt; outcome.served.end, StreamEnd::ReadFault);
-        assert_eq!(rt; outcome.served.answered, whole as u64);
-        let length = REPLIES.get(whole).copied().unwrap_or(0);
-        let told = THEIR_REPLIES.get(..length).unwrap_or(THEIR_REPLIES);
-        assert_eq!(rt; outcome.written.as_slice(), told);
-        assert!(rt; registry.is_live());
+        assert!(rt; answers_what_came(rt.alloc(), good)?, "{good}");
     }
     Ok(())
 }
@@ -36,20 +63,21 @@ const IMPORT: &[u8] =
     b"POST /import HTTP/1.1\r\nX-Account: root\r\nContent-Length: 27\r\n\r\n8086  Intel\n\
         10ec  Realtek\n\n";
 
-const NO_ITEMS: &str = "GET /pci.ids | 200 OK text # PCI ID registry;\n";
+// Whether of the file after so many good reads nothing stays.
+fn keeps_nothing(alloc: Global, good: usize) -> Result<bool, Fail> {
+    let mut input = FaultyInput::new(IMPORT, 1).failing_after(good as u64);
+    let mut output = FaultyOutput::new(alloc, 4_096);
+    let rows = [(NO_ITEMS, StreamEnd::Clean)];
+    let session = serve_new(alloc, &mut input, &mut output, TURNS, &rows)?;
+    let (answered, end) = (0, StreamEnd::ReadFault);
+    Ok(session.served == Served { answered, end } && output.taken.is_empty())
+}
 
 // Of a file that does not come whole nothing stays.
 #[test]
 fn each_read_of_a_file_fails(rt: HostRuntime) -> Result<(), Fail> {
-    let alloc = rt.alloc();
     for good in 0..IMPORT.len() {
-        let mut registry = new_in_memory(alloc)?;
-        let mut input = FaultyInput::new(IMPORT, 1).failing_after(good as u64);
-        let outcome = serve(alloc, &mut registry, &mut input, TURNS);
-        assert_eq!(rt; outcome.served.end, StreamEnd::ReadFault);
-        assert_eq!(rt; outcome.served.answered, 0);
-        assert_eq!(rt; outcome.written.len(), 0);
-        expect_rows(&rt, alloc, &mut registry, NO_ITEMS, StreamEnd::Clean)?;
+        assert!(rt; keeps_nothing(rt.alloc(), good)?, "{good}");
     }
     Ok(())
 }
@@ -59,22 +87,23 @@ const KNOWN: &str =
     r#"POST /submit alice path=PC/8086&name=Intel+Corporation | 200 OK json {"num":1,"ok":true}
 "#;
 
-// The writer takes a byte a call, and fails after each count of them. The replies that went out
-// whole are counted, and their commands stay.
+// Whether, with a writer that fails after so many bytes, the replies that went out whole are
+// counted, and their commands stay.
+fn counts_what_went(alloc: Global, good: usize, fault: WriteFault) -> Result<bool, Fail> {
+    let answered = whole_in(REPLIES, good);
+    let known = if answered > 0 { KNOWN } else { "" };
+    let mut input = FaultyInput::new(THREE, 50);
+    let mut output = FaultyOutput::new(alloc, 1).failing_after(good as u64, fault);
+    let rows = [(known, StreamEnd::Clean)];
+    let session = serve_new(alloc, &mut input, &mut output, TURNS, &rows)?;
+    let end = StreamEnd::WriteFault;
+    Ok(session.served == Served { answered, end } && are_first(&output, good) && session.is_live)
+}
+
+// The writer takes a byte a call, and fails after each count of them.
 fn each_write_fails(rt: &impl Abort, alloc: Global, fault: WriteFault) -> Result<(), Fail> {
     for good in 0..THEIR_REPLIES.len() {
-        let mut registry = new_in_memory(alloc)?;
-        let mut input = FaultyInput::new(THREE, 50);
-        let mut output = FaultyOutput::new(alloc, 1).failing_after(good as u64, fault);
-        let served = serve_stream(alloc, &mut registry, &mut input, &mut output, TURNS);
-        let whole = REPLIES.iter().skip(1).filter(|end| **end <= good).count();
-        assert_eq!(rt; served.end, StreamEnd::WriteFault);
-        assert_eq!(rt; served.answered, whole as u64);
-        assert_eq!(rt; output.taken.as_slice(), &THEIR_REPLIES[..good]);
-        assert!(rt; registry.is_live());
-        if served.answered > 0 {
-            expect_rows(rt, alloc, &mut registry, KNOWN, StreamEnd::Clean)?;
-        }
+        assert!(rt; counts_what_went(alloc, good, fault)?, "{good}");
     }
     Ok(())
 }

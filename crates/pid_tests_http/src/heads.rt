@@ -1,133 +1,98 @@
 //! Streams that are refused, each with its status, its refusal and its length.
 use crate::desk::serve;
-use pid_http_stream::StreamEnd;
+use crate::lines::{push_reply, push_request};
+use pid_http_stream::{Served, StreamEnd};
 use std::alloc::Global;
 use std::test::Fail;
 
-const BAD_HEAD: &str =
-    "HTTP/1.1 400 Bad Request\r\nContent-Type: application/json\r\nContent-Length: 42\r\n\
-        Connection: close\r\n\r\n{\"ok\":false,\"refused\":20,\"word\":\"BadHead\"}";
+const BAD_HEAD: &str = r#"400 Bad Request close json {"ok":false,"refused":20,"word":"BadHead"}"#;
 
-const ENCODING: &str = "HTTP/1.1 501 Not Implemented\r\nContent-Type: application/json\r\n\
-        Content-Length: 43\r\nConnection: close\r\n\r\n\
-        {\"ok\":false,\"refused\":22,\"word\":\"Encoding\"}";
+const ENCODING: &str =
+    r#"501 Not Implemented close json {"ok":false,"refused":22,"word":"Encoding"}"#;
 
-const TOO_LONG: &str = "HTTP/1.1 413 Payload Too Large\r\nContent-Type: application/json\r\n\
-        Content-Length: 46\r\nConnection: close\r\n\r\n\
-        {\"ok\":false,\"refused\":21,\"word\":\"BodyTooLong\"}";
+const TOO_LONG: &str =
+    r#"413 Payload Too Large close json {"ok":false,"refused":21,"word":"BodyTooLong"}"#;
 
-const SHORT: &str =
-    "HTTP/1.1 400 Bad Request\r\nContent-Type: application/json\r\nContent-Length: 44\r\n\
-        Connection: close\r\n\r\n{\"ok\":false,\"refused\":23,\"word\":\"BodyShort\"}";
+const SHORT: &str = r#"400 Bad Request close json {"ok":false,"refused":23,"word":"BodyShort"}"#;
+
+const BAD_HEADS: &str = "\
+RAW GET / HTTP/1.1~
+RAW POST / HTTP/1.1~Content-Length: 1~Content-Length: 1~~a
+RAW POST / HTTP/1.1~Content-Length: x~~
+RAW POST / HTTP/1.1~Content-Length: +1~~a
+RAW POST / HTTP/1.1~Content-Length:~~
+RAW \r~
+";
+
+const ENCODED: &str = "\
+RAW POST / HTTP/1.1~Transfer-Encoding: chunked~~
+RAW POST / HTTP/1.1~Content-Length: x~transfer-encoding: gzip~~
+";
+
+const LONG_BODIES: &str = "\
+RAW POST / HTTP/1.1~Content-Length: 4194305~~
+RAW POST / HTTP/1.1~Content-Length: 999999999999999999999999999999~~
+";
+
+const SHORT_BODIES: &str = "\
+RAW POST /echo HTTP/1.1~Content-Length: 4~~abc
+RAW POST /import HTTP/1.1~X-Account: root~Content-Length: 20~~8086  Int
+";
 
 // Whether the stream, however it is cut, gets this reply alone and ends so.
-fn is_refused(alloc: Global, stream: &[u8], reply: &str, end: StreamEnd) -> bool {
+fn is_refused(alloc: Global, stream: &[u8], reply: &[u8], end: StreamEnd) -> bool {
+    let wanted = Served { answered: 1, end };
     for most in [1, 7, 4096, 100_000] {
         let outcome = serve(alloc, stream, most, 100_000);
-        if outcome.served.end != end || outcome.served.answered != 1 {
-            return false;
-        }
-        if outcome.written.as_slice() != reply.as_bytes() {
+        if outcome.served != wanted || outcome.written.as_slice() != reply {
             return false;
         }
     }
     true
 }
 
-#[test]
-fn heads_are_refused(rt: HostRuntime) -> Result<(), Fail> {
-    let alloc = rt.alloc();
-    let end = StreamEnd::HeadFault;
-    assert!(&rt; is_refused(alloc, b"GET / HTTP/1.1\r\n", BAD_HEAD, end));
-    assert!(&rt;
-        is_refused(
-            alloc,
-            b"POST / HTTP/1.1\r\nContent-Length: 1\r\nContent-Length: 1\r\n\r\na",
-            BAD_HEAD,
-            end
-        )
-    );
-    assert!(&rt;
-        is_refused(
-            alloc,
-            b"POST / HTTP/1.1\r\nContent-Length: x\r\n\r\n",
-            BAD_HEAD,
-            end
-        )
-    );
-    assert!(&rt;
-        is_refused(
-            alloc,
-            b"POST / HTTP/1.1\r\nContent-Length: +1\r\n\r\na",
-            BAD_HEAD,
-            end
-        )
-    );
-    assert!(&rt;
-        is_refused(
-            alloc,
-            b"POST / HTTP/1.1\r\nContent-Length:\r\n\r\n",
-            BAD_HEAD,
-            end
-        )
-    );
-    assert!(&rt;
-        is_refused(
-            alloc,
-            b"POST / HTTP/1.1\r\nTransfer-Encoding: chunked\r\n\r\n",
-            ENCODING,
-            end
-        )
-    );
-    assert!(&rt;
-        is_refused(
-            alloc,
-            b"POST / HTTP/1.1\r\nContent-Length: x\r\ntransfer-encoding: gzip\r\n\r\n",
-            ENCODING,
-            end
-        )
-    );
-    assert!(&rt; is_refused(alloc, b"\r\r\n", BAD_HEAD, end));
+// Whether the bytes of a line (`crate::lines`) are refused so.
+fn is_line_refused(alloc: Global, line: &str, reply: &str, end: StreamEnd) -> Result<bool, Fail> {
+    let mut stream = String::new(alloc);
+    push_request(alloc, &mut stream, line)?;
+    let mut replied = String::new(alloc);
+    push_reply(alloc, &mut replied, reply)?;
+    Ok(is_refused(alloc, stream.as_bytes(), replied.as_bytes(), end))
+}
+
+fn try_lines(alloc: Global, lines: &str, reply: &str, end: StreamEnd) -> Result<(), Fail> {
+    for line in lines.lines() {
+        if !is_line_refused(alloc, line, reply, end)? {
+            return Err(line)?;
+        }
+    }
     Ok(())
 }
 
 #[test]
+fn heads_are_refused(rt: HostRuntime) -> Result<(), Fail> {
+    try_lines(rt.alloc(), BAD_HEADS, BAD_HEAD, StreamEnd::HeadFault)?;
+    try_lines(rt.alloc(), ENCODED, ENCODING, StreamEnd::HeadFault)
+}
+
+#[test]
 fn bodies_are_refused(rt: HostRuntime) -> Result<(), Fail> {
-    let alloc = rt.alloc();
-    let end = StreamEnd::BodyFault;
-    assert!(&rt;
-        is_refused(
-            alloc,
-            b"POST / HTTP/1.1\r\nContent-Length: 4194305\r\n\r\n",
-            TOO_LONG,
-            end
-        )
-    );
-    assert!(&rt;
-        is_refused(
-            alloc,
-            b"POST / HTTP/1.1\r\nContent-Length: 999999999999999999999999999999\r\n\r\n",
-            TOO_LONG,
-            end
-        )
-    );
-    assert!(&rt;
-        is_refused(
-            alloc,
-            b"POST /echo HTTP/1.1\r\nContent-Length: 4\r\n\r\nabc",
-            SHORT,
-            end
-        )
-    );
-    assert!(&rt;
-        is_refused(
-            alloc,
-            b"POST /import HTTP/1.1\r\nX-Account: root\r\nContent-Length: 20\r\n\r\n8086  Int",
-            SHORT,
-            end
-        )
-    );
-    Ok(())
+    try_lines(rt.alloc(), LONG_BODIES, TOO_LONG, StreamEnd::BodyFault)?;
+    try_lines(rt.alloc(), SHORT_BODIES, SHORT, StreamEnd::BodyFault)
+}
+
+const REFUSED_HEAD: &[u8] =
+    b"HTTP/1.1 400 Bad Request\r\nContent-Type: application/json\r\nContent-Length: 42\r\n\
+        Connection: close\r\n\r\n{\"ok\":false,\"refused\":20,\"word\":\"BadHead\"}";
+
+// Whether the stream alone is answered, or its head refused.
+fn is_judged(alloc: Global, stream: &[u8], most: usize, is_good: bool) -> bool {
+    if is_good {
+        let (answered, end) = (1, StreamEnd::Clean);
+        serve(alloc, stream, most, 100).served == Served { answered, end }
+    } else {
+        is_refused(alloc, stream, REFUSED_HEAD, StreamEnd::HeadFault)
+    }
 }
 
 // A request whose head has so many bytes, by one long field.
@@ -144,15 +109,13 @@ fn head_of(alloc: Global, length: usize) -> Result<Vec<u8>, Fail> {
 #[test]
 fn long_heads(rt: HostRuntime) -> Result<(), Fail> {
     let alloc = rt.alloc();
-    let good = head_of(alloc, 16_384)?;
-    let outcome = serve(alloc, &good, 4096, 100);
-    assert_eq!(rt; outcome.served.answered, 1);
-    assert_eq!(rt; outcome.served.end, StreamEnd::Clean);
-    let long = head_of(alloc, 16_385)?;
-    assert!(&rt; is_refused(alloc, &long, BAD_HEAD, StreamEnd::HeadFault));
+    for (length, is_good) in [(16_384, true), (16_385, false)] {
+        let stream = head_of(alloc, length)?;
+        assert!(rt; is_judged(alloc, &stream, 4096, is_good), "{length}");
+    }
     let mut unended = head_of(alloc, 16_389)?;
     unended.truncate(16_385);
-    assert!(&rt; is_refused(alloc, &unended, BAD_HEAD, StreamEnd::HeadFault));
+    assert!(rt; is_judged(alloc, &unended, 4096, false));
     Ok(())
 }
 
@@ -168,12 +131,9 @@ fn fields_of(alloc: Global, count: usize) -> Result<Vec<u8>, Fail> {
 
 #[test]
 fn many_fields(rt: HostRuntime) -> Result<(), Fail> {
-    let alloc = rt.alloc();
-    let good = fields_of(alloc, 32)?;
-    let outcome = serve(alloc, &good, 100, 100);
-    assert_eq!(rt; outcome.served.answered, 1);
-    assert_eq!(rt; outcome.served.end, StreamEnd::Clean);
-    let many = fields_of(alloc, 33)?;
-    assert!(&rt; is_refused(alloc, &many, BAD_HEAD, StreamEnd::HeadFault));
+    for (count, is_good) in [(32, true), (33, false)] {
+        let stream = fields_of(rt.alloc(), count)?;
+        assert!(rt; is_judged(rt.alloc(), &stream, 100, is_good), "{count}");
+    }
     Ok(())
 }

@@ -1,10 +1,8 @@
-//! Tests of HTTP, by public functions alone: streams over a small handler and over a registry, the
-//! bodies of replies, and connections of a listener.
+//! Tests of HTTP, by public functions alone: streams over a small handler and over a registry, and
+//! connections of a listener.
 #![tactic(auto)]
 
 pub mod account;
-#[cfg(test)]
-mod bodies;
 pub mod desk;
 #[cfg(test)]
 mod endings;

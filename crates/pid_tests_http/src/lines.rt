@@ -3,7 +3,7 @@
 //! A request is `GET` and a target; or `POST`, a target, the sender and the body, where the sender
 //! is an account, after a key and a slash if there is one; or `RAW` and the bytes themselves. A
 //! reply is its status, ` close` if the stream ends after it, the kind of its content and its
-//! body. In all of them `~` is CRLF and `;` is LF.
+//! body. In all of them `~` is CRLF and `;` is LF. A row is a request, ` | ` and its reply.
 use std::alloc::Global;
 use std::test::Fail;
 
@@ -93,4 +93,16 @@ pub(crate) fn push_reply(alloc: Global, text: &mut String, line: &str) -> Result
         }
     }
     Err("a reply")?
+}
+
+/// Puts the bytes of a row's request, and those of its reply, to others.
+pub(crate) fn push_row(
+    alloc: Global,
+    stream: &mut String,
+    replies: &mut String,
+    row: &str,
+) -> Result<(), Fail> {
+    let (asked, replied) = row.split_once(" | ").ok_or("a row")?;
+    push_request(alloc, stream, asked)?;
+    push_reply(alloc, replies, replied)
 }

@@ -1,10 +1,9 @@
 //! Out of memory within a stream. With memory for all, the replies are those to the stream; `rt
 //! try --test --fail-alloc N` refuses the N-th request for memory.
-use crate::exchange::{TURNS, new_in_memory, serve};
+use crate::exchange::{TURNS, serve_new};
 use crate::streams::{THEIR_REPLIES, THREE};
 use pid_http_stream::{Served, StreamEnd};
-use pid_ident::FaultyInput;
-use std::process::Abort;
+use pid_ident::{FaultyInput, FaultyOutput};
 use std::test::Fail;
 
 // Where each reply begins and ends among those to the stream.
@@ -26,9 +25,9 @@ fn behind<'a>(written: &'a [u8], reply: &[u8]) -> Option<&'a [u8]> {
     None
 }
 
-// Asserts that the replies are there, so many as were answered, and after them nothing, or a prefix
-// of the text of all items.
-fn expect_replies(rt: &impl Abort, written: &[u8], answered: u64, end: StreamEnd) {
+// Whether the replies are there, so many as were answered, and after them nothing, or a prefix of
+// the text of all items.
+fn are_answers(written: &[u8], answered: u64, end: StreamEnd) -> bool {
     let mut rest = written;
     let mut found: u64 = 0;
     for (from, to) in REPLIES {
@@ -38,27 +37,23 @@ fn expect_replies(rt: &impl Abort, written: &[u8], answered: u64, end: StreamEnd
             found = found.saturating_add(1);
         }
     }
-    assert_eq!(rt; found, answered);
     let text = THEIR_REPLIES.get(82..180).unwrap_or(b"");
-    match end {
-        StreamEnd::BodyFault => assert_eq!(rt; answered, 3),
-        StreamEnd::StoreFault => assert!(rt; answered == 1 && text.starts_with(rest)),
-        _ => assert_eq!(rt; end, StreamEnd::Memory),
-    }
-    assert!(rt; rest.is_empty() || end == StreamEnd::StoreFault);
+    let ends_so = match end {
+        StreamEnd::BodyFault => answered == 3 && rest.is_empty(),
+        StreamEnd::StoreFault => answered == 1 && text.starts_with(rest),
+        _ => end == StreamEnd::Memory && rest.is_empty(),
+    };
+    found == answered && ends_so
 }
 
 #[test]
 fn want_of_memory_is_told(rt: HostRuntime) -> Result<(), Fail> {
-    let alloc = rt.alloc();
-    let mut registry = new_in_memory(alloc)?;
     let mut input = FaultyInput::new(THREE, 65_536);
-    let outcome = serve(alloc, &mut registry, &mut input, TURNS);
-    let Served { answered, end } = outcome.served;
+    let mut output = FaultyOutput::new(rt.alloc(), 4_096);
+    let session = serve_new(rt.alloc(), &mut input, &mut output, TURNS, &[])?;
+    let Served { answered, end } = session.served;
     // The writer of this test has no memory for what it takes.
-    if end == StreamEnd::WriteFault {
-        return Ok(());
-    }
-    expect_replies(&rt, outcome.written.as_slice(), answered, end);
+    let is_lost = end == StreamEnd::WriteFault;
+    assert!(rt; is_lost || are_answers(&output.taken, answered, end));
     Ok(())
 }

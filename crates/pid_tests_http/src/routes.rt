@@ -1,9 +1,10 @@
 //! Each route in both formats, with its refusals: rows of a request and of its reply, in turn over
 //! one registry.
-use crate::exchange::{expect, expect_rows, new_in_memory};
-use crate::lines::{push_reply, push_request};
-use pid_http_stream::StreamEnd;
+use crate::exchange::{are_replies, try_over_new};
+use crate::lines::{push_reply, push_row};
+use pid_http_stream::{Served, StreamEnd};
 use pid_ident::FaultyInput;
+use std::alloc::Global;
 use std::test::Fail;
 
 const FIRST_NAME: &str = r#"POST /account root who=alice&rank=0 | 200 OK json {"ok":true}
@@ -162,6 +163,7 @@ POST /import?path=x root 8086  I; | 400 Bad Request json {\"ok\":false,\"refused
 GET /pci.ids | 200 OK text # PCI ID registry;10ec  Realtek;8086  Intel;\t1237  440FX;
 GET /children?format=text | 200 OK text PC/10ec Realtek;PC/8086 Intel;
 GET /children?of=PC/8086 | 200 OK json [{\"name\":\"440FX\",\"path\":\"PC/8086/1237\"}]
+GET /read/PC/8086 | 200 OK json {\"name\":\"Intel\",\"path\":\"PC/8086\"}
 GET /lookup?flags=3&vendor=8086&device=1237 | 200 OK bytes Intel 440FX
 POST /submit alice path=PC/8086&remove=yes | 200 OK json {\"num\":5,\"ok\":true}
 POST /approve root num=5 | 409 Conflict json {\"ok\":false,\"refused\":12,\"word\":\"HasChildren\"}
@@ -175,6 +177,10 @@ POST /approve root num=1 | 200 OK json {"ok":true}
 POST /import?format=text i1/root 8086  Intel Corporation;10ec  Realtek; | 200 OK text ok added=1 renamed=0 same=1;
 POST /import?format=text i1/root 10ec  J; | 200 OK text ok added=1 renamed=0 same=1;
 GET /changes?since=3 | 200 OK json {"items":[{"name":"Realtek","path":"PC/10ec","since":4}],"revision":4}
+GET /changes?since=3&format=text | 200 OK text revision 4;4 PC/10ec Realtek;
+GET /children | 200 OK json [{"name":"Realtek","path":"PC/10ec"},\
+{"name":"Intel Corporation","path":"PC/8086"}]
+GET /children?format=text | 200 OK text PC/10ec Realtek;PC/8086 Intel Corporation;
 GET /changes?format=text | 200 OK text revision 4;4 PC/10ec Realtek;3 PC/8086 Intel Corporation;
 GET /changes?format=text&after=PC/10ec&since=0 | 200 OK text revision 4;3 PC/8086 Intel Corporation;
 GET /changes?after=PC/8086 | 200 OK json {"items":[],"revision":4}
@@ -195,23 +201,53 @@ POST /approve root num=2 | 200 OK json {"ok":true}
 GET /changes?format=text | 200 OK text revision 6;3 PC/8086 Intel Corporation;
 "#;
 
+// What the lists and a submission of a removal look like.
+const REMOVALS: &str = r#"POST /account root who=alice&rank=0 | 200 OK json {"ok":true}
+POST /submit?format=text alice path=PC/8086&remove=yes | 200 OK text ok 1;
+GET /pending | 200 OK json [{"author":"alice","name":null,"num":1,"path":"PC/8086"}]
+GET /pending?format=text | 200 OK text 1 alice remove PC/8086;
+POST /submit?format=text alice path=PC/8086&remove=yes | 200 OK text ok 2;
+POST /comment alice num=2&text=seen | 200 OK json {"ok":true}
+POST /comment root num=2&text=so+be+it | 200 OK json {"ok":true}
+POST /withdraw alice num=2 | 200 OK json {"ok":true}
+GET /submission/2 | 200 OK json {"author":"alice","decider":"alice","name":null,"note":"","num":2,\
+"path":"PC/8086","reason":"","remarks":[{"author":"alice","text":"seen"},\
+{"author":"root","text":"so be it"}],"state":"withdrawn"}
+GET /submission/2?format=text | 200 OK text num 2;author alice;path PC/8086;remove;note ;\
+state withdrawn;decider alice;reason ;remark alice seen;remark root so be it;
+"#;
+
 const ALL: [&str; 5] = [FIRST_NAME, READS, COMMANDS, DISCUSSION, IMPORTS];
 
 #[test]
 fn each_route_answers(rt: HostRuntime) -> Result<(), Fail> {
-    let alloc = rt.alloc();
-    let mut registry = new_in_memory(alloc)?;
-    for rows in ALL {
-        expect_rows(&rt, alloc, &mut registry, rows, StreamEnd::Clean)?;
-    }
-    Ok(())
+    let rows = [
+        (FIRST_NAME, StreamEnd::Clean),
+        (READS, StreamEnd::Clean),
+        (COMMANDS, StreamEnd::Clean),
+        (DISCUSSION, StreamEnd::Clean),
+        (IMPORTS, StreamEnd::Clean),
+    ];
+    try_over_new(rt.alloc(), &rows)
 }
 
 #[test]
-fn changes_are_told(rt: HostRuntime) -> Result<(), Fail> {
-    let alloc = rt.alloc();
-    let mut registry = new_in_memory(alloc)?;
-    expect_rows(&rt, alloc, &mut registry, CHANGES, StreamEnd::Clean)
+fn lists_and_changes_are_told(rt: HostRuntime) -> Result<(), Fail> {
+    try_over_new(rt.alloc(), &[(CHANGES, StreamEnd::Clean)])?;
+    try_over_new(rt.alloc(), &[(REMOVALS, StreamEnd::Clean)])
+}
+
+// Puts all requests and their replies to others; how many there are.
+fn push_all(alloc: Global, stream: &mut String, replies: &mut String) -> Result<u64, Fail> {
+    let mut count = 0u64;
+    for rows in ALL {
+        let rows = rows.replace(alloc, "\\\n", "")?;
+        for row in rows.lines() {
+            push_row(alloc, stream, replies, row)?;
+            count = count.saturating_add(1);
+        }
+    }
+    Ok(count)
 }
 
 // All requests in one stream, in one chunk and in many.
@@ -220,61 +256,43 @@ fn requests_follow_one_another(rt: HostRuntime) -> Result<(), Fail> {
     let alloc = rt.alloc();
     let mut stream = String::new(alloc);
     let mut replies = String::new(alloc);
-    let mut count = 0u64;
-    for rows in ALL {
-        let rows = rows.replace(alloc, "\\\n", "")?;
-        for row in rows.lines() {
-            let (asked, replied) = row.split_once(" | ").ok_or("a row")?;
-            push_request(alloc, &mut stream, asked)?;
-            push_reply(alloc, &mut replies, replied)?;
-            count = count.saturating_add(1);
-        }
-    }
+    let answered = push_all(alloc, &mut stream, &mut replies)?;
+    let end = StreamEnd::Clean;
     for most in [1_000_000, 4_096, 7] {
-        let mut registry = new_in_memory(alloc)?;
         let mut input = FaultyInput::new(stream.as_bytes(), most);
-        let replies = replies.as_bytes();
-        expect(
-            &rt,
-            alloc,
-            &mut registry,
-            &mut input,
-            replies,
-            count,
-            StreamEnd::Clean,
+        let served = Served { answered, end };
+        assert!(rt;
+            are_replies(alloc, &mut input, replies.as_bytes(), served)?,
+            "{most}"
         );
     }
     Ok(())
 }
 
+const BYTES: &[u8] = b"POST /submit HTTP/1.1\r\nX-Account: root\r\nContent-Length: 2\r\n\r\n\
+        a\xffPOST /import HTTP/1.1\r\nX-Account: root\r\nContent-Length: 4\r\n\r\n#\n#\xff";
+
+const OF_A_FORM: &str = r#"400 Bad Request json {"ok":false,"refused":3,"word":"BadText"}"#;
+
+const OF_A_FILE: &str =
+    r#"422 Unprocessable Entity json {"kind":1,"line":2,"ok":false,"refused":14,"word":"FileFault"}"#;
+
 // Of a form that is not UTF-8 nothing is read; of such a file the line is reported.
 #[test]
 fn bodies_of_any_bytes(rt: HostRuntime) -> Result<(), Fail> {
     let alloc = rt.alloc();
-    let mut registry = new_in_memory(alloc)?;
-    let stream = b"POST /submit HTTP/1.1\r\nX-Account: root\r\nContent-Length: 2\r\n\r\n\
-            a\xffPOST /import HTTP/1.1\r\nX-Account: root\r\nContent-Length: 4\r\n\r\n#\n#\xff";
     let mut replies = String::new(alloc);
-    push_reply(
-        alloc,
-        &mut replies,
-        r#"400 Bad Request json {"ok":false,"refused":3,"word":"BadText"}"#,
-    )?;
-    push_reply(
-        alloc,
-        &mut replies,
-        r#"422 Unprocessable Entity json {"kind":1,"line":2,"ok":false,"refused":14,"word":"FileFault"}"#,
-    )?;
-    let mut input = FaultyInput::new(stream, 100);
-    let replies = replies.as_bytes();
-    expect(
-        &rt,
-        alloc,
-        &mut registry,
-        &mut input,
-        replies,
-        2,
-        StreamEnd::Clean,
+    push_reply(alloc, &mut replies, OF_A_FORM)?;
+    push_reply(alloc, &mut replies, OF_A_FILE)?;
+    let mut input = FaultyInput::new(BYTES, 100);
+    let (answered, end) = (2, StreamEnd::Clean);
+    assert!(rt;
+        are_replies(
+            alloc,
+            &mut input,
+            replies.as_bytes(),
+            Served { answered, end }
+        )?
     );
     Ok(())
 }

@@ -1,8 +1,9 @@
 //! Whole streams, byte for byte, and how they end.
-use crate::exchange::{expect, expect_rows, new_in_memory, serve};
+use crate::exchange::{TURNS, are_replies, serve_new};
 use crate::lines::push_reply;
-use pid_http_stream::StreamEnd;
-use pid_ident::{FaultyInput, Plain};
+use pid_http_stream::{Served, StreamEnd};
+use pid_ident::{FaultyInput, FaultyOutput, Plain};
+use std::alloc::Global;
 use std::io::Read;
 use std::test::Fail;
 
@@ -20,34 +21,25 @@ pub(crate) const THEIR_REPLIES: &[u8] =
         Content-Type: application/json\r\nContent-Length: 44\r\nConnection: close\r\n\r\n\
         {\"ok\":false,\"refused\":23,\"word\":\"BodyShort\"}";
 
+/// How many of them there are, and how the stream ends.
+pub(crate) const THEIR_END: Served = Served {
+    answered: 3,
+    end: StreamEnd::BodyFault,
+};
+
 #[test]
 fn cuts_make_no_difference(rt: HostRuntime) -> Result<(), Fail> {
     let alloc = rt.alloc();
     for most in [1, 65_536] {
-        let mut registry = new_in_memory(alloc)?;
         let mut input = FaultyInput::new(THREE, most);
-        expect(
-            &rt,
-            alloc,
-            &mut registry,
-            &mut input,
-            THEIR_REPLIES,
-            3,
-            StreamEnd::BodyFault,
-        );
+        assert!(rt; are_replies(alloc, &mut input, THEIR_REPLIES, THEIR_END)?);
     }
     for cut in 1..THREE.len() {
         let (front, back) = THREE.split_at(cut);
-        let mut registry = new_in_memory(alloc)?;
         let mut input = Plain::new(front.chain(back));
-        expect(
-            &rt,
-            alloc,
-            &mut registry,
-            &mut input,
-            THEIR_REPLIES,
-            3,
-            StreamEnd::BodyFault,
+        assert!(rt;
+            are_replies(alloc, &mut input, THEIR_REPLIES, THEIR_END)?,
+            "{cut}"
         );
     }
     Ok(())
@@ -94,83 +86,94 @@ json {"ok":false,"refused":23,"word":"BodyShort"}
 RAW PUT /nope HTTP/1.0~Content-Length: 1~~ | 400 Bad Request close json {"ok":false,"refused":23,"word":"BodyShort"}
 "#;
 
-const NOTHING_STAYS: &str = r#"POST /account root who=alice&rank=0 | 200 OK json {"ok":true}
-GET /pci.ids | 200 OK text # PCI ID registry;
+const ALICE: &str = r#"POST /account root who=alice&rank=0 | 200 OK json {"ok":true}
 "#;
 
-// Streams that are refused change nothing, of whom they are sent.
+/// What is exported where there is no item.
+pub(crate) const NO_ITEMS: &str = "GET /pci.ids | 200 OK text # PCI ID registry;\n";
+
+// Line ends alone get no reply. Streams that are refused change nothing, of whom they are sent.
 #[test]
 fn each_end_is_told(rt: HostRuntime) -> Result<(), Fail> {
     let alloc = rt.alloc();
-    let mut registry = new_in_memory(alloc)?;
-    expect_rows(&rt, alloc, &mut registry, NOTHING_STAYS, StreamEnd::Clean)?;
-    expect_rows(&rt, alloc, &mut registry, CLOSED, StreamEnd::Closed)?;
-    expect_rows(&rt, alloc, &mut registry, OPEN, StreamEnd::Clean)?;
-    expect_rows(&rt, alloc, &mut registry, HEADS, StreamEnd::HeadFault)?;
-    expect_rows(&rt, alloc, &mut registry, BODIES, StreamEnd::BodyFault)?;
-    let (_, export) = NOTHING_STAYS.split_once('\n').ok_or("a row")?;
-    expect_rows(&rt, alloc, &mut registry, export, StreamEnd::Clean)?;
+    let rows = [
+        (ALICE, StreamEnd::Clean),
+        (NO_ITEMS, StreamEnd::Clean),
+        (CLOSED, StreamEnd::Closed),
+        (OPEN, StreamEnd::Clean),
+        (HEADS, StreamEnd::HeadFault),
+        (BODIES, StreamEnd::BodyFault),
+        (NO_ITEMS, StreamEnd::Clean),
+    ];
     let mut input = FaultyInput::new(b"\r\n", 1);
-    expect(
-        &rt,
-        alloc,
-        &mut registry,
-        &mut input,
-        b"",
-        0,
-        StreamEnd::Clean,
-    );
-    assert!(rt; registry.is_live());
+    let mut output = FaultyOutput::new(alloc, 1);
+    let session = serve_new(alloc, &mut input, &mut output, TURNS, &rows)?;
+    assert!(rt; session.served == none_answered(StreamEnd::Clean));
+    assert!(rt; output.taken.is_empty() && session.is_live);
     Ok(())
+}
+
+fn none_answered(end: StreamEnd) -> Served {
+    Served { answered: 0, end }
+}
+
+const BAD_HEAD: &str = r#"400 Bad Request close json {"ok":false,"refused":20,"word":"BadHead"}"#;
+
+// A question with so many fields of so many letters each, and what follows these.
+fn head_of(alloc: Global, fields: u32, letters: u32, rest: &[u8]) -> Result<Vec<u8>, Fail> {
+    let mut head = Vec::from_slice(alloc, b"GET /pending HTTP/1.1")?;
+    for _ in 0..fields {
+        head.extend_from_slice(b"\r\na: ")?;
+        for _ in 0..letters {
+            head.push(b'b')?;
+        }
+    }
+    head.extend_from_slice(rest)?;
+    Ok(head)
+}
+
+// Whether the head alone gets one reply, a good one or a refusal.
+fn is_judged(alloc: Global, head: &[u8], is_good: bool) -> Result<bool, Fail> {
+    let (line, end) = if is_good {
+        ("200 OK json []", StreamEnd::Clean)
+    } else {
+        (BAD_HEAD, StreamEnd::HeadFault)
+    };
+    let mut reply = String::new(alloc);
+    push_reply(alloc, &mut reply, line)?;
+    let mut input = FaultyInput::new(head, 1_000);
+    are_replies(
+        alloc,
+        &mut input,
+        reply.as_bytes(),
+        Served { answered: 1, end },
+    )
 }
 
 // A head of so many fields, and of a field of so many letters.
 #[test]
 fn heads_have_limits(rt: HostRuntime) -> Result<(), Fail> {
     let alloc = rt.alloc();
-    let mut refusal = String::new(alloc);
-    let told = r#"400 Bad Request close json {"ok":false,"refused":20,"word":"BadHead"}"#;
-    push_reply(alloc, &mut refusal, told)?;
-    let mut okay = String::new(alloc);
-    push_reply(alloc, &mut okay, "200 OK json []")?;
-    let rows = [
-        (32, 1, "\r\n\r\n", okay.as_bytes(), StreamEnd::Clean),
-        (33, 1, "\r\n\r\n", refusal.as_bytes(), StreamEnd::HeadFault),
-        (1, 16_354, "\r\n\r\n", okay.as_bytes(), StreamEnd::Clean),
-        (
-            1,
-            16_355,
-            "\r\n\r\n",
-            refusal.as_bytes(),
-            StreamEnd::HeadFault,
-        ),
-        (1, 16_359, "", refusal.as_bytes(), StreamEnd::HeadFault),
-    ];
-    for (fields, letters, rest, reply, end) in rows {
-        let mut stream = Vec::from_slice(alloc, b"GET /pending HTTP/1.1")?;
-        for _ in 0..fields {
-            stream.extend_from_slice(b"\r\na: ")?;
-            for _ in 0..letters {
-                stream.push(b'b')?;
-            }
-        }
-        stream.extend_from_slice(rest.as_bytes())?;
-        let mut registry = new_in_memory(alloc)?;
-        let mut input = FaultyInput::new(stream.as_slice(), 1_000);
-        expect(&rt, alloc, &mut registry, &mut input, reply, 1, end);
+    for (fields, letters, is_good) in [
+        (32, 1, true),
+        (33, 1, false),
+        (1, 16_354, true),
+        (1, 16_355, false),
+    ] {
+        let head = head_of(alloc, fields, letters, b"\r\n\r\n")?;
+        assert!(rt; is_judged(alloc, &head, is_good)?, "{letters}");
     }
+    let unended = head_of(alloc, 1, 16_359, b"")?;
+    assert!(rt; is_judged(alloc, &unended, false)?);
     Ok(())
 }
 
 #[test]
 fn turns_are_spent(rt: HostRuntime) -> Result<(), Fail> {
-    let alloc = rt.alloc();
-    let mut registry = new_in_memory(alloc)?;
     let mut input = FaultyInput::new(THREE, 1);
-    let outcome = serve(alloc, &mut registry, &mut input, 1);
-    assert_eq!(rt; outcome.served.end, StreamEnd::TurnsSpent);
-    assert_eq!(rt; outcome.served.answered, 0);
-    assert_eq!(rt; outcome.written.len(), 0);
-    assert_eq!(rt; input.reads, 1);
+    let mut output = FaultyOutput::new(rt.alloc(), 1);
+    let session = serve_new(rt.alloc(), &mut input, &mut output, 1, &[])?;
+    assert!(rt; session.served == none_answered(StreamEnd::TurnsSpent));
+    assert!(rt; output.taken.is_empty() && input.reads == 1);
     Ok(())
 }
