@@ -7,7 +7,7 @@ import tempfile
 import pytest
 
 from examples import example_of
-from program import PROGRAM, TOP, run as run_program
+from program import HEADER, PROGRAM, TOP, run as run_program
 from script_rows import A_MODERATOR, ROWS
 from shims import run_refusing
 
@@ -15,7 +15,8 @@ from shims import run_refusing
 def texts_of(rows):
     """A script of these lines, and its replies."""
     script = "".join(f"{line}\n" for line, _ in rows)
-    return script.encode(), "".join(reply for _, reply in rows).encode()
+    replies = "".join(reply for _, reply in rows)
+    return script.encode(), replies.encode(errors="surrogateescape")
 
 
 SCRIPTS = {
@@ -65,11 +66,26 @@ def refuse_in_turn(cases, shim, name, script, replies):
             return at
 
 
-@pytest.mark.parametrize("name", SCRIPTS)
+@pytest.mark.parametrize("name", sorted({*SCRIPTS, *ROWS}))
 def test_script(cases, name):
-    script, replies = SCRIPTS[name]
+    script, replies = SCRIPTS.get(name) or texts_of(ROWS[name])
     ran = run_program(script, "script")
     cases.equal(f"script: {name}", (ran.out, ran.err, ran.status), (replies, b"", 0))
+
+
+def test_a_thousand_vendors(cases):
+    """Each is submitted, approved and read."""
+    rows, text = [("account root who=bob&rank=0", "ok\n")], HEADER.decode()
+    for number in range(1, 1_001):
+        rows += [
+            (f"submit bob path=PC/{number:04x}&name=a", f"ok {number}\n"),
+            (f"approve root num={number}", "ok\n"),
+            (f"read path=PC/{number:04x}", "name a\n"),
+        ]
+        text += f"{number:04x}  a\n"
+    script, replies = texts_of(rows + [("export", text)])
+    ran = run_program(script, "script")
+    cases.equal("script: a thousand vendors", (ran.out, ran.err, ran.status), (replies, b"", 0))
 
 
 @pytest.mark.needs("gcc")

@@ -4,7 +4,7 @@ import socket
 import subprocess
 import time
 
-from program import PROGRAM
+from program import PROGRAM, WHOLE
 
 JSON, TEXT, BYTES = "application/json", "text/plain; charset=utf-8", "text/plain"
 OK = b'{"ok":true}'
@@ -137,3 +137,10 @@ class Server:
         """What was printed after the first line, and the status."""
         out, err = self.process.communicate(timeout=30)
         return out, err, self.process.returncode
+
+
+def answers(cases, name, database, targets):
+    """A server over the file answers each of these with this text."""
+    with Server(database, program=WHOLE) as server:
+        for target, text in targets.items():
+            cases.equal(f"{name}: {target}", server.curl(target)[2].decode(), text)

@@ -25,6 +25,12 @@ def script(path, *lines):
     return work(b"".join(line.encode() + b"\n" for line in lines), "script", "--db", path)
 
 
+def obeys(cases, name, path, lines):
+    """A script of these lines over the file, each beside its reply, is answered so."""
+    replies = "".join(reply + "\n" for _, reply in lines).encode()
+    cases.equal(name, script(path, *(line for line, _ in lines)), (replies, b"", 0))
+
+
 def moderated(vendors):
     """A moderator's vendors, each submitted and approved."""
     lines = ["account root who=bob&rank=1"]

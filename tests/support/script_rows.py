@@ -168,6 +168,19 @@ ROWS = {
             "flags=a&vendor=1af4&device=0000&subvendor=1af4&subdevice=1100": "text Generic",
         },
     ),
+    "look-ups after another import": look_ups(A_CARD, {}) + [
+        (
+            (
+                "import root file=1af4++Red+Hat%0A%090000++Zero%0A%09%091af4+1100++Per+device"
+                "%0AS+1af4%0A%091100++Generic"
+            ),
+            "ok added=3 renamed=1 same=0\n",
+        ),
+        (
+            "lookup flags=a&vendor=1af4&device=0000&subvendor=1af4&subdevice=1100",
+            "text Generic\n",
+        ),
+    ],
     "flags of look-ups": look_ups(
         ONE_VENDOR,
         {

@@ -1,10 +1,12 @@
 //! Worked runs of commands and questions. Those whose commands have keys are run by `refusals`.
-use crate::asking::{expect_run, expect_told, new_in_memory, told};
+use crate::asking::{
+    expect_line, expect_run, expect_told, first_word, halves, line_of, new_in_memory,
+};
 use pid_ident::Text;
 use pid_model::rows::command_in;
-use pid_moderation::{Act, Refusal, Reply, reply_line};
+use pid_moderation::{Act, Command, Refusal, Reply};
 use pid_service::Registry;
-use sqlite::MemStore;
+use sqlite::Alter;
 use std::alloc::Global;
 use std::process::Abort;
 use std::test::Fail;
@@ -147,142 +149,85 @@ rank alice | 1
 rank root | 3
 ";
 
+// What changed is answered with its numbers.
+const NAMED_ANEW: &str = "\
+account root who=alice&rank=0 | ok
+submit alice path=PC/8086&name=Intel Corporation | ok 1
+approve root num=1 | ok
+import root 8086  Intel Corporation;10ec  Realtek | ok added=1 renamed=0 same=1
+changes 3 | revision 4;4 PC/10ec Realtek;
+changes 0 | revision 4;4 PC/10ec Realtek;3 PC/8086 Intel Corporation;
+changes 0 PC/10ec | revision 4;3 PC/8086 Intel Corporation;
+changes 0 PC/8086 | revision 4;
+import k1/root 10ec  Realtek;>8139  Fast | ok added=1 renamed=0 same=1
+import k1/root 10ec  Other | ok added=1 renamed=0 same=1
+changes 4 | revision 5;5 PC/10ec/8139 Fast;
+import root 8086  Intel | ok added=0 renamed=1 same=0
+changes 4 | revision 6;5 PC/10ec/8139 Fast;6 PC/8086 Intel;
+submit alice path=PC/10ec/8139&remove=yes | ok 2
+approve root num=2 | ok
+changes 4 | revision 8;6 PC/8086 Intel;
+submit carol path=PC/10ec&name=X | refused 4 NoAccount
+changes 8 | revision 8;
+";
+
 #[test]
 fn worked_runs(rt: HostRuntime) -> Result<(), Fail> {
-    for rows in [FAULTY, FORMS, CHILDREN, WAITING, RANKS] {
+    for rows in [FAULTY, FORMS, CHILDREN, WAITING, RANKS, NAMED_ANEW] {
         expect_run(&rt, rt.alloc(), rows)?;
     }
     Ok(())
 }
 
-// The first and the last number of a page.
-pub(crate) fn ends_of(
-    registry: &mut Registry<MemStore>,
-    after: u32,
-) -> Result<(usize, u32, u32), Fail> {
-    let Ok(page) = registry.pending(after) else {
-        return Err("a page")?;
-    };
-    let first = page.first().map_or(0, |pending| pending.number);
-    let last = page.last().map_or(0, |pending| pending.number);
-    Ok((page.len(), first, last))
+// A rejection without a reason.
+fn without_reason(alloc: Global) -> Result<Command, Fail> {
+    let reason = Text::of(alloc, "")?;
+    let mut command = command_in(alloc, "reject k1/root num=1&reason=no")??;
+    command.act = Act::Reject { number: 1, reason };
+    Ok(command)
 }
 
-#[test]
-fn pages_hold_a_hundred(rt: HostRuntime) -> Result<(), Fail> {
-    let alloc = rt.alloc();
-    let mut registry = new_in_memory(alloc)?;
-    for _ in 0..101 {
-        told(&mut registry, alloc, "submit root path=PC/8086&name=a")?;
-    }
-    assert!(rt; ends_of(&mut registry, 0)? == (100, 1, 100));
-    assert!(rt; ends_of(&mut registry, 100)? == (1, 101, 101));
-    assert!(rt; ends_of(&mut registry, 101)? == (0, 0, 0));
-    Ok(())
+const KEPT: &str = "\
+account k1/root who=bob&rank=2 | ok
+submit root path=PC/8086&name=a | ok 1
+";
+
+const STILL_KEPT: &str = "\
+reject k1/root num=1&reason=no | ok
+submission 1 | root PC/8086 a;pending
+";
+
+fn expect_reasons<S: Alter + Drop>(
+    rt: &impl Abort,
+    alloc: Global,
+    registry: &mut Registry<S>,
+) -> Result<(), Fail> {
+    expect_told(rt, alloc, registry, KEPT)?;
+    let outcome = registry.obey(without_reason(alloc)?);
+    assert!(rt; matches!(outcome, Err(Refusal::BadText)));
+    expect_told(rt, alloc, registry, STILL_KEPT)
 }
 
 // What breaks a rule of form is refused before the reply that is kept, whoever made the command.
 #[test]
 fn an_empty_reason_is_refused(rt: HostRuntime) -> Result<(), Fail> {
-    let alloc = rt.alloc();
-    let mut registry = new_in_memory(alloc)?;
-    expect_told(
-        &rt,
-        alloc,
-        &mut registry,
-        "account k1/root who=bob&rank=2 | ok\nsubmit root path=PC/8086&name=a | ok 1\n",
-    )?;
-    let mut command = command_in(alloc, "reject k1/root num=1&reason=no")??;
-    command.act = Act::Reject {
-        number: 1,
-        reason: Text::of(alloc, "")?,
-    };
-    assert!(rt; matches!(registry.obey(command), Err(Refusal::BadText)));
-    expect_told(
-        &rt,
-        alloc,
-        &mut registry,
-        "reject k1/root num=1&reason=no | ok\nsubmission 1 | root PC/8086 a;pending\n",
-    )
+    let mut registry = new_in_memory(rt.alloc())?;
+    expect_reasons(&rt, rt.alloc(), &mut registry)
 }
 
-// A name for each of a thousand vendors, and each of them read: `ok`, nothing else.
-#[test]
-fn a_thousand_vendors(rt: HostRuntime) -> Result<(), Fail> {
-    let alloc = rt.alloc();
-    let mut registry = new_in_memory(alloc)?;
-    expect_told(
-        &rt,
-        alloc,
-        &mut registry,
-        "account root who=bob&rank=0 | ok\n",
-    )?;
-    let mut text = String::from_str(alloc, "# PCI ID registry;")?;
-    for number in 1..1_001u32 {
-        name_and_read(&rt, alloc, &mut registry, number)?;
-        text.push_str(format!(in alloc; "{number:04x}  a;")?.as_str())?;
-    }
-    let exported = told(&mut registry, alloc, "export")?;
-    assert!(rt; exported.as_str() == text.as_str());
-    Ok(())
+fn is_command(row: &str) -> bool {
+    !matches!(first_word(row).0, "export" | "read" | "submission")
 }
 
-fn name_and_read(
-    rt: &impl Abort,
-    alloc: Global,
-    registry: &mut Registry<MemStore>,
-    number: u32,
-) -> Result<(), Fail> {
-    let rows = format!(in alloc;
-        "submit bob path=PC/{number:04x}&name=a | ok {number}\napprove root num={number} | ok\n\
-        read PC/{number:04x} | a\n"
-    )?;
-    expect_told(rt, alloc, registry, rows.as_str())
-}
-
-// The replies of one list, and its fault.
-fn replies_to(
-    registry: &mut Registry<MemStore>,
-    alloc: Global,
-    rows: &str,
-) -> Result<(Vec<Result<Reply, Refusal>>, Option<Refusal>), Fail> {
+// The commands of a run.
+fn commands_of(alloc: Global, rows: &str) -> Result<Vec<Command>, Fail> {
     let mut commands = Vec::new(alloc);
     for row in rows.lines() {
-        let (asked, _) = row.split_once(" | ").ok_or("a row")?;
-        commands.push(command_in(alloc, asked)??)?;
-    }
-    let report = registry.run(commands.as_slice());
-    Ok((report.replies, report.fault))
-}
-
-// The rows of a run that are commands.
-fn commands_of(alloc: Global, rows: &str) -> Result<String, Fail> {
-    let mut commands = String::new(alloc);
-    for row in rows.lines() {
-        let verb = row.split_once(' ').ok_or("a verb")?.0;
-        if !matches!(verb, "export" | "read" | "submission") {
-            commands.push_str(row)?;
-            commands.push('\n')?;
+        if is_command(row) {
+            commands.push(command_in(alloc, halves(row)?.0)??)?;
         }
     }
     Ok(commands)
-}
-
-// One list in place of single commands has the same replies.
-#[test]
-fn lists_are_obeyed(rt: HostRuntime) -> Result<(), Fail> {
-    let alloc = rt.alloc();
-    for run in [DEVICE, REFUSALS] {
-        let rows = commands_of(alloc, run)?;
-        let mut registry = new_in_memory(alloc)?;
-        let (replies, fault) = replies_to(&mut registry, alloc, rows.as_str())?;
-        assert!(rt; fault.is_none());
-        assert!(rt; replies.len() == rows.lines().count());
-        for (reply, row) in replies.iter().zip(rows.lines()) {
-            expect_reply(&rt, alloc, *reply, row)?;
-        }
-    }
-    Ok(())
 }
 
 fn expect_reply(
@@ -291,8 +236,48 @@ fn expect_reply(
     reply: Result<Reply, Refusal>,
     row: &str,
 ) -> Result<(), Fail> {
-    let line = reply_line(alloc, reply)?;
-    let (_, expected) = row.split_once(" | ").ok_or("a row")?;
-    assert_eq!(rt; line.as_str().trim_end(), expected, "at {row}");
+    let line = line_of(alloc, reply)?;
+    expect_line(rt, line.as_str(), halves(row)?.1, row);
+    Ok(())
+}
+
+fn expect_replies(
+    rt: &impl Abort,
+    alloc: Global,
+    replies: &[Result<Reply, Refusal>],
+    rows: &str,
+) -> Result<(), Fail> {
+    let mut at: usize = 0;
+    for row in rows.lines() {
+        if is_command(row) {
+            let reply = replies.get(at).copied().ok_or("a reply")?;
+            expect_reply(rt, alloc, reply, row)?;
+            at = at.saturating_add(1);
+        }
+    }
+    assert!(rt; at == replies.len());
+    Ok(())
+}
+
+// The replies of one list are those of its rows.
+fn expect_list<S: Alter + Drop>(
+    rt: &impl Abort,
+    alloc: Global,
+    registry: &mut Registry<S>,
+    rows: &str,
+) -> Result<(), Fail> {
+    let commands = commands_of(alloc, rows)?;
+    let report = registry.run(commands.as_slice());
+    assert!(rt; report.fault.is_none());
+    expect_replies(rt, alloc, report.replies.as_slice(), rows)
+}
+
+// One list in place of single commands has the same replies.
+#[test]
+fn lists_are_obeyed(rt: HostRuntime) -> Result<(), Fail> {
+    for run in [DEVICE, REFUSALS] {
+        let mut registry = new_in_memory(rt.alloc())?;
+        expect_list(&rt, rt.alloc(), &mut registry, run)?;
+    }
     Ok(())
 }

@@ -4,8 +4,6 @@
 #[cfg(test)]
 mod asking;
 #[cfg(test)]
-mod beside;
-#[cfg(test)]
 mod commands;
 #[cfg(test)]
 mod imports;
@@ -13,8 +11,6 @@ mod imports;
 mod kept_names;
 #[cfg(test)]
 mod lookups;
-#[cfg(test)]
-mod migrations;
 #[cfg(test)]
 mod noted;
 #[cfg(test)]

@@ -3,10 +3,10 @@
 //! it showed before the row or shows after it; and the row is answered once it is sent again, under
 //! its key. If the test itself meets it, it ends with that. Without a refusal these are worked
 //! rows.
+use crate::asking::{expect_line, halves};
 use crate::commands::{DEVICE, IMPORTS, REFUSALS, VENDOR};
-use crate::migrations::MOVED;
 use crate::stops::{
-    ALL, Held, crashed, expect_found, held_older, is_answered, nothing, undisturbed,
+    ALL, Held, Whole, crashed, expect_found, held_older, is_answered, nothing, undisturbed,
 };
 use std::alloc::Global;
 use std::process::Abort;
@@ -37,33 +37,52 @@ changes 0 | revision 6;1 PC/8086 Intel Corporation;1 PS/8086/1100 Board;
 length | 62
 ";
 
-// One row, and what files hold after it; nothing if the row was refused, as no other request is.
+// What the database of schema 1 shows once it is moved.
+const MOVED: &str = "\
+changes 0 | revision 0;
+export | # PCI ID registry;8086  Intel Corporation;
+submission 1 | alice PC/8086 Intel Corporation;approved by root
+";
+
+// Whether a row was answered, and not refused as no other request is. What is found is as it was
+// before the row or as after it.
+fn expect_crash(
+    rt: &impl Abort,
+    alloc: Global,
+    held: &Held,
+    row: &str,
+    whole: &Whole,
+) -> Result<bool, Fail> {
+    let (answer, _, found) = crashed(rt, alloc, held, ALL, row)?;
+    let line = answer.reply.as_str();
+    let kept = expect_found(rt, alloc, &found, row, line, whole);
+    assert!(rt; is_answered(line) || kept.is_ok(), "{line} at {row}");
+    kept?;
+    Ok(is_answered(line))
+}
+
+// One row, and what files hold after it; nothing if the row was refused.
 fn expect_row(
     rt: &impl Abort,
     alloc: Global,
     held: &Held,
     row: &str,
-    expected: &str,
 ) -> Result<Option<Held>, Fail> {
-    let (whole, behind) = undisturbed(alloc, held, row)?;
-    assert_eq!(rt; whole.reply.as_str(), expected, "at {row}");
-    let (line, _, found) = crashed(rt, alloc, held, ALL, row)?;
-    let kept = expect_found(rt, alloc, &found, line.as_str(), row, &whole);
-    if is_answered(line.as_str()) {
-        kept?;
-        return Ok(Some(behind));
+    let (asked, expected) = halves(row)?;
+    let (whole, after) = undisturbed(rt, alloc, held, asked)?;
+    expect_line(rt, whole.reply.as_str(), expected, row);
+    if expect_crash(rt, alloc, held, asked, &whole)? {
+        Ok(Some(after))
+    } else {
+        Ok(None)
     }
-    assert!(rt; kept.is_ok(), "{line} at {row}");
-    kept?;
-    Ok(None)
 }
 
 fn expect_rows(rt: &impl Abort, alloc: Global, held: Held, rows: &str) -> Result<(), Fail> {
     let mut held = held;
     for row in rows.lines() {
-        let (asked, expected) = row.split_once(" | ").ok_or("a row")?;
-        match expect_row(rt, alloc, &held, asked, expected)? {
-            Some(behind) => held = behind,
+        match expect_row(rt, alloc, &held, row)? {
+            Some(after) => held = after,
             None => return Ok(()),
         }
     }
@@ -92,7 +111,7 @@ fn a_refusal_within_refusals_and_questions(rt: HostRuntime) -> Result<(), Fail> 
 #[test]
 fn a_refusal_within_a_migration(rt: HostRuntime) -> Result<(), Fail> {
     let alloc = rt.alloc();
-    let held = held_older(alloc)?;
+    let held = held_older(&rt, alloc)?;
     let (_, _, found) = crashed(&rt, alloc, &held, ALL, "migrate")?;
     expect_rows(&rt, alloc, found, MOVED)?;
     expect_rows(&rt, alloc, held, MOVED)

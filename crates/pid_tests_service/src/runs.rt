@@ -1,14 +1,15 @@
 //! Generated commands through the plain registry, which keeps the list of what it accepted, and
 //! through the registry over tables: the same replies, and now and then the same items, changes and
 //! pages.
-use crate::asking::{new_in_memory, proposed, tell_item, told};
-use crate::commands::ends_of;
+use crate::asking::{
+    expect_answer, first_word, item_line, line_of, new_in_memory, owned, proposed, told,
+};
 use pid_ident::{LineKind, Name, Path, PathText};
 use pid_model::rows::{command_by, command_in, fields_of};
 use pid_model::{FileReading, PlainRegistry};
-use pid_moderation::{Command, FileFault, State, Verb, reply_line};
+use pid_moderation::{Command, FileFault, Named, State, Verb};
 use pid_service::Registry;
-use sqlite::MemStore;
+use sqlite::Alter;
 use std::alloc::Global;
 use std::process::Abort;
 use std::test::Fail;
@@ -35,12 +36,12 @@ impl Numbers {
 
     fn one_of<'w>(&mut self, words: &[&'w str]) -> &'w str {
         let at = self.next(words.len() as u64);
-        words.get(at as usize).map_or("", |word| *word)
+        words.get(at as usize).copied().unwrap_or("")
     }
 
     fn path(&mut self) -> &'static str {
         let at = self.next(PATHS.len() as u64);
-        PATHS.get(at as usize).map_or("", |path| path.0)
+        PATHS.get(at as usize).copied().unwrap_or(("", "")).0
     }
 }
 
@@ -116,16 +117,16 @@ fn generated(alloc: Global, numbers: &mut Numbers, submissions: u64) -> Result<S
         0 => {
             let who = numbers.one_of(&ACCOUNTS);
             let rank = numbers.next(4);
-            format!(in alloc; "account {caller} who={who}&rank={rank}")?
+            format!(in alloc; "account {caller} who={who}&rank={rank}")
         }
-        1 | 2 | 3 => format!(in alloc; "submit {caller} path={path}&name={name}")?,
-        4 => format!(in alloc; "submit {caller} path={path}&remove=yes")?,
-        5 => format!(in alloc; "comment {caller} num={number}&text={name}")?,
-        6 => format!(in alloc; "withdraw {caller} num={number}")?,
-        7 => format!(in alloc; "reject {caller} num={number}&reason={name}")?,
-        _ => format!(in alloc; "approve {caller} num={number}")?,
+        1 | 2 | 3 => format!(in alloc; "submit {caller} path={path}&name={name}"),
+        4 => format!(in alloc; "submit {caller} path={path}&remove=yes"),
+        5 => format!(in alloc; "comment {caller} num={number}&text={name}"),
+        6 => format!(in alloc; "withdraw {caller} num={number}"),
+        7 => format!(in alloc; "reject {caller} num={number}&reason={name}"),
+        _ => format!(in alloc; "approve {caller} num={number}"),
     };
-    Ok(row)
+    Ok(row?)
 }
 
 // What the plain registry replies to a row.
@@ -134,22 +135,20 @@ fn by_list(registry: &mut PlainRegistry, alloc: Global, row: &str) -> Result<Str
         Ok(command) => registry.obey(command, FileReading::Good(Vec::new(alloc))),
         Err(refusal) => Err(refusal),
     };
-    let line = reply_line(alloc, outcome)?;
-    Ok(String::from_str(alloc, line.as_str().trim_end())?)
+    line_of(alloc, outcome)
 }
 
 // One command through both.
-fn send(
+fn send_command<S: Alter + Drop>(
     rt: &impl Abort,
     alloc: Global,
+    numbers: &mut Numbers,
     list: &mut PlainRegistry,
-    registry: &mut Registry<MemStore>,
-    row: &str,
+    registry: &mut Registry<S>,
 ) -> Result<(), Fail> {
-    let expected = by_list(list, alloc, row)?;
-    let line = told(registry, alloc, row)?;
-    assert_eq!(rt; line.as_str(), expected.as_str(), "at {row}");
-    Ok(())
+    let row = generated(alloc, numbers, list.submissions() as u64)?;
+    let expected = by_list(list, alloc, row.as_str())?;
+    expect_answer(rt, alloc, registry, row.as_str(), expected.as_str())
 }
 
 fn empty_import(alloc: Global, caller: &str) -> Result<Command, Fail> {
@@ -157,21 +156,32 @@ fn empty_import(alloc: Global, caller: &str) -> Result<Command, Fail> {
     Ok(command_by(alloc, Verb::Import, caller, fields.as_slice())??)
 }
 
+// What the plain registry replies to a file.
+fn file_by_list(
+    list: &mut PlainRegistry,
+    alloc: Global,
+    caller: &str,
+    file: &str,
+) -> Result<String, Fail> {
+    let command = empty_import(alloc, caller)?;
+    let outcome = list.obey(command, reading_of(alloc, file)?);
+    line_of(alloc, outcome)
+}
+
 // One file through both.
-fn send_file(
+fn send_file<S: Alter + Drop>(
     rt: &impl Abort,
     alloc: Global,
+    numbers: &mut Numbers,
     list: &mut PlainRegistry,
-    registry: &mut Registry<MemStore>,
-    caller: &str,
-    file: (&str, &str),
+    registry: &mut Registry<S>,
 ) -> Result<(), Fail> {
-    let outcome = list.obey(empty_import(alloc, caller)?, reading_of(alloc, file.1)?);
-    let expected = reply_line(alloc, outcome)?;
+    let caller = numbers.one_of(&CALLERS);
+    let drawn = numbers.next(FILES.len() as u64) as usize;
+    let file = FILES.get(drawn).copied().unwrap_or(("", ""));
+    let expected = file_by_list(list, alloc, caller, file.1)?;
     let row = format!(in alloc; "slowly {caller} {}", file.0)?;
-    let line = told(registry, alloc, row.as_str())?;
-    assert_eq!(rt; line.as_str(), expected.as_str().trim_end(), "at {row}");
-    Ok(())
+    expect_answer(rt, alloc, registry, row.as_str(), expected.as_str())
 }
 
 // The name of a path in the list, or the empty text, and the number of the command that it is from.
@@ -181,73 +191,115 @@ struct Shown {
     since: u64,
 }
 
-// What the list shows of each path after a command. A name that was other before is of that
-// command.
-fn shown_behind(alloc: Global, list: &PlainRegistry, before: &[Shown]) -> Result<Vec<Shown>, Fail> {
+// A name after a command. One that was other before is of that command.
+fn shown_name(
+    alloc: Global,
+    name: &str,
+    before: Option<&Shown>,
+    revision: u64,
+) -> Result<Shown, Fail> {
+    let (old, since) = match before {
+        Some(old) => (old.name.as_str(), old.since),
+        None => ("", 0),
+    };
+    let since = if name == old { since } else { revision };
+    let name = owned(alloc, name)?;
+    Ok(Shown { name, since })
+}
+
+// What the list shows of each path after a command.
+fn shown_after(alloc: Global, list: &PlainRegistry, before: &[Shown]) -> Result<Vec<Shown>, Fail> {
+    let revision = list.revision() as u64;
     let items = list.items()?;
     let mut all = Vec::new(alloc);
     for (at, (text, _)) in PATHS.iter().enumerate() {
         let path = Path::parse(text).ok_or("a path")?;
-        let name = items.get(&path).map_or("", |name| name.as_str());
-        let (old, mut since) = before
-            .get(at)
-            .map_or(("", 0), |old| (old.name.as_str(), old.since));
-        if name != old {
-            since = list.revision() as u64;
-        }
-        let name = String::from_str(alloc, name)?;
-        all.push(Shown { name, since })?;
+        let name = match items.get(&path) {
+            Some(name) => name.as_str(),
+            None => "",
+        };
+        all.push(shown_name(alloc, name, before.get(at), revision)?)?;
     }
     Ok(all)
 }
 
-// What is answered of the items: the export, and those that were named after a revision.
-fn items_in(alloc: Global, all: &[Shown], since: u64) -> Result<(String, String), Fail> {
-    let mut export = String::from_str(alloc, "# PCI ID registry;")?;
-    let mut changes = String::new(alloc);
-    for (shown, (path, front)) in all.iter().zip(PATHS) {
+// What is answered of the items.
+fn export_in(alloc: Global, all: &[Shown]) -> Result<String, Fail> {
+    let mut export = owned(alloc, "# PCI ID registry;")?;
+    for (shown, (_, before)) in all.iter().zip(PATHS) {
         let name = shown.name.as_str();
         if name != "" {
-            export.push_str(format!(in alloc; "{front}{name};")?.as_str())?;
+            export.push_str(format!(in alloc; "{before}{name};")?.as_str())?;
         }
+    }
+    Ok(export)
+}
+
+// What is answered of the items that were named after a revision.
+fn changes_in(alloc: Global, all: &[Shown], revision: usize, since: u64) -> Result<String, Fail> {
+    let mut changes = format!(in alloc; "revision {revision};")?;
+    for (shown, (path, _)) in all.iter().zip(PATHS) {
+        let name = shown.name.as_str();
         if name != "" && shown.since > since {
             changes.push_str(format!(in alloc; "{} {path} {name};", shown.since)?.as_str())?;
         }
     }
-    Ok((export, changes))
+    Ok(changes)
 }
 
-// Adds a submission as pages have it, if it is pending in the list.
-fn tell_pending(
-    told: &mut String,
-    alloc: Global,
-    list: &PlainRegistry,
-    number: usize,
-) -> Result<(), Fail> {
+// A command whose facts have the submission.
+fn comment_on(alloc: Global, number: usize) -> Result<Command, Fail> {
     let row = format!(in alloc; "comment root num={number}&text=a")?;
-    let facts = list.facts(&command_in(alloc, row.as_str())??, &FileReading::TooLong)?;
-    let named = facts.named.ok_or("a submission")?;
-    if let State::Pending = named.state {
-        let author = named.author.as_str();
-        told.push_str(format!(in alloc; "{number} {author} ")?.as_str())?;
-        tell_item(told, alloc, named.path, proposed(&named.proposal))?;
+    Ok(command_in(alloc, row.as_str())??)
+}
+
+// A submission as pages have it, or nothing if it is not pending in the list.
+fn waiting_in(alloc: Global, list: &PlainRegistry, number: usize) -> Result<String, Fail> {
+    let command = comment_on(alloc, number)?;
+    let facts = list.facts(&command, &FileReading::TooLong)?;
+    match &facts.named {
+        Some(named) => waiting_line(alloc, named, number),
+        None => Err(Fail::new("a submission")),
     }
-    Ok(())
+}
+
+fn waiting_line(alloc: Global, named: &Named, number: usize) -> Result<String, Fail> {
+    if !matches!(&named.state, State::Pending) {
+        return Ok(String::new(alloc));
+    }
+    let before = format!(in alloc; "{number} {} ", named.author.as_str())?;
+    item_line(
+        alloc,
+        before.as_str(),
+        named.path,
+        proposed(&named.proposal),
+    )
 }
 
 fn pending_in(alloc: Global, list: &PlainRegistry) -> Result<String, Fail> {
     let mut all = String::new(alloc);
     for number in 1..=list.submissions() {
-        tell_pending(&mut all, alloc, list, number)?;
+        all.push_str(waiting_in(alloc, list, number)?.as_str())?;
     }
     Ok(all)
 }
 
+// The number of the last item of a page.
+fn last_of(page: &str) -> u32 {
+    let mut last = 0;
+    for item in page.split(';') {
+        if let Ok(number) = first_word(item).0.parse::<u32>() {
+            last = number;
+        }
+    }
+    last
+}
+
 // The pages of what is pending have all of it, in their order, and the last one is empty.
-fn expect_pages(
+fn expect_pages<S: Alter + Drop>(
     rt: &impl Abort,
     alloc: Global,
-    registry: &mut Registry<MemStore>,
+    registry: &mut Registry<S>,
     pending: &str,
 ) -> Result<(), Fail> {
     let mut rest = pending;
@@ -259,34 +311,67 @@ fn expect_pages(
         if page.is_empty() {
             break;
         }
-        last = ends_of(registry, last)?.2;
+        last = last_of(page.as_str());
     }
-    assert_eq!(rt; rest, "");
+    assert!(rt; rest.is_empty(), "{rest}");
     Ok(())
 }
 
-// Both show the same items, with the same numbers, and have the same submissions pending.
-fn expect_alike(
+fn expect_changes<S: Alter + Drop>(
     rt: &impl Abort,
     alloc: Global,
     list: &PlainRegistry,
     all: &[Shown],
-    registry: &mut Registry<MemStore>,
+    registry: &mut Registry<S>,
 ) -> Result<(), Fail> {
     let since = list.submissions();
-    let (export, changes) = items_in(alloc, all, since as u64)?;
-    assert_eq!(rt; told(registry, alloc, "export")?.as_str(), export.as_str());
+    let expected = changes_in(alloc, all, list.revision(), since as u64)?;
     let row = format!(in alloc; "changes {since}")?;
-    let revision = list.revision();
-    let expected = format!(in alloc; "revision {revision};{changes}")?;
-    assert_eq!(rt;
-        told(registry, alloc, row.as_str())?.as_str(),
-        expected.as_str()
-    );
+    expect_answer(rt, alloc, registry, row.as_str(), expected.as_str())
+}
+
+// Both show the same items, with the same numbers, and have the same submissions pending.
+fn expect_alike<S: Alter + Drop>(
+    rt: &impl Abort,
+    alloc: Global,
+    list: &PlainRegistry,
+    all: &[Shown],
+    registry: &mut Registry<S>,
+) -> Result<(), Fail> {
+    expect_answer(
+        rt,
+        alloc,
+        registry,
+        "export",
+        export_in(alloc, all)?.as_str(),
+    )?;
+    expect_changes(rt, alloc, list, all, registry)?;
     expect_pages(rt, alloc, registry, pending_in(alloc, list)?.as_str())
 }
 
 const COMMANDS: u64 = 1_500;
+
+// One command through both, and now and then a file.
+fn step<S: Alter + Drop>(
+    rt: &impl Abort,
+    alloc: Global,
+    numbers: &mut Numbers,
+    list: &mut PlainRegistry,
+    registry: &mut Registry<S>,
+    all: &mut Vec<Shown>,
+    at: u64,
+) -> Result<(), Fail> {
+    send_command(rt, alloc, numbers, list, registry)?;
+    *all = shown_after(alloc, list, all.as_slice())?;
+    if at % 25 == 0 {
+        send_file(rt, alloc, numbers, list, registry)?;
+        *all = shown_after(alloc, list, all.as_slice())?;
+    }
+    if at % 100 == 99 {
+        expect_alike(rt, alloc, list, all.as_slice(), registry)?;
+    }
+    Ok(())
+}
 
 #[test]
 fn both_reply_alike(rt: HostRuntime) -> Result<(), Fail> {
@@ -296,19 +381,15 @@ fn both_reply_alike(rt: HostRuntime) -> Result<(), Fail> {
     let mut registry = new_in_memory(alloc)?;
     let mut all = Vec::new(alloc);
     for at in 0..COMMANDS {
-        let row = generated(alloc, &mut numbers, list.submissions() as u64)?;
-        send(&rt, alloc, &mut list, &mut registry, row.as_str())?;
-        all = shown_behind(alloc, &list, all.as_slice())?;
-        if at % 25 == 0 {
-            let caller = numbers.one_of(&CALLERS);
-            let drawn = numbers.next(FILES.len() as u64) as usize;
-            let file = FILES.get(drawn).copied().unwrap_or(("", ""));
-            send_file(&rt, alloc, &mut list, &mut registry, caller, file)?;
-            all = shown_behind(alloc, &list, all.as_slice())?;
-        }
-        if at % 100 == 99 {
-            expect_alike(&rt, alloc, &list, all.as_slice(), &mut registry)?;
-        }
+        step(
+            &rt,
+            alloc,
+            &mut numbers,
+            &mut list,
+            &mut registry,
+            &mut all,
+            at,
+        )?;
     }
     Ok(())
 }

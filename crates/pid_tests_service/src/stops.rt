@@ -1,7 +1,7 @@
 //! The disk stops at a call, and fails each one after: what opening then finds. The contracts say
 //! what a crash may leave; these tests show that the calls get there, over files in memory that keep
 //! what was synced alone.
-use crate::asking::{expect_told, opened, told};
+use crate::asking::{expect_line, expect_told, opened, owned, told};
 use pid_model::rows::OLDER;
 use pid_moderation::Refusal;
 use pid_service::{Registry, Step, migrate, open};
@@ -69,23 +69,48 @@ fn options() -> Options {
     }
 }
 
-// The connection to them, or the files that could not be opened.
-fn connected(
+// What is asked of a connection: a row, and what is shown before and after it; the last row; what is
+// found after the last row, which was answered so; or the tables of schema 1.
+#[derive(Clone, Copy)]
+enum Task<'a> {
+    Whole(&'a str),
+    Last(&'a str),
+    Found(&'a str, &'a str, &'a Whole),
+    Older,
+}
+
+fn done<S: Alter + Drop>(
+    rt: &impl Abort,
     alloc: Global,
-    files: Files<Stopping>,
-) -> Result<Connection<FileStore<Stopping>>, Files<Stopping>> {
-    if !files.may_be_used() {
-        return Err(files);
-    }
-    match Connection::open_files(alloc, files, options()) {
-        Ok(conn) => Ok(conn),
-        Err((_, left)) => Err(left.into_files()),
+    conn: Connection<S>,
+    task: Task<'_>,
+) -> Result<(Whole, Connection<S>), Fail> {
+    match task {
+        Task::Whole(row) => whole_row(alloc, conn, row),
+        Task::Last(row) => answered(rt, alloc, conn, row),
+        Task::Found(row, line, whole) => expect_kept(rt, alloc, conn, row, line, whole),
+        Task::Older => older(alloc, conn),
     }
 }
 
-// The files as they are when the process ends.
-fn left(conn: Connection<FileStore<Stopping>>) -> Files<Stopping> {
-    conn.into_store().close()
+// Does a task over files, if they can be opened, and closes them. No other function names the
+// connection to them: each that does costs the proof its drops.
+fn over_files(
+    rt: &impl Abort,
+    alloc: Global,
+    files: Files<Stopping>,
+    task: Task<'_>,
+) -> Result<(Option<Whole>, Files<Stopping>), Fail> {
+    if !files.may_be_used() {
+        return Ok((None, files));
+    }
+    match Connection::open_files(alloc, files, options()) {
+        Ok(conn) => {
+            let (whole, conn) = done(rt, alloc, conn, task)?;
+            Ok((Some(whole), conn.into_store().close()))
+        }
+        Err((_, left)) => Ok((None, left.into_files())),
+    }
 }
 
 // Whether a further call fails.
@@ -127,7 +152,7 @@ fn answer_to<S: Alter + Drop>(
     if is_answered(line.as_str()) {
         Ok(line)
     } else {
-        Err("no answer")?
+        Err(Fail::new("no answer"))
     }
 }
 
@@ -141,12 +166,40 @@ fn shown<S: Alter + Drop>(registry: &mut Registry<S>, alloc: Global) -> Result<S
     Ok(all)
 }
 
-/// What a row is answered without a stop, and what the registry shows before and after it.
+/// What a row is answered, and what the registry shows before and after it, if that is asked too.
 #[derive(Drop)]
 pub(crate) struct Whole {
     before: String,
     pub(crate) reply: String,
     after: String,
+}
+
+// An answer alone.
+fn answer_alone(alloc: Global, reply: String) -> Whole {
+    Whole {
+        before: String::new(alloc),
+        reply,
+        after: String::new(alloc),
+    }
+}
+
+fn no_answer(alloc: Global) -> Result<Whole, Fail> {
+    Ok(answer_alone(alloc, owned(alloc, NOT_TOLD)?))
+}
+
+fn asked_whole<S: Alter + Drop>(
+    registry: &mut Registry<S>,
+    alloc: Global,
+    row: &str,
+) -> Result<Whole, Fail> {
+    let before = shown(registry, alloc)?;
+    let reply = answer_to(registry, alloc, row)?;
+    let after = shown(registry, alloc)?;
+    Ok(Whole {
+        before,
+        reply,
+        after,
+    })
 }
 
 fn whole_row<S: Alter + Drop>(
@@ -155,37 +208,24 @@ fn whole_row<S: Alter + Drop>(
     row: &str,
 ) -> Result<(Whole, Connection<S>), Fail> {
     let mut registry = opened(alloc, conn)?;
-    let before = shown(&mut registry, alloc)?;
-    let reply = answer_to(&mut registry, alloc, row)?;
-    let after = shown(&mut registry, alloc)?;
-    let whole = Whole {
-        before,
-        reply,
-        after,
-    };
+    let whole = asked_whole(&mut registry, alloc, row)?;
     Ok((whole, registry.close()))
 }
 
 /// A row over files without a stop, and what they hold after it.
-pub(crate) fn undisturbed(alloc: Global, held: &Held, row: &str) -> Result<(Whole, Held), Fail> {
-    match connected(alloc, laid(alloc, held, ALL)?) {
-        Ok(conn) => {
-            let (whole, conn) = whole_row(alloc, conn, row)?;
-            let files = left(conn);
-            let behind = bytes_of(alloc, &files)?;
-            Ok((whole, behind))
-        }
-        Err(_) => Err("a connection")?,
+pub(crate) fn undisturbed(
+    rt: &impl Abort,
+    alloc: Global,
+    held: &Held,
+    row: &str,
+) -> Result<(Whole, Held), Fail> {
+    let files = laid(alloc, held, ALL)?;
+    let (whole, files) = over_files(rt, alloc, files, Task::Whole(row))?;
+    let after = bytes_of(alloc, &files)?;
+    match whole {
+        Some(whole) => Ok((whole, after)),
+        None => Err(Fail::new("a connection")),
     }
-}
-
-// What files hold after these rows; without any they were never opened.
-fn held_behind(alloc: Global, rows: &str) -> Result<Held, Fail> {
-    let mut held = nothing(alloc);
-    for row in rows.lines() {
-        held = undisturbed(alloc, &held, row)?.1;
-    }
-    Ok(held)
 }
 
 // What a registry answers that has failed.
@@ -209,100 +249,94 @@ lookup flags=1&vendor=8086 | refused 18 Failed
 lookup flags=30000 | refused 18 Failed
 ";
 
+// Asserts that memory ran out or the store failed.
+fn expect_passing(rt: &impl Abort, fault: TableFault) {
+    assert!(rt;
+        matches!(fault, TableFault::Memory | TableFault::Store),
+        "{fault}"
+    );
+}
+
 // Opens the connection that a failed opening or a failed registry handed back. It may be shut, but nothing is damaged.
 fn opened_again<S: Alter + Drop>(
     rt: &impl Abort,
     alloc: Global,
     conn: Connection<S>,
-) -> Result<Connection<S>, Fail> {
-    if !conn.is_autocommit() {
-        return Err("a transaction is left")?;
-    }
+) -> Connection<S> {
+    assert!(rt; conn.is_autocommit(), "a transaction is left");
     match open(alloc, conn) {
-        Ok(registry) => Ok(registry.close()),
+        Ok(registry) => registry.close(),
         Err((fault, conn)) => {
-            assert!(rt;
-                matches!(fault, TableFault::Memory | TableFault::Store),
-                "{fault}"
-            );
-            Ok(conn)
+            expect_passing(rt, fault);
+            conn
         }
     }
 }
 
-// Moves the tables and answers nothing. If it failed, memory ran out or the store failed.
-fn migrated<S: Alter + Drop>(
-    rt: &impl Abort,
-    alloc: Global,
-    conn: Connection<S>,
-) -> Result<Connection<S>, Fail> {
-    if !conn.is_autocommit() {
-        return Err("a transaction is left")?;
-    }
+// Moves the tables. If it failed, memory ran out or the store failed.
+fn migrated<S: Alter + Drop>(rt: &impl Abort, alloc: Global, conn: Connection<S>) -> Connection<S> {
     match migrate(alloc, conn) {
         Ok((conn, step)) => {
-            assert_eq!(rt; step, Step::Moved);
-            Ok(conn)
+            assert!(rt; step == Step::Moved);
+            conn
         }
         Err((fault, conn)) => {
-            assert!(rt;
-                matches!(fault, TableFault::Memory | TableFault::Store),
-                "{fault}"
-            );
+            expect_passing(rt, fault);
             opened_again(rt, alloc, conn)
         }
     }
 }
 
-// What the last row is answered, and the connection after it. `migrate` moves the tables and is
-// answered nothing, as is a row of a registry that was not opened. A failed registry says so.
+// The answer of a registry to the last row. One that has failed then says so.
+fn last_answer<S: Alter + Drop>(
+    rt: &impl Abort,
+    alloc: Global,
+    registry: &mut Registry<S>,
+    last: &str,
+) -> Result<Whole, Fail> {
+    let line = told(registry, alloc, last)?;
+    if !registry.is_live() {
+        expect_told(rt, alloc, registry, FAILED)?;
+        assert!(rt; matches!(registry.run(&[]).fault, Some(Refusal::Failed)));
+    }
+    Ok(answer_alone(alloc, line))
+}
+
+// What the last row is answered, and the connection after it, which can be opened again if the
+// registry has failed.
+fn answer_over<S: Alter + Drop>(
+    rt: &impl Abort,
+    alloc: Global,
+    registry: Registry<S>,
+    last: &str,
+) -> Result<(Whole, Connection<S>), Fail> {
+    let mut registry = registry;
+    let answer = last_answer(rt, alloc, &mut registry, last)?;
+    if registry.is_live() {
+        Ok((answer, registry.close()))
+    } else {
+        Ok((answer, opened_again(rt, alloc, registry.close())))
+    }
+}
+
+// The same of a connection. `migrate` moves the tables and is answered nothing, as is a row of a
+// registry that was not opened.
 fn answered<S: Alter + Drop>(
     rt: &impl Abort,
     alloc: Global,
     conn: Connection<S>,
     last: &str,
-) -> Result<(String, Connection<S>), Fail> {
-    if !conn.is_autocommit() {
-        return Err("a transaction is left")?;
-    }
+) -> Result<(Whole, Connection<S>), Fail> {
+    assert!(rt; conn.is_autocommit(), "a transaction is left");
     if last == "migrate" {
-        let conn = migrated(rt, alloc, conn)?;
-        return Ok((String::from_str(alloc, NOT_TOLD)?, conn));
+        return Ok((no_answer(alloc)?, migrated(rt, alloc, conn)));
     }
     match open(alloc, conn) {
-        Ok(mut registry) => {
-            let line = told(&mut registry, alloc, last)?;
-            if registry.is_live() {
-                return Ok((line, registry.close()));
-            }
-            expect_told(rt, alloc, &mut registry, FAILED)?;
-            assert!(rt; matches!(registry.run(&[]).fault, Some(Refusal::Failed)));
-            Ok((line, opened_again(rt, alloc, registry.close())?))
-        }
+        Ok(registry) => answer_over(rt, alloc, registry, last),
         Err((fault, conn)) => {
-            assert!(rt;
-                matches!(fault, TableFault::Memory | TableFault::Store),
-                "{fault}"
-            );
-            let conn = opened_again(rt, alloc, conn)?;
-            Ok((String::from_str(alloc, NOT_TOLD)?, conn))
+            expect_passing(rt, fault);
+            Ok((no_answer(alloc)?, opened_again(rt, alloc, conn)))
         }
-    }
-}
-
-// The same on files that stop, and the files after it.
-fn stopped(
-    rt: &impl Abort,
-    alloc: Global,
-    files: Files<Stopping>,
-    last: &str,
-) -> Result<(String, Files<Stopping>), Fail> {
-    match connected(alloc, files) {
-        Ok(conn) => {
-            let (line, conn) = answered(rt, alloc, conn, last)?;
-            Ok((line, left(conn)))
-        }
-        Err(files) => Ok((String::from_str(alloc, NOT_TOLD)?, files)),
     }
 }
 
@@ -314,36 +348,45 @@ pub(crate) fn crashed(
     held: &Held,
     calls: Calls,
     last: &str,
-) -> Result<(String, bool, Held), Fail> {
-    let (line, mut files) = stopped(rt, alloc, laid(alloc, held, calls)?, last)?;
+) -> Result<(Whole, bool, Held), Fail> {
+    let files = laid(alloc, held, calls)?;
+    let (answer, mut files) = over_files(rt, alloc, files, Task::Last(last))?;
     let is_whole = !has_stopped(&mut files);
     crash(&mut files);
-    Ok((line, is_whole, bytes_of(alloc, &files)?))
+    let found = bytes_of(alloc, &files)?;
+    match answer {
+        Some(answer) => Ok((answer, is_whole, found)),
+        None => Ok((no_answer(alloc)?, is_whole, found)),
+    }
 }
 
-// Opened again, the registry is as before the last row or after it, and after it if that was
-// answered; sent again, the row is answered as without a stop.
+// What is found is what was shown before the last row or after it, and after it if that was
+// answered.
+fn expect_either(rt: &impl Abort, found: &str, last: &str, line: &str, whole: &Whole) {
+    if is_answered(line) {
+        expect_line(rt, line, whole.reply.as_str(), last);
+        expect_line(rt, found, whole.after.as_str(), last);
+    } else if found != whole.before.as_str() {
+        expect_line(rt, found, whole.after.as_str(), last);
+    }
+}
+
+// Opened again, the registry is as before the last row or after it; sent again, the row is answered
+// as without a stop.
 fn expect_kept<S: Alter + Drop>(
     rt: &impl Abort,
     alloc: Global,
     conn: Connection<S>,
-    line: &str,
     last: &str,
+    line: &str,
     whole: &Whole,
-) -> Result<(), Fail> {
+) -> Result<(Whole, Connection<S>), Fail> {
     let mut registry = opened(alloc, conn)?;
-    let found = shown(&mut registry, alloc)?;
-    if is_answered(line) {
-        assert_eq!(rt; line, whole.reply.as_str(), "{last}");
-        assert_eq!(rt; found.as_str(), whole.after.as_str(), "{last}");
-    } else if found.as_str() != whole.before.as_str() {
-        assert_eq!(rt; found.as_str(), whole.after.as_str(), "{last}");
-    }
-    let again = answer_to(&mut registry, alloc, last)?;
-    assert_eq!(rt; again.as_str(), whole.reply.as_str(), "{last}");
-    let after = shown(&mut registry, alloc)?;
-    assert_eq!(rt; after.as_str(), whole.after.as_str(), "{last}");
-    Ok(())
+    let again = asked_whole(&mut registry, alloc, last)?;
+    expect_either(rt, again.before.as_str(), last, line, whole);
+    expect_line(rt, again.reply.as_str(), whole.reply.as_str(), last);
+    expect_line(rt, again.after.as_str(), whole.after.as_str(), last);
+    Ok((again, registry.close()))
 }
 
 /// The same of the files that the machine comes back with.
@@ -351,14 +394,14 @@ pub(crate) fn expect_found(
     rt: &impl Abort,
     alloc: Global,
     found: &Held,
-    line: &str,
     last: &str,
+    line: &str,
     whole: &Whole,
 ) -> Result<(), Fail> {
-    match connected(alloc, laid(alloc, found, ALL)?) {
-        Ok(conn) => expect_kept(rt, alloc, conn, line, last, whole),
-        Err(_) => Err("the files are opened again")?,
-    }
+    let files = laid(alloc, found, ALL)?;
+    let (found, _) = over_files(rt, alloc, files, Task::Found(last, line, whole))?;
+    assert!(rt; found.is_some(), "the files are opened again");
+    Ok(())
 }
 
 // More calls than a run makes of either file.
@@ -378,8 +421,21 @@ fn stop_at(of_log: bool, calls: u64) -> Calls {
     }
 }
 
-// Stops one of the files at each call of opening and of a row. The other row is asked after a
-// restart.
+// One stop, and whether there was none within so many calls. The other row is asked after a restart.
+fn stop_once(
+    rt: &impl Abort,
+    alloc: Global,
+    held: &Held,
+    calls: Calls,
+    rows: (&str, &str),
+    whole: &Whole,
+) -> Result<bool, Fail> {
+    let (answer, is_whole, found) = crashed(rt, alloc, held, calls, rows.0)?;
+    expect_found(rt, alloc, &found, rows.1, answer.reply.as_str(), whole)?;
+    Ok(is_whole)
+}
+
+// Stops one of the files at each call of opening and of a row.
 fn stop_each(
     rt: &impl Abort,
     alloc: Global,
@@ -387,114 +443,97 @@ fn stop_each(
     rows: (&str, &str),
     of_log: bool,
 ) -> Result<(), Fail> {
-    let (whole, _) = undisturbed(alloc, held, rows.1)?;
+    let (whole, _) = undisturbed(rt, alloc, held, rows.1)?;
     for calls in 0..MOST {
-        let (line, is_whole, found) = crashed(rt, alloc, held, stop_at(of_log, calls), rows.0)?;
-        expect_found(rt, alloc, &found, line.as_str(), rows.1, &whole)?;
-        if is_whole {
+        if stop_once(rt, alloc, held, stop_at(of_log, calls), rows, &whole)? {
             return Ok(());
         }
     }
-    Err("a run without a stop")?
+    Err(Fail::new("a run without a stop"))
 }
 
-// Stops the log, and then the database, at the last row after the first ones.
-fn stop_both(rt: &impl Abort, alloc: Global, rows: (&str, &str)) -> Result<(), Fail> {
-    let (first, last) = rows;
-    let held = held_behind(alloc, first)?;
+// Stops the log, and then the database, at a row after the first ones; without those the files were
+// never opened.
+fn stop_both(rt: &impl Abort, alloc: Global, first: &str, last: &str) -> Result<(), Fail> {
+    let mut held = nothing(alloc);
+    for row in first.lines() {
+        held = undisturbed(rt, alloc, &held, row)?.1;
+    }
     stop_each(rt, alloc, &held, (last, last), true)?;
     stop_each(rt, alloc, &held, (last, last), false)
 }
 
-#[test]
-fn a_stop_while_opening(rt: HostRuntime) -> Result<(), Fail> {
-    let rows = ("", "export");
-    stop_both(&rt, rt.alloc(), rows)
-}
-
-#[test]
-fn a_stop_of_an_approval(rt: HostRuntime) -> Result<(), Fail> {
-    let rows = (
+// The rows before each row, and the row.
+const ROWS: [(&str, &str); 7] = [
+    ("", "export"),
+    (
         "account root who=alice&rank=0\nsubmit alice path=PC/8086&name=Intel Corporation",
         "approve a1/root num=1",
-    );
-    stop_both(&rt, rt.alloc(), rows)
-}
-
-#[test]
-fn a_stop_of_a_rank(rt: HostRuntime) -> Result<(), Fail> {
-    let rows = ("export", "account k1/root who=bob&rank=2");
-    stop_both(&rt, rt.alloc(), rows)
-}
-
-#[test]
-fn a_stop_of_a_submission(rt: HostRuntime) -> Result<(), Fail> {
-    let rows = ("export", "submit k1/root path=PC/8086&name=Intel");
-    stop_both(&rt, rt.alloc(), rows)
-}
-
-#[test]
-fn a_stop_of_a_comment(rt: HostRuntime) -> Result<(), Fail> {
-    let rows = (
+    ),
+    ("export", "account k1/root who=bob&rank=2"),
+    ("export", "submit k1/root path=PC/8086&name=Intel"),
+    (
         "submit root path=PC/8086&name=Intel",
         "comment k1/root num=1&text=seen",
-    );
-    stop_both(&rt, rt.alloc(), rows)
-}
-
-#[test]
-fn a_stop_of_a_rejection(rt: HostRuntime) -> Result<(), Fail> {
-    let rows = (
+    ),
+    (
         "account root who=bob&rank=2\nsubmit root path=PC/8086&name=Intel",
         "reject k1/bob num=1&reason=known",
-    );
-    stop_both(&rt, rt.alloc(), rows)
-}
-
-#[test]
-fn a_stop_of_a_withdrawal(rt: HostRuntime) -> Result<(), Fail> {
-    let rows = (
+    ),
+    (
         "submit root path=PC/8086&name=Intel",
         "withdraw k1/root num=1",
-    );
-    stop_both(&rt, rt.alloc(), rows)
+    ),
+];
+
+// Of an opening, an approval, a rank, a submission, a comment, a rejection and a withdrawal.
+#[test]
+fn a_stop_of_a_row(rt: HostRuntime) -> Result<(), Fail> {
+    for (first, last) in ROWS {
+        stop_both(&rt, rt.alloc(), first, last)?;
+    }
+    Ok(())
 }
 
 // An import of fifty vendors, whole or in chunks.
-fn stop_import(rt: &impl Abort, alloc: Global, verb: &str) -> Result<(), Fail> {
-    let mut row = format!(in alloc; "{verb} k1/root ")?;
+fn stop_import(rt: &impl Abort, alloc: Global, start: &str) -> Result<(), Fail> {
+    let mut row = owned(alloc, start)?;
     for vendor in 0..50u32 {
         row.push_str(format!(in alloc; "{vendor:04x}  a;")?.as_str())?;
     }
-    stop_both(rt, alloc, ("export", row.as_str()))
+    stop_both(rt, alloc, "export", row.as_str())
 }
 
 #[test]
 fn a_stop_of_an_import(rt: HostRuntime) -> Result<(), Fail> {
-    stop_import(&rt, rt.alloc(), "import")
+    stop_import(&rt, rt.alloc(), "import k1/root ")
 }
 
 #[test]
 fn a_stop_of_an_import_by_pieces(rt: HostRuntime) -> Result<(), Fail> {
-    stop_import(&rt, rt.alloc(), "slowly")
+    stop_import(&rt, rt.alloc(), "slowly k1/root ")
+}
+
+fn older<S: Alter + Drop>(
+    alloc: Global,
+    conn: Connection<S>,
+) -> Result<(Whole, Connection<S>), Fail> {
+    let mut conn = conn;
+    conn.execute_batch(OLDER)?;
+    Ok((no_answer(alloc)?, conn))
 }
 
 /// What files of the database of schema 1 hold.
-pub(crate) fn held_older(alloc: Global) -> Result<Held, Fail> {
-    match connected(alloc, laid(alloc, &nothing(alloc), ALL)?) {
-        Ok(mut conn) => {
-            conn.execute_batch(OLDER)?;
-            let files = left(conn);
-            bytes_of(alloc, &files)
-        }
-        Err(_) => Err("a connection")?,
-    }
+pub(crate) fn held_older(rt: &impl Abort, alloc: Global) -> Result<Held, Fail> {
+    let files = laid(alloc, &nothing(alloc), ALL)?;
+    let (made, files) = over_files(rt, alloc, files, Task::Older)?;
+    assert!(rt; made.is_some());
+    bytes_of(alloc, &files)
 }
 
 #[test]
 fn a_stop_of_a_migration(rt: HostRuntime) -> Result<(), Fail> {
-    let alloc = rt.alloc();
-    let held = held_older(alloc)?;
-    stop_each(&rt, alloc, &held, ("migrate", "changes 0"), true)?;
-    stop_each(&rt, alloc, &held, ("migrate", "changes 0"), false)
+    let held = held_older(&rt, rt.alloc())?;
+    stop_each(&rt, rt.alloc(), &held, ("migrate", "changes 0"), true)?;
+    stop_each(&rt, rt.alloc(), &held, ("migrate", "changes 0"), false)
 }
