@@ -2,8 +2,8 @@
 #![tactic(auto)]
 
 #[cfg(test)]
+mod asking;
+#[cfg(test)]
 mod checks;
 #[cfg(test)]
 mod registry;
-#[cfg(test)]
-mod submissions;
