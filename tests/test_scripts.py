@@ -73,6 +73,23 @@ def test_script(cases, name):
     cases.equal(f"script: {name}", (ran.out, ran.err, ran.status), (replies, b"", 0))
 
 
+# A script of one line at a limit of its texts, and its reply.
+LIMITS = (
+    ("submit root path=PC/8086&name=" + "a" * 1_000, "ok 1\n"),
+    ("submit root path=PC/8086&name=" + "a" * 1_001, "refused 2 BadName\n"),
+    ("import root file=8086++" + "a" * 1_001, "refused 14 FileFault line=1 kind=6 BadName\n"),
+    ("comment root num=1&text=" + "a" * 4_001, "refused 3 BadText\n"),
+    ("withdraw root num=1&key=" + "a" * 65, "refused 3 BadText\n"),
+)
+
+
+def test_limits(cases):
+    for row in LIMITS:
+        script, replies = texts_of([row])
+        ran = run_program(script, "script")
+        cases.equal(f"script: {row[0][:40]}", (ran.out, ran.err, ran.status), (replies, b"", 0))
+
+
 def test_a_thousand_vendors(cases):
     """Each is submitted, approved and read."""
     rows, text = [("account root who=bob&rank=0", "ok\n")], HEADER.decode()

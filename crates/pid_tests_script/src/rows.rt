@@ -1,11 +1,7 @@
 //! Worked scripts: each line, and what it is answered.
 use crate::running::{
-    FIRST_NAME, IMPORTS, PARENT_FIRST, REFUSALS, TURNS, expect, expect_by, new_in_memory,
-    script_and_replies,
+    FIRST_NAME, IMPORTS, PARENT_FIRST, REFUSALS, are_answered, are_replies, script_and_replies,
 };
-use pid_ident::{FaultyInput, FaultyOutput};
-use pid_script::{ScriptEnd, run_script};
-use std::alloc::{AllocError, Global};
 use std::test::Fail;
 
 const CHILDREN_LAST: &str = "\
@@ -60,8 +56,14 @@ fn changes_and_exports(rt: HostRuntime) -> Result<(), Fail> {
         FAULTY_IMPORT,
         GENERIC_SUBSYSTEMS,
         BLOCK_FAULTS,
+        REFUSALS,
+        UNCLEAR,
+        VENDOR,
+        CLASS,
+        INTERFACES,
+        SUBSYSTEMS,
     ] {
-        expect(&rt, rt.alloc(), rows)?;
+        assert!(rt; are_answered(rt.alloc(), rows)?, "{rows}");
     }
     Ok(())
 }
@@ -72,7 +74,10 @@ fn cuts_make_no_difference(rt: HostRuntime) -> Result<(), Fail> {
     let alloc = rt.alloc();
     let (script, replies) = script_and_replies(alloc, FIRST_NAME)?;
     for most in 1..script.len() {
-        expect_by(&rt, alloc, script.as_bytes(), most, replies.as_bytes())?;
+        assert!(rt;
+            are_replies(alloc, script.as_bytes(), most, replies.as_bytes())?,
+            "{most}"
+        );
     }
     Ok(())
 }
@@ -135,22 +140,6 @@ lookup flags=4000a&vendor=8086&device=1237&subvendor=1af4&subdevice=1101 | text 
 lookup flags=b&vendor=8086&device=1237&subvendor=8086&subdevice=1237 | text Intel Corporation 440FX
 ";
 
-#[test]
-fn looks_up(rt: HostRuntime) -> Result<(), Fail> {
-    for rows in [VENDOR, CLASS, INTERFACES, SUBSYSTEMS] {
-        expect(&rt, rt.alloc(), rows)?;
-    }
-    Ok(())
-}
-
-// The cut may split a character.
-#[test]
-fn cuts_by_bytes(rt: HostRuntime) -> Result<(), Fail> {
-    let script = b"import root file=1d00++Soci%C3%A9t%C3%A9\nlookup flags=1&vendor=1d00&size=9\n";
-    let replies = b"ok added=1 renamed=0 same=0\ntext Soci\xc3...\n";
-    expect_by(&rt, rt.alloc(), script, 7, replies)
-}
-
 const UNCLEAR: &str = "\
 # a comment
 
@@ -176,75 +165,28 @@ comment root num=1&text=a&key= | refused 3 BadText
 nonsense | refused 3 BadText
 ";
 
-#[test]
-fn refuses(rt: HostRuntime) -> Result<(), Fail> {
-    expect(&rt, rt.alloc(), REFUSALS)?;
-    expect(&rt, rt.alloc(), UNCLEAR)
-}
+const LINES: &[u8] =
+    b"submit root path=PC/8086&name=I\r\n\xff\n#\xff\n\r\n#\r\nread path=PC/8086\r\r\nread path=PC/8086";
+
+const THEIR_REPLIES: &[u8] =
+    b"ok 1\nrefused 3 BadText\nrefused 3 BadText\nrefused 1 BadPath\nrefused 25 NoItem\n";
 
 #[test]
 fn reads_lines(rt: HostRuntime) -> Result<(), Fail> {
-    let script =
-        b"submit root path=PC/8086&name=I\r\n\xff\n#\xff\n\r\n#\r\nread path=PC/8086\r\r\nread path=PC/8086";
-    let replies =
-        b"ok 1\nrefused 3 BadText\nrefused 3 BadText\nrefused 1 BadPath\nrefused 25 NoItem\n";
-    expect_by(&rt, rt.alloc(), script, 1, replies)?;
-    expect_by(&rt, rt.alloc(), script, 64, replies)
-}
-
-// A line of a word, so many letters and the rest.
-fn long_line(alloc: Global, word: &str, letters: usize, rest: &str) -> Result<String, AllocError> {
-    let mut line = String::from_str(alloc, word)?;
-    for _ in 0..letters {
-        line.push_str("a")?;
+    for most in [1, 64] {
+        assert!(rt;
+            are_replies(rt.alloc(), LINES, most, THEIR_REPLIES)?,
+            "{most}"
+        );
     }
-    line.push_str(rest)?;
-    Ok(line)
+    Ok(())
 }
 
+// The cut may split a character.
 #[test]
-fn keeps_limits(rt: HostRuntime) -> Result<(), Fail> {
-    let alloc = rt.alloc();
-    let longest = long_line(alloc, "submit root path=PC/8086&name=", 1_000, "\n")?;
-    expect_by(&rt, alloc, longest.as_bytes(), 4_096, b"ok 1\n")?;
-    let longer = long_line(alloc, "submit root path=PC/8086&name=", 1_001, "\n")?;
-    expect_by(&rt, alloc, longer.as_bytes(), 4_096, b"refused 2 BadName\n")?;
-    let faulty = long_line(alloc, "import root file=8086++", 1_001, "\n")?;
-    expect_by(
-        &rt,
-        alloc,
-        faulty.as_bytes(),
-        4_096,
-        b"refused 14 FileFault line=1 kind=6 BadName\n",
-    )?;
-    let comment = long_line(alloc, "comment root num=1&text=", 4_001, "\n")?;
-    expect_by(
-        &rt,
-        alloc,
-        comment.as_bytes(),
-        4_096,
-        b"refused 3 BadText\n",
-    )?;
-    let key = long_line(alloc, "withdraw root num=1&key=", 65, "\n")?;
-    expect_by(&rt, alloc, key.as_bytes(), 4_096, b"refused 3 BadText\n")
-}
-
-// A thousand vendors, each submitted, approved and read.
-#[test]
-fn names_a_thousand_vendors(rt: HostRuntime) -> Result<(), Fail> {
-    let alloc = rt.alloc();
-    let mut script = String::from_str(alloc, "account root who=bob&rank=0\n")?;
-    let mut replies = String::from_str(alloc, "ok\n")?;
-    let mut text = String::from_str(alloc, "# PCI ID registry\n")?;
-    for number in 1..1_001u32 {
-        let lines = format!(in alloc;
-            "submit bob path=PC/{number:04x}&name=a\napprove root num={number}\nread path=PC/{number:04x}\n"
-        )?;
-        script.push_str(lines.as_str())?;
-        replies.push_str(format!(in alloc; "ok {number}\nok\nname a\n")?.as_str())?;
-        text.push_str(format!(in alloc; "{number:04x}  a\n")?.as_str())?;
-    }
-    script.push_str("export\n")?;
-    replies.push_str(text.as_str())?;
-    expect_by(&rt, alloc, script.as_bytes(), 65_536, replies.as_bytes())
+fn cuts_by_bytes(rt: HostRuntime) -> Result<(), Fail> {
+    let script = b"import root file=1d00++Soci%C3%A9t%C3%A9\nlookup flags=1&vendor=1d00&size=9\n";
+    let replies = b"ok added=1 renamed=0 same=0\ntext Soci\xc3...\n";
+    assert!(rt; are_replies(rt.alloc(), script, 7, replies)?);
+    Ok(())
 }

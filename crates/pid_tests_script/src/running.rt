@@ -7,13 +7,12 @@ use pid_script::{ScriptEnd, run_script};
 use pid_service::{Registry, open};
 use sqlite::{Connection, MemStore};
 use std::alloc::Global;
-use std::process::Abort;
 use std::test::Fail;
 
 /// More reads than any script of these tests takes.
 pub(crate) const TURNS: u64 = 1_000_000;
 
-pub(crate) fn new_in_memory(alloc: Global) -> Result<Registry<MemStore>, Fail> {
+fn new_in_memory(alloc: Global) -> Result<Registry<MemStore>, Fail> {
     let conn = Connection::open_in_memory(alloc)?;
     if !conn.is_autocommit() {
         return Err("a transaction is left")?;
@@ -21,6 +20,25 @@ pub(crate) fn new_in_memory(alloc: Global) -> Result<Registry<MemStore>, Fail> {
     match open(alloc, conn) {
         Ok(registry) => Ok(registry),
         Err((_, _)) => Err("no registry")?,
+    }
+}
+
+/// Runs a script on a new registry, and then these lines, whose output is taken too.
+pub(crate) fn run_and_ask(
+    alloc: Global,
+    input: &mut FaultyInput<'_>,
+    output: &mut FaultyOutput,
+    turns: u64,
+    asked: &[u8],
+    told: &mut FaultyOutput,
+) -> Result<ScriptEnd, Fail> {
+    let mut registry = new_in_memory(alloc)?;
+    let end = run_script(alloc, &mut registry, input, output, turns);
+    let mut lines = FaultyInput::new(asked, 4_096);
+    if run_script(alloc, &mut registry, &mut lines, told, TURNS) == ScriptEnd::Done {
+        Ok(end)
+    } else {
+        Err("the registry answers")?
     }
 }
 
@@ -47,27 +65,24 @@ pub(crate) fn script_and_replies(alloc: Global, rows: &str) -> Result<(String, S
     Ok((script, replies))
 }
 
-// Asserts the replies to a script that is read by so many bytes.
-pub(crate) fn expect_by(
-    rt: &impl Abort,
+/// Whether a script that is read by so many bytes ends with these replies.
+pub(crate) fn are_replies(
     alloc: Global,
     script: &[u8],
     most: usize,
     replies: &[u8],
-) -> Result<(), Fail> {
-    let mut registry = new_in_memory(alloc)?;
+) -> Result<bool, Fail> {
     let mut input = FaultyInput::new(script, most);
     let mut output = FaultyOutput::new(alloc, 65_536);
-    let end = run_script(alloc, &mut registry, &mut input, &mut output, TURNS);
-    assert_eq!(rt; end, ScriptEnd::Done);
-    assert_eq!(rt; output.taken.as_slice(), replies);
-    Ok(())
+    let mut told = FaultyOutput::new(alloc, 1);
+    let end = run_and_ask(alloc, &mut input, &mut output, TURNS, b"", &mut told)?;
+    Ok(end == ScriptEnd::Done && output.taken.as_slice() == replies)
 }
 
-// Asserts the replies of rows, whose script is read whole.
-pub(crate) fn expect(rt: &impl Abort, alloc: Global, rows: &str) -> Result<(), Fail> {
+/// Whether the rows' script, read whole, gets their replies.
+pub(crate) fn are_answered(alloc: Global, rows: &str) -> Result<bool, Fail> {
     let (script, replies) = script_and_replies(alloc, rows)?;
-    expect_by(rt, alloc, script.as_bytes(), 65_536, replies.as_bytes())
+    are_replies(alloc, script.as_bytes(), 65_536, replies.as_bytes())
 }
 
 /// The first name of a registry.

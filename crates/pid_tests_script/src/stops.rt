@@ -3,14 +3,12 @@
 use crate::running::TURNS;
 use pid_ident::{FaultyInput, FaultyOutput};
 use pid_script::{ScriptEnd, run_script};
-use pid_service::{Registry, open};
-use sqlite::{Alter, Connection, FileStore, Files, Options};
+use pid_service::open;
+use sqlite::{Alter, Connection, Files, Options};
 use sqlite_disk::{Crash, Disk, Fuse, Memory};
 use std::alloc::Global;
 use std::process::Abort;
 use std::test::Fail;
-
-type Stopping = Fuse<Memory>;
 
 // How many calls of each file go well.
 #[derive(Clone, Copy)]
@@ -39,7 +37,7 @@ fn file_with(alloc: Global, bytes: &[u8]) -> Result<Memory, Fail> {
     Ok(file)
 }
 
-fn laid(alloc: Global, held: &Held, calls: Calls) -> Result<Files<Stopping>, Fail> {
+fn laid(alloc: Global, held: &Held, calls: Calls) -> Result<Files<Fuse<Memory>>, Fail> {
     let log = file_with(alloc, held.log.as_slice())?;
     let db = file_with(alloc, held.db.as_slice())?;
     Ok(Files {
@@ -59,26 +57,73 @@ fn options() -> Options {
     }
 }
 
-fn connected(
+// How a script ended over a connection, `None` if no registry was opened, and the store as it is
+// where the process ends.
+fn run_over<S: Alter + Drop>(
     alloc: Global,
-    files: Files<Stopping>,
-) -> Result<Connection<FileStore<Stopping>>, Files<Stopping>> {
-    if !files.may_be_used() {
-        return Err(files);
-    }
-    match Connection::open_files(alloc, files, options()) {
-        Ok(conn) => Ok(conn),
-        Err((_, left)) => Err(left.into_files()),
+    conn: Connection<S>,
+    script: &str,
+    output: &mut FaultyOutput,
+) -> (Option<ScriptEnd>, S) {
+    match open(alloc, conn) {
+        Ok(mut registry) => {
+            let mut input = FaultyInput::new(script.as_bytes(), 64);
+            let end = run_script(alloc, &mut registry, &mut input, output, TURNS);
+            (Some(end), registry.close().into_store())
+        }
+        Err((_, conn)) => (None, conn.into_store()),
     }
 }
 
-// Whether a further call fails.
-fn has_stopped(files: &mut Files<Stopping>) -> bool {
-    !files.may_be_used() || files.log.len().is_err() || files.db.len().is_err()
+// How a script ended over files, and the files as they are then.
+fn run_in(
+    alloc: Global,
+    files: Files<Fuse<Memory>>,
+    script: &str,
+    output: &mut FaultyOutput,
+) -> (Option<ScriptEnd>, Files<Fuse<Memory>>) {
+    if !files.may_be_used() {
+        return (None, files);
+    }
+    match Connection::open_files(alloc, files, options()) {
+        Ok(conn) => {
+            let (end, store) = run_over(alloc, conn, script, output);
+            (end, store.close())
+        }
+        Err((_, left)) => (None, left.into_files()),
+    }
+}
+
+// What a script came to: how it ended, `None` if no registry was opened; its output; whether it
+// met no stop; and what the files hold when the machine comes back.
+#[derive(Drop)]
+struct Ran {
+    end: Option<ScriptEnd>,
+    output: FaultyOutput,
+    is_whole: bool,
+    left: Held,
 }
 
 // The machine comes back with what was synced, and does not stop any more.
-fn held_after_crash(alloc: Global, mut files: Files<Stopping>) -> Result<Held, Fail> {
+fn run_on(alloc: Global, held: &Held, calls: Calls, script: &str) -> Result<Ran, Fail> {
+    let mut output = FaultyOutput::new(alloc, 4_096);
+    let (end, mut files) = run_in(alloc, laid(alloc, held, calls)?, script, &mut output);
+    let is_whole = !has_stopped(&mut files);
+    let left = held_after_crash(alloc, files)?;
+    Ok(Ran {
+        end,
+        output,
+        is_whole,
+        left,
+    })
+}
+
+// Whether a further call fails.
+fn has_stopped(files: &mut Files<Fuse<Memory>>) -> bool {
+    !files.may_be_used() || files.log.len().is_err() || files.db.len().is_err()
+}
+
+fn held_after_crash(alloc: Global, mut files: Files<Fuse<Memory>>) -> Result<Held, Fail> {
     files.log.crash();
     files.db.crash();
     Ok(Held {
@@ -87,75 +132,37 @@ fn held_after_crash(alloc: Global, mut files: Files<Stopping>) -> Result<Held, F
     })
 }
 
-// The end and the output of a script.
-fn run<S: Alter + Drop>(
-    alloc: Global,
-    registry: &mut Registry<S>,
-    script: &str,
-) -> (ScriptEnd, FaultyOutput) {
-    let mut input = FaultyInput::new(script.as_bytes(), 64);
-    let mut output = FaultyOutput::new(alloc, 4_096);
-    let end = run_script(alloc, registry, &mut input, &mut output, TURNS);
-    (end, output)
-}
-
 const STOPPED: &[u8] = b"refused 17 Store\n";
 
-// Asserts that the output is the replies; or, where the script was stopped, whole lines of them and
-// the refusal. Returns how many lines were answered.
-fn expect_front(rt: &impl Abort, end: ScriptEnd, output: &FaultyOutput, replies: &str) -> usize {
-    let taken = output.taken.as_slice();
-    if end == ScriptEnd::Done {
-        assert_eq!(rt; taken, replies.as_bytes());
-        return lines_in(taken);
-    }
-    assert_eq!(rt; end, ScriptEnd::Stopped);
-    match taken.strip_suffix(STOPPED) {
-        Some(front) => {
-            assert!(rt; replies.as_bytes().starts_with(front));
-            assert!(rt; front.is_empty() || front.ends_with(b"\n"));
-            lines_in(front)
-        }
-        None => {
-            assert!(rt; false, "the script was stopped by {taken:?}");
-            0
-        }
-    }
-}
-
 fn lines_in(text: &[u8]) -> usize {
-    text.iter().filter(|byte| **byte == b'\n').count()
-}
-
-// A script over files of which so many calls go well: how many lines were answered, whether they
-// met no stop, and what the machine comes back with.
-fn stopped(
-    rt: &impl Abort,
-    alloc: Global,
-    held: &Held,
-    calls: Calls,
-) -> Result<(usize, bool, Held), Fail> {
-    let (answered, mut files) = match connected(alloc, laid(alloc, held, calls)?) {
-        Ok(conn) => answered(rt, alloc, conn)?,
-        Err(files) => (0, files),
-    };
-    let is_whole = !has_stopped(&mut files);
-    Ok((answered, is_whole, held_after_crash(alloc, files)?))
-}
-
-// How many lines of the script were answered, and the files as they are where the process ends.
-fn answered(
-    rt: &impl Abort,
-    alloc: Global,
-    conn: Connection<FileStore<Stopping>>,
-) -> Result<(usize, Files<Stopping>), Fail> {
-    match open(alloc, conn) {
-        Ok(mut registry) => {
-            let (end, output) = run(alloc, &mut registry, SCRIPT);
-            let answered = expect_front(rt, end, &output, REPLIES);
-            Ok((answered, registry.close().into_store().close()))
+    let mut lines = 0usize;
+    for byte in text {
+        if *byte == b'\n' {
+            lines = lines.saturating_add(1);
         }
-        Err((_, conn)) => Ok((0, conn.into_store().close())),
+    }
+    lines
+}
+
+// How many lines were answered, if the output is the replies; or, where the script was stopped,
+// whole lines of them and the refusal. `None` is another output.
+fn answered(end: Option<ScriptEnd>, taken: &[u8]) -> Option<usize> {
+    let replies = REPLIES.as_bytes();
+    let front = match end {
+        None => return Some(0),
+        Some(ScriptEnd::Done) => return if taken == replies {
+            Some(lines_in(taken))
+        } else {
+            None
+        },
+        Some(ScriptEnd::Stopped) => taken.strip_suffix(STOPPED)?,
+        Some(_) => return None,
+    };
+    let has_whole_lines = front.is_empty() || front.ends_with(b"\n");
+    if has_whole_lines && replies.starts_with(front) {
+        Some(lines_in(front))
+    } else {
+        None
     }
 }
 
@@ -175,24 +182,14 @@ approve root key=a1&num=1\nexport\n";
 
 const THEIR_REPLIES: &str = "ok 1\nok\n# PCI ID registry\n8086  Intel Corporation\n";
 
-// Opened again, the registry has what was answered, and the script that is sent again gets its
-// replies.
-fn expect_found(rt: &impl Abort, alloc: Global, held: &Held, answered: usize) -> Result<(), Fail> {
-    let Ok(conn) = connected(alloc, laid(alloc, held, ALL)?) else {
-        return Err("the files are opened again")?;
-    };
-    let Ok(mut registry) = open(alloc, conn) else {
-        return Err("the registry is opened again")?;
-    };
-    let (end, output) = run(alloc, &mut registry, AGAIN);
-    assert_eq!(rt; end, ScriptEnd::Done);
-    match output.taken.strip_suffix(THEIR_REPLIES.as_bytes()) {
-        Some(found) => assert!(rt;
-            found == WITH.as_bytes() || (answered < 2 && found == WITHOUT.as_bytes())
-        ),
-        None => assert!(rt; false, "the script sent again gets its replies"),
-    }
-    Ok(())
+// Whether the registry, opened again, has what was answered, and the script that is sent again gets
+// its replies.
+fn is_found(alloc: Global, held: &Held, answered: usize) -> Result<bool, Fail> {
+    let again = run_on(alloc, held, ALL, AGAIN)?;
+    let found = again.output.taken.strip_suffix(THEIR_REPLIES.as_bytes());
+    let has_all = found == Some(WITH.as_bytes());
+    let has_some = answered < 2 && found == Some(WITHOUT.as_bytes());
+    Ok(again.end == Some(ScriptEnd::Done) && (has_all || has_some))
 }
 
 // What files hold after the account of the script was made, without a stop.
@@ -201,17 +198,12 @@ fn held_before(alloc: Global) -> Result<Held, Fail> {
         log: Vec::new(alloc),
         db: Vec::new(alloc),
     };
-    let Ok(conn) = connected(alloc, laid(alloc, &nothing, ALL)?) else {
-        return Err("a connection")?;
-    };
-    let Ok(mut registry) = open(alloc, conn) else {
-        return Err("a registry")?;
-    };
-    let (end, _) = run(alloc, &mut registry, "account root who=alice&rank=0\n");
-    if end != ScriptEnd::Done {
-        return Err("an account")?;
+    let account = run_on(alloc, &nothing, ALL, "account root who=alice&rank=0\n")?;
+    if account.end == Some(ScriptEnd::Done) {
+        Ok(account.left)
+    } else {
+        Err("an account")?
     }
-    held_after_crash(alloc, registry.close().into_store().close())
 }
 
 fn stop_at(of_log: bool, calls: u64) -> Calls {
@@ -219,13 +211,6 @@ fn stop_at(of_log: bool, calls: u64) -> Calls {
         Calls { log: calls, ..ALL }
     } else {
         Calls { db: calls, ..ALL }
-    }
-}
-
-fn is_opened(alloc: Global, held: &Held, calls: Calls) -> Result<bool, Fail> {
-    match connected(alloc, laid(alloc, held, calls)?) {
-        Ok(conn) => Ok(open(alloc, conn).is_ok()),
-        Err(_) => Ok(false),
     }
 }
 
@@ -240,7 +225,8 @@ fn calls_of_opening(alloc: Global, held: &Held, of_log: bool) -> Result<u64, Fai
     let mut width = MOST;
     for _ in 0..HALVINGS {
         width /= 2;
-        if !is_opened(alloc, held, stop_at(of_log, low.saturating_add(width)))? {
+        let calls = stop_at(of_log, low.saturating_add(width));
+        if run_on(alloc, held, calls, "")?.end.is_none() {
             low = low.saturating_add(width);
         }
     }
@@ -253,14 +239,17 @@ fn stop_each(rt: &impl Abort, alloc: Global, of_log: bool) -> Result<(), Fail> {
     let opening = calls_of_opening(alloc, &held, of_log)?;
     let mut was_cut = false;
     for calls in opening..opening.saturating_add(MOST) {
-        let (answered, is_whole, left) = stopped(rt, alloc, &held, stop_at(of_log, calls))?;
-        expect_found(rt, alloc, &left, answered)?;
-        if is_whole {
+        let stopped = run_on(alloc, &held, stop_at(of_log, calls), SCRIPT)?;
+        let Some(count) = answered(stopped.end, &stopped.output.taken) else {
+            return Err("whole replies")?;
+        };
+        assert!(rt; is_found(alloc, &stopped.left, count)?, "after {calls}");
+        if stopped.is_whole {
             // The database is written only where the log is copied into it.
             assert!(rt; was_cut || !of_log);
             return Ok(());
         }
-        was_cut = was_cut || answered == 1;
+        was_cut = was_cut || count == 1;
     }
     Err("a run without a stop")?
 }
