@@ -110,7 +110,8 @@ fn told(alloc: Global, kind: &str, word: &str) -> &'static str {
         "text" => text_of(alloc, word),
         "account" => account_of(alloc, word),
         "key" => key_of(alloc, word),
-        _ => path_of(alloc, word),
+        "path" => path_of(alloc, word),
+        _ => return "no kind",
     };
     match told {
         Ok(told) => told,
