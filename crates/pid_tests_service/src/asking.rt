@@ -75,6 +75,14 @@ fn with_letters(
     Ok(written)
 }
 
+// Who sends a file, and the file.
+pub(crate) fn sent(row: &str) -> Result<(&str, &str), Fail> {
+    match row.split_once(' ') {
+        Some(sent) => Ok(sent),
+        None => Err(Fail::new("a row without a file")),
+    }
+}
+
 // The bytes of a file that a row writes on one line.
 pub(crate) fn file_of(alloc: Global, row: &str) -> Result<String, Fail> {
     with_letters(alloc, row, (';', '>'), ('\n', '\t'))
@@ -128,7 +136,7 @@ fn import<S: Alter + Drop>(
     alloc: Global,
     rest: &str,
 ) -> Result<String, Fail> {
-    let (caller, file) = first_word(rest);
+    let (caller, file) = sent(rest)?;
     let file = file_of(alloc, file)?;
     imported(registry, alloc, caller, file.as_bytes())
 }
@@ -141,7 +149,7 @@ fn slowly<S: Alter + Drop>(
     rest: &str,
     is_broken: bool,
 ) -> Result<String, Fail> {
-    let (caller, file) = first_word(rest);
+    let (caller, file) = sent(rest)?;
     let file = file_of(alloc, file)?;
     let mut input = FaultyInput::new(file.as_bytes(), 7);
     if is_broken {

@@ -1,7 +1,6 @@
 //! Files that come in chunks, end too soon, or are too long, and exports that break off.
 use crate::asking::{
-    expect_line, expect_told, file_of, first_word, halves, imported, imported_from, new_in_memory,
-    owned,
+    expect_line, expect_told, file_of, halves, imported, imported_from, new_in_memory, owned, sent,
 };
 use crate::noted::NotedInput;
 use pid_ident::{FaultyInput, FaultyOutput, WriteFault};
@@ -18,7 +17,7 @@ fn by_pieces<S: Alter + Drop>(
     row: &str,
     most: usize,
 ) -> Result<String, Fail> {
-    let (caller, file) = first_word(row);
+    let (caller, file) = sent(row)?;
     let file = file_of(alloc, file)?;
     let mut input = FaultyInput::new(file.as_bytes(), most);
     let line = imported_from(registry, alloc, caller, &mut input)?;
