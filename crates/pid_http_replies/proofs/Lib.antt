@@ -1,4 +1,3 @@
-pub mod Floats
 pub mod ListTexts
 pub mod ObjectTexts
 mod Rows

@@ -1,6 +1,6 @@
 -- The answers to commands: a status (RFC 9110, section 15), and the outcome as JSON or as the reply
 -- line of scripts. Choices of this project.
-use Rattle.std.specs.Prelude.{ℕ, true, false, List, codes, Result, Ok, Err}
+use Rattle.std.specs.Prelude.{ℕ, true, false, codes, Result, Ok, Err}
 use Rattle.serde_json.specs.Written.{compact_text}
 use Rattle.serde_json.specs.Data.{Data, number, unsigned, string, boolean}
 use Rattle.serde_json.specs.Data.{object, member, no_members}

@@ -1,11 +1,9 @@
 //! Replies with items that were added or renamed.
-ghost use Rattle.std.specs.Prelude.{◌≡◌, ◌++◌, map, string_bytes, IfOk, OnOk};
-ghost use Rattle.std.specs.List.{flat_map};
+ghost use Rattle.std.specs.Prelude.{◌≡◌, refl, string_bytes, IfOk};
 ghost use Rattle.serde_json.specs.View.{view};
-ghost use Rattle.pid_moderation.specs.ChangePages.{changed_of, page_of};
+ghost use Rattle.pid_moderation.specs.ChangePages.{Changed, changed_of, page_of};
 ghost use Rattle.pid_http_replies.specs.ChangeAnswers.{
   changed_data,
-  changed_items,
   changed_line,
   changes_answer,
   changes_data,
@@ -13,7 +11,8 @@ ghost use Rattle.pid_http_replies.specs.ChangeAnswers.{
 };
 ghost use Rattle.pid_http_replies.specs.Replying.{MakesReply};
 
-use crate::reply::{array_value, json_reply, text_reply};
+use crate::list::{Row, push_lines, rows_value};
+use crate::reply::{json_reply, text_reply};
 use crate::text::{push_line, push_long_number};
 use http::StatusCode;
 use itoa::Buffer;
@@ -24,58 +23,35 @@ use pid_moderation::{ChangedItem, Changes};
 use serde_json::{Value, json};
 use std::alloc::{AllocError, Global};
 
-fn changed_value(alloc: Global, item: &ChangedItem) -> Result<Value, AllocError>
-    ensures { IfOk result (λ value. view value ≡ changed_data (changed_of item.now)) }
-{
-    let path = item.path.path_text(alloc)?;
-    json!(in alloc; {"name": item.name.as_str(), "path": path.as_str(), "since": item.since})
-}
+impl Row for ChangedItem {
+    ghost Seen = { Changed };
 
-// The values of items, in their order.
-fn changed_values(alloc: Global, items: &[ChangedItem]) -> Result<Vec<Value>, AllocError>
-    ensures { IfOk result (λ values. map view values.items
-        ≡ map changed_data (map changed_of items.now)) }
-{
-    let mut values = Vec::new(alloc);
-    for item in items {
-        let value = changed_value(alloc, item)?;
-        values.push(value)?;
+    ghost seen = { changed_of };
+
+    ghost json = { changed_data };
+
+    ghost line = { changed_line };
+
+    fn value(&self, alloc: Global) -> Result<Value, AllocError> {
+        let path = self.path.path_text(alloc)?;
+        json!(in alloc; {"name": self.name.as_str(), "path": path.as_str(), "since": self.since})
     }
-    Ok(values)
-}
 
-fn items_value(alloc: Global, items: &[ChangedItem]) -> Result<Value, AllocError>
-    ensures { IfOk result (λ value. view value ≡ changed_items (map changed_of items.now)) }
-{
-    let values = changed_values(alloc, items)?;
-    Ok(array_value(values))
+    fn push_line(&self, alloc: Global, text: &mut String) -> Result<(), AllocError> {
+        let path = self.path.path_text(alloc)?;
+        push_long_number(text, self.since)?;
+        text.push_str(" ")?;
+        push_line(text, path.as_str(), self.name.as_str())
+    }
+
+    ghost no_float = { λ _. refl };
 }
 
 fn changes_value(alloc: Global, changes: &Changes) -> Result<Value, AllocError>
     ensures { IfOk result (λ value. view value ≡ changes_data (page_of changes.now)) }
 {
-    let items = items_value(alloc, changes.items.as_slice())?;
+    let items = rows_value(alloc, changes.items.as_slice())?;
     json!(in alloc; {"items": items, "revision": changes.revision})
-}
-
-fn push_changed(alloc: Global, text: &mut String, item: &ChangedItem) -> Result<(), AllocError>
-    ensures { OnOk result (string_bytes text.new
-        ≡ string_bytes text.old ++ changed_line (changed_of item.now)) }
-{
-    let path = item.path.path_text(alloc)?;
-    push_long_number(text, item.since)?;
-    text.push_str(" ")?;
-    push_line(text, path.as_str(), item.name.as_str())
-}
-
-fn push_items(alloc: Global, text: &mut String, items: &[ChangedItem]) -> Result<(), AllocError>
-    ensures { OnOk result (string_bytes text.new
-        ≡ string_bytes text.old ++ flat_map changed_line (map changed_of items.now)) }
-{
-    for item in items {
-        push_changed(alloc, text, item)?;
-    }
-    Ok(())
 }
 
 fn changes_text(alloc: Global, changes: &Changes) -> Result<String, AllocError>
@@ -84,7 +60,7 @@ fn changes_text(alloc: Global, changes: &Changes) -> Result<String, AllocError>
     let mut digits = Buffer::new();
     let mut text = String::new(alloc);
     push_line(&mut text, "revision", digits.format(changes.revision))?;
-    push_items(alloc, &mut text, changes.items.as_slice())?;
+    push_lines(alloc, &mut text, changes.items.as_slice())?;
     Ok(text)
 }
 

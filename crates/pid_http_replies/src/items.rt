@@ -1,21 +1,18 @@
 //! Replies with items.
-ghost use Rattle.std.specs.Prelude.{◌≡◌, ◌++◌, map, string_bytes, IfOk, OnOk};
-ghost use Rattle.std.specs.List.{flat_map};
+ghost use Rattle.std.specs.Prelude.{◌≡◌, ℕ, List, map, refl, IfOk};
 ghost use Rattle.pid_ident.specs.PathTexts.{path_text};
 ghost use Rattle.pid_moderation.specs.ItemPairs.{pair_of};
 ghost use Rattle.serde_json.specs.View.{view};
-ghost use Rattle.serde_json.specs.Written.{comma_if, compact_text};
 ghost use Rattle.pid_http_replies.specs.ItemAnswers.{
   item_answer,
   item_data,
   child_line,
   children_answer,
-  items_data,
 };
 ghost use Rattle.pid_http_replies.specs.Replying.{MakesReply};
 
-use crate::list::push_row;
-use crate::reply::{json_reply, json_text_reply, text_reply};
+use crate::list::{Row, list_reply};
+use crate::reply::{json_reply, text_reply};
 use crate::text::push_line;
 use http::StatusCode;
 use pid_http_requests::Format;
@@ -54,51 +51,25 @@ pub fn item_reply(
     }
 }
 
-fn push_item_row(
-    alloc: Global,
-    text: &mut String,
-    later: bool,
-    item: &Item,
-) -> Result<(), AllocError>
-    ensures { OnOk result (string_bytes text.new
-        ≡ string_bytes text.old ++ comma_if later ++ compact_text
-        (item_data (pair_of item.now))) }
-{
-    let row = item_value(alloc, &item.path, &item.name)?;
-    push_row(alloc, text, later, row)
-}
+impl Row for Item {
+    ghost Seen = { List ℕ × List ℕ };
 
-fn items_json(alloc: Global, items: &[Item]) -> Result<String, AllocError>
-    ensures { IfOk result (λ text. string_bytes text
-        ≡ compact_text (items_data (map pair_of items.now))) }
-{
-    let mut text = String::from_str(alloc, "[")?;
-    let mut later = false;
-    for item in items {
-        push_item_row(alloc, &mut text, later, item)?;
-        later = true;
+    ghost seen = { pair_of };
+
+    ghost json = { item_data };
+
+    ghost line = { child_line };
+
+    fn value(&self, alloc: Global) -> Result<Value, AllocError> {
+        item_value(alloc, &self.path, &self.name)
     }
-    text.push_str("]")?;
-    Ok(text)
-}
 
-fn push_item(alloc: Global, text: &mut String, item: &Item) -> Result<(), AllocError>
-    ensures { OnOk result (string_bytes text.new
-        ≡ string_bytes text.old ++ child_line (pair_of item.now)) }
-{
-    let path = item.path.path_text(alloc)?;
-    push_line(text, path.as_str(), item.name.as_str())
-}
-
-fn items_text(alloc: Global, items: &[Item]) -> Result<String, AllocError>
-    ensures { IfOk result (λ text. string_bytes text
-        ≡ flat_map child_line (map pair_of items.now)) }
-{
-    let mut text = String::new(alloc);
-    for item in items {
-        push_item(alloc, &mut text, item)?;
+    fn push_line(&self, alloc: Global, text: &mut String) -> Result<(), AllocError> {
+        let path = self.path.path_text(alloc)?;
+        push_line(text, path.as_str(), self.name.as_str())
     }
-    Ok(text)
+
+    ghost no_float = { λ _. refl };
 }
 
 /// The reply with items, in their order. The text has a line for each: its path, a space and its
@@ -106,14 +77,5 @@ fn items_text(alloc: Global, items: &[Item]) -> Result<String, AllocError>
 pub fn children_reply(alloc: Global, format: Format, items: &[Item]) -> Result<Reply, AllocError>
     ensures { MakesReply result (children_answer format (map pair_of items.now)) }
 {
-    match format {
-        Format::Json => {
-            let text = items_json(alloc, items)?;
-            Ok(json_text_reply(StatusCode::OK, text))
-        }
-        Format::Text => {
-            let text = items_text(alloc, items)?;
-            Ok(text_reply(StatusCode::OK, text))
-        }
-    }
+    list_reply(alloc, format, items)
 }

@@ -10,6 +10,7 @@ mod early;
 mod items;
 mod list;
 mod lookup;
+mod members;
 mod outcome;
 mod pending;
 mod queue;

@@ -1,70 +1,59 @@
 //! Replies with pending submissions.
-ghost use Rattle.std.specs.Prelude.{◌≡◌, ◌++◌, map, string_bytes, IfOk, OnOk};
-ghost use Rattle.std.specs.List.{flat_map};
+ghost use Rattle.std.specs.Prelude.{◌≡◌, ◌++◌, ℕ, codes, map, string_bytes, IfOk, OnOk};
 ghost use Rattle.pid_moderation.specs.PendingPages.{told_of};
-ghost use Rattle.pid_moderation.specs.Submissions.{standing_of};
-ghost use Rattle.serde_json.specs.View.{view};
+ghost use Rattle.pid_moderation.specs.Submissions.{Standing, standing_of};
+ghost use Rattle.serde_json.specs.Data.{put as with_member};
+ghost use Rattle.serde_json.specs.View.{members_view};
 ghost use Rattle.pid_http_replies.specs.PendingAnswers.{
   pending_answer,
   pending_data,
   pending_line,
-  pendings_data,
   proposal_words,
   proposed_data,
 };
 ghost use Rattle.pid_http_replies.specs.Replying.{MakesReply};
+ghost use Rattle.pid_http_replies.specs.Steps.SubmissionParts.{pending_members};
+ghost use Rattle.pid_http_replies.specs.Steps.NoFloats.{pending_has_none};
 
-use crate::reply::{array_value, json_reply, text_reply};
+use crate::list::{Row, list_reply};
+use crate::members::{with_path, with_text, with_value};
 use crate::text::push_number;
-use http::StatusCode;
 use pid_http_requests::Format;
 use pid_http_stream::Reply;
 use pid_ident::PathText;
 use pid_moderation::{Pending, Proposal, Submission};
-use serde_json::{Value, json};
+use serde_json::{Map, Value};
 use std::alloc::{AllocError, Global};
 
-/// The value of what is proposed: the name, or null if the item is to be removed.
-pub(crate) fn proposed_value(alloc: Global, proposal: &Proposal) -> Result<Value, AllocError>
-    ensures { IfOk result (λ value. view value ≡ proposed_data proposal.now) }
+// The members, and what is proposed: the name, or null if the item is to be removed.
+fn with_proposal(
+    members: Map<String, Value>,
+    alloc: Global,
+    proposal: &Proposal,
+) -> Result<Map<String, Value>, AllocError>
+    ensures { IfOk result (λ after. members_view after.entries
+        ≡ with_member (codes "name") (proposed_data proposal.now)
+        (members_view members.entries)) }
 {
     match proposal {
-        Proposal::Name(name) => json!(in alloc; name.as_str()),
-        Proposal::Removal => Ok(Value::Null),
+        Proposal::Name(name) => with_text(members, alloc, "name", name.as_str()),
+        Proposal::Removal => with_value(members, alloc, "name", Value::Null),
     }
 }
 
-fn pending_value(alloc: Global, pending: &Pending) -> Result<Value, AllocError>
-    ensures { IfOk result (λ value. view value ≡ pending_data (told_of pending.now)) }
+/// The members that each submission has: its author, what is proposed, its number and its path.
+pub(crate) fn submission_members(
+    alloc: Global,
+    number: u32,
+    submission: &Submission,
+) -> Result<Map<String, Value>, AllocError>
+    ensures { IfOk result (λ members. members_view members.entries
+        ≡ pending_members number (standing_of submission.now)) }
 {
-    let name = proposed_value(alloc, &pending.submission.proposal)?;
-    let path = pending.submission.path.path_text(alloc)?;
-    json!(in alloc; {
-        "author": pending.submission.author.as_str(),
-        "name": name,
-        "num": pending.number,
-        "path": path.as_str()
-    })
-}
-
-// The values of submissions, in their order.
-fn pending_values(alloc: Global, page: &[Pending]) -> Result<Vec<Value>, AllocError>
-    ensures { IfOk result (λ values. map view values.items
-        ≡ map pending_data (map told_of page.now)) }
-{
-    let mut values = Vec::new(alloc);
-    for pending in page {
-        let value = pending_value(alloc, pending)?;
-        values.push(value)?;
-    }
-    Ok(values)
-}
-
-fn page_value(alloc: Global, page: &[Pending]) -> Result<Value, AllocError>
-    ensures { IfOk result (λ value. view value ≡ pendings_data (map told_of page.now)) }
-{
-    let values = pending_values(alloc, page)?;
-    Ok(array_value(values))
+    let members = with_text(Map::new(alloc), alloc, "author", submission.author.as_str())?;
+    let members = with_proposal(members, alloc, &submission.proposal)?;
+    let members = with_value(members, alloc, "num", Value::from(number))?;
+    with_path(members, alloc, &submission.path)
 }
 
 /// Appends what is proposed (`name` or `remove`), the path, and after `name` the name.
@@ -111,15 +100,25 @@ pub(crate) fn push_submission(
     Ok(())
 }
 
-fn page_text(alloc: Global, page: &[Pending]) -> Result<String, AllocError>
-    ensures { IfOk result (λ text. string_bytes text
-        ≡ flat_map pending_line (map told_of page.now)) }
-{
-    let mut text = String::new(alloc);
-    for pending in page {
-        push_submission(alloc, &mut text, pending.number, &pending.submission)?;
+impl Row for Pending {
+    ghost Seen = { ℕ × Standing };
+
+    ghost seen = { told_of };
+
+    ghost json = { pending_data };
+
+    ghost line = { pending_line };
+
+    fn value(&self, alloc: Global) -> Result<Value, AllocError> {
+        let members = submission_members(alloc, self.number, &self.submission)?;
+        Ok(Value::Object(members))
     }
-    Ok(text)
+
+    fn push_line(&self, alloc: Global, text: &mut String) -> Result<(), AllocError> {
+        push_submission(alloc, text, self.number, &self.submission)
+    }
+
+    ghost no_float = { pending_has_none };
 }
 
 /// The reply with pending submissions, in their order. The text has a line for each: its number,
@@ -127,14 +126,5 @@ fn page_text(alloc: Global, page: &[Pending]) -> Result<String, AllocError>
 pub fn pending_reply(alloc: Global, format: Format, page: &[Pending]) -> Result<Reply, AllocError>
     ensures { MakesReply result (pending_answer format (map told_of page.now)) }
 {
-    match format {
-        Format::Json => {
-            let value = page_value(alloc, page)?;
-            json_reply(alloc, StatusCode::OK, value)
-        }
-        Format::Text => {
-            let text = page_text(alloc, page)?;
-            Ok(text_reply(StatusCode::OK, text))
-        }
-    }
+    list_reply(alloc, format, page)
 }

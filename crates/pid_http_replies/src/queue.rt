@@ -1,89 +1,64 @@
 //! Replies with the queue of a moderator.
-ghost use Rattle.std.specs.Prelude.{◌≡◌, ◌++◌, map, string_bytes, IfOk, OnOk};
-ghost use Rattle.std.specs.List.{flat_map};
-ghost use Rattle.pid_moderation.specs.QueuePages.{queued_of};
-ghost use Rattle.serde_json.specs.View.{view};
+ghost use Rattle.std.specs.Prelude.{◌≡◌, codes, map, IfOk};
+ghost use Rattle.pid_moderation.specs.QueuePages.{QueueEntry, queued_of};
+ghost use Rattle.serde_json.specs.Data.{put as with_member};
+ghost use Rattle.serde_json.specs.View.{members_view};
 ghost use Rattle.pid_http_replies.specs.QueueAnswers.{
   now_data,
   queue_answer,
-  queue_data,
   queued_data,
   queued_line,
 };
 ghost use Rattle.pid_http_replies.specs.Replying.{MakesReply};
+ghost use Rattle.pid_http_replies.specs.Steps.NoFloats.{queued_has_none};
 
-use crate::pending::{proposed_value, push_submission};
-use crate::reply::{array_value, json_reply, text_reply};
-use http::StatusCode;
+use crate::list::{Row, list_reply};
+use crate::members::{with_text, with_value};
+use crate::pending::{push_submission, submission_members};
 use pid_http_requests::Format;
 use pid_http_stream::Reply;
-use pid_ident::{Name, PathText};
+use pid_ident::Name;
 use pid_moderation::Queued;
-use serde_json::{Value, json};
+use serde_json::{Map, Value};
 use std::alloc::{AllocError, Global};
 
-fn now_value(alloc: Global, now: &Option<Name>) -> Result<Value, AllocError>
-    ensures { IfOk result (λ value. view value ≡ now_data now.now) }
+// The members, and the name of today, or null if there is none.
+fn with_now(
+    members: Map<String, Value>,
+    alloc: Global,
+    today: &Option<Name>,
+) -> Result<Map<String, Value>, AllocError>
+    ensures { IfOk result (λ after. members_view after.entries
+        ≡ with_member (codes "now") (now_data today.now) (members_view members.entries)) }
 {
-    match now {
-        Some(name) => json!(in alloc; name.as_str()),
-        None => Ok(Value::Null),
+    match today {
+        Some(name) => with_text(members, alloc, "now", name.as_str()),
+        None => with_value(members, alloc, "now", Value::Null),
     }
 }
 
-fn queued_value(alloc: Global, queued: &Queued) -> Result<Value, AllocError>
-    ensures { IfOk result (λ value. view value ≡ queued_data (queued_of queued.entry.now)) }
-{
-    let name = proposed_value(alloc, &queued.submission.proposal)?;
-    let now = now_value(alloc, &queued.now)?;
-    let path = queued.submission.path.path_text(alloc)?;
-    json!(in alloc; {
-        "author": queued.submission.author.as_str(),
-        "name": name,
-        "note": queued.submission.note.as_str(),
-        "now": now,
-        "num": queued.number,
-        "path": path.as_str(),
-        "remarks": queued.remarks
-    })
-}
+impl Row for Queued {
+    ghost Seen = { QueueEntry };
 
-// The values of submissions, in their order.
-fn queued_values(alloc: Global, page: &[Queued]) -> Result<Vec<Value>, AllocError>
-    ensures { IfOk result (λ values. map view values.items
-        ≡ map queued_data (map queued_of page.now)) }
-{
-    let mut values = Vec::new(alloc);
-    for queued in page {
-        let value = queued_value(alloc, queued)?;
-        values.push(value)?;
+    ghost seen = { queued_of };
+
+    ghost json = { queued_data };
+
+    ghost line = { queued_line };
+
+    fn value(&self, alloc: Global) -> Result<Value, AllocError> {
+        let members = submission_members(alloc, self.number, &self.submission)?;
+        let members = with_text(members, alloc, "note", self.submission.note.as_str())?;
+        let members = with_now(members, alloc, &self.now)?;
+        let members = with_value(members, alloc, "remarks", Value::from(self.remarks))?;
+        Ok(Value::Object(members))
     }
-    Ok(values)
-}
 
-fn queue_value(alloc: Global, page: &[Queued]) -> Result<Value, AllocError>
-    ensures { IfOk result (λ value. view value ≡ queue_data (map queued_of page.now)) }
-{
-    let values = queued_values(alloc, page)?;
-    Ok(array_value(values))
-}
-
-fn push_queued(alloc: Global, text: &mut String, queued: &Queued) -> Result<(), AllocError>
-    ensures { OnOk result (string_bytes text.new
-        ≡ string_bytes text.old ++ queued_line (queued_of queued.entry.now)) }
-{
-    push_submission(alloc, text, queued.number, &queued.submission)
-}
-
-fn queue_text(alloc: Global, page: &[Queued]) -> Result<String, AllocError>
-    ensures { IfOk result (λ text. string_bytes text
-        ≡ flat_map queued_line (map queued_of page.now)) }
-{
-    let mut text = String::new(alloc);
-    for queued in page {
-        push_queued(alloc, &mut text, queued)?;
+    fn push_line(&self, alloc: Global, text: &mut String) -> Result<(), AllocError> {
+        push_submission(alloc, text, self.number, &self.submission)
     }
-    Ok(text)
+
+    ghost no_float = { queued_has_none };
 }
 
 /// The reply with pending submissions, each with its note, the name that its path has today and the
@@ -91,14 +66,5 @@ fn queue_text(alloc: Global, page: &[Queued]) -> Result<String, AllocError>
 pub fn queue_reply(alloc: Global, format: Format, page: &[Queued]) -> Result<Reply, AllocError>
     ensures { MakesReply result (queue_answer format (map queued_of page.now)) }
 {
-    match format {
-        Format::Json => {
-            let value = queue_value(alloc, page)?;
-            json_reply(alloc, StatusCode::OK, value)
-        }
-        Format::Text => {
-            let text = queue_text(alloc, page)?;
-            Ok(text_reply(StatusCode::OK, text))
-        }
-    }
+    list_reply(alloc, format, page)
 }

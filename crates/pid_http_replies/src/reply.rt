@@ -1,7 +1,7 @@
 //! Replies whose body is there.
-ghost use Rattle.std.specs.Prelude.{◌≡◌, false, map, string_bytes, IsTrue};
-ghost use Rattle.serde_json.specs.Data.{Data, array};
-ghost use Rattle.serde_json.specs.View.{items_of, view};
+ghost use Rattle.std.specs.Prelude.{◌≡◌, false, string_bytes, IsTrue};
+ghost use Rattle.serde_json.specs.Data.{Data};
+ghost use Rattle.serde_json.specs.View.{view};
 ghost use Rattle.serde_json.specs.Written.{compact_text, has_float};
 ghost use Rattle.pid_http_stream.specs.Replies.{answer_with};
 ghost use Rattle.pid_http_stream.specs.Statuses.{allows_body};
@@ -51,11 +51,4 @@ pub(crate) fn json_reply(
 {
     let text = value.to_string(alloc)?;
     Ok(json_text_reply(status, text))
-}
-
-/// The values as one array.
-pub(crate) fn array_value(values: Vec<Value>) -> Value
-    ensures { view result ≡ array (items_of (map view values.items)) }
-{
-    Value::Array(values)
 }

@@ -1,6 +1,5 @@
 //! The reply with a submission.
-ghost use Rattle.std.specs.Prelude.{◌≡◌, ◌++◌, codes, map, string_bytes, IfOk, OnOk};
-ghost use Rattle.std.specs.List.{flat_map};
+ghost use Rattle.std.specs.Prelude.{◌≡◌, ◌++◌, codes, refl, string_bytes, IfOk, OnOk};
 ghost use Rattle.pid_moderation.specs.Submissions.{
   decider_of,
   reason_of,
@@ -8,15 +7,15 @@ ghost use Rattle.pid_moderation.specs.Submissions.{
   discussion_of,
   standing_of,
 };
+ghost use Rattle.pid_moderation.specs.Views.{Remark};
 ghost use Rattle.serde_json.specs.Data.{object, string};
 ghost use Rattle.serde_json.specs.View.{view};
-ghost use Rattle.serde_json.specs.Written.{comma_if, compact_text};
+ghost use Rattle.serde_json.specs.Written.{compact_text};
 ghost use Rattle.pid_http_replies.specs.Replying.{MakesReply};
 ghost use Rattle.pid_http_replies.specs.SubmissionAnswers.{
   proposal_line,
   remark_data,
   remark_line,
-  remarks_data,
   standing_text,
   state_word,
   submission_answer,
@@ -24,8 +23,9 @@ ghost use Rattle.pid_http_replies.specs.SubmissionAnswers.{
 };
 ghost use Rattle.pid_http_replies.specs.Steps.SubmissionParts.{standing_members};
 
-use crate::list::push_row;
-use crate::pending::proposed_value;
+use crate::list::{Row, push_lines, push_rows};
+use crate::members::with_text;
+use crate::pending::submission_members;
 use crate::reply::{json_text_reply, text_reply};
 use crate::text::push_line;
 use http::StatusCode;
@@ -71,38 +71,25 @@ pub(crate) fn reason(state: &State) -> &str
     }
 }
 
-fn remark_value(alloc: Global, remark: &Comment) -> Result<Value, AllocError>
-    ensures { IfOk result (λ value. view value ≡ remark_data (remark_of remark.now)) }
-{
-    json!(in alloc; {"author": remark.author.as_str(), "text": remark.text.as_str()})
-}
+impl Row for Comment {
+    ghost Seen = { Remark };
 
-fn push_remark_row(
-    alloc: Global,
-    text: &mut String,
-    later: bool,
-    remark: &Comment,
-) -> Result<(), AllocError>
-    ensures { OnOk result (string_bytes text.new
-        ≡ string_bytes text.old ++ comma_if later ++ compact_text
-        (remark_data (remark_of remark.now))) }
-{
-    let row = remark_value(alloc, remark)?;
-    push_row(alloc, text, later, row)
-}
+    ghost seen = { remark_of };
 
-fn push_remark_list(alloc: Global, text: &mut String, remarks: &[Comment]) -> Result<(), AllocError>
-    ensures { OnOk result (string_bytes text.new
-        ≡ string_bytes text.old ++ compact_text (remarks_data (map remark_of remarks.now))) }
-{
-    text.push_str("[")?;
-    let mut later = false;
-    for remark in remarks {
-        push_remark_row(alloc, text, later, remark)?;
-        later = true;
+    ghost json = { remark_data };
+
+    ghost line = { remark_line };
+
+    fn value(&self, alloc: Global) -> Result<Value, AllocError> {
+        json!(in alloc; {"author": self.author.as_str(), "text": self.text.as_str()})
     }
-    text.push_str("]")?;
-    Ok(())
+
+    fn push_line(&self, _alloc: Global, text: &mut String) -> Result<(), AllocError> {
+        text.push_str("remark ")?;
+        push_line(text, self.author.as_str(), self.text.as_str())
+    }
+
+    ghost no_float = { λ _. refl };
 }
 
 // What comes before the remarks, as an object.
@@ -110,17 +97,11 @@ fn standing_value(alloc: Global, number: u32, submission: &Submission) -> Result
     ensures { IfOk result (λ value. view value
         ≡ object (standing_members number (standing_of submission.now))) }
 {
-    let name = proposed_value(alloc, &submission.proposal)?;
-    let path = submission.path.path_text(alloc)?;
-    json!(in alloc; {
-        "author": submission.author.as_str(),
-        "decider": decider(submission),
-        "name": name,
-        "note": submission.note.as_str(),
-        "num": number,
-        "path": path.as_str(),
-        "reason": reason(&submission.state)
-    })
+    let members = submission_members(alloc, number, submission)?;
+    let members = with_text(members, alloc, "decider", decider(submission))?;
+    let members = with_text(members, alloc, "note", submission.note.as_str())?;
+    let members = with_text(members, alloc, "reason", reason(&submission.state))?;
+    Ok(Value::Object(members))
 }
 
 // The same as text, except for the closing brace: more follows.
@@ -153,7 +134,7 @@ fn submission_json(
     let state = state_json(alloc, &discussion.submission.state)?;
     let mut text = standing_json(alloc, number, &discussion.submission)?;
     text.push_str(",\"remarks\":")?;
-    push_remark_list(alloc, &mut text, discussion.remarks.as_slice())?;
+    push_rows(alloc, &mut text, discussion.remarks.as_slice())?;
     text.push_str(",\"state\":")?;
     text.push_str(state.as_str())?;
     text.push_str("}")?;
@@ -191,24 +172,6 @@ fn standing_lines(alloc: Global, number: u32, submission: &Submission) -> Result
     Ok(text)
 }
 
-fn push_remark(text: &mut String, remark: &Comment) -> Result<(), AllocError>
-    ensures { OnOk result (string_bytes text.new
-        ≡ string_bytes text.old ++ remark_line (remark_of remark.now)) }
-{
-    text.push_str("remark ")?;
-    push_line(text, remark.author.as_str(), remark.text.as_str())
-}
-
-fn push_remarks(text: &mut String, remarks: &[Comment]) -> Result<(), AllocError>
-    ensures { OnOk result (string_bytes text.new
-        ≡ string_bytes text.old ++ flat_map remark_line (map remark_of remarks.now)) }
-{
-    for remark in remarks {
-        push_remark(text, remark)?;
-    }
-    Ok(())
-}
-
 /// The reply with the submission of a number, as it stands, and the remarks on it. In the text each
 /// line has a word and what it says; a removal has the line `remove` in place of a name.
 pub fn submission_reply(
@@ -226,7 +189,7 @@ pub fn submission_reply(
         }
         Format::Text => {
             let mut text = standing_lines(alloc, number, &discussion.submission)?;
-            push_remarks(&mut text, discussion.remarks.as_slice())?;
+            push_lines(alloc, &mut text, discussion.remarks.as_slice())?;
             Ok(text_reply(StatusCode::OK, text))
         }
     }

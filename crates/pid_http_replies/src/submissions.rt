@@ -1,20 +1,21 @@
 //! Replies with pages of submissions.
-ghost use Rattle.std.specs.Prelude.{◌≡◌, ◌++◌, map, string_bytes, IfOk, OnOk};
-ghost use Rattle.std.specs.List.{flat_map};
-ghost use Rattle.pid_moderation.specs.SubmissionPages.{listed_of, submission_page_of};
+ghost use Rattle.std.specs.Prelude.{◌≡◌, string_bytes, IfOk};
+ghost use Rattle.pid_moderation.specs.SubmissionPages.{Listing, listed_of, submission_page_of};
 ghost use Rattle.serde_json.specs.View.{view};
 ghost use Rattle.pid_http_replies.specs.Replying.{MakesReply};
 ghost use Rattle.pid_http_replies.specs.SubmissionPageAnswers.{
   listed_data,
-  listed_items,
   listed_line,
   submissions_answer,
   submissions_data,
   submissions_text as text_of_submissions,
 };
+ghost use Rattle.pid_http_replies.specs.Steps.NoFloats.{listed_has_none};
 
-use crate::pending::{proposed_value, push_proposal};
-use crate::reply::{array_value, json_reply, text_reply};
+use crate::list::{Row, push_lines, rows_value};
+use crate::members::{with_text, with_value};
+use crate::pending::{push_proposal, submission_members};
+use crate::reply::{json_reply, text_reply};
 use crate::submission::{decider, reason, state_name};
 use crate::text::{push_line, push_number};
 use http::StatusCode;
@@ -26,74 +27,46 @@ use pid_moderation::{Listed, SubmissionPage};
 use serde_json::{Value, json};
 use std::alloc::{AllocError, Global};
 
-fn listed_value(alloc: Global, listed: &Listed) -> Result<Value, AllocError>
-    ensures { IfOk result (λ value. view value ≡ listed_data (listed_of listed.now)) }
-{
-    let name = proposed_value(alloc, &listed.submission.proposal)?;
-    let path = listed.submission.path.path_text(alloc)?;
-    json!(in alloc; {
-        "author": listed.submission.author.as_str(),
-        "decider": decider(&listed.submission),
-        "name": name,
-        "num": listed.number,
-        "path": path.as_str(),
-        "reason": reason(&listed.submission.state),
-        "remarks": listed.remarks,
-        "state": state_name(&listed.submission.state)
-    })
-}
+impl Row for Listed {
+    ghost Seen = { Listing };
 
-// The values of submissions, in their order.
-fn listed_values(alloc: Global, listings: &[Listed]) -> Result<Vec<Value>, AllocError>
-    ensures { IfOk result (λ values. map view values.items
-        ≡ map listed_data (map listed_of listings.now)) }
-{
-    let mut values = Vec::new(alloc);
-    for listed in listings {
-        let value = listed_value(alloc, listed)?;
-        values.push(value)?;
+    ghost seen = { listed_of };
+
+    ghost json = { listed_data };
+
+    ghost line = { listed_line };
+
+    fn value(&self, alloc: Global) -> Result<Value, AllocError> {
+        let submission = &self.submission;
+        let members = submission_members(alloc, self.number, submission)?;
+        let members = with_text(members, alloc, "decider", decider(submission))?;
+        let members = with_text(members, alloc, "reason", reason(&submission.state))?;
+        let members = with_value(members, alloc, "remarks", Value::from(self.remarks))?;
+        let members = with_text(members, alloc, "state", state_name(&submission.state))?;
+        Ok(Value::Object(members))
     }
-    Ok(values)
-}
 
-fn listings_value(alloc: Global, listings: &[Listed]) -> Result<Value, AllocError>
-    ensures { IfOk result (λ value. view value ≡ listed_items (map listed_of listings.now)) }
-{
-    let values = listed_values(alloc, listings)?;
-    Ok(array_value(values))
+    fn push_line(&self, alloc: Global, text: &mut String) -> Result<(), AllocError> {
+        let path = self.submission.path.path_text(alloc)?;
+        push_number(text, self.number)?;
+        text.push_str(" ")?;
+        text.push_str(state_name(&self.submission.state))?;
+        text.push_str(" ")?;
+        text.push_str(self.submission.author.as_str())?;
+        text.push_str(" ")?;
+        push_proposal(text, &self.submission.proposal, path.as_str())?;
+        text.push_str("\n")?;
+        Ok(())
+    }
+
+    ghost no_float = { listed_has_none };
 }
 
 fn submissions_value(alloc: Global, page: &SubmissionPage) -> Result<Value, AllocError>
     ensures { IfOk result (λ value. view value ≡ submissions_data (submission_page_of page.now)) }
 {
-    let submissions = listings_value(alloc, page.submissions.as_slice())?;
+    let submissions = rows_value(alloc, page.submissions.as_slice())?;
     json!(in alloc; {"before": page.before, "submissions": submissions})
-}
-
-fn push_listed(alloc: Global, text: &mut String, listed: &Listed) -> Result<(), AllocError>
-    ensures { OnOk result (string_bytes text.new
-        ≡ string_bytes text.old ++ listed_line (listed_of listed.now)) }
-{
-    let path = listed.submission.path.path_text(alloc)?;
-    push_number(text, listed.number)?;
-    text.push_str(" ")?;
-    text.push_str(state_name(&listed.submission.state))?;
-    text.push_str(" ")?;
-    text.push_str(listed.submission.author.as_str())?;
-    text.push_str(" ")?;
-    push_proposal(text, &listed.submission.proposal, path.as_str())?;
-    text.push_str("\n")?;
-    Ok(())
-}
-
-fn push_listings(alloc: Global, text: &mut String, listings: &[Listed]) -> Result<(), AllocError>
-    ensures { OnOk result (string_bytes text.new
-        ≡ string_bytes text.old ++ flat_map listed_line (map listed_of listings.now)) }
-{
-    for listed in listings {
-        push_listed(alloc, text, listed)?;
-    }
-    Ok(())
 }
 
 fn submissions_text(alloc: Global, page: &SubmissionPage) -> Result<String, AllocError>
@@ -103,7 +76,7 @@ fn submissions_text(alloc: Global, page: &SubmissionPage) -> Result<String, Allo
     let mut digits = Buffer::new();
     let mut text = String::new(alloc);
     push_line(&mut text, "before", digits.format(page.before))?;
-    push_listings(alloc, &mut text, page.submissions.as_slice())?;
+    push_lines(alloc, &mut text, page.submissions.as_slice())?;
     Ok(text)
 }
 

@@ -14,3 +14,11 @@ standing_members n s =
     (member (codes "num") (number (unsigned n))
     (member (codes "path") (string (path_text s.submitted.path))
     (member (codes "reason") (string (reason_of s.state)) no_members))))))
+
+-- the keys of a submission that is pending
+abbrev pub pending_members : ℕ → Standing → Members
+pending_members n s =
+    member (codes "author") (string s.submitted.author)
+    (member (codes "name") (proposed_data s.submitted.proposal)
+    (member (codes "num") (number (unsigned n))
+    (member (codes "path") (string (path_text s.submitted.path)) no_members)))

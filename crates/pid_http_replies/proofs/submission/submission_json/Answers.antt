@@ -40,8 +40,8 @@ returns c =
     let list : List ℕ = compact_text (remarks_data (map remark_of c.args.discussion.now.remarks.items)) in
     let word : List ℕ = compact_text (string (state_word submission.state)) in
     let told : c.as_str.result.now ≡ word = c.as_str.ensures.value ∙ c.in_ok-state.ensures in
-    let listed : string_bytes c.push_remark_list.new.text ≡ text ++ codes ",\"remarks\":" ++ list =
-    followed _ _ _ list c.in_ok-push_str.ensures.bytes (c.in_ok-push_remark_list.ensures ∙ ap (λ items. string_bytes c.push_str.new.self ++ compact_text (remarks_data (map remark_of items))) c.as_slice.ensures.value) in
+    let listed : string_bytes c.push_rows.new.text ≡ text ++ codes ",\"remarks\":" ++ list =
+    followed _ _ _ list c.in_ok-push_str.ensures.bytes (c.in_ok-push_rows.ensures ∙ ap (λ items. string_bytes c.push_str.new.self ++ compact_text (remarks_data (map remark_of items))) c.as_slice.ensures.value) in
     let stated : string_bytes c.push_str-3.new.self ≡ text ++ codes ",\"remarks\":" ++ list ++ codes ",\"state\":" ++ word =
     followed _ _ _ word (followed _ _ _ (codes ",\"state\":") listed c.in_ok-push_str-2.ensures.bytes) (c.in_ok-push_str-3.ensures.bytes ∙ ap (λ t. string_bytes c.push_str-2.new.self ++ t) told) in
     followed _ _ _ (codes "}") stated c.in_ok-push_str-4.ensures.bytes
