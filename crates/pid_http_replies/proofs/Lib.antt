@@ -1,3 +1,4 @@
+pub mod Floats
 pub mod ListTexts
 pub mod ObjectTexts
 mod Rows

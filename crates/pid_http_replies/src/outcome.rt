@@ -22,13 +22,14 @@ ghost use Rattle.pid_http_stream.specs.RequestRefusals.{
 };
 ghost use Rattle.pid_http_stream.specs.Statuses.{allows_body};
 
+use crate::members::{with_text, with_value};
 use crate::reply::{json_reply, text_reply};
 use http::StatusCode;
 use pid_http_requests::Format;
 use pid_http_stream::{Reply as HttpReply, RequestRefusal};
 use pid_lookup::Unanswered;
 use pid_moderation::{FileFault, Refusal, Reply, reply_line};
-use serde_json::{Value, json};
+use serde_json::{Map, Value, json};
 use std::alloc::{AllocError, Global};
 
 fn status_of(outcome: Result<Reply, Refusal>) -> StatusCode
@@ -76,7 +77,12 @@ fn counts_value(alloc: Global, added: u32, renamed: u32, same: u32) -> Result<Va
 fn fault_value(alloc: Global, line: u64, kind: u8) -> Result<Value, AllocError>
     ensures { IfOk result (λ value. view value ≡ fault_data line kind) }
 {
-    json!(in alloc; {"kind": kind, "line": line, "ok": false, "refused": 14, "word": "FileFault"})
+    let members = with_value(Map::new(alloc), alloc, "kind", Value::from(kind))?;
+    let members = with_value(members, alloc, "line", Value::from(line))?;
+    let members = with_value(members, alloc, "ok", Value::Bool(false))?;
+    let members = with_value(members, alloc, "refused", Value::from(14u8))?;
+    let members = with_text(members, alloc, "word", "FileFault")?;
+    Ok(Value::Object(members))
 }
 
 /// The value of a refusal: its number and its word.

@@ -10,6 +10,7 @@ ghost use Rattle.pid_http_replies.specs.StatusAnswers.{
 };
 ghost use Rattle.pid_http_replies.specs.WordLines.{word_line};
 
+use crate::members::with_value;
 use crate::reply::{json_reply, text_reply};
 use crate::text::push_line;
 use http::StatusCode;
@@ -17,19 +18,28 @@ use itoa::Buffer;
 use pid_http_requests::Format;
 use pid_http_stream::Reply;
 use pid_moderation::Status;
-use serde_json::{Value, json};
+use serde_json::{Map, Value};
 use std::alloc::{AllocError, Global};
 
 fn status_value(alloc: Global, status: &Status) -> Result<Value, AllocError>
     ensures { IfOk result (λ value. view value ≡ status_data (registry_status_of status.now)) }
 {
-    json!(in alloc; {
-        "accounts": status.accounts,
-        "items": status.items,
-        "pending": status.pending,
-        "revision": status.revision,
-        "submissions": status.submissions
-    })
+    let members = with_value(
+        Map::new(alloc),
+        alloc,
+        "accounts",
+        Value::from(status.accounts),
+    )?;
+    let members = with_value(members, alloc, "items", Value::from(status.items))?;
+    let members = with_value(members, alloc, "pending", Value::from(status.pending))?;
+    let members = with_value(members, alloc, "revision", Value::from(status.revision))?;
+    let members = with_value(
+        members,
+        alloc,
+        "submissions",
+        Value::from(status.submissions),
+    )?;
+    Ok(Value::Object(members))
 }
 
 fn push_count(text: &mut String, word: &str, count: u64) -> Result<(), AllocError>

@@ -1,5 +1,5 @@
 use Rattle.pid_moderation.specs.ChangePages.{page_of}
-use Rattle.pid_http_replies.specs.Steps.NoFloats.{changes_have_none}
+use Rattle.pid_http_replies.proofs.Floats.{changes_have_none}
 use Rattle.pid_http_replies.proofs.changes.changes_reply.Goals as goal
 
 pub returns-in_ok-value-in-Json : goal.returns-in_ok-value-in-Json

@@ -1,4 +1,4 @@
-use Rattle.pid_http_replies.specs.Steps.NoFloats.{outcome_has_none}
+use Rattle.pid_http_replies.proofs.Floats.{outcome_has_none}
 use Rattle.pid_http_replies.proofs.outcome.outcome_reply.Goals as goal
 
 pub returns-in_ok-value-in-Json : goal.returns-in_ok-value-in-Json

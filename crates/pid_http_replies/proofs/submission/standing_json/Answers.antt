@@ -4,7 +4,7 @@ use Rattle.serde_json.specs.Data.{object}
 use Rattle.serde_json.specs.View.{view}
 use Rattle.serde_json.specs.Written.{has_float, compact_text}
 use Rattle.pid_moderation.specs.Submissions.{standing_of}
-use Rattle.pid_http_replies.specs.Steps.NoFloats.{standing_has_none}
+use Rattle.pid_http_replies.proofs.Floats.{standing_has_none}
 use Rattle.pid_http_replies.specs.Steps.SubmissionParts.{standing_members}
 use Rattle.pid_http_replies.proofs.ObjectTexts.{popped}
 use Rattle.pid_http_replies.proofs.submission.standing_json.Goals as goal

@@ -1,5 +1,5 @@
 use Rattle.pid_moderation.specs.SubmissionPages.{submission_page_of}
-use Rattle.pid_http_replies.specs.Steps.NoFloats.{submissions_have_none}
+use Rattle.pid_http_replies.proofs.Floats.{submissions_have_none}
 use Rattle.pid_http_replies.proofs.submissions.submissions_reply.Goals as goal
 
 pub returns-in_ok-value-in-Json : goal.returns-in_ok-value-in-Json
