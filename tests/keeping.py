@@ -295,6 +295,7 @@ def restores(cases):
         cases.equal("restore: the former one is kept", tuple(map(read, where)), TWO)
         status = it.restore("swap", it.registry, it.mirror)[0]
         cases.equal("restore: nothing is prepared any more", status, 1)
+        second_restore(cases, it, name, old)
         bad = os.path.join(it.copies, "2000-01-01T000000Z")
         shutil.copytree(os.path.join(it.copies, name), bad)
         with gzip.open(os.path.join(bad, "registry.db-wal.gz"), "wb") as file:
@@ -304,6 +305,29 @@ def restores(cases):
         for odd in ("none", "../registry", "a;b"):
             cases.equal(f"restore: {odd}", (it.prepare(odd)[0], it.now()), (1, ONE))
     swaps_stopped(cases)
+
+
+def second_restore(cases, it, name, former):
+    """A restore within a second of others: what each of them replaced is kept."""
+    for ahead in (0, 1):
+        second = time.strftime("%Y-%m-%dT%H%M%SZ", time.gmtime(time.time() + ahead))
+        taken = os.path.join(it.registry, f"replaced.{second}")
+        if not os.path.exists(taken):
+            os.mkdir(taken)
+            write(os.path.join(taken, "registry.db"), "kept")
+            former = [*former, os.path.basename(taken)]
+    it.set("two")
+    it.prepare(name)
+    status = it.restore("swap", it.registry, it.mirror)[0]
+    cases.equal("restore: once more at once", (status, it.now()), (0, ONE))
+    names = [name for name in os.listdir(it.registry) if name.startswith("replaced.")]
+    new = [name for name in names if name not in former]
+    cases.equal("restore: in a place of its own", len(new), 1)
+    files = ("registry.db", "registry.db-wal")
+    where = [os.path.join(it.registry, new[0], name) for name in files]
+    cases.equal("restore: the former one is kept again", tuple(map(read, where)), TWO)
+    kept = {read(os.path.join(it.registry, name, "registry.db")) for name in former}
+    cases.equal("restore: and those before it", kept, {b"kept", TWO[0]})
 
 
 def swaps_stopped(cases):
