@@ -1,5 +1,6 @@
-"""How the libraries of the program are built side by side, with a stand-in for the toolchain."""
+"""How ./pciids builds a program, and the libraries side by side; the toolchain has a stand-in."""
 import os
+import re
 import shutil
 import signal
 import subprocess
@@ -8,61 +9,113 @@ import time
 
 import program
 
-SCRIPT = os.path.join(program.TOP, "tools", "libraries.py")
+SCRIPT = os.path.join(program.TOP, "tools", "build.py")
+WRAPPER = os.path.join(program.TOP, "pciids")
 
 # Two crates that need one another's end, two that can be built at the same time between them, and
 # one for which no other crate waits.
 CRATES = "low: std_thing\nleft: low\nright: low\naside: low\ntop: left right\nprogram: top aside\n"
 NAMES = ("aside", "left", "low", "right", "top")
+ALL = (*NAMES, "program")
+# What the wrapper builds: the first program leaves all commands but one to the other.
+PROGRAMS = "pid_file:\npid_cli_first: pid_file\npid_cli: pid_file\n"
 
-# Takes a while, and notes the crate, its jobs, and the libraries that it finds below.
-RT = """#!/usr/bin/env python3
+RT = """#!/bin/sh
+[ "$1" = doc ] && echo "$(dirname "$0")/../START-HERE.md"
+"""
+
+# Takes a while, and notes the crate, its jobs, whether it writes statements, and the libraries that
+# it is given.
+RATTLE = """#!/usr/bin/env python3
 import os, sys, time
-crate = os.path.basename(os.getcwd())
-below = sorted(it for it in os.listdir("..") if os.path.exists(f"../{it}/out/rlib/stamp"))
+words = sys.argv[1:]
+assert words.pop(0) == "build"
+value = lambda flag: words[words.index(flag) + 1]
+crate = value("--crate-name")
+given = [words[at + 1].split("=") for at, it in enumerate(words) if it == "--extern"]
+for name, place in given:
+    assert place.endswith(f"{name}.rlib"), place
+    assert "/kit/" in place or os.path.isdir(place), place
 note = open(os.environ["NOTES"], "a")
-kept = os.path.exists("out/incremental/work")
-words = ["begin", crate, *sys.argv[1:], "over", *below, "kept" if kept else "new"]
-print(*words, file=note, flush=True)
-os.makedirs("out/incremental", exist_ok=True)
-open("out/incremental/work", "w").close()
-time.sleep(float(os.environ.get("PAUSE", "0.5")))
+print(os.getpid(), file=open(os.environ["NOTES"] + ".pids", "a"))
+kind = ["statements"] if "--statements" in words else []
+names = sorted(name for name, _ in given)
+print("begin", crate, "jobs", value("--jobs"), *kind, "over", *names, file=note, flush=True)
+time.sleep(0.1 if crate == "low" else float(os.environ.get("PAUSE", "0.5")))
 if os.environ.get("BROKEN") == crate:
     sys.exit("src/lib.rt:1: error: not proved")
-os.makedirs("out/rlib")
-open("out/rlib/stamp", "w").close()
+if kind:
+    os.mkdir(value("-o"))
+else:
+    with open(value("-o"), "w") as file:
+        file.write(f"#!/bin/sh\\n[ {crate} != pid_cli_first ] || [ $# = 0 ] || exit 4\\n")
+        file.write(f"echo {crate} runs $*\\n")
+    os.chmod(value("-o"), 0o755)
 print("end", crate, file=note, flush=True)
 """
 
+LINK = """#!/usr/bin/env python3
+import os, shutil, sys
+words = sys.argv[1:]
+assert os.path.exists(words[words.index("-o") + 2])
+shutil.copy(words[words.index("-o") + 2], words[words.index("-o") + 1])
+"""
 
-def make(folder):
-    """A repository of six crates without code, and the toolchain's stand-in."""
-    for crate in (*NAMES, "program"):
-        os.makedirs(os.path.join(folder, "crates", crate, "src"))
-        with open(os.path.join(folder, "crates", crate, "src", "lib.rt"), "w") as file:
-            file.write("//! Nothing.\n")
-    for name, text in (("crates.txt", CRATES), ("HANDLES", "Handles allowed: none.\n")):
-        with open(os.path.join(folder, name), "w") as file:
-            file.write(text)
-    os.makedirs(os.path.join(folder, "bin"))
+RTLIB = """
+import os
+class Crate:
+    def __init__(self, folder, root, known):
+        self.folder = folder
+    def stamp(self):
+        return open(os.path.join(self.folder, "src", "lib.rt")).read()
+"""
+
+
+NO_RT = "pciids: cannot build the program: the command rt is not in PATH"
+
+
+def write(path, text):
+    os.makedirs(os.path.dirname(path), exist_ok=True)
+    with open(path, "w") as file:
+        file.write(text)
+    os.chmod(path, 0o755)
+
+
+def make(folder, crates=CRATES):
+    """A repository of crates without code, and the toolchain's stand-in."""
+    write(os.path.join(folder, "crates.txt"), crates)
+    for crate in (it.partition(":")[0] for it in crates.splitlines()):
+        write(os.path.join(folder, "crates", crate, "src", "lib.rt"), "//! Nothing.\n")
+        if crate in ("program", "pid_cli_first", "pid_cli"):
+            write(os.path.join(folder, "crates", crate, "src", "main.rt"), "fn main() {}\n")
     os.makedirs(os.path.join(folder, "tools"))
     shutil.copy(SCRIPT, os.path.join(folder, "tools"))
-    rt = os.path.join(folder, "bin", "rt")
-    with open(rt, "w") as file:
-        file.write(RT)
-    os.chmod(rt, 0o755)
+    shutil.copy(WRAPPER, folder)
+    for name, text in (("rt", RT), ("rattle", RATTLE), ("rattle-link", LINK), ("rtlib.py", RTLIB)):
+        write(os.path.join(folder, "kit", "bin", name), text)
+
+
+def environment(folder, **more):
+    tools = os.path.join(folder, "kit", "bin") + os.pathsep + os.environ["PATH"]
+    return {**os.environ, "NOTES": os.path.join(folder, "notes"), "PATH": tools, **more}
 
 
 def start(folder, **more):
-    environment = dict(os.environ, NOTES=os.path.join(folder, "notes"), **more)
-    environment["PATH"] = os.path.join(folder, "bin") + os.pathsep + environment["PATH"]
     return subprocess.Popen(
-        ["python3", "-B", os.path.join(folder, "tools", "libraries.py"), "program", "4"],
+        ["python3", "-B", os.path.join(folder, "tools", "build.py"), "program", "4"],
         stdout=subprocess.PIPE,
         stderr=subprocess.PIPE,
-        env=environment,
+        env=environment(folder, **more),
         text=True,
     )
+
+
+def build(folder, **more):
+    """What a whole run of the script prints, and its status."""
+    process = start(folder, **more)
+    told, faults = process.communicate(timeout=60)
+    lines = sorted(re.sub("[0-9]+ s$", "N s", it) for it in told.splitlines())
+    return lines, faults, process.returncode
 
 
 def notes(folder):
@@ -70,61 +123,128 @@ def notes(folder):
         return file.read().splitlines()
 
 
-def lanes(folder):
-    """What is left of the folders in which crates were built."""
-    found = []
-    for crate in os.listdir(os.path.join(folder, "crates")):
-        out = os.path.join(folder, "crates", crate, "out")
-        found += [it for it in os.listdir(out) if "lane" in it] if os.path.isdir(out) else []
-    return found
+def begun(folder):
+    """The crates of which a proof was begun, in turn."""
+    return [it.split()[1] for it in notes(folder) if it.startswith("begin")]
 
 
 def test_builds(cases):
     """Each crate is built once, over the crates below it, two of them at the same time."""
     with tempfile.TemporaryDirectory() as folder:
         make(folder)
-        told, faults = start(folder).communicate(timeout=60)
-        cases.equal("nothing goes wrong", faults, "")
-        lines = sorted(told.splitlines())
-        wanted = [f"crate {it}: modules stand" for it in NAMES]
-        cases.equal("each crate is reported", lines, wanted)
+        wanted = [f"crate {it}: proved, N s" for it in sorted(ALL)]
+        cases.equal("each crate is reported", build(folder, PAUSE="2"), (wanted, "", 0))
         noted = notes(folder)
-        cases.equal(
-            "the lowest crate gets all processors", noted[0], "begin low lib --jobs 4 over new"
-        )
-        jobs = {"aside": 1, "left": 2, "right": 2}
-        wanted = [f"begin {it} lib --jobs {n} over low new" for it, n in jobs.items()]
-        cases.equal("two share the processors, one is beside them", sorted(noted[2:5]), wanted)
+        low = "begin low jobs 4 statements over std std_thing"
+        cases.equal("the lowest crate gets all processors", noted[0], low)
+        jobs = {"aside": 1, "left": 4, "right": 4}
+        wanted = [f"begin {it} jobs {n} statements over low std" for it, n in jobs.items()]
+        cases.equal("two have all of them, one is beside them", sorted(noted[2:5]), wanted)
         top = [it for it in noted if it.startswith("begin top")]
-        cases.equal("the last one", top, ["begin top lib --jobs 4 over left low right new"])
-        cases.equal("no lane is left", lanes(folder), [])
-        stamp = os.path.join(folder, "crates", "top", "out", "rlib", "stamp")
-        cases.equal("the library is where it belongs", os.path.exists(stamp), True)
+        cases.equal("the last library", top, ["begin top jobs 4 statements over left right std"])
+        last = "begin program jobs 4 over aside std top"
+        cases.equal("the program comes last", noted[-2:], [last, "end program"])
+        linked = os.path.join(folder, "crates", "program", "out", "program")
+        cases.equal("the program is where it belongs", os.path.isfile(linked), True)
+
+
+def test_builds_again(cases):
+    """A second run proves what has changed and what is above it, and the program."""
+    with tempfile.TemporaryDirectory() as folder:
+        make(folder)
+        build(folder)
+        os.remove(os.path.join(folder, "notes"))
+        build(folder)
+        cases.equal("nothing has changed", begun(folder), ["program"])
+        os.remove(os.path.join(folder, "notes"))
+        write(os.path.join(folder, "crates", "left", "src", "lib.rt"), "//! Something.\n")
+        build(folder)
+        cases.equal("a library has changed", begun(folder), ["left", "top", "program"])
+        os.remove(os.path.join(folder, "notes"))
+        os.remove(os.path.join(folder, "kit", "bin", "rtlib.py"))
+        build(folder)
+        cases.equal("nothing is known of the sums", sorted(begun(folder)), sorted(ALL))
 
 
 def test_breaks(cases):
     """A crate that isn't proved: what the toolchain said is shown, and nothing above is begun."""
     with tempfile.TemporaryDirectory() as folder:
         make(folder)
-        process = start(folder, BROKEN="right")
-        told, faults = process.communicate(timeout=60)
-        cases.equal("the status", process.returncode, 1)
+        _, faults, status = build(folder, BROKEN="right")
+        cases.equal("the status", status, 1)
         cases.equal("what is shown", faults, "src/lib.rt:1: error: not proved\n")
-        cases.equal("the crate above", [it for it in notes(folder) if "begin top" in it], [])
-        cases.equal("no lane is left", lanes(folder), [])
+        cases.equal("the crate above", "top" in begun(folder), False)
+
+
+def running(folder):
+    """How many of the provers that were begun run."""
+    with open(os.path.join(folder, "notes.pids")) as file:
+        return sum(os.path.exists(f"/proc/{it}") for it in file.read().split())
+
+
+def wait_until(holds):
+    end = time.monotonic() + 30
+    while not holds() and time.monotonic() < end:
+        time.sleep(0.05)
 
 
 def test_stops(cases):
-    """Stopped while it builds, it keeps what was done: the next run goes on from there."""
+    """Stopped while it builds, it ends its provers, and the next run goes on from what is built."""
     with tempfile.TemporaryDirectory() as folder:
         make(folder)
-        process = start(folder, PAUSE="30")
-        while not os.path.exists(os.path.join(folder, "notes")):
-            time.sleep(0.05)
-        time.sleep(0.3)
+        process = start(folder, PAUSE="300")
+        wait_until(lambda: os.path.exists(f"{folder}/notes") and len(begun(folder)) == 4)
+        cases.equal("provers run", running(folder), 3)
         process.send_signal(signal.SIGINT)
         process.communicate(timeout=60)
         cases.equal("the status", process.returncode, 130)
-        cases.equal("no lane is left", lanes(folder), [])
-        start(folder).communicate(timeout=60)
-        cases.equal("the work is kept", notes(folder)[1], "begin low lib --jobs 4 over kept")
+        wait_until(lambda: not running(folder))
+        cases.equal("no prover goes on", running(folder), 0)
+        os.remove(os.path.join(folder, "notes"))
+        build(folder)
+        cases.equal("what is built is kept", "low" in begun(folder), False)
+
+
+def call(folder, *words, **more):
+    """What ./pciids prints with these words, and its status."""
+    ran = subprocess.run(
+        [os.path.join(folder, "pciids"), *words],
+        capture_output=True,
+        env=environment(folder, **more),
+        text=True,
+        timeout=60,
+    )
+    return ran.stdout, ran.stderr, ran.returncode
+
+
+def test_wrapper(cases):
+    """It builds what the arguments need, once, and says what it does."""
+    with tempfile.TemporaryDirectory() as folder:
+        make(folder, PROGRAMS)
+        told, said, status = call(folder, PAUSE="2.5")
+        cases.equal("no arguments", (told, status), ("pid_cli_first runs\n", 0))
+        what = "pciids: building the first program, for tidy, check and help (2 crates)\n"
+        cases.equal("what it builds", what in said, True)
+        cases.equal("how far it is", "pciids: 1 of 2 crates proved (pid_file), " in said, True)
+        cases.equal("no arguments, again", call(folder), ("pid_cli_first runs\n", "", 0))
+        told, said, status = call(folder, "script", "-x")
+        cases.equal("a command", (told, status), ("pid_cli runs script -x\n", 0))
+        cases.equal("and what it builds", "building the whole program (2 crates)" in said, True)
+        cases.equal("in all", begun(folder), ["pid_file", "pid_cli_first", "pid_cli"])
+        cases.equal("no arguments, later", call(folder), ("pid_cli runs\n", "", 0))
+
+
+def test_wrapper_fails(cases):
+    """A build that fails has status 3, and says why."""
+    with tempfile.TemporaryDirectory() as folder:
+        make(folder, PROGRAMS)
+        told, said, status = call(folder, BROKEN="pid_file")
+        why = "src/lib.rt:1: error: not proved\npciids: could not build the program\n"
+        cases.equal("not proved", (told, said.endswith(why), status), ("", True, 3))
+        cases.equal("the program", os.listdir(f"{folder}/crates/pid_cli_first/out"), [])
+        os.remove(os.path.join(folder, "kit", "bin", "rt"))
+        found = ["bash", "cat", "python3", "sed", "readlink", "find", "nproc"]
+        for name in found:
+            os.symlink(shutil.which(name), os.path.join(folder, "kit", "bin", name))
+        told, said, status = call(folder, PATH=os.path.join(folder, "kit", "bin"))
+        cases.equal("no toolchain", (told, said.splitlines()[0], status), ("", NO_RT, 3))

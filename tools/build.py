@@ -1,0 +1,267 @@
+#!/usr/bin/env python3
+"""Proves and builds a program and the libraries that it consists of, several side by side.
+
+    tools/build.py PROGRAM PROCESSORS
+
+Each crate is proved from nothing. Of a library, `rattle build --statements` then writes what the
+crates above it can cite, without the proofs, so that they have less to load than of a library that
+`rt lib` builds. The crates for which the longest chain of crates waits have a job for each
+processor, and others go on beside them with what they leave idle. Prints `crate NAME: proved, N s`
+when a crate is built; what `rattle` prints goes to standard error if it fails.
+"""
+
+import contextlib
+import fcntl
+import importlib
+import os
+import shutil
+import signal
+import subprocess
+import sys
+import threading
+import time
+
+TOP = os.path.dirname(os.path.dirname(os.path.abspath(__file__)))
+SOURCES = ("src", "specs", "proofs")
+TARGET = "x86_64-unknown-linux-gnu"
+# A prover and its copies are ended together. They stay in this session if Python can do that, since
+# Linux shares the processors out between sessions whatever `nice` says.
+GROUP = {"process_group": 0} if sys.version_info >= (3, 11) else {"start_new_session": True}
+
+
+def read_uses():
+    """Returns the libraries that each crate uses, of the repository and of the toolchain."""
+    uses = {}
+    with open(os.path.join(TOP, "crates.txt"), encoding="utf-8") as file:
+        for line in file:
+            name, colon, libraries = line.partition("#")[0].partition(":")
+            if colon:
+                uses[name.split()[0]] = libraries.split()
+    return uses
+
+
+def below(uses, crate):
+    """Returns the repository's crates below this one, lowest first."""
+    found = []
+    for used in uses[crate]:
+        if used in uses:
+            found += [it for it in [*below(uses, used), used] if it not in found]
+    return found
+
+
+def folder(crate):
+    return os.path.join(TOP, "crates", crate)
+
+
+def size(crate):
+    """Returns how many bytes the sources of a crate have: roughly how long its proof takes."""
+    total = 0
+    for part in SOURCES:
+        for place, _, names in os.walk(os.path.join(folder(crate), part)):
+            total += sum(os.path.getsize(os.path.join(place, name)) for name in names)
+    return total
+
+
+def lock(crates):
+    """Waits until no other build and no `rt` works in these crates' folders, which then wait."""
+    held = [os.open(it, os.O_RDONLY) for it in sorted(map(folder, crates))]
+    for it in held:
+        # Some file systems have no locks.
+        with contextlib.suppress(OSError):
+            fcntl.flock(it, fcntl.LOCK_EX)
+
+
+class Toolchain:
+    """The commands that prove, build and link, and the sum by which `rt` knows a built library."""
+
+    def __init__(self, uses):
+        page = subprocess.run(["rt", "doc"], stdout=subprocess.PIPE, text=True, check=True)
+        self.kit = os.path.dirname(page.stdout.strip())
+        self.uses = uses
+        sys.path.insert(0, os.path.join(self.kit, "bin"))
+
+    def build(self, crate, jobs):
+        """Returns the command that proves a crate and builds its library or its object file."""
+        command = [f"{self.kit}/bin/rattle", "build", "--crate-name", crate]
+        command += ["src/main.rt" if self.is_program(crate) else "src/lib.rt"]
+        for used in ("std", *self.uses[crate]):
+            place = self.library(used) if used in self.uses else f"{self.kit}/rlibs/{used}.rlib"
+            command += ["--extern", f"{used}={place}"]
+        for place in (self.kit + "/rlibs", *map(self.place, below(self.uses, crate))):
+            command += ["-L", f"dependency={place}"]
+        command += ["--antt-project", f"{self.kit}/rattle/logic/antt-project.json"]
+        command += ["--logic-built", f"{self.kit}/logic_built"]
+        command += ["--links", f"{crate}=", "--jobs", str(jobs)]
+        if self.is_program(crate):
+            command += ["--toolchain", f"{self.kit}/toolchain", "--backend", "llvm"]
+            return [*command, "-o", f"out/{crate}.o"]
+        return [*command, "--statements", "-o", self.library(crate)]
+
+    def link(self, crate):
+        """Returns the command that links a program."""
+        command = [f"{self.kit}/bin/rattle-link", "--target", TARGET]
+        command += ["--toolchain", f"{self.kit}/toolchain", "-o", f"out/{crate}", f"out/{crate}.o"]
+        return [*command, f"{self.kit}/c/libos_c.a", f"{self.kit}/c/liblibc_c.a"]
+
+    @staticmethod
+    def is_program(crate):
+        return os.path.exists(os.path.join(folder(crate), "src", "main.rt"))
+
+    @staticmethod
+    def place(crate):
+        return os.path.join(folder(crate), "out", "rlib")
+
+    def library(self, crate):
+        return os.path.join(self.place(crate), f"{crate}.rlib")
+
+    def sum(self, crate):
+        """Returns the sum of all that a library is made from. `rt` takes a library with this sum
+        as built; a toolchain that makes it otherwise builds all libraries anew."""
+        try:
+            return importlib.import_module("rtlib").Crate(folder(crate), TOP, {}).stamp()
+        except (AttributeError, ImportError, OSError, TypeError, SystemExit):
+            return None
+
+
+class Build:
+    """The crates of a program: which are built, and which are being built with how many jobs."""
+
+    def __init__(self, program, processors):
+        self.uses = read_uses()
+        self.crates = [*below(self.uses, program), program]
+        self.below = {crate: below(self.uses, crate) for crate in self.crates}
+        self.toolchain = Toolchain(self.uses)
+        self.processors = processors
+        self.built, self.jobs, self.failed = set(), {}, False
+        # Those that are built beside the ones for which the longest chain waits.
+        self.beside = set()
+        self.changed = threading.Condition()
+        self.started = []
+        self.sizes = {crate: size(crate) for crate in self.crates}
+        # The longest chain that waits for a crate.
+        self.above = {}
+        for crate in reversed(self.crates):
+            users = [it for it in self.above if crate in self.uses[it]]
+            self.above[crate] = max((self.chain(it) for it in users), default=0)
+
+    def chain(self, crate):
+        return self.sizes[crate] + self.above[crate]
+
+    def ready(self):
+        """Returns the crates that can be built now, those with the longest chain first."""
+        waiting = [it for it in self.crates if it not in self.built and it not in self.jobs]
+        ready = [it for it in waiting if self.built.issuperset(self.below[it])]
+        return sorted(ready, key=lambda it: -self.chain(it))
+
+    def run(self):
+        """Builds all crates. Returns whether that succeeded."""
+        threads = []
+        with self.changed:
+            while not self.failed and len(self.built) < len(self.crates):
+                ready = self.ready()
+                self.jobs.update(dict.fromkeys(self.leading(ready), self.processors))
+                for crate in ready:
+                    if crate not in self.jobs and len(self.beside) < max(1, self.processors // 2):
+                        self.jobs[crate] = 1
+                        self.beside.add(crate)
+                    if crate in self.jobs:
+                        threads.append(threading.Thread(target=self.build, args=(crate,)))
+                        threads[-1].start()
+                self.changed.wait(timeout=1)
+        for thread in threads:
+            thread.join()
+        return not self.failed
+
+    def leading(self, ready):
+        """Returns those of these crates for which the longest chain of crates waits."""
+        first = max((it for it in self.crates if it not in self.built), key=self.chain)
+        return [it for it in ready if self.above[it] == self.above[first]]
+
+    def build(self, crate):
+        """Builds one crate, and lets those above it begin."""
+        succeeded, began = False, time.monotonic()
+        try:
+            succeeded = self.is_built(crate) or self.prove(crate, self.jobs[crate])
+        finally:
+            with self.changed:
+                del self.jobs[crate]
+                self.beside.discard(crate)
+                self.failed = self.failed or not succeeded
+                self.built.add(crate)
+                seconds = time.monotonic() - began
+                if succeeded:
+                    print(f"crate {crate}: proved, {seconds:.0f} s", flush=True)
+                self.changed.notify()
+
+    def is_built(self, crate):
+        """Returns whether a library was built from its sources as they are now, and over the
+        libraries that are below it now."""
+        places = [os.path.join(Toolchain.place(it), "stamp") for it in [crate, *self.below[crate]]]
+        try:
+            with open(places[0], encoding="utf-8") as file:
+                is_same = file.read() == self.toolchain.sum(crate)
+            ages = [os.stat(it).st_mtime_ns for it in places]
+        except FileNotFoundError:
+            return False
+        return is_same and ages[0] == max(ages)
+
+    def prove(self, crate, jobs):
+        """Proves and builds a crate. Returns whether that succeeded."""
+        place, toolchain = Toolchain.place(crate), self.toolchain
+        if toolchain.is_program(crate):
+            os.makedirs(os.path.dirname(place), exist_ok=True)
+            return self.call(crate, toolchain.build(crate, jobs)) and self.call(
+                crate, toolchain.link(crate)
+            )
+        shutil.rmtree(place, ignore_errors=True)
+        os.makedirs(place)
+        before = toolchain.sum(crate)
+        succeeded = self.call(crate, toolchain.build(crate, jobs))
+        if succeeded and before and before == toolchain.sum(crate):
+            with open(os.path.join(place, "stamp"), "w", encoding="utf-8") as file:
+                file.write(before)
+        return succeeded
+
+    def call(self, crate, command):
+        """Runs a command in a crate's folder; a crate that is built beside others gives way."""
+        with self.changed:
+            if self.failed:
+                return False
+            process = subprocess.Popen(
+                [*(["nice"] if crate in self.beside else []), *command],
+                cwd=folder(crate),
+                stdin=subprocess.DEVNULL,
+                stdout=subprocess.PIPE,
+                stderr=subprocess.STDOUT,
+                text=True,
+                **GROUP,
+            )
+            self.started.append(process)
+        told, _ = process.communicate()
+        if process.returncode and not self.failed:
+            sys.stderr.write(told)
+        return process.returncode == 0
+
+    def stop(self):
+        """Ends the builds that run, with the copies that a prover makes of itself."""
+        with self.changed:
+            self.failed = True
+            for process in self.started:
+                if process.poll() is None:
+                    os.killpg(process.pid, signal.SIGTERM)
+
+
+def main():
+    program, processors = sys.argv[1], int(sys.argv[2])
+    build = Build(program, processors)
+    signal.signal(signal.SIGTERM, lambda *_: sys.exit(build.stop() or 143))
+    try:
+        lock(build.crates)
+        return 0 if build.run() else 1
+    except KeyboardInterrupt:
+        build.stop()
+        return 130
+
+
+if __name__ == "__main__":
+    sys.exit(main())
