@@ -1,7 +1,10 @@
 """The service survives a reboot of its machine: the registry, its names, the accounts, the timers
 and the site are back, with nothing done by hand."""
+import contextlib
 import os
 import re
+import signal
+import subprocess
 import time
 
 import pytest
@@ -48,6 +51,14 @@ def children(pid):
 class Machine(machine_room.Machine):
     def find_leader(self):
         return next((it for pid in children(self.process.pid) for it in children(pid)), None)
+
+    def __exit__(self, *_):
+        # The shell would leave the machine running.
+        for pid in children(self.process.pid):
+            os.kill(int(pid), signal.SIGTERM)
+        with contextlib.suppress(subprocess.TimeoutExpired):
+            self.process.wait(timeout=60)
+        super().__exit__()
 
     def reboot(self):
         """Returns whether the machine is up again."""
