@@ -1,6 +1,7 @@
 //! Worked rows, through each of the readers.
 
-use crate::texts::is_checked;
+use crate::texts::{is_checked, is_within};
+use pid_file::LARGEST;
 use pid_ident::{LineKind, Path};
 use pid_reader::{Counter, CutEnd, Cutter, Feeder, LineFault, Lines, Never, ReadRefusal, read_ids};
 use pid_tree::TreeItems;
@@ -299,20 +300,26 @@ fn many(alloc: Global, devices: u16, more: &[u8]) -> Result<Vec<u8>, AllocError>
     Ok(text)
 }
 
+// The limits of entries and of bytes; the second one is tried with fewer bytes.
 #[test]
-fn hundred_thousand(rt: HostRuntime) -> Result<(), Fail> {
+fn limits_of_a_text(rt: HostRuntime) -> Result<(), Fail> {
     let alloc = rt.alloc();
     let full = many(alloc, 34_464, b"")?;
     assert!(rt; by_read_ids(alloc, &full) == Ok(100_000));
     let (line, kind) = (100_001, LineKind::Duplicate);
-    let rows: [(&[u8], Answer); 3] = [
-        (b"\t86a0  a\n", Err(ReadRefusal::TooManyEntries)),
-        (b"\t0000  a\n", Err(ReadRefusal::Line { line, kind })),
-        (b"S 0001\n", Ok(100_000)),
+    let one_more = Err(ReadRefusal::TooManyEntries);
+    let repeat = Err(ReadRefusal::Line { line, kind });
+    let rows: [(&[u8], Answer, &str); 3] = [
+        (b"\t86a0  a\n", one_more, "too many entries"),
+        (b"\t0000  a\n", repeat, "line 100001: 7 Duplicate"),
+        (b"S 0001\n", Ok(100_000), "ok 100000"),
     ];
-    for (more, want) in rows {
+    for (more, want, told) in rows {
         let text = many(alloc, 34_464, more)?;
-        assert!(rt; by_counting(alloc, &text, 0) == want);
+        assert!(rt; by_counting(alloc, &text, 0) == want, "{told}");
+        assert!(rt; is_checked(alloc, &text, 65_536, told), "{told}");
     }
+    assert!(rt; LARGEST == 4_194_304);
+    assert!(rt; is_within(alloc, 15, "line 2: 7 Duplicate") && is_within(alloc, 14, "too large"));
     Ok(())
 }

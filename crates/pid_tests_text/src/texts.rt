@@ -1,5 +1,5 @@
-//! Texts tidied and checked: readers and writers that fail.
-use pid_file::{TextEnd, check, tidy};
+//! Texts tidied and checked: their ends, and readers and writers that fail.
+use pid_file::{TextEnd, check, count_input, tell_unread, tidy};
 use pid_ident::{FaultyInput, FaultyOutput, LineKind, WriteFault};
 use std::alloc::Global;
 
@@ -16,12 +16,36 @@ fn is_tidied(alloc: Global, text: &[u8], most: usize, want: &[u8]) -> bool {
     matches!(end, TextEnd::Done) && output.taken.as_slice() == want && faults.taken.is_empty()
 }
 
-/// Whether `check` prints this line of a text that is read in chunks of at most so many bytes.
+// Whether an end is the one of this line, and the line is all that was printed.
+fn is_end_of(end: TextEnd, want: &str, printed: &[u8]) -> bool {
+    let is_so = match end {
+        TextEnd::Done => want.starts_with("ok "),
+        TextEnd::Line { .. } => want.starts_with("line "),
+        TextEnd::TooManyEntries => want == "too many entries",
+        TextEnd::TooLarge => want == "too large",
+        TextEnd::Memory | TextEnd::ReadFault | TextEnd::WriteFault => false,
+    };
+    is_so && printed.strip_suffix(b"\n") == Some(want.as_bytes())
+}
+
+/// Whether `check` ends with this line of a text that is read in chunks of at most so many bytes.
 pub fn is_checked(alloc: Global, text: &[u8], most: usize, want: &str) -> bool {
     let mut input = FaultyInput::new(text, most);
     let mut output = FaultyOutput::new(alloc, 7);
-    let _end = check(alloc, &mut input, &mut output);
-    output.taken.strip_suffix(b"\n") == Some(want.as_bytes())
+    let end = check(alloc, &mut input, &mut output);
+    is_end_of(end, want, &output.taken)
+}
+
+/// Whether this line is reported of a text of 15 bytes whose second line is faulty, if so many
+/// bytes are allowed.
+pub fn is_within(alloc: Global, limit: usize, want: &str) -> bool {
+    let mut input = FaultyInput::new(b"8086  I\n8086  J", 3);
+    let mut faults = FaultyOutput::new(alloc, 7);
+    let Err(unread) = count_input(alloc, limit, &mut input) else {
+        return false;
+    };
+    let end = tell_unread(unread, &mut faults);
+    is_end_of(end, want, &faults.taken)
 }
 
 // Whether nothing but the fault of the second line is reported.
