@@ -119,11 +119,12 @@ fn is_told(alloc: Global, count: usize, fault: WriteFault) -> bool {
         && NO_PARENT.starts_with(&output.taken)
 }
 
-// A read that fails is reported before all else; a writer that fails took a prefix.
+// A read that fails is reported before all else, also after a faulty line (the second text, after
+// four calls); a writer that fails took a prefix.
 #[test]
 fn readers_and_writers_fail(rt: HostRuntime) {
     let alloc = rt.alloc();
-    for calls in 0..4u64 {
+    for calls in 0..5u64 {
         assert!(rt; is_unread(alloc, VENDORS, calls), "{calls}");
         assert!(rt; is_unread(alloc, b"8086  I\n8086  J\n", calls), "{calls}");
     }
