@@ -47,7 +47,7 @@ C 01 | line 1: 4 BadId
 C 01  M;>06  S;>>80  P;>>80  Q | line 4: 7 Duplicate
 ";
 
-fn text_of(alloc: Global, row: &str) -> Result<Vec<u8>, AllocError> {
+fn text_of(alloc: Global, row: &str) -> Result<Vec<u8>, Fail> {
     let mut text = Vec::new(alloc);
     let mut is_code = false;
     for byte in row.as_bytes() {
@@ -55,6 +55,7 @@ fn text_of(alloc: Global, row: &str) -> Result<Vec<u8>, AllocError> {
             b'0' if is_code => 7,
             b'1' if is_code => 11,
             b'2' if is_code => 255,
+            _ if is_code => Err("a code")?,
             b';' => b'\n',
             b'>' => b'\t',
             b'^' => b'\r',
