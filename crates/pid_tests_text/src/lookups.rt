@@ -4,14 +4,14 @@ use crate::trees::made;
 use pid_ident::{Name, Path};
 use pid_lookup::{Answer, Args, LookupRefusal, Names, TreeNames, args_of, lookup};
 use pid_tree::Tree;
-use std::alloc::{AllocError, Global};
+use std::alloc::Global;
 use std::test::Fail;
 
 // The fields of a query such as `flags=1&vendor=8086`.
-fn fields_of(alloc: Global, query: &str) -> Result<Vec<(String, String)>, AllocError> {
+fn fields_of(alloc: Global, query: &str) -> Result<Vec<(String, String)>, Fail> {
     let mut fields = Vec::new(alloc);
     for pair in query.split('&') {
-        let (name, value) = pair.split_once('=').unwrap_or((pair, ""));
+        let (name, value) = pair.split_once('=').ok_or("a field")?;
         let name = String::from_str(alloc, name)?;
         fields.push((name, String::from_str(alloc, value)?))?;
     }
@@ -19,7 +19,7 @@ fn fields_of(alloc: Global, query: &str) -> Result<Vec<(String, String)>, AllocE
 }
 
 // Flags, values and size of a query; `None` if a field is bad.
-fn asked(alloc: Global, query: &str) -> Result<Option<(u32, Args, u32)>, AllocError> {
+fn asked(alloc: Global, query: &str) -> Result<Option<(u32, Args, u32)>, Fail> {
     let fields = fields_of(alloc, query)?;
     Ok(args_of(fields.as_slice()).ok())
 }
