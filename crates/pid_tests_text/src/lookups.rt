@@ -276,6 +276,14 @@ fn cuts_to_each_size(rt: HostRuntime) -> Result<(), Fail> {
     Ok(())
 }
 
+// Whether a text is the name, or begins it and has dots at its end.
+fn is_name_or_cut(text: &[u8], name: &[u8]) -> bool {
+    match text.strip_suffix(b"...") {
+        Some(front) => front.len() < name.len() && name.starts_with(front),
+        None => text == name,
+    }
+}
+
 // The length of what a buffer of so many bytes holds of the name, and its capacity; the length is 0
 // if it is not the first bytes, whole or with dots at their end.
 fn held_in(alloc: Global, tree: &Tree, size: u32, name: &str) -> Result<(usize, usize), Fail> {
@@ -284,9 +292,8 @@ fn held_in(alloc: Global, tree: &Tree, size: u32, name: &str) -> Result<(usize, 
         return Err("a text")?;
     };
     let bytes = text.into_bytes();
-    let is_whole = bytes.as_slice() == name.as_bytes();
-    let is_cut = bytes.ends_with(b"...") && bytes.len() < name.len();
-    let length = if is_whole || is_cut { bytes.len() } else { 0 };
+    let is_so = is_name_or_cut(&bytes, name.as_bytes());
+    let length = if is_so { bytes.len() } else { 0 };
     Ok((length, bytes.capacity()))
 }
 
