@@ -49,7 +49,8 @@ fn is_so(alloc: Global, tree: &mut Tree, row: &str) -> Result<bool, Fail> {
         "remove" => Ok(outcome(remove(tree, item)?) == want),
         "len" => Ok(tree.len() == item.parse::<usize>()? && tree.is_empty() == (item == "0")),
         "has" => is_there(tree, item),
-        _ => is_printed(alloc, tree, rest),
+        "text" => is_printed(alloc, tree, rest),
+        _ => Err("an unknown row")?,
     }
 }
 
