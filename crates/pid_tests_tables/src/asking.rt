@@ -240,8 +240,11 @@ fn judged<S: Alter + Drop>(tables: &mut Tables<S>, alloc: Global) -> Result<u32,
     if !tables.conn.is_autocommit() {
         return Err(TableFault::Store);
     }
-    tables.check(alloc)?;
-    tables.version()
+    match tables.check(alloc)? {
+        None => Ok(0),
+        Some(Version::One) => Ok(1),
+        Some(Version::Two) => Ok(2),
+    }
 }
 
 // How many items there are; or the number of the schema, also of what was checked.

@@ -183,6 +183,7 @@ sql CREATE TABLE note (body TEXT) | done
 judged | 0
 create | done
 judged | 2
+version | 2
 
 sql CREATE TABLE meta (x INTEGER) | done
 create | damaged
@@ -205,6 +206,8 @@ check | two
 migrate | already
 
 older | done
+judged | 1
+version | 1
 migrate | moved
 check | two
 migrate | already
