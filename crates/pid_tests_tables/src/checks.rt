@@ -118,6 +118,9 @@ second | done
 fn expect_schemas(rt: &impl Abort, alloc: Global, row: &str) -> Result<(), Fail> {
     let (answers, then) = row.split_once(" | ").ok_or("a row")?;
     let (first, second) = answers.split_once(' ').ok_or("two answers")?;
+    if first == "-" && second == "-" {
+        return Err("a row that asks nothing")?;
+    }
     expect_check(rt, alloc, OF_FIRST, then, first)?;
     expect_check(rt, alloc, OF_SECOND, then, second)
 }
