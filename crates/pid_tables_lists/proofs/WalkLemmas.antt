@@ -26,10 +26,11 @@ use Rattle.pid_tables_rows.specs.Faults.{fault_of_sql}
 use Rattle.pid_tables_rows.specs.Leaves.{AtRest, OnlyReads}
 use Rattle.pid_tables_rows.specs.Schema.{pid_schema}
 use Rattle.pid_tables_rows.specs.Unread.{ReadsAsItem}
-use Rattle.pid_tables_rows.specs.Steps.Unread.{IsWord}
+use Rattle.sqlite.specs.declared.types.Value.TheVariants.{Text}
+use Rattle.pid_tables_rows.specs.Steps.Unread.{IsPathText, IsWord}
 use Rattle.pid_tables_rows.proofs.CauseLemmas.{caused, caused_later}
 use Rattle.pid_tables_rows.proofs.ReadBack.{among}
-use Rattle.pid_tables_rows.proofs.UnreadLemmas.{caused_unread, path_utf8, name_utf8}
+use Rattle.pid_tables_rows.proofs.UnreadLemmas.{caused_unread, name_utf8}
 use Rattle.std.specs.Str.{is_utf8}
 use Rattle.pid_tables_rows.specs.Shows.{counts_of}
 use Rattle.pid_tables_rows.proofs.GoingLemmas.{earlier}
@@ -75,8 +76,8 @@ tables_caused old new r y fault is same h = end_caused old new r y (Tables fault
 
 -- ---- the texts of an item's row
 
-pub path_word : (row : Row) → ReadsAsItem row → IsWord is_utf8 (column row 0)
-path_word row good = (good.0, subst (λ t. is_utf8 t ≡ true) (sym good.2.0.1.same) (path_utf8 good.2.0.0), good.3)
+pub path_word : (row : Row) → ReadsAsItem row → IsPathText (column row 0)
+path_word row good = (good.2.0.0, good.2.0.1.in_range, good.3 ∙ ap Text good.2.0.1.same)
 
 pub name_word : (row : Row) → ReadsAsItem row → IsWord is_utf8 (column row 1)
 name_word row good = (good.1, name_utf8 good.1 good.2.1, good.4)

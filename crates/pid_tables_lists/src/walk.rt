@@ -16,10 +16,10 @@ ghost use Rattle.pid_tables_lists.specs.declared.walk.EachEnd.TheVariants as end
 ghost use Rattle.pid_tables_rows.specs.Clauses.{OnlyReads};
 ghost use Rattle.pid_tables_lists.specs.Clauses.{IsCausedEnd, OverViews};
 
-use pid_ident::{Path, PathText, is_name};
+use pid_ident::is_name;
 use pid_reader::{Entry, Sink};
 use pid_tables_rows::TableFault;
-use pid_tables_rows::value::text_at;
+use pid_tables_rows::value::{path_at, text_at};
 use sqlite::{Alter, Connection, Error as SqlError, Row};
 use thiserror::Error;
 
@@ -48,6 +48,20 @@ impl<F> From<SqlError> for EachEnd<F> {
     }
 }
 
+// The name of an item's row, lent.
+fn name_in(row: &Row) -> Result<&str, TableFault>
+    ensures name { IfOk result (λ name. column row.now 1 ≡ TextValue name.now) }
+    ensures checked { IfOk result (λ name. IsTrue (name_test name.now)) }
+    ensures unread { IfErr result (IsUnreadable (ReadsAsItem row.now)) }
+{
+    let name = text_at(row, 1)?;
+    if is_name(name) {
+        Ok(name)
+    } else {
+        Err(TableFault::Damaged)
+    }
+}
+
 // The item of a row, lent.
 fn entry_of(row: &Row, line: usize) -> Result<Entry<'_>, TableFault>
     ensures line { IfOk result (λ entry. entry.line ≡ line) }
@@ -56,12 +70,9 @@ fn entry_of(row: &Row, line: usize) -> Result<Entry<'_>, TableFault>
     ensures checked { IfOk result (λ entry. IsTrue (name_test entry.name.now)) }
     ensures unread { IfErr result (IsUnreadable (ReadsAsItem row.now)) }
 {
-    let path = text_at(row, 0)?;
-    let name = text_at(row, 1)?;
-    match Path::parse(path) {
-        Some(path) if is_name(name) => Ok(Entry { line, path, name }),
-        _ => Err(TableFault::Damaged),
-    }
+    let path = path_at(row, 0)?;
+    let name = name_in(row)?;
+    Ok(Entry { line, path, name })
 }
 
 fn hand_on<K: Sink>(row: &Row, line: usize, sink: &mut K) -> Result<(), EachEnd<K::Fault>>
