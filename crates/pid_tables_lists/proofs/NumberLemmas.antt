@@ -1,18 +1,21 @@
 -- Submissions that are read by their numbers.
-use Rattle.std.proofs.Common.{◌≡◌, inl, inr, ℕ, zero, suc, ◌+◌, ◌<◌, List, [], ◌∷◌, ◌++◌, length, map, filter, take, get_or, Bool, true, false, Some, Ok, Err, Result, MatchResult, OnOk, IfErr, refl, sym, ap, subst, ◌∙◌, arith, add-one}
+use Rattle.std.proofs.Common.{◌≡◌, inl, inr, ℕ, zero, suc, ◌+◌, ◌<◌, List, Option, [], ◌∷◌, ◌++◌, length, map, filter, take, get_or, Bool, true, false, Some, Ok, Err, Result, MatchResult, OnOk, IfErr, refl, sym, ap, subst, ◌∙◌, arith, add-one}
 use Rattle.std.specs.Prelude.{◌&&◌, nat_lt, option_map}
 use Rattle.std.specs.List.{filter_map, cons_option}
 use Rattle.std.proofs.lemmas.Bool.Decides.{nat_tests}
 use Rattle.std.proofs.lemmas.List.{map-append, take-map}
 use Rattle.std.proofs.lemmas.List.Elements.{filter_map-append}
 use Rattle.sqlite_trees.proofs.ListLemmas.{filter-map}
-use Rattle.sqlite.specs.State.{State}
+use Rattle.sqlite.specs.State.{State, HasCleanDisk}
 use Rattle.sqlite_rules.specs.Lists.{Has}
 use Rattle.pid_moderation.specs.CheckTables.{is_pending}
 use Rattle.pid_moderation.specs.PendingPages.{pending_in, standings_from, waiting_above, waits_above}
 use Rattle.pid_moderation.specs.Submissions.{Standing, standing_in}
 use Rattle.pid_moderation.specs.Views.{Views}
 use Rattle.pid_tables_rows.specs.Causes.{IsCaused, IsReadable}
+use Rattle.pid_tables_rows.specs.Leaves.{OnlyReads}
+use Rattle.pid_tables_rows.specs.Unread.{IsUnreadable}
+use Rattle.pid_tables_rows.proofs.CauseLemmas.{caused_later}
 use Rattle.pid_tables_rows.specs.declared.fault.TableFault.{TableFault}
 use Rattle.pid_tables_rows.specs.declared.fault.TableFault.TheVariants.{Memory}
 use Rattle.pid_tables_lists.specs.ByNumber.{standing_at, standings_at}
@@ -36,12 +39,6 @@ one_more v numbers i number d is low =
     sym (filter_map-append (standing_at v) (take i numbers) (number ∷ []))
     ∙ ap (filter_map (standing_at v)) (ap (λ n. take i numbers ++ n ∷ []) is ∙ sym (taken_more numbers i d low) ∙ ap (λ k. take k numbers) (sym (add-one i)))
 
-pub more_found : {X : Type 0} (v : Views) (f : ℕ × Standing → X) (numbers : List ℕ) (i number d : ℕ) (old new : List X) → number ≡ get_or numbers i d → i < length numbers
-    → new ≡ old ++ map f (standings_at (number ∷ []) v) → old ≡ map f (standings_at (take i numbers) v) → new ≡ map f (standings_at (take (i + 1) numbers) v)
-more_found v f numbers i number d old new is low one before =
-    one ∙ ap (λ l. l ++ map f (standings_at (number ∷ []) v)) before ∙ sym (map-append f (standings_at (take i numbers) v) (standings_at (number ∷ []) v))
-    ∙ ap (map f) (one_more v numbers i number d is low)
-
 pub more_there : (v : Views) (numbers : List ℕ) (i number d : ℕ) (old new : List (ℕ × Standing)) → number ≡ get_or numbers i d → i < length numbers
     → new ≡ old ++ standings_at (number ∷ []) v → old ≡ standings_at (take i numbers) v → new ≡ standings_at (take (i + 1) numbers) v
 more_there v numbers i number d old new is low one before =
@@ -55,10 +52,26 @@ told_less (Ok x) P Q F h less = less x h
 told_less (Err e) P Q F h less = h
 
 -- an element was added, or there was no memory
-pub kept_one : {X Y : Type 0} (f : X → Y) (was now : List X) (x : X) (y : Y) (r : Result (Unit {0}) TableFault) (old new : State) (v : Views) → OnOk r (now ≡ was ++ x ∷ []) → IfErr r (λ fault. fault ≡ Memory) → f x ≡ y
-    → MatchResult r (λ _. map f now ≡ map f was ++ y ∷ []) (λ fault. IsReadable v → IsCaused old new fault)
-kept_one f was now x y (Ok u) old new v added full same = ap (map f) added ∙ map-append f was (x ∷ []) ∙ ap (λ z. map f was ++ z ∷ []) same
-kept_one f was now x y (Err e) old new v added full same = λ readable. subst (IsCaused old new) (sym full) tt
+pub kept_one : {X Y : Type 0} (f : X → Y) (was now : List X) (x : X) (more : List Y) (r : Result (Unit {0}) TableFault) (old new : State) (v : Views) → OnOk r (now ≡ was ++ x ∷ []) → IfErr r (λ fault. fault ≡ Memory) → f x ∷ [] ≡ more
+    → MatchResult r (λ _. map f now ≡ map f was ++ more) (λ fault. IsReadable v → IsCaused old new fault)
+kept_one f was now x more (Ok u) old new v added full same = ap (map f) added ∙ map-append f was (x ∷ []) ∙ ap (λ l. map f was ++ l) same
+kept_one f was now x more (Err e) old new v added full same = λ readable. subst (IsCaused old new) (sym full) tt
+
+-- the same of an element that a row stands for
+pub kept_row : {X Y : Type 0} (Written : Type 0) (f : X → Y) (was now : List X) (x : X) (y : Y) (r : Result (Unit {0}) TableFault) → OnOk r (now ≡ was ++ x ∷ []) → IfErr r (λ fault. fault ≡ Memory) → f x ≡ y
+    → MatchResult r (λ _. map f now ≡ map f was ++ y ∷ []) (IsUnreadable Written)
+kept_row Written f was now x y (Ok u) added full same = ap (map f) added ∙ map-append f was (x ∷ []) ∙ ap (λ z. map f was ++ z ∷ []) same
+kept_row Written f was now x y (Err e) added full same = subst (IsUnreadable Written) (sym full) tt
+
+-- what there is by one number
+pub by_number : (v : Views) (number : ℕ) (found : Option Standing) → found ≡ standing_in v number → cons_option (option_map (λ (s : Standing). (number, s)) found) [] ≡ standings_at (number ∷ []) v
+by_number v number found is = ap (λ o. cons_option (option_map (λ (s : Standing). (number, s)) o) []) is
+
+-- a second read whose answer is the answer
+pub read_behind : {X : Type 0} (old mid new : State) (v : Views) (r : Result X TableFault) (P Q : X → Type 0) → OnlyReads old mid → OnlyReads mid new → HasCleanDisk new → MatchResult r P (λ fault. IsReadable v → IsCaused mid new fault) → ((x : X) → P x → Q x)
+    → MatchResult r Q (λ fault. IsReadable v → IsCaused old new fault)
+read_behind old mid new v (Ok x) P Q one two clean told more = more x told
+read_behind old mid new v (Err e) P Q one two clean told more = λ readable. caused_later old mid new (λ _. ⊥) e one.survives two.survives.counts (two.clean clean) (told readable)
 
 -- those that are there, read by their numbers
 pub read_again : (v : Views) (all : List (ℕ × Standing)) → ((e : ℕ × Standing) → Has all e → standing_in v e.0 ≡ Some e.1) → standings_at (map (λ (e : ℕ × Standing). e.0) all) v ≡ all

@@ -231,7 +231,7 @@ module _ (db : Database) (c : Counts) (v : Views) (shows : ShowsCounting c db v)
       first_of (suc k) [] = refl
       first_of (suc k) (x ∷ xs) = ap (λ l. pending_row x ∷ l) (first_of k xs)
 
-same_number : (m n : ℕ) → number m ≡ number n → m ≡ n
+pub same_number : (m n : ℕ) → number m ≡ number n → m ≡ n
 same_number m n e = cc
 
 -- a row that reads to a submission and a number is that of no other

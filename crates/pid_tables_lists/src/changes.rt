@@ -35,10 +35,10 @@ ghost use Rattle.pid_tables_lists.specs.Steps.ChangeRows.{
   held as held_number,
 };
 
+use crate::names::name_of;
 use pid_ident::{Path, PathText};
 use pid_moderation::{ChangedItem, Changes, PAGE};
 use pid_tables_rows::TableFault;
-use pid_tables_rows::item::item_name;
 use pid_tables_rows::meta::revision;
 use pid_tables_rows::run::read_rows;
 use pid_tables_rows::value::{path_at, whole_at};
@@ -87,8 +87,7 @@ fn named<S: Alter>(
     ensures told { TellsOf S.Store conn.old conn.new result
         (λ v item. IsChangeAt v item (path_text path) since) (λ item told. changed_of told ≡ item) }
 {
-    let text = path.path_text(alloc)?;
-    match item_name(conn, alloc, text.as_str())? {
+    match name_of(conn, alloc, path)? {
         Some(name) => Ok(ChangedItem { path, name, since }),
         None => Err(TableFault::Damaged),
     }
@@ -158,6 +157,22 @@ fn start_of(alloc: Global, after: Option<&Path>) -> Result<String, AllocError>
     }
 }
 
+// The items of a page, which begins after the path.
+fn items_after<S: Alter>(
+    conn: &mut Connection<S>,
+    alloc: Global,
+    since: u64,
+    after: Option<&Path>,
+) -> Result<Vec<ChangedItem>, TableFault>
+    requires { conn.old.in_transaction ≡ false }
+    ensures { Reads S.Store conn.old conn.new result (λ v items. map changed_of items.items
+        ≡ (changes_in PAGE (held_number since) (start_text (option_copied after.entry)) v).items) }
+{
+    let start = start_of(alloc, after)?;
+    let rows = change_rows(conn, since, start.as_str())?;
+    changed_items(conn, alloc, rows.as_slice())
+}
+
 /// The first items whose last change has a number above this one and whose paths come after that
 /// path, at most a page of them, in the canonical order. Without a path the page begins with the
 /// first item. Items that were removed are not listed. Items without such a change are passed over,
@@ -177,9 +192,7 @@ pub fn changes_page<S: Alter>(
         (λ v changes. AreHeld v → length changes.items.items
         ≡ most_listed (length (changed_behind since (start_text (option_copied after.entry)) v))) }
 {
-    let start = start_of(alloc, after)?;
     let revision = revision(conn)?;
-    let rows = change_rows(conn, since, start.as_str())?;
-    let items = changed_items(conn, alloc, rows.as_slice())?;
+    let items = items_after(conn, alloc, since, after)?;
     Ok(Changes { revision, items })
 }

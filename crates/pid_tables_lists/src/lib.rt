@@ -1,9 +1,11 @@
 //! Lists of what the tables of a registry hold, each in its order.
 #![tactic(auto)]
 
+mod adding;
 mod changes;
 mod children;
 pub mod laws;
+mod names;
 mod pending;
 mod queue;
 mod submission;

@@ -8,7 +8,6 @@ ghost use Rattle.std.specs.Prelude.{
   false,
   length,
   map,
-  option_map,
   MatchResult,
 };
 ghost use Rattle.std.specs.List.{AllByRecursion};
@@ -17,7 +16,7 @@ ghost use Rattle.pid_moderation.specs.Views.{Views};
 ghost use Rattle.pid_tables_rows.specs.Unread.{IsUnreadable};
 ghost use Rattle.pid_moderation.specs.Submissions.{Standing};
 ghost use Rattle.pid_moderation.specs.PendingPages.{pending_in, told_of, waiting_above};
-ghost use Rattle.pid_tables_lists.specs.ByNumber.{standing_at, standings_at};
+ghost use Rattle.pid_tables_lists.specs.ByNumber.{standings_at};
 ghost use Rattle.pid_tables_lists.specs.Pages.{most_listed};
 ghost use Rattle.pid_tables_lists.specs.Steps.Adding.{Adds};
 ghost use Rattle.pid_tables_lists.specs.Steps.PendingRows.{
@@ -27,7 +26,8 @@ ghost use Rattle.pid_tables_lists.specs.Steps.PendingRows.{
 };
 ghost use Rattle.pid_tables_rows.specs.Clauses.{Reads};
 
-use pid_moderation::{PAGE, Pending, Submission};
+use crate::adding::put_last;
+use pid_moderation::{PAGE, Pending};
 use pid_tables_rows::TableFault;
 use pid_tables_rows::run::read_rows;
 use pid_tables_rows::submission::{standing, submission_of};
@@ -50,26 +50,15 @@ fn pending_rows<S: Alter>(conn: &mut Connection<S>, after: u32) -> Result<Vec<Ro
     )
 }
 
-fn pending_of(row: &Row, alloc: Global) -> Result<Pending, TableFault>
-    ensures { (v : Views) (s : ℕ × Standing) → IsPendingIn v s row.now → MatchResult result
-        (λ pending. told_of pending ≡ s) (IsUnreadable (IsReadablePending s)) }
-{
-    pid_ident::laws::texts_have_one_path(); // proof only
-    let submission = submission_of(row, alloc)?;
-    let number = number_at(row, 8)?;
-    Ok(Pending { number, submission })
-}
-
 fn add_pending(page: &mut Vec<Pending>, row: &Row, alloc: Global) -> Result<(), TableFault>
     ensures { (v : Views) (s : ℕ × Standing) → IsPendingIn v s row.now → MatchResult result
         (λ _. Adds told_of page.old.items page.new.items (s ∷ []))
         (IsUnreadable (IsReadablePending s)) }
 {
-    let pending = pending_of(row, alloc)?;
-    match page.push(pending) {
-        Ok(()) => Ok(()),
-        Err(_) => Err(TableFault::Memory),
-    }
+    pid_ident::laws::texts_have_one_path(); // proof only
+    let number = number_at(row, 8)?;
+    let submission = submission_of(row, alloc)?;
+    put_last(page, Pending { number, submission })
 }
 
 fn page_of(rows: &[Row], alloc: Global) -> Result<Vec<Pending>, TableFault>
@@ -102,22 +91,7 @@ pub fn pending_page<S: Alter>(
     page_of(rows.as_slice(), alloc)
 }
 
-// The submission with a number, as a pending one; none if there is none.
-fn numbered<S: Alter>(
-    conn: &mut Connection<S>,
-    alloc: Global,
-    number: u32,
-) -> Result<Option<Pending>, TableFault>
-    requires { conn.old.in_transaction ≡ false }
-    ensures { Reads S.Store conn.old conn.new result
-        (λ v pending. option_map told_of pending ≡ standing_at v number) }
-{
-    match standing(conn, alloc, number)? {
-        None => Ok(None),
-        Some(submission) => Ok(Some(Pending { number, submission })),
-    }
-}
-
+// Adds the submission with a number, as a pending one; nothing if there is none.
 fn add_numbered<S: Alter>(
     page: &mut Vec<Pending>,
     conn: &mut Connection<S>,
@@ -128,12 +102,9 @@ fn add_numbered<S: Alter>(
     ensures { Reads S.Store conn.old conn.new result
         (λ v _. Adds told_of page.old.items page.new.items (standings_at (number ∷ []) v)) }
 {
-    match numbered(conn, alloc, number)? {
+    match standing(conn, alloc, number)? {
         None => Ok(()),
-        Some(pending) => match page.push(pending) {
-            Ok(()) => Ok(()),
-            Err(_) => Err(TableFault::Memory),
-        },
+        Some(submission) => put_last(page, Pending { number, submission }),
     }
 }
 

@@ -1,54 +1,21 @@
 //! Pages of the queue of a moderator: pending submissions, each with what a decision asks for.
-ghost use Rattle.std.specs.Prelude.{◌≡◌, ◌∷◌, ◌++◌, [], false, map, OnOk, IfErr};
+ghost use Rattle.std.specs.Prelude.{◌≡◌, ◌∷◌, [], false, map};
 ghost use Rattle.pid_moderation.specs.PendingPages.{told_of};
 ghost use Rattle.pid_moderation.specs.QueuePages.{entry_in, queue_in, queued_of};
 ghost use Rattle.pid_tables_rows.specs.Clauses.{Reads};
-ghost use Rattle.pid_tables_rows.specs.declared.fault.TableFault.TheVariants as faults;
 ghost use Rattle.pid_tables_lists.specs.ByNumber.{standings_at};
 ghost use Rattle.pid_tables_lists.specs.Steps.Adding.{Adds};
 
+use crate::adding::put_last;
+use crate::names::name_of;
 use crate::pending::{pending_at, pending_page};
-use pid_ident::PathText;
 use pid_moderation::{PAGE, Pending, Queued};
 use pid_tables_rows::TableFault;
-use pid_tables_rows::item::item_name;
 use pid_tables_rows::remark::remark_count;
 use sqlite::{Alter, Connection};
 use std::alloc::Global;
 
-// A pending submission, with the name at its path and the count of its remarks.
-fn queued<S: Alter>(
-    conn: &mut Connection<S>,
-    alloc: Global,
-    pending: Pending,
-) -> Result<Queued, TableFault>
-    requires { conn.old.in_transaction ≡ false }
-    ensures { Reads S.Store conn.old conn.new result
-        (λ v queued. queued_of queued ≡ entry_in v (told_of pending)) }
-{
-    let Pending { number, submission } = pending;
-    let path = submission.path.path_text(alloc)?;
-    let now = item_name(conn, alloc, path.as_str())?;
-    let remarks = remark_count(conn, number)?;
-    Ok(Queued {
-        number,
-        submission,
-        now,
-        remarks,
-    })
-}
-
-// Adds an element after the last one.
-fn put_last<T: Drop>(list: &mut Vec<T>, element: T) -> Result<(), TableFault>
-    ensures items { OnOk result (list.new.items ≡ list.old.items ++ element ∷ []) }
-    ensures full { IfErr result (λ fault. fault ≡ faults.Memory) }
-{
-    match list.push(element) {
-        Ok(()) => Ok(()),
-        Err(_) => Err(TableFault::Memory),
-    }
-}
-
+// Adds a pending submission, with the name at its path and the count of its remarks.
 fn add_queued<S: Alter>(
     queue: &mut Vec<Queued>,
     conn: &mut Connection<S>,
@@ -59,8 +26,18 @@ fn add_queued<S: Alter>(
     ensures { Reads S.Store conn.old conn.new result
         (λ v _. Adds queued_of queue.old.items queue.new.items (entry_in v (told_of pending) ∷ [])) }
 {
-    let entry = queued(conn, alloc, pending)?;
-    put_last(queue, entry)
+    let remarks = remark_count(conn, pending.number)?;
+    let now = name_of(conn, alloc, pending.submission.path)?;
+    let Pending { number, submission } = pending;
+    put_last(
+        queue,
+        Queued {
+            number,
+            submission,
+            now,
+            remarks,
+        },
+    )
 }
 
 // Pending submissions, each with the rest.

@@ -4,7 +4,12 @@ ghost use Rattle.std.specs.List.{AllByRecursion};
 ghost use Rattle.pid_moderation.specs.Views.{Remark};
 ghost use Rattle.pid_tables_rows.specs.Steps.Answers.{remark_shown};
 ghost use Rattle.pid_tables_rows.specs.Causes.{IsReadableRemark};
-ghost use Rattle.pid_moderation.specs.Submissions.{remark_of, discussion_in, discussion_of};
+ghost use Rattle.pid_moderation.specs.Submissions.{
+  remark_of,
+  discussion_in,
+  discussion_of,
+  standing_of,
+};
 ghost use Rattle.pid_tables_rows.specs.Unread.{IsUnreadable};
 ghost use Rattle.pid_tables_rows.specs.Clauses.{Reads};
 ghost use Rattle.pid_tables_lists.specs.Steps.Adding.{Adds};
@@ -68,6 +73,20 @@ fn comments<S: Alter>(
     comments_of(rows.as_slice(), alloc)
 }
 
+// A submission, if there is one, and the remarks on it.
+fn discussion(submission: Option<Submission>, remarks: Vec<Comment>) -> Option<Discussion>
+    ensures { option_map discussion_of result
+        ≡ option_map (λ s. (s, map remark_of remarks.items)) (option_map standing_of submission) }
+{
+    match submission {
+        Some(submission) => Some(Discussion {
+            submission,
+            remarks,
+        }),
+        None => None,
+    }
+}
+
 /// The submission with the number, as it stands, and the remarks on it in their order. None if
 /// there is none.
 pub fn submission_with_remarks<S: Alter>(
@@ -79,14 +98,7 @@ pub fn submission_with_remarks<S: Alter>(
     ensures { Reads S.Store conn.old conn.new result
         (λ v d. option_map discussion_of d ≡ discussion_in v number) }
 {
-    match standing(conn, alloc, number)? {
-        None => Ok(None),
-        Some(submission) => {
-            let remarks = comments(conn, alloc, number)?;
-            Ok(Some(Discussion {
-                submission,
-                remarks,
-            }))
-        }
-    }
+    let submission = standing(conn, alloc, number)?;
+    let remarks = comments(conn, alloc, number)?;
+    Ok(discussion(submission, remarks))
 }

@@ -1,38 +1,20 @@
 //! Pages of the submissions for a path or of an author, the latest first.
-ghost use Rattle.std.specs.Prelude.{
-  ◌≡◌,
-  ◌∷◌,
-  ◌++◌,
-  ◌+◌,
-  ◌<◌,
-  ◌≤◌,
-  ◌^◌,
-  [],
-  ℕ,
-  List,
-  false,
-  map,
-  option_map,
-  string_bytes,
-  IfOk,
-  MatchResult,
-};
-ghost use Rattle.std.specs.List.{AllByRecursion};
+ghost use Rattle.std.specs.Prelude.{◌≡◌, false, map, option_map, string_bytes, IfOk};
 ghost use Rattle.std.specs.Option.{option_copied};
 ghost use Rattle.pid_ident.specs.PathTexts.{path_text};
 ghost use Rattle.pid_moderation.specs.SubmissionPages.{
   Search,
   listed_of,
-  listing_in,
   submission_page_of,
   submissions_of,
 };
-ghost use Rattle.pid_tables_rows.specs.Clauses.{Reads};
+ghost use Rattle.pid_tables_rows.specs.Clauses.{OnlyReads, Reads};
 ghost use Rattle.pid_tables_rows.specs.Steps.Answers.{value_row};
-ghost use Rattle.pid_tables_rows.specs.Unread.{IsUnreadable};
-ghost use Rattle.pid_tables_lists.specs.ByNumber.{standing_at, standings_at};
 ghost use Rattle.pid_tables_lists.specs.Steps.Adding.{Adds};
+ghost use Rattle.pid_tables_lists.specs.Steps.Clauses.{TellsOf};
 ghost use Rattle.pid_tables_lists.specs.Steps.SubmissionRows.{
+  AreListedIn,
+  IsListedIn,
   StandsFor,
   end_number,
   last_before,
@@ -41,6 +23,7 @@ ghost use Rattle.pid_tables_lists.specs.Steps.SubmissionRows.{
   numbers_among,
 };
 
+use crate::adding::put_last;
 use pid_ident::{Account, Path, PathText};
 use pid_moderation::{Listed, PAGE, SEARCHED, SubmissionPage};
 use pid_tables_rows::TableFault;
@@ -53,6 +36,8 @@ use sqlite::types::ToSql;
 use sqlite::{Alter, Connection, Row};
 use std::alloc::{AllocError, Global};
 
+// The numbers above `low` and up to `last` of the submissions for a path and of an author, the
+// latest first, at most a page of them. The empty text stands for every path or author.
 fn number_rows<'x, S: Alter>(
     conn: &mut Connection<S>,
     low: u32,
@@ -81,107 +66,50 @@ fn number_rows<'x, S: Alter>(
     )
 }
 
-fn add_number(numbers: &mut Vec<u32>, row: &Row) -> Result<(), TableFault>
-    ensures { (n : ℕ) → row.now ≡ value_row n → MatchResult result
-        (λ _. numbers.new.items ≡ numbers.old.items ++ n ∷ []) (IsUnreadable (n < 2 ^ 32)) }
-{
-    let number = number_at(row, 0)?;
-    match numbers.push(number) {
-        Ok(()) => Ok(()),
-        Err(_) => Err(TableFault::Memory),
-    }
-}
-
-fn numbers_of(rows: &[Row], alloc: Global) -> Result<Vec<u32>, TableFault>
-    ensures { (all : List ℕ) → rows.now ≡ map value_row all → MatchResult result
-        (λ numbers. numbers.items ≡ all) (IsUnreadable (AllByRecursion (λ n. n < 2 ^ 32) all)) }
-{
-    let mut numbers = Vec::new(alloc);
-    for row in rows {
-        add_number(&mut numbers, row)?;
-    }
-    Ok(numbers)
-}
-
-// The numbers above `low` and up to `last` of the submissions for a path and of an author, the
-// latest first, at most a page of them. The empty text stands for every path or author.
-fn sought_numbers<'x, S: Alter>(
-    conn: &mut Connection<S>,
-    alloc: Global,
-    low: u32,
-    last: u32,
-    path: &'x str,
-    author: &'x str,
-) -> Result<Vec<u32>, TableFault>
-    requires { conn.old.in_transaction ≡ false }
-    ensures { Reads S.Store conn.old conn.new result
-        (λ v numbers. numbers.items ≡ numbers_among (latest_asked PAGE (record {
-          low = low;
-          last = last;
-          path = path.now;
-          author = author.now;
-        }) v)) }
-{
-    let rows = number_rows(conn, low, last, path, author)?;
-    numbers_of(rows.as_slice(), alloc)
-}
-
-// The submission with a number and the count of the remarks on it; none if there is none.
-fn listed<S: Alter>(
-    conn: &mut Connection<S>,
-    alloc: Global,
-    number: u32,
-) -> Result<Option<Listed>, TableFault>
-    requires { conn.old.in_transaction ≡ false }
-    ensures { Reads S.Store conn.old conn.new result
-        (λ v found. option_map listed_of found
-        ≡ option_map (listing_in v) (standing_at v number)) }
-{
-    match standing(conn, alloc, number)? {
-        None => Ok(None),
-        Some(submission) => {
-            let remarks = remark_count(conn, number)?;
-            Ok(Some(Listed {
-                number,
-                submission,
-                remarks,
-            }))
-        }
-    }
-}
-
+// Adds the submission whose number a row has, and the count of the remarks on it; nothing if there
+// is none.
 fn add_listed<S: Alter>(
     page: &mut Vec<Listed>,
     conn: &mut Connection<S>,
     alloc: Global,
-    number: u32,
+    row: &Row,
 ) -> Result<(), TableFault>
     requires { conn.old.in_transaction ≡ false }
-    ensures { Reads S.Store conn.old conn.new result
-        (λ v _. Adds listed_of page.old.items page.new.items
-        (map (listing_in v) (standings_at (number ∷ []) v))) }
+    ensures rests { OnlyReads S.Store conn.old conn.new }
+    ensures told { TellsOf S.Store conn.old conn.new result
+        (λ v more. IsListedIn v more row.now)
+        (λ more _. Adds listed_of page.old.items page.new.items more) }
 {
-    match listed(conn, alloc, number)? {
+    let number = number_at(row, 0)?;
+    let remarks = remark_count(conn, number)?;
+    match standing(conn, alloc, number)? {
         None => Ok(()),
-        Some(found) => match page.push(found) {
-            Ok(()) => Ok(()),
-            Err(_) => Err(TableFault::Memory),
-        },
+        Some(submission) => {
+            let found = Listed {
+                number,
+                submission,
+                remarks,
+            };
+            put_last(page, found)
+        }
     }
 }
 
+// The submissions whose numbers the rows have.
 fn listed_at<S: Alter>(
     conn: &mut Connection<S>,
     alloc: Global,
-    numbers: &[u32],
+    rows: &[Row],
 ) -> Result<Vec<Listed>, TableFault>
     requires { conn.old.in_transaction ≡ false }
-    ensures { Reads S.Store conn.old conn.new result
-        (λ v page. map listed_of page.items ≡ map (listing_in v) (standings_at numbers.now v)) }
+    ensures rests { OnlyReads S.Store conn.old conn.new }
+    ensures told { TellsOf S.Store conn.old conn.new result
+        (λ v listed. AreListedIn v listed rows.now)
+        (λ listed page. map listed_of page.items ≡ listed) }
 {
     let mut page = Vec::new(alloc);
-    for number in numbers {
-        add_listed(&mut page, conn, alloc, *number)?;
+    for row in rows {
+        add_listed(&mut page, conn, alloc, row)?;
     }
     Ok(page)
 }
@@ -239,8 +167,8 @@ fn page_by_texts<'x, S: Alter>(
     let count = submissions(conn)?;
     let last = last_of(count, before);
     let low = last.saturating_sub(SEARCHED as u32);
-    let numbers = sought_numbers(conn, alloc, low, last, path, author)?;
-    let submissions = listed_at(conn, alloc, numbers.as_slice())?;
+    let rows = number_rows(conn, low, last, path, author)?;
+    let submissions = listed_at(conn, alloc, rows.as_slice())?;
     let before = next_of(submissions.as_slice(), low + 1);
     Ok(SubmissionPage {
         before,

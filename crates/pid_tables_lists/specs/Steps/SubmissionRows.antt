@@ -1,12 +1,18 @@
 -- What a query of submissions asks, and what it answers.
-use Rattle.std.specs.Prelude.{◌≡◌, ℕ, ◌-◌, Bool, false, ◌&&◌, ◌||◌, ◌==◌, nat_lt, nat_le, List, []}
+use Rattle.std.specs.Prelude.{◌≡◌, ℕ, ◌-◌, ◌<◌, ◌^◌, Bool, false, ◌&&◌, ◌||◌, ◌==◌, nat_lt, nat_le}
+use Rattle.std.specs.Prelude.{List, [], ◌∷◌}
 use Rattle.std.specs.Prelude.{if◌then◌else◌, map, reverse, filter, take, length, Option, Some, None}
+use Rattle.std.specs.List.{AllByRecursion}
 use Rattle.std.specs.Str.{bytes_eq}
+use Rattle.sqlite.specs.Order.{Row}
 use Rattle.pid_ident.specs.PathTexts.{path_text}
 use Rattle.pid_moderation.specs.PendingPages.{standings_from}
-use Rattle.pid_moderation.specs.SubmissionPages.{Listing, last_number, unless_first}
+use Rattle.pid_moderation.specs.SubmissionPages.{Listing, last_number, listing_in, unless_first}
 use Rattle.pid_moderation.specs.Submissions.{Standing}
 use Rattle.pid_moderation.specs.Views.{Views}
+use Rattle.pid_tables_rows.specs.Causes.{IsReadable}
+use Rattle.pid_tables_rows.specs.Steps.Answers.{value_row}
+use Rattle.pid_tables_lists.specs.ByNumber.{standings_at}
 
 -- the submissions whose numbers are above one and up to another, for a path by its text, of an
 -- author; the empty text stands for every path and every author
@@ -32,6 +38,21 @@ latest_asked most asked v =
 
 abbrev pub numbers_among : List (ℕ × Standing) → List ℕ
 numbers_among all = map (λ (s : ℕ × Standing). s.0) all
+
+-- the row has the number of this listing, or of no submission; where the views can be read, it fits
+-- 32 bits
+pub record IsListedIn (v : Views) (listed : List Listing) (row : Row) : Type 0 where
+  pub number : ℕ
+  pub shown : row ≡ value_row number
+  pub fits : IsReadable v → number < 2 ^ 32
+  pub is : listed ≡ map (listing_in v) (standings_at (number ∷ []) v)
+
+-- the same of several
+pub record AreListedIn (v : Views) (listed : List Listing) (rows : List Row) : Type 0 where
+  pub numbers : List ℕ
+  pub shown : rows ≡ map value_row numbers
+  pub fit : IsReadable v → AllByRecursion (λ (n : ℕ). n < 2 ^ 32) numbers
+  pub are : listed ≡ map (listing_in v) (standings_at numbers v)
 
 -- the greatest number of so many that is below this one, where 0 stands for no bound
 abbrev pub last_before : ℕ → ℕ → ℕ

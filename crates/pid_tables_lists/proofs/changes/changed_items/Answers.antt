@@ -1,4 +1,5 @@
-use Rattle.std.proofs.Common.{◌≡◌, ◌∷◌, ◌++◌, [], Some, ap, sym, ◌∙◌}
+use Rattle.std.proofs.Common.{◌≡◌, ◌∷◌, ◌++◌, [], Some, ap, arith, length, sym, take_all, ◌∙◌}
+use Rattle.std.proofs.lemmas.List.{length-map}
 use Rattle.sqlite.specs.Held.{state}
 use Rattle.sqlite_rules.proofs.ListLemmas.{all_has}
 use Rattle.pid_moderation.specs.Items.{name_at}
@@ -35,3 +36,13 @@ returns-in_err-add_changed-clause-told g c clean v all rest (named, is) =
     passed_on c.from_residual.result _ _ (λ fault. IsReadable v → IsCaused old new fault) c.from_residual.ensures.1
     (λ readable. caused_later old mid new (λ _. ⊥) c.in_err-add_changed.field-0.0 before.0.survives one.rests.survives.counts (one.rests.clean clean)
     (one.told clean v next.it (before.0.kept v rest) (stands, c.row-item.is ∙ next.is) readable))
+
+pub returns-in_err-add_changed-clause-rests : goal.returns-in_err-add_changed-clause-rests
+returns-in_err-add_changed-clause-rests g c = reads_then _ _ _ c.loop-row.invariant.0 c.in_err-add_changed.ensures.rests
+
+pub returns-clause-rests : goal.returns-clause-rests
+returns-clause-rests g c = c.loop-row.invariant.0
+
+pub returns-clause-told : goal.returns-clause-told
+returns-clause-told g c clean v all rest change =
+    c.loop-row.invariant.1 clean v all rest change ∙ take_all c.loop-row.row-index all (let done = c.loop-row-test.false in let long = ap length change.1 ∙ length-map all since_shown in omega (arith, done, long))
