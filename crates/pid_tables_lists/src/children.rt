@@ -20,7 +20,6 @@ ghost use Rattle.pid_moderation.specs.ItemPairs.{pair_of};
 ghost use Rattle.pid_tables_rows.specs.Steps.Ranges.{generics_from};
 ghost use Rattle.pid_tables_rows.specs.Unread.{IsUnreadable};
 ghost use Rattle.pid_tables_rows.specs.declared.fault.TableFault.{TableFault as FaultValue};
-ghost use Rattle.pid_tables_rows.specs.declared.fault.TableFault.TheVariants.{Memory};
 ghost use Rattle.pid_tables_lists.specs.declared.walk.EachEnd.TheVariants as ends;
 ghost use Rattle.pid_tables_rows.specs.Shows.{AreViews};
 ghost use Rattle.pid_moderation.specs.Children.{children_of};
@@ -29,12 +28,13 @@ ghost use Rattle.pid_tables_lists.specs.Steps.Children.{between, children_among,
 ghost use Rattle.pid_tables_lists.specs.Children.{AreChildren};
 ghost use Rattle.pid_tables_rows.specs.Clauses.{Reads};
 
+use crate::adding::put_last;
 use crate::walk::{EachEnd, each_item};
 use pid_ident::{Id16, Name, Path, PathText};
 use pid_moderation::Item;
 use pid_reader::{Entry, Sink};
 use pid_tables_rows::TableFault;
-use pid_tables_rows::item::{item_of, range_below, range_of_generics};
+use pid_tables_rows::item::{Range, item_of, range_below, range_of_generics};
 use pid_tables_rows::run::read_rows;
 use sqlite::types::ValueRef;
 use sqlite::{Alter, Connection, Row};
@@ -67,17 +67,6 @@ fn is_child(item: Path, path: Path) -> bool
     }
 }
 
-fn add_item(kept: &mut Vec<Item>, item: Item) -> Result<(), TableFault>
-    ensures { MatchResult result
-        (λ _. Adds pair_of kept.old.items kept.new.items (pair_of item ∷ []))
-        (λ fault. fault ≡ Memory) }
-{
-    match kept.push(item) {
-        Ok(()) => Ok(()),
-        Err(_) => Err(TableFault::Memory),
-    }
-}
-
 // One more row, whose item is kept if it is a child.
 fn add_child(kept: &mut Vec<Item>, row: &Row, alloc: Global, path: Path) -> Result<(), TableFault>
     ensures { (e : Pair) → row.now ≡ item_shown e → MatchResult result
@@ -86,7 +75,7 @@ fn add_child(kept: &mut Vec<Item>, row: &Row, alloc: Global, path: Path) -> Resu
 {
     let item = item_of(row, alloc)?;
     if is_child(item.path, path) {
-        add_item(kept, item)
+        put_last(kept, item)
     } else {
         Ok(())
     }
@@ -108,34 +97,24 @@ fn add_children(
     Ok(())
 }
 
-// The items whose paths go on after the text and a slash.
-fn rows_below<S: Alter>(
+// Keeps the items of a range that are directly below the path.
+fn add_range<S: Alter>(
+    kept: &mut Vec<Item>,
     conn: &mut Connection<S>,
     alloc: Global,
-    text: &str,
-) -> Result<Vec<Row>, TableFault>
+    range: &Range,
+    path: Path,
+) -> Result<(), TableFault>
     requires { conn.old.in_transaction ≡ false }
-    ensures { Reads S.Store conn.old conn.new result
-        (λ v rows. AreViews v × (rows.items ≡ map item_shown (under text.now v.items))) }
+    ensures { Reads S.Store conn.old conn.new result (λ v _. AreViews v
+        × Adds pair_of kept.old.items kept.new.items
+        (children_among path (between range.now.low.items range.now.high.items v.items))) }
 {
-    let range = range_below(alloc, b"", text.as_bytes())?;
-    range_rows(conn, range.low.as_slice(), range.high.as_slice())
+    let rows = range_rows(conn, range.low.as_slice(), range.high.as_slice())?;
+    add_children(kept, rows.as_slice(), alloc, path)
 }
 
-// The generic subsystems of a vendor.
-fn generic_rows<S: Alter>(
-    conn: &mut Connection<S>,
-    alloc: Global,
-    vendor: Id16,
-) -> Result<Vec<Row>, TableFault>
-    requires { conn.old.in_transaction ≡ false }
-    ensures { Reads S.Store conn.old conn.new result (λ v rows. AreViews v
-        × (rows.items ≡ map item_shown (under (generics_from vendor) v.items))) }
-{
-    let range = range_of_generics(alloc, vendor)?;
-    range_rows(conn, range.low.as_slice(), range.high.as_slice())
-}
-
+// Those of the generic subsystems of a vendor.
 fn add_generics<S: Alter>(
     kept: &mut Vec<Item>,
     conn: &mut Connection<S>,
@@ -148,24 +127,25 @@ fn add_generics<S: Alter>(
         (λ v _. Adds pair_of kept.old.items kept.new.items
         (children_among path (under (generics_from vendor) v.items))) }
 {
-    let rows = generic_rows(conn, alloc, vendor)?;
-    add_children(kept, rows.as_slice(), alloc, path)
+    let range = range_of_generics(alloc, vendor)?;
+    add_range(kept, conn, alloc, &range, path)
 }
 
+// Those whose paths go on after the path's and a slash.
 fn add_below<S: Alter>(
     kept: &mut Vec<Item>,
     conn: &mut Connection<S>,
     alloc: Global,
-    text: &str,
     path: Path,
 ) -> Result<(), TableFault>
     requires { conn.old.in_transaction ≡ false }
     ensures { Reads S.Store conn.old conn.new result (λ v _. AreViews v
         × Adds pair_of kept.old.items kept.new.items
-        (children_among path (under text.now v.items))) }
+        (children_among path (under (path_text path) v.items))) }
 {
-    let rows = rows_below(conn, alloc, text)?;
-    add_children(kept, rows.as_slice(), alloc, path)
+    let text = path.path_text(alloc)?;
+    let range = range_below(alloc, b"", text.as_bytes())?;
+    add_range(kept, conn, alloc, &range, path)
 }
 
 fn below<S: Alter>(
@@ -177,9 +157,8 @@ fn below<S: Alter>(
     ensures { Reads S.Store conn.old conn.new result
         (λ v items. AreChildren (Some (path_text path)) v items.items) }
 {
-    let text = path.path_text(alloc)?;
     let mut kept = Vec::new(alloc);
-    add_below(&mut kept, conn, alloc, text.as_str(), path)?;
+    add_below(&mut kept, conn, alloc, path)?;
     match path {
         Path::Vendor { vendor } => {
             add_generics(&mut kept, conn, alloc, vendor, path)?;
@@ -216,7 +195,7 @@ impl Sink for Tops {
             None => {
                 let name = Name::of(self.alloc, entry.name)?;
                 let path = entry.path;
-                add_item(&mut self.kept, Item { path, name })
+                put_last(&mut self.kept, Item { path, name })
             }
         }
     }
