@@ -1,5 +1,5 @@
 -- A registry that is asked on.
-use Rattle.std.proofs.Common.{◌≡◌, refl, rules, ℕ, ◌≤◌, Bool, true, false, ◌&&◌, List, [], ◌∷◌, Result, Ok, Err, IfErr, sym, ap, subst, ◌∙◌}
+use Rattle.std.proofs.Common.{◌≡◌, refl, rules, ℕ, ◌≤◌, Bool, true, false, ◌&&◌, List, [], ◌∷◌, Result, Ok, Err, IfErr, IsErrAnd, MatchResult, inl, inr, sym, ap, subst, ◌∙◌}
 use Rattle.std.specs.List.{AllByRecursion}
 use Rattle.std.specs.Ordering.{is_lt}
 use Rattle.std.specs.Prelude.{map, take}
@@ -11,18 +11,45 @@ use Rattle.pid_ident.specs.Trees.{text_cmp}
 use Rattle.pid_moderation.specs.ChangePages.{Changed, changed_behind, is_later, numbered_in}
 use Rattle.pid_moderation.specs.History.{History}
 use Rattle.pid_moderation.specs.Items.{Items}
-use Rattle.pid_moderation.specs.Views.{Views}
+use Rattle.pid_moderation.specs.Views.{Views, views_of}
 use Rattle.pid_moderation.specs.declared.refusal.Refusal.{Refusal}
 use Rattle.pid_moderation.specs.declared.refusal.Refusal.TheVariants.{Memory, Store}
-use Rattle.pid_tables_rows.proofs.CauseLemmas.{caused_later}
+use Rattle.pid_tables.specs.Faults.{refusal_for}
+use Rattle.pid_tables_rows.proofs.CauseLemmas.{caused_later, passed_on}
 use Rattle.pid_tables_rows.proofs.OnlyReading.{reads_then}
+use Rattle.pid_tables_rows.specs.Causes.{IsReadable}
 use Rattle.pid_tables_rows.specs.Clauses as clauses
+use Rattle.pid_tables_rows.specs.declared.fault.TableFault.{TableFault}
 use Rattle.pid_tables_rows.specs.declared.fault.TableFault.TheVariants as faults
 use Rattle.pid_service.specs.declared.registry.Registry.{Registry}
 use Rattle.pid_service.specs.Asking.{Answers, IsCausedAs, MayGive}
+use Rattle.pid_service.specs.Histories.{IsMemoryOrStore, IsReached, Shows}
 use Rattle.pid_service.specs.KeptViews.{LeavesKept, kept_views}
-use Rattle.pid_service.specs.Registries.{OnlyAsked, OnlyReads, connection, is_live}
+use Rattle.pid_service.specs.Registries.{HasCleanDisk, OnlyAsked, OnlyReads, connection, is_live}
+use Rattle.pid_service.specs.Steps.Asking.{answered_as}
+use Rattle.pid_service.proofs.Causes.{caused_as}
+use Rattle.pid_service.proofs.Keeping.{left_same}
 use Rattle.pid_service.proofs.Obeyed.{only_read}
+
+-- ---- what the tables answer, as a question answers it
+
+short_or_store : (fault : TableFault) → IsMemoryOrStore (refusal_for fault)
+short_or_store faults.Memory = inl refl
+short_or_store faults.Store = inr refl
+short_or_store (faults.NewerSchema n) = inr refl
+short_or_store faults.Damaged = inr refl
+
+said_as : {X E : Type 0} (r : Result X E) (Told Says : X → Type 0) (Why : E → Type 0) → ((x : X) → Told x → Says x) → MatchResult r Told Why → MatchResult r Says Why
+said_as (Ok x) Told Says Why means told = means x told
+said_as (Err e) Told Says Why means told = told
+
+found_told : {X : Type 0} (found : Result X TableFault) (Told Says : X → Type 0) (Why : TableFault → Type 0) → ((x : X) → Told x → Says x) → MatchResult found Told Why → MatchResult (answered_as found) Says IsMemoryOrStore
+found_told (Ok x) Told Says Why means told = means x told
+found_told (Err fault) Told Says Why means told = short_or_store fault
+
+may_give : {X : Type 0} (found : Result X TableFault) (live : Bool) → live ≡ true → IfErr (answered_as found) (MayGive live)
+may_give (Ok x) live on = tt
+may_give (Err fault) live on = record { alive = λ still. short_or_store fault; failed = λ off. absurd (let both : true ≡ false = sym on ∙ off in let no : ⊥ = cc in no) }
 
 module _ {S : Type 0} (store : Ghosts S) where
   -- a live one, with one question more
@@ -33,28 +60,61 @@ module _ {S : Type 0} (store : Ghosts S) where
     failed = λ off. absurd (let both : true ≡ false = sym on ∙ (asked.lives ∙ off) in let no : ⊥ = cc in no);
   }
 
-  -- what has its cause in a call has it in that and those before
-  caused_since : (old mid new : Held S) (e : Refusal) → clauses.OnlyReads store old mid → clauses.OnlyReads store mid new → clauses.HasCleanDisk store new → IsCausedAs store mid new e → IsCausedAs store old new e
-  caused_since old mid new Memory first second clean cause = tt
-  caused_since old mid new Store first second clean cause = caused_later (state store old) (state store mid) (state store new) (λ _. ⊥) faults.Store first.survives second.survives.counts (second.clean clean) cause
-  caused_since old mid new e first second clean cause = cause
+  -- what the tables answer behind a read, they answer from before it on
+  told_since : {X : Type 0} (r : Result X TableFault) (old mid new : Held S) (Told : X → Type 0) (Readable : Type 0) → clauses.OnlyReads store old mid → clauses.OnlyReads store mid new → clauses.HasCleanDisk store new
+      → MatchResult r Told (λ fault. Readable → clauses.IsCaused store mid new fault) → MatchResult r Told (λ fault. Readable → clauses.IsCaused store old new fault)
+  told_since (Ok x) old mid new Told Readable first second clean told = told
+  told_since (Err fault) old mid new Told Readable first second clean told = λ readable. caused_later (state store old) (state store mid) (state store new) (λ _. ⊥) fault first.survives second.survives.counts (second.clean clean) (told readable)
 
-  pub fault_since : {X : Type 0} (r : Result X Refusal) (old mid new : Held S) → clauses.OnlyReads store old mid → clauses.OnlyReads store mid new → clauses.HasCleanDisk store new → IfErr r (IsCausedAs store mid new) → IfErr r (IsCausedAs store old new)
-  fault_since (Ok x) old mid new first second clean cause = tt
-  fault_since (Err e) old mid new first second clean cause = caused_since old mid new e first second clean cause
-
-  -- a question behind a read is one
-  pub answers_then : {X : Type 0} (old mid new : Registry S store) (r : Result X Refusal) (Says : History → X → Type 0) → is_live old ≡ true → is_live mid ≡ is_live old → OnlyReads store old mid → kept_views mid ≡ kept_views old
-      → Answers store mid new r Says → Answers store old new r Says
-  answers_then old mid new r Says on same reads kept a = record {
-    failed = λ off. absurd (let both : true ≡ false = sym on ∙ off in let no : ⊥ = cc in no);
-    fault = subst (λ (b : Bool). IfErr r (MayGive b)) same a.fault;
-    lives = a.lives ∙ same;
-    rests = reads_then (state store (connection old)) (state store (connection mid)) (state store (connection new)) reads a.rests;
-    leaves = subst (λ k. LeavesKept k (kept_views new)) kept a.leaves;
-    told = λ clean h shows. a.told clean h (only_read store old mid h same reads kept shows);
-    caused = λ clean h shows. fault_since r (connection old) (connection mid) (connection new) reads a.rests clean (a.caused clean h (only_read store old mid h same reads kept shows));
+  pub reads_behind : {X : Type 0} (old mid new : Held S) (r : Result X TableFault) (Told : Views → X → Type 0) → clauses.OnlyReads store old mid → clauses.Reads store mid new r Told → clauses.Reads store old new r Told
+  reads_behind old mid new r Told first read = record {
+    rests = reads_then (state store old) (state store mid) (state store new) first read.rests;
+    told = λ clean v rest. told_since r old mid new (Told v) (IsReadable v) first read.rests clean (read.told clean v (first.kept v rest));
   }
+
+  -- a fault that is passed on behind a read
+  pub faults_behind : {X : Type 0} (old mid new : Held S) (e : TableFault) (r : Result X TableFault) (Says : Views → X → Type 0) → clauses.OnlyReads store old mid → clauses.OnlyReads store mid new
+      → (clauses.HasCleanDisk store new → (v : Views) → clauses.AtRest store mid v → IsReadable v → clauses.IsCaused store mid new e) → IsErrAnd r (λ f. f ≡ e) → clauses.Reads store old new r Says
+  faults_behind old mid new e r Says first second cause is = record {
+    rests = reads_then (state store old) (state store mid) (state store new) first second;
+    told = λ clean v rest.
+        passed_on r e (Says v) (λ fault. IsReadable v → clauses.IsCaused store old new fault) is
+        (λ readable. caused_later (state store old) (state store mid) (state store new) (λ _. ⊥) e first.survives second.survives.counts (second.clean clean) (cause clean v (first.kept v rest) readable));
+  }
+
+  -- what they say, in other words
+  pub reads_as : {X : Type 0} (old new : Held S) (r : Result X TableFault) (Told Says : Views → X → Type 0) → ((v : Views) (x : X) → Told v x → Says v x) → clauses.Reads store old new r Told → clauses.Reads store old new r Says
+  reads_as old new r Told Says means read = record {
+    rests = read.rests;
+    told = λ clean v rest. said_as r (Told v) (Says v) (λ fault. IsReadable v → clauses.IsCaused store old new fault) (means v) (read.told clean v rest);
+  }
+
+  found_caused : {X : Type 0} (found : Result X TableFault) (old new : Held S) (Told : X → Type 0) (Readable : Type 0) → Readable → MatchResult found Told (λ fault. Readable → clauses.IsCaused store old new fault) → IfErr (answered_as found) (IsCausedAs store old new)
+  found_caused (Ok x) old new Told Readable readable told = tt
+  found_caused (Err fault) old new Told Readable readable told = caused_as store old new fault (told readable)
+
+  -- a question that the tables answer
+  answers_found : {X : Type 0} (old new : Registry S store) (found : Result X TableFault) (Told : Views → X → Type 0) (Says : History → X → Type 0) → is_live old ≡ true → is_live new ≡ is_live old → kept_views new ≡ kept_views old
+      → clauses.Reads store (connection old) (connection new) found Told → ((h : History) → IsReached h → IsReadable (views_of h)) → ((h : History) (x : X) → Shows store old h → HasCleanDisk store old → Told (views_of h) x → Says h x)
+      → Answers store old new (answered_as found) Says
+  answers_found old new found Told Says on same kept read readable means = record {
+    failed = λ off. absurd (let both : true ≡ false = sym on ∙ off in let no : ⊥ = cc in no);
+    fault = may_give found (is_live old) on;
+    lives = same;
+    rests = read.rests;
+    leaves = subst (λ k. LeavesKept (kept_views old) k) (sym kept) (left_same (kept_views old));
+    told = λ clean h shows. (
+      found_told found (Told (views_of h)) (Says h) (λ fault. IsReadable (views_of h) → clauses.IsCaused store (connection old) (connection new) fault) (λ x told. means h x shows (read.rests.clean clean) told) (read.told clean (views_of h) shows.tables),
+      only_read store old new h same read.rests kept shows,
+    );
+    caused = λ clean h shows. found_caused found (connection old) (connection new) (Told (views_of h)) (IsReadable (views_of h)) (readable h shows.history) (read.told clean (views_of h) shows.tables);
+  }
+
+  pub answers_read : {X : Type 0} (old new : Registry S store) (found : Result X TableFault) (r : Result X Refusal) (Told : Views → X → Type 0) (Says : History → X → Type 0) → is_live old ≡ true → is_live new ≡ is_live old → kept_views new ≡ kept_views old
+      → clauses.Reads store (connection old) (connection new) found Told → r ≡ answered_as found → ((h : History) → IsReached h → IsReadable (views_of h)) → ((h : History) (x : X) → Shows store old h → HasCleanDisk store old → Told (views_of h) x → Says h x)
+      → Answers store old new r Says
+  answers_read {X = X} old new found r Told Says on same kept read is readable means =
+      subst (λ (e : Result X Refusal). Answers store old new e Says) (sym is) (answers_found old new found Told Says on same kept read readable means)
 
 both_no : (a b : Bool) → b ≡ false → (a && b) ≡ false
 both_no true b off = off

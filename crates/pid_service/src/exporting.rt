@@ -7,12 +7,12 @@ ghost use Rattle.pid_service.specs.Exporting.{IsExported};
 ghost use Rattle.pid_service.specs.Steps.Exporting.{IsToldAs};
 
 use crate::item_text::{ExportEnd, export_items};
-use crate::items_text::{ItemsText, first_line, items_text};
+use crate::items_text::{ItemsText, items_text};
 use crate::laws;
 use crate::registry::Registry;
 use pid_ident::{Output, WriteFault, write_all};
 use pid_moderation::Refusal;
-use pid_tables::{TableFault, refusal_of};
+use pid_tables::refusal_of;
 use sqlite::Alter;
 use thiserror::Error;
 
@@ -80,21 +80,6 @@ impl<S: Alter + Drop> Registry<S> {
         }
     }
 
-    // How many bytes the text of all items has. None is kept.
-    fn counted_length(&mut self) -> Result<u64, Refusal>
-        ensures { Answers S.Store self.old self.new result (λ h n. n ≡ length (print (tree_of h))) }
-    {
-        if !self.live {
-            return Err(Refusal::Failed);
-        }
-        laws::reached_histories_are_kept(); // proof only
-        laws::items_print_as_their_tree(); // proof only
-        match items_text(&mut self.tables, None) {
-            Ok(found) => Ok(found.bytes),
-            Err(fault) => Err(refusal_of(fault)),
-        }
-    }
-
     /// How many bytes `export` would write. If the text is not kept in memory the items are read
     /// one by one, and it is kept from then on: up to 16,777,216 bytes, if memory is there for them.
     pub fn export_length(&mut self) -> Result<u64, Refusal>
@@ -108,14 +93,11 @@ impl<S: Alter + Drop> Registry<S> {
         if let Some(text) = &self.kept.items.text {
             return Ok(text.len() as u64);
         }
-        let first = first_line(self.alloc);
-        match items_text(&mut self.tables, first) {
+        match items_text(&mut self.tables, self.alloc) {
             Ok(ItemsText { bytes, text }) => {
                 self.kept.items.text = text;
                 Ok(bytes)
             }
-            // The text may have taken the memory that ran out.
-            Err(TableFault::Memory) => self.counted_length(),
             Err(fault) => Err(refusal_of(fault)),
         }
     }

@@ -83,8 +83,8 @@ impl Output for TextBuffer {
     }
 }
 
-/// The header in memory, if there is some.
-pub(crate) fn first_line(alloc: Global) -> Option<TextBuffer>
+// The header in memory, if there is some.
+fn first_line(alloc: Global) -> Option<TextBuffer>
     ensures { IfSome result (λ text. text.taken.items ≡ ended (header ∷ [])) }
 {
     let mut text = TextBuffer {
@@ -167,10 +167,9 @@ pub(crate) struct ItemsText {
     pub(crate) text: Option<Vec<u8>>,
 }
 
-/// What `export_items` writes, by one walk over the items, of which each is lent by the connection.
-/// It is kept after its first line, if that is; a text of more than 16,777,216 bytes is only
-/// counted, and so is one for which memory runs out.
-pub(crate) fn items_text<S: Alter + Drop>(
+// What `export_items` writes, by one walk over the items, of which each is lent by the connection.
+// It is kept after its first line, if that is there.
+fn text_after<S: Alter + Drop>(
     tables: &mut Tables<S>,
     first: Option<TextBuffer>,
 ) -> Result<ItemsText, TableFault>
@@ -190,5 +189,23 @@ pub(crate) fn items_text<S: Alter + Drop>(
             text: taken_of(sink.text),
         }),
         Err(end) => Err(end_of(end)),
+    }
+}
+
+/// What `export_items` writes. A text of more than 16,777,216 bytes is only counted, and so is one
+/// for which memory runs out.
+pub(crate) fn items_text<S: Alter + Drop>(
+    tables: &mut Tables<S>,
+    alloc: Global,
+) -> Result<ItemsText, TableFault>
+    requires { tables.old.conn.in_transaction ≡ false }
+    ensures { Reads S.Store tables.old.conn tables.new.conn result
+        (λ v found. IsReadable v → IsKeptText found.bytes found.text v.items) }
+{
+    match text_after(tables, first_line(alloc)) {
+        Ok(found) => Ok(found),
+        // The text may have taken the memory that ran out.
+        Err(TableFault::Memory) => text_after(tables, None),
+        Err(fault) => Err(fault),
     }
 }

@@ -1,17 +1,63 @@
 //! Pages of what is pending, by the numbers that are kept in memory.
-ghost use Rattle.std.specs.Prelude.{◌≡◌, map};
+ghost use Rattle.std.specs.Prelude.{◌≡◌, false, map};
 ghost use Rattle.pid_moderation.specs.Views.{views_of};
 ghost use Rattle.pid_moderation.specs.PendingPages.{pending_in, told_of};
 ghost use Rattle.pid_moderation.specs.QueuePages.{queue_in, queued_of};
+ghost use Rattle.pid_tables_rows.specs.Clauses.{Reads};
 ghost use Rattle.pid_service.specs.Asking.{Answers};
+ghost use Rattle.pid_service.specs.KeptViews.{HoldsWaiting};
 
 use crate::laws;
+use crate::reading::or_refusal;
 use crate::registry::Registry;
 use crate::waiting::{numbers_above, waiting_numbers};
 use pid_moderation::{PAGE, Pending, Queued, Refusal};
-use pid_tables::{TableFault, refusal_of};
+use pid_tables::{TableFault, Tables, refusal_of};
 use pid_tables_lists::{pending_at, queue_at, queue_page};
 use sqlite::Alter;
+use std::alloc::Global;
+
+// The page by the numbers that are kept; if none are, by a walk over all submissions.
+fn pending_by<S: Alter + Drop>(
+    tables: &mut Tables<S>,
+    alloc: Global,
+    numbers: &Option<Vec<u32>>,
+    after: u32,
+) -> Result<Vec<Pending>, TableFault>
+    requires { tables.old.conn.in_transaction ≡ false }
+    ensures { Reads S.Store tables.old.conn tables.new.conn result
+        (λ v page. HoldsWaiting numbers.now v
+        → map told_of page.items ≡ pending_in PAGE after v) }
+{
+    let Some(numbers) = numbers else {
+        return tables.pending_page(alloc, after);
+    };
+    match numbers_above(alloc, numbers.as_slice(), after) {
+        Some(page) => pending_at(&mut tables.conn, alloc, page.as_slice()),
+        None => Err(TableFault::Memory),
+    }
+}
+
+// The queue by the numbers that are kept; if none are, by a walk over all submissions.
+fn queue_by<S: Alter + Drop>(
+    tables: &mut Tables<S>,
+    alloc: Global,
+    numbers: &Option<Vec<u32>>,
+    after: u32,
+) -> Result<Vec<Queued>, TableFault>
+    requires { tables.old.conn.in_transaction ≡ false }
+    ensures { Reads S.Store tables.old.conn tables.new.conn result
+        (λ v queue. HoldsWaiting numbers.now v
+        → map queued_of queue.items ≡ queue_in PAGE after v) }
+{
+    let Some(numbers) = numbers else {
+        return queue_page(&mut tables.conn, alloc, after);
+    };
+    match numbers_above(alloc, numbers.as_slice(), after) {
+        Some(page) => queue_at(&mut tables.conn, alloc, page.as_slice()),
+        None => Err(TableFault::Memory),
+    }
+}
 
 impl<S: Alter + Drop> Registry<S> {
     // Reads the numbers of what is pending, unless that was done, and keeps them if memory is there
@@ -43,22 +89,7 @@ impl<S: Alter + Drop> Registry<S> {
         }
     }
 
-    // The page by a walk over all submissions.
-    fn pending_by_rows(&mut self, after: u32) -> Result<Vec<Pending>, Refusal>
-        ensures { Answers S.Store self.old self.new result
-            (λ h page. map told_of page.items ≡ pending_in PAGE after (views_of h)) }
-    {
-        if !self.live {
-            return Err(Refusal::Failed);
-        }
-        laws::reached_histories_are_kept(); // proof only
-        match self.tables.pending_page(self.alloc, after) {
-            Ok(page) => Ok(page),
-            Err(fault) => Err(refusal_of(fault)),
-        }
-    }
-
-    // The page by the numbers that are kept, if they are.
+    // The page by the numbers that are kept, or by a walk.
     fn pending_by_numbers(&mut self, after: u32) -> Result<Vec<Pending>, Refusal>
         ensures { Answers S.Store self.old self.new result
             (λ h page. map told_of page.items ≡ pending_in PAGE after (views_of h)) }
@@ -67,16 +98,7 @@ impl<S: Alter + Drop> Registry<S> {
             return Err(Refusal::Failed);
         }
         laws::reached_histories_are_kept(); // proof only
-        let Some(kept) = &self.kept.pending else {
-            return self.pending_by_rows(after);
-        };
-        let Some(numbers) = numbers_above(self.alloc, kept.as_slice(), after) else {
-            return Err(Refusal::Memory);
-        };
-        match pending_at(&mut self.tables.conn, self.alloc, numbers.as_slice()) {
-            Ok(page) => Ok(page),
-            Err(fault) => Err(refusal_of(fault)),
-        }
+        or_refusal(pending_by(&mut self.tables, self.alloc, &self.kept.pending, after))
     }
 
     /// The pending submissions whose numbers are above a number, rising, `PAGE` at most: from 0 on,
@@ -98,22 +120,7 @@ impl<S: Alter + Drop> Registry<S> {
         }
     }
 
-    // The queue by a walk over all submissions.
-    fn queue_by_rows(&mut self, after: u32) -> Result<Vec<Queued>, Refusal>
-        ensures { Answers S.Store self.old self.new result
-            (λ h queue. map queued_of queue.items ≡ queue_in PAGE after (views_of h)) }
-    {
-        if !self.live {
-            return Err(Refusal::Failed);
-        }
-        laws::reached_histories_are_kept(); // proof only
-        match queue_page(&mut self.tables.conn, self.alloc, after) {
-            Ok(queue) => Ok(queue),
-            Err(fault) => Err(refusal_of(fault)),
-        }
-    }
-
-    // The queue by the numbers that are kept, if they are.
+    // The queue by the numbers that are kept, or by a walk.
     fn queue_by_numbers(&mut self, after: u32) -> Result<Vec<Queued>, Refusal>
         ensures { Answers S.Store self.old self.new result
             (λ h queue. map queued_of queue.items ≡ queue_in PAGE after (views_of h)) }
@@ -122,16 +129,7 @@ impl<S: Alter + Drop> Registry<S> {
             return Err(Refusal::Failed);
         }
         laws::reached_histories_are_kept(); // proof only
-        let Some(kept) = &self.kept.pending else {
-            return self.queue_by_rows(after);
-        };
-        let Some(numbers) = numbers_above(self.alloc, kept.as_slice(), after) else {
-            return Err(Refusal::Memory);
-        };
-        match queue_at(&mut self.tables.conn, self.alloc, numbers.as_slice()) {
-            Ok(queue) => Ok(queue),
-            Err(fault) => Err(refusal_of(fault)),
-        }
+        or_refusal(queue_by(&mut self.tables, self.alloc, &self.kept.pending, after))
     }
 
     /// The pending submissions of `pending`, each with the name that its path has today and how

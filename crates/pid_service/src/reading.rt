@@ -9,16 +9,27 @@ ghost use Rattle.pid_moderation.specs.Children.{children_of};
 ghost use Rattle.pid_moderation.specs.Submissions.{discussion_in, discussion_of};
 ghost use Rattle.pid_moderation.specs.SubmissionPages.{submission_page_of, submissions_of};
 ghost use Rattle.pid_service.specs.Asking.{Answers, AnswersIfThere};
+ghost use Rattle.pid_service.specs.Steps.Asking.{answered_as};
 
 use crate::laws;
 use crate::registry::Registry;
 use pid_ident::{Account, Name, Path};
 use pid_moderation::{Changes, Discussion, Item, PAGE, Rank, Refusal, SEARCHED, SubmissionPage};
-use pid_tables::refusal_of;
+use pid_tables::{TableFault, refusal_of};
 use pid_tables_lists::submissions_page;
 use pid_tables_rows::account::rank;
 use pid_tables_rows::meta::revision;
 use sqlite::Alter;
+
+/// What was found in the tables, or the refusal that their fault is answered as.
+pub(crate) fn or_refusal<T>(found: Result<T, TableFault>) -> Result<T, Refusal>
+    ensures { result ≡ answered_as found }
+{
+    match found {
+        Ok(found) => Ok(found),
+        Err(fault) => Err(refusal_of(fault)),
+    }
+}
 
 impl<S: Alter + Drop> Registry<S> {
     /// The name of the item at a path, if there is one. It asks the tables, whatever names are
@@ -31,10 +42,7 @@ impl<S: Alter + Drop> Registry<S> {
             return Err(Refusal::Failed);
         }
         laws::reached_histories_are_kept(); // proof only
-        match self.tables.item(self.alloc, path) {
-            Ok(name) => Ok(name),
-            Err(fault) => Err(refusal_of(fault)),
-        }
+        or_refusal(self.tables.item(self.alloc, path))
     }
 
     /// The rank of an account, where there is one.
@@ -45,10 +53,7 @@ impl<S: Alter + Drop> Registry<S> {
             return Err(Refusal::Failed);
         }
         laws::reached_histories_are_kept(); // proof only
-        match rank(&mut self.tables.conn, who.as_str()) {
-            Ok(rank) => Ok(rank),
-            Err(fault) => Err(refusal_of(fault)),
-        }
+        or_refusal(rank(&mut self.tables.conn, who.as_str()))
     }
 
     /// The items directly below a path in the canonical order, which puts the generic subsystems of
@@ -63,10 +68,7 @@ impl<S: Alter + Drop> Registry<S> {
             return Err(Refusal::Failed);
         }
         laws::reached_histories_are_kept(); // proof only
-        match self.tables.children(self.alloc, above) {
-            Ok(items) => Ok(items),
-            Err(fault) => Err(refusal_of(fault)),
-        }
+        or_refusal(self.tables.children(self.alloc, above))
     }
 
     /// The submission with the number, as it is now, and the remarks on it in their order.
@@ -107,26 +109,7 @@ impl<S: Alter + Drop> Registry<S> {
             return Err(Refusal::Failed);
         }
         laws::reached_histories_are_kept(); // proof only
-        match submissions_page(&mut self.tables.conn, self.alloc, path, author, before) {
-            Ok(page) => Ok(page),
-            Err(fault) => Err(refusal_of(fault)),
-        }
-    }
-
-    // The page by a walk over the numbers of all items.
-    fn changes_by_rows(&mut self, since: u64, after: Option<&Path>) -> Result<Changes, Refusal>
-        ensures { Answers S.Store self.old self.new result
-            (λ h changes. page_of changes
-            ≡ changes_in PAGE since (start_text (option_copied after.entry)) (views_of h)) }
-    {
-        if !self.live {
-            return Err(Refusal::Failed);
-        }
-        laws::reached_histories_are_kept(); // proof only
-        match self.tables.changes_page(self.alloc, since, after) {
-            Ok(changes) => Ok(changes),
-            Err(fault) => Err(refusal_of(fault)),
-        }
+        or_refusal(submissions_page(&mut self.tables.conn, self.alloc, path, author, before))
     }
 
     /// The items that were added or renamed after a revision, in the canonical order, `PAGE` at
@@ -151,7 +134,7 @@ impl<S: Alter + Drop> Registry<S> {
                     let items = Vec::new(self.alloc);
                     return Ok(Changes { revision, items });
                 }
-                self.changes_by_rows(since, after)
+                or_refusal(self.tables.changes_page(self.alloc, since, after))
             }
         }
     }

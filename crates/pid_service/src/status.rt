@@ -11,10 +11,11 @@ ghost use Rattle.pid_service.specs.Asking.{Answers};
 ghost use Rattle.pid_service.specs.KeptViews.{HoldsWaiting};
 
 use crate::laws;
+use crate::reading::or_refusal;
 use crate::registry::Registry;
 use crate::waiting::count_waiting;
 use pid_moderation::{Refusal, Status};
-use pid_tables::{TableFault, Tables, refusal_of};
+use pid_tables::{TableFault, Tables};
 use pid_tables_rows::account::accounts;
 use pid_tables_rows::meta::{revision, submissions};
 use sqlite::Alter;
@@ -84,10 +85,7 @@ impl<S: Alter + Drop> Registry<S> {
         }
         laws::reached_histories_are_kept(); // proof only
         pid_moderation::laws::views_tell_status(); // proof only
-        match status_by(&mut self.tables, self.alloc, &self.kept.pending) {
-            Ok(status) => Ok(status),
-            Err(fault) => Err(refusal_of(fault)),
-        }
+        or_refusal(status_by(&mut self.tables, self.alloc, &self.kept.pending))
     }
 
     /// How many accounts, items, pending submissions and submissions there are, and the revision.

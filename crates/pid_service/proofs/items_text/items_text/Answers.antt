@@ -1,14 +1,5 @@
-use Rattle.std.proofs.Common.{refl}
-use Rattle.pid_service.proofs.CountedLines.{all_counted, all_kept}
+use Rattle.pid_service.proofs.Questions.{reads_behind}
 use Rattle.pid_service.proofs.items_text.items_text.Goals as goal
 
-pub returns-in-Ok : goal.returns-in-Ok
-returns-in-Ok g c = record {
-  rests = c.each_item.ensures.rests;
-  told = λ clean v rest readable.
-      let took = c.in-Ok.ensures.told clean v rest in
-      record {
-        counted = all_counted _ c.each_item.new.sink v.items refl refl took readable.items readable.item_count;
-        kept = all_kept _ c.each_item.new.sink v.items c.taken_of.result refl c.requires.first took c.taken_of.ensures;
-      };
-}
+pub returns-in-Err-Memory : goal.returns-in-Err-Memory
+returns-in-Err-Memory g c = reads_behind g.S.Store c.args.tables.now.conn c.text_after.new.tables.conn c.text_after-in-Err-Memory.new.tables.conn c.text_after-in-Err-Memory.result _ c.text_after.ensures.rests c.text_after-in-Err-Memory.ensures

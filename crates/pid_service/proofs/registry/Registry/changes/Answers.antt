@@ -7,7 +7,7 @@ use Rattle.pid_moderation.specs.declared.lists.TheConstants.{PAGE}
 use Rattle.pid_service.proofs.Causes.{caused_by}
 use Rattle.pid_service.proofs.Keeping.{left_same}
 use Rattle.pid_service.proofs.Obeyed.{only_read}
-use Rattle.pid_service.proofs.Questions.{answers_then, none_changed}
+use Rattle.pid_service.proofs.Questions.{answers_read, none_changed, reads_behind}
 use Rattle.pid_service.proofs.registry.Registry.changes.Goals as goal
 
 page_without : (revision now : ℕ) (told : List ChangedItem) (items : List Changed) → revision ≡ now → told ≡ [] → items ≡ []
@@ -48,4 +48,6 @@ returns-then-revision-since g c = record {
 pub returns-else-revision-since : goal.returns-else-revision-since
 returns-else-revision-since g c =
     let on : c.args.self.now.live ≡ true = search rules in
-    answers_then g.S.Store c.args.self.now _ c.changes_by_rows.new.self c.changes_by_rows.result _ on refl c.revision.ensures.rests refl c.changes_by_rows.ensures
+    answers_read g.S.Store c.args.self.now _ c.changes_page.result c.or_refusal.result _ _ on refl refl
+    (reads_behind g.S.Store c.args.self.now.tables.conn c.revision.new.conn c.changes_page.new.self.conn c.changes_page.result _ c.revision.ensures.rests c.changes_page.ensures)
+    c.or_refusal.ensures c.reached_histories_are_kept.ensures.readable (λ h changes shows clean told. told (c.reached_histories_are_kept.ensures.held h shows.history))

@@ -1,9 +1,8 @@
-use Rattle.std.proofs.Common.{◌≡◌, true, length, rules, refl, ap, ◌∙◌}
+use Rattle.std.proofs.Common.{◌≡◌, length, rules, refl, ap, ◌∙◌}
 use Rattle.pid_moderation.specs.Views.{views_of}
 use Rattle.pid_service.proofs.Causes.{caused_by}
 use Rattle.pid_service.proofs.Exported.{text_kept, text_told}
 use Rattle.pid_service.proofs.Keeping.{left_same}
-use Rattle.pid_service.proofs.Questions.{answers_then}
 use Rattle.pid_service.proofs.registry.Registry.export_length.Goals as goal
 
 pub returns-in-Some : goal.returns-in-Some
@@ -43,8 +42,3 @@ returns-in-Err g c = record {
   caused = λ clean h shows.
       caused_by g.S.Store c.args.self.now.tables.conn c.items_text.new.tables.conn c.in-Err.fault c.refusal_of.result c.refusal_of.ensures.same (c.in-Err.ensures.told clean (views_of h) shows.tables (c.reached_histories_are_kept.ensures.readable h shows.history));
 }
-
-pub returns-in-Err-Memory : goal.returns-in-Err-Memory
-returns-in-Err-Memory g c =
-    let on : c.args.self.now.live ≡ true = search rules in
-    answers_then g.S.Store c.args.self.now _ c.counted_length.new.self c.counted_length.result _ on refl c.items_text.ensures.rests refl c.counted_length.ensures

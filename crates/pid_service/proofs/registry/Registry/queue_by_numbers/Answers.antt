@@ -1,25 +1,8 @@
-use Rattle.std.proofs.Common.{map, ap, refl, rules, ◌∙◌}
-use Rattle.pid_moderation.specs.QueuePages.{entry_in}
-use Rattle.pid_moderation.specs.Views.{views_of}
-use Rattle.pid_service.proofs.Keeping.{left_same}
-use Rattle.pid_service.proofs.KeptNumbers.{numbers_told}
-use Rattle.pid_service.proofs.Obeyed.{only_read}
-use Rattle.pid_service.proofs.PendingNumbers.{page_numbered}
+use Rattle.std.proofs.Common.{◌≡◌, true, refl, rules}
+use Rattle.pid_service.proofs.Questions.{answers_read}
 use Rattle.pid_service.proofs.registry.Registry.queue_by_numbers.Goals as goal
 
-pub returns-in-Ok : goal.returns-in-Ok
-returns-in-Ok g c = record {
-  failed = search rules;
-  fault = tt;
-  lives = refl;
-  rests = c.queue_at.ensures.rests;
-  leaves = left_same _;
-  told = λ clean h shows. (
-    c.in-Ok.ensures.told clean (views_of h) shows.tables
-        ∙ ap (map (entry_in (views_of h)))
-        (page_numbered (views_of h) 100 c.args.after c.as_slice.result.now c.as_slice-2.result.now (c.as_slice.ensures.value ∙ numbers_told g.S.Store c.args.self.now h c.in-Some.kept c.in-Some.is (c.queue_at.ensures.rests.clean clean) shows)
-        (c.as_slice-2.ensures.value ∙ c.in-Some-numbers_above.ensures)),
-    only_read g.S.Store c.args.self.now _ h refl c.queue_at.ensures.rests refl shows,
-  );
-  caused = λ clean h shows. tt;
-}
+pub returns : goal.returns
+returns g c =
+    let on : c.args.self.now.live ≡ true = search rules in
+    answers_read g.S.Store c.args.self.now _ c.queue_by.result c.or_refusal.result _ _ on refl refl c.queue_by.ensures c.or_refusal.ensures c.reached_histories_are_kept.ensures.readable (λ h queue shows clean told. told (shows.kept clean).pending)
