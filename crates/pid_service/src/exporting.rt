@@ -20,7 +20,7 @@ use thiserror::Error;
 ///
 /// - `Refused`: of `Failed` nothing was written; of `Memory` and `Store` whole lines.
 /// - `Write`: the writer failed, maybe within a line.
-#[derive(Clone, Copy, Debug, PartialEq, Eq, Error)]
+#[derive(Clone, Copy, Debug, Error)]
 pub enum ExportFault {
     #[error("{0}")]
     Refused(Refusal),

@@ -42,7 +42,7 @@ use std::alloc::Global;
 use thiserror::Error;
 
 /// Why an import whose file comes as an input has no reply.
-#[derive(Clone, Copy, Debug, PartialEq, Eq, Error)]
+#[derive(Clone, Copy, Debug, Error)]
 pub enum ImportEnd {
     #[error("{0}")]
     Refused(Refusal),

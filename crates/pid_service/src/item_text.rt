@@ -14,17 +14,14 @@ use pid_ident::{Output, WriteFault};
 use pid_tables::{EachEnd, TableFault, Tables};
 use pid_tree::write_header;
 use sqlite::Alter;
-use thiserror::Error;
 
 /// Why not all items were written.
 ///
 /// - `Tables`: the tables could not be read on. What was written ends with a whole line.
 /// - `Write`: the writer failed, maybe within a line.
-#[derive(Clone, Copy, Debug, PartialEq, Eq, Error)]
+#[derive(Clone, Copy)]
 pub enum ExportEnd {
-    #[error("{0}")]
     Tables(TableFault),
-    #[error("{0}")]
     Write(WriteFault),
 }
 
