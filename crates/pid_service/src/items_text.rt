@@ -3,7 +3,6 @@ ghost use Rattle.std.specs.Prelude.{◌≡◌, ◌∷◌, [], false, length, Err
 ghost use Rattle.pid_service.specs.Steps.TextSinks.{Lengthens, block_behind, text_in};
 ghost use Rattle.pid_service.specs.Steps.ItemTexts.{IsKeptText};
 ghost use Rattle.pid_ident.specs.PathTexts.{path_text};
-ghost use Rattle.pid_moderation.specs.Views.{Views};
 ghost use Rattle.pid_tables_rows.specs.Causes.{IsReadable};
 ghost use Rattle.pid_tables_rows.specs.Clauses.{Reads};
 ghost use Rattle.pid_tables_lists.specs.declared.walk.EachEnd.TheVariants as walks;

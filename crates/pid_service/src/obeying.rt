@@ -1,5 +1,5 @@
 //! One command: it is judged, and what comes of it is written.
-ghost use Rattle.std.specs.Prelude.{◌≡◌, ◌⊎◌, []};
+ghost use Rattle.std.specs.Prelude.{◌≡◌, ◌⊎◌};
 ghost use Rattle.pid_moderation.specs.History.{Asked, History};
 ghost use Rattle.pid_moderation.specs.Judgement.{after};
 ghost use Rattle.pid_moderation.specs.Views.{items_of};
