@@ -13,7 +13,7 @@ use Rattle.pid_moderation.specs.History.{History}
 use Rattle.pid_moderation.specs.Items.{Items}
 use Rattle.pid_moderation.specs.Views.{Views, views_of}
 use Rattle.pid_moderation.specs.declared.refusal.Refusal.{Refusal}
-use Rattle.pid_moderation.specs.declared.refusal.Refusal.TheVariants.{Memory, Store}
+use Rattle.pid_moderation.specs.declared.refusal.Refusal.TheVariants.{Failed, Memory, Store}
 use Rattle.pid_tables.specs.Faults.{refusal_for}
 use Rattle.pid_tables_rows.proofs.CauseLemmas.{caused_later, passed_on}
 use Rattle.pid_tables_rows.proofs.OnlyReading.{reads_then}
@@ -50,6 +50,13 @@ found_told (Err fault) Told Says Why means told = short_or_store fault
 may_give : {X : Type 0} (found : Result X TableFault) (live : Bool) → live ≡ true → IfErr (answered_as found) (MayGive live)
 may_give (Ok x) live on = tt
 may_give (Err fault) live on = record { alive = λ still. short_or_store fault; failed = λ off. absurd (let both : true ≡ false = sym on ∙ off in let no : ⊥ = cc in no) }
+
+still_live : (live : Bool) → (live ≡ false → ⊥) → live ≡ true
+still_live true off = refl
+still_live false off = absurd (off refl)
+
+answered : {Y : Type 0} (y : Y) (e : Refusal) → ◌≡◌ {A = Result Y Refusal} (Ok y) (Err e) → ⊥
+answered y e is = cc
 
 module _ {S : Type 0} (store : Ghosts S) where
   -- a live one, with one question more
@@ -115,6 +122,33 @@ module _ {S : Type 0} (store : Ghosts S) where
       → Answers store old new r Says
   answers_read {X = X} old new found r Told Says on same kept read is readable means =
       subst (λ (e : Result X Refusal). Answers store old new e Says) (sym is) (answers_found old new found Told Says on same kept read readable means)
+
+  -- what has its cause in a call has it in that and those before
+  caused_since : (old mid new : Held S) (e : Refusal) → clauses.OnlyReads store old mid → clauses.OnlyReads store mid new → clauses.HasCleanDisk store new → IsCausedAs store mid new e → IsCausedAs store old new e
+  caused_since old mid new Memory first second clean cause = tt
+  caused_since old mid new Store first second clean cause = caused_later (state store old) (state store mid) (state store new) (λ _. ⊥) faults.Store first.survives second.survives.counts (second.clean clean) cause
+  caused_since old mid new e first second clean cause = cause
+
+  fault_since : {X : Type 0} (r : Result X Refusal) (old mid new : Held S) → clauses.OnlyReads store old mid → clauses.OnlyReads store mid new → clauses.HasCleanDisk store new → IfErr r (IsCausedAs store mid new) → IfErr r (IsCausedAs store old new)
+  fault_since (Ok x) old mid new first second clean cause = tt
+  fault_since (Err e) old mid new first second clean cause = caused_since old mid new e first second clean cause
+
+  -- a question that the tables answer behind another one
+  pub answers_behind : {X Y : Type 0} (old mid new : Registry S store) (y : Y) (found : Result X TableFault) (r : Result X Refusal) (Before : History → Y → Type 0) (Told : Views → X → Type 0) (Says : History → X → Type 0) → Answers store old mid (Ok y) Before → is_live new ≡ is_live mid
+      → kept_views new ≡ kept_views mid → clauses.Reads store (connection mid) (connection new) found Told → r ≡ answered_as found → ((h : History) → IsReached h → IsReadable (views_of h))
+      → ((h : History) (x : X) → Shows store mid h → HasCleanDisk store mid → Told (views_of h) x → Says h x) → Answers store old new r Says
+  answers_behind old mid new y found r Before Told Says first same kept read is readable means =
+      let on : is_live old ≡ true = still_live (is_live old) (λ off. answered y Failed (first.failed off).0) in
+      let second = answers_read mid new found r Told Says (first.lives ∙ on) same kept read is readable means in
+      record {
+        failed = λ off. absurd (let both : true ≡ false = sym on ∙ off in let no : ⊥ = cc in no);
+        fault = subst (λ (b : Bool). IfErr r (MayGive b)) first.lives second.fault;
+        lives = second.lives ∙ first.lives;
+        rests = reads_then (state store (connection old)) (state store (connection mid)) (state store (connection new)) first.rests read.rests;
+        leaves = subst (λ k. LeavesKept (kept_views old) k) (sym kept) first.leaves;
+        told = λ clean h shows. second.told clean h (first.told (read.rests.clean clean) h shows).1;
+        caused = λ clean h shows. fault_since r (connection old) (connection mid) (connection new) first.rests read.rests clean (second.caused clean h (first.told (read.rests.clean clean) h shows).1);
+      }
 
 both_no : (a b : Bool) → b ≡ false → (a && b) ≡ false
 both_no true b off = off

@@ -89,18 +89,6 @@ impl<S: Alter + Drop> Registry<S> {
         }
     }
 
-    // The page by the numbers that are kept, or by a walk.
-    fn pending_by_numbers(&mut self, after: u32) -> Result<Vec<Pending>, Refusal>
-        ensures { Answers S.Store self.old self.new result
-            (λ h page. map told_of page.items ≡ pending_in PAGE after (views_of h)) }
-    {
-        if !self.live {
-            return Err(Refusal::Failed);
-        }
-        laws::reached_histories_are_kept(); // proof only
-        or_refusal(pending_by(&mut self.tables, self.alloc, &self.kept.pending, after))
-    }
-
     /// The pending submissions whose numbers are above a number, rising, `PAGE` at most: from 0 on,
     /// and then from the last number of a page, the pages go through all that are pending.
     ///
@@ -111,25 +99,16 @@ impl<S: Alter + Drop> Registry<S> {
         ensures { Answers S.Store self.old self.new result
             (λ h page. map told_of page.items ≡ pending_in PAGE after (views_of h)) }
     {
-        if !self.live {
-            return Err(Refusal::Failed);
-        }
+        laws::reached_histories_are_kept(); // proof only
         match self.keep_pending() {
-            Ok(()) => self.pending_by_numbers(after),
+            Ok(()) => or_refusal(pending_by(
+                &mut self.tables,
+                self.alloc,
+                &self.kept.pending,
+                after,
+            )),
             Err(refusal) => Err(refusal),
         }
-    }
-
-    // The queue by the numbers that are kept, or by a walk.
-    fn queue_by_numbers(&mut self, after: u32) -> Result<Vec<Queued>, Refusal>
-        ensures { Answers S.Store self.old self.new result
-            (λ h queue. map queued_of queue.items ≡ queue_in PAGE after (views_of h)) }
-    {
-        if !self.live {
-            return Err(Refusal::Failed);
-        }
-        laws::reached_histories_are_kept(); // proof only
-        or_refusal(queue_by(&mut self.tables, self.alloc, &self.kept.pending, after))
     }
 
     /// The pending submissions of `pending`, each with the name that its path has today and how
@@ -138,11 +117,9 @@ impl<S: Alter + Drop> Registry<S> {
         ensures { Answers S.Store self.old self.new result
             (λ h queue. map queued_of queue.items ≡ queue_in PAGE after (views_of h)) }
     {
-        if !self.live {
-            return Err(Refusal::Failed);
-        }
+        laws::reached_histories_are_kept(); // proof only
         match self.keep_pending() {
-            Ok(()) => self.queue_by_numbers(after),
+            Ok(()) => or_refusal(queue_by(&mut self.tables, self.alloc, &self.kept.pending, after)),
             Err(refusal) => Err(refusal),
         }
     }
