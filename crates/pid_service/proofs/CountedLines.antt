@@ -7,6 +7,7 @@ use Rattle.std.proofs.Math.Nat.{min-le_left}
 use Rattle.std.proofs.lemmas.List.{map-append, reverse-append, reverse-reverse}
 use Rattle.pid_file.specs.declared.path.Path.{Path}
 use Rattle.pid_file.specs.declared.path.Path.TheVariants.{Vendor, Device, Subsystem, Class, Subclass, ProgIf, Generic}
+use Rattle.pid_file.proofs.Written.{ended-append}
 use Rattle.pid_ident.specs.Words.{is_name}
 use Rattle.pid_moderation.specs.Items.{Items}
 use Rattle.pid_moderation.specs.WellMade.{AllItems, IsItem}
@@ -66,6 +67,18 @@ took_counted old new [] took = subst (HasCounted old []) (sym took) (record { la
 took_counted old new (e ∷ es) (between, took, step) =
     let back : map item_in (reverse (e ∷ es)) ≡ map item_in (reverse es) ++ item_in e ∷ [] = ap (map item_in) (reverse-append (e ∷ []) es) ∙ map-append item_in (reverse es) (e ∷ []) in
     subst (λ (items : Items). HasCounted old items new) (sym back) (one_more old between new (map item_in (reverse es)) e (took_counted old between es took) step)
+
+-- the lines of one item
+
+line_long : (label space name : List ℕ) → length space ≡ 2 → length ((label ++ space ++ name) ++ 10 ∷ []) ≡ length label + length name + 3
+line_long label space name two = omega (arith, two, length-append {A = ℕ})
+
+pub added_up : (block : List (List ℕ)) (label name : List ℕ) (b l n : ℕ) → b ≡ length (ended block) → l ≡ length label → n ≡ length name → b + l + n + 3 ≡ length (ended (block ++ (label ++ codes "  " ++ name) ∷ []))
+added_up block label name b l n blocks labels names =
+    let line = (label ++ codes "  " ++ name) ∷ [] in
+    let whole : length (ended (block ++ line)) ≡ length (ended block) + length (ended line) = ap length (ended-append block line) ∙ length-append (ended block) (ended line) in
+    let long : length (ended line) ≡ length label + length name + 3 = line_long label (codes "  ") name refl in
+    omega (arith, whole, long, blocks, labels, names)
 
 -- a text is not long
 

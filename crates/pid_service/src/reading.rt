@@ -42,7 +42,10 @@ impl<S: Alter + Drop> Registry<S> {
             return Err(Refusal::Failed);
         }
         laws::reached_histories_are_kept(); // proof only
-        or_refusal(self.tables.item(self.alloc, path))
+        match self.tables.item(self.alloc, path) {
+            Ok(name) => Ok(name),
+            Err(fault) => Err(refusal_of(fault)),
+        }
     }
 
     /// The rank of an account, where there is one.

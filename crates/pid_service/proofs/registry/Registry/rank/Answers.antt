@@ -1,9 +1,8 @@
-use Rattle.std.proofs.Common.{◌≡◌, true, refl, rules, ap, ◌∙◌}
-use Rattle.pid_moderation.specs.Views.{rank_of}
+use Rattle.std.proofs.Common.{◌≡◌, true, refl, rules}
 use Rattle.pid_service.proofs.Questions.{answers_read}
 use Rattle.pid_service.proofs.registry.Registry.rank.Goals as goal
 
 pub returns : goal.returns
 returns g c =
     let on : c.args.self.now.live ≡ true = search rules in
-    answers_read g.S.Store c.args.self.now _ c.rank.result c.or_refusal.result _ _ on refl refl c.rank.ensures c.or_refusal.ensures c.reached_histories_are_kept.ensures.readable (λ h rank shows clean told. told ∙ ap (λ a. rank_of a h) c.as_str.ensures.text)
+    answers_read g.S.Store c.args.self.now _ c.rank.result c.or_refusal.result _ _ on refl refl c.rank.ensures c.or_refusal.ensures c.reached_histories_are_kept.ensures.readable (λ h rank shows clean told. search rules)

@@ -1,8 +1,17 @@
-use Rattle.std.proofs.Common.{◌≡◌, true, refl, rules}
-use Rattle.pid_service.proofs.Questions.{answers_read}
+use Rattle.std.proofs.Common.{rules}
+use Rattle.pid_moderation.specs.Views.{views_of}
+use Rattle.pid_service.proofs.Causes.{caused_by}
+use Rattle.pid_service.proofs.Keeping.{left_same}
 use Rattle.pid_service.proofs.registry.Registry.read.Goals as goal
 
-pub returns : goal.returns
-returns g c =
-    let on : c.args.self.now.live ≡ true = search rules in
-    answers_read g.S.Store c.args.self.now _ c.item.result c.or_refusal.result _ _ on refl refl c.item.ensures c.or_refusal.ensures c.reached_histories_are_kept.ensures.readable (λ h name shows clean told. told)
+pub returns-in-Err : goal.returns-in-Err
+returns-in-Err g c = record {
+  failed = search rules;
+  fault = search rules;
+  lives = search rules;
+  rests = search rules;
+  leaves = left_same _;
+  told = search rules;
+  caused = λ clean h shows.
+      caused_by g.S.Store c.args.self.now.tables.conn c.item.new.self.conn c.in-Err.fault c.refusal_of.result c.refusal_of.ensures.same (c.in-Err.ensures.told clean (views_of h) shows.tables (c.reached_histories_are_kept.ensures.readable h shows.history));
+}
