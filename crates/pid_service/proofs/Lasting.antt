@@ -25,9 +25,6 @@ pub no_outcome : (e : Refusal) → IsMemoryOrStore e → is_outcome (Err e) ≡ 
 no_outcome e (inl is) told = let no : is_outcome (Err Memory) ≡ true = subst (λ (x : Refusal). is_outcome (Err x) ≡ true) is told in let bad : ⊥ = cc in bad
 no_outcome e (inr is) told = let no : is_outcome (Err Store) ≡ true = subst (λ (x : Refusal). is_outcome (Err x) ≡ true) is told in let bad : ⊥ = cc in bad
 
-pub never : {X : Type 0} (b : Bool) → b ≡ true → b ≡ false → X
-never b on off = absurd (let no : true ≡ false = sym on ∙ off in let bad : ⊥ = cc in bad)
-
 both : {X : Type 0} (before after : Bool) → after ≡ before → before ≡ true → after ≡ false → X
 both before after same on off = absurd (let no : true ≡ false = sym on ∙ sym same ∙ off in let bad : ⊥ = cc in bad)
 

@@ -1,4 +1,4 @@
-use Rattle.std.proofs.Common.{◌≡◌, inl, inr, false, true, Ok, ap, refl, rules, subst, ◌∙◌}
+use Rattle.std.proofs.Common.{◌≡◌, inl, inr, false, Ok, ap, refl, rules, subst, ◌∙◌}
 use Rattle.pid_moderation.specs.History.{Asked, History, is_import}
 use Rattle.pid_moderation.specs.CheckTables.{is_broken}
 use Rattle.pid_moderation.specs.Judgement.{answer}
@@ -13,7 +13,7 @@ use Rattle.pid_service.specs.Steps.Judging.{JudgesCommand}
 use Rattle.pid_service.specs.Steps.Obeying.{SparesNames}
 use Rattle.pid_service.proofs.ImportCauses.{bad_text}
 use Rattle.pid_service.proofs.Imported.{file_given}
-use Rattle.pid_service.proofs.Lasting.{carried, lasting, never, not_failed}
+use Rattle.pid_service.proofs.Lasting.{carried, lasting, not_failed}
 use Rattle.pid_service.proofs.Obeyed.{broken_form, broken_spares, failed_over, judged_for, kept, only_read, refused, refused_spares, spare_forgets, then_spares, well_made}
 use Rattle.pid_service.proofs.ReadFiles.{tells_any}
 use Rattle.pid_service.proofs.registry.Registry.obey_lent.Goals as goal
@@ -22,11 +22,10 @@ use Rattle.pid_service.proofs.registry.Registry.obey_lent.Goals as goal
 
 pub returns-then-breaks_form-clause-does : goal.returns-then-breaks_form-clause-does
 returns-then-breaks_form-clause-does g c =
-    let on : c.args.self.now.live ≡ true = search rules in
     let is = λ (h : History). c.breaks_form.ensures.refused (views_of h) (file_reading (file_of c.args.command.now.act)) (tells_any c.args.command.now.act) c.if-breaks_form.true in
     record {
       clean = λ clean. clean;
-      failed = λ off. never c.args.self.now.live on off;
+      failed = search rules;
       form = λ on broken. (refl, refl);
       obeyed = λ clean h shows. broken_form g.S.Store c.args.self.now h (asks c.args.command.now) shows (is h);
       caused = λ clean h shows other. inl (ap answer (is h));
@@ -43,17 +42,15 @@ returns-then-breaks_form-clause-spares g c clean h shows =
 
 pub returns-in-Import-clause-does : goal.returns-in-Import-clause-does
 returns-in-Import-clause-does g c =
-    let on : c.args.self.now.live ≡ true = search rules in
     let sound : is_broken c.args.command.now.act ≡ false = search rules in
-    let import : is_import c.args.command.now.act ≡ true = search rules in
     record {
       clean = c.import_bytes.ensures.clean;
-      failed = λ off. never c.args.self.now.live on off;
-      form = λ live broken. never (is_broken c.args.command.now.act) broken sound;
+      failed = search rules;
+      form = search rules;
       obeyed = λ clean h shows.
           file_given g.S.Store (λ (a : Asked). Obeys g.S.Store c.import_bytes.result c.import_bytes.new.self h a) c.args.command.now c.in-Import.file c.as_bytes.result.now c.in-Import.is c.as_bytes.ensures sound
           (λ import short. c.import_bytes.ensures.obeyed clean h shows import short);
-      caused = λ clean h shows other. never (is_import c.args.command.now.act) import other;
+      caused = search rules;
       import_caused = λ clean h shows import. c.import_bytes.ensures.caused clean h shows (reading_of c.args.command.now.act) import;
       forgets = λ clean h shows other. c.import_bytes.ensures.forgets h shows;
       lasts = lasting g.S.Store c.args.self.now c.import_bytes.new.self c.import_bytes.result c.import_bytes.ensures.lasts.live c.import_bytes.ensures.lasts.limit;
@@ -69,18 +66,16 @@ returns-in-Import-clause-spares g c clean h shows =
 
 pub returns-in-Err-clause-does : goal.returns-in-Err-clause-does
 returns-in-Err-clause-does g c =
-    let on : c.args.self.now.live ≡ true = search rules in
-    let sound : is_broken c.args.command.now.act ≡ false = search rules in
     let reading = file_reading (file_of c.args.command.now.act) in
     let other : is_import c.args.command.now.act ≡ false = search rules in
     record {
       clean = c.judge.ensures.rests.clean;
-      failed = λ off. never c.args.self.now.live on off;
-      form = λ live broken. never (is_broken c.args.command.now.act) broken sound;
+      failed = search rules;
+      form = search rules;
       obeyed = λ clean h shows.
           refused g.S.Store _ h (asks c.args.command.now) c.in-Err.refusal (only_read g.S.Store c.args.self.now _ h refl c.judge.ensures.rests refl shows)
           (c.in-Err.ensures.judged clean h reading shows.history shows.tables other);
-      import_caused = λ clean h shows import. never (is_import c.args.command.now.act) import other;
+      import_caused = search rules;
       caused = λ clean h shows same. judged_for g.S.Store c.args.self.now.tables.conn c.judge.new.tables.conn c.args.self.now.live h (asks c.args.command.now) c.in-Err.refusal shows.lives (c.in-Err.ensures.caused clean h reading shows.history shows.tables other);
       forgets = λ clean h shows same. inr (only_read g.S.Store c.args.self.now _ h refl c.judge.ensures.rests refl shows);
       lasts = lasting g.S.Store c.args.self.now _ _ (c.in-Err.ensures.alive, inr refl) c.judge.ensures.rests.survives.limit;
@@ -95,18 +90,16 @@ returns-in-Err-clause-spares g c clean h shows =
 
 pub returns-in-Ok-Kept-clause-does : goal.returns-in-Ok-Kept-clause-does
 returns-in-Ok-Kept-clause-does g c =
-    let on : c.args.self.now.live ≡ true = search rules in
-    let sound : is_broken c.args.command.now.act ≡ false = search rules in
     let reading = file_reading (file_of c.args.command.now.act) in
     let other : is_import c.args.command.now.act ≡ false = search rules in
     record {
       clean = c.judge.ensures.rests.clean;
-      failed = λ off. never c.args.self.now.live on off;
-      form = λ live broken. never (is_broken c.args.command.now.act) broken sound;
+      failed = search rules;
+      form = search rules;
       obeyed = λ clean h shows.
           kept g.S.Store _ h (asks c.args.command.now) c.in-Ok-Kept.reply (only_read g.S.Store c.args.self.now _ h refl c.judge.ensures.rests refl shows)
           (subst (λ (j : Judged). JudgesCommand h (asks c.args.command.now) (Ok j)) c.in-Ok-Kept.field-0-is (c.in-Ok-Kept.ensures.judged clean h reading shows.history shows.tables other));
-      import_caused = λ clean h shows import. never (is_import c.args.command.now.act) import other;
+      import_caused = search rules;
       caused = λ clean h shows same. tt;
       forgets = λ clean h shows same. inr (only_read g.S.Store c.args.self.now _ h refl c.judge.ensures.rests refl shows);
       lasts = lasting g.S.Store c.args.self.now _ _ refl c.judge.ensures.rests.survives.limit;
@@ -122,16 +115,14 @@ returns-in-Ok-Kept-clause-spares g c clean h shows =
 
 pub returns-in-Ok-Accepted-clause-does : goal.returns-in-Ok-Accepted-clause-does
 returns-in-Ok-Accepted-clause-does g c =
-    let on : c.args.self.now.live ≡ true = search rules in
-    let sound : is_broken c.args.command.now.act ≡ false = search rules in
     let reading = file_reading (file_of c.args.command.now.act) in
     let other : is_import c.args.command.now.act ≡ false = search rules in
     let told : (clean : HasCleanDisk g.S.Store c.carry_out.new.self) (h : History) (shows : Shows g.S.Store c.args.self.now h) → JudgesCommand h (asks c.args.command.now) (Ok (Accepted c.in-Ok-Accepted.change c.in-Ok-Accepted.reply)) =
     λ clean h shows. subst (λ (j : Judged). JudgesCommand h (asks c.args.command.now) (Ok j)) c.in-Ok-Accepted.field-0-is (c.in-Ok-Accepted.ensures.judged (c.carry_out.ensures.clean clean) h reading shows.history shows.tables other) in
     record {
       clean = λ clean. c.judge.ensures.rests.clean (c.carry_out.ensures.clean clean);
-      failed = λ off. never c.args.self.now.live on off;
-      form = λ live broken. never (is_broken c.args.command.now.act) broken sound;
+      failed = search rules;
+      form = search rules;
       obeyed = λ clean h shows.
           c.carry_out.ensures.obeyed h (asks c.args.command.now)
           (record {
@@ -139,7 +130,7 @@ returns-in-Ok-Accepted-clause-does g c =
             reached = c.commands_lead_on.ensures h (asks c.args.command.now) shows.history (well_made c.args.command.now reading other c.command_is_well_made.ensures);
             judged = told clean h shows;
           });
-      import_caused = λ clean h shows import. never (is_import c.args.command.now.act) import other;
+      import_caused = search rules;
       caused = λ clean h shows same.
           failed_over g.S.Store c.args.self.now c.carry_out.new.self c.args.self.now.live h (asks c.args.command.now) c.in-Ok-Accepted.change c.in-Ok-Accepted.reply c.carry_out.result c.carry_out.ensures.held (told clean h shows);
       forgets = λ clean h shows.
