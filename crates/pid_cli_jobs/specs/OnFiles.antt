@@ -10,6 +10,7 @@ use Rattle.sqlite_trees.specs.declared.store.Store.{Ghosts}
 use Rattle.sqlite_wal.specs.Recovery.{Image}
 use Rattle.pid_file.specs.declared.io.Input as inputs
 use Rattle.pid_file.specs.declared.io.Output as outputs
+use Rattle.pid_tables_rows.specs.Faults.{IsMemoryOrStore}
 use Rattle.pid_tables_rows.specs.declared.fault.TableFault.{TableFault}
 use Rattle.pid_tables_rows.specs.declared.fault.TableFault.TheVariants.{Memory}
 use Rattle.pid_cli_jobs.specs.declared.on_files.FileJob.{FileJob}
@@ -48,10 +49,11 @@ module _ {E W : Type 0} (files : disk.Ghosts E) (image : Image) (writer : output
     pub fresh : IsNew conn
     pub there : DoesThere files writer conn task w
 
-  -- a job on the files, or why they were not opened
+  -- a job on the files, or why they were not opened: out of memory, or they cannot be
   pub data DoesInFiles (task : FileTask) (w : Wrote W) : Type 0 where
     InFiles : OpensAndDoes task w → DoesInFiles task w
-    NoFiles : (fault : TableFault) → TellsUnopened fault w → DoesInFiles task w
+    NoFiles : (fault : TableFault) → IsMemoryOrStore fault → TellsUnopened fault w
+        → DoesInFiles task w
 
 module _ {W : Type 0} (memory : Ghosts MemStore) (writer : outputs.Ghosts W) where
   -- a new connection to an empty database was opened in memory, and this was done there

@@ -43,7 +43,8 @@ module _ {W : Type 0} (writer : outputs.Ghosts W) where
     BadFields : (bad : BadField) → IsReadFrom fields (Err bad) → w.end ≡ Replied (Err BadText)
         → IsSilent w → LooksUpInFile fields w
     NoMemoryToLookUp : TellsMemory w → LooksUpInFile fields w
-    NoFileToLookUp : w.end ≡ FileFailed → IsSilent w → LooksUpInFile fields w
+    NoFileToLookUp : (lookup : Lookup) → IsReadFrom fields (Ok lookup) → w.end ≡ FileFailed
+        → IsSilent w → LooksUpInFile fields w
     Looks : (lookup : Lookup) → IsReadFrom fields (Ok lookup)
         → LooksUpText lookup None (streams_of writer w) w.end → LooksUpInFile fields w
 

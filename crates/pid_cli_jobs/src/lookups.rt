@@ -1,5 +1,5 @@
 //! Lookups in a pci.ids file.
-ghost use Rattle.std.specs.Prelude.{◌≡◌, ◌++◌, IfOk, OnOk};
+ghost use Rattle.std.specs.Prelude.{◌≡◌, ◌⊎◌, ◌++◌, IfOk, IsSome, OnOk};
 ghost use Rattle.pid_file.specs.Writing.{use_of};
 ghost use Rattle.pid_lookup.specs.Fields.{bytes_of};
 ghost use Rattle.pid_cli_words.specs.Jobs.{text_given};
@@ -69,7 +69,8 @@ pub fn read_words(
     }
 }
 
-/// Answers a lookup in the text of the input, or reports the fault of the text.
+/// Answers a lookup in the text of the input, or reports the fault of the text. The end is
+/// `FileFailed` if the input failed, and else only if a writer did.
 pub fn print_lookup<I: Input, O: Output, F: Output>(
     alloc: Global,
     lookup: &Lookup,
@@ -77,10 +78,13 @@ pub fn print_lookup<I: Input, O: Output, F: Output>(
     output: &mut O,
     faults: &mut F,
 ) -> JobEnd
-    ensures { LooksUpText lookup.now (I.to_come input.old) (record {
+    ensures looks { LooksUpText lookup.now (I.to_come input.old) (record {
       output = use_of O.Output output.old output.new;
       faults = use_of F.Output faults.old faults.new;
     }) result }
+    ensures failed { result ≡ JobEnd.FileFailed → IsSome (I.read_fault input.new)
+        ⊎ (IsSome (O.write_fault output.new) ⊎ IsSome (F.write_fault faults.new)) }
+    ensures read_fault { IsSome (I.read_fault input.new) → result ≡ JobEnd.FileFailed }
 {
     let Lookup { flags, args, size } = *lookup;
     match lookup_in(alloc, LARGEST, input, flags, &args, size) {

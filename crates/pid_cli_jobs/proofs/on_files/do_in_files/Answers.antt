@@ -12,7 +12,7 @@ returns-in-Ok g c = InFiles (record {
 })
 
 pub returns-in-Err : goal.returns-in-Err
-returns-in-Err g c = NoFiles c.in-Err.fault (record {
+returns-in-Err g c = NoFiles c.in-Err.fault c.in-Err.ensures.fault (record {
   silent = refl;
   told = c.tell_unopened.ensures.told;
   ends = ap Told c.tell_unopened.ensures.status;
