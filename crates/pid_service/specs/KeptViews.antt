@@ -37,7 +37,7 @@ pub record LeavesKept (old new : KeptViews) : Type 0 where
   pub names : new.items.names ≡ old.items.names
   pub text : IsSome old.items.text → new.items.text ≡ old.items.text
   pub pending : IsSome old.pending → new.pending ≡ old.pending
-  -- numbers that were read still count as read, so that no question reads them again
+  -- numbers that were read still count as read
   pub read : old.pending_read ≡ true → (new.pending_read ≡ true) × (new.pending ≡ old.pending)
 
 -- the numbers of what is pending, rising
