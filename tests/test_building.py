@@ -136,10 +136,9 @@ def test_builds(cases):
         cases.equal("each crate is reported", build(folder, PAUSE="2"), (wanted, "", 0))
         noted = notes(folder)
         low = "begin low jobs 4 statements over std std_thing"
-        cases.equal("the lowest crate gets all processors", noted[0], low)
-        jobs = {"aside": 1, "left": 4, "right": 4}
-        wanted = [f"begin {it} jobs {n} statements over low std" for it, n in jobs.items()]
-        cases.equal("two have all of them, one is beside them", sorted(noted[2:5]), wanted)
+        cases.equal("the lowest crate is alone", noted[0], low)
+        wanted = [f"begin {it} jobs 4 statements over low std" for it in ("aside", "left", "right")]
+        cases.equal("three are built at the same time", sorted(noted[2:5]), wanted)
         top = [it for it in noted if it.startswith("begin top")]
         cases.equal("the last library", top, ["begin top jobs 4 statements over left right std"])
         last = "begin program jobs 4 over aside std top"

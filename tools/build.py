@@ -5,9 +5,9 @@
 
 Each crate is proved from nothing. Of a library, `rattle build --statements` then writes what the
 crates above it can cite, without the proofs, so that they have less to load than of a library that
-`rt lib` builds. The crates for which the longest chain of crates waits have a job for each
-processor, and others go on beside them with what they leave idle. Prints `crate NAME: proved, N s`
-when a crate is built; what `rattle` prints goes to standard error if it fails.
+`rt lib` builds. Each crate that is built has a job for each processor; those for which the longest
+chain of crates does not wait give way to the others. Prints `crate NAME: proved, N s` when a crate
+is built; what `rattle` prints goes to standard error if it fails.
 """
 
 import contextlib
@@ -124,7 +124,7 @@ class Toolchain:
 
 
 class Build:
-    """The crates of a program: which are built, and which are being built with how many jobs."""
+    """The crates of a program: which are built, and which are being built."""
 
     def __init__(self, program, processors):
         self.uses = read_uses()
@@ -132,7 +132,7 @@ class Build:
         self.below = {crate: below(self.uses, crate) for crate in self.crates}
         self.toolchain = Toolchain(self.uses)
         self.processors = processors
-        self.built, self.jobs, self.failed = set(), {}, False
+        self.built, self.begun, self.failed = set(), set(), False
         # Those that are built beside the ones for which the longest chain waits.
         self.beside = set()
         self.changed = threading.Condition()
@@ -149,7 +149,7 @@ class Build:
 
     def ready(self):
         """Returns the crates that can be built now, those with the longest chain first."""
-        waiting = [it for it in self.crates if it not in self.built and it not in self.jobs]
+        waiting = [it for it in self.crates if it not in self.begun]
         ready = [it for it in waiting if self.built.issuperset(self.below[it])]
         return sorted(ready, key=lambda it: -self.chain(it))
 
@@ -158,33 +158,31 @@ class Build:
         threads = []
         with self.changed:
             while not self.failed and len(self.built) < len(self.crates):
-                ready = self.ready()
-                self.jobs.update(dict.fromkeys(self.leading(ready), self.processors))
-                for crate in ready:
-                    if crate not in self.jobs and len(self.beside) < max(1, self.processors // 2):
-                        self.jobs[crate] = 1
+                for crate in self.ready():
+                    if not self.leads(crate):
+                        if len(self.beside) >= max(1, self.processors // 2):
+                            continue
                         self.beside.add(crate)
-                    if crate in self.jobs:
-                        threads.append(threading.Thread(target=self.build, args=(crate,)))
-                        threads[-1].start()
+                    self.begun.add(crate)
+                    threads.append(threading.Thread(target=self.build, args=(crate,)))
+                    threads[-1].start()
                 self.changed.wait(timeout=1)
         for thread in threads:
             thread.join()
         return not self.failed
 
-    def leading(self, ready):
-        """Returns those of these crates for which the longest chain of crates waits."""
+    def leads(self, crate):
+        """Returns whether the longest chain of crates waits for this one."""
         first = max((it for it in self.crates if it not in self.built), key=self.chain)
-        return [it for it in ready if self.above[it] == self.above[first]]
+        return self.above[crate] == self.above[first]
 
     def build(self, crate):
         """Builds one crate, and lets those above it begin."""
         succeeded, began = False, time.monotonic()
         try:
-            succeeded = self.is_built(crate) or self.prove(crate, self.jobs[crate])
+            succeeded = self.is_built(crate) or self.prove(crate)
         finally:
             with self.changed:
-                del self.jobs[crate]
                 self.beside.discard(crate)
                 self.failed = self.failed or not succeeded
                 self.built.add(crate)
@@ -205,18 +203,18 @@ class Build:
             return False
         return is_same and ages[0] == max(ages)
 
-    def prove(self, crate, jobs):
+    def prove(self, crate):
         """Proves and builds a crate. Returns whether that succeeded."""
         place, toolchain = Toolchain.place(crate), self.toolchain
         if toolchain.is_program(crate):
             os.makedirs(os.path.dirname(place), exist_ok=True)
-            return self.call(crate, toolchain.build(crate, jobs)) and self.call(
+            return self.call(crate, toolchain.build(crate, self.processors)) and self.call(
                 crate, toolchain.link(crate)
             )
         shutil.rmtree(place, ignore_errors=True)
         os.makedirs(place)
         before = toolchain.sum(crate)
-        succeeded = self.call(crate, toolchain.build(crate, jobs))
+        succeeded = self.call(crate, toolchain.build(crate, self.processors))
         if succeeded and before and before == toolchain.sum(crate):
             with open(os.path.join(place, "stamp"), "w", encoding="utf-8") as file:
                 file.write(before)
