@@ -101,8 +101,10 @@ def environment(folder, **more):
 
 
 def start(folder, **more):
+    # A shell lets what it starts in the background ignore Ctrl-C.
+    command = ["env", "--default-signal=INT", "python3", "-B"]
     return subprocess.Popen(
-        ["python3", "-B", os.path.join(folder, "tools", "build.py"), "program", "4"],
+        [*command, os.path.join(folder, "tools", "build.py"), "program", "4"],
         stdout=subprocess.PIPE,
         stderr=subprocess.PIPE,
         env=environment(folder, **more),
