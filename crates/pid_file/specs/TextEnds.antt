@@ -7,12 +7,22 @@ use Rattle.pid_file.specs.declared.text_end.TextEnd.{TextEnd}
 use Rattle.pid_file.specs.declared.text_end.TextEnd.TheVariants.{Done, Line, TooManyEntries}
 use Rattle.pid_file.specs.declared.text_end.TextEnd.TheVariants.{TooLarge, Memory, ReadFault}
 use Rattle.pid_file.specs.declared.text_end.TextEnd.TheVariants.{WriteFault}
+use Rattle.pid_file.specs.declared.sink.CutEnd.TheVariants.{Refused, Fault}
+use Rattle.pid_file.specs.declared.whole_input.InputEnd.{InputEnd}
+use Rattle.pid_file.specs.declared.whole_input.InputEnd.TheVariants as inputs
 
 -- the end for a refusal
 abbrev pub end_of : ReadRefusal → TextEnd
 end_of (refusals.Line line kind) = Line line kind
 end_of refusals.TooManyEntries = TooManyEntries
 end_of refusals.Memory = Memory
+
+-- the end for an input that was not read; a sink that faults is out of memory
+abbrev pub unread_end : {F : Type 0} → InputEnd F → TextEnd
+unread_end inputs.ReadFault = ReadFault
+unread_end inputs.TooLong = TooLarge
+unread_end (inputs.Cut (Refused r)) = end_of r
+unread_end (inputs.Cut (Fault f)) = Memory
 
 -- a line's number, and the number and the word of its fault: line 3: 7 Duplicate
 abbrev pub line_told : ℕ → ℕ → List ℕ → List ℕ

@@ -1,6 +1,7 @@
 //! Reporting why a text was not read.
-ghost use Rattle.std.specs.Prelude.{◌≡◌, ◌≢◌, ◌↔◌, ℕ, List};
+ghost use Rattle.std.specs.Prelude.{◌≡◌, ◌≢◌, ◌↔◌, ◌⊎◌, ℕ, List};
 ghost use Rattle.pid_file.specs.InputTexts.{IsUnread};
+ghost use Rattle.pid_file.specs.TextEnds.{unread_end};
 ghost use Rattle.pid_file.specs.Told.{IsTold, ReportsEnd};
 ghost use Rattle.pid_file.specs.Writing.{use_of};
 
@@ -16,6 +17,7 @@ pub fn tell_unread<F: Output>(end: InputEnd<Never>, faults: &mut F) -> TextEnd
     ensures told { (text : List ℕ) → IsUnread LARGEST end text
         → IsTold result text (F.taken faults.old) (F.taken faults.new) }
     ensures reports { ReportsEnd result (use_of F.Output faults.old faults.new) }
+    ensures ends { (result ≡ unread_end end) ⊎ (result ≡ TextEnd.WriteFault) }
     ensures read_fault { (result ≡ TextEnd.ReadFault) ↔ (end ≡ InputEnd.ReadFault) }
     ensures not_done { result ≢ TextEnd.Done }
 {
