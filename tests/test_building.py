@@ -137,16 +137,26 @@ def test_builds(cases):
         wanted = [f"crate {it}: proved, N s" for it in sorted(ALL)]
         cases.equal("each crate is reported", build(folder, PAUSE="2"), (wanted, "", 0))
         noted = notes(folder)
-        low = "begin low jobs 4 statements over std std_thing"
+        low = "begin low jobs 2 statements over std std_thing"
         cases.equal("the lowest crate is alone", noted[0], low)
-        wanted = [f"begin {it} jobs 4 statements over low std" for it in ("aside", "left", "right")]
+        jobs = {"aside": 1, "left": 2, "right": 2}
+        wanted = [f"begin {it} jobs {jobs[it]} statements over low std" for it in jobs]
         cases.equal("three are built at the same time", sorted(noted[2:5]), wanted)
         top = [it for it in noted if it.startswith("begin top")]
-        cases.equal("the last library", top, ["begin top jobs 4 statements over left right std"])
-        last = "begin program jobs 4 over aside std top"
+        cases.equal("the last library", top, ["begin top jobs 2 statements over left right std"])
+        last = "begin program jobs 2 over aside std top"
         cases.equal("the program comes last", noted[-2:], [last, "end program"])
         linked = os.path.join(folder, "crates", "program", "out", "program")
         cases.equal("the program is where it belongs", os.path.isfile(linked), True)
+
+
+def test_builds_in_turn(cases):
+    """Where each crate waits for the one before, each has all processors."""
+    with tempfile.TemporaryDirectory() as folder:
+        make(folder, "low: std_thing\nprogram: low\n")
+        build(folder)
+        jobs = [it.split()[1:4] for it in notes(folder) if it.startswith("begin")]
+        cases.equal("their jobs", jobs, [["low", "jobs", "4"], ["program", "jobs", "4"]])
 
 
 def test_builds_again(cases):

@@ -5,9 +5,11 @@
 
 Each crate is proved from nothing. Of a library, `rattle build --statements` then writes what the
 crates above it can cite, without the proofs, so that they have less to load than of a library that
-`rt lib` builds. Each crate that is built has a job for each processor; those for which the longest
-chain of crates does not wait give way to the others. Prints `crate NAME: proved, N s` when a crate
-is built; what `rattle` prints goes to standard error if it fails.
+`rt lib` builds. A prover with N jobs is N copies of one process, of which each costs some seconds
+of a processor. So a crate has one job, those for which the longest chain of crates waits half as
+many as there are processors, and all of them where no crate can be built beside another; the first
+kind gives way to the others. Prints `crate NAME: proved, N s` when a crate is built; what `rattle`
+prints goes to standard error if it fails.
 """
 
 import contextlib
@@ -130,6 +132,8 @@ class Build:
         self.uses = read_uses()
         self.crates = [*below(self.uses, program), program]
         self.below = {crate: below(self.uses, crate) for crate in self.crates}
+        # Whether no crate can be built beside another.
+        self.in_turn = all(len(self.below[it]) == at for at, it in enumerate(self.crates))
         self.toolchain = Toolchain(self.uses)
         self.processors = processors
         self.built, self.begun, self.failed = set(), set(), False
@@ -176,6 +180,12 @@ class Build:
         first = max((it for it in self.crates if it not in self.built), key=self.chain)
         return self.above[crate] == self.above[first]
 
+    def jobs(self, crate):
+        """Returns how many jobs a crate has."""
+        if self.in_turn:
+            return self.processors
+        return 1 if crate in self.beside else max(1, self.processors // 2)
+
     def build(self, crate):
         """Builds one crate, and lets those above it begin."""
         succeeded, began = False, time.monotonic()
@@ -206,15 +216,14 @@ class Build:
     def prove(self, crate):
         """Proves and builds a crate. Returns whether that succeeded."""
         place, toolchain = Toolchain.place(crate), self.toolchain
+        command = toolchain.build(crate, self.jobs(crate))
         if toolchain.is_program(crate):
             os.makedirs(os.path.dirname(place), exist_ok=True)
-            return self.call(crate, toolchain.build(crate, self.processors)) and self.call(
-                crate, toolchain.link(crate)
-            )
+            return self.call(crate, command) and self.call(crate, toolchain.link(crate))
         shutil.rmtree(place, ignore_errors=True)
         os.makedirs(place)
         before = toolchain.sum(crate)
-        succeeded = self.call(crate, toolchain.build(crate, self.processors))
+        succeeded = self.call(crate, command)
         if succeeded and before and before == toolchain.sum(crate):
             with open(os.path.join(place, "stamp"), "w", encoding="utf-8") as file:
                 file.write(before)
