@@ -5,7 +5,7 @@ use crate::incoming::Incoming;
 use pid_ident::{Input, Output, ReadFault};
 
 /// Why a body was not read to its end.
-#[derive(Clone, Copy, Debug, PartialEq, Eq)]
+#[derive(Clone, Copy)]
 pub(crate) enum BodyFault {
     /// The reader ended before it.
     Short,

@@ -5,7 +5,7 @@ ghost use Rattle.pid_http_stream.specs.Statuses.{allows_body};
 use http::StatusCode;
 
 /// What a reply's body is. Only a reply that names the methods allowed has none.
-#[derive(Clone, Copy, Debug, PartialEq, Eq)]
+#[derive(Clone, Copy)]
 pub enum Content {
     Json,
     Text,
