@@ -33,12 +33,16 @@ reply_is r old new answer closes digits phrase content len allow close p x q l a
 -- ---- a reply whose body is written by itself
 
 -- the reply with no body is its head
-pub head_only : (head : ReplyHead) (told : ℕ) (closes : Bool) → reply_bytes (record { status = head.status; content = head.content; told = told; body = [] }) closes ≡ reply_head head.status head.content told closes
+head_only : (head : ReplyHead) (told : ℕ) (closes : Bool) → reply_bytes (record { status = head.status; content = head.content; told = told; body = [] }) closes ≡ reply_head head.status head.content told closes
 unfolding reply_bytes
 head_only head told closes = append-nil (reply_head head.status head.content told closes)
 
-pub front_of_it : (old new : Option (List ℕ)) (bytes : List ℕ) → SendsFront old new bytes → WritesFront old new bytes
-front_of_it old new bytes (n, less, appended) = (n, omega arith, appended)
+pub headed : (head : ReplyHead) (told : ℕ) (closes : Bool) (t u : Option (List ℕ)) → Appends t u (reply_bytes (answer_behind head told []) closes) → Appends t u (reply_head head.status head.content told closes)
+headed head told closes t u p = subst (Appends t u) (head_only head told closes) p
+
+pub head_front : (head : ReplyHead) (told : ℕ) (closes : Bool) (t u : Option (List ℕ)) → SendsFront t u (reply_bytes (answer_behind head told []) closes) → WritesFront t u (reply_head head.status head.content told closes)
+head_front head told closes t u (n, less, p) =
+    subst (WritesFront t u) (head_only head told closes) (n, omega arith, p)
 
 pub head_then_body : (head : ReplyHead) (told : ℕ) (closes : Bool) (t u v : Option (List ℕ)) (body : List ℕ) → Appends t u (reply_head head.status head.content told closes) → Appends u v body
     → Appends t v (reply_bytes (record { status = head.status; content = head.content; told = told; body = body }) closes)

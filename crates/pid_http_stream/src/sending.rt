@@ -3,7 +3,7 @@ ghost use Rattle.std.specs.Prelude.{◌≡◌, true, false, None, [], IsSome};
 ghost use Rattle.std.specs.Io.KnownBytes.{Appends};
 ghost use Rattle.pid_http_stream.specs.Handling.{MayReply};
 ghost use Rattle.pid_http_stream.specs.Leading.{Leads};
-ghost use Rattle.pid_http_stream.specs.Replies.{answer_with, reply_head, reply_bytes};
+ghost use Rattle.pid_http_stream.specs.Replies.{answer_behind, reply_bytes};
 ghost use Rattle.pid_http_stream.specs.Requests.{Request};
 ghost use Rattle.pid_http_stream.specs.Serving.{outside};
 ghost use Rattle.pid_http_stream.specs.Steps.Loop.{IsSent, SendsText};
@@ -22,25 +22,19 @@ pub(crate) enum Sent {
     StoreFault,
 }
 
-// Writes a reply whose body is there.
-fn send_bytes<W: Output>(head: ReplyHead, body: &[u8], closes: bool, out: &mut W) -> Sent
+// Writes the head of a reply whose body has so many bytes, and then these bytes.
+fn send_bytes<W: Output>(
+    head: ReplyHead,
+    content_length: u64,
+    body: &[u8],
+    closes: bool,
+    out: &mut W,
+) -> Sent
     ensures sent { SendsText result (W.taken out.old) (W.taken out.new)
-        (reply_bytes (answer_with head.status head.content body.now) closes) }
+        (reply_bytes (answer_behind head content_length body.now) closes) }
     ensures fault { result ≡ Sent.WriteFault → IsSome (W.write_fault out.new) }
 {
-    match write_reply(head, body.len() as u64, body, closes, out) {
-        Ok(()) => Sent::Whole,
-        Err(_) => Sent::WriteFault,
-    }
-}
-
-// Writes the head of a reply.
-fn send_head<W: Output>(head: ReplyHead, content_length: u64, closes: bool, out: &mut W) -> Sent
-    ensures sent { SendsText result (W.taken out.old) (W.taken out.new)
-        (reply_head head.status head.content content_length closes) }
-    ensures fault { result ≡ Sent.WriteFault → IsSome (W.write_fault out.new) }
-{
-    match write_reply(head, content_length, b"", closes, out) {
+    match write_reply(head, content_length, body, closes, out) {
         Ok(()) => Sent::Whole,
         Err(_) => Sent::WriteFault,
     }
@@ -77,11 +71,9 @@ fn send_written<H: Handler, W: Output>(
     ensures store { result ≡ Sent.StoreFault → W.write_fault out.new ≡ None }
     ensures stuck { result ≡ Sent.StoreFault → H.cannot_go_on handler.new }
 {
-    match send_head(head, content_length, closes, out) {
-        Sent::Whole => {}
-        Sent::WriteFault => return Sent::WriteFault,
-        Sent::StoreFault => return Sent::StoreFault,
-    }
+    let Ok(()) = write_reply(head, content_length, b"", closes, out) else {
+        return Sent::WriteFault;
+    };
     match handler.write_body(out) {
         Ok(()) => Sent::Whole,
         Err(BodyStop::Writer) => Sent::WriteFault,
@@ -114,7 +106,7 @@ pub(crate) fn send<H: Handler, W: Output>(
 {
     let Reply { head, body } = reply;
     match body {
-        ReplyBody::Bytes(bytes) => send_bytes(head, &bytes, closes, out),
+        ReplyBody::Bytes(bytes) => send_bytes(head, bytes.len() as u64, &bytes, closes, out),
         ReplyBody::Written(length) => send_written(handler, head, length, closes, out),
     }
 }

@@ -1,18 +1,18 @@
 use Rattle.std.proofs.Common.{inl, inr}
 use Rattle.pid_http_stream.proofs.Leading.{stays, turned}
-use Rattle.pid_http_stream.proofs.Lines.{head_then_body, head_then_front, front_then_nothing, cut_in_body}
+use Rattle.pid_http_stream.proofs.Lines.{headed, head_front, head_then_body, head_then_front, front_then_nothing, cut_in_body}
 use Rattle.pid_http_stream.proofs.sending.send_written.Goals as goal
 
-pub returns-in-Ok-clause-sent : goal.returns-in-Ok-clause-sent
-returns-in-Ok-clause-sent g c = turned _ _ _ _
+pub returns-in-Ok-write_body-clause-sent : goal.returns-in-Ok-write_body-clause-sent
+returns-in-Ok-write_body-clause-sent g c = turned _ _ _ _
     (λ v w written a request promised.
-    (_, g.met.H.Handler.kept a request c.args.head c.args.content_length v written.0 w promised written.1, head_then_body c.args.head c.args.content_length c.args.closes _ _ _ written.0 c.in-Whole.ensures.sent written.2))
-    c.in-Ok.ensures.written
+    (_, g.met.H.Handler.kept a request c.args.head c.args.content_length v written.0 w promised written.1, head_then_body c.args.head c.args.content_length c.args.closes _ _ _ written.0 (headed c.args.head _ _ _ _ c.in-Ok.ensures.sent) written.2))
+    c.in-Ok-write_body.ensures.written
 
 pub returns-in-Err-Writer-clause-sent : goal.returns-in-Err-Writer-clause-sent
 returns-in-Err-Writer-clause-sent g c = turned _ _ _ _
     (λ v w written a request promised.
-    inl (_, g.met.H.Handler.kept a request c.args.head c.args.content_length v written.0 w promised written.1, head_then_front c.args.head c.args.content_length c.args.closes _ _ _ written.0 c.in-Whole.ensures.sent written.2))
+    inl (_, g.met.H.Handler.kept a request c.args.head c.args.content_length v written.0 w promised written.1, head_then_front c.args.head c.args.content_length c.args.closes _ _ _ written.0 (headed c.args.head _ _ _ _ c.in-Ok.ensures.sent) written.2))
     c.in-Err-Writer.ensures.written
 
 pub returns-then-has_failed-clause-sent : goal.returns-then-has_failed-clause-sent
@@ -21,7 +21,7 @@ returns-then-has_failed-clause-sent g c = turned _ _ _ _
     inl (
       _,
       g.met.H.Handler.kept a request c.args.head c.args.content_length v written.0 w promised written.1,
-      head_then_front c.args.head c.args.content_length c.args.closes _ _ _ written.0 c.in-Whole.ensures.sent (front_then_nothing _ _ _ written.0 written.2 c.has_failed.ensures.taken),
+      head_then_front c.args.head c.args.content_length c.args.closes _ _ _ written.0 (headed c.args.head _ _ _ _ c.in-Ok.ensures.sent) (front_then_nothing _ _ _ written.0 written.2 c.has_failed.ensures.taken),
     ))
     c.in-Err-Store.ensures.written
 
@@ -29,11 +29,11 @@ pub returns-else-has_failed-clause-sent : goal.returns-else-has_failed-clause-se
 returns-else-has_failed-clause-sent g c = turned _ _ _ _
     (λ v w written a request promised.
     cut_in_body _ a v w request c.args.head c.args.content_length written.0 c.args.closes _ _ _ _ promised (g.met.H.Handler.kept a request c.args.head c.args.content_length v written.0 w promised written.1)
-    c.in-Whole.ensures.sent written.2 c.has_failed.ensures.taken)
+    (headed c.args.head _ _ _ _ c.in-Ok.ensures.sent) written.2 c.has_failed.ensures.taken)
     c.in-Err-Store.ensures.written
 
-pub returns-in-WriteFault-clause-becomes : goal.returns-in-WriteFault-clause-becomes
-returns-in-WriteFault-clause-becomes g c = g.met.H.Handler.stays _
+pub returns-in_default-clause-becomes : goal.returns-in_default-clause-becomes
+returns-in_default-clause-becomes g c = g.met.H.Handler.stays _
 
-pub returns-in-WriteFault-clause-sent : goal.returns-in-WriteFault-clause-sent
-returns-in-WriteFault-clause-sent g c = stays _ _ (λ v a request promised. inr (c.args.head, c.args.content_length, promised, c.in-WriteFault.ensures.sent))
+pub returns-in_default-clause-sent : goal.returns-in_default-clause-sent
+returns-in_default-clause-sent g c = stays _ _ (λ v a request promised. inr (c.args.head, c.args.content_length, promised, head_front c.args.head _ _ _ _ c.in_default.ensures.sent))
