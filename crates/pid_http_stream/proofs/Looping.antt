@@ -6,7 +6,7 @@ use Rattle.pid_http_stream.specs.Conducts.{Conduct}
 use Rattle.pid_http_stream.specs.Endings.{HasFault}
 use Rattle.pid_http_stream.specs.Steps.Intakes.{ComesIn, WaitsForRequest}
 use Rattle.pid_http_stream.specs.Leftovers.{IsLeftover}
-use Rattle.pid_http_stream.specs.MomentLaws.{since_then, since_so}
+use Rattle.pid_http_stream.specs.MomentLaws.{since_none, since_then, since_so}
 use Rattle.pid_http_stream.specs.Moments.{Moment, AllSince}
 use Rattle.pid_http_stream.specs.Serving.{saturated, AnswersFront, IsCaughtUp, IsServed}
 use Rattle.pid_http_stream.specs.Steps.Loop.{count_with, WritesRefusal, Steps, stop_end}
@@ -86,6 +86,11 @@ caught_up conduct a b t u mid s held count serving m x =
       none = unfinished_is_none x.rest x.waits;
       unfinished = x.waits;
     }
+
+-- before the first read
+pub loop_unread : {H : Type 0} (conduct : Conduct H) (a : H) (t input : Option (List ℕ)) (xs : Option (List Moment)) → IfSome input (λ s. AllSince (IsCaughtUp conduct a t s) xs xs)
+loop_unread conduct a t None xs = tt
+loop_unread conduct a t (Some s) xs = since_none (IsCaughtUp conduct a t s) xs
 
 -- for a head
 pub loop_waits : {H : Type 0} (conduct : Conduct H) (a b : H) (t u input mid : Option (List ℕ)) (held : List ℕ) (count : ℕ) (xs ys zs : Option (List Moment))

@@ -10,6 +10,7 @@ ghost use Rattle.std.specs.Prelude.{
   ◌<◌,
   ◌≤◌,
   List,
+  [],
   length,
   drop,
   IsSome,
@@ -46,7 +47,7 @@ use pid_ident::Output;
 use std::alloc::Global;
 
 /// How the serving of a stream ended.
-#[derive(Clone, Copy, Debug, PartialEq, Eq)]
+#[derive(Clone, Copy, PartialEq, Eq)]
 pub enum StreamEnd {
     /// The stream ended after its last request.
     Clean,
@@ -211,6 +212,80 @@ fn with_refusal(answered: u64, end: StreamEnd) -> u64
     }
 }
 
+// Answers the requests of a stream, which is held here as far as it has come.
+fn serve_held<H: Handler, I: Incoming<W>, W: Output>(
+    alloc: Global,
+    handler: &mut H,
+    input: &mut I,
+    output: &mut W,
+    turns: u64,
+    held: &mut Vec<u8>,
+) -> Served
+    requires { held.old.items ≡ [] }
+    ensures becomes { H.becomes handler.old handler.new }
+    ensures served { Leads H.is_good H.stands handler.old handler.new
+        (λ v w. IfSome (I.to_come input.old) (λ stream. IsServed H.conduct
+        (outside v w (W.taken output.old) (W.taken output.new))
+        stream (I.to_come input.new) result.end result.answered)) }
+    ensures caught_up { Leads H.is_good H.stands handler.old handler.new
+        (λ v _. IfSome (I.to_come input.old) (λ stream. AllSince
+        (IsCaughtUp H.conduct v (W.taken output.old) stream)
+        (I.moments input.old) (I.moments input.new))) }
+    ensures ended { EndsFor result.end (record {
+      read_fault = I.read_fault input.new;
+      write_fault = W.write_fault output.new;
+      stuck = H.cannot_go_on handler.new;
+      turns = turns;
+      reads = I.reads input.old;
+      reads_after = I.reads input.new;
+    }) }
+    ensures goes { I.goes input.old input.new }
+{
+    let mut fields = [EMPTY_HEADER_SPAN; MOST_FIELDS];
+    let mut turns_left = turns;
+    let mut answered: u64 = 0;
+    'serving: loop {
+        match read_head(held, &mut turns_left, input, output, &mut fields) {
+            HeadRead::Nothing => return Served {
+                answered,
+                end: StreamEnd::Clean,
+            },
+            HeadRead::Faulty(fault) => {
+                let end = refuse(fault, output);
+                let answered = with_refusal(answered, end);
+                return Served { answered, end };
+            }
+            HeadRead::Stopped(stop) => {
+                let end = end_of(stop);
+                return Served { answered, end };
+            }
+            HeadRead::Head { spans, body } => {
+                let head = Head {
+                    bytes: held,
+                    fields: &fields,
+                    spans,
+                };
+                match serve_request(alloc, handler, &head, body, input, &mut turns_left, output) {
+                    Answered::Open => {
+                        answered = answered.saturating_add(1);
+                        drop_front(held, spans.len + body);
+                    }
+                    Answered::Closed => {
+                        return Served {
+                            answered: answered.saturating_add(1),
+                            end: StreamEnd::Closed,
+                        };
+                    }
+                    Answered::Ended(end) => {
+                        let answered = with_refusal(answered, end);
+                        return Served { answered, end };
+                    }
+                }
+            }
+        }
+    }
+}
+
 /// Answers the requests of a stream, one after another, in at most so many reads.
 ///
 /// Whenever it reads, the requests that came whole are answered, the writer has taken their
@@ -244,48 +319,6 @@ pub fn serve_stream<H: Handler, I: Incoming<W>, W: Output>(
     }) }
     ensures goes { I.goes input.old input.new }
 {
-    let mut fields = [EMPTY_HEADER_SPAN; MOST_FIELDS];
     let mut held = Vec::new(alloc);
-    let mut turns_left = turns;
-    let mut answered: u64 = 0;
-    'serving: loop {
-        match read_head(&mut held, &mut turns_left, input, output, &mut fields) {
-            HeadRead::Nothing => return Served {
-                answered,
-                end: StreamEnd::Clean,
-            },
-            HeadRead::Faulty(fault) => {
-                let end = refuse(fault, output);
-                let answered = with_refusal(answered, end);
-                return Served { answered, end };
-            }
-            HeadRead::Stopped(stop) => {
-                let end = end_of(stop);
-                return Served { answered, end };
-            }
-            HeadRead::Head { spans, body } => {
-                let head = Head {
-                    bytes: &held,
-                    fields: &fields,
-                    spans,
-                };
-                match serve_request(alloc, handler, &head, body, input, &mut turns_left, output) {
-                    Answered::Open => {
-                        answered = answered.saturating_add(1);
-                        drop_front(&mut held, spans.len + body);
-                    }
-                    Answered::Closed => {
-                        return Served {
-                            answered: answered.saturating_add(1),
-                            end: StreamEnd::Closed,
-                        };
-                    }
-                    Answered::Ended(end) => {
-                        let answered = with_refusal(answered, end);
-                        return Served { answered, end };
-                    }
-                }
-            }
-        }
-    }
+    serve_held(alloc, handler, input, output, turns, &mut held)
 }

@@ -19,3 +19,6 @@ returns-in-Broken-clause-stepped g c = turned _ _ _ _ (λ v w asked. broken_step
 
 pub returns-in-Broken-clause-ended : goal.returns-in-Broken-clause-ended
 returns-in-Broken-clause-ended g c = broken_ends _ c.in-Broken.fault _ _ _ (turns_within _ _ c.in-Broken.ensures.turns) c.end_broken.ensures.ended c.in-Broken.ensures.fault (λ e few. spent_exactly _ _ c.in-Broken.ensures.turns (c.in-Broken.ensures.spent e) few) c.end_broken.ensures.fault
+
+pub returns-in-Reply-clause-becomes : goal.returns-in-Reply-clause-becomes
+returns-in-Reply-clause-becomes g c = g.met.H.Handler.joins _ _ _ c.in-Reply.ensures.becomes c.send.ensures.becomes

@@ -1,9 +1,38 @@
-use Rattle.std.proofs.Common.{rules, arith}
-use Rattle.pid_http_stream.specs.BodyLaws.{more_turns}
-use Rattle.pid_http_stream.proofs.Leading.{turned, joined, beside}
-use Rattle.pid_http_stream.proofs.Looping.{loop_nothing, loop_faulty, loop_stopped, loop_open, loop_closed, loop_ended, loop_waits, loop_waits_within}
+use Rattle.std.proofs.Common.{rules, arith, sym, subst}
+use Rattle.std.specs.Prelude.{IfSome}
+use Rattle.pid_http_stream.specs.BodyLaws.{no_turns, more_turns}
+use Rattle.pid_http_stream.proofs.Leading.{stays, turned, joined, beside}
+use Rattle.pid_http_stream.proofs.Looping.{loop_unread, loop_nothing, loop_faulty, loop_stopped, loop_open, loop_closed, loop_ended, loop_waits, loop_waits_within}
+use Rattle.pid_http_stream.proofs.Serving.{IsServing, begins}
 use Rattle.pid_http_stream.proofs.Stepping.{refused_ends, stopped_ends, ends_later, spent_exactly, turns_within}
-use Rattle.pid_http_stream.proofs.stream.serve_stream.Goals as goal
+use Rattle.pid_http_stream.proofs.stream.serve_held.Goals as goal
+
+pub serving-init : goal.serving-init
+serving-init g c = record {
+  serving = stays _ _ (λ v.
+      subst (λ l. IfSome (g.I.Incoming.to_come c.args.input.now) (λ s. IsServing g.H.Handler.conduct (record { handler = v; handler_after = v; taken = g.W.Output.taken c.args.output.now; taken_after = g.W.Output.taken c.args.output.now }) s (g.I.Incoming.to_come c.args.input.now) l 0)) (sym c.requires)
+      (begins g.H.Handler.conduct v (g.W.Output.taken c.args.output.now) (g.I.Incoming.to_come c.args.input.now)));
+  caught_up = stays _ _ (λ v. loop_unread g.H.Handler.conduct v (g.W.Output.taken c.args.output.now) (g.I.Incoming.to_come c.args.input.now) (g.I.Incoming.moments c.args.input.now));
+  becomes = g.met.H.Handler.stays _;
+  room = search rules;
+  turns = no_turns _;
+  goes = g.met.I.Incoming.stays _;
+}
+
+pub returns-in-Closed-clause-becomes : goal.returns-in-Closed-clause-becomes
+returns-in-Closed-clause-becomes g c = g.met.H.Handler.joins _ _ _ c.serving.invariant.becomes c.serve_request.ensures.becomes
+
+pub returns-in-Ended-clause-becomes : goal.returns-in-Ended-clause-becomes
+returns-in-Ended-clause-becomes g c = g.met.H.Handler.joins _ _ _ c.serving.invariant.becomes c.serve_request.ensures.becomes
+
+pub returns-in-Nothing-clause-goes : goal.returns-in-Nothing-clause-goes
+returns-in-Nothing-clause-goes g c = g.met.I.Incoming.joins _ _ _ c.serving.invariant.goes c.read_head.ensures.goes
+
+pub returns-in-Faulty-clause-goes : goal.returns-in-Faulty-clause-goes
+returns-in-Faulty-clause-goes g c = g.met.I.Incoming.joins _ _ _ c.serving.invariant.goes c.read_head.ensures.goes
+
+pub returns-in-Stopped-clause-goes : goal.returns-in-Stopped-clause-goes
+returns-in-Stopped-clause-goes g c = g.met.I.Incoming.joins _ _ _ c.serving.invariant.goes c.read_head.ensures.goes
 
 pub returns-in-Nothing-clause-served : goal.returns-in-Nothing-clause-served
 returns-in-Nothing-clause-served g c = turned _ _ _ _ (λ v w serving. loop_nothing _ _ _ _ _ _ _ _ _ _ _ serving c.in-Nothing.ensures.comes c.in-Nothing.ensures.head) c.serving.invariant.serving

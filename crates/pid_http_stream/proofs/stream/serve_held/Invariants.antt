@@ -7,7 +7,7 @@ use Rattle.pid_http_stream.specs.Serving.{IsCaughtUp}
 use Rattle.pid_http_stream.proofs.Serving.{IsServing}
 use Rattle.pid_http_stream.specs.declared.limits.TheConstants.{READ_SIZE}
 use Rattle.pid_http_stream.specs.declared.limits.TheConstants.{MOST_FIELDS}
-use Rattle.pid_http_stream.proofs.stream.serve_stream.Given as goal
+use Rattle.pid_http_stream.proofs.stream.serve_held.Given as goal
 
 abbrev pub invariant-serving : goal.invariant-serving
 invariant-serving g l = record {
