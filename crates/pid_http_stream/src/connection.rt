@@ -13,7 +13,7 @@ ghost use Rattle.std.specs.Prelude.{
   take,
   reverse,
 };
-ghost use Rattle.httparse.specs.Grammar.{skip_ows, is_ows, trim_ows};
+ghost use Rattle.httparse.specs.Grammar.{skip_ows, trim_ows};
 ghost use Rattle.httparse.specs.Spans.{header_bytes, IsHeaderWithin};
 ghost use Rattle.std.specs.Str.{str_eq_ignore_ascii_case};
 ghost use Rattle.pid_http_stream.specs.Connections.{
@@ -23,20 +23,15 @@ ghost use Rattle.pid_http_stream.specs.Connections.{
 };
 
 use crate::fields::is_field;
+use httparse::is_space_or_tab;
 use httparse::spans::HeaderSpan;
-
-fn is_blank_byte(byte: u8) -> bool
-    ensures { result ≡ is_ows byte }
-{
-    byte == b' ' || byte == b'\t'
-}
 
 // The bytes from the first that is no blank.
 fn trim_start(word: &[u8]) -> &[u8]
     ensures { result.now ≡ skip_ows word.now }
 {
     for (i, byte) in word.iter().enumerate() {
-        if !is_blank_byte(*byte) {
+        if !is_space_or_tab(*byte) {
             return &word[i..];
         }
     }
@@ -49,7 +44,7 @@ fn trim_end(word: &[u8]) -> &[u8]
 {
     let mut end = 0;
     for (i, byte) in word.iter().enumerate() {
-        if !is_blank_byte(*byte) {
+        if !is_space_or_tab(*byte) {
             end = i + 1;
         }
     }
