@@ -1,12 +1,13 @@
 -- What one read of a body leaves of it.
-use Rattle.std.proofs.Common.{◌≡◌, ℕ, zero, suc, ◌+◌, ◌-◌, ◌^◌, ◌<◌, ◌≤◌, List, [], ◌∷◌, ◌++◌, length, take, Option, Some, None, refl, sym, ap, subst, ◌∙◌, append_assoc, length-append, arith}
-use Rattle.std.specs.Prelude.{option_map, min, IfSome, IsSome, is_some, false}
+use Rattle.std.proofs.Common.{◌≡◌, ℕ, zero, suc, ◌+◌, ◌-◌, ◌^◌, ◌<◌, ◌≤◌, List, [], ◌∷◌, ◌++◌, length, take, Option, Some, None, Result, Ok, Err, refl, sym, ap, subst, ◌∙◌, append_assoc, length-append, arith}
+use Rattle.std.specs.Prelude.{option_map, min, IfSome, IsSome, is_some, is_ok, is_err, true, false, if◌then◌else◌}
 use Rattle.std.specs.Io.KnownBytes.{Consumes, IsAtEnd, Keeps}
 use Rattle.std.proofs.KnownBytes.{Consumes-nil, Consumes-trans}
 use Rattle.std.proofs.lemmas.List.{take-append-le, take_all, append-nil}
 use Rattle.pid_ident.specs.InputCalls.{StaysKept}
 use Rattle.pid_file.specs.declared.io.ReadFault.{ReadFault}
-use Rattle.pid_http_stream.specs.Bodies.{padded, Turns, SpendsTurns, BodyState, IsCauseOf, HasBrokenOff, IsFaultCaused, IsWithinBody, HasReadBody}
+use Rattle.pid_file.specs.declared.io.ReadFault.TheVariants.{Device}
+use Rattle.pid_http_stream.specs.Bodies.{padded, fault_told, Turns, SpendsTurns, BodyState, IsCauseOf, HasBrokenOff, IsFaultCaused, IsWithinBody, HasReadBody}
 use Rattle.pid_http_stream.specs.BodyLaws.{no_turns, stays_kept}
 use Rattle.pid_http_stream.specs.MomentLaws.{since_none, since_so}
 use Rattle.pid_http_stream.specs.Moments.{Moment, AllSince, IsMoment}
@@ -31,9 +32,15 @@ none_wanted zero bytes e = refl
 none_wanted (suc w) [] e = cc
 none_wanted (suc w) (b ∷ bytes) e = cc
 
-pub at_end : (o : Option (List ℕ)) (held : List ℕ) (w : ℕ) → w ≡ 0 → IsAtEnd (option_map (λ s. padded w (held ++ s)) o)
-at_end None held w e = tt
-at_end (Some s) held w e = rw e refl
+pub keeps_same : (o : Option (List ℕ)) → Keeps o o
+keeps_same None = tt
+keeps_same (Some s) = refl
+
+-- of the body as little was read as of the reader under it
+pub keeps_padded : (a b : Option (List ℕ)) (w : ℕ) (held : List ℕ) → Consumes a b [] → Keeps (option_map (λ s. padded w (held ++ s)) a) (option_map (λ s. padded w (held ++ s)) b)
+keeps_padded None b w held c = tt
+keeps_padded (Some s) None w held c = absurd c
+keeps_padded (Some s) (Some t) w held c = ap (λ (x : List ℕ). padded w (held ++ x)) (sym c)
 
 pub held_given : (known : Option (List ℕ)) (wanted n : ℕ) (held behind piece got : List ℕ) → held ≡ piece ++ behind → length piece ≡ n → n ≤ wanted → got ≡ piece
     → Consumes (option_map (λ s. padded wanted (held ++ s)) known) (option_map (λ s. padded (wanted - n) (behind ++ s)) known) got
@@ -64,12 +71,43 @@ pub none_of : {A : Type 0} (o : Option A) → is_some o ≡ false → o ≡ None
 none_of None e = refl
 none_of (Some x) e = cc
 
+-- a fault that is kept is told, and told again
+pub told_some : (f : Option BodyFault) → is_some f ≡ true → fault_told f ≡ Some Device
+told_some None e = cc
+told_some (Some fault) e = refl
+
+pub told_none : (f : Option BodyFault) → is_some f ≡ false → fault_told f ≡ None
+told_none None e = refl
+told_none (Some fault) e = cc
+
+pub kept_told : {A : Type 0} (r : Result A ReadFault) (f : Option BodyFault) → r ≡ Err Device → IfSome (fault_told f) (λ fault. r ≡ Err fault)
+kept_told r None e = tt
+kept_told r (Some fault) e = e
+
+pub none_kept : (f : Option BodyFault) (P : ReadFault → Type 0) → is_some f ≡ false → IfSome (fault_told f) P
+none_kept None P e = tt
+none_kept (Some fault) P e = cc
+
 pub some_told : {A : Type 0} (o : Option A) (x : A) → o ≡ Some x → IsSome o
 some_told None x e = cc
 some_told (Some y) x e = refl
 
-pub more_read : (a b c : Option (List ℕ)) (x y z : List ℕ) → Consumes a b x → Consumes b c y → z ≡ x ++ y → Consumes a c z
-more_read a b c x y z p q e = subst (Consumes a c) (sym e) (Consumes-trans a b c x y p q)
+-- a piece more was read and kept
+pub kept_more : {A E : Type 0} (a b c : Option (List ℕ)) (r : Result A E) (x y z : List ℕ) → Consumes a b x → Consumes b c y → z ≡ (if is_ok r then x ++ y else x) → is_err r ≡ false → Consumes a c z
+kept_more a b c (Ok v) x y z p q e good = subst (Consumes a c) (sym e) (Consumes-trans a b c x y p q)
+kept_more a b c (Err v) x y z p q e good = cc
+
+-- nothing more was read
+pub ended : (a b c : Option (List ℕ)) (x buffer : List ℕ) (n : ℕ) → Consumes a b x → Consumes b c (take n buffer) → n ≡ 0 → Consumes a c x
+ended a b c x buffer n p q e = subst (Consumes a c) (append-nil x) (Consumes-trans a b c x [] p (subst (λ (k : ℕ). Consumes b c (take k buffer)) e q))
+
+-- what was read up to the end is the whole body
+pub all_of_it : (a b : Option (List ℕ)) (x body : List ℕ) → Consumes a b x → IsAtEnd b → a ≡ Some body → body ≡ x
+all_of_it None b x body c end e = absurd cc
+all_of_it (Some s) None x body c end e = absurd c
+all_of_it (Some s) (Some t) x body c end e =
+    let same : body ≡ s = cc in
+    same ∙ c ∙ ap (λ (l : List ℕ). x ++ l) end ∙ append-nil x
 
 -- ---- what a read leaves, as the states tell it
 

@@ -5,6 +5,7 @@ ghost use Rattle.std.specs.Prelude.{
   ◌+◌,
   ◌≤◌,
   List,
+  [],
   length,
   take,
   drop,
@@ -45,6 +46,32 @@ pub(crate) enum Asked {
 }
 
 // Reads a body to its end, of at most so many bytes.
+fn read_into<B: Input>(
+    body: &mut B,
+    content_length: usize,
+    bytes: &mut Vec<u8>,
+) -> Result<(), NoReply>
+    requires { bytes.old.items ≡ [] }
+    ensures whole { IfOk result (λ _. Consumes (B.to_come body.old) (B.to_come body.new)
+        bytes.new.items × IsAtEnd (B.to_come body.new)) }
+    ensures goes { B.goes body.old body.new }
+{
+    let mut buffer = [0u8; READ_SIZE];
+    for _ in 0..=content_length {
+        let Ok(count) = body.read(&mut buffer) else {
+            return Err(NoReply);
+        };
+        if count == 0 {
+            return Ok(());
+        }
+        if bytes.extend_from_slice(&buffer[..count]).is_err() {
+            return Err(NoReply);
+        }
+    }
+    Err(NoReply)
+}
+
+// Reads a body whole, into memory of its own.
 fn read_whole<B: Input>(
     alloc: Global,
     content_length: usize,
@@ -57,19 +84,10 @@ fn read_whole<B: Input>(
     let Ok(mut bytes) = Vec::with_capacity(alloc, content_length) else {
         return Err(NoReply);
     };
-    let mut buffer = [0u8; READ_SIZE];
-    for _ in 0..=content_length {
-        let Ok(count) = body.read(&mut buffer) else {
-            return Err(NoReply);
-        };
-        if count == 0 {
-            return Ok(bytes);
-        }
-        if bytes.extend_from_slice(&buffer[..count]).is_err() {
-            return Err(NoReply);
-        }
+    match read_into(body, content_length, &mut bytes) {
+        Ok(()) => Ok(bytes),
+        Err(end) => Err(end),
     }
-    Err(NoReply)
 }
 
 // Has a request answered whose body is in memory.
@@ -134,9 +152,8 @@ fn came_with<'b>(head: &Head<'b>, content_length: usize) -> &'b [u8]
         (drop head.now.spans.len head.now.bytes.now) }
     ensures fits { length result.now ≤ content_length }
 {
-    let (_, behind) = head.bytes.split_at(head.spans.len);
-    let (front, _) = behind.split_at(content_length.min(behind.len()));
-    front
+    let behind = &head.bytes[head.spans.len..];
+    &behind[..content_length.min(behind.len())]
 }
 
 // What came of it: the body is whole if none of it is wanted any more.

@@ -1,5 +1,5 @@
 use Rattle.std.specs.Io.KnownBytes.{Consumes}
-use Rattle.pid_http_stream.proofs.one_request.read_whole.Given as goal
+use Rattle.pid_http_stream.proofs.one_request.read_into.Given as goal
 
 abbrev pub invariant-loop : goal.invariant-loop
 invariant-loop g l = record {
