@@ -1,5 +1,5 @@
 -- Walking over the fields of a head.
-use Rattle.std.proofs.Common.{◌≡◌, ℕ, ◌+◌, ◌<◌, ◌≤◌, ◌*◌, ◌-◌, Bool, true, false, nat_le, List, [], ◌∷◌, length, map, take, drop, get_or, refl, sym, ap, subst, ◌∙◌, arith, add-one, drop-cons, Some, None}
+use Rattle.std.proofs.Common.{◌≡◌, ℕ, ◌+◌, ◌<◌, ◌≤◌, ◌*◌, ◌-◌, Bool, true, false, nat_le, List, [], ◌∷◌, length, map, take, drop, get_or, refl, ap, ◌∙◌, arith, add-one, drop-cons, Some, None}
 use Rattle.std.specs.Prelude.{if◌then◌else◌, ◌↔◌, IsTrue, codes}
 use Rattle.std.specs.Bool.{one_answer}
 use Rattle.std.specs.Cmp.Lexicographic.{bytes_decides}
@@ -8,9 +8,8 @@ use Rattle.std.specs.List.{list_all}
 use Rattle.std.specs.Char.{is_ascii_digit, to_ascii_lowercase}
 use Rattle.std.specs.Str.Parse.{digits_value}
 use Rattle.std.proofs.lemmas.Int.Digits.{digits_value_more}
-use Rattle.std.proofs.lemmas.List.Folds.{list_all_more, list_all_at}
-use Rattle.std.proofs.lemmas.List.{take_all}
-use Rattle.std.proofs.lemmas.Bool.{lt-ltb, le-leb, lt-leb, leb-true}
+use Rattle.std.proofs.lemmas.List.Folds.{list_all_more}
+use Rattle.std.proofs.lemmas.Bool.{leb-true}
 use Rattle.std.proofs.lemmas.Str.{digit_value_digit}
 use Rattle.std.specs.Int.{IsInRange}
 use Rattle.httparse.specs.declared.spans.HeaderSpan.{HeaderSpan}
@@ -77,32 +76,6 @@ digit_over value i n h e s above =
     let more = digits_value_more 10 value i h in
     let over = s.over above in
     record { digits = digits_next value i h s.digits e; exact = λ k. absurd (omega arith); over = λ k. omega arith; fits = s.fits }
-
-said_number : (value : List ℕ) → 0 < length value → list_all is_ascii_digit value ≡ true → length_said value ≡ (if nat_le (digits_value 10 value) 4194304 then Bytes (digits_value 10 value) else TooLong)
-said_number value some all = rw (lt-ltb 0 (length value) some, all) refl
-
-pub said_bytes : (value : List ℕ) (i n : ℕ) → 0 < length value → length value ≤ i → HasDigits value i n → n ≤ 4194304 → Bytes n ≡ length_said value
-said_bytes value i n some all s below =
-    let digits = rw (take_all i value all) at s.digits in
-    let exact = rw (take_all i value all) at (s.exact below) in
-    let small = le-leb (digits_value 10 value) 4194304 (subst (λ (m : ℕ). m ≤ 4194304) exact below) in
-    sym (said_number value some digits ∙ ap (λ (b : Bool). if b then Bytes (digits_value 10 value) else TooLong) small ∙ ap Bytes (sym exact))
-
-pub said_too_long : (value : List ℕ) (i n : ℕ) → 0 < length value → length value ≤ i → HasDigits value i n → 4194304 < n → TooLong ≡ length_said value
-said_too_long value i n some all s above =
-    let digits = rw (take_all i value all) at s.digits in
-    let over = rw (take_all i value all) at (s.over above) in
-    let large = lt-leb (digits_value 10 value) 4194304 over in
-    sym (said_number value some digits ∙ ap (λ (b : Bool). if b then Bytes (digits_value 10 value) else TooLong) large)
-
-pub said_bad : (value : List ℕ) (i : ℕ) → i < length value → is_ascii_digit (get_or value i 0) ≡ false → Bad ≡ length_said value
-said_bad value i h e =
-    let some : 0 < length value = omega arith in
-    rw (lt-ltb 0 (length value) some, list_all_at is_ascii_digit value i 0 h e) refl
-
-pub said_empty : (value : List ℕ) → length value ≡ 0 → Bad ≡ length_said value
-said_empty [] e = refl
-said_empty (b ∷ bs) e = absurd (omega arith)
 
 -- ---- a length that is said is one that a body may have
 

@@ -1,10 +1,10 @@
 -- What comes in up to the end of a head.
-use Rattle.std.proofs.Common.{◌≡◌, ◌≢◌, ℕ, List, [], ◌++◌, Option, Some, None, length, take, drop, sym, ap, subst, ◌∙◌, append_assoc, arith, inl}
+use Rattle.std.proofs.Common.{◌≡◌, ◌≢◌, ℕ, List, [], ◌++◌, Option, Some, None, take, drop, sym, ap, subst, ◌∙◌, append_assoc, inl}
 use Rattle.std.specs.Prelude.{IfSome, IsTrue, ◌↔◌, Bool, false}
 use Rattle.std.proofs.lemmas.Bool.{iff_false}
-use Rattle.std.specs.Io.KnownBytes.{IsAtEnd}
+use Rattle.std.specs.Io.KnownBytes.{Consumes, IsAtEnd}
 use Rattle.std.proofs.KnownBytes.{Consumes-nil, Consumes-trans}
-use Rattle.std.proofs.lemmas.List.{append-nil, take_all, take-append-drop, take-append-le}
+use Rattle.std.proofs.lemmas.List.{append-nil, take-append-drop}
 use Rattle.std.proofs.lemmas.List.Elements.{All-nil, All-append}
 use Rattle.httparse.specs.Ascii.{line_feed}
 use Rattle.httparse.specs.Grammar.{HasNoRequest as HasNoRequestHead, MayBecomeRequest as MayBecomeHead}
@@ -20,6 +20,12 @@ use Rattle.pid_http_stream.proofs.Heads.{end_within_head, no_head_behind}
 
 pub nothing_came : (held : List ℕ) (input : Option (List ℕ)) → ComesIn held held input input
 nothing_came held input = record { piece = []; consumed = Consumes-nil input; kept = sym (append-nil held) }
+
+pub none_came : (held after : List ℕ) (x y : Option (List ℕ)) → after ≡ held → Consumes x y [] → ComesIn held after x y
+none_came held after x y e c = record { piece = []; consumed = c; kept = e ∙ sym (append-nil held) }
+
+pub piece_came : (held room after piece : List ℕ) (x y : Option (List ℕ)) → room ≡ held → Consumes x y piece → after ≡ room ++ piece → ComesIn held after x y
+piece_came held room after piece x y same c kept = record { piece = piece; consumed = c; kept = kept ∙ ap (λ (l : List ℕ). l ++ piece) same }
 
 pub comes_then : (a b c : List ℕ) (x y z : Option (List ℕ)) → ComesIn a b x y → ComesIn b c y z → ComesIn a c x z
 comes_then a b c x y z p q = record {
@@ -52,11 +58,6 @@ still_begins after n x quiet = record {
 -- what was parsed whole
 pub begins_whole : (held : List ℕ) → MayBecomeHead held → CanBeHead held
 begins_whole held may = record { front = held; line = []; is = sym (append-nil held); may = may; unended = All-nil (λ (b : ℕ). b ≢ line_feed) }
-
--- what came goes on from what was held
-pub held_first : (held after piece : List ℕ) (n : ℕ) → IsHeadUnfinished held → after ≡ held ++ piece → n ≡ length held → IsHeadUnfinished (take n after)
-held_first held after piece n wants e same =
-    subst IsHeadUnfinished (sym (ap (λ (k : ℕ). take k after) same ∙ ap (take (length held)) e ∙ take-append-le (length held) held piece (omega arith) ∙ take_all (length held) held (omega arith))) wants
 
 pub not_line_ends : (b : Bool) (held : List ℕ) → IsTrue b ↔ AreLineEnds held → b ≡ false → ¬ (AreLineEnds held)
 not_line_ends b held both no_end x = iff_false both no_end x

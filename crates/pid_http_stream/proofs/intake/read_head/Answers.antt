@@ -1,9 +1,21 @@
 use Rattle.std.proofs.Common.{rules, refl, sym, subst, arith, inl}
-use Rattle.pid_http_stream.specs.BodyLaws.{more_turns}
-use Rattle.pid_http_stream.specs.Steps.Intakes.{IsHeadRead}
+use Rattle.pid_http_stream.specs.BodyLaws.{no_turns, more_turns}
+use Rattle.pid_http_stream.specs.MomentLaws.{since_none}
+use Rattle.pid_http_stream.specs.Steps.Intakes.{IsHeadRead, WaitsForRequest}
 use Rattle.pid_http_stream.specs.Unfinished.{IsUnfinished}
-use Rattle.pid_http_stream.proofs.HeadReads.{comes_then, any_faulty, waits_on}
+use Rattle.pid_http_stream.proofs.HeadReads.{nothing_came, comes_then, any_faulty, waits_on}
 use Rattle.pid_http_stream.proofs.intake.read_head.Goals as goal
+
+pub reading-init : goal.reading-init
+reading-init g c = record {
+  comes = nothing_came _ _;
+  judged = search rules;
+  turns = no_turns _;
+  pace = omega arith;
+  room = search rules;
+  waits = since_none (WaitsForRequest _ _ _) _;
+  goes = g.met.I.Incoming.stays _;
+}
 
 pub reading-preserved : goal.reading-preserved
 reading-preserved g c = record {
@@ -45,3 +57,9 @@ returns-in-Stopped-clause-waits g c = waits_on _ _ _ _ _ _ _ _ c.reading.invaria
 
 pub returns-in-End-clause-waits : goal.returns-in-End-clause-waits
 returns-in-End-clause-waits g c = waits_on _ _ _ _ _ _ _ _ c.reading.invariant.comes (inl (rw c.in-More.is at c.reading.invariant.judged)) c.reading.invariant.waits c.in-End.ensures.noted
+
+pub returns-in-Stopped-clause-goes : goal.returns-in-Stopped-clause-goes
+returns-in-Stopped-clause-goes g c = g.met.I.Incoming.joins _ _ _ c.reading.invariant.goes c.in-Stopped.ensures.goes
+
+pub returns-in-End-clause-goes : goal.returns-in-End-clause-goes
+returns-in-End-clause-goes g c = g.met.I.Incoming.joins _ _ _ c.reading.invariant.goes c.in-End.ensures.goes

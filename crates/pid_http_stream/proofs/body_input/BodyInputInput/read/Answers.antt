@@ -6,7 +6,7 @@ use Rattle.pid_http_stream.specs.BodyLaws.{no_body_reads, no_turns}
 use Rattle.pid_http_stream.specs.MomentLaws.{since_none}
 use Rattle.pid_http_stream.specs.Moments.{IsMoment}
 use Rattle.pid_http_stream.specs.declared.body_input.BodyFault.TheVariants.{Short, ReadFault, TurnsSpent}
-use Rattle.pid_http_stream.proofs.BodyReads.{held_given, read_given, whole_front, nothing, keeps_nil, none_of, some_told, gave_held, gave_read, broke_off, one_turn}
+use Rattle.pid_http_stream.proofs.BodyReads.{held_given, read_given, whole_front, nothing, keeps_same, keeps_padded, keeps_nil, none_of, told_some, told_none, kept_told, none_kept, some_told, gave_held, gave_read, broke_off, one_turn}
 use Rattle.pid_http_stream.proofs.body_input.BodyInputInput.read.Goals as goal
 use Rattle.pid_http_stream.proofs.body_input.BodyInputInput.read.Goals.{then-self-eq0-via-then-self-eq0, then-self-eq0-via-else-self-eq0+then-is_empty}
 
@@ -76,3 +76,42 @@ returns-then-count-eq0-clause-goes g c = (
       (none_of c.args.self.now.fault (search rules)) (subst (Consumes _ _) (ap (λ (n : ℕ). take n c.read_behind.new.buffer) c.if-count-eq0.true) c.in-Ok.ensures.bytes.0) (one_turn _ c.args.self.now.left _ (search rules) c.read_behind.ensures.count) (search rules) (nothing c.args.self.now.held.now (search rules)) c.in-Ok.ensures.noted
       (c.in-Ok.ensures.bytes.1 c.if-count-eq0.true (search rules)),
 )
+
+pub returns-then-is_some-clause-bytes : goal.returns-then-is_some-clause-bytes
+returns-then-is_some-clause-bytes g c = keeps_same _
+
+pub returns-then-is_some-clause-fault : goal.returns-then-is_some-clause-fault
+returns-then-is_some-clause-fault g c = told_some c.args.self.now.fault (search rules)
+
+pub returns-then-is_some-clause-kept : goal.returns-then-is_some-clause-kept
+returns-then-is_some-clause-kept g c = kept_told _ c.args.self.now.fault refl
+
+pub returns-then-not-is_empty-clause-fault : goal.returns-then-not-is_empty-clause-fault
+returns-then-not-is_empty-clause-fault g c = told_none c.args.self.now.fault (search rules)
+
+pub returns-then-not-is_empty-clause-kept : goal.returns-then-not-is_empty-clause-kept
+returns-then-not-is_empty-clause-kept g c = none_kept c.args.self.now.fault _ (search rules)
+
+pub returns-then-self-eq0-2-clause-bytes : goal.returns-then-self-eq0-2-clause-bytes
+returns-then-self-eq0-2-clause-bytes g c = keeps_same _
+
+pub returns-then-self-eq0-2-clause-kept : goal.returns-then-self-eq0-2-clause-kept
+returns-then-self-eq0-2-clause-kept g c = kept_told _ c.args.self.now.fault refl
+
+pub returns-in-Err-clause-bytes : goal.returns-in-Err-clause-bytes
+returns-in-Err-clause-bytes g c = keeps_padded _ _ c.args.self.now.wanted c.args.self.now.held.now (keeps_nil _ _ c.in-Err.ensures.bytes)
+
+pub returns-in-Err-clause-kept : goal.returns-in-Err-clause-kept
+returns-in-Err-clause-kept g c = kept_told _ c.args.self.now.fault refl
+
+pub returns-then-count-eq0-clause-bytes : goal.returns-then-count-eq0-clause-bytes
+returns-then-count-eq0-clause-bytes g c = keeps_padded _ _ c.args.self.now.wanted c.args.self.now.held.now (subst (Consumes _ _) (ap (λ (n : ℕ). take n c.read_behind.new.buffer) c.if-count-eq0.true) c.in-Ok.ensures.bytes.0)
+
+pub returns-then-count-eq0-clause-kept : goal.returns-then-count-eq0-clause-kept
+returns-then-count-eq0-clause-kept g c = kept_told _ c.args.self.now.fault refl
+
+pub returns-else-count-eq0-clause-fault : goal.returns-else-count-eq0-clause-fault
+returns-else-count-eq0-clause-fault g c = told_none c.args.self.now.fault (search rules)
+
+pub returns-else-count-eq0-clause-kept : goal.returns-else-count-eq0-clause-kept
+returns-else-count-eq0-clause-kept g c = none_kept c.args.self.now.fault _ (search rules)

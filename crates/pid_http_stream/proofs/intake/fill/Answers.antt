@@ -1,0 +1,53 @@
+use Rattle.std.proofs.Common.{rules}
+use Rattle.std.proofs.KnownBytes.{Consumes-nil}
+use Rattle.pid_http_stream.specs.BodyLaws.{no_turns}
+use Rattle.pid_http_stream.specs.MomentLaws.{since_none}
+use Rattle.pid_http_stream.specs.Moments.{IsMoment}
+use Rattle.pid_http_stream.proofs.BodyReads.{keeps_nil, one_turn}
+use Rattle.pid_http_stream.proofs.HeadReads.{nothing_came, none_came, piece_came}
+use Rattle.pid_http_stream.proofs.intake.fill.Goals as goal
+
+pub returns-then-turns_left-eq0-clause-comes : goal.returns-then-turns_left-eq0-clause-comes
+returns-then-turns_left-eq0-clause-comes g c = nothing_came _ _
+
+pub returns-then-turns_left-eq0-clause-turns : goal.returns-then-turns_left-eq0-clause-turns
+returns-then-turns_left-eq0-clause-turns g c = no_turns _
+
+pub returns-then-turns_left-eq0-clause-noted : goal.returns-then-turns_left-eq0-clause-noted
+returns-then-turns_left-eq0-clause-noted g c = since_none (IsMoment _ _) _
+
+pub returns-then-turns_left-eq0-clause-goes : goal.returns-then-turns_left-eq0-clause-goes
+returns-then-turns_left-eq0-clause-goes g c = g.met.I.Incoming.stays _
+
+pub returns-then-is_err-clause-comes : goal.returns-then-is_err-clause-comes
+returns-then-is_err-clause-comes g c = none_came _ _ _ _ c.reserve.ensures.items (Consumes-nil _)
+
+pub returns-then-is_err-clause-turns : goal.returns-then-is_err-clause-turns
+returns-then-is_err-clause-turns g c = no_turns _
+
+pub returns-then-is_err-clause-noted : goal.returns-then-is_err-clause-noted
+returns-then-is_err-clause-noted g c = since_none (IsMoment _ _) _
+
+pub returns-then-is_err-clause-goes : goal.returns-then-is_err-clause-goes
+returns-then-is_err-clause-goes g c = g.met.I.Incoming.stays _
+
+pub returns-in-Err-clause-comes : goal.returns-in-Err-clause-comes
+returns-in-Err-clause-comes g c = none_came _ _ _ _ c.reserve.ensures.items (keeps_nil _ _ c.in-Err.ensures.bytes)
+
+pub returns-in-Err-clause-turns : goal.returns-in-Err-clause-turns
+returns-in-Err-clause-turns g c = one_turn _ c.args.turns_left.now _ (search rules) c.read_behind.ensures.count
+
+pub returns-in-Ok-eq0-clause-turns : goal.returns-in-Ok-eq0-clause-turns
+returns-in-Ok-eq0-clause-turns g c = one_turn _ c.args.turns_left.now _ (search rules) c.read_behind.ensures.count
+
+pub returns-in-Ok-clause-comes : goal.returns-in-Ok-clause-comes
+returns-in-Ok-clause-comes g c = piece_came _ _ _ _ _ _ c.reserve.ensures.items c.in-Ok.ensures.bytes.0 c.keep.ensures.kept
+
+pub returns-in-Ok-clause-stays : goal.returns-in-Ok-clause-stays
+returns-in-Ok-clause-stays g c = rw c.keep.ensures.piece tt
+
+pub returns-in-Ok-clause-turns : goal.returns-in-Ok-clause-turns
+returns-in-Ok-clause-turns g c = one_turn _ c.args.turns_left.now _ (search rules) c.read_behind.ensures.count
+
+pub returns-in-Ok-clause-stopped : goal.returns-in-Ok-clause-stopped
+returns-in-Ok-clause-stopped g c = rw c.keep.ensures.piece tt
