@@ -1,5 +1,5 @@
 //! What each route asks for.
-ghost use Rattle.std.specs.Prelude.{◌≡◌, IfOk};
+ghost use Rattle.std.specs.Prelude.{◌≡◌, IfOk, unwrap_or};
 ghost use Rattle.std.specs.Option.{option_map};
 ghost use Rattle.pid_moderation.specs.Fields.{texts_of};
 ghost use Rattle.pid_http_requests.specs.Lookups.{lookup_asked};
@@ -175,24 +175,28 @@ fn account_of(
     }
 }
 
-fn buffered(question: Option<Question>) -> Option<Wanted<Question, Format>>
-    ensures { result ≡ option_map Wanted.Buffered question }
+// What is asked for once the body is held; that the query is bad if nothing is.
+fn buffered(question: Option<Question>) -> Wanted<Question, Format>
+    ensures { result ≡ unwrap_or (option_map Wanted.Buffered question)
+        (Wanted.Buffered Question.BadQuery) }
 {
     match question {
-        Some(question) => Some(Wanted::Buffered(question)),
-        None => None,
+        Some(question) => Wanted::Buffered(question),
+        None => Wanted::Buffered(Question::BadQuery),
     }
 }
 
-fn import_of(fields: &[(String, String)]) -> Option<Wanted<Question, Format>>
-    ensures { result ≡ option_map Wanted.Streamed (format_in (texts_of fields.now)) }
+fn import_of(fields: &[(String, String)]) -> Wanted<Question, Format>
+    ensures { result ≡ unwrap_or (option_map Wanted.Streamed (format_in (texts_of fields.now)))
+        (Wanted.Buffered Question.BadQuery) }
 {
-    let format = format_of(fields)?;
-    Some(Wanted::Streamed(format))
+    match format_of(fields) {
+        Some(format) => Wanted::Streamed(format),
+        None => Wanted::Buffered(Question::BadQuery),
+    }
 }
 
-// What a route, by a method that it takes, its path and the fields of its query ask for; none if
-// the query is bad.
+// What a route, by a method that it takes, its path and the fields of its query ask for.
 #[tactic(auto, unfolding(crate::specs::Questions::question_at))]
 pub(crate) fn ask_route(
     alloc: Global,
@@ -200,9 +204,10 @@ pub(crate) fn ask_route(
     route: Route,
     path: &str,
     fields: &[(String, String)],
-) -> Result<Option<Wanted<Question, Format>>, AllocError>
+) -> Result<Wanted<Question, Format>, AllocError>
     ensures { IfOk result (λ asked. asked
-        ≡ question_at method.now route path.now (texts_of fields.now)) }
+        ≡ unwrap_or (question_at method.now route path.now (texts_of fields.now))
+        (Wanted.Buffered Question.BadQuery)) }
 {
     match route {
         Route::Export => Ok(buffered(export_of(fields))),

@@ -162,10 +162,7 @@ fn ask(
         return Ok(Wanted::Buffered(refusal));
     }
     let fields = fields_of(alloc, query)?;
-    match ask_route(alloc, method, route, path, &fields)? {
-        Some(wanted) => Ok(wanted),
-        None => Ok(Wanted::Buffered(Question::BadQuery)),
-    }
+    ask_route(alloc, method, route, path, &fields)
 }
 
 /// What a method and a target ask for. The file of an import is read as it comes; the format is
