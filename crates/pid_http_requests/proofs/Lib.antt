@@ -4,3 +4,4 @@ pub mod Targets
 pub mod Forms
 pub mod Rows
 pub mod SenderRows
+pub mod Paths
