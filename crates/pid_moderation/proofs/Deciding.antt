@@ -12,7 +12,8 @@ use Rattle.pid_moderation.specs.Changes.{changed, with_pairs}
 use Rattle.pid_moderation.specs.FactsOfViews.{facts_of}
 use Rattle.pid_moderation.specs.CheckTables.{checks, first_failing, is_ill_formed, reply_by_facts}
 use Rattle.pid_moderation.specs.Judgement.{judged, judge, answer, added, unless, Outcome, Refused, Repeated, Accepts}
-use Rattle.pid_moderation.specs.Effects.{change_by, new_pairs, Decides, LeadsOn}
+use Rattle.pid_moderation.specs.Effects.{change_by, change_of, new_pairs, Decides, LeadsOn}
+use Rattle.pid_moderation.specs.Steps.Following.{FollowsChecks}
 use Rattle.pid_moderation.specs.Revisions.{IsMarked}
 use Rattle.pid_moderation.proofs.Changing.{changing, unchanged}
 
@@ -27,6 +28,13 @@ refused f c e h k r = rw (h, k) (ap (λ o. unless o (reply_by_facts f c.deed)) r
 
 pub accepted : (f : Facts) (c : Asked) → is_ill_formed f c.deed ≡ false → f.kept ≡ None → first_failing (checks f c) ≡ None → judged f c ≡ Accepts (reply_by_facts f c.deed)
 accepted f c h k r = rw (h, k) (ap (λ o. unless o (reply_by_facts f c.deed)) r)
+
+-- what follows the checks, where no rule of form is broken and no reply is kept
+pub decided : (f : Facts) (c : Asked) (result : Result (Change × Reply) Refusal) → is_ill_formed f c.deed ≡ false → f.kept ≡ None → FollowsChecks (checks f c) (change_of f c (reply_by_facts f c.deed), reply_by_facts f c.deed) result → Decides f c result
+decided f c (Ok d) good new h =
+    let is = accepted f c good new h.0 in
+    (ap answer is ∙ ap Ok (sym (ap (λ (p : Change × Reply). p.1) h.1)), ap (λ (p : Change × Reply). p.0) h.1 ∙ ap (change_by f c) (sym is))
+decided f c (Err e) good new h = λ m. ap answer (refused f c e good new (h m))
 
 leads : (h : History) (c : Asked) (o : Outcome) → IsMarked h → views_of (added h c o) ≡ changed (change_by (facts_of (views_of h) c) c o) (with_pairs (new_pairs o c.deed) (views_of h))
 leads h c (Refused e) marked = unchanged h c

@@ -114,14 +114,19 @@ value_checks Import fields = (
   BadText,
 ) ∷ []
 
+-- who sends a command: the account and the key
+abbrev pub sender_checks : List ℕ → Option (List ℕ) → Checks
+sender_checks account key =
+    (not (is_account account), BadText)
+    ∷ (not (is_none_or is_key key), BadText)
+    ∷ []
+
 -- the fields, then their values, then the account and the key
 abbrev pub form_checks : Verb → List ℕ → Option (List ℕ) → Fields → Checks
 form_checks verb account key fields =
     (not (has_fields verb fields), BadText)
     ∷ value_checks verb fields
-    ++ (not (is_account account), BadText)
-    ∷ (not (is_none_or is_key key), BadText)
-    ∷ []
+    ++ sender_checks account key
 
 -- what a proposal says: a name if there is one, else a removal
 abbrev pub submission_said : Fields → Path → Act

@@ -114,7 +114,7 @@ pub struct Command {
 }
 
 /// What an accepted command is answered.
-#[derive(Clone, Copy, Debug, PartialEq, Eq)]
+#[derive(Clone, Copy)]
 pub enum Reply {
     /// There is no more to say.
     Done,

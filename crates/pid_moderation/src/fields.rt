@@ -17,7 +17,7 @@ ghost use Rattle.pid_moderation.specs.Forms.{
 };
 ghost use Rattle.pid_moderation.specs.CheckTables.{most_file_bytes as file_bytes};
 
-use crate::checks::{FILE_BYTES, SUBMISSIONS, is_empty_text};
+use crate::checks::{FILE_BYTES, SUBMISSIONS};
 use crate::command::{Expected, File};
 use crate::rank::Rank;
 use crate::refusal::Refusal;
@@ -136,11 +136,10 @@ pub fn remark_in(alloc: Global, text: &str) -> Result<Text, Refusal>
     ensures err { IfErr result (λ e. e ≢ Refusal.Memory → (e ≡ Refusal.BadText) ×
         (remark_test text.now ≡ false)) }
 {
-    let remark = note_in(alloc, text)?;
-    if is_empty_text(&remark) {
+    if text.is_empty() {
         return Err(Refusal::BadText);
     }
-    Ok(remark)
+    note_in(alloc, text)
 }
 
 /// A file; or `BadText` if it is too long, or `Memory`.

@@ -1,12 +1,14 @@
 //! Commands from their fields.
-ghost use Rattle.std.specs.Prelude.{◌≡◌, ◌≢◌, true, false, IfOk, IfErr, None, Some, codes};
-ghost use Rattle.pid_file.specs.Words.{is_name as name_test};
+ghost use Rattle.std.specs.Prelude.{◌≡◌, ◌≢◌, ◌&&◌, ◌==◌, ◌+◌, nat_le, true, false, codes};
+ghost use Rattle.std.specs.Prelude.{IfOk, IfErr, None, Some};
+ghost use Rattle.pid_file.specs.Words.{is_name as name_test, is_text as text_test};
 ghost use Rattle.std.specs.Str.{bytes_eq};
 ghost use Rattle.std.specs.Option.{option_copied};
 ghost use Rattle.pid_moderation.specs.Fields.{texts_of, value as value_in, text_at as text_in};
 ghost use Rattle.pid_moderation.specs.Forms.{
   has_fields as fields_there,
   value_checks,
+  sender_checks,
   act_said,
   form_checks,
   command_said,
@@ -14,6 +16,7 @@ ghost use Rattle.pid_moderation.specs.Forms.{
   is_none_or,
 };
 ghost use Rattle.pid_moderation.specs.Forms.{number_in, SaysByChecks};
+ghost use Rattle.pid_moderation.specs.Steps.Following.{FollowsChecks};
 
 use crate::command::{Act, Command, Expected, Proposal};
 use crate::fields::{
@@ -23,7 +26,7 @@ use crate::fields::{
 use crate::refusal::Refusal;
 use crate::verb::Verb;
 use pid_form::{is_once, is_one_of, text_at, times, value};
-use pid_ident::{Path, PathText};
+use pid_ident::{Account, Key, Path, PathText, Text};
 use std::alloc::Global;
 
 fn has_fields(verb: Verb, fields: &[(String, String)]) -> bool
@@ -32,7 +35,11 @@ fn has_fields(verb: Verb, fields: &[(String, String)]) -> bool
     let count = fields.len();
     match verb {
         Verb::Account => is_once(fields, "who") && is_once(fields, "rank") && count == 2,
-        Verb::Submit => has_submit_fields(fields),
+        Verb::Submit => {
+            is_once(fields, "path")
+                && is_one_of(fields, "name", "remove")
+                && has_submit_count(count, times(fields, "note"))
+        }
         Verb::Comment => is_once(fields, "num") && is_once(fields, "text") && count == 2,
         Verb::Withdraw => is_once(fields, "num") && count == 1,
         Verb::Approve => is_once(fields, "num") && count == 1,
@@ -42,14 +49,15 @@ fn has_fields(verb: Verb, fields: &[(String, String)]) -> bool
     }
 }
 
-fn has_submit_fields(fields: &[(String, String)]) -> bool
-    ensures { result ≡ fields_there Verb.Submit (texts_of fields.now) }
+// Whether a submission has two fields, or three of which one is its note.
+fn has_submit_count(count: usize, notes: usize) -> bool
+    ensures { result ≡ (nat_le notes 1 && count == 2 + notes) }
 {
-    let notes = times(fields, "note");
-    is_once(fields, "path")
-        && is_one_of(fields, "name", "remove")
-        && notes <= 1
-        && fields.len() == 2 + notes
+    match notes {
+        0 => count == 2,
+        1 => count == 3,
+        _ => false,
+    }
 }
 
 fn number_at(fields: &[(String, String)]) -> Result<u32, Refusal>
@@ -68,11 +76,11 @@ fn account_act(alloc: Global, fields: &[(String, String)]) -> Result<Act, Refusa
     ensures { SaysByChecks (value_checks Verb.Account (texts_of fields.now))
         (act_said Verb.Account (texts_of fields.now)) result }
 {
+    let Some(rank) = rank_said(text_at(fields, "rank")) else {
+        return Err(Refusal::BadText);
+    };
     let who = account_in(alloc, text_at(fields, "who"))?;
-    match rank_said(text_at(fields, "rank")) {
-        Some(rank) => Ok(Act::Account { who, rank }),
-        None => Err(Refusal::BadText),
-    }
+    Ok(Act::Account { who, rank })
 }
 
 // The name that is proposed, or the removal.
@@ -100,6 +108,22 @@ fn is_removal_told(fields: &[(String, String)]) -> bool
     }
 }
 
+// The note of a submission whose removal, if there is one, is said by `yes`.
+fn note(alloc: Global, fields: &[(String, String)]) -> Result<Text, Refusal>
+    ensures ok { IfOk result (λ note. (note ≡ text_in (codes "note") (texts_of fields.now)) ×
+        ((is_none_or (bytes_eq (codes "yes")) (value_in (codes "remove") (texts_of fields.now))
+        ≡ true) ×
+        (text_test (text_in (codes "note") (texts_of fields.now)) ≡ true))) }
+    ensures err { IfErr result (λ e. e ≢ Refusal.Memory → (e ≡ Refusal.BadText) ×
+        ((is_none_or (bytes_eq (codes "yes")) (value_in (codes "remove") (texts_of fields.now)) &&
+        text_test (text_in (codes "note") (texts_of fields.now))) ≡ false)) }
+{
+    if !is_removal_told(fields) {
+        return Err(Refusal::BadText);
+    }
+    note_in(alloc, text_at(fields, "note"))
+}
+
 fn submit_act(alloc: Global, fields: &[(String, String)]) -> Result<Act, Refusal>
     ensures { SaysByChecks (value_checks Verb.Submit (texts_of fields.now))
         (act_said Verb.Submit (texts_of fields.now)) result }
@@ -108,10 +132,7 @@ fn submit_act(alloc: Global, fields: &[(String, String)]) -> Result<Act, Refusal
         return Err(Refusal::BadPath);
     };
     let proposal = proposal(alloc, fields)?;
-    if !is_removal_told(fields) {
-        return Err(Refusal::BadText);
-    }
-    let note = note_in(alloc, text_at(fields, "note"))?;
+    let note = note(alloc, fields)?;
     Ok(Act::Submit {
         path,
         proposal,
@@ -177,6 +198,20 @@ fn act(alloc: Global, verb: Verb, fields: &[(String, String)]) -> Result<Act, Re
     }
 }
 
+// The account that sends a command, and its key.
+fn sender(
+    alloc: Global,
+    account: &str,
+    key: Option<&str>,
+) -> Result<(Account, Option<Key>), Refusal>
+    ensures { FollowsChecks (sender_checks account.now (option_copied key.entry))
+        (account.now, option_copied key.entry) result }
+{
+    let account = account_in(alloc, account)?;
+    let key = key_in(alloc, key)?;
+    Ok((account, key))
+}
+
 /// The command of an account, under a key if there is one, that the fields say; or the first form
 /// check that fails.
 ///
@@ -199,7 +234,6 @@ pub fn command_of(
         return Err(Refusal::BadText);
     }
     let act = act(alloc, verb, fields)?;
-    let account = account_in(alloc, account)?;
-    let key = key_in(alloc, key)?;
+    let (account, key) = sender(alloc, account, key)?;
     Ok(Command { account, key, act })
 }

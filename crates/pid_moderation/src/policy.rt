@@ -51,7 +51,7 @@ ghost use Rattle.pid_moderation.specs.CheckTables.{
 ghost use Rattle.pid_moderation.specs.BeforeFile.{SettlesImport, WaitsForFile};
 ghost use Rattle.pid_moderation.specs.Effects.{
   AnswersByJudgement,
-  effect_of,
+  change_of,
   import_effect,
   edit_of,
   items_after,
@@ -282,14 +282,12 @@ fn approve(
         return Err(absent(facts));
     };
     may_approve(facts, account, expected, named)?;
-    let state = State::Approved {
-        decider: account.copy()?,
-    };
+    let decider = account.copy()?;
     let write = Some(write(facts, named)?);
     Ok((
         Effect::Decided {
             number,
-            state,
+            state: State::Approved { decider },
             write,
         },
         Reply::Done,
@@ -412,28 +410,6 @@ fn effect(facts: &Facts, command: &Command) -> Result<(Effect, Reply), Refusal>
     }
 }
 
-// The number of one command more.
-fn next_revision(facts: &Facts) -> Result<u64, Refusal>
-    ensures { FollowsChecks (revision_checks facts.now) (facts.now.revision + 1) result }
-{
-    pass(&[(REVISIONS <= facts.revision, Refusal::Full)])?;
-    Ok(facts.revision + 1)
-}
-
-// The effect, the reply and the number of such a command.
-fn accept(facts: &Facts, command: &Command) -> Result<(Effect, Reply, u64), Refusal>
-    ensures { (reading : Reading) → let c = asked command.now reading in FollowsChecks
-        (checks_for facts.now c) (
-          effect_of c.account facts.now c.deed,
-          reply_by_facts facts.now c.deed,
-          facts.now.revision + 1,
-        ) result }
-{
-    let (effect, reply) = effect(facts, command)?;
-    let revision = next_revision(facts)?;
-    Ok((effect, reply, revision))
-}
-
 fn receipt(command: &Command, reply: Reply) -> Result<Option<Receipt>, AllocError>
     ensures { IfOk result (λ r. r ≡ receipt_of command.now.account command.now.key reply) }
 {
@@ -449,6 +425,36 @@ fn receipt(command: &Command, reply: Reply) -> Result<Option<Receipt>, AllocErro
         }
         None => Ok(None),
     }
+}
+
+// The number of one command more, and the receipt of its reply.
+fn count(facts: &Facts, command: &Command, reply: Reply) -> Result<(u64, Option<Receipt>), Refusal>
+    ensures { FollowsChecks (revision_checks facts.now)
+        (facts.now.revision + 1, receipt_of command.now.account command.now.key reply) result }
+{
+    pass(&[(REVISIONS <= facts.revision, Refusal::Full)])?;
+    let receipt = receipt(command, reply)?;
+    Ok((facts.revision + 1, receipt))
+}
+
+// What a command that breaks no rule of form, and is new, changes, and its reply.
+fn accept(facts: &Facts, command: &Command) -> Result<(Change, Reply), Refusal>
+    ensures { (reading : Reading) → let c = asked command.now reading in FollowsChecks
+        (checks_for facts.now c) (
+          change_of facts.now c (reply_by_facts facts.now c.deed),
+          reply_by_facts facts.now c.deed,
+        ) result }
+{
+    let (effect, reply) = effect(facts, command)?;
+    let (revision, receipt) = count(facts, command, reply)?;
+    Ok((
+        Change {
+            effect,
+            receipt,
+            revision,
+        },
+        reply,
+    ))
 }
 
 // The outcome by the facts, and what it changes.
@@ -468,16 +474,7 @@ fn by_facts(facts: &Facts, command: &Command) -> Result<(Change, Reply), Refusal
             reply,
         ));
     }
-    let (effect, reply, revision) = accept(facts, command)?;
-    let receipt = receipt(command, reply)?;
-    Ok((
-        Change {
-            effect,
-            receipt,
-            revision,
-        },
-        reply,
-    ))
+    accept(facts, command)
 }
 
 /// Judges a command by the facts of a history: the reply with what it changes, or the first check

@@ -8,7 +8,7 @@ ghost use Rattle.pid_moderation.specs.Ranks.{
 use pid_ident::Path;
 
 /// What an account may do.
-#[derive(Clone, Copy, Debug, PartialEq, Eq)]
+#[derive(Clone, Copy, PartialEq, Eq)]
 pub enum Rank {
     /// Submits, comments, and withdraws what it submitted.
     Contributor,

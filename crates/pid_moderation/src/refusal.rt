@@ -4,6 +4,7 @@ ghost use Rattle.pid_moderation.specs.declared.refusal.Refusal.TheVariants as va
 
 use pid_ident::LineKind;
 use std::alloc::AllocError;
+use std::fmt::{self, Display, Formatter, Write};
 use thiserror::Error;
 
 /// Why a file is not imported.
@@ -20,41 +21,23 @@ pub enum FileFault {
 /// Why a command is not accepted. A refused command changes nothing.
 #[derive(Clone, Copy, Debug, PartialEq, Eq, Error)]
 pub enum Refusal {
-    #[error("a path that is no path text")]
     BadPath,
-    #[error("a name that is no name of an item")]
     BadName,
-    #[error("a field that is missing, unknown, there twice, or out of its rule")]
     BadText,
-    #[error("the account is not known")]
     NoAccount,
-    #[error("the account's rank is too low")]
     RankTooLow,
-    #[error("no submission has this number")]
     NoSubmission,
-    #[error("the submission is not pending")]
     NotPending,
-    #[error("the account is not the author of the submission")]
     NotAuthor,
-    #[error("nobody decides on his own submission or sets his own rank")]
     OwnDecision,
-    #[error("the parent of the path is not in the registry")]
     ParentMissing,
-    #[error("an item of the registry has the path as its parent")]
     HasChildren,
-    #[error("all is as proposed already")]
     NothingToDo,
-    #[error("the file is faulty")]
     FileFault(FileFault),
-    #[error("a limit of the registry is reached")]
     Full,
-    #[error("no memory")]
     Memory,
-    #[error("the store failed")]
     Store,
-    #[error("the registry has failed earlier")]
     Failed,
-    #[error("the item is not as expected any more")]
     Changed,
 }
 
@@ -111,6 +94,36 @@ impl Refusal {
             Refusal::Failed => "Failed",
             Refusal::Changed => "Changed",
         }
+    }
+
+    // What it says to a reader.
+    fn sentence(self) -> &'static str {
+        match self {
+            Refusal::BadPath => "a path that is no path text",
+            Refusal::BadName => "a name that is no name of an item",
+            Refusal::BadText => "a field that is missing, unknown, there twice, or out of its rule",
+            Refusal::NoAccount => "the account is not known",
+            Refusal::RankTooLow => "the account's rank is too low",
+            Refusal::NoSubmission => "no submission has this number",
+            Refusal::NotPending => "the submission is not pending",
+            Refusal::NotAuthor => "the account is not the author of the submission",
+            Refusal::OwnDecision => "nobody decides on his own submission or sets his own rank",
+            Refusal::ParentMissing => "the parent of the path is not in the registry",
+            Refusal::HasChildren => "an item of the registry has the path as its parent",
+            Refusal::NothingToDo => "all is as proposed already",
+            Refusal::FileFault(_) => "the file is faulty",
+            Refusal::Full => "a limit of the registry is reached",
+            Refusal::Memory => "no memory",
+            Refusal::Store => "the store failed",
+            Refusal::Failed => "the registry has failed earlier",
+            Refusal::Changed => "the item is not as expected any more",
+        }
+    }
+}
+
+impl Display for Refusal {
+    fn fmt<W: Write>(&self, f: &mut Formatter<W>) -> fmt::Result {
+        f.write_str(self.sentence())
     }
 }
 

@@ -2,7 +2,7 @@
 ghost use Rattle.std.specs.Prelude.{◌≡◌};
 
 /// What a command does, without its fields.
-#[derive(Clone, Copy, Debug, PartialEq, Eq)]
+#[derive(Clone, Copy)]
 pub enum Verb {
     Account,
     Submit,
@@ -14,6 +14,17 @@ pub enum Verb {
     Import,
 }
 
+const ALL: [Verb; 8] = [
+    Verb::Account,
+    Verb::Submit,
+    Verb::Comment,
+    Verb::Withdraw,
+    Verb::Approve,
+    Verb::Confirm,
+    Verb::Reject,
+    Verb::Import,
+];
+
 impl Verb {
     ghost use Rattle.pid_moderation.specs.Verbs.{verb_of, verb_word};
 
@@ -21,25 +32,7 @@ impl Verb {
     pub fn of_word(word: &str) -> Option<Verb>
         ensures { result ≡ verb_of word.now }
     {
-        if word == "account" {
-            Some(Verb::Account)
-        } else if word == "submit" {
-            Some(Verb::Submit)
-        } else if word == "comment" {
-            Some(Verb::Comment)
-        } else if word == "withdraw" {
-            Some(Verb::Withdraw)
-        } else if word == "approve" {
-            Some(Verb::Approve)
-        } else if word == "confirm" {
-            Some(Verb::Confirm)
-        } else if word == "reject" {
-            Some(Verb::Reject)
-        } else if word == "import" {
-            Some(Verb::Import)
-        } else {
-            None
-        }
+        ALL.iter().copied().find(|verb| word == verb.word())
     }
 
     /// The word of the verb, in lower case.
