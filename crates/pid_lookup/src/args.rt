@@ -1,9 +1,11 @@
 //! The arguments of a look-up.
+ghost use Rattle.std.specs.Prelude.{◌≡◌};
+ghost use Rattle.pid_lookup.specs.Found.{class_byte as class_half, subclass_byte as subclass_half};
 
 use pid_ident::{Id8, Id16};
 
 /// The numbers that a look-up is about. A request reads those that concern it.
-#[derive(Clone, Copy, Debug, PartialEq, Eq, Default)]
+#[derive(Clone, Copy, PartialEq, Eq, Default)]
 pub struct Args {
     pub vendor: Id16,
     pub device: Id16,
@@ -12,4 +14,18 @@ pub struct Args {
     /// The class in the high byte, the subclass in the low one.
     pub class: u16,
     pub progif: Id8,
+}
+
+/// The number of the class alone.
+pub fn class_byte(args: &Args) -> u8
+    ensures { result ≡ class_half args.now }
+{
+    (args.class / 256) as u8
+}
+
+/// The number of the subclass.
+pub fn subclass_byte(args: &Args) -> u8
+    ensures { result ≡ subclass_half args.now }
+{
+    (args.class % 256) as u8
 }

@@ -1,9 +1,8 @@
 //! The paths that a look-up can ask for.
 ghost use Rattle.std.specs.Prelude.{◌≡◌};
-ghost use Rattle.pid_lookup.specs.Found.{class_byte as class_half, subclass_byte as subclass_half};
 ghost use Rattle.pid_lookup.specs.AskedNames.{asked_paths as paths_asked};
 
-use crate::args::Args;
+use crate::args::{Args, class_byte, subclass_byte};
 use pid_ident::Path;
 
 /// The paths that a look-up with these arguments can ask for, whatever its flags.
@@ -42,16 +41,4 @@ pub fn asked_paths(args: &Args) -> [Path; 8]
             progif,
         },
     ]
-}
-
-fn class_byte(args: &Args) -> u8
-    ensures { result ≡ class_half args.now }
-{
-    (args.class / 256) as u8
-}
-
-fn subclass_byte(args: &Args) -> u8
-    ensures { result ≡ subclass_half args.now }
-{
-    (args.class % 256) as u8
 }

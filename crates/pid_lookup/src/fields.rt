@@ -1,7 +1,8 @@
 //! The fields of a look-up.
 ghost use Rattle.std.specs.Prelude.{◌≡◌, ◌↔◌, true, Some, string_bytes};
 ghost use Rattle.std.specs.Prelude.{IfOk, IfSome, IsNone, IsErr};
-ghost use Rattle.std.specs.List.{list_all};
+ghost use Rattle.std.specs.List.{list_all, list_any};
+ghost use Rattle.std.specs.Str.{bytes_eq};
 ghost use Rattle.pid_lookup.specs.Fields.{
   bytes_of,
   flags_said,
@@ -20,7 +21,7 @@ use thiserror::Error;
 
 /// A field of a look-up is unknown, there twice, missing though it must be there, or breaks its
 /// rule.
-#[derive(Clone, Copy, Debug, PartialEq, Eq, Error)]
+#[derive(Clone, Copy, Debug, Error)]
 #[error("the fields of the look-up are bad")]
 pub struct BadField;
 
@@ -34,7 +35,10 @@ pub fn args_of(fields: &[(String, String)]) -> Result<(u32, Args, u32), BadField
         ≡ Some (as_lookup lookup)) }
     ensures bad { IsErr result ↔ (are_bad (bytes_of fields.now) ≡ true) }
 {
-    read_fields(fields).ok_or(BadField)
+    match read_fields(fields) {
+        Some(lookup) => Ok(lookup),
+        None => Err(BadField),
+    }
 }
 
 fn read_fields(fields: &[(String, String)]) -> Option<(u32, Args, u32)>
@@ -70,17 +74,28 @@ fn are_known(fields: &[(String, String)]) -> bool
     fields.iter().all(|field| is_known(field.0.as_str()))
 }
 
+// The names that a field may have.
+const KNOWN: [&str; 8] = [
+    "flags",
+    "size",
+    "vendor",
+    "device",
+    "subvendor",
+    "subdevice",
+    "class",
+    "progif",
+];
+
 fn is_known(name: &str) -> bool
     ensures { result ≡ known_name name.now }
 {
-    name == "flags"
-        || name == "size"
-        || name == "vendor"
-        || name == "device"
-        || name == "subvendor"
-        || name == "subdevice"
-        || name == "class"
-        || name == "progif"
+    is_among(name, &KNOWN)
+}
+
+fn is_among(name: &str, words: &[&str]) -> bool
+    ensures { result ≡ list_any (λ word. bytes_eq name.now word.now) words.now }
+{
+    words.iter().any(|word| name == *word)
 }
 
 fn flags_of(fields: &[(String, String)]) -> Option<u32>

@@ -1,18 +1,12 @@
 //! The names that a request is about.
 ghost use Rattle.std.specs.Prelude.{◌≡◌, ◌&&◌, ◌==◌, not, IfOk, IsSome};
 ghost use Rattle.pid_file.specs.declared.path.Path.TheVariants as paths;
-ghost use Rattle.pid_lookup.specs.Found.{
-  own_device,
-  subsystem_name,
-  under_device,
-  class_byte as class_half,
-  subclass_byte as subclass_half,
-};
+ghost use Rattle.pid_lookup.specs.Found.{own_device, subsystem_name, under_device};
 ghost use Rattle.pid_lookup.specs.Flags.{has_bits};
 ghost use Rattle.pid_lookup.specs.Steps.Asking.{AsksNames, AsksNamesFor};
 ghost use Rattle.pid_lookup.specs.Steps.FoundTexts.{IsFoundFor, nameless};
 
-use crate::args::Args;
+use crate::args::{Args, class_byte, subclass_byte};
 use crate::flags::Request;
 use crate::ide::IdeWords;
 use crate::names::Names;
@@ -190,16 +184,4 @@ fn nameless_progif(args: &Args) -> Found
     } else {
         Found::One(None)
     }
-}
-
-fn class_byte(args: &Args) -> u8
-    ensures { result ≡ class_half args.now }
-{
-    (args.class / 256) as u8
-}
-
-fn subclass_byte(args: &Args) -> u8
-    ensures { result ≡ subclass_half args.now }
-{
-    (args.class % 256) as u8
 }
