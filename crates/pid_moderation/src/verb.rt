@@ -14,6 +14,7 @@ pub enum Verb {
     Import,
 }
 
+// All verbs, one of each.
 const ALL: [Verb; 8] = [
     Verb::Account,
     Verb::Submit,
