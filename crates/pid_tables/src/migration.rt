@@ -50,7 +50,7 @@ use sqlite::{Alter, Connection};
 use std::alloc::Global;
 
 /// What was in a database that was moved to schema 2.
-#[derive(Clone, Copy, Debug, PartialEq, Eq)]
+#[derive(Clone, Copy, PartialEq, Eq)]
 pub enum Step {
     /// No table: those of a new registry were made.
     Created,

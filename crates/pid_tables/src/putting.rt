@@ -15,7 +15,7 @@ use sqlite::types::ToSql;
 use sqlite::{Alter, Row, Transaction};
 
 /// What a name that was put at a path was to it.
-#[derive(Clone, Copy, Debug, PartialEq, Eq)]
+#[derive(Clone, Copy, PartialEq, Eq)]
 pub enum Put {
     /// There was no item.
     Added,
