@@ -1,5 +1,5 @@
 -- A name that is put at a path.
-use Rattle.std.proofs.Common.{◌≡◌, inl, inr, ℕ, Bool, T, true, false, cond, List, [], ◌∷◌, None, Some, Option, Ok, Err, Result, OnOk, IfOk, IfErr, MatchResult, IsSome, refl, sym, ap, subst, ◌∙◌}
+use Rattle.std.proofs.Common.{◌≡◌, inl, inr, ℕ, Bool, T, true, false, cond, List, [], ◌∷◌, None, Some, Option, IsSome, refl, sym, ap, subst, ◌∙◌}
 use Rattle.std.specs.Prelude.{option_map, bytes_eq}
 use Rattle.std.specs.Ordering.{eq_by_cmp}
 use Rattle.std.specs.Cmp.Lexicographic.{nat_list_cmp_total}
@@ -8,9 +8,7 @@ use Rattle.std.specs.FinMap.Entries.{put, is_sorted, is_sorted-put, find-put, sa
 use Rattle.std.proofs.lemmas.Slice.Eq.{bytes_eq-Decides}
 use Rattle.sqlite.specs.declared.types.Value.TheVariants.{Text}
 use Rattle.sqlite.specs.Order.{Row, column}
-use Rattle.sqlite.specs.Listing.{understood}
-use Rattle.sqlite.specs.State.{State, Shown}
-use Rattle.sqlite.proofs.Callers.{IsPlain}
+use Rattle.sqlite.specs.State.{State}
 use Rattle.pid_ident.specs.Trees.{text_cmp}
 use Rattle.pid_moderation.specs.Changes.{with_items}
 use Rattle.pid_moderation.specs.Items.{Items, name_at, has_name}
@@ -18,26 +16,11 @@ use Rattle.pid_moderation.specs.Views.{Views}
 use Rattle.pid_tables.specs.declared.putting.Put.TheVariants.{Added, Renamed, Same}
 use Rattle.pid_tables_rows.specs.Steps.Answers.{name_row}
 use Rattle.pid_tables.specs.Puts.{put_over}
-use Rattle.pid_tables_rows.specs.Schema.{pid_schema}
 use Rattle.pid_tables_rows.specs.Shows.{Counts, ShowsCounting}
 use Rattle.pid_tables_rows.specs.Writes.{with_name}
 use Rattle.std.proofs.lemmas.Bool.{cases_Bool}
 use Rattle.pid_tables_rows.proofs.SetLemmas.{tied}
 use Rattle.pid_tables.proofs.ChangeLemmas.{same_items}
-use Rattle.pid_tables_rows.proofs.ReadLemmas.{shows_still}
-
-pub on_read : {X E : Type 0} (sql : List ℕ) (params : Row) (old new : State) (r : Result X E) (rows : X → List Row) (c : Counts) (v : Views) → IsPlain (understood pid_schema sql) → ShowsCounting c old.now v
-    → IfOk r (λ x. Shown sql params old new (rows x)) → OnOk r (ShowsCounting c new.now v)
-on_read sql params old new (Ok x) rows c v plain shows h = shows_still sql params old new (rows x) c v plain shows h
-on_read sql params old new (Err e) rows c v plain shows h = tt
-
-pub both_sides : {X E : Type 0} (P : Type 0) (Q : E → Type 0) (r : Result X E) → IfErr r Q → OnOk r P → MatchResult r (λ _. P) Q
-both_sides P Q (Ok x) faults h = h
-both_sides P Q (Err e) faults h = faults
-
-pub if_read : {X E : Type 0} {P Q : X → Type 0} (r : Result X E) → ((x : X) → P x → Q x) → IfOk r P → IfOk r Q
-if_read (Ok x) f h = f x h
-if_read (Err e) f h = tt
 
 pub added_over : (name : List ℕ) (o : Option (List ℕ)) → None ≡ option_map name_row o → Added ≡ put_over name o
 added_over name None h = refl

@@ -1,7 +1,6 @@
 //! Items of a file, put one by one within a transaction.
-ghost use Rattle.std.specs.Prelude.{◌≡◌, option_map, slice_get};
+ghost use Rattle.std.specs.Prelude.{◌≡◌};
 ghost use Rattle.pid_moderation.specs.Items.{name_at};
-ghost use Rattle.pid_tables_rows.specs.Steps.Answers.{name_row};
 ghost use Rattle.pid_tables.specs.Puts.{put_over};
 ghost use Rattle.pid_tables.specs.Steps.Clauses.{TellsWithin};
 ghost use Rattle.pid_tables_rows.specs.Writes.{with_name};
@@ -12,7 +11,7 @@ use pid_tables_rows::item::{add_item, rename_item};
 use pid_tables_rows::run::read_inside;
 use pid_tables_rows::value::is_text_at;
 use sqlite::types::ToSql;
-use sqlite::{Alter, Row, Transaction};
+use sqlite::{Alter, Transaction};
 
 /// What a name that was put at a path was to it.
 #[derive(Clone, Copy, PartialEq, Eq)]
@@ -23,21 +22,6 @@ pub enum Put {
     Renamed,
     /// The item had the name already.
     Same,
-}
-
-fn names_inside<S: Alter>(
-    batch: &mut Transaction<'_, S>,
-    path: &str,
-) -> Result<Vec<Row>, TableFault>
-    ensures same_reference { batch.new.conn.ghost_name ≡ batch.old.conn.ghost_name }
-    ensures goes { GoesOn S.Store batch.old.conn.now batch.new.conn.now result }
-    ensures shows { ChangesTo S.Store batch.old.conn.now batch.new.conn.now result (λ v. Unit {0})
-        (λ v. v) }
-    ensures found { TellsWithin S.Store batch.old.conn.now batch.new.conn.now result
-        (λ v rows. slice_get rows.items 0 ≡ option_map name_row (name_at path.now v.items)) }
-{
-    let path = path.to_sql();
-    read_inside(batch, "SELECT name FROM item WHERE path = ?1", &[path])
 }
 
 fn compare<S: Alter>(
@@ -52,7 +36,8 @@ fn compare<S: Alter>(
     ensures found { TellsWithin S.Store batch.old.conn.now batch.new.conn.now result
         (λ v put. put ≡ put_over name.now (name_at path.now v.items)) }
 {
-    let rows = names_inside(batch, path)?;
+    let path = path.to_sql();
+    let rows = read_inside(batch, "SELECT name FROM item WHERE path = ?1", &[path])?;
     match rows.first() {
         None => Ok(Put::Added),
         Some(row) => {
