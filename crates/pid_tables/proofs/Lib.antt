@@ -26,3 +26,4 @@ pub mod BringIn
 pub mod WorkedRows
 pub mod Carrying
 pub mod EarlyCauses
+pub mod ThenReads

@@ -1,13 +1,12 @@
 //! The facts that a command is judged by.
-ghost use Rattle.std.specs.Prelude.{◌≡◌, false, length, Some};
-ghost use Rattle.sqlite.specs.Held.{state};
+ghost use Rattle.std.specs.Prelude.{◌≡◌, false, length, None};
 ghost use Rattle.pid_ident.specs.PathReading.{parent_text};
 ghost use Rattle.pid_ident.specs.PathTexts.{path_text};
 ghost use Rattle.pid_moderation.specs.FactsOfViews.{
   kept_in as kept_for,
   named as named_in,
   known as known_of,
-  with_item_facts as facts_with,
+  looked_at,
   facts_at,
 };
 ghost use Rattle.pid_moderation.specs.Items.{name_at, holds_parent, has_children as are_children};
@@ -16,7 +15,7 @@ ghost use Rattle.pid_moderation.specs.WellMade.{AllItems, HoldsParents};
 ghost use Rattle.pid_tables_rows.specs.Clauses.{Reads};
 
 use pid_ident::{Account, Key, Name, Path, PathText};
-use pid_moderation::{Facts, Named, Rank, Reply, Rows, Submission};
+use pid_moderation::{Facts, Named, Reply, Rows};
 use pid_tables_rows::TableFault;
 use pid_tables_rows::account::rank;
 use pid_tables_rows::item::{has_children, item_name};
@@ -52,8 +51,8 @@ fn known<S: Alter>(
         (λ v facts. facts ≡ known_of v account.now key.now) }
 {
     let rank = rank(conn, account.as_str())?;
-    let kept = kept(conn, account, key)?;
     let revision = revision(conn)?;
+    let kept = kept(conn, account, key)?;
     Ok(Facts {
         rank,
         kept,
@@ -69,32 +68,6 @@ fn known<S: Alter>(
     })
 }
 
-fn named_as(found: Submission, remarks: u32) -> Named
-    ensures { result
-        ≡ record {
-          author = found.author;
-          path = found.path;
-          proposal = found.proposal;
-          state = found.state;
-          remarks = remarks;
-        } }
-{
-    let Submission {
-        author,
-        path,
-        proposal,
-        state,
-        ..
-    } = found;
-    Named {
-        author,
-        path,
-        proposal,
-        state,
-        remarks,
-    }
-}
-
 fn named<S: Alter>(
     conn: &mut Connection<S>,
     alloc: Global,
@@ -103,13 +76,45 @@ fn named<S: Alter>(
     requires { conn.old.in_transaction ≡ false }
     ensures { Reads S.Store conn.old conn.new result (λ v named. named ≡ named_in v number) }
 {
+    let remarks = remark_count(conn, number)?;
     match standing(conn, alloc, number)? {
         None => Ok(None),
-        Some(found) => {
-            let remarks = remark_count(conn, number)?;
-            Ok(Some(named_as(found, remarks)))
-        }
+        Some(found) => Ok(Some(Named {
+            author: found.author,
+            path: found.path,
+            proposal: found.proposal,
+            state: found.state,
+            remarks,
+        })),
     }
+}
+
+fn add_named<S: Alter>(
+    conn: &mut Connection<S>,
+    alloc: Global,
+    number: u32,
+    facts: &mut Facts,
+) -> Result<(), TableFault>
+    requires { conn.old.in_transaction ≡ false }
+    ensures { Reads S.Store conn.old conn.new result
+        (λ v _. facts.new ≡ record facts.old { named = named_in v number }) }
+{
+    facts.named = named(conn, alloc, number)?;
+    Ok(())
+}
+
+/// The name of the item at a path.
+pub(crate) fn name_of<S: Alter>(
+    conn: &mut Connection<S>,
+    alloc: Global,
+    path: &Path,
+) -> Result<Option<Name>, TableFault>
+    requires { conn.old.in_transaction ≡ false }
+    ensures { Reads S.Store conn.old conn.new result
+        (λ v name. name ≡ name_at (path_text path.now) v.items) }
+{
+    let path = path.path_text(alloc)?;
+    item_name(conn, alloc, path.as_str())
 }
 
 fn has_parent<S: Alter>(
@@ -123,81 +128,64 @@ fn has_parent<S: Alter>(
 {
     match path.parent() {
         None => Ok(true),
-        Some(parent) => {
-            let text = parent.path_text(alloc)?;
-            Ok(item_name(conn, alloc, text.as_str())?.is_some())
-        }
+        Some(parent) => Ok(name_of(conn, alloc, &parent)?.is_some()),
     }
 }
 
-fn kin<S: Alter>(
+// Adds what the item at the path of the submission is.
+fn add_item<S: Alter>(
     conn: &mut Connection<S>,
     alloc: Global,
     path: Path,
-) -> Result<(bool, bool), TableFault>
-    requires { conn.old.in_transaction ≡ false }
-    ensures parent { Reads S.Store conn.old conn.new result
-        (λ v kin. kin.0 ≡ holds_parent (parent_text (path_text path)) v.items) }
-    ensures children { Reads S.Store conn.old conn.new result
-        (λ v kin. AllItems v.items → HoldsParents v.items
-        → kin.1 ≡ are_children (path_text path) v.items) }
-{
-    let parent = has_parent(conn, alloc, path)?;
-    let children = has_children(conn, alloc, path)?;
-    Ok((parent, children))
-}
-
-fn present<S: Alter>(
-    conn: &mut Connection<S>,
-    alloc: Global,
-    path: Path,
-) -> Result<(u32, Option<Name>), TableFault>
-    requires { conn.old.in_transaction ≡ false }
-    ensures count { Reads S.Store conn.old conn.new result
-        (λ v present. present.0 ≡ length v.items) }
-    ensures name { Reads S.Store conn.old conn.new result
-        (λ v present. present.1 ≡ name_at (path_text path) v.items) }
-{
-    let text = path.path_text(alloc)?;
-    let count = items(conn)?;
-    let name = item_name(conn, alloc, text.as_str())?;
-    Ok((count, name))
-}
-
-fn with_named<S: Alter>(
-    conn: &mut Connection<S>,
-    alloc: Global,
-    named: Named,
-    mut facts: Facts,
-) -> Result<Facts, TableFault>
+    facts: &mut Facts,
+) -> Result<(), TableFault>
     requires { conn.old.in_transaction ≡ false }
     ensures { Reads S.Store conn.old conn.new result
-        (λ v all. AllItems v.items → HoldsParents v.items → all ≡ facts_with v (Some named) facts) }
+        (λ v _. AllItems v.items → HoldsParents v.items
+        → facts.new ≡ record facts.old {
+          items = length v.items;
+          present = name_at (path_text path) v.items;
+          has_parent = holds_parent (parent_text (path_text path)) v.items;
+          has_children = are_children (path_text path) v.items;
+        }) }
 {
-    let (items, name) = present(conn, alloc, named.path)?;
-    let (parent, children) = kin(conn, alloc, named.path)?;
-    facts.items = items;
-    facts.present = name;
-    facts.has_parent = parent;
-    facts.has_children = children;
-    facts.named = Some(named);
-    Ok(facts)
+    facts.items = items(conn)?;
+    facts.has_parent = has_parent(conn, alloc, path)?;
+    facts.has_children = has_children(conn, alloc, path)?;
+    facts.present = name_of(conn, alloc, &path)?;
+    Ok(())
 }
 
-fn with_item<S: Alter>(
+// Adds what `rows` names to facts that have none of it.
+fn add_rows<S: Alter>(
     conn: &mut Connection<S>,
     alloc: Global,
-    number: u32,
-    facts: Facts,
-) -> Result<Facts, TableFault>
+    rows: Rows<'_>,
+    facts: &mut Facts,
+) -> Result<(), TableFault>
     requires { conn.old.in_transaction ≡ false }
     ensures { Reads S.Store conn.old conn.new result
-        (λ v all. AllItems v.items → HoldsParents v.items
-        → all ≡ facts_with v (named_in v number) facts) }
+        (λ v _. facts.old.named ≡ None → AllItems v.items → HoldsParents v.items
+        → facts.new ≡ looked_at v (wanted_by rows.entry) facts.old) }
 {
-    match named(conn, alloc, number)? {
-        None => Ok(facts),
-        Some(named) => with_named(conn, alloc, named, facts),
+    match rows {
+        Rows::Rank(who) => {
+            facts.who = rank(conn, who.as_str())?;
+            Ok(())
+        }
+        Rows::Submissions => {
+            facts.submissions = submissions(conn)?;
+            Ok(())
+        }
+        Rows::Submission(number) => add_named(conn, alloc, number, facts),
+        Rows::Item(number) => {
+            add_named(conn, alloc, number, facts)?;
+            match &facts.named {
+                None => Ok(()),
+                Some(named) => add_item(conn, alloc, named.path, facts),
+            }
+        }
+        Rows::Nothing => Ok(()),
     }
 }
 
@@ -215,20 +203,8 @@ pub(crate) fn gather_facts<S: Alter>(
         → facts ≡ facts_at v account.now key.now (wanted_by rows.entry)) }
 {
     let mut facts = known(conn, account, key)?;
-    match rows {
-        Rows::Rank(who) => {
-            facts.who = rank(conn, who.as_str())?;
-            Ok(facts)
-        }
-        Rows::Submissions => {
-            facts.submissions = submissions(conn)?;
-            Ok(facts)
-        }
-        Rows::Submission(number) => {
-            facts.named = named(conn, alloc, number)?;
-            Ok(facts)
-        }
-        Rows::Item(number) => with_item(conn, alloc, number, facts),
-        Rows::Nothing => Ok(facts),
+    match add_rows(conn, alloc, rows, &mut facts) {
+        Ok(()) => Ok(facts),
+        Err(fault) => Err(fault),
     }
 }

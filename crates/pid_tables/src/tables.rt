@@ -45,15 +45,14 @@ ghost use Rattle.pid_tables_rows.specs.Clauses.{
 ghost use Rattle.pid_tables_lists.specs.Clauses.{IsCausedEnd};
 ghost use Rattle.pid_tables.specs.Clauses.{TellsSchema};
 
-use crate::gather::gather_facts;
-use pid_ident::{Account, Key, Name, Path, PathText};
+use crate::gather::{gather_facts, name_of};
+use pid_ident::{Account, Key, Name, Path};
 use pid_moderation::{Changes, Discussion, Facts, Item, PAGE, Pending, Rows};
 use pid_reader::Sink;
 use pid_tables_check::{check, has_some_table};
 use pid_tables_lists::{
     EachEnd, changes_page, children_below, each_item, pending_page, submission_with_remarks,
 };
-use pid_tables_rows::item::item_name;
 use pid_tables_rows::meta::{items, schema_number};
 use pid_tables_rows::{TableFault, Version};
 use sqlite::{Alter, Connection};
@@ -90,8 +89,7 @@ impl<S: Alter + Drop> Tables<S> {
         ensures { Reads S.Store self.old.conn self.new.conn result
             (λ v name. name ≡ name_at (path_text path.now) v.items) }
     {
-        let path = path.path_text(alloc)?;
-        item_name(&mut self.conn, alloc, path.as_str())
+        name_of(&mut self.conn, alloc, path)
     }
 
     /// Hands all items to a sink, in the canonical order, one at a time: no list of them is made.

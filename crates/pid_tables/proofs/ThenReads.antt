@@ -1,0 +1,32 @@
+-- A read after others, outside a transaction.
+use Rattle.std.proofs.Common.{◌≡◌, Ok, Err, Result, IsErrAnd, refl}
+use Rattle.sqlite.specs.Held.{Held, state}
+use Rattle.sqlite_trees.specs.declared.store.Store.{Ghosts}
+use Rattle.pid_moderation.specs.Views.{Views}
+use Rattle.pid_tables_rows.specs.declared.fault.TableFault.{TableFault}
+use Rattle.pid_tables_rows.specs.Causes.{IsCaused, IsReadable}
+use Rattle.pid_tables_rows.specs.Clauses.{AtRest, HasCleanDisk, OnlyReads, Reads}
+use Rattle.pid_tables_rows.proofs.CauseLemmas.{caused_later, passed_on}
+use Rattle.pid_tables_rows.proofs.OnlyReading.{reads_then}
+
+module _ {S : Type 0} (store : Ghosts S) (old mid new : Held S) (one : OnlyReads store old mid) where
+  -- it answers a fault, and so does the call
+  pub fault_after : {X Y : Type 0} {Says : Views → X → Type 0} {P : Views → Y → Type 0} (e : TableFault) (r : Result Y TableFault) → IsErrAnd r (λ y. y ≡ e) → Reads store mid new (Err e) Says → Reads store old new r P
+  fault_after {P = P} e r is two = record {
+    rests = reads_then (state store old) (state store mid) (state store new) one two.rests;
+    told = λ clean v rest.
+        passed_on r e (P v) (λ fault. IsReadable v → IsCaused (state store old) (state store new) fault) is
+        (λ readable. caused_later (state store old) (state store mid) (state store new) (λ _. ⊥) e one.survives two.rests.survives.counts (two.rests.clean clean) (two.told clean v (one.kept v rest) readable));
+  }
+
+  -- it answers a value, and so does the call
+  pub value_after : {X Y : Type 0} {Says : Views → X → Type 0} {P : Views → Y → Type 0} (x : X) (y : Y) → Reads store mid new (Ok x) Says → (HasCleanDisk store mid → (v : Views) → AtRest store old v → Says v x → P v y) → Reads store old new (Ok y) P
+  value_after x y two so = record {
+    rests = reads_then (state store old) (state store mid) (state store new) one two.rests;
+    told = λ clean v rest. so (two.rests.clean clean) v rest (two.told clean v (one.kept v rest));
+  }
+
+  -- its answer is that of the call
+  pub answer_after : {X : Type 0} {Says P : Views → X → Type 0} (r : Result X TableFault) → Reads store mid new r Says → (HasCleanDisk store mid → (v : Views) → AtRest store old v → (x : X) → Says v x → P v x) → Reads store old new r P
+  answer_after (Ok x) two so = value_after x x two (λ clean v rest. so clean v rest x)
+  answer_after (Err e) two so = fault_after e (Err e) refl two
