@@ -43,13 +43,13 @@ pub fn judge_import<S: Alter + Drop>(
     ensures alive { EarlyIsNotFailed result }
 {
     laws::views_of_sound_histories(); // proof only
-    match tables.gather(alloc, &command.account, &command.key, Rows::Nothing) {
+    match tables.items() {
         Err(fault) => Early::Answered(Err(refusal_of(fault))),
-        Ok(facts) => match before_file(&facts) {
-            Some(answer) => Early::Answered(answer),
-            None => match tables.items() {
-                Ok(items) => Early::Open { facts, items },
-                Err(fault) => Early::Answered(Err(refusal_of(fault))),
+        Ok(items) => match tables.gather(alloc, &command.account, &command.key, Rows::Nothing) {
+            Err(fault) => Early::Answered(Err(refusal_of(fault))),
+            Ok(facts) => match before_file(&facts) {
+                Some(answer) => Early::Answered(answer),
+                None => Early::Open { facts, items },
             },
         },
     }

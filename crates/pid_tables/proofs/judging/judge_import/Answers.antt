@@ -1,10 +1,43 @@
 use Rattle.std.proofs.Common.{inr}
 use Rattle.sqlite.specs.Held.{state}
 use Rattle.pid_moderation.specs.Views.{views_of}
+use Rattle.pid_tables_rows.proofs.CauseLemmas.{caused_later}
+use Rattle.pid_tables_rows.proofs.OnlyReading.{reads_then}
 use Rattle.pid_tables.proofs.EarlyCauses.{caused_as}
 use Rattle.pid_tables.proofs.judging.judge_import.Goals as goal
 
+-- ---- no count of items
+
 pub returns-in-Err-clause-caused : goal.returns-in-Err-clause-caused
 returns-in-Err-clause-caused g c clean h sound rest =
-    inr (caused_as (state g.S.Store c.args.tables.now.conn) (state g.S.Store c.gather.new.self.conn) c.in-Err.fault c.refusal_of.result c.refusal_of.ensures.same
+    inr (caused_as (state g.S.Store c.args.tables.now.conn) (state g.S.Store c.items.new.self.conn) c.in-Err.fault c.refusal_of.result c.refusal_of.ensures.same
     (c.in-Err.ensures.told clean (views_of h) rest (c.views_of_sound_histories.ensures.readable h sound)))
+
+-- ---- no facts
+
+pub returns-in-Err-gather-clause-rests : goal.returns-in-Err-gather-clause-rests
+returns-in-Err-gather-clause-rests g c = reads_then _ _ _ c.items.ensures.rests c.gather.ensures.rests
+
+pub returns-in-Err-gather-clause-caused : goal.returns-in-Err-gather-clause-caused
+returns-in-Err-gather-clause-caused g c clean h sound rest =
+    let old = state g.S.Store c.args.tables.now.conn in
+    let new = state g.S.Store c.gather.new.self.conn in
+    let one = c.items.ensures.rests in
+    let two = c.gather.ensures.rests in
+    inr (caused_as old new c.in-Err-gather.fault c.refusal_of-in-Err-gather.result c.refusal_of-in-Err-gather.ensures.same
+    (caused_later old (state g.S.Store c.items.new.self.conn) new (λ _. ⊥) c.in-Err-gather.fault one.survives two.survives.counts (two.clean clean)
+    (c.in-Err-gather.ensures.told clean (views_of h) (one.kept (views_of h) rest) (c.views_of_sound_histories.ensures.readable h sound))))
+
+-- ---- with both
+
+pub returns-in-Some-clause-rests : goal.returns-in-Some-clause-rests
+returns-in-Some-clause-rests g c = reads_then _ _ _ c.items.ensures.rests c.gather.ensures.rests
+
+pub returns-in-None-clause-rests : goal.returns-in-None-clause-rests
+returns-in-None-clause-rests g c = reads_then _ _ _ c.items.ensures.rests c.gather.ensures.rests
+
+pub returns-in-None-clause-judged : goal.returns-in-None-clause-judged
+returns-in-None-clause-judged g c clean h sound rest =
+    let kept = c.items.ensures.rests.kept (views_of h) rest in
+    let facts = c.in-Ok-gather.ensures.told clean (views_of h) kept (c.views_of_sound_histories.ensures.items h sound) (c.views_of_sound_histories.ensures.parents h sound) in
+    (record { facts = facts; waits = c.in-None.ensures.open }, c.in-Ok.ensures.told (c.gather.ensures.rests.clean clean) (views_of h) rest)
