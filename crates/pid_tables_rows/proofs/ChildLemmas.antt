@@ -295,6 +295,13 @@ module _ (items : Items) (sorted : is_sorted text_cmp items ≡ true) (all : All
       (λ h. elim (or_parts _ _ h) [ inl one ↦ child_below items sorted all parents (Vendor a) one | inr other ↦ generic_below items sorted all parents a other ])
       (λ h. or_true _ _ (elim (stand_of (Vendor a) h) [ inl one ↦ inl one | inr other ↦ inr other.2 ]))
 
+  -- of a vendor with none below it, by the second
+  pub generic_children : (p : Path) (a : ℕ) (some : Bool) → p ≡ Vendor a → holds_between (path_text p ++ 47 ∷ []) (path_text p ++ 48 ∷ []) items ≡ false
+      → some ≡ holds_between (generics_of (path_text (Vendor a)) ++ 47 ∷ []) (generics_of (path_text (Vendor a)) ++ 48 ∷ []) items → some ≡ has_children (path_text p) items
+  generic_children p a some is none generic =
+      subst (λ (q : Path). holds_between (path_text q ++ 47 ∷ []) (path_text q ++ 48 ∷ []) items ≡ false → some ≡ has_children (path_text q) items) (sym is)
+      (λ none. generic ∙ ap (λ b. b || holds_between (generics_of (path_text (Vendor a)) ++ 47 ∷ []) (generics_of (path_text (Vendor a)) ++ 48 ∷ []) items) (sym none) ∙ vendor_children a) none
+
   -- of another path, by one
   pub other_children : (p : Path) → (length (path_text p) ≡ 7 → ⊥) → holds_between (path_text p ++ 47 ∷ []) (path_text p ++ 48 ∷ []) items ≡ has_children (path_text p) items
   other_children p other = same_truth _ _ (child_below items sorted all parents p)

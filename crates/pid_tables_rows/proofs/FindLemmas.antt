@@ -41,11 +41,15 @@ module _ {version : Version} {numbers : Numbers} (old new : State) (c : Counts) 
   reply_found who token h = map_found receipt_row by_both _ receipt_found (receipt_in v) (who, token) (schema_of version) receipt 5 refl receipt_plain old new shows.schema shows.receipts select_receipt _ _ (select_receipt_is version) reply_row (λ id v. refl) answer h
 
 -- the same, read in a transaction of its own on tables at rest
+pub rows_at_rest : {S : Type 0} (g : Ghosts S) (old : Held S) (v : Views) (sql : List ℕ) (params : Row) (rows : List Row) (P : Type 0) → AtRest (state g old) v
+    → ((mid : State) → Shows (state g (record old { in_transaction = true })).now v → Shown sql params (state g (record old { in_transaction = true })) mid rows → P)
+    → (mid : Held S) × Shown sql params (state g (record old { in_transaction = true })) (state g mid) rows → P
+rows_at_rest g old v sql params rows P rest told h = told (state g h.0) (rest.shows (shown_passes sql params (state g (record old { in_transaction = true })) (state g h.0) rows h.1).was_open) h.1
+
+-- whatever the read answers
 pub at_rest : {S X : Type 0} (g : Ghosts S) (old : Held S) (new : State) (v : Views) (sql : List ℕ) (params : Row) (r : Result X TableFault) (rows : X → List Row) (P : X → Type 0) → AtRest (state g old) v
     → ((mid : State) (x : X) → Shows (state g (record old { in_transaction = true })).now v → Shown sql params (state g (record old { in_transaction = true })) mid (rows x) → P x)
     → IfOk r (λ x. (mid : Held S) × Shown sql params (state g (record old { in_transaction = true })) (state g mid) (rows x)) → IfErr r (IsCaused (state g old) new)
     → MatchResult r P (λ fault. IsReadable v → IsCaused (state g old) new fault)
-at_rest g old new v sql params (Ok x) rows P rest told h caused =
-    let begun = state g (record old { in_transaction = true }) in
-    told (state g h.0) x (rest.shows (shown_passes sql params begun (state g h.0) (rows x) h.1).was_open) h.1
+at_rest g old new v sql params (Ok x) rows P rest told h caused = rows_at_rest g old v sql params (rows x) (P x) rest (λ mid. told mid x) h
 at_rest g old new v sql params (Err e) rows P rest told h caused = λ readable. caused

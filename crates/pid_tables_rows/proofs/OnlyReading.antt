@@ -1,5 +1,5 @@
 -- What reads leave.
-use Rattle.std.proofs.Common.{◌≡◌, ◌⊎◌, inl, inr, true, false, IsTrue, Result, refl, sym, subst, ◌∙◌}
+use Rattle.std.proofs.Common.{◌≡◌, ◌⊎◌, inl, inr, true, false, IsTrue, Ok, Err, Result, MatchResult, refl, sym, subst, ◌∙◌}
 use Rattle.sqlite.proofs.Callers.{survives_begin}
 use Rattle.sqlite.proofs.StateLemmas.{survives_then}
 use Rattle.sqlite.specs.Effect.{Database}
@@ -7,6 +7,9 @@ use Rattle.sqlite.specs.Held.{Held, state}
 use Rattle.sqlite.specs.State.{State, HasCleanDisk, Survives, IsUnchanged, IsRolledBack, Fails}
 use Rattle.sqlite.specs.declared.error.Error.{Error}
 use Rattle.sqlite_trees.specs.declared.store.Store.{Ghosts}
+use Rattle.pid_tables_rows.specs.declared.fault.TableFault.{TableFault}
+use Rattle.pid_tables_rows.specs.Causes.{IsCaused, IsReadable}
+use Rattle.pid_tables_rows.proofs.CauseLemmas.{caused_later}
 use Rattle.pid_tables_rows.specs.Leaves.{RestsOn, RestsIn, GoesOn, OnlyReads}
 use Rattle.pid_tables_rows.specs.Shows.{ShowsIn, Shows}
 use Rattle.pid_tables_rows.proofs.GoingLemmas.{earlier}
@@ -85,6 +88,12 @@ reads_then a b c one two = record {
   same = λ d rest. two.same d (one.same d rest);
   kept = λ v rest. two.kept v (one.kept v rest);
 }
+
+-- what the second says of its answer, and a fault of it, is so of both
+pub told_then : {X : Type 0} (a b c : State) (v : Views) (r : Result X TableFault) (P Q : X → Type 0) → OnlyReads a b → OnlyReads b c → HasCleanDisk c → ((x : X) → P x → Q x)
+    → MatchResult r P (λ fault. IsReadable v → IsCaused b c fault) → MatchResult r Q (λ fault. IsReadable v → IsCaused a c fault)
+told_then a b c v (Ok x) P Q one two clean says h = says x h
+told_then a b c v (Err e) P Q one two clean says h = λ readable. caused_later a b c (λ _. ⊥) e one.survives two.survives.counts (two.clean clean) (h readable)
 
 -- a transaction of its own, which is rolled back, only reads
 pub reads_begun : {S X E : Type 0} (g : Ghosts S) (old mid end : Held S) (r : Result X E) → (IsTrue (state g mid).is_open → HasCleanDisk (state g mid)) → (IsTrue (state g end).is_open → HasCleanDisk (state g end))

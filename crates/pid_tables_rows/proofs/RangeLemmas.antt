@@ -1,5 +1,5 @@
 -- Whether an item lies in a range.
-use Rattle.std.proofs.Common.{◌≡◌, ◌⊎◌, inl, inr, ℕ, ℤ, pos, List, [], ◌∷◌, length, Bool, cond, true, false, ◌&&◌, None, Some, Option, Ordering, Less, Equal, Greater, is_lt, is_gt, is_eq, refl, sym, ap, subst, ◌∙◌, codes}
+use Rattle.std.proofs.Common.{◌≡◌, ◌⊎◌, inl, inr, ℕ, ℤ, pos, List, [], ◌∷◌, length, Bool, cond, true, false, ◌&&◌, None, Some, Option, Ordering, Less, Equal, Greater, is_lt, is_gt, is_eq, refl, sym, ap, subst, ◌∙◌, codes, slice_get}
 use Rattle.std.specs.List.{list_any}
 use Rattle.std.specs.Ordering.{ordering_reverse, nat_cmp, eq_by_cmp}
 use Rattle.std.specs.Cmp.Lexicographic.{nat_list_cmp_total}
@@ -27,6 +27,7 @@ use Rattle.pid_ident.specs.Trees.{text_cmp}
 use Rattle.pid_moderation.specs.Items.{Items, name_at}
 use Rattle.pid_moderation.specs.Views.{Views}
 use Rattle.pid_tables_rows.specs.declared.version.Version.{Version}
+use Rattle.pid_tables_rows.specs.Steps.Answers.{IsFirstWithin}
 use Rattle.pid_tables_rows.specs.Schema.{schema_of}
 use Rattle.pid_tables_rows.specs.TableRows.{item_row}
 use Rattle.pid_tables_rows.specs.Shows.{Counts, Numbers, ShowsKeeping}
@@ -167,3 +168,12 @@ module _ {version : Version} {numbers : Numbers} (old new : State) (c : Counts) 
         | inl none ↦ inl (none.0, none_in none.1)
         | inr first ↦ inr (_, first.is, some_in first.row first.there)
       ]
+
+-- whether it answers a row says whether there is an item
+pub row_within : (low high : List ℕ) (items : Items) (rows : List Row) (row : Row) → Some row ≡ slice_get rows 0 → IsFirstWithin low high items rows → true ≡ holds_between low high items
+row_within low high items rows row first (inl none) = absurd (let e = first ∙ ap (λ l. slice_get l 0) none.0 in let bad : ⊥ = cc in bad)
+row_within low high items rows row first (inr some) = sym some.2
+
+pub none_within : (low high : List ℕ) (items : Items) (rows : List Row) → None ≡ slice_get rows 0 → IsFirstWithin low high items rows → false ≡ holds_between low high items
+none_within low high items rows first (inl none) = sym none.1
+none_within low high items rows first (inr some) = absurd (let e = first ∙ ap (λ l. slice_get l 0) some.1 in let bad : ⊥ = cc in bad)

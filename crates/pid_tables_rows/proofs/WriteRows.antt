@@ -1,5 +1,5 @@
 -- What each statement that writes leaves of what the tables show.
-use Rattle.std.proofs.Common.{◌≡◌, ℕ, ◌+◌, pos, List, [], ◌∷◌, ◌++◌, length, true, None, Some, Option, Ok, Err, Result, MatchResult, IsSome, refl, ap, ◌∙◌, codes, arith}
+use Rattle.std.proofs.Common.{◌≡◌, ℕ, ◌+◌, pos, List, [], ◌∷◌, ◌++◌, length, true, false, not, None, Some, Option, Ok, IsSome, refl, ap, ◌∙◌, codes, arith}
 use Rattle.std.specs.Prelude.{option_map}
 use Rattle.sqlite.specs.declared.types.Value.TheVariants.{Null, Int, Text}
 use Rattle.sqlite.specs.Order.{Row}
@@ -11,7 +11,7 @@ use Rattle.pid_moderation.specs.declared.command.Reply.{Reply}
 use Rattle.pid_moderation.specs.declared.facts.State.{State as Standings}
 use Rattle.pid_moderation.specs.declared.facts.State.TheVariants.{Pending, Withdrawn}
 use Rattle.pid_moderation.specs.declared.rank.Rank.{Rank}
-use Rattle.pid_moderation.specs.Items.{name_at}
+use Rattle.pid_moderation.specs.Items.{name_at, has_name}
 use Rattle.pid_moderation.specs.Ranks.{rank_number}
 use Rattle.pid_moderation.specs.Views.{Views, Submitted, Remark, submission_at, is_named_anew}
 use Rattle.pid_tables_rows.specs.declared.version.Version.{Version}
@@ -32,8 +32,6 @@ use Rattle.pid_tables_rows.proofs.StatementTexts.{update_meta, insert_account, u
 use Rattle.pid_tables_rows.proofs.ShowLemmas.{still, rows_same, wrote_meta, wrote_account, wrote_item, wrote_submission, wrote_remark, wrote_receipt, wrote_since, wrote_revision}
 use Rattle.pid_tables_rows.proofs.SinceRemoved.{removed}
 use Rattle.pid_tables_rows.proofs.DecodeLemmas.{mapped_some}
-use Rattle.pid_tables_rows.specs.Faults.{IsMemoryOrStore}
-use Rattle.pid_tables_rows.specs.declared.fault.TableFault.{TableFault}
 use Rattle.sqlite.specs.Effect.{Database}
 
 -- it was carried out
@@ -215,13 +213,19 @@ named_shows c n path name v db anew h = record {
   sinces = rows_same since_row _ (since_in (with_name n path name v)) (db.trees 11) (since_named n path name v anew) h.sinces;
 }
 
-pub then_shows : {X P Q : Type 0} (r : Result X TableFault) → (P → Q) → MatchResult r (λ _. P) IsMemoryOrStore → MatchResult r (λ _. Q) IsMemoryOrStore
-then_shows (Ok x) f h = f h
-then_shows (Err e) f h = h
-
 pub since_there : (v : Views) (path : List ℕ) → IsSome (name_at path v.items) → IsSome (since_in v path)
 since_there v path there = go (name_at path v.items) there
   where
     go : (o : Option (List ℕ)) → IsSome o → IsSome (option_map (λ (name : List ℕ). v.since path) o)
     go None h = absurd cc
     go (Some name) h = h
+
+-- the second of the two rows of an item that is added or renamed
+module _ (mid new : State) (c : Counts) (v : Views) (path name : List ℕ) (n : ℕ) (shows : ShowsKeeping Two c (numbers_in v) mid.now (with_item_named path name v)) where
+  pub number_added : name_at path v.items ≡ None → Ran insert_since (Text path ∷ number n ∷ []) mid new → ShowsCounting c new.now (with_name n path name v)
+  number_added none ran =
+      named_shows c n path name v new.now (ap (λ o. not (has_name name o)) none)
+      (since_added mid new c (with_item_named path name v) shows path n (ap (option_map (λ (name : List ℕ). v.since path)) none) ran)
+
+  pub number_changed : IsSome (name_at path v.items) → has_name name (name_at path v.items) ≡ false → Ran update_since (Text path ∷ number n ∷ []) mid new → ShowsCounting c new.now (with_name n path name v)
+  number_changed some anew ran = named_shows c n path name v new.now (ap not anew) (since_changed mid new c (with_item_named path name v) shows path n (since_there v path some) ran)

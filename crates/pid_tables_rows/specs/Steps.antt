@@ -1,7 +1,5 @@
 -- What serves private functions alone; no promise rests on it.
 pub mod Answers
-pub mod Clauses
-pub mod Leaves
 pub mod Moving
 pub mod Ranges
 pub mod Shows

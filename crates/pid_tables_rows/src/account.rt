@@ -2,7 +2,6 @@
 ghost use Rattle.std.specs.Prelude.{
   ◌≡◌,
   false,
-  length,
   None,
   IfErr,
   IsSome,
@@ -87,19 +86,11 @@ pub fn rank<S: Alter>(conn: &mut Connection<S>, name: &str) -> Result<Option<Ran
     }
 }
 
-fn account_rows<S: Alter>(conn: &mut Connection<S>) -> Result<Vec<Row>, TableFault>
-    requires { conn.old.in_transaction ≡ false }
-    ensures { Reads S.Store conn.old conn.new result
-        (λ v rows. HasAccounts v (length rows.items)) }
-{
-    read_rows(conn, "SELECT rank FROM account", &[])
-}
-
 /// How many accounts there are. The rows are held in memory while they are counted.
 pub fn accounts<S: Alter>(conn: &mut Connection<S>) -> Result<u64, TableFault>
     requires { conn.old.in_transaction ≡ false }
     ensures { Reads S.Store conn.old conn.new result (λ v n. HasAccounts v n) }
 {
-    let rows = account_rows(conn)?;
+    let rows = read_rows(conn, "SELECT rank FROM account", &[])?;
     Ok(rows.len() as u64)
 }

@@ -1,7 +1,6 @@
 //! The tables of items: paths and their names, and the numbers of the last changes of these.
 ghost use Rattle.std.specs.Prelude.{
   ◌≡◌,
-  ◌||◌,
   ◌++◌,
   [],
   ◌∷◌,
@@ -22,15 +21,12 @@ ghost use Rattle.sqlite.specs.Order.{column};
 ghost use Rattle.sqlite.specs.declared.types.Value.TheVariants.{Text as TextValue};
 ghost use Rattle.pid_tables_rows.specs.Steps.Answers.{name_row};
 ghost use Rattle.pid_tables_rows.specs.Steps.Ranges.{generics_from, holds_between, holds_under};
-ghost use Rattle.pid_tables_rows.specs.Steps.Answers.{IsFirstWithin};
 ghost use Rattle.pid_ident.specs.PathTexts.{path_text};
 ghost use Rattle.pid_moderation.specs.WellMade.{AllItems, HoldsParents};
 ghost use Rattle.pid_tables_rows.specs.Shows.{AreViews};
 ghost use Rattle.pid_tables_rows.specs.Unread.{IsUnreadable, ReadsAsItem};
 ghost use Rattle.pid_tables_rows.specs.Writes.{with_name, without_item};
-ghost use Rattle.pid_tables_rows.specs.Steps.Writes.{with_item_named, with_number};
 ghost use Rattle.pid_tables_rows.specs.Clauses.{ChangesTo, GoesOn, Reads};
-ghost use Rattle.pid_tables_rows.specs.Steps.Clauses.{LeadsKeeping};
 
 use crate::fault::TableFault;
 use crate::run::{read_rows, write_one};
@@ -40,52 +36,6 @@ use pid_moderation::Item;
 use sqlite::types::{ToSql, ValueRef};
 use sqlite::{Alter, Connection, Row, Transaction};
 use std::alloc::{AllocError, Global};
-
-fn insert_item<S: Alter>(
-    tx: &mut Transaction<'_, S>,
-    path: &str,
-    name: &str,
-) -> Result<(), TableFault>
-    ensures same_reference { tx.new.conn.ghost_name ≡ tx.old.conn.ghost_name }
-    ensures goes { GoesOn S.Store tx.old.conn.now tx.new.conn.now result }
-    ensures shows { LeadsKeeping S.Store tx.old.conn.now tx.new.conn.now result
-        (record {
-          IsFor = λ n v. item_at path.now v.items ≡ None;
-          renumber = λ n. n;
-          next = with_item_named path.now name.now;
-        }) }
-{
-    let path = path.to_sql();
-    let name = name.to_sql();
-    write_one(
-        tx,
-        "INSERT INTO item (path, name) VALUES (?1, ?2)",
-        &[path, name],
-    )
-}
-
-fn insert_since<S: Alter>(
-    tx: &mut Transaction<'_, S>,
-    path: &str,
-    since: u64,
-) -> Result<(), TableFault>
-    ensures same_reference { tx.new.conn.ghost_name ≡ tx.old.conn.ghost_name }
-    ensures goes { GoesOn S.Store tx.old.conn.now tx.new.conn.now result }
-    ensures shows { LeadsKeeping S.Store tx.old.conn.now tx.new.conn.now result
-        (record {
-          IsFor = λ n v. n.since path.now ≡ None;
-          renumber = with_number path.now since;
-          next = λ v. v;
-        }) }
-{
-    let path = path.to_sql();
-    let since = stored(since)?;
-    write_one(
-        tx,
-        "INSERT INTO item_since (path, since) VALUES (?1, ?2)",
-        &[path, since],
-    )
-}
 
 /// Adds an item at a path that has none, with the number of its change. The path is the text of a
 /// path, as `PC/8086/1237`; neither it nor the name is tested, and nor is whether the path's parent
@@ -102,52 +52,17 @@ pub fn add_item<S: Alter>(
     ensures shows { ChangesTo S.Store tx.old.conn.now tx.new.conn.now result
         (λ v. item_at path.now v.items ≡ None) (with_name since path.now name.now) }
 {
-    insert_item(tx, path, name)?;
-    insert_since(tx, path, since)
-}
-
-fn update_item<S: Alter>(
-    tx: &mut Transaction<'_, S>,
-    path: &str,
-    name: &str,
-) -> Result<(), TableFault>
-    ensures same_reference { tx.new.conn.ghost_name ≡ tx.old.conn.ghost_name }
-    ensures goes { GoesOn S.Store tx.old.conn.now tx.new.conn.now result }
-    ensures shows { LeadsKeeping S.Store tx.old.conn.now tx.new.conn.now result
-        (record {
-          IsFor = λ n v. IsSome (item_at path.now v.items);
-          renumber = λ n. n;
-          next = with_item_named path.now name.now;
-        }) }
-{
     let path = path.to_sql();
     let name = name.to_sql();
-    write_one(
-        tx,
-        "UPDATE item SET name = ?2 WHERE path = ?1",
-        &[path, name],
-    )
-}
-
-fn update_since<S: Alter>(
-    tx: &mut Transaction<'_, S>,
-    path: &str,
-    since: u64,
-) -> Result<(), TableFault>
-    ensures same_reference { tx.new.conn.ghost_name ≡ tx.old.conn.ghost_name }
-    ensures goes { GoesOn S.Store tx.old.conn.now tx.new.conn.now result }
-    ensures shows { LeadsKeeping S.Store tx.old.conn.now tx.new.conn.now result
-        (record {
-          IsFor = λ n v. IsSome (n.since path.now);
-          renumber = with_number path.now since;
-          next = λ v. v;
-        }) }
-{
-    let path = path.to_sql();
     let since = stored(since)?;
     write_one(
         tx,
-        "UPDATE item_since SET since = ?2 WHERE path = ?1",
+        "INSERT INTO item (path, name) VALUES (?1, ?2)",
+        &[path, name],
+    )?;
+    write_one(
+        tx,
+        "INSERT INTO item_since (path, since) VALUES (?1, ?2)",
         &[path, since],
     )
 }
@@ -168,8 +83,19 @@ pub fn rename_item<S: Alter>(
         × (has_name name.now (item_at path.now v.items) ≡ false))
         (with_name since path.now name.now) }
 {
-    update_item(tx, path, name)?;
-    update_since(tx, path, since)
+    let path = path.to_sql();
+    let name = name.to_sql();
+    let number = stored(since)?;
+    write_one(
+        tx,
+        "UPDATE item SET name = ?2 WHERE path = ?1",
+        &[path, name],
+    )?;
+    write_one(
+        tx,
+        "UPDATE item_since SET since = ?2 WHERE path = ?1",
+        &[path, number],
+    )
 }
 
 /// Takes the item of a path away, if there is one, with its number. Items below it stay.
@@ -220,10 +146,7 @@ pub struct Range {
 fn edge(alloc: Global, front: &[u8], rest: &[u8], last: u8) -> Result<Vec<u8>, AllocError>
     ensures { IfOk result (λ edge. edge.items ≡ (front.now ++ rest.now) ++ last ∷ []) }
 {
-    let mut edge = Vec::from_slice(alloc, front)?;
-    edge.extend_from_slice(rest)?;
-    edge.push(last)?;
-    Ok(edge)
+    [front, rest, &[last]].concat(alloc)
 }
 
 /// The paths that go on after the text of the two parts and a slash. Those below `PC/8086` are
@@ -246,46 +169,36 @@ pub fn range_of_generics(alloc: Global, vendor: Id16) -> Result<Range, AllocErro
     range_below(alloc, b"PS/", digits.as_slice())
 }
 
-fn range_rows<S: Alter>(
-    conn: &mut Connection<S>,
-    low: &[u8],
-    high: &[u8],
-) -> Result<Vec<Row>, TableFault>
-    requires { conn.old.in_transaction ≡ false }
-    ensures { Reads S.Store conn.old conn.new result
-        (λ v rows. AreViews v × IsFirstWithin low.now high.now v.items rows.items) }
-{
-    let low = ValueRef::Text(low);
-    let high = ValueRef::Text(high);
-    read_rows(
-        conn,
-        "SELECT path FROM item WHERE path > ?1 AND path < ?2 LIMIT 1",
-        &[low, high],
-    )
-}
-
+// Whether some item's path is in the range.
 fn any_within<S: Alter>(conn: &mut Connection<S>, range: &Range) -> Result<bool, TableFault>
     requires { conn.old.in_transaction ≡ false }
     ensures { Reads S.Store conn.old conn.new result (λ v some. AreViews v
         × (some ≡ holds_between range.now.low.items range.now.high.items v.items)) }
 {
-    let rows = range_rows(conn, range.low.as_slice(), range.high.as_slice())?;
+    let low = ValueRef::Text(range.low.as_slice());
+    let high = ValueRef::Text(range.high.as_slice());
+    let rows = read_rows(
+        conn,
+        "SELECT path FROM item WHERE path > ?1 AND path < ?2 LIMIT 1",
+        &[low, high],
+    )?;
     match rows.first() {
         Some(_) => Ok(true),
         None => Ok(false),
     }
 }
 
-// Whether an item's path goes on after the text and a slash.
+// Whether an item's path goes on after this one and a slash.
 fn any_below<S: Alter>(
     conn: &mut Connection<S>,
     alloc: Global,
-    text: &str,
+    path: Path,
 ) -> Result<bool, TableFault>
     requires { conn.old.in_transaction ≡ false }
     ensures { Reads S.Store conn.old conn.new result
-        (λ v some. AreViews v × (some ≡ holds_under text.now v.items)) }
+        (λ v some. AreViews v × (some ≡ holds_under (path_text path) v.items)) }
 {
+    let text = path.path_text(alloc)?;
     let range = range_below(alloc, b"", text.as_bytes())?;
     any_within(conn, &range)
 }
@@ -304,12 +217,6 @@ fn any_generic<S: Alter>(
     any_within(conn, &range)
 }
 
-fn either(one: bool, other: bool) -> bool
-    ensures { result ≡ (one || other) }
-{
-    one || other
-}
-
 /// Whether some item has the path as its parent. A generic subsystem counts for its vendor.
 pub fn has_children<S: Alter>(
     conn: &mut Connection<S>,
@@ -321,14 +228,12 @@ pub fn has_children<S: Alter>(
         (λ v some. AllItems v.items → HoldsParents v.items
         → some ≡ are_children (path_text path) v.items) }
 {
-    let text = path.path_text(alloc)?;
-    let below = any_below(conn, alloc, text.as_str())?;
+    if any_below(conn, alloc, path)? {
+        return Ok(true);
+    }
     match path {
-        Path::Vendor { vendor } => {
-            let generic = any_generic(conn, alloc, vendor)?;
-            Ok(either(below, generic))
-        }
-        _ => Ok(below),
+        Path::Vendor { vendor } => any_generic(conn, alloc, vendor),
+        _ => Ok(false),
     }
 }
 

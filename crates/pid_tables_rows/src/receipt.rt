@@ -18,41 +18,21 @@ use pid_moderation::Reply;
 use sqlite::types::ToSql;
 use sqlite::{Alter, Connection, Row, Transaction};
 
-fn kind(reply: Reply) -> u32
-    ensures { result ≡ reply_kind reply }
+// The kind of a reply and its numbers, 0 where it has none.
+fn numbers(reply: Reply) -> (u32, u32, u32, u32)
+    ensures kind { result.0 ≡ reply_kind reply }
+    ensures first { result.1 ≡ first_number reply }
+    ensures second { result.2 ≡ second_number reply }
+    ensures third { result.3 ≡ third_number reply }
 {
     match reply {
-        Reply::Done => 0,
-        Reply::Numbered(_) => 1,
-        Reply::Counts { .. } => 2,
-    }
-}
-
-fn first(reply: Reply) -> u32
-    ensures { result ≡ first_number reply }
-{
-    match reply {
-        Reply::Done => 0,
-        Reply::Numbered(number) => number,
-        Reply::Counts { added, .. } => added,
-    }
-}
-
-fn second(reply: Reply) -> u32
-    ensures { result ≡ second_number reply }
-{
-    match reply {
-        Reply::Done | Reply::Numbered(_) => 0,
-        Reply::Counts { renamed, .. } => renamed,
-    }
-}
-
-fn third(reply: Reply) -> u32
-    ensures { result ≡ third_number reply }
-{
-    match reply {
-        Reply::Done | Reply::Numbered(_) => 0,
-        Reply::Counts { same, .. } => same,
+        Reply::Done => (0, 0, 0, 0),
+        Reply::Numbered(number) => (1, number, 0, 0),
+        Reply::Counts {
+            added,
+            renamed,
+            same,
+        } => (2, added, renamed, same),
     }
 }
 
@@ -72,10 +52,11 @@ pub fn keep_reply<S: Alter>(
 {
     let account = account.as_str().to_sql();
     let key = key.as_str().to_sql();
-    let kind = kind(reply).to_sql();
-    let first = first(reply).to_sql();
-    let second = second(reply).to_sql();
-    let third = third(reply).to_sql();
+    let (kind, first, second, third) = numbers(reply);
+    let kind = kind.to_sql();
+    let first = first.to_sql();
+    let second = second.to_sql();
+    let third = third.to_sql();
     write_one(
         tx,
         "INSERT INTO receipt (account, token, kind, a, b, c) VALUES (?1, ?2, ?3, ?4, ?5, ?6)",

@@ -33,21 +33,14 @@ use sqlite::types::ToSql;
 use sqlite::{Alter, Connection, Row, Transaction};
 use std::alloc::Global;
 
-fn form(proposal: &Proposal) -> u32
-    ensures { result ≡ form_of proposal.now }
+// The form of a proposal and the name that it proposes.
+fn form_and_name(proposal: &Proposal) -> (u32, &str)
+    ensures form { result.0 ≡ form_of proposal.now }
+    ensures name { result.1.now ≡ name_of proposal.now }
 {
     match proposal {
-        Proposal::Name(_) => 0,
-        Proposal::Removal => 1,
-    }
-}
-
-fn proposed_name(proposal: &Proposal) -> &str
-    ensures { result.now ≡ name_of proposal.now }
-{
-    match proposal {
-        Proposal::Name(name) => name.as_str(),
-        Proposal::Removal => "",
+        Proposal::Name(name) => (0, name.as_str()),
+        Proposal::Removal => (1, ""),
     }
 }
 
@@ -75,8 +68,9 @@ fn insert_submission<'x, S: Alter>(
     let number = number.to_sql();
     let author = author.as_str().to_sql();
     let text = text.to_sql();
-    let form = form(proposal).to_sql();
-    let name = proposed_name(proposal).to_sql();
+    let (form, name) = form_and_name(proposal);
+    let form = form.to_sql();
+    let name = name.to_sql();
     let note = note.as_str().to_sql();
     write_one(
         tx,
@@ -113,33 +107,17 @@ pub fn add_submission<S: Alter>(
     insert_submission(tx, number, author, path, text.as_str(), proposal, note)
 }
 
-fn number_of(state: &State) -> u32
-    ensures { result ≡ state_number state.now }
+// The number of a state, who decided and for what reason.
+fn parts(state: &State) -> (u32, &str, &str)
+    ensures number { result.0 ≡ state_number state.now }
+    ensures decider { result.1.now ≡ decider_of [] state.now }
+    ensures reason { result.2.now ≡ reason_of state.now }
 {
     match state {
-        State::Pending => 0,
-        State::Approved { .. } => 1,
-        State::Rejected { .. } => 2,
-        State::Withdrawn => 3,
-    }
-}
-
-fn decider(state: &State) -> &str
-    ensures { result.now ≡ decider_of [] state.now }
-{
-    match state {
-        State::Approved { decider } => decider.as_str(),
-        State::Rejected { decider, .. } => decider.as_str(),
-        State::Pending | State::Withdrawn => "",
-    }
-}
-
-fn reason(state: &State) -> &str
-    ensures { result.now ≡ reason_of state.now }
-{
-    match state {
-        State::Rejected { reason, .. } => reason.as_str(),
-        State::Pending | State::Approved { .. } | State::Withdrawn => "",
+        State::Pending => (0, "", ""),
+        State::Approved { decider } => (1, decider.as_str(), ""),
+        State::Rejected { decider, reason } => (2, decider.as_str(), reason.as_str()),
+        State::Withdrawn => (3, "", ""),
     }
 }
 
@@ -156,9 +134,10 @@ fn set_state<S: Alter>(
         (with_state number state.now) }
 {
     let number = number.to_sql();
-    let told = number_of(state).to_sql();
-    let decider = decider(state).to_sql();
-    let reason = reason(state).to_sql();
+    let (told, decider, reason) = parts(state);
+    let told = told.to_sql();
+    let decider = decider.to_sql();
+    let reason = reason.to_sql();
     write_one(
         tx,
         "UPDATE submission SET state = ?2, decider = ?3, reason = ?4 WHERE num = ?1",

@@ -1,27 +1,30 @@
-use Rattle.std.proofs.Common.{List, ℕ, ap, not}
-use Rattle.std.specs.Prelude.{option_map}
-use Rattle.pid_moderation.specs.Items.{has_name}
 use Rattle.sqlite.specs.Held.{state}
+use Rattle.pid_tables_rows.specs.declared.version.Version.TheVariants.{Two}
 use Rattle.pid_tables_rows.specs.Faults.{IsMemoryOrStore}
-use Rattle.pid_tables_rows.specs.Shows.{numbers_in}
-use Rattle.pid_tables_rows.specs.Steps.Writes.{with_item_named}
+use Rattle.pid_tables_rows.specs.Schema.{pid_schema}
 use Rattle.pid_tables_rows.proofs.CauseLemmas.{passed_on}
 use Rattle.pid_tables_rows.proofs.GoingLemmas.{earlier}
-use Rattle.pid_tables_rows.proofs.WriteRows.{named_shows, then_shows}
+use Rattle.pid_tables_rows.proofs.KeyTexts.{insert_item_is, insert_since_is}
+use Rattle.pid_tables_rows.proofs.WriteFaults.{led, insert_writes}
+use Rattle.pid_tables_rows.proofs.WriteRows.{item_added, number_added}
 use Rattle.pid_tables_rows.proofs.item.add_item.Goals as goal
 
 pub returns-clause-shows : goal.returns-clause-shows
-returns-clause-shows g c clean inside counts v shows fits =
-    let mid = state g.S.Store c.insert_item.new.tx.conn.now in
-    let new = state g.S.Store c.insert_since.new.tx.conn.now in
-    let before = earlier mid new c.insert_since.ensures.goes.survives clean in
-    let first = c.in_ok-insert_item.ensures in
-    let path = c.args.path.now in
-    let name = c.args.name.now in
-    let written = first.shows before inside counts (numbers_in v) v shows fits in
-    then_shows c.insert_since.result (named_shows counts c.args.since path name v new.now (ap (λ o. not (has_name c.args.name.now o)) fits))
-    (c.insert_since.ensures.shows clean (first.goes.going before inside).1 counts (numbers_in v) (with_item_named path name v) written (ap (option_map (λ (name : List ℕ). v.since c.args.path.now)) fits))
+returns-clause-shows g c clean inside counts v shows none =
+    let old = state g.S.Store c.args.tx.now.conn.now in
+    let mid = state g.S.Store c.write_one.new.tx.conn.now in
+    let new = state g.S.Store c.write_one-2.new.tx.conn.now in
+    let before = earlier mid new c.write_one-2.ensures.goes.survives clean in
+    let first = c.in_ok-write_one.ensures in
+    let between = item_added old mid counts v shows c.args.path.now c.args.name.now none (rw (c.to_sql-path.ensures, c.to_sql-name.ensures) at (first.runs.ran before inside)) in
+    led c.write_one-2.result (number_added mid new counts v c.args.path.now c.args.name.now c.args.since between none)
+    (rw (c.to_sql-path.ensures, c.in_ok-since.ensures) at (c.write_one-2.ensures.runs.ran clean (first.goes.going before inside).1))
+    (c.write_one-2.ensures.runs.untold clean pid_schema (λ opened. between.schema) (insert_writes insert_since_is))
 
-pub returns-in_err-insert_item-clause-shows : goal.returns-in_err-insert_item-clause-shows
-returns-in_err-insert_item-clause-shows g c clean inside counts v shows fits =
-    passed_on c.from_residual.result _ _ IsMemoryOrStore c.from_residual.ensures.1 (c.in_err-insert_item.ensures.shows clean inside counts (numbers_in v) v shows fits)
+pub returns-in_err-since-clause-shows : goal.returns-in_err-since-clause-shows
+returns-in_err-since-clause-shows g c clean inside counts v shows none = passed_on c.from_residual.result _ _ IsMemoryOrStore c.from_residual.ensures.1 c.in_err-since.ensures
+
+pub returns-in_err-write_one-clause-shows : goal.returns-in_err-write_one-clause-shows
+returns-in_err-write_one-clause-shows g c clean inside counts v shows none =
+    passed_on c.from_residual-in_err-write_one.result _ _ IsMemoryOrStore c.from_residual-in_err-write_one.ensures.1
+    (c.in_err-write_one.ensures.runs.untold clean pid_schema (λ opened. shows.schema) (insert_writes (insert_item_is Two)))

@@ -1,32 +1,40 @@
-use Rattle.std.proofs.Common.{◌≡◌, ◌++◌, ◌∷◌, [], ap, subst, sym, ◌∙◌}
-use Rattle.std.specs.Prelude.{◌||◌}
-use Rattle.pid_file.specs.declared.path.Path.{Path}
-use Rattle.pid_file.specs.declared.path.Path.TheVariants.{Vendor}
+use Rattle.std.proofs.Common.{◌≡◌, ◌∙◌, sym}
+use Rattle.sqlite.specs.Held.{state}
 use Rattle.pid_ident.specs.PathTexts.{path_text}
 use Rattle.pid_moderation.specs.Items.{has_children}
-use Rattle.pid_tables_rows.specs.Steps.Ranges.{holds_between}
-use Rattle.pid_tables_rows.proofs.ChildLemmas.{vendor_children, other_children, is_no_vendor, generics_of}
-use Rattle.pid_tables_rows.proofs.OnlyReading.{reads_then}
+use Rattle.pid_moderation.specs.WellMade.{AllItems, HoldsParents}
+use Rattle.pid_tables_rows.specs.Shows.{AreViews}
+use Rattle.pid_tables_rows.specs.Steps.Ranges.{generics_from, holds_under}
+use Rattle.pid_tables_rows.proofs.ChildLemmas.{child_below, generic_children, other_children, is_no_vendor}
+use Rattle.pid_tables_rows.proofs.OnlyReading.{reads_then, told_then}
 use Rattle.pid_tables_rows.proofs.item.has_children.Goals as goal
+
+pub returns-then-branch : goal.returns-then-branch
+returns-then-branch g c = record {
+  rests = c.in_ok-any_below.ensures.rests;
+  told = λ clean v rest all parents.
+      let below = c.in_ok-any_below.ensures.told clean v rest in
+      sym (child_below v.items below.0.sorted all parents c.args.path (sym below.1 ∙ c.if-branch.true));
+}
 
 pub returns-in-Vendor : goal.returns-in-Vendor
 returns-in-Vendor g c = record {
-  rests = reads_then _ _ _ c.in_ok-below.ensures.rests c.in_ok-generic-in-Vendor.ensures.rests;
-  told = λ clean v rest all parents.
-      let second = c.in_ok-generic-in-Vendor.ensures in
-      let first = c.in_ok-below.ensures in
-      let one = rw (c.as_str.ensures.value, c.in_ok-text.ensures) at (first.told (second.rests.clean clean) v rest) in
-      let two = (second.told clean v (first.rests.kept v rest)).1 in
-      let vendor : c.args.path ≡ Vendor c.in-Vendor.vendor = c.in-Vendor.is in
-      c.either.ensures ∙ ap (λ b. b || c.in_ok-generic-in-Vendor.generic) one.1 ∙ ap (λ b. holds_between (path_text c.args.path ++ 47 ∷ []) (path_text c.args.path ++ 48 ∷ []) v.items || b) two
-      ∙ subst (λ (p : Path). (holds_between (path_text p ++ 47 ∷ []) (path_text p ++ 48 ∷ []) v.items || holds_between (generics_of (path_text (Vendor c.in-Vendor.vendor)) ++ 47 ∷ []) (generics_of (path_text (Vendor c.in-Vendor.vendor)) ++ 48 ∷ []) v.items) ≡ has_children (path_text p) v.items) (sym vendor)
-      (vendor_children v.items one.0.sorted all parents c.in-Vendor.vendor);
+  rests = reads_then _ _ _ c.in_ok-any_below.ensures.rests c.any_generic.ensures.rests;
+  told = λ clean v rest.
+      let first = c.in_ok-any_below.ensures in
+      let second = c.any_generic.ensures in
+      let below = first.told (second.rests.clean clean) v rest in
+      told_then (state g.S.Store c.args.conn.now) (state g.S.Store c.any_below.new.conn) (state g.S.Store c.any_generic.new.conn) v c.any_generic.result
+      (λ some. AreViews v × (some ≡ holds_under (generics_from c.in-Vendor.vendor) v.items)) (λ some. AllItems v.items → HoldsParents v.items → some ≡ has_children (path_text c.args.path) v.items)
+      first.rests second.rests clean
+      (λ some generic all parents. generic_children v.items below.0.sorted all parents c.args.path c.in-Vendor.vendor some c.in-Vendor.is (sym below.1 ∙ c.if-branch.false) generic.1)
+      (second.told clean v (first.rests.kept v rest));
 }
 
-pub returns : goal.returns
-returns g c = record {
-  rests = c.in_ok-below.ensures.rests;
+pub returns-in_default : goal.returns-in_default
+returns-in_default g c = record {
+  rests = c.in_ok-any_below.ensures.rests;
   told = λ clean v rest all parents.
-      let one = rw (c.as_str.ensures.value, c.in_ok-text.ensures) at (c.in_ok-below.ensures.told clean v rest) in
-      one.1 ∙ other_children v.items one.0.sorted all parents c.args.path (is_no_vendor c.args.path (λ a is. c.in_default.not-Vendor a is));
+      let below = c.in_ok-any_below.ensures.told clean v rest in
+      sym c.if-branch.false ∙ below.1 ∙ other_children v.items below.0.sorted all parents c.args.path (is_no_vendor c.args.path (λ a is. c.in_default.not-Vendor a is));
 }

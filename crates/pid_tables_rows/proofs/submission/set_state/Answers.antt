@@ -11,4 +11,4 @@ returns-clause-shows g c clean inside counts v shows fits =
     let old = state g.S.Store c.args.tx.now.conn.now in
     let new = state g.S.Store c.write_one.new.tx.conn.now in
     led c.write_one.result (submission_decided old new counts v shows c.args.number c.args.state.now fits.0 fits.1)
-    (rw (c.to_sql-number.ensures, c.to_sql-told.ensures, c.to_sql-decider.ensures, c.to_sql-reason.ensures, c.number_of.ensures, c.decider.ensures, c.reason.ensures) at (c.write_one.ensures.runs.ran clean inside)) (c.write_one.ensures.runs.untold clean pid_schema (λ opened. shows.schema) (update_writes (update_submission_is Two)))
+    (rw (c.to_sql-number.ensures, c.to_sql-told.ensures, c.to_sql-decider.ensures, c.to_sql-reason.ensures, c.parts-told.ensures.number, c.parts-told.ensures.decider, c.parts-told.ensures.reason) at (c.write_one.ensures.runs.ran clean inside)) (c.write_one.ensures.runs.untold clean pid_schema (λ opened. shows.schema) (update_writes (update_submission_is Two)))

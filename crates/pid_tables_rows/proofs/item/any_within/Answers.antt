@@ -1,0 +1,43 @@
+use Rattle.std.proofs.Common.{ap, ◌∙◌, slice_get}
+use Rattle.sqlite.specs.Held.{state}
+use Rattle.pid_tables_rows.specs.declared.version.Version.TheVariants.{Two}
+use Rattle.pid_tables_rows.specs.Causes.{IsCaused, IsReadable}
+use Rattle.pid_tables_rows.specs.Shows.{AreViews, counts_of}
+use Rattle.pid_tables_rows.specs.Steps.Answers.{IsFirstWithin}
+use Rattle.pid_tables_rows.proofs.CauseLemmas.{passed_on}
+use Rattle.pid_tables_rows.proofs.FindLemmas.{rows_at_rest}
+use Rattle.pid_tables_rows.proofs.QueryTexts.{between_query}
+use Rattle.pid_tables_rows.proofs.RangeLemmas.{select_between, between_found, row_within, none_within}
+use Rattle.pid_tables_rows.proofs.item.any_within.Goals as goal
+
+pub returns-in-Some : goal.returns-in-Some
+returns-in-Some g c = record {
+  rests = c.in_ok-rows.ensures.rests;
+  told = λ clean v rest.
+      let low = c.args.range.now.low.items in
+      let high = c.args.range.now.high.items in
+      let rows = c.in_ok-rows.rows.items in
+      let found = rows_at_rest g.S.Store c.args.conn.now v select_between _ rows (AreViews v × IsFirstWithin low high v.items rows) rest (λ mid shows h. (shows.views, between_found _ mid (counts_of v) v shows low high rows h))
+      (rw (c.as_slice.ensures.value, c.as_slice-2.ensures.value) at (c.in_ok-rows.ensures.shown clean)) in
+      (found.0, row_within low high v.items rows c.in-Some.field-0.now (c.in-Some.ensures.value ∙ ap (λ l. slice_get l 0) c.deref.ensures.value) found.1);
+}
+
+pub returns : goal.returns
+returns g c = record {
+  rests = c.in_ok-rows.ensures.rests;
+  told = λ clean v rest.
+      let low = c.args.range.now.low.items in
+      let high = c.args.range.now.high.items in
+      let rows = c.in_ok-rows.rows.items in
+      let found = rows_at_rest g.S.Store c.args.conn.now v select_between _ rows (AreViews v × IsFirstWithin low high v.items rows) rest (λ mid shows h. (shows.views, between_found _ mid (counts_of v) v shows low high rows h))
+      (rw (c.as_slice.ensures.value, c.as_slice-2.ensures.value) at (c.in_ok-rows.ensures.shown clean)) in
+      (found.0, none_within low high v.items rows (c.in-None.ensures.value ∙ ap (λ l. slice_get l 0) c.deref.ensures.value) found.1);
+}
+
+pub returns-in_err-rows : goal.returns-in_err-rows
+returns-in_err-rows g c = record {
+  rests = c.in_err-rows.ensures.rests;
+  told = λ clean v rest.
+      passed_on c.from_residual.result _ _ (λ fault. IsReadable v → IsCaused (state g.S.Store c.args.conn.now) (state g.S.Store c.read_rows.new.conn) fault) c.from_residual.ensures.1
+      (λ readable. c.in_err-rows.ensures.caused clean v rest (rw (c.as_slice.ensures.value, c.as_slice-2.ensures.value) (between_query Two c.args.range.now.low.items c.args.range.now.high.items)));
+}
