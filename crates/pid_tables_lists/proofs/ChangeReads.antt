@@ -1,5 +1,5 @@
 -- Rows of changes that can be read.
-use Rattle.std.proofs.Common.{◌≡◌, Some, ap, ◌∙◌}
+use Rattle.std.proofs.Common.{◌≡◌, ℕ, List, None, Some, ap, sym, ◌∙◌}
 use Rattle.std.specs.Str.{is_utf8}
 use Rattle.sqlite.specs.declared.types.Value.{Value}
 use Rattle.sqlite.specs.declared.types.Value.TheVariants.{Text}
@@ -13,6 +13,8 @@ use Rattle.pid_tables_rows.specs.Steps.Unread.{IsPathText, IsWord}
 use Rattle.pid_tables_rows.proofs.RangeLemmas.{found_in}
 use Rattle.pid_tables_rows.proofs.ReadBack.{among}
 use Rattle.pid_tables_rows.proofs.UnreadLemmas.{path_utf8}
+use Rattle.pid_tables_rows.proofs.DecodeLemmas.{number_same}
+use Rattle.pid_tables_rows.specs.TableRows.{number}
 use Rattle.pid_moderation.specs.ChangePages.{Changed}
 use Rattle.pid_tables_lists.specs.Steps.ChangeRows.{since_shown}
 
@@ -28,3 +30,22 @@ module _ (v : Views) (item : Changed) (row : Row) (named : name_at item.path v.i
 
   pub since_written : IsWholeNumber (column row 1)
   since_written = (item.since, ap (λ r. column r 1) is)
+
+  path_is : (path : List ℕ) → column row 0 ≡ Text path → path ≡ item.path
+  path_is path at = let same : Text path ≡ Text item.path = sym at ∙ ap (λ r. column r 0) is in cc
+
+  since_is : (since : ℕ) → column row 1 ≡ number since → since ≡ item.since
+  since_is since at = number_same since item.since (sym at ∙ ap (λ r. column r 1) is)
+
+  -- what is read of the row, with the name at its path, is the change
+  pub change_read : (path : List ℕ) (since : ℕ) (name : List ℕ) → column row 0 ≡ Text path → column row 1 ≡ number since → Some name ≡ name_at path v.items → record { path = path; name = name; since = since } ≡ item
+  change_read path since name at_path at_since found =
+      let same_path = path_is path at_path in
+      let both : Some name ≡ Some item.name = found ∙ ap (λ p. name_at p v.items) same_path ∙ named in
+      let same_name : name ≡ item.name = cc in
+      let same_since = since_is since at_since in
+      λ i. record { path = same_path i; name = same_name i; since = same_since i }
+
+  -- there is an item at its path
+  pub change_there : (path : List ℕ) → column row 0 ≡ Text path → None ≡ name_at path v.items → ⊥
+  change_there path at_path found = let both : None ≡ Some item.name = found ∙ ap (λ p. name_at p v.items) (path_is path at_path) ∙ named in cc

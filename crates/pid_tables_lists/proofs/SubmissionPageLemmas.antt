@@ -8,7 +8,10 @@ use Rattle.std.proofs.lemmas.List.{drop-map, length-map, length-take-le, reverse
 use Rattle.std.proofs.lemmas.Option.{slice_get_within}
 use Rattle.sqlite_trees.proofs.ListLemmas.{filter-map}
 use Rattle.sqlite_rules.specs.Lists.{Has}
+use Rattle.pid_file.specs.declared.path.Path.{Path}
+use Rattle.pid_file.specs.declared.path.Path.TheVariants.{Vendor, Device, Subsystem, Class, Subclass, ProgIf, Generic}
 use Rattle.pid_ident.specs.PathTexts.{path_text}
+use Rattle.pid_moderation.specs.ChangePages.{start_text}
 use Rattle.pid_moderation.specs.Views.{Views}
 use Rattle.pid_moderation.specs.Submissions.{Standing}
 use Rattle.pid_moderation.specs.PendingPages.{standings_from}
@@ -27,6 +30,20 @@ use Rattle.pid_tables_lists.proofs.SubmissionLists.{latest_there}
 any_is : (wanted : Option (List ℕ)) (asked text : List ℕ) → StandsFor wanted asked → is_any_or asked text ≡ is_wanted wanted text
 any_is None asked text is = ap (λ t. bytes_eq t [] || bytes_eq text t) is
 any_is (Some wanted) asked text is = ap (λ t. bytes_eq t [] || bytes_eq text t) is.0 ∙ ap (λ b. b || bytes_eq text wanted) is.1
+
+no_empty_text : (p : Path) → bytes_eq (path_text p) [] ≡ false
+no_empty_text (Vendor v) = refl
+no_empty_text (Device v d) = refl
+no_empty_text (Subsystem v d s e) = refl
+no_empty_text (Class c) = refl
+no_empty_text (Subclass c s) = refl
+no_empty_text (ProgIf c s p) = refl
+no_empty_text (Generic v d) = refl
+
+-- the text of a path, or the empty one
+pub path_stands : (wanted : Option Path) (text : List ℕ) → text ≡ start_text wanted → StandsFor (option_map path_text wanted) text
+path_stands None text is = is
+path_stands (Some p) text is = (is, no_empty_text p)
 
 -- ---- the last number that is looked at
 

@@ -8,12 +8,9 @@ ghost use Rattle.std.specs.Prelude.{
   length,
   map,
   Some,
-  IfOk,
-  string_bytes,
 };
 ghost use Rattle.std.specs.Option.{option_copied};
 ghost use Rattle.sqlite_value.specs.Value.{owned};
-ghost use Rattle.pid_ident.specs.PathTexts.{path_text};
 ghost use Rattle.pid_tables_rows.specs.Clauses.{OnlyReads, Reads};
 ghost use Rattle.pid_tables_lists.specs.Steps.Clauses.{TellsOf};
 ghost use Rattle.pid_tables_lists.specs.Steps.Adding.{Adds};
@@ -30,13 +27,13 @@ ghost use Rattle.pid_moderation.specs.ChangePages.{
 ghost use Rattle.pid_tables_lists.specs.Pages.{most_listed};
 ghost use Rattle.pid_tables_lists.specs.Steps.ChangeRows.{
   AreChangesIn,
-  IsChangeAt,
   IsChangeIn,
   held as held_number,
 };
 
-use crate::names::name_of;
-use pid_ident::{Path, PathText};
+use crate::adding::put_last;
+use crate::names::{name_of, text_or_empty};
+use pid_ident::Path;
 use pid_moderation::{ChangedItem, Changes, PAGE};
 use pid_tables_rows::TableFault;
 use pid_tables_rows::meta::revision;
@@ -44,7 +41,7 @@ use pid_tables_rows::run::read_rows;
 use pid_tables_rows::value::{path_at, whole_at};
 use sqlite::types::{ToSql, ValueRef};
 use sqlite::{Alter, Connection, Row};
-use std::alloc::{AllocError, Global};
+use std::alloc::Global;
 
 // A number as a query asks for it: for one that SQLite does not hold, the greatest that it holds.
 fn held<'a>(whole: u64) -> ValueRef<'a>
@@ -56,59 +53,7 @@ fn held<'a>(whole: u64) -> ValueRef<'a>
     }
 }
 
-fn change_rows<S: Alter>(
-    conn: &mut Connection<S>,
-    since: u64,
-    after: &str,
-) -> Result<Vec<Row>, TableFault>
-    requires { conn.old.in_transaction ≡ false }
-    ensures { Reads S.Store conn.old conn.new result
-        (λ v rows. AreChangesIn v (changes_in PAGE (held_number since) after.now v).items
-        rows.items) }
-{
-    let after = after.to_sql();
-    let since = held(since);
-    read_rows(
-        conn,
-        "SELECT path, since FROM item_since WHERE path > ?1 AND since > ?2 ORDER BY path LIMIT 100",
-        &[after, since],
-    )
-}
-
-// The item at a path that has one, with its number.
-fn named<S: Alter>(
-    conn: &mut Connection<S>,
-    alloc: Global,
-    path: Path,
-    since: u64,
-) -> Result<ChangedItem, TableFault>
-    requires { conn.old.in_transaction ≡ false }
-    ensures rests { OnlyReads S.Store conn.old conn.new }
-    ensures told { TellsOf S.Store conn.old conn.new result
-        (λ v item. IsChangeAt v item (path_text path) since) (λ item told. changed_of told ≡ item) }
-{
-    match name_of(conn, alloc, path)? {
-        Some(name) => Ok(ChangedItem { path, name, since }),
-        None => Err(TableFault::Damaged),
-    }
-}
-
-// The item of a row.
-fn changed_at<S: Alter>(
-    conn: &mut Connection<S>,
-    alloc: Global,
-    row: &Row,
-) -> Result<ChangedItem, TableFault>
-    requires { conn.old.in_transaction ≡ false }
-    ensures rests { OnlyReads S.Store conn.old conn.new }
-    ensures told { TellsOf S.Store conn.old conn.new result
-        (λ v item. IsChangeIn v item row.now) (λ item told. changed_of told ≡ item) }
-{
-    let path = path_at(row, 0)?;
-    let since = whole_at(row, 1)?;
-    named(conn, alloc, path, since)
-}
-
+// Adds the item of a row, which has its path and the number of its last change.
 fn add_changed<S: Alter>(
     items: &mut Vec<ChangedItem>,
     conn: &mut Connection<S>,
@@ -121,10 +66,11 @@ fn add_changed<S: Alter>(
         (λ v item. IsChangeIn v item row.now)
         (λ item _. Adds changed_of items.old.items items.new.items (item ∷ [])) }
 {
-    let item = changed_at(conn, alloc, row)?;
-    match items.push(item) {
-        Ok(()) => Ok(()),
-        Err(_) => Err(TableFault::Memory),
+    let path = path_at(row, 0)?;
+    let since = whole_at(row, 1)?;
+    match name_of(conn, alloc, path)? {
+        Some(name) => put_last(items, ChangedItem { path, name, since }),
+        None => Err(TableFault::Damaged),
     }
 }
 
@@ -147,16 +93,6 @@ fn changed_items<S: Alter>(
     Ok(items)
 }
 
-// The text after which a page begins.
-fn start_of(alloc: Global, after: Option<&Path>) -> Result<String, AllocError>
-    ensures { IfOk result (λ text. string_bytes text ≡ start_text (option_copied after.entry)) }
-{
-    match after {
-        Some(path) => path.path_text(alloc),
-        None => Ok(String::new(alloc)),
-    }
-}
-
 // The items of a page, which begins after the path.
 fn items_after<S: Alter>(
     conn: &mut Connection<S>,
@@ -168,8 +104,14 @@ fn items_after<S: Alter>(
     ensures { Reads S.Store conn.old conn.new result (λ v items. map changed_of items.items
         ≡ (changes_in PAGE (held_number since) (start_text (option_copied after.entry)) v).items) }
 {
-    let start = start_of(alloc, after)?;
-    let rows = change_rows(conn, since, start.as_str())?;
+    let start = text_or_empty(alloc, after)?;
+    let after = start.as_str().to_sql();
+    let since = held(since);
+    let rows = read_rows(
+        conn,
+        "SELECT path, since FROM item_since WHERE path > ?1 AND since > ?2 ORDER BY path LIMIT 100",
+        &[after, since],
+    )?;
     changed_items(conn, alloc, rows.as_slice())
 }
 

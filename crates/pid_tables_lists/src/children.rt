@@ -40,24 +40,6 @@ use sqlite::types::ValueRef;
 use sqlite::{Alter, Connection, Row};
 use std::alloc::Global;
 
-fn range_rows<S: Alter>(
-    conn: &mut Connection<S>,
-    low: &[u8],
-    high: &[u8],
-) -> Result<Vec<Row>, TableFault>
-    requires { conn.old.in_transaction ≡ false }
-    ensures { Reads S.Store conn.old conn.new result (λ v rows. AreViews v
-        × (rows.items ≡ map item_shown (between low.now high.now v.items))) }
-{
-    let low = ValueRef::Text(low);
-    let high = ValueRef::Text(high);
-    read_rows(
-        conn,
-        "SELECT path, name FROM item WHERE path > ?1 AND path < ?2 ORDER BY path",
-        &[low, high],
-    )
-}
-
 fn is_child(item: Path, path: Path) -> bool
     ensures { result ≡ is_parent (path_text path) (parent_text (path_text item)) }
 {
@@ -110,7 +92,13 @@ fn add_range<S: Alter>(
         × Adds pair_of kept.old.items kept.new.items
         (children_among path (between range.now.low.items range.now.high.items v.items))) }
 {
-    let rows = range_rows(conn, range.low.as_slice(), range.high.as_slice())?;
+    let low = ValueRef::Text(range.low.as_slice());
+    let high = ValueRef::Text(range.high.as_slice());
+    let rows = read_rows(
+        conn,
+        "SELECT path, name FROM item WHERE path > ?1 AND path < ?2 ORDER BY path",
+        &[low, high],
+    )?;
     add_children(kept, rows.as_slice(), alloc, path)
 }
 

@@ -1,6 +1,8 @@
-//! Names by the paths of their items.
-ghost use Rattle.std.specs.Prelude.{◌≡◌, false};
+//! Names by the paths of their items, and the texts of paths.
+ghost use Rattle.std.specs.Prelude.{◌≡◌, false, string_bytes, IfOk};
+ghost use Rattle.std.specs.Option.{option_copied};
 ghost use Rattle.pid_ident.specs.PathTexts.{path_text};
+ghost use Rattle.pid_moderation.specs.ChangePages.{start_text};
 ghost use Rattle.pid_moderation.specs.Items.{name_at};
 ghost use Rattle.pid_tables_rows.specs.Clauses.{Reads};
 
@@ -8,7 +10,7 @@ use pid_ident::{Name, Path, PathText};
 use pid_tables_rows::TableFault;
 use pid_tables_rows::item::item_name;
 use sqlite::{Alter, Connection};
-use std::alloc::Global;
+use std::alloc::{AllocError, Global};
 
 // The name of the item at a path, or none if the path has no item.
 pub(crate) fn name_of<S: Alter>(
@@ -22,4 +24,14 @@ pub(crate) fn name_of<S: Alter>(
 {
     let text = path.path_text(alloc)?;
     item_name(conn, alloc, text.as_str())
+}
+
+// The text of a path, or the empty one.
+pub(crate) fn text_or_empty(alloc: Global, path: Option<&Path>) -> Result<String, AllocError>
+    ensures { IfOk result (λ text. string_bytes text ≡ start_text (option_copied path.entry)) }
+{
+    match path {
+        Some(path) => path.path_text(alloc),
+        None => Ok(String::new(alloc)),
+    }
 }

@@ -36,20 +36,6 @@ use sqlite::types::ToSql;
 use sqlite::{Alter, Connection, Row};
 use std::alloc::Global;
 
-fn pending_rows<S: Alter>(conn: &mut Connection<S>, after: u32) -> Result<Vec<Row>, TableFault>
-    requires { conn.old.in_transaction ≡ false }
-    ensures { Reads S.Store conn.old conn.new result
-        (λ v rows. ArePendingIn v (pending_in PAGE after v) rows.items) }
-{
-    let after = after.to_sql();
-    read_rows(
-        conn,
-        "SELECT author, path, form, name, note, state, decider, reason, num FROM submission \
-            WHERE state = 0 AND num > ?1 ORDER BY num LIMIT 100",
-        &[after],
-    )
-}
-
 fn add_pending(page: &mut Vec<Pending>, row: &Row, alloc: Global) -> Result<(), TableFault>
     ensures { (v : Views) (s : ℕ × Standing) → IsPendingIn v s row.now → MatchResult result
         (λ _. Adds told_of page.old.items page.new.items (s ∷ []))
@@ -87,7 +73,13 @@ pub fn pending_page<S: Alter>(
     ensures most_listed { Reads S.Store conn.old conn.new result
         (λ v page. length page.items ≡ most_listed (length (waiting_above after v))) }
 {
-    let rows = pending_rows(conn, after)?;
+    let after = after.to_sql();
+    let rows = read_rows(
+        conn,
+        "SELECT author, path, form, name, note, state, decider, reason, num FROM submission \
+            WHERE state = 0 AND num > ?1 ORDER BY num LIMIT 100",
+        &[after],
+    )?;
     page_of(rows.as_slice(), alloc)
 }
 

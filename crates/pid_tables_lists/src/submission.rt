@@ -4,17 +4,13 @@ ghost use Rattle.std.specs.List.{AllByRecursion};
 ghost use Rattle.pid_moderation.specs.Views.{Remark};
 ghost use Rattle.pid_tables_rows.specs.Steps.Answers.{remark_shown};
 ghost use Rattle.pid_tables_rows.specs.Causes.{IsReadableRemark};
-ghost use Rattle.pid_moderation.specs.Submissions.{
-  remark_of,
-  discussion_in,
-  discussion_of,
-  standing_of,
-};
+ghost use Rattle.pid_moderation.specs.Submissions.{remark_of, discussion_in, discussion_of};
 ghost use Rattle.pid_tables_rows.specs.Unread.{IsUnreadable};
 ghost use Rattle.pid_tables_rows.specs.Clauses.{Reads};
 ghost use Rattle.pid_tables_lists.specs.Steps.Adding.{Adds};
 
-use pid_moderation::{Comment, Discussion, Submission};
+use crate::adding::put_last;
+use pid_moderation::{Comment, Discussion};
 use pid_tables_rows::TableFault;
 use pid_tables_rows::remark::comment_of;
 use pid_tables_rows::run::read_rows;
@@ -23,29 +19,13 @@ use sqlite::types::ToSql;
 use sqlite::{Alter, Connection, Row};
 use std::alloc::Global;
 
-fn remark_rows<S: Alter>(conn: &mut Connection<S>, number: u32) -> Result<Vec<Row>, TableFault>
-    requires { conn.old.in_transaction ≡ false }
-    ensures { Reads S.Store conn.old conn.new result
-        (λ v rows. rows.items ≡ map remark_shown (v.remarks number)) }
-{
-    let number = number.to_sql();
-    read_rows(
-        conn,
-        "SELECT author, body FROM remark WHERE num = ?1 ORDER BY seq",
-        &[number],
-    )
-}
-
 fn add_comment(comments: &mut Vec<Comment>, row: &Row, alloc: Global) -> Result<(), TableFault>
     ensures { (remark : Remark) → row.now ≡ remark_shown remark
         → MatchResult result (λ _. Adds remark_of comments.old.items comments.new.items
         (remark ∷ [])) (IsUnreadable (IsReadableRemark remark)) }
 {
     let comment = comment_of(row, alloc)?;
-    match comments.push(comment) {
-        Ok(()) => Ok(()),
-        Err(_) => Err(TableFault::Memory),
-    }
+    put_last(comments, comment)
 }
 
 fn comments_of(rows: &[Row], alloc: Global) -> Result<Vec<Comment>, TableFault>
@@ -69,22 +49,13 @@ fn comments<S: Alter>(
     ensures { Reads S.Store conn.old conn.new result
         (λ v comments. map remark_of comments.items ≡ v.remarks number) }
 {
-    let rows = remark_rows(conn, number)?;
+    let number = number.to_sql();
+    let rows = read_rows(
+        conn,
+        "SELECT author, body FROM remark WHERE num = ?1 ORDER BY seq",
+        &[number],
+    )?;
     comments_of(rows.as_slice(), alloc)
-}
-
-// A submission, if there is one, and the remarks on it.
-fn discussion(submission: Option<Submission>, remarks: Vec<Comment>) -> Option<Discussion>
-    ensures { option_map discussion_of result
-        ≡ option_map (λ s. (s, map remark_of remarks.items)) (option_map standing_of submission) }
-{
-    match submission {
-        Some(submission) => Some(Discussion {
-            submission,
-            remarks,
-        }),
-        None => None,
-    }
 }
 
 /// The submission with the number, as it stands, and the remarks on it in their order. None if
@@ -98,7 +69,12 @@ pub fn submission_with_remarks<S: Alter>(
     ensures { Reads S.Store conn.old conn.new result
         (λ v d. option_map discussion_of d ≡ discussion_in v number) }
 {
-    let submission = standing(conn, alloc, number)?;
     let remarks = comments(conn, alloc, number)?;
-    Ok(discussion(submission, remarks))
+    match standing(conn, alloc, number)? {
+        Some(submission) => Ok(Some(Discussion {
+            submission,
+            remarks,
+        })),
+        None => Ok(None),
+    }
 }

@@ -1,5 +1,5 @@
 //! Pages of the submissions for a path or of an author, the latest first.
-ghost use Rattle.std.specs.Prelude.{◌≡◌, false, map, option_map, string_bytes, IfOk};
+ghost use Rattle.std.specs.Prelude.{◌≡◌, false, map, option_map};
 ghost use Rattle.std.specs.Option.{option_copied};
 ghost use Rattle.pid_ident.specs.PathTexts.{path_text};
 ghost use Rattle.pid_moderation.specs.SubmissionPages.{
@@ -24,7 +24,8 @@ ghost use Rattle.pid_tables_lists.specs.Steps.SubmissionRows.{
 };
 
 use crate::adding::put_last;
-use pid_ident::{Account, Path, PathText};
+use crate::names::text_or_empty;
+use pid_ident::{Account, Path};
 use pid_moderation::{Listed, PAGE, SEARCHED, SubmissionPage};
 use pid_tables_rows::TableFault;
 use pid_tables_rows::meta::submissions;
@@ -34,7 +35,7 @@ use pid_tables_rows::submission::standing;
 use pid_tables_rows::value::number_at;
 use sqlite::types::ToSql;
 use sqlite::{Alter, Connection, Row};
-use std::alloc::{AllocError, Global};
+use std::alloc::Global;
 
 // The numbers above `low` and up to `last` of the submissions for a path and of an author, the
 // latest first, at most a page of them. The empty text stands for every path or author.
@@ -176,17 +177,6 @@ fn page_by_texts<'x, S: Alter>(
     })
 }
 
-// The text of a path, or the empty one.
-fn path_or_any(alloc: Global, path: Option<&Path>) -> Result<String, AllocError>
-    ensures { IfOk result (λ text. StandsFor (option_map path_text (option_copied path.entry))
-        (string_bytes text)) }
-{
-    match path {
-        Some(path) => path.path_text(alloc),
-        None => Ok(String::new(alloc)),
-    }
-}
-
 // The text of an account, or the empty one.
 fn author_or_any(author: Option<&Account>) -> &str
     ensures { StandsFor (option_copied author.entry) result.now }
@@ -216,6 +206,6 @@ pub fn submissions_page<S: Alter>(
           before = before;
         }) v) }
 {
-    let path = path_or_any(alloc, path)?;
+    let path = text_or_empty(alloc, path)?;
     page_by_texts(conn, alloc, path.as_str(), author_or_any(author), before)
 }

@@ -24,11 +24,6 @@ AreChangesIn v all rows = AreNamed v all × (rows ≡ map since_shown all)
 abbrev pub IsChangeIn : Views → Changed → Row → Type 0
 IsChangeIn v item row = (name_at item.path v.items ≡ Some item.name) × (row ≡ since_shown item)
 
--- its name is in the views, and these are its path and its number
-abbrev pub IsChangeAt : Views → Changed → List ℕ → ℕ → Type 0
-IsChangeAt v item path since = (name_at item.path v.items ≡ Some item.name) × (path ≡ item.path)
-    × (since ≡ item.since)
-
 -- a number as a query asks for it: in place of greater ones the greatest that SQLite holds
 abbrev pub held : ℕ → ℕ
 held number = min number 9223372036854775807

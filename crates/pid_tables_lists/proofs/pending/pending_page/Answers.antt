@@ -1,8 +1,13 @@
-use Rattle.std.proofs.Common.{◌∙◌, ap, sym, length, length-take}
+use Rattle.std.proofs.Common.{◌∙◌, Ok, ap, sym, refl, length, length-take}
 use Rattle.std.proofs.lemmas.List.{length-map}
 use Rattle.sqlite.specs.Held.{state}
 use Rattle.pid_moderation.specs.PendingPages.{pending_in, told_of, waiting_above}
-use Rattle.pid_tables_lists.proofs.PendingLists.{all_readable}
+use Rattle.pid_tables_rows.specs.Causes.{IsCaused, IsReadable}
+use Rattle.pid_tables_rows.specs.Shows.{counts_of}
+use Rattle.pid_tables_rows.proofs.CauseLemmas.{passed_on}
+use Rattle.pid_tables_rows.proofs.FindLemmas.{at_rest}
+use Rattle.pid_tables_lists.specs.Steps.PendingRows.{ArePendingIn}
+use Rattle.pid_tables_lists.proofs.PendingLists.{all_readable, select_page, page_found, page_in, page_query}
 use Rattle.pid_tables_lists.proofs.RowLists.{read_or_caused}
 use Rattle.pid_tables_lists.proofs.pending.pending_page.Goals as goal
 
@@ -10,9 +15,12 @@ pub returns-clause-page : goal.returns-clause-page
 returns-clause-page g c = record {
   rests = c.in_ok-rows.ensures.rests;
   told = λ clean v rest.
-      let found = c.in_ok-rows.ensures.told clean v rest in
+      let old = state g.S.Store c.args.conn.now in
+      let new = state g.S.Store c.read_rows.new.conn in
       let all = pending_in 100 c.args.after v in
-      read_or_caused (state g.S.Store c.args.conn.now) (state g.S.Store c.pending_rows.new.conn) v c.page_of.result _ _ (λ readable. all_readable v all readable found.1) (λ x h. h)
+      let found = at_rest g.S.Store c.args.conn.now new v select_page _ (Ok c.in_ok-rows.rows) (λ rows. rows.items) (λ rows. ArePendingIn v all rows.items) rest
+      (λ mid rows shows h. (shows.views, page_in v c.args.after 100, page_found _ (counts_of v) v shows c.args.after _ mid refl rows.items h)) (rw c.to_sql-after.ensures at (c.in_ok-rows.ensures.shown clean)) tt in
+      read_or_caused old new v c.page_of.result _ _ (λ readable. all_readable v all readable found.1) (λ x h. h)
       (c.page_of.ensures v all (found.0, found.1, c.as_slice.ensures.value ∙ found.2));
 }
 
@@ -20,9 +28,28 @@ pub returns-clause-most_listed : goal.returns-clause-most_listed
 returns-clause-most_listed g c = record {
   rests = c.in_ok-rows.ensures.rests;
   told = λ clean v rest.
-      let found = c.in_ok-rows.ensures.told clean v rest in
+      let old = state g.S.Store c.args.conn.now in
+      let new = state g.S.Store c.read_rows.new.conn in
       let all = pending_in 100 c.args.after v in
-      read_or_caused (state g.S.Store c.args.conn.now) (state g.S.Store c.pending_rows.new.conn) v c.page_of.result _ _ (λ readable. all_readable v all readable found.1)
+      let found = at_rest g.S.Store c.args.conn.now new v select_page _ (Ok c.in_ok-rows.rows) (λ rows. rows.items) (λ rows. ArePendingIn v all rows.items) rest
+      (λ mid rows shows h. (shows.views, page_in v c.args.after 100, page_found _ (counts_of v) v shows c.args.after _ mid refl rows.items h)) (rw c.to_sql-after.ensures at (c.in_ok-rows.ensures.shown clean)) tt in
+      read_or_caused old new v c.page_of.result _ _ (λ readable. all_readable v all readable found.1)
       (λ page h. sym (length-map page.items told_of) ∙ ap length h ∙ length-take 100 (waiting_above c.args.after v))
       (c.page_of.ensures v all (found.0, found.1, c.as_slice.ensures.value ∙ found.2));
+}
+
+pub returns-in_err-rows-clause-page : goal.returns-in_err-rows-clause-page
+returns-in_err-rows-clause-page g c = record {
+  rests = c.in_err-rows.ensures.rests;
+  told = λ clean v rest.
+      passed_on c.from_residual.result _ _ (λ fault. IsReadable v → IsCaused (state g.S.Store c.args.conn.now) (state g.S.Store c.read_rows.new.conn) fault) c.from_residual.ensures.1
+      (λ readable. (rw c.to_sql-after.ensures at (c.in_err-rows.ensures.caused clean v rest)) (page_query c.args.after));
+}
+
+pub returns-in_err-rows-clause-most_listed : goal.returns-in_err-rows-clause-most_listed
+returns-in_err-rows-clause-most_listed g c = record {
+  rests = c.in_err-rows.ensures.rests;
+  told = λ clean v rest.
+      passed_on c.from_residual.result _ _ (λ fault. IsReadable v → IsCaused (state g.S.Store c.args.conn.now) (state g.S.Store c.read_rows.new.conn) fault) c.from_residual.ensures.1
+      (λ readable. (rw c.to_sql-after.ensures at (c.in_err-rows.ensures.caused clean v rest)) (page_query c.args.after));
 }

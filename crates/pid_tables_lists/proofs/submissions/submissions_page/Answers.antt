@@ -1,10 +1,8 @@
-use Rattle.std.proofs.Common.{refl, subst, sym}
-use Rattle.std.specs.Prelude.{option_map}
+use Rattle.std.proofs.Common.{refl, ◌∙◌}
 use Rattle.std.specs.Option.{option_copied}
-use Rattle.pid_ident.specs.PathTexts.{path_text}
 use Rattle.pid_moderation.specs.SubmissionPages.{Search}
-use Rattle.pid_tables_lists.specs.Steps.SubmissionRows.{StandsFor}
 use Rattle.pid_tables_lists.proofs.NumberLemmas.{told_less}
+use Rattle.pid_tables_lists.proofs.SubmissionPageLemmas.{path_stands}
 use Rattle.pid_tables_lists.proofs.submissions.submissions_page.Goals as goal
 
 pub returns : goal.returns
@@ -13,5 +11,5 @@ returns g c = record {
   told = λ clean v rest.
       let search : Search = record { path = option_copied c.args.path; author = option_copied c.args.author; before = c.args.before } in
       told_less c.page_by_texts.result _ _ _ (c.page_by_texts.ensures.told clean v rest)
-      (λ page says. says search (subst (StandsFor (option_map path_text search.path)) (sym c.as_str.ensures.value) c.in_ok-path.ensures) c.author_or_any.ensures refl);
+      (λ page says. says search (path_stands search.path c.as_str.result.now (c.as_str.ensures.value ∙ c.in_ok-path.ensures)) c.author_or_any.ensures refl);
 }
