@@ -1,4 +1,5 @@
-use Rattle.std.proofs.Common.{◌∷◌, ◌++◌, [], Some, ap, sym, ◌∙◌, filter, map, take, append_assoc}
+use Rattle.std.proofs.Common.{◌∷◌, ◌++◌, [], Some, ap, sym, ◌∙◌, filter, map, take, take_all, append_assoc, append-nil, length, arith}
+use Rattle.std.proofs.lemmas.List.{length-map}
 use Rattle.std.proofs.lemmas.List.Elements.{filter-append}
 use Rattle.pid_ident.specs.PathTexts.{path_text}
 use Rattle.pid_tables_rows.specs.Steps.Answers.{item_shown}
@@ -25,3 +26,12 @@ returns-in_err-add_child c items is =
     let next = next_of item_shown items c.args.rows.now c.loop-row.row-index c.row-item.result is c.loop-row-test.true in
     passed_on c.from_residual.result _ _ (IsUnreadable (AllItems items)) c.from_residual.ensures.1
     (unread_more c.in_err-add_child.field-0.0 (λ all. among items next.it all next.there) (c.in_err-add_child.ensures next.it (c.row-item.is ∙ next.is)))
+
+pub loop-row-init : goal.loop-row-init
+loop-row-init c items is = sym (append-nil (map pair_of c.args.kept.now.items))
+
+pub returns : goal.returns
+returns c items is =
+    c.loop-row.invariant items is
+    ∙ ap (λ l. map pair_of c.args.kept.now.items ++ filter (λ e. stands_below (Some (path_text c.args.path)) e.0) l)
+    (take_all c.loop-row.row-index items (let done = c.loop-row-test.false in let long = ap length is ∙ length-map items item_shown in omega (arith, done, long)))

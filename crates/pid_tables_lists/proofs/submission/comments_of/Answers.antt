@@ -1,4 +1,5 @@
-use Rattle.std.proofs.Common.{◌∷◌, ◌++◌, [], ap, sym, ◌∙◌}
+use Rattle.std.proofs.Common.{◌∷◌, ◌++◌, [], ap, sym, ◌∙◌, take_all, length, arith}
+use Rattle.std.proofs.lemmas.List.{length-map}
 use Rattle.std.specs.List.{AllByRecursion}
 use Rattle.sqlite_rules.proofs.ListLemmas.{all_has}
 use Rattle.pid_tables_rows.specs.Steps.Answers.{remark_shown}
@@ -19,3 +20,8 @@ returns-in_err-add_comment c remarks is =
     let next = next_of remark_shown remarks c.args.rows.now c.loop-row.row-index c.row-item.result is c.loop-row-test.true in
     passed_on c.from_residual.result _ _ (IsUnreadable (AllByRecursion IsReadableRemark remarks)) c.from_residual.ensures.1
     (unread_more c.in_err-add_comment.field-0.0 (λ all. all_has IsReadableRemark remarks next.it all next.there) (c.in_err-add_comment.ensures next.it (c.row-item.is ∙ next.is)))
+
+pub returns : goal.returns
+returns c remarks is =
+    c.loop-row.invariant remarks is
+    ∙ take_all c.loop-row.row-index remarks (let done = c.loop-row-test.false in let long = ap length is ∙ length-map remarks remark_shown in omega (arith, done, long))
