@@ -3,8 +3,8 @@ ghost use Rattle.std.specs.Prelude.{◌≡◌, Err};
 ghost use Rattle.pid_service.specs.Files.{asks};
 ghost use Rattle.pid_http_requests.specs.Commands.{command_made};
 ghost use Rattle.pid_http.specs.Errands as errands;
-ghost use Rattle.pid_http.specs.Errands.{command_errand, sent};
-ghost use Rattle.pid_http.specs.Steps.Replying.{Replies, sending_in, sending_of};
+ghost use Rattle.pid_http.specs.Errands.{sent};
+ghost use Rattle.pid_http.specs.Steps.Replying.{Replies, sending_in};
 
 use pid_http_replies::{outcome_reply, refusal_reply};
 use pid_http_requests::{Format, Sender, command_in};
@@ -29,24 +29,6 @@ fn obey<S: Alter + Drop>(
     outcome_reply(alloc, format, outcome)
 }
 
-// Has the command obeyed that the form of a sender makes.
-fn command_of<S: Alter + Drop>(
-    alloc: Global,
-    registry: &mut Registry<S>,
-    verb: Verb,
-    format: Format,
-    sender: Sender<'_>,
-    body: &[u8],
-) -> Result<Reply, AllocError>
-    ensures { Replies S.Store registry.old registry.new
-        (command_errand format (command_made verb (sending_of sender.entry) body.now)) result }
-{
-    match command_in(alloc, verb, sender, body) {
-        Err(refusal) => refusal_reply(alloc, format, refusal),
-        Ok(command) => obey(alloc, registry, command, format),
-    }
-}
-
 /// Has the command obeyed that a sender's form makes. The sender is judged before the form.
 pub(crate) fn command<S: Alter + Drop>(
     alloc: Global,
@@ -61,6 +43,9 @@ pub(crate) fn command<S: Alter + Drop>(
 {
     match sender {
         None => refusal_reply(alloc, format, Refusal::BadText),
-        Some(sender) => command_of(alloc, registry, verb, format, sender, body),
+        Some(sender) => match command_in(alloc, verb, sender, body) {
+            Err(refusal) => refusal_reply(alloc, format, refusal),
+            Ok(command) => obey(alloc, registry, command, format),
+        },
     }
 }

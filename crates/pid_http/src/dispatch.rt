@@ -4,38 +4,22 @@ ghost use Rattle.pid_http.specs.Errands.{
   changes_for,
   children_for,
   errand_for,
-  read_for,
-  submission_for,
   submissions_for,
 };
-ghost use Rattle.pid_http.specs.Steps.Replying.{Replies, RepliesTo};
+ghost use Rattle.pid_http.specs.Steps.Replying.{Replies, sending_in};
 
 use crate::commanding::command;
 use crate::exporting::export;
 use crate::overviews::{queue, status, submissions};
 use crate::queries::{changes, children, lookup, pending, rank, read, submission};
 use pid_http_replies::{Early, early_reply, refusal_reply};
-use pid_http_requests::{Above, Format, Question, Sought, Start, sender_of};
-use pid_http_stream::{Head, Reply};
-use pid_ident::{Account, Path};
+use pid_http_requests::{Above, Format, Question, Sender, Sought, Start};
+use pid_http_stream::Reply;
+use pid_ident::Account;
 use pid_moderation::Refusal;
 use pid_service::Registry;
 use sqlite::Alter;
 use std::alloc::{AllocError, Global};
-
-fn answer_read<S: Alter + Drop>(
-    alloc: Global,
-    registry: &mut Registry<S>,
-    path: Option<Path>,
-    format: Format,
-) -> Result<Reply, AllocError>
-    ensures { Replies S.Store registry.old registry.new (read_for format path) result }
-{
-    match path {
-        Some(path) => read(alloc, registry, &path, format),
-        None => refusal_reply(alloc, format, Refusal::BadPath),
-    }
-}
 
 fn answer_children<S: Alter + Drop>(
     alloc: Global,
@@ -49,20 +33,6 @@ fn answer_children<S: Alter + Drop>(
         Above::Top => children(alloc, registry, None, format),
         Above::Below(path) => children(alloc, registry, Some(path), format),
         Above::BadPath => refusal_reply(alloc, format, Refusal::BadPath),
-    }
-}
-
-fn answer_submission<S: Alter + Drop>(
-    alloc: Global,
-    registry: &mut Registry<S>,
-    number: Option<u32>,
-    format: Format,
-) -> Result<Reply, AllocError>
-    ensures { Replies S.Store registry.old registry.new (submission_for format number) result }
-{
-    match number {
-        Some(number) => submission(alloc, registry, number, format),
-        None => refusal_reply(alloc, format, Refusal::BadText),
     }
 }
 
@@ -100,16 +70,16 @@ fn answer_submissions<S: Alter + Drop>(
     }
 }
 
-/// Answers what a request asks for. Who sends it is asked for commands alone.
+/// Answers what a request asks for.
 pub(crate) fn answer<S: Alter + Drop>(
     alloc: Global,
     registry: &mut Registry<S>,
     question: Question,
-    head: &Head<'_>,
+    sender: Option<Sender<'_>>,
     body: &[u8],
 ) -> Result<Reply, AllocError>
-    ensures { RepliesTo S.Store registry.old registry.new head.now
-        (λ sending. errand_for question sending body.now) result }
+    ensures { Replies S.Store registry.old registry.new
+        (errand_for question (sending_in sender.entry) body.now) result }
 {
     match question {
         Question::AnotherMethod => early_reply(alloc, Early::AnotherMethod),
@@ -119,12 +89,10 @@ pub(crate) fn answer<S: Alter + Drop>(
         Question::WantsPost => early_reply(alloc, Early::WantsPost),
         Question::BadQuery => early_reply(alloc, Early::BadQuery),
         Question::Export => export(alloc, registry),
-        Question::Read { path, format } => answer_read(alloc, registry, path, format),
+        Question::Read { path, format } => read(alloc, registry, path, format),
         Question::Children { above, format } => answer_children(alloc, registry, above, format),
         Question::Lookup(query) => lookup(alloc, registry, query),
-        Question::Submission { number, format } => {
-            answer_submission(alloc, registry, number, format)
-        }
+        Question::Submission { number, format } => submission(alloc, registry, number, format),
         Question::Pending { after, format } => pending(alloc, registry, after, format),
         Question::Changes {
             since,
@@ -140,8 +108,6 @@ pub(crate) fn answer<S: Alter + Drop>(
         } => answer_submissions(alloc, registry, sought, author.as_ref(), before, format),
         Question::Status { format } => status(alloc, registry, format),
         Question::Rank { who, format } => rank(alloc, registry, &who, format),
-        Question::Command { verb, format } => {
-            command(alloc, registry, verb, format, sender_of(head), body)
-        }
+        Question::Command { verb, format } => command(alloc, registry, verb, format, sender, body),
     }
 }

@@ -1,13 +1,5 @@
 //! Imports, whose file is the body of the request, read as it comes.
-ghost use Rattle.std.specs.Prelude.{
-  ◌≡◌,
-  [],
-  Some,
-  Err,
-  IfOk,
-  IfSome,
-  option_copied,
-};
+ghost use Rattle.std.specs.Prelude.{◌≡◌, [], Some, Err, IfOk, IfSome, option_copied};
 ghost use Rattle.std.specs.Io.KnownBytes.{IsAtEnd};
 ghost use Rattle.pid_service.specs.Files.{file_reading};
 ghost use Rattle.pid_moderation.specs.BeforeFile.{import_of};
@@ -15,11 +7,11 @@ ghost use Rattle.pid_http_replies.specs.Outcomes.{outcome_answer};
 ghost use Rattle.pid_http_replies.specs.Replying.{MakesReply};
 ghost use Rattle.pid_http.specs.Errands as errands;
 ghost use Rattle.pid_http.specs.Errands.{import_errand};
-ghost use Rattle.pid_http.specs.Steps.Replying.{RepliesToFile, sending_in, sending_of};
+ghost use Rattle.pid_http.specs.Steps.Replying.{RepliesToFile, sending_in};
 
 use pid_http_replies::outcome_reply;
 use pid_http_requests::{Format, Sender};
-use pid_http_stream::{LONGEST_BODY, NoReply, Reply, discard};
+use pid_http_stream::{LONGEST_BODY, NoReply, Reply};
 use pid_ident::{Account, Input, Key, WordFault};
 use pid_moderation::{Refusal, Reply as Outcome};
 use pid_reader::skip_input;
@@ -40,25 +32,7 @@ fn reply_with(
     }
 }
 
-// Refuses an import whose file is not wanted, which is read to its end.
-fn deny<B: Input>(
-    alloc: Global,
-    format: Format,
-    refusal: Refusal,
-    body: &mut B,
-) -> Result<Reply, NoReply>
-    ensures goes { B.goes body.old body.new }
-    ensures whole { IfOk result (λ _. IsAtEnd (B.to_come body.new)) }
-    ensures replied { MakesReply result (outcome_answer format (Err refusal)) }
-{
-    match discard(body) {
-        Ok(()) => reply_with(alloc, format, Err(refusal)),
-        Err(end) => Err(end),
-    }
-}
-
-// Refuses an import that the registry refused: what is left of a file that is too long is read to
-// its end.
+// Refuses an import: what is left of its file is read to its end.
 fn refuse<B: Input>(
     alloc: Global,
     format: Format,
@@ -126,26 +100,6 @@ fn owner_of(alloc: Global, sender: Sender<'_>) -> Option<(Account, Option<Key>)>
     }
 }
 
-// Has an import of a sender obeyed.
-fn import_of_sender<S: Alter + Drop, B: Input>(
-    alloc: Global,
-    registry: &mut Registry<S>,
-    format: Format,
-    sender: Sender<'_>,
-    body: &mut B,
-) -> Result<Reply, NoReply>
-    ensures goes { B.goes body.old body.new }
-    ensures whole { IfOk result (λ _. IsAtEnd (B.to_come body.new)) }
-    ensures replied { RepliesToFile S.Store registry.old registry.new
-        (B.to_come body.old) (B.to_come body.new)
-        (import_errand format (Some (sending_of sender.entry))) result }
-{
-    match owner_of(alloc, sender) {
-        None => deny(alloc, format, Refusal::Memory, body),
-        Some((account, key)) => take_in(alloc, registry, format, account, key, body),
-    }
-}
-
 /// Has an import obeyed whose file is the body. The sender is judged first, but a refusal is
 /// answered only after the body.
 pub(crate) fn import<S: Alter + Drop, B: Input>(
@@ -162,7 +116,10 @@ pub(crate) fn import<S: Alter + Drop, B: Input>(
         (import_errand format (sending_in sender.entry)) result }
 {
     match sender {
-        None => deny(alloc, format, Refusal::BadText, body),
-        Some(sender) => import_of_sender(alloc, registry, format, sender, body),
+        None => refuse(alloc, format, Refusal::BadText, body),
+        Some(sender) => match owner_of(alloc, sender) {
+            None => refuse(alloc, format, Refusal::Memory, body),
+            Some((account, key)) => take_in(alloc, registry, format, account, key, body),
+        },
     }
 }

@@ -1,7 +1,14 @@
 use Rattle.pid_moderation.specs.declared.refusal.Refusal.TheVariants.{BadText}
-use Rattle.pid_http.specs.Errands.{Denied}
-use Rattle.pid_http.proofs.Meeting.{denied, no_call, replied}
+use Rattle.pid_http_requests.specs.Commands.{command_made}
+use Rattle.pid_http.specs.Errands.{Denied, command_errand}
+use Rattle.pid_http.specs.Steps.Replying.{sending_of}
+use Rattle.pid_http.proofs.Meeting.{denied, form_refused, no_call, replied}
 use Rattle.pid_http.proofs.commanding.command.Goals as goal
 
 pub returns-in-None : goal.returns-in-None
 returns-in-None g c = rw c.in-None.is (replied _ _ _ (Denied BadText c.args.format) _ _ c.refusal_reply.ensures (no_call _ _ _ (denied BadText c.args.format)))
+
+pub returns-in-Err : goal.returns-in-Err
+returns-in-Err g c =
+    let made = command_made c.args.verb (sending_of c.in-Some.sender) c.args.body.now in
+    rw c.in-Some.is (replied _ _ _ (command_errand c.args.format made) _ _ c.refusal_reply-in-Err.ensures (no_call _ _ _ (form_refused c.in-Err.refusal made c.args.format c.in-Err.ensures.err)))

@@ -1,12 +1,19 @@
+use Rattle.std.specs.Prelude.{Some}
 use Rattle.pid_moderation.specs.declared.refusal.Refusal.TheVariants.{BadText}
-use Rattle.pid_http.specs.Errands.{Denied}
-use Rattle.pid_http.proofs.Imports.{denied_behind}
-use Rattle.pid_http.proofs.Meeting.{denied}
+use Rattle.pid_http.specs.Errands.{Denied, import_errand}
+use Rattle.pid_http.specs.Steps.Replying.{sending_of}
+use Rattle.pid_http.proofs.Imports.{denied_behind, of_owner}
+use Rattle.pid_http.proofs.Meeting.{denied, short_sender}
 use Rattle.pid_http.proofs.importing.import.Goals as goal
 
 pub returns-in-None-clause-replied : goal.returns-in-None-clause-replied
 returns-in-None-clause-replied g c =
-    rw c.in-None.is (denied_behind _ _ (λ file. Denied BadText c.args.format) _ c.deny.result _ _ c.deny.ensures.whole c.deny.ensures.replied (λ file k. denied BadText c.args.format k))
+    rw c.in-None.is (denied_behind _ _ (λ file. Denied BadText c.args.format) _ c.refuse.result _ _ c.refuse.ensures.whole c.refuse.ensures.replied (λ file k. denied BadText c.args.format k))
 
-pub returns-in-Some-clause-replied : goal.returns-in-Some-clause-replied
-returns-in-Some-clause-replied g c = rw c.in-Some.is c.import_of_sender.ensures.replied
+pub returns-in-None-owner_of-clause-replied : goal.returns-in-None-owner_of-clause-replied
+returns-in-None-owner_of-clause-replied g c =
+    rw c.in-Some.is (denied_behind _ _ (λ file. import_errand c.args.format (Some (sending_of c.in-Some.sender)) file) _ c.refuse-in-None-owner_of.result _ _ c.refuse-in-None-owner_of.ensures.whole c.refuse-in-None-owner_of.ensures.replied (λ file k. short_sender c.args.format (Some (sending_of c.in-Some.sender)) file k))
+
+pub returns-in-Some-owner_of-clause-replied : goal.returns-in-Some-owner_of-clause-replied
+returns-in-Some-owner_of-clause-replied g c =
+    rw c.in-Some.is (of_owner _ _ _ _ _ _ _ c.args.format c.take_in.result _ _ c.in-Some-owner_of.ensures.0 c.in-Some-owner_of.ensures.1 c.take_in.ensures.replied)

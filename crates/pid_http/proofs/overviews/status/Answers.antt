@@ -16,5 +16,8 @@ question format = record {
   no_command = refl;
 }
 
-pub returns : goal.returns
-returns g c = replied _ _ _ _ _ _ c.status_outcome.ensures (question_met _ c.clauses_meet_lives.ensures.looks _ _ _ _ _ _ _ (question c.args.format) c.status-found.ensures)
+pub returns-in-Ok : goal.returns-in-Ok
+returns-in-Ok g c = replied _ _ _ _ _ _ c.status_reply.ensures (question_met _ c.clauses_meet_lives.ensures.looks _ _ _ _ _ _ _ (question c.args.format) c.in-Ok.ensures)
+
+pub returns-in-Err : goal.returns-in-Err
+returns-in-Err g c = replied _ _ _ _ _ _ c.refusal_reply.ensures (question_met _ c.clauses_meet_lives.ensures.looks _ _ _ _ _ _ _ (question c.args.format) c.in-Err.ensures)

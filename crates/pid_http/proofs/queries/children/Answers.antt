@@ -1,4 +1,4 @@
-use Rattle.std.proofs.Common.{◌≡◌, refl, ap, map, Option}
+use Rattle.std.proofs.Common.{◌≡◌, refl, ap, subst, map, Option}
 use Rattle.std.specs.Prelude.{Vec, option_map}
 use Rattle.std.specs.declared.alloc.Global.{Global}
 use Rattle.pid_file.specs.declared.path.Path.{Path}
@@ -6,6 +6,8 @@ use Rattle.pid_moderation.specs.Views.{items_of}
 use Rattle.pid_moderation.specs.ItemPairs.{pair_of}
 use Rattle.pid_moderation.specs.declared.lists.Item.{Item}
 use Rattle.pid_http_requests.specs.declared.format.Format.{Format}
+use Rattle.pid_http_replies.specs.ItemAnswers.{children_answer}
+use Rattle.pid_http_replies.specs.Replying.{MakesReply}
 use Rattle.pid_http.specs.Answering.{answer_over, children_below, children_or_missing}
 use Rattle.pid_http.specs.Errands.{Children}
 use Rattle.pid_http.proofs.Meeting.{IsQuestion, question_met, replied}
@@ -19,5 +21,13 @@ question above format = record {
   no_command = refl;
 }
 
-pub returns : goal.returns
-returns g c = replied _ _ _ _ _ _ c.children_outcome.ensures (question_met _ c.clauses_meet_lives.ensures.looks _ _ _ _ _ _ _ (question c.args.above c.args.format) c.children_below-found.ensures)
+pub returns-in-Ok-Some : goal.returns-in-Ok-Some
+returns-in-Ok-Some g c =
+    let is = subst (λ items. MakesReply c.children_reply.result (children_answer c.args.format (map pair_of items))) c.deref.ensures.value c.children_reply.ensures in
+    replied _ _ _ _ _ _ is (question_met _ c.clauses_meet_lives.ensures.looks _ _ _ _ _ _ _ (question c.args.above c.args.format) (rw c.in-Ok-Some.field-0-is at c.in-Ok-Some.ensures))
+
+pub returns-in-Ok-None : goal.returns-in-Ok-None
+returns-in-Ok-None g c = replied _ _ _ _ _ _ c.missing_reply.ensures (question_met _ c.clauses_meet_lives.ensures.looks _ _ _ _ _ _ _ (question c.args.above c.args.format) (rw c.in-Ok-None.field-0-is at c.in-Ok-None.ensures))
+
+pub returns-in-Err : goal.returns-in-Err
+returns-in-Err g c = replied _ _ _ _ _ _ c.refusal_reply.ensures (question_met _ c.clauses_meet_lives.ensures.looks _ _ _ _ _ _ _ (question c.args.above c.args.format) c.in-Err.ensures)

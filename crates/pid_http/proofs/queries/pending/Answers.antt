@@ -1,4 +1,4 @@
-use Rattle.std.proofs.Common.{◌≡◌, refl, ap, ℕ, map}
+use Rattle.std.proofs.Common.{◌≡◌, refl, ap, subst, ℕ, map}
 use Rattle.std.specs.Prelude.{Vec}
 use Rattle.std.specs.declared.alloc.Global.{Global}
 use Rattle.pid_moderation.specs.Views.{views_of}
@@ -7,6 +7,7 @@ use Rattle.pid_http_requests.specs.declared.format.Format.{Format}
 use Rattle.pid_http_replies.specs.PendingAnswers.{pending_answer}
 use Rattle.pid_moderation.specs.PendingPages.{pending_in, told_of}
 use Rattle.pid_moderation.specs.declared.lists.TheConstants.{PAGE}
+use Rattle.pid_http_replies.specs.Replying.{MakesReply}
 use Rattle.pid_http.specs.Answering.{answer_over}
 use Rattle.pid_http.specs.Errands as errands
 use Rattle.pid_http.proofs.Meeting.{IsQuestion, question_met, replied}
@@ -20,5 +21,10 @@ question after format = record {
   no_command = refl;
 }
 
-pub returns : goal.returns
-returns g c = replied _ _ _ _ _ _ c.pending_outcome.ensures (question_met _ c.clauses_meet_lives.ensures.looks _ _ _ _ _ _ _ (question c.args.after c.args.format) c.pending-found.ensures)
+pub returns-in-Ok : goal.returns-in-Ok
+returns-in-Ok g c =
+    let is = subst (λ items. MakesReply c.pending_reply.result (pending_answer c.args.format (map told_of items))) c.deref.ensures.value c.pending_reply.ensures in
+    replied _ _ _ _ _ _ is (question_met _ c.clauses_meet_lives.ensures.looks _ _ _ _ _ _ _ (question c.args.after c.args.format) c.in-Ok.ensures)
+
+pub returns-in-Err : goal.returns-in-Err
+returns-in-Err g c = replied _ _ _ _ _ _ c.refusal_reply.ensures (question_met _ c.clauses_meet_lives.ensures.looks _ _ _ _ _ _ _ (question c.args.after c.args.format) c.in-Err.ensures)

@@ -16,5 +16,8 @@ question who format = record {
   no_command = refl;
 }
 
-pub returns : goal.returns
-returns g c = replied _ _ _ _ _ _ c.rank_outcome.ensures (question_met _ c.clauses_meet_lives.ensures.looks _ _ _ _ _ _ _ (question c.args.who.now c.args.format) c.rank-found.ensures)
+pub returns-in-Ok : goal.returns-in-Ok
+returns-in-Ok g c = replied _ _ _ _ _ _ c.rank_reply.ensures (question_met _ c.clauses_meet_lives.ensures.looks _ _ _ _ _ _ _ (question c.args.who.now c.args.format) c.in-Ok.ensures)
+
+pub returns-in-Err : goal.returns-in-Err
+returns-in-Err g c = replied _ _ _ _ _ _ c.refusal_reply.ensures (question_met _ c.clauses_meet_lives.ensures.looks _ _ _ _ _ _ _ (question c.args.who.now c.args.format) c.in-Err.ensures)

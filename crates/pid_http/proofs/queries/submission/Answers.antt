@@ -1,22 +1,25 @@
 use Rattle.std.proofs.Common.{◌≡◌, ℕ, [], ◌∷◌, Some, Result, Ok, Err, refl, sym, ap, ◌∙◌, inl, inr}
 use Rattle.std.specs.Prelude.{MatchResult}
+use Rattle.sqlite_trees.specs.declared.store.Store.{Ghosts}
 use Rattle.pid_service_laws.specs.Calls.{nothing_sent}
 use Rattle.pid_moderation.specs.History.{History}
 use Rattle.pid_moderation.specs.Views.{views_of}
 use Rattle.pid_moderation.specs.declared.refusal.Refusal.{Refusal}
-use Rattle.pid_moderation.specs.declared.refusal.Refusal.TheVariants.{Failed as HasFailed}
-use Rattle.pid_service.specs.Asking.{IsMissing}
+use Rattle.pid_moderation.specs.declared.refusal.Refusal.TheVariants.{BadText, Failed as HasFailed}
+use Rattle.pid_service.specs.Asking.{AnswersIfThere, IsMissing}
+use Rattle.pid_service.specs.declared.registry.Registry.{Registry}
 use Rattle.pid_moderation.specs.Submissions.{discussion_in, discussion_of}
 use Rattle.pid_moderation.specs.declared.lists.Discussion.{Discussion}
 use Rattle.pid_http_requests.specs.declared.format.Format.{Format}
 use Rattle.pid_http_replies.specs.Outcomes.{outcome_answer}
 use Rattle.pid_http_replies.specs.SubmissionAnswers.{submission_answer}
 use Rattle.pid_http.specs.Answering.{answer_over, submission_or_missing, IsErrandRefused}
-use Rattle.pid_http.specs.Errands.{Submission}
+use Rattle.pid_http.specs.Errands.{Answered, Submission}
+use Rattle.pid_http.specs.Steps.Going.{Goes}
 use Rattle.pid_http.specs.Steps.Replying.{answer_or}
-use Rattle.pid_http.specs.Serving.{IsMetOver, AnsweredOver, NotDone}
+use Rattle.pid_http.specs.Serving.{IsErrandMet, IsMetOver, AnsweredOver, NotDone}
 use Rattle.pid_http.specs.Known.{Live}
-use Rattle.pid_http.proofs.Meeting.{from_call, looked, replied}
+use Rattle.pid_http.proofs.Meeting.{CallsLook, answered, from_call, looked, no_call, replied}
 use Rattle.pid_http.proofs.queries.submission.Goals as goal
 
 over : (number : ℕ) (format : Format) (h : History) (found : Result Discussion Refusal) → MatchResult found (λ d. discussion_in (views_of h) number ≡ Some (discussion_of d)) (IsMissing (discussion_in (views_of h) number))
@@ -29,12 +32,22 @@ over number format h (Err e) (inr fault) = NotDone e fault (refl, refl) (refl, t
 failed : (number : ℕ) (format : Format) (found : Result Discussion Refusal) → found ≡ Err HasFailed → IsErrandRefused (Submission number format) HasFailed (answer_or format (λ d. submission_answer format number (discussion_of d)) found)
 failed number format found e = (refl, ap (answer_or format (λ d. submission_answer format number (discussion_of d))) e)
 
-pub returns : goal.returns
-returns g c =
-    let n = c.args.number in
-    let f = c.args.format in
-    let e = c.submission-found.ensures in
-    replied _ _ _ _ _ _ c.submission_outcome.ensures (from_call _ _ _ _ (answer_or f (λ d. submission_answer f n (discussion_of d)) c.submission-found.result)
-    (looked _ c.clauses_meet_lives.ensures.looks _ _ e.rests.clean (λ off. (e.failed off).1) (λ good h shows. (e.told good h shows).1)) (refl, tt) e.rests.clean
-    (λ clean h shows. let t = e.told clean h shows in (Live h, t.1, over n f h c.submission-found.result t.0))
-    (λ off. failed n f c.submission-found.result (e.failed off).0))
+met : {S : Type 0} (store : Ghosts S) → CallsLook store → (old new : Registry S store) (number : ℕ) (format : Format) (found : Result Discussion Refusal)
+    → AnswersIfThere store old new found (λ h. discussion_in (views_of h) number) discussion_of
+    → Goes store old new (λ k calls now. IsErrandMet k (Submission number format) (answer_or format (λ d. submission_answer format number (discussion_of d)) found) calls now)
+met store look old new number format found e =
+    from_call _ _ _ _ (answer_or format (λ d. submission_answer format number (discussion_of d)) found)
+    (looked _ look _ _ e.rests.clean (λ off. (e.failed off).1) (λ good h shows. (e.told good h shows).1)) (refl, tt) e.rests.clean
+    (λ clean h shows. let t = e.told clean h shows in (Live h, t.1, over number format h found t.0))
+    (λ off. failed number format found (e.failed off).0)
+
+pub returns-in-None : goal.returns-in-None
+returns-in-None g c =
+    let given = outcome_answer c.args.format (Err BadText) in
+    rw c.in-None.is (replied _ _ _ (Answered given) _ given c.refusal_reply.ensures (no_call _ _ _ (answered given)))
+
+pub returns-in-Ok : goal.returns-in-Ok
+returns-in-Ok g c = rw c.in-Some.is (replied _ _ _ _ _ _ c.submission_reply.ensures (met _ c.clauses_meet_lives.ensures.looks _ _ c.in-Some.number c.args.format _ c.in-Ok.ensures))
+
+pub returns-in-Err : goal.returns-in-Err
+returns-in-Err g c = rw c.in-Some.is (replied _ _ _ _ _ _ c.refusal_reply-in-Err.ensures (met _ c.clauses_meet_lives.ensures.looks _ _ c.in-Some.number c.args.format _ c.in-Err.ensures))
