@@ -78,11 +78,15 @@ fn answer<O: Write + Drop, F: Write + Drop>(
 
 // What to type instead. A common mistake is the name of a file as an argument.
 fn hint(words: &[String]) -> &'static str {
-    match words.get(1).map(String::as_str) {
-        Some("check") => "To read a file, redirect standard input: pciids check < FILE\n",
-        Some("tidy") => "To read a file, redirect standard input: pciids tidy < FILE\n",
-        Some("lookup" | "script" | "import" | "export" | "serve" | "migrate") => "",
-        Some(word) if word.as_bytes().first() == Some(&b'-') => "",
+    let word = match words.get(1) {
+        Some(word) => word.as_str(),
+        None => "",
+    };
+    match word {
+        "check" => "To read a file, redirect standard input: pciids check < FILE\n",
+        "tidy" => "To read a file, redirect standard input: pciids tidy < FILE\n",
+        "lookup" | "script" | "import" | "export" | "serve" | "migrate" => "",
+        _ if word.as_bytes().first() == Some(&b'-') => "",
         _ => "To read a file, redirect standard input: pciids < FILE\n",
     }
 }

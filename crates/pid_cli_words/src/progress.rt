@@ -83,7 +83,13 @@ fn instant_after(rt: &HostRuntime, millis: u64) -> Option<Instant> {
 }
 
 fn ends_in(bytes: &[u8]) -> u64 {
-    bytes.iter().filter(|byte| **byte == b'\n').count() as u64
+    let mut ends = 0_u64;
+    for byte in bytes {
+        if *byte == b'\n' {
+            ends = ends.saturating_add(1);
+        }
+    }
+    ends
 }
 
 // A number, printed with its digits in groups of three.
