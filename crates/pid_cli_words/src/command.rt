@@ -11,12 +11,10 @@ use std::alloc::{AllocError, Global};
 /// How an argument is given.
 pub(crate) enum Form {
     /// As an option.
-    Optional,
-    /// As an option, which is required.
-    Needed,
-    /// Without a name. It is required.
+    Named,
+    /// Without a name.
     Operand,
-    /// As an option, which is required: a number from 1 to 65,535.
+    /// As an option: a number from 1 to 65,535.
     Port,
     /// As an option: a number from 1 to 1,000,000, which is the default.
     Connections,
@@ -25,6 +23,7 @@ pub(crate) enum Form {
 /// An argument of a command.
 pub(crate) struct Argument<'a> {
     pub(crate) form: Form,
+    pub(crate) is_required: bool,
     pub(crate) name: &'a str,
     /// The name of the value in help.
     pub(crate) value: &'a str,
@@ -47,14 +46,13 @@ fn arg_of<'a>(alloc: Global, argument: &Argument<'a>) -> Arg<'a>
 {
     let arg = Arg::new(alloc, argument.name)
         .value_name(argument.value)
-        .help(argument.help);
+        .help(argument.help)
+        .required(argument.is_required);
     match argument.form {
-        Form::Optional => arg.long(argument.name),
-        Form::Needed => arg.long(argument.name).required(true),
-        Form::Operand => arg.required(true),
+        Form::Named => arg.long(argument.name),
+        Form::Operand => arg,
         Form::Port => arg
             .long(argument.name)
-            .required(true)
             .value_parser(value_parser!(u16).range(1..=65535)),
         Form::Connections => arg
             .long(argument.name)

@@ -1,7 +1,7 @@
 //! The commands of the program and their help.
-ghost use Rattle.std.specs.Prelude.{◌≡◌, IfOk};
-ghost use Rattle.clap.specs.Words.{app_of};
-ghost use Rattle.pid_cli_words.specs.Commands.{commands as the_commands};
+ghost use Rattle.std.specs.Prelude.{◌≡◌, IfOk, codes};
+ghost use Rattle.clap.specs.Words.{app_of, new_app};
+ghost use Rattle.pid_cli_words.specs.Commands.{commands as the_commands, with_version};
 
 use crate::command::{Argument, Form, Subcommand, with_subcommands};
 use clap::Command;
@@ -117,68 +117,78 @@ command that opens a registry upgrades it first. Older versions of pciids
 cannot open an upgraded registry.";
 
 const DB: Argument<'static> = Argument {
-    form: Form::Needed,
+    form: Form::Named,
+    is_required: true,
     name: "db",
     value: "FILE",
     help: "Registry file, created if it does not exist",
 };
 
 const SCRIPT_DB: Argument<'static> = Argument {
-    form: Form::Optional,
+    is_required: false,
     ..DB
 };
 
 const LOOK_UP_ARGUMENTS: [Argument<'static>; 9] = [
     Argument {
-        form: Form::Needed,
+        form: Form::Named,
+        is_required: true,
         name: "ids",
         value: "FILE",
         help: "pci.ids file to read",
     },
     Argument {
-        form: Form::Needed,
+        form: Form::Named,
+        is_required: true,
         name: "flags",
         value: "HEX",
         help: "What to look up, 1 to 8 hex digits",
     },
     Argument {
-        form: Form::Optional,
+        form: Form::Named,
+        is_required: false,
         name: "size",
         value: "N",
         help: "Buffer size in bytes [default: 1024]",
     },
     Argument {
-        form: Form::Optional,
+        form: Form::Named,
+        is_required: false,
         name: "vendor",
         value: "HEX",
         help: "Vendor, 4 hex digits",
     },
     Argument {
-        form: Form::Optional,
+        form: Form::Named,
+        is_required: false,
         name: "device",
         value: "HEX",
         help: "Device, 4 hex digits",
     },
     Argument {
-        form: Form::Optional,
+        form: Form::Named,
+        is_required: false,
         name: "subvendor",
         value: "HEX",
         help: "Vendor of the subsystem, 4 hex digits",
     },
     Argument {
-        form: Form::Optional,
+        form: Form::Named,
+        is_required: false,
         name: "subdevice",
         value: "HEX",
         help: "Subsystem, 4 hex digits",
     },
     Argument {
-        form: Form::Optional,
+        form: Form::Named,
+        is_required: false,
         name: "class",
         value: "HEX",
         help: "Class and subclass, 4 hex digits",
     },
     Argument {
-        form: Form::Optional,
+        form: Form::Named,
+        is_required: false,
         name: "progif",
         value: "HEX",
         help: "Programming interface, 2 hex digits",
@@ -188,19 +198,22 @@ const LOOK_UP_ARGUMENTS: [Argument<'static>; 9] = [
 const IMPORT_ARGUMENTS: [Argument<'static>; 4] = [
     DB,
     Argument {
-        form: Form::Needed,
+        form: Form::Named,
+        is_required: true,
         name: "account",
         value: "ACCOUNT",
         help: "Account that imports, of rank 2 or 3",
     },
     Argument {
-        form: Form::Optional,
+        form: Form::Named,
+        is_required: false,
         name: "key",
         value: "KEY",
         help: "Key under which the import is done only once",
     },
     Argument {
         form: Form::Operand,
+        is_required: true,
         name: "ids",
         value: "IDS",
         help: "pci.ids file to import",
@@ -211,12 +224,14 @@ const SERVE_ARGUMENTS: [Argument<'static>; 3] = [
     DB,
     Argument {
         form: Form::Port,
+        is_required: true,
         name: "port",
         value: "N",
         help: "TCP port on 127.0.0.1, 1 to 65535",
     },
     Argument {
         form: Form::Connections,
+        is_required: false,
         name: "connections",
         value: "N",
         help: "Connections to serve, 1 to 1000000",
@@ -282,15 +297,21 @@ const SUBCOMMANDS: [Subcommand<'static>; 8] = [
     },
 ];
 
-/// The commands of the program.
-pub fn commands<'a>(alloc: Global) -> Result<Command<'a>, AllocError>
-    ensures { IfOk result (λ c. app_of c ≡ the_commands) }
+// The program's own command, without those below it.
+fn program<'a>(alloc: Global) -> Command<'a>
+    ensures { app_of result ≡ with_version (new_app (codes "pciids")) }
 {
-    let command = Command::new(alloc, "pciids")
+    Command::new(alloc, "pciids")
         .version(VERSION)
         .about("Checks and prints pci.ids files, and keeps a moderated registry of PCI IDs")
         .override_usage(USAGE)
         .after_help(COMMANDS)
-        .bin_name("pciids")?;
+}
+
+/// The commands of the program.
+pub fn commands<'a>(alloc: Global) -> Result<Command<'a>, AllocError>
+    ensures { IfOk result (λ c. app_of c ≡ the_commands) }
+{
+    let command = program(alloc).bin_name("pciids")?;
     with_subcommands(alloc, command, &SUBCOMMANDS)
 }
