@@ -1,6 +1,7 @@
 -- What a command of the program does, but for those whose output is buffered: `tidy`, `check` and
 -- `export`. Choices of this project.
-use Rattle.std.specs.Prelude.{◌≡◌, ◌⊎◌, ℕ, false, List, None, Some, Option, Ok, Err, IsSomeAnd}
+use Rattle.std.specs.Prelude.{◌≡◌, ◌⊎◌, ℕ, true, false, List, None, Some, Option, Ok, Err}
+use Rattle.std.specs.Prelude.{IfSome, IsSomeAnd}
 use Rattle.sqlite_disk.specs.declared.Disk as disk
 use Rattle.sqlite_trees.specs.declared.memory.MemStore.{MemStore}
 use Rattle.sqlite_trees.specs.declared.store.Store.{Ghosts}
@@ -37,37 +38,62 @@ pub record TellsMemory {W : Type 0} (w : Wrote W) : Type 0 where
 abbrev pub IsBadSender : List ℕ → Option (List ℕ) → Type 0
 IsBadSender account key = (is_account account ≡ false) ⊎ IsSomeAnd key (λ k. is_key k ≡ false)
 
-module _ {W : Type 0} (writer : outputs.Ghosts W) where
-  -- The look-up that fields say, in a file of whose bytes nothing is known.
-  pub data LooksUpInFile (fields : List (List ℕ × List ℕ)) (w : Wrote W) : Type 0 where
+-- an account and a key that keep their rules
+abbrev pub IsGoodSender : List ℕ → Option (List ℕ) → Type 0
+IsGoodSender account key = (is_account account ≡ true) × IfSome key (λ k. is_key k ≡ true)
+
+-- What opens files: what may come of a path, and the bytes of an open file, if they are known.
+pub record Opening (R : Type 0) : Type 1 where
+  pub opens : List ℕ → Option R → Type 0
+  pub holds : R → Option (List ℕ)
+
+module _ {R W : Type 0} (ids : Opening R) (writer : outputs.Ghosts W) where
+  -- A look-up in the file at a path.
+  pub data LooksUpAt (path : List ℕ) (lookup : Lookup) (w : Wrote W) : Type 0 where
+    NoFileToLookUp : ids.opens path None → w.end ≡ FileFailed → IsSilent w
+        → LooksUpAt path lookup w
+    Looks : (file : R) → ids.opens path (Some file)
+        → LooksUpText lookup (ids.holds file) (streams_of writer w) w.end
+        → LooksUpAt path lookup w
+
+  -- The look-up that fields say, in the file at a path.
+  pub data LooksUpInFile (path : List ℕ) (fields : List (List ℕ × List ℕ)) (w : Wrote W)
+      : Type 0 where
     BadFields : (bad : BadField) → IsReadFrom fields (Err bad) → w.end ≡ Replied (Err BadText)
-        → IsSilent w → LooksUpInFile fields w
-    NoMemoryToLookUp : TellsMemory w → LooksUpInFile fields w
-    NoFileToLookUp : (lookup : Lookup) → IsReadFrom fields (Ok lookup) → w.end ≡ FileFailed
-        → IsSilent w → LooksUpInFile fields w
-    Looks : (lookup : Lookup) → IsReadFrom fields (Ok lookup)
-        → LooksUpText lookup None (streams_of writer w) w.end → LooksUpInFile fields w
+        → IsSilent w → LooksUpInFile path fields w
+    NoMemoryToLookUp : TellsMemory w → LooksUpInFile path fields w
+    LooksUp : (lookup : Lookup) → IsReadFrom fields (Ok lookup) → LooksUpAt path lookup w
+        → LooksUpInFile path fields w
 
-module _ {E W : Type 0} (files : disk.Ghosts E) (image : Image) (writer : outputs.Ghosts W) where
-  -- An import of a file, of whose bytes nothing is known, by this account under this key.
-  pub data ImportsFile (account : List ℕ) (key : Option (List ℕ)) (w : Wrote W) : Type 0 where
-    BadSender : IsBadSender account key → w.end ≡ Replied (Err BadText) → IsSilent w
-        → ImportsFile account key w
-    NoMemoryToImport : TellsMemory w → ImportsFile account key w
-    NoFileToImport : w.end ≡ FileFailed → IsSilent w → ImportsFile account key w
-    Imports : DoesInFiles files image writer (ToWork (ToImport account key None)) w
-        → ImportsFile account key w
-
-module _ {E W : Type 0} (files : disk.Ghosts E) (image : Image) (memory : Ghosts MemStore)
+module _ {E R W : Type 0} (files : disk.Ghosts E) (image : Image) (ids : Opening R)
     (writer : outputs.Ghosts W) where
+  -- An import of the file at a path by this account under this key.
+  pub data ImportsAt (path account : List ℕ) (key : Option (List ℕ)) (w : Wrote W) : Type 0 where
+    NoFileToImport : ids.opens path None → w.end ≡ FileFailed → IsSilent w
+        → ImportsAt path account key w
+    ImportsHere : (file : R) → ids.opens path (Some file)
+        → DoesInFiles files image writer (ToWork (ToImport account key (ids.holds file))) w
+        → ImportsAt path account key w
+
+  -- The same, if the account and the key keep their rules.
+  pub data ImportsFile (path account : List ℕ) (key : Option (List ℕ)) (w : Wrote W) : Type 0 where
+    BadSender : IsBadSender account key → w.end ≡ Replied (Err BadText) → IsSilent w
+        → ImportsFile path account key w
+    NoMemoryToImport : TellsMemory w → ImportsFile path account key w
+    Imports : IsGoodSender account key → ImportsAt path account key w
+        → ImportsFile path account key w
+
+module _ {E R W : Type 0} (files : disk.Ghosts E) (image : Image) (memory : Ghosts MemStore)
+    (ids : Opening R) (writer : outputs.Ghosts W) where
   -- What a job does, of which the input has this to come.
   abbrev pub DoesPlain : PlainJob → Option (List ℕ) → Wrote W → Type 0
-  DoesPlain (plain.Lookup words) to_come w = LooksUpInFile writer (fields_given words) w
+  DoesPlain (plain.Lookup words) to_come w = LooksUpInFile ids writer words.ids.now
+      (fields_given words) w
   DoesPlain (plain.Script (Some db)) to_come w = DoesInFiles files image writer
       (ToWork (ToAnswer to_come)) w
   DoesPlain (plain.Script None) to_come w = WorksOnNew memory writer (ToAnswer to_come) w
-  DoesPlain (plain.Import names sender) to_come w = ImportsFile files image writer
-      sender.0.now (text_given sender.1) w
+  DoesPlain (plain.Import names sender) to_come w = ImportsFile files image ids writer
+      names.1.now sender.0.now (text_given sender.1) w
   DoesPlain (plain.Serve db port) to_come w = DoesInFiles files image writer
       (ToWork (ToServe port)) w
   DoesPlain (plain.Migrate db) to_come w = DoesInFiles files image writer ToMigrate w

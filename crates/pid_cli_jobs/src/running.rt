@@ -1,26 +1,28 @@
 //! The job that the arguments name, on the streams of the process.
-ghost use Rattle.std.specs.Prelude.{◌≡◌, IfOk, IsErrOf, None};
+ghost use Rattle.std.specs.Prelude.{◌≡◌, IfOk, IsErrOf};
 ghost use Rattle.std.specs.Io.Buffered.{writer_contents};
 ghost use Rattle.sqlite_wal.specs.Files.{image_at};
 ghost use Rattle.pid_file.specs.Writing.{use_of};
 ghost use Rattle.pid_cli_words.specs.Jobs.{text_given};
 ghost use Rattle.pid_cli_jobs.specs.Ends.{ReportsLast, exit_status};
 ghost use Rattle.pid_cli_jobs.specs.Exports.{ExportsThrough};
-ghost use Rattle.pid_cli_jobs.specs.Jobs.{ToImport};
 ghost use Rattle.pid_cli_jobs.specs.Lookups.{fields_given};
-ghost use Rattle.pid_cli_jobs.specs.OnFiles.{DoesInFiles, ToWork};
 ghost use Rattle.pid_cli_jobs.specs.Plain.{
   AnswersPlain,
   DoesPlain,
+  ImportsAt,
   ImportsFile,
   IsBadSender,
+  IsGoodSender,
+  LooksUpAt,
   LooksUpInFile,
 };
 
 use crate::job_end::JobEnd;
 use crate::jobs::RegistryJob;
-use crate::lookups::{print_lookup, read_words};
+use crate::lookups::{Lookup, print_lookup, read_words};
 use crate::on_files::{FileJob, do_in_files, work_on_memory};
+use crate::opener::Opener;
 use crate::replies::{print_reply, tell_reply};
 use crate::serving::Port;
 use pid_cli_words::{Counted, Job, LookupWords, Progress, job_of, tell_no_job};
@@ -32,8 +34,6 @@ use sqlite_disk::{Disk, Start};
 use sqlite_std_file::FileFrom;
 use sqlite_trees::store::Store;
 use std::alloc::Global;
-use std::fs;
-use std::fs::File;
 use std::io::{BufWriter, IsTerminal, Read, Stdin, Write};
 
 const BUFFER: usize = 65_536;
@@ -112,14 +112,15 @@ fn run_plain<S: Start, I: Read + Drop, O: Write + Drop, F: Write + Drop>(
     let mut output = Plain::new(Watched::new(output));
     let mut faults = Plain::new(faults);
     let input = Plain::new(input);
-    let end = answer_plain(rt, start, job, input, &mut output, &mut faults);
+    let end = answer_plain(rt, rt, start, job, input, &mut output, &mut faults);
     report_end(end, output.into_inner().is_unread(), &mut faults)
 }
 
 /// Does a job, and then prints the reply to an import, or to a lookup whose arguments are refused:
-/// once all files are closed. `start` is as for `open_file`.
-pub fn answer_plain<S: Start, I: Input + Drop, O: Output, F: Output>(
+/// once all files are closed. `files` opens the pci.ids file; `start` is as for `open_file`.
+pub fn answer_plain<R: Opener, S: Start, I: Input + Drop, O: Output, F: Output>(
     rt: &HostRuntime,
+    files: &R,
     start: S,
     job: PlainJob<'_>,
     input: I,
@@ -127,6 +128,7 @@ pub fn answer_plain<S: Start, I: Input + Drop, O: Output, F: Output>(
     faults: &mut F,
 ) -> JobEnd
     ensures { AnswersPlain ⟦<FileFrom<S> as Disk>⟧ (image_at S.Start) ⟦<MemStore as Store>⟧
+        (record { opens = R.opens files.now; holds = R.Opened.remaining })
         O.Output job.entry (I.to_come input) (record {
           output = output.old;
           output_after = output.new;
@@ -134,14 +136,15 @@ pub fn answer_plain<S: Start, I: Input + Drop, O: Output, F: Output>(
           end = result;
         }) }
 {
-    match do_plain(rt, start, job, input, output, faults) {
+    match do_plain(rt, files, start, job, input, output, faults) {
         JobEnd::Replied(reply) => print_reply(reply, output),
         end => end,
     }
 }
 
-fn do_plain<S: Start, I: Input + Drop, O: Output, F: Output>(
+fn do_plain<R: Opener, S: Start, I: Input + Drop, O: Output, F: Output>(
     rt: &HostRuntime,
+    files: &R,
     start: S,
     job: PlainJob<'_>,
     input: I,
@@ -149,6 +152,7 @@ fn do_plain<S: Start, I: Input + Drop, O: Output, F: Output>(
     faults: &mut F,
 ) -> JobEnd
     ensures { DoesPlain ⟦<FileFrom<S> as Disk>⟧ (image_at S.Start) ⟦<MemStore as Store>⟧
+        (record { opens = R.opens files.now; holds = R.Opened.remaining })
         O.Output job.entry (I.to_come input) (record {
           output = output.old;
           output_after = output.new;
@@ -157,13 +161,16 @@ fn do_plain<S: Start, I: Input + Drop, O: Output, F: Output>(
         }) }
 {
     match job {
-        PlainJob::Lookup(words) => run_lookup(rt, &words, output, faults),
+        PlainJob::Lookup(words) => run_lookup(rt.alloc(), files, &words, output, faults),
         PlainJob::Script(Some(file)) => {
             let job = FileJob::Work(RegistryJob::Script(input));
             do_in_files(rt, start, file, job, output, faults)
         }
         PlainJob::Script(None) => work_on_memory(rt, RegistryJob::Script(input), output, faults),
-        PlainJob::Import { files, sender } => run_import(rt, start, files, sender, output, faults),
+        PlainJob::Import {
+            files: paths,
+            sender,
+        } => run_import(rt, files, start, paths, sender, output, faults),
         PlainJob::Serve(file, port) => {
             let job: FileJob<I> = FileJob::Work(RegistryJob::Serve(port));
             do_in_files(rt, start, file, job, output, faults)
@@ -239,82 +246,108 @@ pub fn export_through<S: Start, O: Write + Drop, F: Output>(
     (end, output)
 }
 
-fn run_lookup<O: Output, F: Output>(
-    rt: &HostRuntime,
+fn run_lookup<R: Opener, O: Output, F: Output>(
+    alloc: Global,
+    files: &R,
     words: &LookupWords<'_>,
     output: &mut O,
     faults: &mut F,
 ) -> JobEnd
-    ensures { LooksUpInFile O.Output (fields_given words.now) (record {
-      output = output.old;
-      output_after = output.new;
-      faults = use_of F.Output faults.old faults.new;
-      end = result;
-    }) }
-{
-    let lookup = match read_words(rt.alloc(), words) {
-        Ok(Ok(lookup)) => lookup,
-        Ok(Err(_)) => return JobEnd::Replied(Err(Refusal::BadText)),
-        Err(_) => return JobEnd::Told(tell_end(TextEnd::Memory, faults)),
-    };
-    match fs::open(rt, words.ids) {
-        Ok(file) => print_lookup(rt.alloc(), &lookup, &mut Plain::new(file), output, faults),
-        Err(_) => JobEnd::FileFailed,
-    }
-}
-
-// `files` are the registry file and the pci.ids file; `sender` is the account and the key.
-fn run_import<S: Start, O: Output, F: Output>(
-    rt: &HostRuntime,
-    start: S,
-    files: (&str, &str),
-    sender: (&str, Option<&str>),
-    output: &mut O,
-    faults: &mut F,
-) -> JobEnd
-    ensures { ImportsFile ⟦<FileFrom<S> as Disk>⟧ (image_at S.Start) O.Output
-        sender.entry.0.now (text_given sender.entry.1) (record {
+    ensures { LooksUpInFile (record { opens = R.opens files.now; holds = R.Opened.remaining })
+        O.Output words.now.ids.now (fields_given words.now) (record {
           output = output.old;
           output_after = output.new;
           faults = use_of F.Output faults.old faults.new;
           end = result;
         }) }
 {
-    let (db, ids) = files;
+    match read_words(alloc, words) {
+        Ok(Ok(lookup)) => look_up_at(alloc, files, words.ids, &lookup, output, faults),
+        Ok(Err(_)) => JobEnd::Replied(Err(Refusal::BadText)),
+        Err(_) => JobEnd::Told(tell_end(TextEnd::Memory, faults)),
+    }
+}
+
+// Looks up in the file at a path.
+fn look_up_at<R: Opener, O: Output, F: Output>(
+    alloc: Global,
+    files: &R,
+    path: &str,
+    lookup: &Lookup,
+    output: &mut O,
+    faults: &mut F,
+) -> JobEnd
+    ensures { LooksUpAt (record { opens = R.opens files.now; holds = R.Opened.remaining })
+        O.Output path.now lookup.now (record {
+          output = output.old;
+          output_after = output.new;
+          faults = use_of F.Output faults.old faults.new;
+          end = result;
+        }) }
+{
+    match files.open(path) {
+        Some(file) => print_lookup(alloc, lookup, &mut Plain::new(file), output, faults),
+        None => JobEnd::FileFailed,
+    }
+}
+
+// `paths` are those of the registry file and the pci.ids file; `sender` is the account and the key.
+fn run_import<R: Opener, S: Start, O: Output, F: Output>(
+    rt: &HostRuntime,
+    files: &R,
+    start: S,
+    paths: (&str, &str),
+    sender: (&str, Option<&str>),
+    output: &mut O,
+    faults: &mut F,
+) -> JobEnd
+    ensures { ImportsFile ⟦<FileFrom<S> as Disk>⟧ (image_at S.Start)
+        (record { opens = R.opens files.now; holds = R.Opened.remaining })
+        O.Output paths.entry.1.now sender.entry.0.now (text_given sender.entry.1) (record {
+          output = output.old;
+          output_after = output.new;
+          faults = use_of F.Output faults.old faults.new;
+          end = result;
+        }) }
+{
     match sender_of(rt.alloc(), sender) {
-        Ok(sender) => match fs::open(rt, ids) {
-            Ok(file) => bring_in_file(rt, start, db, sender, file, output, faults),
-            Err(_) => JobEnd::FileFailed,
-        },
+        Ok(sender) => import_at(rt, files, start, paths, sender, output, faults),
         Err(WordFault::Bad) => JobEnd::Replied(Err(Refusal::BadText)),
         Err(WordFault::Memory) => JobEnd::Told(tell_end(TextEnd::Memory, faults)),
     }
 }
 
-// Imports an open pci.ids file into the registry of a file.
-fn bring_in_file<S: Start, O: Output, F: Output>(
+// Imports the pci.ids file at a path into the registry of a file.
+fn import_at<R: Opener, S: Start, O: Output, F: Output>(
     rt: &HostRuntime,
+    files: &R,
     start: S,
-    db: &str,
+    paths: (&str, &str),
     sender: (Account, Option<Key>),
-    file: File,
     output: &mut O,
     faults: &mut F,
 ) -> JobEnd
-    ensures { DoesInFiles ⟦<FileFrom<S> as Disk>⟧ (image_at S.Start) O.Output
-        (ToWork (ToImport sender.0 sender.1 None)) (record {
+    ensures { ImportsAt ⟦<FileFrom<S> as Disk>⟧ (image_at S.Start)
+        (record { opens = R.opens files.now; holds = R.Opened.remaining })
+        O.Output paths.entry.1.now sender.0 sender.1 (record {
           output = output.old;
           output_after = output.new;
           faults = use_of F.Output faults.old faults.new;
           end = result;
         }) }
 {
+    let (db, ids) = paths;
+    let Some(file) = files.open(ids) else {
+        return JobEnd::FileFailed;
+    };
     let (account, key) = sender;
     let mut progress = Progress::new(rt, "importing", rt.stderr().is_terminal());
+    let counted = Counted::new(file, &mut progress);
+    let input = Plain::new(counted);
     let job = RegistryJob::Import {
         account,
         key,
-        input: Plain::new(Counted::new(file, &mut progress)),
+        input,
     };
     let end = do_in_files(rt, start, db, FileJob::Work(job), output, faults);
     progress.clear();
@@ -327,6 +360,8 @@ fn sender_of(
 ) -> Result<(Account, Option<Key>), WordFault>
     ensures ok { IfOk result (λ s. (s.0 ≡ sender.entry.0.now)
         × (s.1 ≡ text_given sender.entry.1)) }
+    ensures good { IfOk result (λ _. IsGoodSender sender.entry.0.now
+        (text_given sender.entry.1)) }
     ensures bad { IsErrOf result WordFault.Bad → IsBadSender sender.entry.0.now
         (text_given sender.entry.1) }
 {

@@ -1,0 +1,10 @@
+use Rattle.std.proofs.Common.{refl}
+use Rattle.pid_cli_jobs.specs.Plain.{ImportsHere, NoFileToImport}
+use Rattle.pid_cli_jobs.proofs.running.import_at.Goals as goal
+
+pub returns : goal.returns
+returns g c = ImportsHere c.in-Some.file c.in-Some.ensures
+    (rw (c.new-input.ensures.wraps, c.new-counted.ensures) at c.do_in_files-end.ensures)
+
+pub returns-in_default : goal.returns-in_default
+returns-in_default g c = NoFileToImport c.in_default.ensures refl (refl, refl)
