@@ -4,7 +4,6 @@ ghost use Rattle.pid_moderation.specs.declared.refusal.Refusal.TheVariants as va
 
 use pid_ident::LineKind;
 use std::alloc::AllocError;
-use std::fmt::{self, Display, Formatter, Write};
 use thiserror::Error;
 
 /// Why a file is not imported.
@@ -20,6 +19,7 @@ pub enum FileFault {
 
 /// Why a command is not accepted. A refused command changes nothing.
 #[derive(Clone, Copy, Debug, PartialEq, Eq, Error)]
+#[error("{}", self.sentence())]
 pub enum Refusal {
     BadPath,
     BadName,
@@ -118,12 +118,6 @@ impl Refusal {
             Refusal::Failed => "the registry has failed earlier",
             Refusal::Changed => "the item is not as expected any more",
         }
-    }
-}
-
-impl Display for Refusal {
-    fn fmt<W: Write>(&self, f: &mut Formatter<W>) -> fmt::Result {
-        f.write_str(self.sentence())
     }
 }
 
