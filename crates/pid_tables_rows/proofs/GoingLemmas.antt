@@ -1,5 +1,6 @@
 -- What calls inside a transaction leave.
-use Rattle.std.proofs.Common.{Ok, Err, Result, OnOk, IfOk, IsTrue, sym, subst, arith}
+use Rattle.std.proofs.Common.{Ok, Err, Result, OnOk, IfOk, IsTrue, sym, subst, arith, ◌∙◌}
+use Rattle.sqlite.proofs.StateLemmas.{survives_then}
 use Rattle.sqlite.specs.Tree.{Trees}
 use Rattle.sqlite.specs.State.{State, Survives}
 use Rattle.sqlite.specs.State.{HasCleanDisk}
@@ -10,6 +11,15 @@ use Rattle.pid_tables_rows.proofs.LeaveLemmas.{leaves_on}
 
 pub earlier : {P : Trees → Type 0} (old new : State) → Survives old new P → HasCleanDisk new → HasCleanDisk old
 earlier old new s clean = omega (arith, s.clean)
+
+-- two calls are one
+pub goes_then : {X Y E F : Type 0} (a b c : State) (x : X) (r : Result Y F) → GoesOn {E = E} a b (Ok x) → GoesOn b c r → GoesOn a c r
+goes_then a b c x r one two = record {
+  survives = survives_then a b c (λ _. ⊥) (λ _. ⊥) (λ _. ⊥) (λ clean db none. none) (λ clean db none. none) one.survives two.survives;
+  was_open = λ clean opened. one.was_open (earlier b c two.survives clean) (two.was_open clean opened);
+  committed = λ clean inside opened. let mid = earlier b c two.survives clean in two.committed clean (one.going mid inside).1 opened ∙ one.committed mid inside (two.was_open clean opened);
+  going = λ clean inside. two.going clean (one.going (earlier b c two.survives clean) inside).1;
+}
 
 -- what was committed before stays, whatever the call answers
 pub holds_on : {X E : Type 0} (old new : State) (r : Result X E) (c : Counts) (v w : Views) → (IsTrue new.is_open → HasCleanDisk new) → GoesOn old new r → Within c old v w → KeepsCommitted new v

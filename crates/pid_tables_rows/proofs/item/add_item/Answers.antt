@@ -3,7 +3,7 @@ use Rattle.pid_tables_rows.specs.declared.version.Version.TheVariants.{Two}
 use Rattle.pid_tables_rows.specs.Faults.{IsMemoryOrStore}
 use Rattle.pid_tables_rows.specs.Schema.{pid_schema}
 use Rattle.pid_tables_rows.proofs.CauseLemmas.{passed_on}
-use Rattle.pid_tables_rows.proofs.GoingLemmas.{earlier}
+use Rattle.pid_tables_rows.proofs.GoingLemmas.{earlier, goes_then}
 use Rattle.pid_tables_rows.proofs.KeyTexts.{insert_item_is, insert_since_is}
 use Rattle.pid_tables_rows.proofs.WriteFaults.{led, insert_writes}
 use Rattle.pid_tables_rows.proofs.WriteRows.{item_added, number_added}
@@ -28,3 +28,6 @@ pub returns-in_err-write_one-clause-shows : goal.returns-in_err-write_one-clause
 returns-in_err-write_one-clause-shows g c clean inside counts v shows none =
     passed_on c.from_residual-in_err-write_one.result _ _ IsMemoryOrStore c.from_residual-in_err-write_one.ensures.1
     (c.in_err-write_one.ensures.runs.untold clean pid_schema (λ opened. shows.schema) (insert_writes (insert_item_is Two)))
+
+pub returns-clause-goes : goal.returns-clause-goes
+returns-clause-goes g c = goes_then (state g.S.Store c.args.tx.now.conn.now) (state g.S.Store c.write_one.new.tx.conn.now) (state g.S.Store c.write_one-2.new.tx.conn.now) _ c.write_one-2.result c.in_ok-write_one.ensures.goes c.write_one-2.ensures.goes

@@ -1,7 +1,7 @@
 use Rattle.sqlite.specs.Held.{state}
 use Rattle.pid_tables_rows.specs.Faults.{IsMemoryOrStore, IsNotNewerSchema}
 use Rattle.pid_tables_rows.proofs.CauseLemmas.{passed_on}
-use Rattle.pid_tables_rows.proofs.GoingLemmas.{earlier}
+use Rattle.pid_tables_rows.proofs.GoingLemmas.{earlier, goes_then}
 use Rattle.pid_tables_rows.proofs.moving.move_tables.Goals as goal
 
 pub returns-clause-shows : goal.returns-clause-shows
@@ -17,3 +17,6 @@ returns-in_err-add_table-clause-shows g c clean inside counts v shows = passed_o
 
 pub returns-in_err-add_table-clause-never : goal.returns-in_err-add_table-clause-never
 returns-in_err-add_table-clause-never g c = passed_on c.from_residual.result _ _ IsNotNewerSchema c.from_residual.ensures.1 c.in_err-add_table.ensures.never
+
+pub returns-clause-goes : goal.returns-clause-goes
+returns-clause-goes g c = goes_then (state g.S.Store c.args.tx.now.conn.now) (state g.S.Store c.add_table.new.tx.conn.now) (state g.S.Store c.raise_labels.new.tx.conn.now) _ c.raise_labels.result c.in_ok-add_table.ensures.goes c.raise_labels.ensures.goes

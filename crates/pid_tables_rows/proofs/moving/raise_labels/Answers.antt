@@ -3,7 +3,7 @@ use Rattle.pid_tables_rows.specs.Faults.{IsMemoryOrStore, IsNotNewerSchema}
 use Rattle.pid_tables_rows.specs.Schema.{schema_of}
 use Rattle.pid_tables_rows.specs.declared.version.Version.TheVariants.{Two}
 use Rattle.pid_tables_rows.proofs.CauseLemmas.{passed_on}
-use Rattle.pid_tables_rows.proofs.GoingLemmas.{earlier}
+use Rattle.pid_tables_rows.proofs.GoingLemmas.{earlier, goes_then}
 use Rattle.pid_tables_rows.proofs.KeyTexts.{insert_meta_is, update_meta_is}
 use Rattle.pid_tables_rows.proofs.MovingLemmas.{between_schema, labels_raised}
 use Rattle.pid_tables_rows.proofs.WriteFaults.{led, insert_writes, update_writes}
@@ -27,3 +27,6 @@ returns-in_err-write_one-clause-raised g c clean inside counts v shows =
 
 pub returns-in_err-write_one-clause-never : goal.returns-in_err-write_one-clause-never
 returns-in_err-write_one-clause-never g c = passed_on c.from_residual.result _ _ IsNotNewerSchema c.from_residual.ensures.1 c.in_err-write_one.ensures.never
+
+pub returns-clause-goes : goal.returns-clause-goes
+returns-clause-goes g c = goes_then (state g.S.Store c.args.tx.now.conn.now) (state g.S.Store c.write_one.new.tx.conn.now) (state g.S.Store c.write_one-2.new.tx.conn.now) _ c.write_one-2.result c.in_ok-write_one.ensures.goes c.write_one-2.ensures.goes
