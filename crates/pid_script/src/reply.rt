@@ -44,13 +44,6 @@ use pid_ident::{Name, Output};
 use pid_lookup::{Answer, LookupRefusal, Unanswered};
 use pid_moderation::{Refusal, Reply, write_reply_line};
 
-// Whether a refusal stops a script.
-fn is_stop(refusal: Refusal) -> bool
-    ensures { result ≡ is_stopping refusal }
-{
-    matches!(refusal, Refusal::Memory | Refusal::Store | Refusal::Failed)
-}
-
 /// Says that memory ran out, which takes none.
 pub fn stop_for_memory<O: Output>(output: &mut O, held: &mut Vec<u8>) -> LineEnd
     ensures told { (reply : List ℕ)
@@ -79,23 +72,15 @@ pub fn refuse_long<O: Output>(output: &mut O, held: &mut Vec<u8>) -> LineEnd
     }
 }
 
+// Whether an answer stops a script.
 fn stops(answer: Result<Reply, Refusal>) -> bool
     ensures true_at { result ≡ true → (e : _) × (answer ≡ Err e) × (is_stopping e ≡ true) }
     ensures false_at { result ≡ false → (e : _) → answer ≡ Err e → is_stopping e ≡ false }
 {
     match answer {
         Ok(_) => false,
-        Err(refusal) => is_stop(refusal),
+        Err(refusal) => matches!(refusal, Refusal::Memory | Refusal::Store | Refusal::Failed),
     }
-}
-
-fn say_lf<O: Output>(output: &mut O, held: &mut Vec<u8>) -> Result<(), LineEnd>
-    ensures told { SaysText result (out (O.taken output.old) held.old.items)
-        (out (O.taken output.new) held.new.items) (10 ∷ []) }
-    ensures end { IfErr result (λ e. e ≡ LineEnd.WriteFault) }
-    ensures fault { result ≡ Err LineEnd.WriteFault → IsSome (O.write_fault output.new) }
-{
-    say(output, held, b"\n")
 }
 
 // Says a text and an LF.
@@ -108,7 +93,7 @@ fn say_ended<O: Output>(output: &mut O, held: &mut Vec<u8>, text: &[u8]) -> Resu
     if let Err(end) = say(output, held, text) {
         return Err(end);
     }
-    say_lf(output, held)
+    say(output, held, b"\n")
 }
 
 // Says a word, a text and an LF.
@@ -130,20 +115,6 @@ fn say_line<O: Output>(
     say_ended(output, held, text)
 }
 
-fn send_line<O: Output>(output: &mut O, answer: Result<Reply, Refusal>) -> Result<(), LineEnd>
-    ensures sent { OnOk result (Appends (O.taken output.old)
-        (O.taken output.new) (outcome_line answer)) }
-    ensures front { OnErr result (SendsFront (O.taken output.old)
-        (O.taken output.new) (outcome_line answer)) }
-    ensures end { IfErr result (λ e. e ≡ LineEnd.WriteFault) }
-    ensures fault { result ≡ Err LineEnd.WriteFault → IsSome (O.write_fault output.new) }
-{
-    match write_reply_line(output, answer) {
-        Ok(()) => Ok(()),
-        Err(_) => Err(LineEnd::WriteFault),
-    }
-}
-
 // Writes all that is held, and the line of an answer after it.
 fn say_answer<O: Output>(
     output: &mut O,
@@ -161,7 +132,10 @@ fn say_answer<O: Output>(
     if let Err(end) = flush(output, held) {
         return Err(end);
     }
-    send_line(output, answer)
+    match write_reply_line(output, answer) {
+        Ok(()) => Ok(()),
+        Err(_) => Err(LineEnd::WriteFault),
+    }
 }
 
 /// Writes the line of an answer, with all that is held. What was answered is written, even if

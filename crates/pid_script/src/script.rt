@@ -75,14 +75,6 @@ fn keep<O: Output>(
     }
 }
 
-// Lets go of the bytes of a line and of the memory that held them.
-fn let_go(alloc: Global, kept: &mut Vec<u8>)
-    ensures empty { kept.new.items ≡ [] }
-    ensures memory { vec_capacity kept.new ≡ 0 }
-{
-    *kept = Vec::new(alloc);
-}
-
 // Answers the open line, which ends with these bytes. A line that came whole is not kept.
 fn end_line<R: Moderated, O: Output>(
     alloc: Global,
@@ -111,7 +103,8 @@ fn end_line<R: Moderated, O: Output>(
         return Err(end);
     }
     let answered = answer_line(alloc, registry, output, held, without_cr(kept));
-    let_go(alloc, kept);
+    // The memory of the line is let go too.
+    *kept = Vec::new(alloc);
     answered
 }
 

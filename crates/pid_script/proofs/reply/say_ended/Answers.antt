@@ -8,4 +8,4 @@ returns-in-Err-clause-told g c = front_within (out (g.O.Output.taken c.args.outp
 
 pub returns-clause-told : goal.returns-clause-told
 returns-clause-told g c =
-    said_more c.say_lf.result (out (g.O.Output.taken c.args.output.now) c.args.held.now.items) (out (g.O.Output.taken c.say.new.output) c.say.new.held.items) (out (g.O.Output.taken c.say_lf.new.output) c.say_lf.new.held.items) c.args.text.now (10 ∷ []) c.in_default.ensures.told c.say_lf.ensures.told
+    said_more c.say-2.result (out (g.O.Output.taken c.args.output.now) c.args.held.now.items) (out (g.O.Output.taken c.say.new.output) c.say.new.held.items) (out (g.O.Output.taken c.say-2.new.output) c.say-2.new.held.items) c.args.text.now (10 ∷ []) c.in_default.ensures.told c.say-2.ensures.told
