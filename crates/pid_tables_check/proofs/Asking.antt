@@ -1,7 +1,8 @@
 -- What it leaves, and what it tells, to prepare the text of a query.
-use Rattle.std.proofs.Common.{◌≡◌, ◌⊎◌, inl, inr, ℕ, zero, suc, List, [], ◌∷◌, Bool, true, false, Some, Ok, Err, Result, IfOk, IfErr, OnOk, IsTrue, refl, sym, ap, subst, ◌∙◌, ◌+◌, ◌<◌, length, get_or, map, arith}
+use mathlib.Core.Bool.{beq}
+use Rattle.std.proofs.Common.{◌≡◌, ◌⊎◌, inl, inr, ℕ, zero, suc, List, [], ◌∷◌, Bool, true, false, not, Some, Ok, Err, Result, IfOk, IfErr, OnOk, IsTrue, refl, sym, ap, subst, ◌∙◌, ◌+◌, ◌<◌, length, get_or, arith}
 use Rattle.std.specs.Result.{result_err}
-use Rattle.std.specs.List.{All, Any}
+use Rattle.std.specs.List.{Any}
 use Rattle.std.specs.Prelude.{◌↔◌}
 use Rattle.sqlite.specs.Order.{Row}
 use Rattle.sqlite.specs.Listing.{understood}
@@ -10,6 +11,7 @@ use Rattle.sqlite.specs.State.{State, HasCleanDisk, Survives, IsUnchanged, IsRol
 use Rattle.sqlite.specs.Held.{Held, state}
 use Rattle.sqlite_trees.specs.declared.store.Store.{Ghosts}
 use Rattle.sqlite.specs.declared.error.Error.{Error}
+use Rattle.sqlite_resolve.specs.declared.compiled.Compiled.{Compiled}
 use Rattle.sqlite_resolve.specs.declared.error.CompileError.{CompileError}
 use Rattle.sqlite_trees.specs.declared.error.StoreError.{StoreError}
 use Rattle.sqlite_trees.specs.declared.error.StoreError.TheVariants as store
@@ -30,7 +32,8 @@ use Rattle.pid_tables_check.specs.declared.shape.Table.{Table}
 use Rattle.pid_tables_check.specs.declared.shape.Table.TheVariants.{Meta, Account, Item, Submission, Remark, Receipt, Since}
 use Rattle.pid_tables_check.specs.Queries.{query_of}
 use Rattle.pid_tables_check.specs.Shapes.{CanBeAsked, HasEachTable, HasSomeTable}
-use Rattle.pid_tables_check.proofs.Each.{same_there, one_more, each_member, each_place, some_member, some_place}
+use Rattle.pid_tables_check.proofs.Each.{same_there, one_more, some_member, some_place}
+use Rattle.pid_tables_check.proofs.Judged.{not_both}
 
 pub err_of : {X E : Type 0} (r : Result X E) (e : E) → result_err r ≡ Some e → r ≡ Err e
 err_of (Ok x) e h = cc
@@ -107,6 +110,23 @@ caused_then a b c e one rests clean h = caused_later a b c (λ _. ⊥) e one.0.s
 pub said_first : (a b c : State) (P : Schema → Type 0) → IsSame a b → OnlyReads b c → HasCleanDisk c → P b.now.schema → P a.now.schema
 said_first a b c P one rests clean h = subst (λ d. P d.schema) (one.1 (rests.clean clean)) h
 
+apart : (b c : Bool) → beq b c ≡ false → b ≡ c → ⊥
+apart true true off same = cc
+apart true false off same = cc
+apart false true off same = cc
+apart false false off same = cc
+
+equal_by : (b c : Bool) → beq b c ≡ true → b ≡ c
+equal_by true true on = refl
+equal_by true false on = absurd cc
+equal_by false true on = absurd cc
+equal_by false false on = refl
+
+alike : (b c : Bool) → (IsTrue b → IsTrue c) → (IsTrue c → IsTrue b) → b ≡ c
+alike true c to back = sym (to refl)
+alike false true to back = back refl
+alike false false to back = refl
+
 module _ (a b c : State) (tables : List Table) (at : ℕ) (t : Table) (sql : List ℕ) (is : sql ≡ query_of (get_or tables at t)) (asked : Bool) (less : at < length tables) (one : IsSame a b) (rests : OnlyReads b c)
     (judged : HasCleanDisk c → IsTrue asked ↔ CanBeAsked b.now.schema sql) where
   abbrev Has : Table → Type 0
@@ -118,16 +138,21 @@ module _ (a b c : State) (tables : List Table) (at : ℕ) (t : Table) (sql : Lis
   more : (P : Table → Type 0) → P (get_or tables at t) → ((k : ℕ) (d : Table) → k < at → P (get_or tables k d)) → (k : ℕ) (d : Table) → k < at + 1 → P (get_or tables k d)
   more P = one_more (λ _ x. P x) tables at (get_or tables at t) less (same_there tables at t (get_or tables at t) less)
 
-  pub none_yet : asked ≡ false → (HasCleanDisk b → (k : ℕ) (d : Table) → k < at → ¬ (Has (get_or tables k d))) → HasCleanDisk c → (k : ℕ) (d : Table) → k < at + 1 → ¬ (Has (get_or tables k d))
-  none_yet off before clean = more (λ x. ¬ (Has x)) (λ has. let on = (here clean).1 has in cc) (before (rests.clean clean))
+  module _ (can : Bool) where
+    abbrev IsSo : Table → Type 0
+    IsSo x = IsTrue can ↔ Has x
 
-  pub all_so_far : asked ≡ true → (HasCleanDisk b → (k : ℕ) (d : Table) → k < at → Has (get_or tables k d)) → HasCleanDisk c → (k : ℕ) (d : Table) → k < at + 1 → Has (get_or tables k d)
-  all_so_far on before clean = more Has ((here clean).0 on) (before (rests.clean clean))
+    pub none_yet : beq asked can ≡ false → (HasCleanDisk b → (k : ℕ) (d : Table) → k < at → ¬ (IsSo (get_or tables k d))) → HasCleanDisk c → (k : ℕ) (d : Table) → k < at + 1 → ¬ (IsSo (get_or tables k d))
+    none_yet other before clean = more (λ x. ¬ (IsSo x)) (λ so. let is_so = here clean in apart asked can other (alike asked can (λ yes. so.1 (is_so.0 yes)) (λ yes. is_so.1 (so.0 yes)))) (before (rests.clean clean))
 
-  pub missed : asked ≡ false → HasCleanDisk c → ¬ (All Has tables)
-  missed off clean all = let on = (here clean).1 (all at t less) in cc
+    pub one_found : beq asked can ≡ true → HasCleanDisk c → Any IsSo tables
+    one_found same clean = (at, get_or tables at t, less, same_there tables at (get_or tables at t) t less, subst (λ b. IsTrue b ↔ Has (get_or tables at t)) (equal_by asked can same) (here clean))
 
 -- ---- all tables
+
+nothing : (b : Bool) → (b ≡ true → ⊥) → not b ≡ true
+nothing true none = absurd (none refl)
+nothing false none = refl
 
 abbrev six : List Table
 six = Meta ∷ Account ∷ Item ∷ Submission ∷ Remark ∷ Receipt ∷ []
@@ -135,27 +160,31 @@ six = Meta ∷ Account ∷ Item ∷ Submission ∷ Remark ∷ Receipt ∷ []
 abbrev seven : List Table
 seven = Meta ∷ Account ∷ Item ∷ Submission ∷ Remark ∷ Receipt ∷ Since ∷ []
 
-module _ (schema : Schema) (tables : List Table) where
+module _ (schema : Schema) where
   abbrev Is : Table → Type 0
   Is t = CanBeAsked schema (query_of t)
 
-  from : (text : List ℕ) → members.Has (map query_of tables) text → (t : Table) × members.Has tables t × (text ≡ query_of t)
-  from text has = unmapped query_of tables text has
+  abbrev IsAsked : Bool → Table → Type 0
+  IsAsked can t = IsTrue can ↔ Is t
 
-  each_of : All Is tables → (text : List ℕ) → members.Has (map query_of tables) text → CanBeAsked schema text
-  each_of all text has = let t = from text has in subst (CanBeAsked schema) (sym t.2) (each_member Is tables all t.0 t.1)
+  -- a text is understood or not
+  known : (r : Result Compiled CompileError) → ((c : Compiled) × (r ≡ Ok c)) ⊎ ¬ ((c : Compiled) × (r ≡ Ok c))
+  known (Ok c) = inl (c, refl)
+  known (Err e) = inr (λ it. let bad = it.1 in cc)
 
-  all_of : ((text : List ℕ) → members.Has (map query_of tables) text → CanBeAsked schema text) → All Is tables
-  all_of each = each_place Is tables (λ t has. each (query_of t) (mapped query_of tables t has))
+  pub each_table : (lacks : Bool) → (IsTrue lacks ↔ Any (IsAsked false) six) → IsTrue (not lacks) ↔ HasEachTable schema
+  each_table lacks judged = (
+    λ none text has.
+        let t = unmapped query_of six text has in
+        elim (known (understood schema text)) [
+          | inl asked ↦ asked
+          | inr not_asked ↦ absurd (not_both lacks none (judged.1 (some_place (IsAsked false) six t.0 t.1 (λ bad. absurd cc, λ is. absurd (not_asked (subst (CanBeAsked schema) (sym t.2) is))))))
+        ],
+    λ each. nothing lacks (λ yes. let t = some_member (IsAsked false) six (judged.0 yes) in let bad = t.2.1 (each (query_of t.0) (mapped query_of six t.0 t.1)) in cc),
+  )
 
-  some_of : Any Is tables → (text : List ℕ) × members.Has (map query_of tables) text × CanBeAsked schema text
-  some_of any = let t = some_member Is tables any in (query_of t.0, mapped query_of tables t.0 t.1, t.2)
-
-  any_of : ((text : List ℕ) × members.Has (map query_of tables) text × CanBeAsked schema text) → Any Is tables
-  any_of some = let t = from some.0 some.1 in some_place Is tables t.0 t.1 (subst (CanBeAsked schema) t.2 some.2)
-
-pub each_table : (schema : Schema) (asked : Bool) → (IsTrue asked ↔ All (Is schema six) six) → IsTrue asked ↔ HasEachTable schema
-each_table schema asked judged = (λ on. each_of schema six (judged.0 on), λ each. judged.1 (all_of schema six each))
-
-pub some_table : (schema : Schema) (asked : Bool) → (IsTrue asked ↔ Any (Is schema seven) seven) → IsTrue asked ↔ HasSomeTable schema
-some_table schema asked judged = (λ on. some_of schema seven (judged.0 on), λ some. judged.1 (any_of schema seven some))
+  pub some_table : (some : Bool) → (IsTrue some ↔ Any (IsAsked true) seven) → IsTrue some ↔ HasSomeTable schema
+  some_table some judged = (
+    λ yes. let t = some_member (IsAsked true) seven (judged.0 yes) in (query_of t.0, mapped query_of seven t.0 t.1, t.2.0 refl),
+    λ has. let t = unmapped query_of seven has.0 has.1 in judged.1 (some_place (IsAsked true) seven t.0 t.1 (λ yes. subst (CanBeAsked schema) t.2 has.2, λ is. refl)),
+  )

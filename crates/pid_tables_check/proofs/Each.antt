@@ -1,6 +1,6 @@
 -- Rows by their places in a list, and as members of it.
 use Rattle.std.proofs.Common.{◌≡◌, inl, inr, ℕ, zero, suc, ◌+◌, ◌<◌, List, [], ◌∷◌, length, get_or, Ok, Err, Result, IfOk, refl, sym, subst, ◌∙◌, arith}
-use Rattle.std.specs.List.{All, Any}
+use Rattle.std.specs.List.{Any}
 use Rattle.sqlite_rules.specs.Lists.{Has}
 use Rattle.pid_tables_rows.proofs.Keys.{numbers_decided}
 
@@ -14,12 +14,6 @@ pub at_place : {X : Type 0} (xs : List X) (i : ℕ) (d : X) → i < length xs �
 at_place [] i d less = absurd (omega (arith, less))
 at_place (x ∷ xs) zero d less = inl refl
 at_place (x ∷ xs) (suc i) d less = inr (at_place xs i d (omega (arith, less)))
-
-pub each_member : {X : Type 0} (P : X → Type 0) (xs : List X) → All P xs → (x : X) → Has xs x → P x
-each_member P xs all x h = let it = placed xs x h in subst P it.2 (all it.0 x it.1)
-
-pub each_place : {X : Type 0} (P : X → Type 0) (xs : List X) → ((x : X) → Has xs x → P x) → All P xs
-each_place P xs all i d less = all (get_or xs i d) (at_place xs i d less)
 
 pub some_member : {X : Type 0} (P : X → Type 0) (xs : List X) → Any P xs → (x : X) × Has xs x × P x
 some_member P xs any = (any.1, subst (Has xs) any.3 (at_place xs any.0 any.1 any.2), any.4)

@@ -1,5 +1,5 @@
 -- The set of the paths of items, and what makes rows of items those of a registry.
-use Rattle.std.proofs.Common.{◌≡◌, ◌⊎◌, inl, inr, ℕ, ◌≤◌, List, [], ◌∷◌, ◌++◌, length, Bool, IsTrue, true, false, cond, refl, sym, ap, subst, ◌∙◌, arith}
+use Rattle.std.proofs.Common.{◌≡◌, ◌⊎◌, ◌&&◌, inl, inr, ℕ, ◌≤◌, List, [], ◌∷◌, ◌++◌, length, Bool, IsTrue, true, false, cond, refl, sym, ap, subst, ◌∙◌, arith}
 use Rattle.std.specs.Prelude.{◌↔◌}
 use Rattle.std.specs.List.{list_any}
 use Rattle.std.specs.Ordering.{is_eq}
@@ -44,13 +44,17 @@ value_before rows r at v h = (h.0, before rows r h.0 h.1, h.2)
 pub texts_same : (p q : List ℕ) → Text p ≡ Text q → p ≡ q
 texts_same p q e = cc
 
+pub both : (one other : Bool) → IsTrue (one && other) ↔ (IsTrue one × IsTrue other)
+both true other = (λ yes. (refl, yes), λ it. it.1)
+both false other = (λ no. absurd cc, λ it. it.0)
+
 -- one row more, and each is so
-pub one_row : (Is : Row → Type 0) (rows : List Row) (r : Row) (good row next : Bool) → (IsTrue next ↔ (IsTrue good × IsTrue row)) → (IsTrue row ↔ Is r) → IsPartJudged (AreEach Is) rows good → IsPartJudged (AreEach Is) (rows ++ r ∷ []) next
-one_row Is rows r good row next both one are = (
+pub one_row : (Is : Row → Type 0) (rows : List Row) (r : Row) (good row : Bool) → (IsTrue row ↔ Is r) → IsPartJudged (AreEach Is) rows good → IsPartJudged (AreEach Is) (rows ++ r ∷ []) (good && row)
+one_row Is rows r good row one are = (
   λ yes x h.
-      let each = both.0 yes in
+      let each = (both good row).0 yes in
       elim (split rows r x h) [ inl early ↦ are.0 each.0 x early | inr same ↦ subst Is (sym same) (one.0 each.1) ],
-  λ all. both.1 (are.1 (λ x h. all x (before rows r x h)), one.1 (all r (last rows r))),
+  λ all. (both good row).1 (are.1 (λ x h. all x (before rows r x h)), one.1 (all r (last rows r))),
 )
 
 -- each of no rows is

@@ -1,5 +1,5 @@
 -- What makes rows of receipts those of a registry.
-use Rattle.std.proofs.Common.{◌≡◌, ◌↔◌, ◌++◌, Bool, IsTrue, ℕ, ◌<◌, ◌≤◌, List, [], ◌∷◌, length, true, refl, sym, ap, subst, ◌∙◌, arith}
+use Rattle.std.proofs.Common.{◌≡◌, ◌↔◌, ◌++◌, ◌&&◌, Bool, IsTrue, ℕ, ◌<◌, ◌≤◌, List, [], ◌∷◌, length, true, refl, sym, ap, subst, ◌∙◌, arith}
 use Rattle.sqlite.specs.declared.types.Value.TheVariants.{Text}
 use Rattle.sqlite.specs.Order.{Row, column}
 use Rattle.pid_ident.specs.Words.{is_account, is_key}
@@ -95,6 +95,6 @@ module _ (rows : List Row) (r : Row) where
   account_is account is it = let of = account_of it in subst (λ a. (is_account a ≡ true) × HasReply rows r a) (texts_same _ _ (sym of.1 ∙ is)) (of.2, of.3)
 
 -- the receipts so far, and one more
-pub one_receipt : (authors : Authors) (rows : List Row) (r : Row) (good row next : Bool) → (IsTrue next ↔ (IsTrue good × IsTrue row)) → ((submissions : List Row) → AreAuthorsOf authors submissions → IsTrue row ↔ IsReceiptRow submissions r)
-    → AreOfAuthors authors rows good → AreOfAuthors authors (rows ++ r ∷ []) next
-one_receipt authors rows r good row next both one are submissions of = one_row (IsReceiptRow submissions) rows r good row next both (one submissions of) (are submissions of)
+pub one_receipt : (authors : Authors) (rows : List Row) (r : Row) (good row : Bool) → ((submissions : List Row) → AreAuthorsOf authors submissions → IsTrue row ↔ IsReceiptRow submissions r)
+    → AreOfAuthors authors rows good → AreOfAuthors authors (rows ++ r ∷ []) (good && row)
+one_receipt authors rows r good row one are submissions of = one_row (IsReceiptRow submissions) rows r good row (one submissions of) (are submissions of)

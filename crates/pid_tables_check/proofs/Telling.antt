@@ -1,5 +1,5 @@
 -- What is told of a database, put together.
-use Rattle.std.proofs.Common.{◌≡◌, inl, inr, ℕ, List, Option, Some, None, Bool, true, false, Ok, Err, Result, MatchResult, codes, refl, sym, ap, subst, ◌∙◌, ◌<◌, arith}
+use Rattle.std.proofs.Common.{◌≡◌, inl, inr, ℕ, List, Option, Some, None, Bool, true, false, Ok, Err, Result, MatchResult, codes, refl, ap, subst, ◌∙◌, ◌<◌, arith}
 use Rattle.std.specs.Prelude.{◌↔◌, ◌++◌}
 use Rattle.std.proofs.lemmas.List.Sorted.{IsPermutation-sym}
 use Rattle.sqlite.specs.Effect.{Database}
@@ -13,42 +13,24 @@ use Rattle.pid_tables_rows.specs.declared.fault.TableFault.{TableFault}
 use Rattle.pid_tables_rows.specs.declared.fault.TableFault.TheVariants.{Memory, Store, NewerSchema, Damaged}
 use Rattle.pid_tables_rows.specs.Faults.{IsMemoryOrStore}
 use Rattle.pid_tables_rows.proofs.TurnLemmas.{permuted}
-use Rattle.pid_tables_check.specs.declared.shape.Table.TheVariants.{Meta}
-use Rattle.pid_tables_check.specs.Checking.{Explains, FindsVersion, IsRegistry, ShowsRegistry}
+use Rattle.pid_tables_check.specs.declared.shape.Table.TheVariants.{Meta, Since}
+use Rattle.pid_tables_check.specs.Checking.{Explains, FindsVersion, IsRegistry, ShowsDamage, ShowsRegistry}
 use Rattle.pid_tables_check.specs.Conditions.{Rows, rows_in, labels, label_row, IsNewer, AreOfRegistry}
 use Rattle.pid_tables_check.specs.Steps.Lacking.{ExplainsLater}
 use Rattle.pid_tables_check.specs.Queries.{query_of}
-use Rattle.pid_tables_check.specs.Steps.Reading.{ShowsFound, TellsDamage, TellsLater}
-use Rattle.pid_tables_check.specs.Shapes.{HasEachTable, HasSomeTable, HasTables, IsMadeFirst, ShowsRows, ShowsLater}
-use Rattle.pid_tables_check.specs.Steps.Shapes.{HasTablesOf}
+use Rattle.pid_tables_check.specs.Steps.Reading.{TellsDamage}
+use Rattle.pid_tables_check.specs.Shapes.{CanBeAsked, HasEachTable, HasSinceTable, HasSomeTable, HasTables, IsMadeFirst, ShowsRows, ShowsLater}
 use Rattle.pid_tables_check.proofs.Complete.{as_six, each_some, tables_each}
 use Rattle.pid_tables_check.proofs.LabelFacts.{label_first, one_number}
 use Rattle.pid_tables_check.proofs.ItemFacts.{texts_same}
 use Rattle.pid_tables_check.proofs.Stored.{stored, registry_stored, never_damaged}
 use Rattle.pid_tables_check.proofs.WholeTexts.{meta_is}
 
--- what is told of the database, without what became of it
-pub first_of : {X : Type 0} (P : X → Type 0) (Q : Type 0) (F : TableFault → Type 0) (r : Result X TableFault) → MatchResult r (λ x. P x × Q) F → MatchResult r P F
-first_of P Q F (Ok x) h = h.0
-first_of P Q F (Err e) h = h
-
-pub untold_later : (version : Option Version) (d : Database) (e : TableFault) → IsMemoryOrStore e → TellsLater version d e
-untold_later version d Memory h = tt
-untold_later version d Store h = tt
-untold_later version d (NewerSchema n) h = absurd h
-untold_later version d Damaged h = absurd h
-
--- no later schema was shown, and then the rest
-pub rest_told : (found : Version) (d : Database) (Q : Type 0) (r : Result (Unit {0}) TableFault) → ShowsLater d None → MatchResult r (λ x. ShowsRegistry found d × Q) (TellsDamage found d)
-    → MatchResult r (λ x. ShowsFound (Some found) d × Q) (TellsLater (Some found) d)
-rest_told found d Q (Ok x) none h = ((h.0, none), h.1)
-rest_told found d Q (Err e) none h = go e h
-  where
-    go : (e : TableFault) → TellsDamage found d e → TellsLater (Some found) d e
-    go Memory h = tt
-    go Store h = tt
-    go (NewerSchema n) h = absurd h
-    go Damaged h = (none, λ it same. subst (λ v. TellsDamage v d Damaged) (let is : found ≡ it = cc in is) h)
+pub untold : (d : Database) (e : TableFault) → IsMemoryOrStore e → Explains d e
+untold d Memory h = tt
+untold d Store h = tt
+untold d (NewerSchema n) h = absurd h
+untold d Damaged h = absurd h
 
 -- the tables are those of one schema alone
 both : (a b : Version) (schema : Schema) → HasTables a schema → HasTables b schema → a ≡ b
@@ -57,44 +39,28 @@ both One Two schema one two = absurd (one.1 two.1)
 both Two One schema one two = absurd (two.1 one.1)
 both Two Two schema one two = refl
 
-same_version : (o : Option Version) (schema : Schema) (it : Version) → HasTablesOf o schema → HasTables it schema → o ≡ Some it
-same_version None schema it none has = absurd (none it has)
-same_version (Some version) schema it one has = ap Some (both version it schema one has)
+-- a table item_since is there, but not with its columns
+pub neither : (schema : Schema) → HasSinceTable schema → ¬ (CanBeAsked schema (query_of Since)) → (version : Version) → ¬ (HasTables version schema)
+neither schema since other One has = has.1 since
+neither schema since other Two has = other has.2
 
-module _ (d : Database) (found : Option Version) (each : HasEachTable d.schema) (has : HasTablesOf found d.schema) where
-  pub explained : (e : TableFault) → TellsLater found d e → Explains d e
-  explained Memory h = tt
-  explained Store h = tt
-  explained (NewerSchema n) h = h
-  explained Damaged h = (each_some d.schema each, λ asked. h.0, λ it there. h.1 it (same_version found d.schema it has there))
+-- what is told where each of the six tables is there, and no later schema
+module _ (d : Database) (each : HasEachTable d.schema) (none : ShowsLater d None) where
+  pub neither_schema : ((version : Version) → ¬ (HasTables version d.schema)) → Explains d Damaged
+  neither_schema never = (each_some d.schema each, λ asked. none, λ version has. absurd (never version has))
 
-pub finds : (d : Database) (found : Option Version) → HasTablesOf found d.schema → ShowsFound found d → FindsVersion d found
-finds d None has h = absurd h
-finds d (Some found) has h = (has, h.0, h.1)
+  pub damage_explained : (found : Version) → HasTables found d.schema → (e : TableFault) → TellsDamage found d e → Explains d e
+  damage_explained found has Memory h = tt
+  damage_explained found has Store h = tt
+  damage_explained found has (NewerSchema n) h = absurd h
+  damage_explained found has Damaged h = (each_some d.schema each, λ asked. none, λ version there. subst (λ v. ShowsDamage v d) (both found version d.schema has there) h)
 
--- a is the database at first, b after it was asked for the six tables, c after it was asked for the seventh
-module _ (a b c : Database) (found : Option Version) (one : b ≡ a) (two : c ≡ b) (each : HasEachTable a.schema) (of : HasEachTable b.schema → HasTablesOf found b.schema) where
-  has : HasTablesOf found a.schema
-  has = subst (λ (d : Database). HasTablesOf found d.schema) one (of (subst (λ (d : Database). HasEachTable d.schema) (sym one) each))
-
-  back : (P : Database → Type 0) → P a → P c
-  back P h = subst P (sym (two ∙ one)) h
-
-  pub whole_fault : (e : TableFault) → (HasEachTable c.schema → HasTablesOf found c.schema → TellsLater found c e) → Explains a e
-  whole_fault e told =
-      let late = told (back (λ d. HasEachTable d.schema) each) (back (λ d. HasTablesOf found d.schema) has) in
-      explained a found each has e (subst (λ d. TellsLater found d e) (two ∙ one) late)
-
-  pub whole_found : (HasEachTable c.schema → HasTablesOf found c.schema → ShowsFound found c) → FindsVersion a found
-  whole_found told =
-      let late = told (back (λ d. HasEachTable d.schema) each) (back (λ d. HasTablesOf found d.schema) has) in
-      finds a found has (subst (λ d. ShowsFound found d) (two ∙ one) late)
-
-pub lacked : (d : Database) (e : TableFault) → HasSomeTable d.schema → ¬ (HasEachTable d.schema) → ExplainsLater d e → Explains d e
-lacked d Memory some none h = tt
-lacked d Store some none h = tt
-lacked d (NewerSchema n) some none h = h
-lacked d Damaged some none h = (some, h, λ version has. absurd (none (tables_each version d.schema has)))
+pub lacked : (d : Database) (r : Result (Option Version) TableFault) → HasSomeTable d.schema → ¬ (HasEachTable d.schema) → MatchResult r (λ found. ⊥) (ExplainsLater d) → MatchResult r (FindsVersion d) (Explains d)
+lacked d (Ok found) some none h = absurd h
+lacked d (Err Memory) some none h = tt
+lacked d (Err Store) some none h = tt
+lacked d (Err (NewerSchema n)) some none h = h
+lacked d (Err Damaged) some none h = (some, h, λ version has. absurd (none (tables_each version d.schema has)))
 
 -- ---- tables that were made first
 

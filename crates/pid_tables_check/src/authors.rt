@@ -13,14 +13,10 @@ ghost use Rattle.std.specs.Prelude.{
   IfOk,
   IfErr,
   OnOk,
-  string_bytes,
 };
-ghost use Rattle.std.specs.BTreeMap.{btree_map_len, get_by_text};
-ghost use Rattle.sqlite.specs.declared.types.Value.TheVariants.{Text as TextValue};
-ghost use Rattle.sqlite.specs.Order.{column, Row as Values};
-ghost use Rattle.pid_tables_rows.specs.TableRows.{number};
+ghost use Rattle.std.specs.BTreeMap.{get_by_text};
+ghost use Rattle.sqlite.specs.Order.{Row as Values};
 ghost use Rattle.pid_tables_check.specs.Steps.AuthorSets.{
-  AddsName,
   AreAuthorsOf,
   HasPlace,
   IsByAuthor,
@@ -55,41 +51,20 @@ pub(crate) fn no_authors(alloc: Global) -> Authors
     }
 }
 
-fn insert_name(
-    names: &mut BTreeMap<String, u32>,
-    name: String,
-    place: u32,
-) -> Result<(), TableFault>
-    ensures added { get_by_text names.old (string_bytes name) ≡ None
-        → OnOk result (AddsName names.old names.new (string_bytes name) place) }
-    ensures untold { IfErr result IsMemoryOrStore }
-{
-    let inserted = names.insert(name, place).is_ok();
-    if !inserted {
-        return Err(TableFault::Memory);
-    }
-    Ok(())
-}
-
-fn next_place(names: &BTreeMap<String, u32>) -> Result<u32, TableFault>
-    ensures next { IfOk result (λ place. place ≡ btree_map_len names.now) }
-    ensures untold { IfErr result IsMemoryOrStore }
-{
-    match u32::try_from(names.len()) {
-        Ok(place) => Ok(place),
-        Err(_) => Err(TableFault::Memory),
-    }
-}
-
 // A name that is not there yet.
 fn add_name(names: &mut BTreeMap<String, u32>, alloc: Global, name: &str) -> Result<u32, TableFault>
     ensures placed { get_by_text names.old name.now ≡ None
         → IfOk result (PlacesName names.old names.new name.now) }
     ensures untold { IfErr result IsMemoryOrStore }
 {
-    let place = next_place(names)?;
+    let Ok(place) = u32::try_from(names.len()) else {
+        return Err(TableFault::Memory);
+    };
     let owned = String::from_str(alloc, name)?;
-    insert_name(names, owned, place)?;
+    let inserted = names.insert(owned, place).is_ok();
+    if !inserted {
+        return Err(TableFault::Memory);
+    }
     Ok(place)
 }
 
@@ -113,32 +88,6 @@ fn place_of(names: &mut BTreeMap<String, u32>, alloc: Global, name: &str) -> Res
     }
 }
 
-fn insert_other(
-    others: &mut BTreeSet<(u64, u32)>,
-    submission: u64,
-    place: u32,
-) -> Result<(), TableFault>
-    ensures added { (turn : List ℕ) (n k : ℕ) → OnOk result (HasPlace turn others.new n k
-        ↔ (HasPlace turn others.old n k ⊎ ((submission ≡ n) × (place ≡ k)))) }
-    ensures untold { IfErr result IsMemoryOrStore }
-{
-    match others.insert((submission, place)) {
-        Ok(_) => Ok(()),
-        Err(_) => Err(TableFault::Memory),
-    }
-}
-
-fn push_place(turn: &mut Vec<u32>, place: u32) -> Result<(), TableFault>
-    ensures pushed { OnOk result (turn.new.items ≡ turn.old.items ++ place ∷ []) }
-    ensures untold { IfErr result IsMemoryOrStore }
-{
-    let pushed = turn.push(place).is_ok();
-    if !pushed {
-        return Err(TableFault::Memory);
-    }
-    Ok(())
-}
-
 fn insert_place(
     turn: &mut Vec<u32>,
     others: &mut BTreeSet<(u64, u32)>,
@@ -150,26 +99,16 @@ fn insert_place(
     ensures untold { IfErr result IsMemoryOrStore }
 {
     if submission > 0 && submission - 1 == turn.len() as u64 {
-        push_place(turn, place)?;
+        let pushed = turn.push(place).is_ok();
+        if !pushed {
+            return Err(TableFault::Memory);
+        }
         return Ok(());
     }
-    insert_other(others, submission, place)
-}
-
-fn insert_author(
-    authors: &mut Authors,
-    alloc: Global,
-    submission: u64,
-    author: &str,
-) -> Result<(), TableFault>
-    ensures added { (rows : List Values) (row : Values) → column row 0 ≡ number submission
-        → column row 1 ≡ TextValue author.now → AreAuthorsOf authors.old rows
-        → OnOk result (AreAuthorsOf authors.new (rows ++ row ∷ [])) }
-    ensures untold { IfErr result IsMemoryOrStore }
-{
-    let place = place_of(&mut authors.names, alloc, author)?;
-    insert_place(&mut authors.turn, &mut authors.others, submission, place)?;
-    Ok(())
+    match others.insert((submission, place)) {
+        Ok(_) => Ok(()),
+        Err(_) => Err(TableFault::Memory),
+    }
 }
 
 /// Adds the number and the author of a row.
@@ -178,13 +117,15 @@ pub(crate) fn add_author(authors: &mut Authors, alloc: Global, row: &Row) -> Res
         → OnOk result (AreAuthorsOf authors.new (rows ++ row.now ∷ [])) }
     ensures untold { IfErr result IsMemoryOrStore }
 {
-    match number_at(row, 0) {
-        None => Ok(()),
-        Some(submission) => match text_at(row, 1) {
-            None => Ok(()),
-            Some(author) => insert_author(authors, alloc, submission, author),
-        },
-    }
+    let Some(submission) = number_at(row, 0) else {
+        return Ok(());
+    };
+    let Some(author) = text_at(row, 1) else {
+        return Ok(());
+    };
+    let place = place_of(&mut authors.names, alloc, author)?;
+    insert_place(&mut authors.turn, &mut authors.others, submission, place)?;
+    Ok(())
 }
 
 fn is_in_turn(turn: &[u32], submission: u64, place: u32) -> bool

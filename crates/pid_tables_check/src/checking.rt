@@ -11,9 +11,8 @@ ghost use Rattle.pid_tables_check.specs.Checking.{
 };
 ghost use Rattle.pid_tables_check.specs.Steps.Clauses.{JudgesRows};
 ghost use Rattle.pid_tables_check.specs.Steps.Labels.{ShowsLabels};
-ghost use Rattle.pid_tables_check.specs.Steps.Reading.{ShowsFound, TellsDamage, TellsLater};
+ghost use Rattle.pid_tables_check.specs.Steps.Reading.{TellsDamage};
 ghost use Rattle.pid_tables_check.specs.Shapes.{HasEachTable, HasTables, IsMadeFirst};
-ghost use Rattle.pid_tables_check.specs.Steps.Shapes.{HasTablesOf};
 
 use crate::lacking::check_lacking;
 use crate::meta::{Labels, are_labels, read_labels, revision_told};
@@ -46,26 +45,27 @@ fn check_rows<S: Alter>(
     Ok(())
 }
 
-// The rows of the tables, each of which is there.
+// The schema of the tables, where each of the six is there.
 fn check_tables<S: Alter>(
     conn: &mut Connection<S>,
     alloc: Global,
-    version: Option<Version>,
-) -> Result<(), TableFault>
+) -> Result<Option<Version>, TableFault>
     requires { conn.old.in_transaction ≡ false }
     ensures rests { OnlyReads S.Store conn.old conn.new }
-    ensures told { JudgesRows S.Store conn.old conn.new result
-        (λ d. HasEachTable d.schema × HasTablesOf version d.schema)
-        (λ d x. ShowsFound version d) (TellsLater version) }
+    ensures told { HasCleanDisk S.Store conn.new → HasEachTable (seen S.Store conn.old).schema
+        → MatchResult result (FindsVersion (seen S.Store conn.old))
+        (Explains (seen S.Store conn.old)) }
 {
+    let found = tables_of(conn)?;
     let labels = read_labels(conn)?;
     if let Some(number) = labels.later {
         return Err(TableFault::NewerSchema(number));
     }
-    match version {
-        None => Err(TableFault::Damaged),
-        Some(version) => check_rows(conn, alloc, version, labels),
-    }
+    let Some(version) = found else {
+        return Err(TableFault::Damaged);
+    };
+    check_rows(conn, alloc, version, labels)?;
+    Ok(found)
 }
 
 /// The schema of the tables, if they are those of some registry; `None` if there is no table.
@@ -99,12 +99,10 @@ pub fn check<S: Alter>(
         (λ fault. IsRegistry version (seen S.Store conn.old) → IsMemoryOrStore fault) }
 {
     if has_each_table(conn)? {
-        let version = tables_of(conn)?;
-        check_tables(conn, alloc, version)?;
-        return Ok(version);
+        return check_tables(conn, alloc);
     }
     if has_some_table(conn)? {
-        check_lacking(conn)?;
+        return check_lacking(conn);
     }
     Ok(None)
 }

@@ -32,7 +32,6 @@ ghost use Rattle.pid_tables_rows.specs.Faults.{IsMemoryOrStore};
 
 use crate::read::{Keeper, keep_rows, one_more};
 use crate::shape::Table;
-use crate::tables::are_both;
 use crate::words::{has_name, path_at};
 use pid_ident::Path;
 use pid_moderation::ITEMS;
@@ -92,15 +91,16 @@ fn hold_parents(paths: &BTreeSet<Path>) -> bool
     true
 }
 
-// What judging the items takes of the rows so far: `good` says whether each alone is an item's.
+/// What is kept of the items: `good` says whether each row so far is an item's alone, and once all
+/// are read, whether they are those of a registry.
 #[derive(Drop)]
-struct ItemKeeper {
-    good: bool,
-    count: u64,
-    paths: BTreeSet<Path>,
+pub(crate) struct Items {
+    pub(crate) good: bool,
+    pub(crate) count: u64,
+    pub(crate) paths: BTreeSet<Path>,
 }
 
-impl Keeper for ItemKeeper {
+impl Keeper for Items {
     ghost use Rattle.pid_tables_check.specs.Steps.Keeping.{TakesItems};
 
     ghost keeps = { λ first rows it. TakesItems rows it };
@@ -108,29 +108,21 @@ impl Keeper for ItemKeeper {
     fn keep(&mut self, row: &Row) -> Result<(), TableFault> {
         self.count = one_more(self.count)?;
         let has_path = add_path(&mut self.paths, row)?;
-        self.good = are_both(self.good, is_item_row(row, has_path));
+        self.good &= is_item_row(row, has_path);
         Ok(())
     }
 }
 
-fn are_items(keeper: &ItemKeeper) -> bool
-    ensures { (rows : List Values) → TakesItems rows keeper.now → IsTrue result ↔ AreItems rows }
+fn are_items(items: &Items) -> bool
+    ensures { (rows : List Values) → TakesItems rows items.now → IsTrue result ↔ AreItems rows }
 {
-    if !keeper.good {
+    if !items.good {
         return false;
     }
-    if keeper.count > ITEMS as u64 {
+    if items.count > ITEMS as u64 {
         return false;
     }
-    hold_parents(&keeper.paths)
-}
-
-/// What is kept of the items.
-#[derive(Drop)]
-pub(crate) struct Items {
-    pub(crate) good: bool,
-    pub(crate) count: u64,
-    pub(crate) paths: BTreeSet<Path>,
+    hold_parents(&items.paths)
 }
 
 /// Reads the items, and judges whether they are those of a registry.
@@ -143,15 +135,12 @@ pub(crate) fn read_items<S: Alter>(
     ensures keeps { KeepsTable S.Store conn.old conn.new result table.Item
         KeepsItems }
 {
-    let mut keeper = ItemKeeper {
+    let mut items = Items {
         good: true,
         count: 0,
         paths: BTreeSet::new(alloc),
     };
-    keep_rows(conn, Table::Item, &mut keeper)?;
-    Ok(Items {
-        good: are_items(&keeper),
-        count: keeper.count,
-        paths: keeper.paths,
-    })
+    keep_rows(conn, Table::Item, &mut items)?;
+    items.good = are_items(&items);
+    Ok(items)
 }

@@ -3,7 +3,6 @@
 ghost use Rattle.std.specs.Prelude.{
   ◌≡◌,
   ◌↔◌,
-  ◌<◌,
   ◌≤◌,
   ◌++◌,
   ◌∷◌,
@@ -14,10 +13,8 @@ ghost use Rattle.std.specs.Prelude.{
   IsTrue,
   IfSome,
   IfNone,
-  codes,
 };
-ghost use Rattle.sqlite.specs.declared.types.Value.TheVariants.{Text as TextValue};
-ghost use Rattle.sqlite.specs.Order.{column, Row as Values};
+ghost use Rattle.sqlite.specs.Order.{Row as Values};
 ghost use Rattle.pid_moderation.specs.CheckTables.{most_revision};
 ghost use Rattle.pid_tables_rows.specs.Clauses.{OnlyReads};
 ghost use Rattle.pid_tables_check.specs.Conditions.{label_row, AreLabels};
@@ -35,20 +32,10 @@ ghost use Rattle.pid_tables_check.specs.declared.shape.Table.TheVariants as tabl
 
 use crate::read::{Keeper, keep_rows};
 use crate::shape::Table;
-use crate::tables::are_both;
-use crate::value::{number_at, text_at};
+use crate::value::{is_text_at, number_at};
 use pid_moderation::REVISIONS;
 use pid_tables_rows::{TableFault, Version};
 use sqlite::{Alter, Connection, Row};
-
-fn has_label(row: &Row, label: &str) -> bool
-    ensures { IsTrue result ↔ (column row.now 0 ≡ TextValue label.now) }
-{
-    match text_at(row, 0) {
-        Some(text) => text == label,
-        None => false,
-    }
-}
 
 // The number under a label.
 fn labelled(row: &Row, label: &str) -> Option<u64>
@@ -58,20 +45,10 @@ fn labelled(row: &Row, label: &str) -> Option<u64>
     if row.column_count() != 2 {
         return None;
     }
-    if !has_label(row, label) {
+    if !is_text_at(row, 0, label) {
         return None;
     }
     number_at(row, 1)
-}
-
-fn later(row: &Row) -> Option<u64>
-    ensures found { IfSome result (λ n. (2 < n) × (row.now ≡ label_row (codes "schema", n))) }
-    ensures none { IfNone result ((n : ℕ) → 2 < n → row.now ≡ label_row (codes "schema", n) → ⊥) }
-{
-    match labelled(row, "schema") {
-        Some(number) => { if number > 2 { Some(number) } else { None } }
-        None => None,
-    }
 }
 
 // The number of a later schema, with one more row.
@@ -79,10 +56,13 @@ fn later_so_far(found: Option<u64>, row: &Row) -> Option<u64>
     ensures { (rows : List Values) → IsLater rows found
         → IsLater (rows ++ row.now ∷ []) result }
 {
-    match found {
-        Some(number) => Some(number),
-        None => later(row),
+    if let Some(number) = found {
+        return Some(number);
     }
+    let Some(number) = labelled(row, "schema") else {
+        return None;
+    };
+    if number > 2 { Some(number) } else { None }
 }
 
 /// What rows say of a label: no number, one, or several.
@@ -168,7 +148,7 @@ impl Keeper for Labels {
     ghost keeps = { λ first rows it. TakesLabels rows it };
 
     fn keep(&mut self, row: &Row) -> Result<(), TableFault> {
-        self.good = are_both(self.good, is_label(row));
+        self.good &= is_label(row);
         self.later = later_so_far(self.later, row);
         self.schema = told_so_far(self.schema, "schema", row);
         self.items = told_so_far(self.items, "items", row);

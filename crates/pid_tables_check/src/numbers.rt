@@ -11,10 +11,9 @@ ghost use Rattle.std.specs.Prelude.{
   IfErr,
   OnOk,
 };
-ghost use Rattle.sqlite.specs.Order.{column, Row as Values};
-ghost use Rattle.pid_tables_rows.specs.TableRows.{number};
+ghost use Rattle.sqlite.specs.Order.{Row as Values};
 ghost use Rattle.pid_tables_rows.specs.Faults.{IsMemoryOrStore};
-ghost use Rattle.pid_tables_check.specs.Steps.NumberSets.{AreNumbersOf, CountFromOne, HasNumber};
+ghost use Rattle.pid_tables_check.specs.Steps.NumberSets.{AreNumbersOf, CountFromOne};
 
 use crate::value::number_at;
 use pid_tables_rows::TableFault;
@@ -39,12 +38,15 @@ pub(crate) fn no_numbers(alloc: Global) -> Numbers
     }
 }
 
-fn insert_number(numbers: &mut Numbers, num: u64) -> Result<(), TableFault>
-    ensures added { (rows : List Values) (row : Values) → column row 0 ≡ number num
-        → AreNumbersOf numbers.old rows
-        → OnOk result (AreNumbersOf numbers.new (rows ++ row ∷ [])) }
+/// Adds the number of a row.
+pub(crate) fn add_number(numbers: &mut Numbers, row: &Row) -> Result<(), TableFault>
+    ensures added { (rows : List Values) → AreNumbersOf numbers.old rows
+        → OnOk result (AreNumbersOf numbers.new (rows ++ row.now ∷ [])) }
     ensures untold { IfErr result IsMemoryOrStore }
 {
+    let Some(num) = number_at(row, 0) else {
+        return Ok(());
+    };
     if num > 0 && num - 1 == numbers.turn {
         numbers.turn = num;
         return Ok(());
@@ -55,34 +57,13 @@ fn insert_number(numbers: &mut Numbers, num: u64) -> Result<(), TableFault>
     }
 }
 
-/// Adds the number of a row.
-pub(crate) fn add_number(numbers: &mut Numbers, row: &Row) -> Result<(), TableFault>
-    ensures added { (rows : List Values) → AreNumbersOf numbers.old rows
-        → OnOk result (AreNumbersOf numbers.new (rows ++ row.now ∷ [])) }
-    ensures untold { IfErr result IsMemoryOrStore }
-{
-    match number_at(row, 0) {
-        None => Ok(()),
-        Some(num) => insert_number(numbers, num),
-    }
-}
-
-fn has_number(numbers: &Numbers, num: u64) -> bool
-    ensures { IsTrue result ↔ HasNumber numbers.now num }
-{
-    if num > 0 && num <= numbers.turn {
-        return true;
-    }
-    numbers.others.contains(&num)
-}
-
 /// Whether each number up to the count of the rows is there.
 pub(crate) fn count_from_one(numbers: &Numbers, count: u64) -> bool
     ensures { (rows : List Values) → AreNumbersOf numbers.now rows → count ≡ length rows
         → IsTrue result ↔ CountFromOne rows }
 {
-    for at in 0..count {
-        if !has_number(numbers, at + 1) {
+    for at in numbers.turn..count {
+        if !numbers.others.contains(&(at + 1)) {
             return false;
         }
     }

@@ -19,7 +19,6 @@ ghost use Rattle.pid_tables_check.specs.Steps.AuthorSets.{
 use crate::authors::{Authors, is_by};
 use crate::read::{Keeper, keep_rows};
 use crate::shape::Table;
-use crate::tables::are_both;
 use crate::value::{number_at, text_at};
 use pid_ident::{is_account, is_key};
 use pid_moderation::ITEMS;
@@ -137,7 +136,7 @@ impl Keeper for ReceiptKeeper<'_> {
     ghost keeps = { TakesReceipts };
 
     fn keep(&mut self, row: &Row) -> Result<(), TableFault> {
-        self.good = are_both(self.good, is_receipt_row(row, self.authors));
+        self.good &= is_receipt_row(row, self.authors);
         Ok(())
     }
 }

@@ -17,7 +17,6 @@ ghost use Rattle.pid_tables_rows.specs.Faults.{IsMemoryOrStore};
 
 use crate::read::{Keeper, keep_rows};
 use crate::shape::Table;
-use crate::tables::are_both;
 use crate::value::{has_number, has_words, number_at};
 use crate::words::has_filled_text;
 use pid_moderation::REMARKS;
@@ -113,7 +112,7 @@ impl Keeper for RemarkKeeper {
     ghost keeps = { λ first rows it. TakesRemarks rows it };
 
     fn keep(&mut self, row: &Row) -> Result<(), TableFault> {
-        self.good = are_both(self.good, is_remark_row(row));
+        self.good &= is_remark_row(row);
         add_place(&mut self.places, row)?;
         Ok(())
     }

@@ -12,7 +12,7 @@ ghost use Rattle.std.specs.Prelude.{
   IfErr,
   OnOk,
 };
-ghost use Rattle.std.specs.List.{All, Any};
+ghost use Rattle.std.specs.List.{Any};
 ghost use Rattle.sqlite.specs.Held.{state};
 ghost use Rattle.pid_tables_rows.specs.Faults.{fault_of_sql, IsMemoryOrStore};
 ghost use Rattle.pid_tables_rows.specs.declared.fault.TableFault.TheVariants.{Damaged};
@@ -118,34 +118,20 @@ pub(crate) fn query(table: Table) -> &'static str
     }
 }
 
-fn has_all<S: Alter>(conn: &mut Connection<S>, tables: &[Table]) -> Result<bool, TableFault>
+// Whether the query of one of the tables can be asked; or, if `can` is false, cannot be.
+fn some_can<S: Alter>(
+    conn: &mut Connection<S>,
+    tables: &[Table],
+    can: bool,
+) -> Result<bool, TableFault>
     requires { conn.old.in_transaction ≡ false }
     ensures rests { OnlyReads S.Store conn.old conn.new }
     ensures same { HasCleanDisk S.Store conn.new
-        → IfOk result (λ all. (seen S.Store conn.new) ≡ (seen S.Store conn.old)) }
+        → IfOk result (λ some. (seen S.Store conn.new) ≡ (seen S.Store conn.old)) }
     ensures asked { HasCleanDisk S.Store conn.new
-        → IfOk result (λ all. IsTrue all
-        ↔ All (λ t. CanBeAsked (seen S.Store conn.old).schema (query_of t)) tables.now) }
-    ensures was_open { HasCleanDisk S.Store conn.new → 0 < length tables.now
-        → OnOk result (IsTrue (is_open S.Store conn.old)) }
-    ensures untold { IfErr result IsMemoryOrStore }
-{
-    for table in tables {
-        if !can_ask(conn, query(*table))? {
-            return Ok(false);
-        }
-    }
-    Ok(true)
-}
-
-fn has_any<S: Alter>(conn: &mut Connection<S>, tables: &[Table]) -> Result<bool, TableFault>
-    requires { conn.old.in_transaction ≡ false }
-    ensures rests { OnlyReads S.Store conn.old conn.new }
-    ensures same { HasCleanDisk S.Store conn.new
-        → IfOk result (λ any. (seen S.Store conn.new) ≡ (seen S.Store conn.old)) }
-    ensures asked { HasCleanDisk S.Store conn.new
-        → IfOk result (λ any. IsTrue any
-        ↔ Any (λ t. CanBeAsked (seen S.Store conn.old).schema (query_of t)) tables.now) }
+        → IfOk result (λ some. IsTrue some
+        ↔ Any (λ t. IsTrue can ↔ CanBeAsked (seen S.Store conn.old).schema (query_of t))
+        tables.now) }
     ensures was_open { HasCleanDisk S.Store conn.new → 0 < length tables.now
         → OnOk result (IsTrue (is_open S.Store conn.old)) }
     ensures untold { IfErr result IsMemoryOrStore }
@@ -153,7 +139,7 @@ fn has_any<S: Alter>(conn: &mut Connection<S>, tables: &[Table]) -> Result<bool,
         → IfErr result (IsCaused S.Store conn.old conn.new) }
 {
     for table in tables {
-        if can_ask(conn, query(*table))? {
+        if can_ask(conn, query(*table))? == can {
             return Ok(true);
         }
     }
@@ -172,7 +158,8 @@ pub(crate) fn has_each_table<S: Alter>(conn: &mut Connection<S>) -> Result<bool,
         → OnOk result (IsTrue (is_open S.Store conn.old)) }
     ensures untold { IfErr result IsMemoryOrStore }
 {
-    has_all(conn, &SIX)
+    let lacks_some = some_can(conn, &SIX, false)?;
+    Ok(!lacks_some)
 }
 
 /// Whether some of the seven tables is there: whether a query of its columns by their names can be
@@ -188,7 +175,7 @@ pub fn has_some_table<S: Alter>(conn: &mut Connection<S>) -> Result<bool, TableF
         → OnOk result (IsTrue (is_open S.Store conn.old)) }
     ensures untold { IfErr result IsMemoryOrStore }
 {
-    has_any(conn, &SEVEN)
+    some_can(conn, &SEVEN, true)
 }
 
 /// Of which schema the tables are, if each of the six is there.

@@ -1,8 +1,7 @@
 //! The numbers of changes: each item has one, which is at most the revision.
-ghost use Rattle.std.specs.Prelude.{◌≡◌, ◌↔◌, ◌≤◌, List, ℕ, false, IsTrue};
-ghost use Rattle.sqlite.specs.Order.{column, Row as Values};
+ghost use Rattle.std.specs.Prelude.{◌≡◌, ◌↔◌, List, false, IsTrue};
+ghost use Rattle.sqlite.specs.Order.{Row as Values};
 ghost use Rattle.pid_tables_rows.specs.Clauses.{OnlyReads};
-ghost use Rattle.pid_tables_rows.specs.TableRows.{number};
 ghost use Rattle.pid_tables_check.specs.Conditions.{IsSinceRow};
 ghost use Rattle.pid_tables_check.specs.Steps.PathSets.{HasPath};
 ghost use Rattle.pid_tables_check.specs.Steps.Clauses.{KeepsTable};
@@ -12,23 +11,12 @@ ghost use Rattle.pid_tables_check.specs.declared.shape.Table.TheVariants as tabl
 use crate::item::add_path;
 use crate::read::{Keeper, keep_rows};
 use crate::shape::Table;
-use crate::tables::are_both;
-use crate::value::number_at;
+use crate::value::is_within;
 use pid_ident::Path;
 use pid_tables_rows::TableFault;
 use sqlite::{Alter, Connection, Row};
 use std::alloc::Global;
 use std::collections::BTreeSet;
-
-fn is_within(row: &Row, revision: u64) -> bool
-    ensures { IsTrue result ↔ ((since : ℕ) × (column row.now 1 ≡ number since)
-        × (since ≤ revision)) }
-{
-    match number_at(row, 1) {
-        Some(since) => since <= revision,
-        None => false,
-    }
-}
 
 // Whether a row is one of a number. It is known whether it has a path.
 fn is_since_row(row: &Row, has_path: bool, revision: u64) -> bool
@@ -40,7 +28,7 @@ fn is_since_row(row: &Row, has_path: bool, revision: u64) -> bool
     if row.column_count() != 2 {
         return false;
     }
-    is_within(row, revision)
+    is_within(row, 1, revision)
 }
 
 // What judging the numbers takes of the rows so far.
@@ -58,7 +46,7 @@ impl Keeper for SinceKeeper {
 
     fn keep(&mut self, row: &Row) -> Result<(), TableFault> {
         let has_path = add_path(&mut self.paths, row)?;
-        self.good = are_both(self.good, is_since_row(row, has_path, self.revision));
+        self.good &= is_since_row(row, has_path, self.revision);
         Ok(())
     }
 }

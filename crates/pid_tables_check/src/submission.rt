@@ -10,11 +10,8 @@ ghost use Rattle.std.specs.Prelude.{
   [],
   ℕ,
   length,
-  true,
   false,
   IsTrue,
-  IfSome,
-  IfNone,
 };
 ghost use Rattle.sqlite.specs.declared.types.Value.TheVariants.{Text as TextValue};
 ghost use Rattle.sqlite.specs.Order.{column, Row as Values};
@@ -25,7 +22,6 @@ ghost use Rattle.pid_tables_check.specs.Steps.NamesRead.{
   IsAmong,
   IsDecidedAmong,
   IsSubmissionAmong,
-  StandsInRows,
 };
 ghost use Rattle.pid_tables_rows.specs.Clauses.{OnlyReads};
 ghost use Rattle.pid_tables_check.specs.Steps.Clauses.{KeepsTable};
@@ -34,25 +30,15 @@ ghost use Rattle.pid_tables_check.specs.Steps.NumberSets.{AreNumbersOf};
 ghost use Rattle.pid_tables_check.specs.declared.shape.Table.TheVariants as table;
 
 use crate::authors::{Authors, add_author, no_authors};
-use crate::names;
 use crate::numbers::{Numbers, add_number, count_from_one, no_numbers};
 use crate::read::{Keeper, keep_rows, one_more};
 use crate::shape::Table;
-use crate::value::{number_at, text_at};
-use crate::words::{has_filled_text, has_name, has_path, has_text, is_blank};
+use crate::value::{is_text_at, number_at, text_at};
+use crate::words::{has_filled_text, has_name, has_path, has_text};
 use pid_tables_rows::TableFault;
 use sqlite::{Alter, Connection, Row};
 use std::alloc::Global;
 use std::collections::BTreeSet;
-
-fn is_numbered(row: &Row, count: u64) -> bool
-    ensures { IsTrue result ↔ ((n : ℕ) × (column row.now 0 ≡ number n) × (1 ≤ n) × (n ≤ count)) }
-{
-    match number_at(row, 0) {
-        Some(num) => num >= 1 && num <= count,
-        None => false,
-    }
-}
 
 fn proposes(row: &Row) -> bool
     ensures { IsTrue result ↔ ((p : _) × (column row.now 3 ≡ number (form_of p))
@@ -60,7 +46,7 @@ fn proposes(row: &Row) -> bool
 {
     match number_at(row, 3) {
         Some(0) => has_name(row, 4),
-        Some(1) => is_blank(row, 4),
+        Some(1) => is_text_at(row, 4, ""),
         _ => false,
     }
 }
@@ -70,16 +56,7 @@ fn is_by_other(row: &Row, names: &BTreeSet<String>, author: &str) -> bool
         × (decider ≢ author.now) × IsAmong names.now decider) }
 {
     match text_at(row, 7) {
-        Some(decider) => decider != author && names::has_name(names, decider),
-        None => false,
-    }
-}
-
-fn is_withdrawn(row: &Row, author: &str) -> bool
-    ensures { IsTrue result ↔ (column row.now 7 ≡ TextValue author.now) }
-{
-    match text_at(row, 7) {
-        Some(decider) => decider == author,
+        Some(decider) => decider != author && names.contains(decider),
         None => false,
     }
 }
@@ -90,32 +67,24 @@ fn is_decided(row: &Row, names: &BTreeSet<String>, author: &str) -> bool
         × (column row.now 8 ≡ TextValue (reason_of s)) × IsDecidedAmong names.now author.now s) }
 {
     match number_at(row, 6) {
-        Some(0) => is_blank(row, 7) && is_blank(row, 8),
-        Some(1) => is_by_other(row, names, author) && is_blank(row, 8),
+        Some(0) => is_text_at(row, 7, "") && is_text_at(row, 8, ""),
+        Some(1) => is_by_other(row, names, author) && is_text_at(row, 8, ""),
         Some(2) => is_by_other(row, names, author) && has_filled_text(row, 8),
-        Some(3) => is_withdrawn(row, author) && is_blank(row, 8),
+        Some(3) => is_text_at(row, 7, author) && is_text_at(row, 8, ""),
         _ => false,
     }
 }
 
-fn is_of_author(row: &Row, names: &BTreeSet<String>, author: &str) -> bool
-    ensures { IsTrue result ↔ (IsAmong names.now author.now
-        × StandsInRows names.now row.now author.now) }
-{
-    if !names::has_name(names, author) {
-        return false;
-    }
-    is_decided(row, names, author)
-}
-
-#[tactic(auto, using(crate::proofs::SubmissionFacts::num_of, crate::proofs::SubmissionFacts::path_of, crate::proofs::SubmissionFacts::proposal_of, crate::proofs::SubmissionFacts::note_of))]
-fn is_submission_row(row: &Row, names: &BTreeSet<String>, count: u64) -> bool
-    ensures { IsTrue result ↔ IsSubmissionAmong names.now count row.now }
+// Whether a row of this number is a submission's, if there are as many rows at least.
+#[tactic(auto, using(crate::proofs::SubmissionFacts::path_of, crate::proofs::SubmissionFacts::proposal_of, crate::proofs::SubmissionFacts::note_of))]
+fn is_submission_row(row: &Row, names: &BTreeSet<String>, num: u64) -> bool
+    ensures { column row.now 0 ≡ number num
+        → IsTrue result ↔ IsSubmissionAmong names.now num row.now }
 {
     if row.column_count() != 9 {
         return false;
     }
-    if !is_numbered(row, count) {
+    if num == 0 {
         return false;
     }
     if !has_path(row, 2) {
@@ -127,28 +96,13 @@ fn is_submission_row(row: &Row, names: &BTreeSet<String>, count: u64) -> bool
     if !has_text(row, 5) {
         return false;
     }
-    match text_at(row, 1) {
-        None => false,
-        Some(author) => is_of_author(row, names, author),
+    let Some(author) = text_at(row, 1) else {
+        return false;
+    };
+    if !names.contains(author) {
+        return false;
     }
-}
-
-// The number of a row that is a submission's, if the number is at most the count.
-fn submission_number(row: &Row, names: &BTreeSet<String>) -> Option<u64>
-    ensures found { IfSome result (λ n. (count : ℕ) → (n ≤ count)
-        ↔ IsSubmissionAmong names.now count row.now) }
-    ensures none { IfNone result ((count : ℕ) → IsSubmissionAmong names.now count row.now → ⊥) }
-{
-    match number_at(row, 0) {
-        None => None,
-        Some(num) => {
-            if is_submission_row(row, names, num) {
-                Some(num)
-            } else {
-                None
-            }
-        }
-    }
+    is_decided(row, names, author)
 }
 
 /// What rows say of the count: whether they are submissions' if it is no less than the greatest of
@@ -159,26 +113,21 @@ pub(crate) struct Fit {
     greatest: u64,
 }
 
-fn greater(one: u64, other: u64) -> u64
-    ensures { (most : ℕ) → (result ≤ most) ↔ ((one ≤ most) × (other ≤ most)) }
-{
-    if one > other { one } else { other }
-}
-
 // The fit with one more row.
 fn fit_row(fit: Fit, row: &Row, names: &BTreeSet<String>) -> Fit
     ensures { (rows : List Values) → AreFit names.now rows fit
         → AreFit names.now (rows ++ row.now ∷ []) result }
 {
-    match submission_number(row, names) {
-        None => Fit {
-            good: false,
-            greatest: fit.greatest,
-        },
-        Some(num) => Fit {
-            good: fit.good,
-            greatest: greater(fit.greatest, num),
-        },
+    let misfit = Fit { good: false, ..fit };
+    let Some(num) = number_at(row, 0) else {
+        return misfit;
+    };
+    if !is_submission_row(row, names, num) {
+        return misfit;
+    }
+    Fit {
+        good: fit.good,
+        greatest: fit.greatest.max(num),
     }
 }
 

@@ -1,6 +1,6 @@
 //! The tables of a schema, one after the other: of each is kept whether its rows are good, and what
 //! judging the others takes. Whatever was found, each is read.
-ghost use Rattle.std.specs.Prelude.{◌≡◌, ◌↔◌, false, IsTrue};
+ghost use Rattle.std.specs.Prelude.{◌≡◌, false};
 ghost use Rattle.pid_tables_rows.specs.Faults.{IsMemoryOrStore};
 ghost use Rattle.pid_tables_rows.specs.Clauses.{OnlyReads};
 ghost use Rattle.pid_tables_check.specs.Shapes.{HasTables, HasEachTable};
@@ -33,13 +33,6 @@ pub(crate) struct Judged {
     pub(crate) submissions: u64,
 }
 
-/// Whether both are so.
-pub(crate) fn are_both(one: bool, other: bool) -> bool
-    ensures { IsTrue result ↔ (IsTrue one × IsTrue other) }
-{
-    one && other
-}
-
 // The items, and in schema 2 their numbers.
 fn read_named<S: Alter>(
     conn: &mut Connection<S>,
@@ -62,7 +55,7 @@ fn read_named<S: Alter>(
         Version::Two => {
             let dated = read_sinces(conn, &items.paths, revision, alloc)?;
             Ok(Part {
-                good: are_both(items.good, dated),
+                good: items.good & dated,
                 count,
             })
         }
@@ -79,9 +72,8 @@ fn read_submitted<S: Alter>(conn: &mut Connection<S>, alloc: Global) -> Result<P
     let accounts = read_accounts(conn, alloc)?;
     let submissions = read_submissions(conn, &accounts.names, alloc)?;
     let receipts = read_receipts(conn, &submissions.authors)?;
-    let good = are_both(accounts.good, are_both(submissions.good, receipts));
     Ok(Part {
-        good,
+        good: accounts.good & submissions.good & receipts,
         count: submissions.count,
     })
 }
@@ -102,7 +94,7 @@ pub(crate) fn read_tables<S: Alter>(
     let named = read_named(conn, alloc, version, revision)?;
     let remarks = read_remarks(conn, alloc)?;
     Ok(Judged {
-        good: are_both(submitted.good, are_both(named.good, remarks)),
+        good: submitted.good & named.good & remarks,
         items: named.count,
         submissions: submitted.count,
     })

@@ -1,22 +1,11 @@
 //! The values of a row.
-ghost use Rattle.std.specs.Prelude.{◌≡◌, ◌↔◌, ℕ, List, IfSome, IfNone, IsTrue, IsUtf8};
+ghost use Rattle.std.specs.Prelude.{◌≡◌, ◌↔◌, ◌≤◌, ℕ, List, IfSome, IfNone, IsTrue, IsUtf8};
 ghost use Rattle.sqlite.specs.declared.types.Value.TheVariants.{Text as TextValue};
 ghost use Rattle.sqlite.specs.Order.{column};
 ghost use Rattle.pid_tables_rows.specs.TableRows.{number};
 
 use sqlite::Row;
 use sqlite::types::ValueRef;
-
-fn text_of(bytes: &[u8]) -> Option<&str>
-    ensures found { IfSome result (λ text. text.now ≡ bytes.now) }
-    ensures utf8 { IfSome result (λ text. IsUtf8 text.now) }
-    ensures none { IfNone result (¬ (IsUtf8 bytes.now)) }
-{
-    match std::str::from_utf8(bytes) {
-        Ok(text) => Some(text),
-        Err(_) => None,
-    }
-}
 
 /// The text in a column.
 pub(crate) fn text_at(row: &Row, at: usize) -> Option<&str>
@@ -26,8 +15,18 @@ pub(crate) fn text_at(row: &Row, at: usize) -> Option<&str>
         → ¬ (IsUtf8 text)) }
 {
     match row.get_ref(at) {
-        Ok(ValueRef::Text(bytes)) => text_of(bytes),
+        Ok(ValueRef::Text(bytes)) => std::str::from_utf8(bytes).ok(),
         _ => None,
+    }
+}
+
+/// Whether this text is in a column.
+pub(crate) fn is_text_at(row: &Row, at: usize, text: &str) -> bool
+    ensures { IsTrue result ↔ (column row.now at ≡ TextValue text.now) }
+{
+    match text_at(row, at) {
+        Some(found) => found == text,
+        None => false,
     }
 }
 
@@ -49,6 +48,16 @@ pub(crate) fn number_at(row: &Row, at: usize) -> Option<u64>
     match row.get_ref(at) {
         Ok(ValueRef::Int(value)) => u64::try_from(value).ok(),
         _ => None,
+    }
+}
+
+/// Whether there is a number in a column that is at most this one.
+pub(crate) fn is_within(row: &Row, at: usize, most: u64) -> bool
+    ensures { IsTrue result ↔ ((n : ℕ) × (column row.now at ≡ number n) × (n ≤ most)) }
+{
+    match number_at(row, at) {
+        Some(number) => number <= most,
+        None => false,
     }
 }
 

@@ -1,5 +1,5 @@
 //! Words and paths in the columns of a row.
-ghost use Rattle.std.specs.Prelude.{◌≡◌, ◌↔◌, List, [], ℕ, true, false, IsTrue, IfSome, IfNone};
+ghost use Rattle.std.specs.Prelude.{◌≡◌, ◌↔◌, List, ℕ, true, false, IsTrue, IfSome, IfNone};
 ghost use Rattle.sqlite.specs.declared.types.Value.TheVariants.{Text as TextValue};
 ghost use Rattle.sqlite.specs.Order.{column};
 ghost use Rattle.pid_ident.specs.Bytes.{is_empty as empty_test};
@@ -50,16 +50,6 @@ pub(crate) fn has_text(row: &Row, at: usize) -> bool
 {
     match text_at(row, at) {
         Some(text) => is_text(text),
-        None => false,
-    }
-}
-
-/// Whether the text of no bytes is in a column.
-pub(crate) fn is_blank(row: &Row, at: usize) -> bool
-    ensures { IsTrue result ↔ (column row.now at ≡ TextValue []) }
-{
-    match text_at(row, at) {
-        Some(text) => text.is_empty(),
         None => false,
     }
 }

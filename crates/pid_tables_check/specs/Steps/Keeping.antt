@@ -9,11 +9,9 @@ use Rattle.pid_file.specs.declared.path.Path.{Path}
 use Rattle.pid_tables_rows.specs.declared.version.Version.{Version}
 use Rattle.pid_tables_rows.specs.declared.version.Version.TheVariants.{One, Two}
 use Rattle.pid_tables_rows.specs.TableRows.{number}
-use Rattle.pid_tables_check.specs.declared.account.AccountKeeper.{AccountKeeper}
 use Rattle.pid_tables_check.specs.declared.account.Accounts.{Accounts}
 use Rattle.pid_tables_check.specs.declared.authors.Authors.{Authors}
 use Rattle.pid_tables_check.specs.declared.receipt.ReceiptKeeper.{ReceiptKeeper}
-use Rattle.pid_tables_check.specs.declared.item.ItemKeeper.{ItemKeeper}
 use Rattle.pid_tables_check.specs.declared.item.Items.{Items}
 use Rattle.pid_tables_check.specs.declared.remark.RemarkKeeper.{RemarkKeeper}
 use Rattle.pid_tables_check.specs.declared.since.SinceKeeper.{SinceKeeper}
@@ -47,7 +45,7 @@ abbrev pub AreEach : (Row → Type 0) → List Row → Type 0
 AreEach Is rows = (r : Row) → Has rows r → Is r
 
 -- A record whose name begins with Takes: the keeper took these rows.
-pub record TakesAccounts (rows : List Row) (it : AccountKeeper) : Type 0 where
+pub record TakesAccounts (rows : List Row) (it : Accounts) : Type 0 where
   pub good : IsPartJudged (AreEach IsAccountRow) rows it.good
   pub administrator : IsTrue it.administrator ↔ HasValue rows 1 (number 3)
   pub names : AreNamesOf it.names rows
@@ -56,7 +54,7 @@ pub record KeepsAccounts (rows : List Row) (it : Accounts) : Type 0 where
   pub names : AreNamesOf it.names rows
   pub good : IsPartJudged AreAccounts rows it.good
 
-pub record TakesItems (rows : List Row) (it : ItemKeeper) : Type 0 where
+pub record TakesItems (rows : List Row) (it : Items) : Type 0 where
   pub good : IsPartJudged (AreEach IsItemAlone) rows it.good
   pub count : it.count ≡ length rows
   pub paths : ArePathsOf it.paths rows

@@ -1,5 +1,5 @@
 -- What calls in a transaction say of the rows that the transaction shows.
-use Rattle.std.specs.Prelude.{◌≡◌, List, Option, Some, None, Result, MatchResult}
+use Rattle.std.specs.Prelude.{◌≡◌, List, Result, MatchResult}
 use Rattle.sqlite.specs.Effect.{Database}
 use Rattle.sqlite.specs.Order.{Row}
 use Rattle.sqlite.specs.State.{State, HasCleanDisk}
@@ -10,8 +10,8 @@ use Rattle.pid_tables_rows.specs.declared.fault.TableFault.TheVariants.{Damaged}
 use Rattle.pid_tables_rows.specs.Faults.{IsMemoryOrStore}
 use Rattle.pid_tables_check.specs.declared.shape.Table.{Table}
 use Rattle.pid_tables_check.specs.Queries.{query_of}
-use Rattle.pid_tables_check.specs.Shapes.{CanBeAsked, ShowsRows, ShowsLater}
-use Rattle.pid_tables_check.specs.Checking.{ShowsRegistry, ShowsDamage}
+use Rattle.pid_tables_check.specs.Shapes.{CanBeAsked, ShowsRows}
+use Rattle.pid_tables_check.specs.Checking.{ShowsDamage}
 
 -- If the transaction sees a database of which `Has` holds: a value says `Says` of it, and the
 -- transaction still sees it; a fault says `Fails`.
@@ -34,16 +34,3 @@ TellsDamage version d Memory = Unit {0}
 TellsDamage version d Store = Unit {0}
 TellsDamage version d (NewerSchema n) = ⊥
 TellsDamage version d Damaged = ShowsDamage version d
-
--- a later schema is judged first; tables of neither schema are damaged
-abbrev pub TellsLater : Option Version → Database → TableFault → Type 0
-TellsLater version d Memory = Unit {0}
-TellsLater version d Store = Unit {0}
-TellsLater version d (NewerSchema n) = ShowsLater d (Some n)
-TellsLater version d Damaged = ShowsLater d None
-    × ((it : Version) → version ≡ Some it → ShowsDamage it d)
-
--- the tables are those of a schema and show a registry, and no later schema
-abbrev pub ShowsFound : Option Version → Database → Type 0
-ShowsFound None d = ⊥
-ShowsFound (Some found) d = ShowsRegistry found d × ShowsLater d None

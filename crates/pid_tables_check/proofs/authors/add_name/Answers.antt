@@ -1,13 +1,22 @@
-use Rattle.std.proofs.Common.{◌≡◌, None, sym, subst}
+use Rattle.std.proofs.Common.{◌≡◌, None, btree_map_len, sym, subst, rules}
+use Rattle.std.specs.Prelude.{string_bytes}
 use Rattle.std.specs.BTreeMap.{get_by_text}
 use Rattle.pid_tables_check.specs.Steps.AuthorSets.{AddsName}
-use Rattle.pid_tables_check.proofs.AuthorFacts.{name_added}
+use Rattle.pid_tables_check.proofs.AuthorFacts.{name_added, name_looked, one_longer}
+use Rattle.pid_tables_check.proofs.NameFacts.{on_is_ok}
 use Rattle.pid_tables_check.proofs.authors.add_name.Goals as goal
 
 pub returns-clause-placed : goal.returns-clause-placed
 returns-clause-placed c none =
     let old = c.args.names.now in
-    let new = c.insert_name.new.names in
-    let place = c.in_ok-place.place in
+    let new = c.insert.new.self in
+    let place = c.in-Ok.place in
+    let owned = c.in_ok-owned.owned in
     let same = c.in_ok-owned.ensures.ok in
-    name_added old new c.args.name.now place none c.in_ok-place.ensures.next (subst (λ t. AddsName old new t place) same (c.in_ok-insert_name.ensures.added (subst (λ t. get_by_text old t ≡ None) (sym same) none)))
+    let ok = sym c.if-not-inserted.ensures.value in
+    let next : place ≡ btree_map_len old = search rules in
+    let adds : AddsName old new (string_bytes owned) place = record {
+      looked = name_looked old new owned place (on_is_ok c.insert.result ok c.insert.ensures.entries);
+      longer = one_longer (btree_map_len old) (btree_map_len new) _ c.insert.result ok c.insert.ensures.old c.insert.ensures.len (subst (λ t. get_by_text old t ≡ None) (sym same) none);
+    } in
+    name_added old new c.args.name.now place none next (subst (λ t. AddsName old new t place) same adds)

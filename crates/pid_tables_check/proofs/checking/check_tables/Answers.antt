@@ -1,37 +1,59 @@
-use Rattle.std.proofs.Common.{◌≡◌, MatchResult, Option, None, Some, ℕ, inl, refl, sym, subst, ◌∙◌}
+use Rattle.std.proofs.Common.{Option, None, ℕ, inl, refl, subst}
 use Rattle.sqlite.specs.Held.{state}
-use Rattle.sqlite.specs.State.{HasCleanDisk}
 use Rattle.pid_tables_rows.specs.declared.version.Version.{Version}
 use Rattle.pid_tables_rows.proofs.CauseLemmas.{passed_on}
-use Rattle.pid_tables_check.specs.Shapes.{ShowsLater}
-use Rattle.pid_tables_check.specs.Steps.Reading.{ShowsFound, TellsLater}
+use Rattle.pid_tables_check.specs.Checking.{Explains}
+use Rattle.pid_tables_check.specs.Shapes.{HasTables, ShowsLater}
 use Rattle.pid_tables_check.specs.Steps.Shapes.{HasTablesOf}
 use Rattle.pid_tables_check.proofs.Labels.{later_shown}
-use Rattle.pid_tables_check.proofs.Telling.{untold_later, rest_told}
+use Rattle.pid_tables_check.proofs.Telling.{untold, damage_explained, neither_schema}
 use Rattle.pid_tables_check.proofs.checking.check_tables.Goals as goal
 
+pub returns-in_err-found-clause-told : goal.returns-in_err-found-clause-told
+returns-in_err-found-clause-told g c clean each =
+    let d = (state g.S.Store c.args.conn.now).now in
+    passed_on c.from_residual.result _ _ (Explains d) c.from_residual.ensures.1 (untold d _ c.in_err-found.ensures.untold)
+
 pub returns-in_err-labels-clause-told : goal.returns-in_err-labels-clause-told
-returns-in_err-labels-clause-told g c clean d is has =
-    passed_on c.from_residual.result _ _ (TellsLater c.args.version d) c.from_residual.ensures.1 (untold_later _ d _ (c.in_err-labels.ensures.keeps clean d is (has.0 _ (inl refl))))
+returns-in_err-labels-clause-told g c clean each =
+    let d = (state g.S.Store c.args.conn.now).now in
+    let mid = c.in_err-labels.ensures.rests.clean clean in
+    passed_on c.from_residual-in_err-labels.result _ _ (Explains d) c.from_residual-in_err-labels.ensures.1
+    (untold d _ (c.in_err-labels.ensures.keeps clean d (c.in_ok-found.ensures.same mid) (each _ (inl refl))))
 
 pub returns-in-Some-clause-told : goal.returns-in-Some-clause-told
-returns-in-Some-clause-told g c clean d is has =
-    let it = (c.in_ok-labels.ensures.keeps clean d is (has.0 _ (inl refl))).0 in
+returns-in-Some-clause-told g c clean each =
+    let d = (state g.S.Store c.args.conn.now).now in
+    let mid = c.in_ok-labels.ensures.rests.clean clean in
+    let it = (c.in_ok-labels.ensures.keeps clean d (c.in_ok-found.ensures.same mid) (each _ (inl refl))).0 in
     subst (λ (o : Option ℕ). ShowsLater d o) c.in-Some.is (later_shown d it.0 c.in_ok-labels.labels.later it.1 it.2.later)
 
-pub returns-in-None-clause-told : goal.returns-in-None-clause-told
-returns-in-None-clause-told g c clean d is has =
-    let it = (c.in_ok-labels.ensures.keeps clean d is (has.0 _ (inl refl))).0 in
-    let none = subst (λ (o : Option ℕ). ShowsLater d o) c.in_default.is (later_shown d it.0 c.in_ok-labels.labels.later it.1 it.2.later) in
-    (none, λ v same. absurd (let bad : ◌≡◌ {A = Option Version} None (Some v) = sym (c.in-None.is) ∙ same in cc))
+pub returns-in_default-found-clause-told : goal.returns-in_default-found-clause-told
+returns-in_default-found-clause-told g c clean each =
+    let d = (state g.S.Store c.args.conn.now).now in
+    let mid = c.in_ok-labels.ensures.rests.clean clean in
+    let it = (c.in_ok-labels.ensures.keeps clean d (c.in_ok-found.ensures.same mid) (each _ (inl refl))).0 in
+    let none : ShowsLater d None = subst (λ (o : Option ℕ). ShowsLater d o) c.in_default.is (later_shown d it.0 c.in_ok-labels.labels.later it.1 it.2.later) in
+    neither_schema d each none (subst (λ (o : Option Version). HasTablesOf o d.schema) c.in_default-found.is (c.in_ok-found.ensures.found mid each))
 
-pub returns-in-Some-version-clause-told : goal.returns-in-Some-version-clause-told
-returns-in-Some-version-clause-told g c clean d is has =
-    let early : HasCleanDisk (state g.S.Store c.read_labels.new.conn) = c.check_rows.ensures.rests.clean clean in
-    let it = c.in_ok-labels.ensures.keeps early d is (has.0 _ (inl refl)) in
-    let none = subst (λ (o : Option ℕ). ShowsLater d o) c.in_default.is (later_shown d it.0.0 c.in_ok-labels.labels.later it.0.1 it.0.2.later) in
-    let version = c.in-Some-version.version in
-    let tables = subst (λ (o : Option Version). HasTablesOf o d.schema) c.in-Some-version.is has.1 in
-    let end = (state g.S.Store c.check_rows.new.conn).now in
-    subst (λ (o : Option Version). MatchResult c.check_rows.result (λ x. ShowsFound o d × (end ≡ d)) (TellsLater o d)) (sym c.in-Some-version.is)
-    (rest_told version d (end ≡ d) c.check_rows.result none (c.check_rows.ensures.told clean d it.1 (tables, it.0)))
+pub returns-in_err-check_rows-clause-told : goal.returns-in_err-check_rows-clause-told
+returns-in_err-check_rows-clause-told g c clean each =
+    let d = (state g.S.Store c.args.conn.now).now in
+    let late = c.in_err-check_rows.ensures.rests.clean clean in
+    let mid = c.in_ok-labels.ensures.rests.clean late in
+    let it = c.in_ok-labels.ensures.keeps late d (c.in_ok-found.ensures.same mid) (each _ (inl refl)) in
+    let none : ShowsLater d None = subst (λ (o : Option ℕ). ShowsLater d o) c.in_default.is (later_shown d it.0.0 c.in_ok-labels.labels.later it.0.1 it.0.2.later) in
+    let version = c.in-Some-found.version in
+    let has : HasTables version d.schema = subst (λ (o : Option Version). HasTablesOf o d.schema) c.in-Some-found.is (c.in_ok-found.ensures.found mid each) in
+    passed_on c.from_residual-in_err-check_rows.result _ _ (Explains d) c.from_residual-in_err-check_rows.ensures.1
+    (damage_explained d each none version has _ (c.in_err-check_rows.ensures.told clean d it.1 (has, it.0)))
+
+pub returns-clause-told : goal.returns-clause-told
+returns-clause-told g c clean each =
+    let d = (state g.S.Store c.args.conn.now).now in
+    let late = c.in_ok-check_rows.ensures.rests.clean clean in
+    let mid = c.in_ok-labels.ensures.rests.clean late in
+    let it = c.in_ok-labels.ensures.keeps late d (c.in_ok-found.ensures.same mid) (each _ (inl refl)) in
+    let none : ShowsLater d None = subst (λ (o : Option ℕ). ShowsLater d o) c.in_default.is (later_shown d it.0.0 c.in_ok-labels.labels.later it.0.1 it.0.2.later) in
+    let has : HasTables c.in-Some-found.version d.schema = subst (λ (o : Option Version). HasTablesOf o d.schema) c.in-Some-found.is (c.in_ok-found.ensures.found mid each) in
+    (has, (c.in_ok-check_rows.ensures.told clean d it.1 (has, it.0)).0, none)

@@ -13,7 +13,7 @@ use Rattle.pid_tables_check.proofs.Complete.{complete, each_some}
 use Rattle.pid_tables_check.proofs.shape.has_some_table.Goals as goal
 
 pub returns-clause-asked : goal.returns-clause-asked
-returns-clause-asked g c clean = if_ok c.has_any.result (λ asked judged. some_table c.args.conn.now.schema asked judged) (c.has_any.ensures.asked clean)
+returns-clause-asked g c clean = if_ok c.some_can.result (λ asked judged. some_table c.args.conn.now.schema asked judged) (c.some_can.ensures.asked clean)
 
 -- where views are shown some table is there
 told : (old new : State) (v : Views) (r : Result Bool TableFault) → AtRest old v → OnOk r (IsTrue old.is_open) → IfOk r (λ some. IsTrue some ↔ HasSomeTable old.now.schema) → IfErr r (IsCaused old new)
@@ -23,8 +23,8 @@ told old new v (Err e) rest opened judged caused = λ readable. caused
 
 pub returns-clause-reads : goal.returns-clause-reads
 returns-clause-reads g c = record {
-  rests = c.has_any.ensures.rests;
+  rests = c.some_can.ensures.rests;
   told = λ clean v rest.
-      told (state g.S.Store c.args.conn.now) (state g.S.Store c.has_any.new.conn) v c.has_any.result rest (c.has_any.ensures.was_open clean (omega arith)) (if_ok c.has_any.result (λ asked judged. some_table c.args.conn.now.schema asked judged) (c.has_any.ensures.asked clean))
-      (c.has_any.ensures.caused clean v rest);
+      told (state g.S.Store c.args.conn.now) (state g.S.Store c.some_can.new.conn) v c.some_can.result rest (c.some_can.ensures.was_open clean (omega arith)) (if_ok c.some_can.result (λ asked judged. some_table c.args.conn.now.schema asked judged) (c.some_can.ensures.asked clean))
+      (c.some_can.ensures.caused clean v rest);
 }

@@ -1,8 +1,24 @@
-use Rattle.pid_tables_check.proofs.SubmissionFacts.{misfit, fits}
+use Rattle.std.proofs.Common.{refl, arith}
+use Rattle.pid_tables_check.proofs.SubmissionFacts.{misfit, fits, from_own, num_of, to_own}
 use Rattle.pid_tables_check.proofs.submission.fit_row.Goals as goal
 
-pub returns-in-None : goal.returns-in-None
-returns-in-None c rows are = misfit c.args.names.now c.args.row.now rows c.args.fit are c.in-None.ensures.none
+pub returns-in_default : goal.returns-in_default
+returns-in_default c rows are =
+    let names = c.args.names.now in
+    let r = c.args.row.now in
+    misfit names r rows c.args.fit are (λ count it. let of = num_of names r count it in c.in_default.ensures.none of.0 of.1)
 
-pub returns-in-Some : goal.returns-in-Some
-returns-in-Some c rows are = fits c.args.names.now c.args.row.now rows c.args.fit are c.in-Some.num c.greater.result c.in-Some.ensures.found c.greater.ensures
+pub returns-then-not-is_submission_row : goal.returns-then-not-is_submission_row
+returns-then-not-is_submission_row c rows are =
+    let names = c.args.names.now in
+    let r = c.args.row.now in
+    let found = c.in-Some.ensures.found in
+    misfit names r rows c.args.fit are (λ count it. let no = (c.if-not-is_submission_row.ensures found).1 (to_own names r c.in-Some.num count found it) in absurd cc)
+
+pub returns : goal.returns
+returns c rows are =
+    let names = c.args.names.now in
+    let r = c.args.row.now in
+    let found = c.in-Some.ensures.found in
+    let num = c.in-Some.num in
+    fits names r rows c.args.fit are num c.max.result (from_own names r num found ((c.if-not-is_submission_row.ensures found).0 refl)) (λ most. (λ both. (omega (arith, both, c.max.ensures), omega (arith, both, c.max.ensures)), λ each. omega (arith, each.0, each.1, c.max.ensures)))

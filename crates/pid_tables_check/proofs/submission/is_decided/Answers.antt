@@ -9,8 +9,8 @@ returns-then-is_by_other c =
     let e : column c.args.row.now 6 ≡ number 1 = search rules in
     let names = c.args.names.now in
     let author = c.args.author.now in (
-      λ yes. approved names c.args.row.now author e (c.if-is_by_other.ensures.0 refl) (c.is_blank-then-is_by_other.ensures.0 yes),
-      λ it. c.is_blank-then-is_by_other.ensures.1 (approved_reason names c.args.row.now author e it),
+      λ yes. approved names c.args.row.now author e (c.if-is_by_other.ensures.0 refl) (c.is_text_at-then-is_by_other.ensures.0 yes),
+      λ it. c.is_text_at-then-is_by_other.ensures.1 (approved_reason names c.args.row.now author e it),
     )
 
 pub returns-then-is_by_other-2 : goal.returns-then-is_by_other-2

@@ -31,4 +31,4 @@ returns-clause-told g c clean d is has =
     let one = c.in_ok-items.ensures.keeps mid d is (tables_each _ d.schema has _ (inr (inr (inl refl)))) in
     let tables = subst (λ (v : Version). HasTables v d.schema) c.in-Two.is has in
     let two = c.in_ok-dated-in-Two.ensures.keeps clean d one.1 tables.2 in
-    (second_named c.args.version c.args.revision d c.in_ok-items.items one.0 c.in-Two.is c.in_ok-dated-in-Two.dated c.are_both.result c.are_both.ensures two.0, two.1)
+    (second_named c.args.version c.args.revision d c.in_ok-items.items one.0 c.in-Two.is c.in_ok-dated-in-Two.dated two.0, two.1)

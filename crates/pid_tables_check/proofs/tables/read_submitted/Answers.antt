@@ -30,4 +30,4 @@ returns-clause-told g c clean d is has =
     let one = c.in_ok-accounts.ensures.keeps mid d is (has _ (inr (inl refl))) in
     let two = c.in_ok-submissions.ensures.keeps late d one.1 (has _ (inr (inr (inr (inl refl))))) in
     let three = c.in_ok-receipts.ensures.keeps clean d two.1 (has _ (inr (inr (inr (inr (inr (inl refl))))))) in
-    (submitted d c.in_ok-accounts.accounts c.in_ok-submissions.submissions c.in_ok-receipts.receipts c.are_both.result c.are_both-good.result c.are_both.ensures c.are_both-good.ensures one.0 two.0 three.0, three.1)
+    (submitted d c.in_ok-accounts.accounts c.in_ok-submissions.submissions c.in_ok-receipts.receipts one.0 two.0 three.0, three.1)

@@ -28,4 +28,4 @@ returns-clause-told g c clean d is has =
     let one = c.in_ok-submitted.ensures.told mid d is (tables_each _ d.schema has) in
     let two = c.in_ok-named.ensures.told late d one.1 has in
     let three = c.in_ok-remarks.ensures.keeps clean d two.1 (tables_each _ d.schema has _ (inr (inr (inr (inr (inl refl)))))) in
-    (judged c.args.version c.args.revision d c.in_ok-submitted.submitted c.in_ok-named.named c.in_ok-remarks.remarks c.are_both.result c.are_both-2.result c.are_both.ensures c.are_both-2.ensures one.0 two.0 three.0, three.1)
+    (judged c.args.version c.args.revision d c.in_ok-submitted.submitted c.in_ok-named.named c.in_ok-remarks.remarks one.0 two.0 three.0, three.1)

@@ -4,7 +4,7 @@ use Rattle.pid_tables_check.proofs.meta.LabelsKeeper.keep.Goals as goal
 
 pub returns-clause-kept : goal.returns-clause-kept
 returns-clause-kept c first rows was = record {
-  good = one_row IsLabel rows c.args.row.now c.args.self.now.good c.is_label.result c.are_both-self.result c.are_both-self.ensures c.is_label.ensures was.good;
+  good = one_row IsLabel rows c.args.row.now c.args.self.now.good c.is_label.result c.is_label.ensures was.good;
   later = c.later_so_far-self.ensures rows was.later;
   schema = c.told_so_far-self.ensures rows was.schema;
   items = c.told_so_far-self-2.ensures rows was.items;

@@ -4,6 +4,6 @@ use Rattle.pid_tables_check.proofs.remark.RemarkKeeperKeeper.keep.Goals as goal
 
 pub returns-clause-kept : goal.returns-clause-kept
 returns-clause-kept c first rows was = record {
-  good = one_row IsRemark rows c.args.row.now c.args.self.now.good c.is_remark_row.result c.are_both-self.result c.are_both-self.ensures c.is_remark_row.ensures was.good;
+  good = one_row IsRemark rows c.args.row.now c.args.self.now.good c.is_remark_row.result c.is_remark_row.ensures was.good;
   places = c.in_ok-add_place.ensures.added rows was.places;
 }

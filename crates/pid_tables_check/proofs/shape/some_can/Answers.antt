@@ -1,4 +1,4 @@
-use Rattle.std.proofs.Common.{[], arith, sym, subst}
+use Rattle.std.proofs.Common.{[], ◌↔◌, IsTrue, refl, arith, sym, subst}
 use Rattle.sqlite.specs.Held.{state}
 use Rattle.pid_tables_rows.specs.Causes.{IsCaused}
 use Rattle.pid_tables_rows.specs.Queries.{IsQuery}
@@ -8,8 +8,8 @@ use Rattle.pid_tables_check.proofs.AskedTexts.{is_query}
 use Rattle.pid_tables_check.specs.declared.shape.Table.{Table}
 use Rattle.pid_tables_check.specs.Queries.{query_of}
 use Rattle.pid_tables_check.specs.Shapes.{CanBeAsked}
-use Rattle.pid_tables_check.proofs.Asking.{same_then, none_yet, still_open, caused_then}
-use Rattle.pid_tables_check.proofs.shape.has_any.Goals as goal
+use Rattle.pid_tables_check.proofs.Asking.{same_then, none_yet, one_found, still_open, caused_then}
+use Rattle.pid_tables_check.proofs.shape.some_can.Goals as goal
 
 pub loop-table-preserved : goal.loop-table-preserved
 loop-table-preserved g c =
@@ -18,13 +18,13 @@ loop-table-preserved g c =
     let d = state g.S.Store c.can_ask.new.conn in
     let rests = c.in_ok-can_ask.ensures.rests in (
       same_then a b d c.loop-table.invariant.0 rests c.in_ok-can_ask.ensures.same,
-      none_yet a b d c.args.tables.now c.loop-table.table-index _ c.query.result.now c.query.ensures c.in_ok-can_ask.field-0 c.loop-table-test.true c.loop-table.invariant.0 rests c.in_ok-can_ask.ensures.asked c.if-branch.false c.loop-table.invariant.1,
+      none_yet a b d c.args.tables.now c.loop-table.table-index _ c.query.result.now c.query.ensures c.in_ok-can_ask.field-0 c.loop-table-test.true c.loop-table.invariant.0 rests c.in_ok-can_ask.ensures.asked c.args.can c.if-branch-can.false c.loop-table.invariant.1,
       λ zero. absurd (omega (arith, zero)),
       λ clean more. still_open g.S.Store c.args.conn.now c.loop-table.conn d c.loop-table.table-index rests c.loop-table.invariant.2 c.loop-table.invariant.3 (c.in_ok-can_ask.ensures.was_open clean) clean,
     )
 
-pub returns-then-branch-clause-was_open : goal.returns-then-branch-clause-was_open
-returns-then-branch-clause-was_open g c clean some =
+pub returns-then-branch-can-clause-was_open : goal.returns-then-branch-can-clause-was_open
+returns-then-branch-can-clause-was_open g c clean some =
     still_open g.S.Store c.args.conn.now c.loop-table.conn (state g.S.Store c.can_ask.new.conn) c.loop-table.table-index c.in_ok-can_ask.ensures.rests c.loop-table.invariant.2 c.loop-table.invariant.3 (c.in_ok-can_ask.ensures.was_open clean) clean
 
 pub returns-in_err-can_ask-clause-caused : goal.returns-in_err-can_ask-clause-caused
@@ -40,5 +40,12 @@ returns-in_err-can_ask-clause-caused g c clean v rest =
 pub returns-clause-asked : goal.returns-clause-asked
 returns-clause-asked g c clean = (
   λ off. absurd cc,
-  λ any. absurd (c.loop-table.invariant.1 clean any.0 any.1 (omega (arith, any.2, c.loop-table-test.false)) (subst (λ (t : Table). CanBeAsked c.args.conn.now.schema (query_of t)) (sym any.3) any.4)),
+  λ any. absurd (c.loop-table.invariant.1 clean any.0 any.1 (omega (arith, any.2, c.loop-table-test.false)) (subst (λ (t : Table). IsTrue c.args.can ↔ CanBeAsked c.args.conn.now.schema (query_of t)) (sym any.3) any.4)),
 )
+
+pub returns-then-branch-can-clause-asked : goal.returns-then-branch-can-clause-asked
+returns-then-branch-can-clause-asked g c clean =
+    let a = state g.S.Store c.args.conn.now in
+    let b = state g.S.Store c.loop-table.conn in
+    let d = state g.S.Store c.can_ask.new.conn in
+    (λ yes. one_found a b d c.args.tables.now c.loop-table.table-index _ c.query.result.now c.query.ensures c.in_ok-can_ask.field-0 c.loop-table-test.true c.loop-table.invariant.0 c.in_ok-can_ask.ensures.rests c.in_ok-can_ask.ensures.asked c.args.can c.if-branch-can.true clean, λ any. refl)
