@@ -1,11 +1,12 @@
-use Rattle.std.proofs.Common.{MatchResult, subst, sym, ◌∙◌}
+use Rattle.std.proofs.Common.{None, Ok, MatchResult, subst, sym, ◌∙◌}
 use Rattle.sqlite.specs.Effect.{Database}
 use Rattle.sqlite.specs.Held.{state}
+use Rattle.pid_tables_rows.proofs.CauseLemmas.{passed_on}
 use Rattle.pid_tables_rows.proofs.OnlyReading.{reads_then}
 use Rattle.pid_tables_check.specs.Checking.{Explains, FindsVersion}
 use Rattle.pid_tables_check.specs.Steps.Lacking.{ExplainsLater}
 use Rattle.pid_tables_check.specs.Shapes.{HasEachTable, HasSomeTable}
-use Rattle.pid_tables_check.proofs.Telling.{lacked, told_stored, off_on}
+use Rattle.pid_tables_check.proofs.Telling.{lacked, told_stored, untold, off_on}
 use Rattle.pid_tables_check.proofs.checking.check.Goals as goal
 
 pub returns-then-branch-clause-rests : goal.returns-then-branch-clause-rests
@@ -47,3 +48,41 @@ returns-then-branch-2-clause-told g c clean =
 
 pub returns-then-branch-2-clause-stored : goal.returns-then-branch-2-clause-stored
 returns-then-branch-2-clause-stored g c clean = told_stored (state g.S.Store c.args.conn.now).now c.check_lacking.result (returns-then-branch-2-clause-told g c clean)
+
+pub returns-in_err-has_each_table-clause-told : goal.returns-in_err-has_each_table-clause-told
+returns-in_err-has_each_table-clause-told g c clean =
+    let a = (state g.S.Store c.args.conn.now).now in
+    passed_on c.from_residual.result _ _ (Explains a) c.from_residual.ensures.1 (untold a _ c.in_err-has_each_table.ensures.untold)
+
+pub returns-in_err-has_each_table-clause-stored : goal.returns-in_err-has_each_table-clause-stored
+returns-in_err-has_each_table-clause-stored g c clean = told_stored (state g.S.Store c.args.conn.now).now c.from_residual.result (returns-in_err-has_each_table-clause-told g c clean)
+
+pub returns-in_err-has_some_table-clause-rests : goal.returns-in_err-has_some_table-clause-rests
+returns-in_err-has_some_table-clause-rests g c =
+    reads_then (state g.S.Store c.args.conn.now) (state g.S.Store c.has_each_table.new.conn) (state g.S.Store c.has_some_table.new.conn) c.in_ok-has_each_table.ensures.rests c.in_err-has_some_table.ensures.reads.rests
+
+pub returns-in_err-has_some_table-clause-shut : goal.returns-in_err-has_some_table-clause-shut
+returns-in_err-has_some_table-clause-shut g c clean shut = absurd (off_on _ shut (c.in_ok-has_each_table.ensures.was_open (c.in_err-has_some_table.ensures.reads.rests.clean clean)))
+
+pub returns-in_err-has_some_table-clause-told : goal.returns-in_err-has_some_table-clause-told
+returns-in_err-has_some_table-clause-told g c clean =
+    let a = (state g.S.Store c.args.conn.now).now in
+    passed_on c.from_residual-in_err-has_some_table.result _ _ (Explains a) c.from_residual-in_err-has_some_table.ensures.1 (untold a _ c.in_err-has_some_table.ensures.untold)
+
+pub returns-in_err-has_some_table-clause-stored : goal.returns-in_err-has_some_table-clause-stored
+returns-in_err-has_some_table-clause-stored g c clean = told_stored (state g.S.Store c.args.conn.now).now c.from_residual-in_err-has_some_table.result (returns-in_err-has_some_table-clause-told g c clean)
+
+pub returns-clause-rests : goal.returns-clause-rests
+returns-clause-rests g c =
+    reads_then (state g.S.Store c.args.conn.now) (state g.S.Store c.has_each_table.new.conn) (state g.S.Store c.has_some_table.new.conn) c.in_ok-has_each_table.ensures.rests c.in_ok-has_some_table.ensures.reads.rests
+
+pub returns-clause-shut : goal.returns-clause-shut
+returns-clause-shut g c clean shut = absurd (off_on _ shut (c.in_ok-has_each_table.ensures.was_open (c.in_ok-has_some_table.ensures.reads.rests.clean clean)))
+
+pub returns-clause-told : goal.returns-clause-told
+returns-clause-told g c clean = λ some.
+    let one = c.in_ok-has_each_table.ensures.same (c.in_ok-has_some_table.ensures.reads.rests.clean clean) in
+    off_on _ c.if-branch-2.false ((c.in_ok-has_some_table.ensures.asked clean).1 (subst (λ (x : Database). HasSomeTable x.schema) (sym one) some))
+
+pub returns-clause-stored : goal.returns-clause-stored
+returns-clause-stored g c clean = told_stored (state g.S.Store c.args.conn.now).now (Ok None) (returns-clause-told g c clean)

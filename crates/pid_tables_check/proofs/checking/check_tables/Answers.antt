@@ -2,6 +2,7 @@ use Rattle.std.proofs.Common.{Option, None, ℕ, inl, refl, subst}
 use Rattle.sqlite.specs.Held.{state}
 use Rattle.pid_tables_rows.specs.declared.version.Version.{Version}
 use Rattle.pid_tables_rows.proofs.CauseLemmas.{passed_on}
+use Rattle.pid_tables_rows.proofs.OnlyReading.{reads_then}
 use Rattle.pid_tables_check.specs.Checking.{Explains}
 use Rattle.pid_tables_check.specs.Shapes.{HasTables, ShowsLater}
 use Rattle.pid_tables_check.specs.Steps.Shapes.{HasTablesOf}
@@ -57,3 +58,24 @@ returns-clause-told g c clean each =
     let none : ShowsLater d None = subst (λ (o : Option ℕ). ShowsLater d o) c.in_default.is (later_shown d it.0.0 c.in_ok-labels.labels.later it.0.1 it.0.2.later) in
     let has : HasTables c.in-Some-found.version d.schema = subst (λ (o : Option Version). HasTablesOf o d.schema) c.in-Some-found.is (c.in_ok-found.ensures.found mid each) in
     (has, (c.in_ok-check_rows.ensures.told clean d it.1 (has, it.0)).0, none)
+
+pub returns-in_err-labels-clause-rests : goal.returns-in_err-labels-clause-rests
+returns-in_err-labels-clause-rests g c = reads_then (state g.S.Store c.args.conn.now) (state g.S.Store c.tables_of.new.conn) (state g.S.Store c.read_labels.new.conn) c.in_ok-found.ensures.rests c.in_err-labels.ensures.rests
+
+pub returns-in-Some-clause-rests : goal.returns-in-Some-clause-rests
+returns-in-Some-clause-rests g c = reads_then (state g.S.Store c.args.conn.now) (state g.S.Store c.tables_of.new.conn) (state g.S.Store c.read_labels.new.conn) c.in_ok-found.ensures.rests c.in_ok-labels.ensures.rests
+
+pub returns-in_default-found-clause-rests : goal.returns-in_default-found-clause-rests
+returns-in_default-found-clause-rests g c = reads_then (state g.S.Store c.args.conn.now) (state g.S.Store c.tables_of.new.conn) (state g.S.Store c.read_labels.new.conn) c.in_ok-found.ensures.rests c.in_ok-labels.ensures.rests
+
+pub returns-in_err-check_rows-clause-rests : goal.returns-in_err-check_rows-clause-rests
+returns-in_err-check_rows-clause-rests g c =
+    let a = state g.S.Store c.args.conn.now in
+    let d = state g.S.Store c.read_labels.new.conn in
+    reads_then a d (state g.S.Store c.check_rows.new.conn) (reads_then a (state g.S.Store c.tables_of.new.conn) d c.in_ok-found.ensures.rests c.in_ok-labels.ensures.rests) c.in_err-check_rows.ensures.rests
+
+pub returns-clause-rests : goal.returns-clause-rests
+returns-clause-rests g c =
+    let a = state g.S.Store c.args.conn.now in
+    let d = state g.S.Store c.read_labels.new.conn in
+    reads_then a d (state g.S.Store c.check_rows.new.conn) (reads_then a (state g.S.Store c.tables_of.new.conn) d c.in_ok-found.ensures.rests c.in_ok-labels.ensures.rests) c.in_ok-check_rows.ensures.rests
