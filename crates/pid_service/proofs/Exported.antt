@@ -5,8 +5,9 @@ use Rattle.std.specs.Prelude.{Vec}
 use Rattle.std.specs.declared.alloc.Global.{Global}
 use Rattle.pid_ident.specs.Sending.{SendsFront}
 use Rattle.pid_file.specs.declared.io.WriteFault.{WriteFault}
-use Rattle.pid_service.specs.declared.item_text.ExportEnd.{ExportEnd}
-use Rattle.pid_service.specs.declared.item_text.ExportEnd.TheVariants as ends
+use Rattle.pid_tables_lists.specs.Clauses.{IsCausedEnd}
+use Rattle.pid_tables_lists.specs.declared.walk.EachEnd.{EachEnd}
+use Rattle.pid_tables_lists.specs.declared.walk.EachEnd.TheVariants as ends
 use Rattle.pid_service.specs.Steps.Exports.{WritesItems}
 use Rattle.pid_service.specs.ItemTexts.{text_of_items}
 use Rattle.pid_moderation.specs.History.{History}
@@ -36,29 +37,21 @@ use Rattle.pid_service.proofs.Causes.{caused_as}
 pub whole_tree : (old new : Option (List ℕ)) (h : History) → text_of_items (items_of h) ≡ print (tree_of h) → WritesItems {X = Unit {0}} (Ok tt) old new (items_of h) → ExportsTree {X = Unit {0}} (Ok tt) old new h
 whole_tree old new h same all = subst (λ (text : List ℕ). Appends old new text) same all
 
-pub told_tree : (end : ExportEnd) (told : ExportFault) (old new : Option (List ℕ)) (h : History) → text_of_items (items_of h) ≡ print (tree_of h) → IsToldAs end told → WritesItems {X = Unit {0}} (Err end) old new (items_of h)
+pub told_tree : (end : EachEnd WriteFault) (told : ExportFault) (old new : Option (List ℕ)) (h : History) → text_of_items (items_of h) ≡ print (tree_of h) → IsToldAs end told → WritesItems {X = Unit {0}} (Err end) old new (items_of h)
     → ExportsTree {X = Unit {0}} (Err told) old new h
 told_tree (ends.Tables fault) told old new h same (e, is, bad, of) lines = subst (λ (x : ExportFault). ExportsTree {X = Unit {0}} (Err x) old new h) (sym is) (bad, lines)
-told_tree (ends.Write fault) told old new h same is front = subst (λ (x : ExportFault). ExportsTree {X = Unit {0}} (Err x) old new h) (sym is) (subst (λ (text : List ℕ). SendsFront old new text) same front)
-
-writes : (f g : WriteFault) → Write f ≡ Write g → f ≡ g
-writes f g e = cc
-
--- a fault of the writer is told as such, and no other is
-pub told_write : (end : ExportEnd) (told : ExportFault) (f : WriteFault) → IsToldAs end told → told ≡ Write f → end ≡ ends.Write f
-told_write (ends.Tables fault) told f (e, is, bad, of) same = absurd (let other = sym is ∙ same in let no : ⊥ = cc in no)
-told_write (ends.Write fault) told f is same = ap ends.Write (writes fault f (sym is ∙ same))
+told_tree (ends.Fault fault) told old new h same is front = subst (λ (x : ExportFault). ExportsTree {X = Unit {0}} (Err x) old new h) (sym is) (subst (λ (text : List ℕ). SendsFront old new text) same front)
 
 refuses : (e f : Refusal) → Refused e ≡ Refused f → e ≡ f
 refuses e f is = cc
 
 -- a fault of the tables has its cause
-pub told_cause : {S : Type 0} (store : Ghosts S) (old new : Held S) (end : ExportEnd) (told : ExportFault) (e : Refusal) → IsToldAs end told → told ≡ Refused e
-    → ((fault : TableFault) → end ≡ ends.Tables fault → clauses.IsCaused store old new fault) → IsCausedAs store old new e
+pub told_cause : {S : Type 0} (store : Ghosts S) (old new : Held S) (end : EachEnd WriteFault) (told : ExportFault) (e : Refusal) → IsToldAs end told → told ≡ Refused e
+    → IsCausedEnd store old new end → IsCausedAs store old new e
 told_cause store old new (ends.Tables fault) told e (x, is, bad, of) asked caused =
     let same : e ≡ refusal_for fault = refuses e x (sym asked ∙ is) ∙ of in
-    subst (λ (y : Refusal). IsCausedAs store old new y) (sym same) (caused_as store old new fault (caused fault refl))
-told_cause store old new (ends.Write fault) told e is asked caused = absurd (let other = sym asked ∙ is in let no : ⊥ = cc in no)
+    subst (λ (y : Refusal). IsCausedAs store old new y) (sym same) (caused_as store old new fault caused)
+told_cause store old new (ends.Fault fault) told e is asked caused = absurd (let other = sym asked ∙ is in let no : ⊥ = cc in no)
 
 pub told_by : {X : Type 0} (r : Result X ExportFault) (told : ExportFault) (e : Refusal) → r ≡ Err told → r ≡ Err (Refused e) → told ≡ Refused e
 told_by r told e is asked = let same = sym is ∙ asked in cc

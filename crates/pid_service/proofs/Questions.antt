@@ -25,7 +25,7 @@ use Rattle.pid_service.specs.declared.registry.Registry.{Registry}
 use Rattle.pid_service.specs.Asking.{Answers, IsCausedAs, MayGive}
 use Rattle.pid_service.specs.Histories.{IsMemoryOrStore, IsReached, Shows}
 use Rattle.pid_service.specs.KeptViews.{LeavesKept, kept_views}
-use Rattle.pid_service.specs.Registries.{HasCleanDisk, OnlyAsked, OnlyReads, connection, is_live}
+use Rattle.pid_service.specs.Registries.{HasCleanDisk, OnlyAsked, OnlyReads, SparesKept, connection, is_live}
 use Rattle.pid_service.specs.Steps.Asking.{answered_as}
 use Rattle.pid_service.proofs.Causes.{caused_as}
 use Rattle.pid_service.proofs.Keeping.{left_same}
@@ -60,11 +60,12 @@ answered y e is = cc
 
 module _ {S : Type 0} (store : Ghosts S) where
   -- a live one, with one question more
-  pub asked_then : (start old new : Registry S store) → is_live old ≡ true → is_live new ≡ is_live old → OnlyReads store old new → OnlyAsked store start old → OnlyAsked store start new
-  asked_then start old new on same reads asked = record {
+  pub asked_then : (start old new : Registry S store) → is_live old ≡ true → is_live new ≡ is_live old → OnlyReads store old new → SparesKept (kept_views old) (kept_views new) → OnlyAsked store start old → OnlyAsked store start new
+  asked_then start old new on same reads spares asked = record {
     lives = same ∙ asked.lives;
     rests = reads_then (state store (connection start)) (state store (connection old)) (state store (connection new)) asked.rests reads;
     failed = λ off. absurd (let both : true ≡ false = sym on ∙ (asked.lives ∙ off) in let no : ⊥ = cc in no);
+    spares = record { text = spares.text ∙ asked.spares.text; pending = spares.pending ∙ asked.spares.pending; read = spares.read ∙ asked.spares.read };
   }
 
   -- what the tables answer behind a read, they answer from before it on

@@ -14,12 +14,9 @@ use Rattle.pid_tables_lists.specs.EachItem.{Walks, WalksSome, placed_from}
 use Rattle.pid_tables_lists.specs.declared.walk.EachEnd.{EachEnd}
 use Rattle.pid_tables_lists.specs.declared.walk.EachEnd.TheVariants.{Tables, Fault}
 use Rattle.pid_tree.specs.Printing.{ended, header, text_or_none}
-use Rattle.pid_service.specs.EndsOfWalks.{export_end}
 use Rattle.pid_service.specs.Steps.Exports.{WritesItems}
 use Rattle.pid_service.specs.ExportSinks.{PrintsItem, StopsWithin, lines_of_entry}
 use Rattle.pid_service.specs.ItemTexts.{text_of_items}
-use Rattle.pid_service.specs.declared.item_text.ExportEnd.{ExportEnd}
-use Rattle.pid_service.specs.declared.item_text.ExportEnd.TheVariants as ends
 use Rattle.pid_service.specs.declared.export_sink.ExportSink.{ExportSink}
 use Rattle.pid_service.proofs.ItemLines.{HasPrinted, last_path, text_behind, text_first, text_joined, took_printed}
 
@@ -35,20 +32,15 @@ text_parted before front item behind last =
     (text_joined [] front (item ∷ behind) ∙ ap (λ (l : List ℕ). text_behind [] front ++ l)
     (text_first (last_path [] front) item behind ∙ ap (λ (b : List ℕ). text_behind b (item ∷ []) ++ text_behind item.0 behind) (sym last)))
 
-same_end : (a b : ExportEnd) → ◌≡◌ {A = Result (Unit {0}) ExportEnd} (Err a) (Err b) → a ≡ b
-same_end a b e = cc
-
-same_fault : (f g : WriteFault) → ends.Write f ≡ ends.Write g → f ≡ g
+same_fault : (f g : WriteFault) → ◌≡◌ {A = Result (Unit {0}) (EachEnd WriteFault)} (Err (Fault f)) (Err (Fault g)) → f ≡ g
 same_fault f g e = cc
 
-no_fault : (t : TableFault) (f : WriteFault) → ends.Tables t ≡ ends.Write f → ⊥
+no_fault : (t : TableFault) (f : WriteFault) → ◌≡◌ {A = Result (Unit {0}) (EachEnd WriteFault)} (Err (Tables t)) (Err (Fault f)) → ⊥
 no_fault t f e = cc
 
 -- a fault within the header
-pub header_stopped : (a b : Option (List ℕ)) (r : Result (Unit {0}) ExportEnd) (end : ExportEnd) (f : WriteFault) (items : Items) → r ≡ Err end → end ≡ ends.Write f → SendsFront a b (ended (header ∷ [])) → WritesItems r a b items
-header_stopped a b r end f items is same front =
-    subst (λ (x : Result (Unit {0}) ExportEnd). WritesItems x a b items) (sym (is ∙ ap Err same))
-    (stopped a a b [] (ended (header ∷ [])) (text_behind [] items) (text_of_items items) (Appends-nil a) front refl)
+pub header_stopped : (a b : Option (List ℕ)) (items : Items) → SendsFront a b (ended (header ∷ [])) → SendsFront a b (text_of_items items)
+header_stopped a b items front = stopped a a b [] (ended (header ∷ [])) (text_behind [] items) (text_of_items items) (Appends-nil a) front refl
 
 module _ {W : Type 0} (taken : W → Option (List ℕ)) (write_fault : W → Option WriteFault) where
   -- of entries in their order
@@ -60,14 +52,11 @@ module _ {W : Type 0} (taken : W → Option (List ℕ)) (write_fault : W → Opt
   walk_same (Err (Fault f)) old new w = w.walked.faulted.same_reference ∙ (took_printed taken old w.walked.between (reverse w.walked.front) w.walked.took).same_reference
   walk_same (Err (Tables t)) old new w = (took_printed taken old new (reverse w.walked.front) w.walked.took).same_reference
 
-  by_fault : (e : EachEnd WriteFault) (f : WriteFault) (old new : ExportSink W) → export_end e ≡ ends.Write f → WalksSome (PrintsItem taken) (StopsWithin taken write_fault) {X = Unit {0}} (Err e) old new → write_fault new.out.now ≡ Some f
-  by_fault (Fault g) f old new same w = w.walked.faulted.told ∙ ap Some (same_fault g f same)
-  by_fault (Tables t) f old new same told = absurd (no_fault t f same)
-
   -- a fault of the writer is the one that it keeps
-  pub fault_told : (e : EachEnd WriteFault) (r : Result (Unit {0}) ExportEnd) (end : ExportEnd) (f : WriteFault) (old new : ExportSink W) → r ≡ Err end → end ≡ export_end e → r ≡ Err (ends.Write f)
-      → WalksSome (PrintsItem taken) (StopsWithin taken write_fault) {X = Unit {0}} (Err e) old new → write_fault new.out.now ≡ Some f
-  fault_told e r end f old new is same told walked = by_fault e f old new (same_end (export_end e) (ends.Write f) (sym (is ∙ ap Err same) ∙ told)) walked
+  pub fault_told : (r : Result (Unit {0}) (EachEnd WriteFault)) (f : WriteFault) (old new : ExportSink W) → r ≡ Err (Fault f) → WalksSome (PrintsItem taken) (StopsWithin taken write_fault) r old new → write_fault new.out.now ≡ Some f
+  fault_told (Ok x) f old new is w = absurd (let no : ⊥ = cc in no)
+  fault_told (Err (Fault g)) f old new is w = w.walked.faulted.told ∙ ap Some (same_fault g f is)
+  fault_told (Err (Tables t)) f old new is w = absurd (no_fault t f is)
 
   module _ (a : Option (List ℕ)) (old : ExportSink W) (first : old.before ≡ None) (head : Appends a (taken old.out.now) (ended (header ∷ []))) where
     last_printed : (new : ExportSink W) (front : Items) → HasPrinted taken old front new → text_or_none new.before ≡ last_path [] front
@@ -79,7 +68,7 @@ module _ {W : Type 0} (taken : W → Option (List ℕ)) (write_fault : W → Opt
         Appends-then a (taken old.out.now) (taken new.out.now) (ended (header ∷ [])) (text_behind [] front) head text
 
     -- all items
-    pub all_exported : (new : ExportSink W) (items : Items) → Took (PrintsItem taken) old (reverse (placed_from 1 items)) new → Appends a (taken new.out.now) (text_of_items items)
+    all_exported : (new : ExportSink W) (items : Items) → Took (PrintsItem taken) old (reverse (placed_from 1 items)) new → Appends a (taken new.out.now) (text_of_items items)
     all_exported new items took = subst (λ (is : Items). Appends a (taken new.out.now) (text_of_items is)) (placed_items 1 items) (behind_header new (map item_in (placed_from 1 items)) (front_printed old new (placed_from 1 items) took))
 
     stopped_within : (between new : ExportSink W) (front behind : Items) (entry : Numbered) (f : WriteFault) → HasPrinted taken old front between → StopsWithin taken write_fault between entry f new
@@ -89,14 +78,14 @@ module _ {W : Type 0} (taken : W → Option (List ℕ)) (write_fault : W → Opt
         (text_parted (text_or_none between.before) front (item_in entry) behind (last_printed between front h))
 
     by_end : (e : EachEnd WriteFault) (new : ExportSink W) (items : Items) → Walks (PrintsItem taken) (StopsWithin taken write_fault) {X = Unit {0}} (Err e) (placed_from 1 items) old new
-        → WritesItems {X = Unit {0}} (Err (export_end e)) a (taken new.out.now) items
+        → WritesItems {X = Unit {0}} (Err e) a (taken new.out.now) items
     by_end (Fault f) new items w =
         let whole : items ≡ map item_in w.front ++ item_in w.item ∷ map item_in w.rest = sym (placed_items 1 items) ∙ ap (map item_in) w.parts ∙ map-append item_in w.front (w.item ∷ w.rest) in
         subst (λ (is : Items). SendsFront a (taken new.out.now) (text_of_items is)) (sym whole) (stopped_within w.between new (map item_in w.front) (map item_in w.rest) w.item f (front_printed old w.between w.front w.took) w.faulted)
     by_end (Tables t) new items w =
         (map item_in w.front, map item_in w.rest, sym (placed_items 1 items) ∙ ap (map item_in) w.parts ∙ map-append item_in w.front w.rest, behind_header new (map item_in w.front) (front_printed old new w.front w.took))
 
-    -- some items, and a fault
-    pub some_exported : (e : EachEnd WriteFault) (r : Result (Unit {0}) ExportEnd) (end : ExportEnd) (new : ExportSink W) (items : Items) → r ≡ Err end → end ≡ export_end e
-        → Walks (PrintsItem taken) (StopsWithin taken write_fault) {X = Unit {0}} (Err e) (placed_from 1 items) old new → WritesItems r a (taken new.out.now) items
-    some_exported e r end new items is same told = subst (λ (x : Result (Unit {0}) ExportEnd). WritesItems x a (taken new.out.now) items) (sym (is ∙ ap Err same)) (by_end e new items told)
+    -- the whole text or a part of it, by the end of the walk
+    pub exported : (r : Result (Unit {0}) (EachEnd WriteFault)) (new : ExportSink W) (items : Items) → Walks (PrintsItem taken) (StopsWithin taken write_fault) r (placed_from 1 items) old new → WritesItems r a (taken new.out.now) items
+    exported (Ok x) new items w = all_exported new items w
+    exported (Err e) new items w = by_end e new items w

@@ -18,6 +18,7 @@ use Rattle.pid_service.specs.declared.exporting.ExportFault.TheVariants.{Refused
 use Rattle.pid_service.specs.declared.registry.Registry.{Registry}
 use Rattle.pid_service.specs.Asking.{FaultIsCaused, MayGive}
 use Rattle.pid_service.specs.Histories.{OverHistory, Shows}
+use Rattle.pid_service.specs.KeptViews.{LeavesKept, kept_views}
 use Rattle.pid_service.specs.Registries.{OnlyReads, is_live}
 
 -- the canonical text of the tree; if the writer failed, a prefix of it that lacks some; and if
@@ -37,6 +38,7 @@ pub record IsExported {S W : Type 0} (store : Ghosts S) (writer : outputs.Ghosts
       × (writer.taken after ≡ writer.taken before)
   pub lives : is_live new ≡ is_live old
   pub rests : OnlyReads store old new
+  pub leaves : LeavesKept (kept_views old) (kept_views new)
   pub shown : (h : History) → Shows store old h → Shows store new h
   pub printed : OverHistory store old new
       (ExportsTree result (writer.taken before) (writer.taken after))

@@ -1,5 +1,5 @@
 -- What a registry keeps in memory of what is asked for again and again.
-use Rattle.std.specs.Prelude.{◌≡◌, ℕ, true, List, [], Option, None, IfSome, IsSome, Vec, map}
+use Rattle.std.specs.Prelude.{◌≡◌, ◌⊎◌, ℕ, true, List, [], Option, None, IfSome, IsSome, Vec, map}
 use Rattle.std.specs.declared.alloc.Global.{Global}
 use Rattle.sqlite_trees.specs.declared.store.Store.{Ghosts}
 use Rattle.pid_moderation.specs.History.{History}
@@ -39,6 +39,11 @@ pub record LeavesKept (old new : KeptViews) : Type 0 where
   pub pending : IsSome old.pending → new.pending ≡ old.pending
   -- numbers that were read still count as read
   pub read : old.pending_read ≡ true → (new.pending_read ≡ true) × (new.pending ≡ old.pending)
+
+-- the numbers of what is pending were read: they are kept, or count as read, so that no question
+-- reads them again
+abbrev pub AreRead : KeptViews → Type 0
+AreRead k = IsSome k.pending ⊎ (k.pending_read ≡ true)
 
 -- the numbers of what is pending, rising
 abbrev pub numbers_waiting : Views → List ℕ

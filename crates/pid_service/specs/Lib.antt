@@ -15,6 +15,5 @@ pub mod Running
 pub mod ItemTexts
 pub mod Exports
 pub mod ExportSinks
-pub mod EndsOfWalks
 pub mod TextSinks
 pub mod Steps

@@ -15,7 +15,8 @@ use Rattle.pid_moderation.specs.Writes.{tree_of}
 use Rattle.pid_service.specs.declared.registry.Registry.{Registry}
 use Rattle.pid_service.specs.Asking.{FaultIsCaused, MayGive}
 use Rattle.pid_service.specs.Histories.{OverHistory, Shows}
-use Rattle.pid_service.specs.Registries.{HasCleanDisk, OnlyReads, is_live}
+use Rattle.pid_service.specs.KeptViews.{kept_views}
+use Rattle.pid_service.specs.Registries.{HasCleanDisk, OnlyReads, SparesKept, is_live}
 
 -- A look-up by flags and arguments, for a buffer of this size.
 pub record IsLookedUp {S : Type 0} (store : Ghosts S) (old new : Registry S store) (flags : ℕ)
@@ -24,6 +25,7 @@ pub record IsLookedUp {S : Type 0} (store : Ghosts S) (old new : Registry S stor
   pub failed : is_live old ≡ false → (result ≡ Err (Names Failed)) × (new ≡ old)
   pub lives : is_live new ≡ is_live old
   pub rests : OnlyReads store old new
+  pub spares : SparesKept (kept_views old) (kept_views new)
   pub clean : HasCleanDisk store new → HasCleanDisk store old
   pub answer : OverHistory store old new
       (λ h. IfOk result (λ answer. answer ≡ answer_of (tree_of h) flags args size))

@@ -6,13 +6,13 @@ ghost use Rattle.pid_service.specs.Asking.{Answers};
 ghost use Rattle.pid_service.specs.Exporting.{IsExported};
 ghost use Rattle.pid_service.specs.Steps.Exporting.{IsToldAs};
 
-use crate::item_text::{ExportEnd, export_items};
+use crate::item_text::export_items;
 use crate::items_text::{ItemsText, items_text};
 use crate::laws;
 use crate::registry::Registry;
 use pid_ident::{Output, WriteFault, write_all};
 use pid_moderation::Refusal;
-use pid_tables::refusal_of;
+use pid_tables::{EachEnd, refusal_of};
 use sqlite::Alter;
 use thiserror::Error;
 
@@ -42,12 +42,12 @@ impl ExportFault {
     }
 }
 
-fn fault_of(end: ExportEnd) -> ExportFault
+fn fault_of(end: EachEnd<WriteFault>) -> ExportFault
     ensures { IsToldAs end result }
 {
     match end {
-        ExportEnd::Tables(fault) => ExportFault::Refused(refusal_of(fault)),
-        ExportEnd::Write(fault) => ExportFault::Write(fault),
+        EachEnd::Tables(fault) => ExportFault::Refused(refusal_of(fault)),
+        EachEnd::Fault(fault) => ExportFault::Write(fault),
     }
 }
 

@@ -6,7 +6,8 @@ ghost use Rattle.pid_moderation.specs.Items.{name_at};
 ghost use Rattle.pid_moderation.specs.Views.{items_of};
 ghost use Rattle.pid_service.specs.Asking.{FaultIsCaused};
 ghost use Rattle.pid_service.specs.Histories.{IsMemoryOrStore, OverHistory, Shows};
-ghost use Rattle.pid_service.specs.Registries.{HasCleanDisk, OnlyReads, is_live as lives};
+ghost use Rattle.pid_service.specs.KeptViews.{kept_views};
+ghost use Rattle.pid_service.specs.Registries.{OnlyReads, SparesKept, is_live as lives};
 
 use crate::laws;
 use crate::registry::Registry;
@@ -20,7 +21,7 @@ impl<S: Alter + Drop> Registry<S> {
     // What is kept in memory for a path; none if nothing is.
     fn known(&mut self, path: &Path) -> Option<Result<Option<Name>, Refusal>>
         ensures rests { OnlyReads S.Store self.old self.new }
-        ensures clean { HasCleanDisk S.Store self.new → HasCleanDisk S.Store self.old }
+        ensures spares { SparesKept (kept_views self.old) (kept_views self.new) }
         ensures lives { lives self.new ≡ lives self.old }
         ensures shown { (h : History) → Shows S.Store self.old h → Shows S.Store self.new h }
         ensures found { OverHistory S.Store self.old self.new (λ h. IfSome result
@@ -39,7 +40,7 @@ impl<S: Alter + Drop> Registry<S> {
     // The name of a path by the tables, which is then kept in memory.
     fn ask(&mut self, path: &Path) -> Result<Option<Name>, Refusal>
         ensures rests { OnlyReads S.Store self.old self.new }
-        ensures clean { HasCleanDisk S.Store self.new → HasCleanDisk S.Store self.old }
+        ensures spares { SparesKept (kept_views self.old) (kept_views self.new) }
         ensures lives { lives self.new ≡ lives self.old }
         ensures shown { (h : History) → Shows S.Store self.old h → Shows S.Store self.new h }
         ensures found { OverHistory S.Store self.old self.new

@@ -1,11 +1,11 @@
 //! Pages of what is pending, by the numbers that are kept in memory.
-ghost use Rattle.std.specs.Prelude.{◌≡◌, false, map};
+ghost use Rattle.std.specs.Prelude.{◌≡◌, false, OnOk, map};
 ghost use Rattle.pid_moderation.specs.Views.{views_of};
 ghost use Rattle.pid_moderation.specs.PendingPages.{pending_in, told_of};
 ghost use Rattle.pid_moderation.specs.QueuePages.{queue_in, queued_of};
 ghost use Rattle.pid_tables_rows.specs.Clauses.{Reads};
 ghost use Rattle.pid_service.specs.Asking.{Answers};
-ghost use Rattle.pid_service.specs.KeptViews.{HoldsWaiting};
+ghost use Rattle.pid_service.specs.KeptViews.{AreRead, HoldsWaiting, kept_views};
 
 use crate::laws;
 use crate::reading::or_refusal;
@@ -63,7 +63,8 @@ impl<S: Alter + Drop> Registry<S> {
     // Reads the numbers of what is pending, unless that was done, and keeps them if memory is there
     // for them.
     pub(crate) fn keep_pending(&mut self) -> Result<(), Refusal>
-        ensures { Answers S.Store self.old self.new result (λ h _. Unit {0}) }
+        ensures answers { Answers S.Store self.old self.new result (λ h _. Unit {0}) }
+        ensures counted { OnOk result (AreRead (kept_views self.new)) }
     {
         if !self.live {
             return Err(Refusal::Failed);
@@ -96,8 +97,9 @@ impl<S: Alter + Drop> Registry<S> {
     /// pending; after that a page costs what it has, whatever was decided. If memory runs out for
     /// the numbers, or if they are more than 1,000,000, each page is found by a walk.
     pub fn pending(&mut self, after: u32) -> Result<Vec<Pending>, Refusal>
-        ensures { Answers S.Store self.old self.new result
+        ensures answers { Answers S.Store self.old self.new result
             (λ h page. map told_of page.items ≡ pending_in PAGE after (views_of h)) }
+        ensures counted { OnOk result (AreRead (kept_views self.new)) }
     {
         laws::reached_histories_are_kept(); // proof only
         match self.keep_pending() {
@@ -114,8 +116,9 @@ impl<S: Alter + Drop> Registry<S> {
     /// The pending submissions of `pending`, each with the name that its path has today and how
     /// many remarks it has.
     pub fn queue(&mut self, after: u32) -> Result<Vec<Queued>, Refusal>
-        ensures { Answers S.Store self.old self.new result
+        ensures answers { Answers S.Store self.old self.new result
             (λ h queue. map queued_of queue.items ≡ queue_in PAGE after (views_of h)) }
+        ensures counted { OnOk result (AreRead (kept_views self.new)) }
     {
         laws::reached_histories_are_kept(); // proof only
         match self.keep_pending() {

@@ -1,5 +1,5 @@
 //! How much a registry holds.
-ghost use Rattle.std.specs.Prelude.{◌≡◌, false, length};
+ghost use Rattle.std.specs.Prelude.{◌≡◌, false, length, OnOk};
 ghost use Rattle.pid_moderation.specs.PendingPages.{waiting_above};
 ghost use Rattle.pid_moderation.specs.RegistryStatus.{
   IsStatusIn,
@@ -8,7 +8,7 @@ ghost use Rattle.pid_moderation.specs.RegistryStatus.{
 };
 ghost use Rattle.pid_tables_rows.specs.Clauses.{Reads};
 ghost use Rattle.pid_service.specs.Asking.{Answers};
-ghost use Rattle.pid_service.specs.KeptViews.{HoldsWaiting};
+ghost use Rattle.pid_service.specs.KeptViews.{AreRead, HoldsWaiting, kept_views};
 
 use crate::laws;
 use crate::reading::or_refusal;
@@ -75,31 +75,18 @@ fn status_by<S: Alter + Drop>(
 }
 
 impl<S: Alter + Drop> Registry<S> {
-    // The status by the tables and by what is kept.
-    fn status_now(&mut self) -> Result<Status, Refusal>
-        ensures { Answers S.Store self.old self.new result
-            (λ h status. registry_status_of status ≡ status_of_registry h) }
-    {
-        if !self.live {
-            return Err(Refusal::Failed);
-        }
-        laws::reached_histories_are_kept(); // proof only
-        pid_moderation::laws::views_tell_status(); // proof only
-        or_refusal(status_by(&mut self.tables, self.alloc, &self.kept.pending))
-    }
-
     /// How many accounts, items, pending submissions and submissions there are, and the revision.
     /// Accounts are counted in their table, and what is pending by the numbers that `pending` keeps
     /// in memory; the other counts are in the tables.
     pub fn status(&mut self) -> Result<Status, Refusal>
-        ensures { Answers S.Store self.old self.new result
+        ensures answers { Answers S.Store self.old self.new result
             (λ h status. registry_status_of status ≡ status_of_registry h) }
+        ensures counted { OnOk result (AreRead (kept_views self.new)) }
     {
-        if !self.live {
-            return Err(Refusal::Failed);
-        }
+        laws::reached_histories_are_kept(); // proof only
+        pid_moderation::laws::views_tell_status(); // proof only
         match self.keep_pending() {
-            Ok(()) => self.status_now(),
+            Ok(()) => or_refusal(status_by(&mut self.tables, self.alloc, &self.kept.pending)),
             Err(refusal) => Err(refusal),
         }
     }

@@ -45,10 +45,10 @@ returns-in-Some-clause-kept g c =
     let on : c.args.self.now.live ≡ true = search rules in
     record {
       shown = c.known.ensures.shown;
-      was_honest = c.known.ensures.clean;
+      was_honest = c.known.ensures.rests.clean;
       faults = same_faults c.args.self.now.live c.known.new.self.live c.known.ensures.lives;
       told = same_live c.args.self.now.live c.known.new.self.live c.known.ensures.lives;
-      asked = λ start asked. asked_then g.S.Store start c.args.self.now c.known.new.self on c.known.ensures.lives c.known.ensures.rests asked;
+      asked = λ start asked. asked_then g.S.Store start c.args.self.now c.known.new.self on c.known.ensures.lives c.known.ensures.rests c.known.ensures.spares asked;
     }
 
 pub returns-clause-kept : goal.returns-clause-kept
@@ -56,12 +56,12 @@ returns-clause-kept g c =
     let on : c.args.self.now.live ≡ true = search rules in
     record {
       shown = λ h shows. c.ask.ensures.shown h (c.known.ensures.shown h shows);
-      was_honest = λ clean. c.known.ensures.clean (c.ask.ensures.clean clean);
+      was_honest = λ clean. c.known.ensures.rests.clean (c.ask.ensures.rests.clean clean);
       faults = same_faults c.args.self.now.live c.ask.new.self.live (c.ask.ensures.lives ∙ c.known.ensures.lives);
       told = same_live c.args.self.now.live c.ask.new.self.live (c.ask.ensures.lives ∙ c.known.ensures.lives);
       asked = λ start asked.
-          asked_then g.S.Store start c.known.new.self c.ask.new.self (c.known.ensures.lives ∙ on) c.ask.ensures.lives c.ask.ensures.rests
-          (asked_then g.S.Store start c.args.self.now c.known.new.self on c.known.ensures.lives c.known.ensures.rests asked);
+          asked_then g.S.Store start c.known.new.self c.ask.new.self (c.known.ensures.lives ∙ on) c.ask.ensures.lives c.ask.ensures.rests c.ask.ensures.spares
+          (asked_then g.S.Store start c.args.self.now c.known.new.self on c.known.ensures.lives c.known.ensures.rests c.known.ensures.spares asked);
     }
 
 since : {S : Type 0} (store : Ghosts S) (start old new : Registry S store) (e : Refusal) → OnlyAsked store start old → OnlyReads store old new → HasCleanDisk store new → FaultIsCaused store old new e → FaultIsCaused store start new e
@@ -82,4 +82,4 @@ pub returns-clause-caused : goal.returns-clause-caused
 returns-clause-caused g c clean h shows start asked =
     let on : c.args.self.now.live ≡ true = search rules in
     since_all g.S.Store start c.known.new.self c.ask.new.self c.ask.result
-    (asked_then g.S.Store start c.args.self.now c.known.new.self on c.known.ensures.lives c.known.ensures.rests asked) c.ask.ensures.rests clean (c.ask.ensures.caused clean h (c.known.ensures.shown h shows))
+    (asked_then g.S.Store start c.args.self.now c.known.new.self on c.known.ensures.lives c.known.ensures.rests c.known.ensures.spares asked) c.ask.ensures.rests clean (c.ask.ensures.caused clean h (c.known.ensures.shown h shows))

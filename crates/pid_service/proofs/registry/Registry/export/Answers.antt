@@ -1,10 +1,11 @@
-use Rattle.std.proofs.Common.{◌≡◌, ℕ, List, Err, ap, refl, rules, subst, ◌∙◌}
+use Rattle.std.proofs.Common.{◌≡◌, ℕ, List, refl, rules, subst, ◌∙◌}
 use Rattle.std.specs.Io.KnownBytes.{Appends}
 use Rattle.pid_ident.specs.Sending.{SendsFront}
 use Rattle.pid_moderation.specs.Views.{views_of}
 use Rattle.pid_moderation.specs.Writes.{tree_of}
 use Rattle.pid_tree.specs.Printing.{print}
 use Rattle.pid_service.proofs.Exported.{text_told, told_by, told_cause, told_tree, whole_tree}
+use Rattle.pid_service.proofs.Keeping.{left_same}
 use Rattle.pid_service.proofs.registry.Registry.export.Goals as goal
 
 -- ---- the text is kept
@@ -14,6 +15,7 @@ returns-in-Ok g c = record {
   failed = search rules;
   lives = search rules;
   rests = search rules;
+  leaves = left_same _;
   shown = search rules;
   printed = λ clean h shows.
       let same : c.as_slice.result.now ≡ print (tree_of h) = c.as_slice.ensures.value ∙ text_told g.S.Store c.args.self.now h c.in-Some.text c.in-Some.is clean shows (c.items_print_as_their_tree.ensures h) in
@@ -28,6 +30,7 @@ returns-in-Err g c = record {
   failed = search rules;
   lives = search rules;
   rests = search rules;
+  leaves = left_same _;
   shown = search rules;
   printed = λ clean h shows.
       let same : c.as_slice.result.now ≡ print (tree_of h) = c.as_slice.ensures.value ∙ text_told g.S.Store c.args.self.now h c.in-Some.text c.in-Some.is clean shows (c.items_print_as_their_tree.ensures h) in
@@ -44,6 +47,7 @@ returns-in-Ok-export_items g c = record {
   failed = search rules;
   lives = search rules;
   rests = search rules;
+  leaves = left_same _;
   shown = search rules;
   printed = λ clean h shows. whole_tree _ _ h (c.items_print_as_their_tree.ensures h) (c.in-Ok-export_items.ensures.printed clean (views_of h) shows.tables);
   refused = search rules;
@@ -56,11 +60,12 @@ returns-in-Err-export_items g c = record {
   failed = search rules;
   lives = search rules;
   rests = search rules;
+  leaves = left_same _;
   shown = search rules;
   printed = λ clean h shows. told_tree c.in-Err-export_items.end c.fault_of.result _ _ h (c.items_print_as_their_tree.ensures h) c.fault_of.ensures (c.in-Err-export_items.ensures.printed clean (views_of h) shows.tables);
   refused = search rules;
   caused = λ clean h shows e is.
       told_cause g.S.Store c.args.self.now.tables.conn c.export_items.new.tables.conn c.in-Err-export_items.end c.fault_of.result e c.fault_of.ensures (told_by _ c.fault_of.result e refl is)
-      (λ fault end. c.in-Err-export_items.ensures.caused clean (views_of h) shows.tables (c.reached_histories_are_kept.ensures.readable h shows.history) fault (ap Err end));
+      (c.in-Err-export_items.ensures.caused clean (views_of h) shows.tables (c.reached_histories_are_kept.ensures.readable h shows.history));
   fault = search rules;
 }

@@ -4,12 +4,13 @@ use Rattle.pid_service.proofs.registry.Registry.lookup.Goals as goal
 
 pub returns : goal.returns
 returns g c =
-    let start : OnlyAsked g.S.Store c.args.self.now c.args.self.now = record { lives = refl; rests = search rules; failed = λ off. refl } in
+    let start : OnlyAsked g.S.Store c.args.self.now c.args.self.now = record { lives = refl; rests = search rules; failed = λ off. refl; spares = record { text = refl; pending = refl; read = refl } } in
     let asked = c.lookup.ensures.kept.asked c.args.self.now start in
     record {
       failed = search rules;
       lives = asked.lives;
       rests = asked.rests;
+      spares = asked.spares;
       clean = search rules;
       answer = λ clean h shows. c.lookup.ensures.answer clean h shows;
       shown = search rules;

@@ -2,6 +2,6 @@ use Rattle.std.proofs.Common.{refl}
 use Rattle.pid_service.proofs.Questions.{answers_behind}
 use Rattle.pid_service.proofs.registry.Registry.pending.Goals as goal
 
-pub returns-in-Ok : goal.returns-in-Ok
-returns-in-Ok g c =
-    answers_behind g.S.Store c.args.self.now c.keep_pending.new.self _ _ c.pending_by.result c.or_refusal.result _ _ _ c.in-Ok.ensures refl refl c.pending_by.ensures c.or_refusal.ensures c.reached_histories_are_kept.ensures.readable (λ h page shows clean told. told (shows.kept clean).pending)
+pub returns-in-Ok-clause-answers : goal.returns-in-Ok-clause-answers
+returns-in-Ok-clause-answers g c =
+    answers_behind g.S.Store c.args.self.now c.keep_pending.new.self _ _ c.pending_by.result c.or_refusal.result _ _ _ c.in-Ok.ensures.answers refl refl c.pending_by.ensures c.or_refusal.ensures c.reached_histories_are_kept.ensures.readable (λ h page shows clean told. told (shows.kept clean).pending)

@@ -1,0 +1,8 @@
+use Rattle.std.proofs.Common.{refl}
+use Rattle.pid_moderation.specs.RegistryStatus.{registry_status_of}
+use Rattle.pid_service.proofs.Questions.{answers_behind}
+use Rattle.pid_service.proofs.registry.Registry.status.Goals as goal
+
+pub returns-in-Ok-clause-answers : goal.returns-in-Ok-clause-answers
+returns-in-Ok-clause-answers g c =
+    answers_behind g.S.Store c.args.self.now c.keep_pending.new.self _ _ c.status_by.result c.or_refusal.result _ _ _ c.in-Ok.ensures.answers refl refl c.status_by.ensures c.or_refusal.ensures c.reached_histories_are_kept.ensures.readable (λ h status shows clean told. (c.views_tell_status.ensures h (registry_status_of status)).0 (told (shows.kept clean).pending))
