@@ -16,6 +16,7 @@ use Rattle.pid_moderation.specs.Judgement as Outcomes
 use Rattle.pid_moderation.specs.Views.{Views, items_of, views_of}
 use Rattle.pid_moderation.specs.WellMade.{HasGoodFile, IsWellMade}
 use Rattle.pid_tables_rows.specs.Clauses.{AtRest, LeavesEither}
+use Rattle.pid_service.specs.declared.judging.Judged.{Judged}
 use Rattle.pid_service.specs.declared.judging.Judged.TheVariants.{Kept, Accepted}
 use Rattle.pid_service.specs.declared.registry.Registry.{Registry}
 use Rattle.pid_service.specs.Histories.{IsReached, Shows, IsMemoryOrStore}
@@ -76,10 +77,11 @@ module _ {S : Type 0} (store : Ghosts S) where
   told_or_short old new h c (Err e) (inr is) = inr (subst (IsCausedAs store old new) (sym is) tt)
 
   -- a fault of the change leaves the registry failed, over a command that the judgement answers
-  pub failed_over : (start new : Registry S store) (live : Bool) (h : History) (c : Asked) (change : Change) (reply : Reply) (r : Result Reply Refusal) → MatchResult r (λ x. is_live new ≡ live) (λ e. IsMemoryOrStore e × (is_live new ≡ false))
-      → JudgesCommand h c (Ok (Accepted change reply)) → IfErr r (IsRefusedFor store start new h c)
-  failed_over start new live h c change reply (Ok x) held told = tt
-  failed_over start new live h c change reply (Err e) (fault, off) told = inr (inr (off, (reply, told.0)))
+  pub failed_over : (start new : Registry S store) (live : Bool) (h : History) (c : Asked) (judged : Judged) (r : Result Reply Refusal) → MatchResult r (λ x. is_live new ≡ live) (λ e. IsMemoryOrStore e × (is_live new ≡ false))
+      → JudgesCommand h c (Ok judged) → IfErr r (IsRefusedFor store start new h c)
+  failed_over start new live h c judged (Ok x) held told = tt
+  failed_over start new live h c (Kept reply) (Err e) (fault, off) told = inr (inr (off, (reply, told.0)))
+  failed_over start new live h c (Accepted change reply) (Err e) (fault, off) told = inr (inr (off, (reply, told.0)))
 
   pub spare_forgets : (new : Registry S store) (h : History) (c : Asked) → (kept_by new ≡ nothing) ⊎ (items_of (after h c) ≡ items_of h) → Forgets store new h c
   spare_forgets new h c (inl none) = λ other. inl none

@@ -8,24 +8,24 @@ ghost use Rattle.pid_service.specs.Histories.{OverHistory};
 ghost use Rattle.pid_service.specs.KeptViews.{kept_by, nothing};
 ghost use Rattle.pid_service.specs.Obeying.{IsObeyed, Obeys};
 ghost use Rattle.pid_service.specs.Registries.{HasCleanDisk, KeepsLimit};
-ghost use Rattle.pid_service.specs.Steps.Obeying.{IsAccepted, LivesOrFails, SparesNames};
+ghost use Rattle.pid_service.specs.Steps.Obeying.{ComesOf, LivesOrFails, SparesNames};
 
 use crate::judging::{Judged, judge};
 use crate::laws;
 use crate::registry::Registry;
 use crate::writing::write;
-use pid_moderation::{Act, Change, Command, Refusal, Reply, breaks_form};
+use pid_moderation::{Act, Command, Refusal, Reply, breaks_form};
 use pid_tables::refusal_of;
 use sqlite::Alter;
 
 impl<S: Alter + Drop> Registry<S> {
-    // Writes the change of a command that is accepted. At a fault the registry has failed.
-    fn carry_out(&mut self, change: &Change, reply: Reply) -> Result<Reply, Refusal>
+    // Writes the change of a command that is accepted; at a fault the registry has failed. A reply
+    // that was kept writes nothing.
+    fn carry_out(&mut self, judged: &Judged) -> Result<Reply, Refusal>
         ensures clean { HasCleanDisk S.Store self.new → HasCleanDisk S.Store self.old }
         ensures obeyed { (h : History) (c : Asked)
-            → IsAccepted S.Store self.old change.now reply h c → Obeys S.Store result self.new h c }
-        ensures spares { (h : History) (c : Asked)
-            → IsAccepted S.Store self.old change.now reply h c
+            → ComesOf S.Store self.old judged.now h c → Obeys S.Store result self.new h c }
+        ensures spares { (h : History) (c : Asked) → ComesOf S.Store self.old judged.now h c
             → (kept_by self.new ≡ nothing) ⊎ (items_of (after h c) ≡ items_of h) }
         ensures none { kept_by self.old ≡ nothing → kept_by self.new ≡ nothing }
         ensures held { LivesOrFails S.Store result self.old self.new }
@@ -33,13 +33,18 @@ impl<S: Alter + Drop> Registry<S> {
     {
         laws::reached_histories_are_kept(); // proof only
         pid_tables::laws::views_of_sound_histories(); // proof only
-        self.kept.follow(change);
-        match write(&mut self.tables.conn, self.alloc, change) {
-            Ok(()) => Ok(reply),
-            Err(fault) => {
-                self.live = false;
-                self.kept.clear();
-                Err(refusal_of(fault))
+        match judged {
+            Judged::Kept(reply) => Ok(*reply),
+            Judged::Accepted { change, reply } => {
+                self.kept.follow(change);
+                match write(&mut self.tables.conn, self.alloc, change) {
+                    Ok(()) => Ok(*reply),
+                    Err(fault) => {
+                        self.live = false;
+                        self.kept.clear();
+                        Err(refusal_of(fault))
+                    }
+                }
             }
         }
     }
@@ -64,8 +69,7 @@ impl<S: Alter + Drop> Registry<S> {
         }
         match judge(&mut self.tables, self.alloc, command) {
             Err(refusal) => Err(refusal),
-            Ok(Judged::Kept(reply)) => Ok(reply),
-            Ok(Judged::Accepted { change, reply }) => self.carry_out(&change, reply),
+            Ok(judged) => self.carry_out(&judged),
         }
     }
 

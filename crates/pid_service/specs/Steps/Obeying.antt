@@ -1,14 +1,13 @@
 -- What a command leaves, for those that call its steps.
 use Rattle.std.specs.Prelude.{◌≡◌, ◌≢◌, ◌⊎◌, Bool, false, Result, Ok, IsErrAnd, MatchResult}
 use Rattle.sqlite_trees.specs.declared.store.Store.{Ghosts}
-use Rattle.pid_moderation.specs.declared.change.Change.{Change}
 use Rattle.pid_moderation.specs.declared.command.Reply.{Reply}
 use Rattle.pid_moderation.specs.declared.refusal.Refusal.{Refusal}
 use Rattle.pid_moderation.specs.declared.refusal.Refusal.TheVariants.{Failed}
 use Rattle.pid_moderation.specs.History.{Asked, History}
 use Rattle.pid_moderation.specs.Judgement.{after}
 use Rattle.pid_moderation.specs.Views.{items_of}
-use Rattle.pid_service.specs.declared.judging.Judged.TheVariants.{Accepted}
+use Rattle.pid_service.specs.declared.judging.Judged.{Judged}
 use Rattle.pid_service.specs.declared.registry.Registry.{Registry}
 use Rattle.pid_service.specs.Histories.{IsMemoryOrStore, IsReached, Shows}
 use Rattle.pid_service.specs.KeptViews.{kept_by, nothing}
@@ -28,12 +27,12 @@ SparesNames result r h c = (kept_by r ≡ nothing)
     ⊎ ((items_of (after h c) ≡ items_of h) ⊎ IsErrAnd result IsMemoryOrStore)
 
 module _ {S : Type 0} (store : Ghosts S) where
-  -- the registry shows a history, over which this change is to be written for the command
-  pub record IsAccepted (r : Registry S store) (change : Change) (reply : Reply) (h : History)
+  -- the registry shows a history, over which this comes of the command, and it can go on
+  pub record ComesOf (r : Registry S store) (judged : Judged) (h : History)
       (c : Asked) : Type 0 where
     pub shows : Shows store r h
     pub reached : IsReached (after h c)
-    pub judged : JudgesCommand h c (Ok (Accepted change reply))
+    pub comes : JudgesCommand h c (Ok judged)
 
   -- the reply was answered, and the registry is as live as before; or it has failed
   abbrev pub LivesOrFails : Result Reply Refusal → Registry S store → Registry S store → Type 0

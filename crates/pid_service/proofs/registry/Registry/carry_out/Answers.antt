@@ -1,21 +1,36 @@
-use Rattle.std.proofs.Common.{inl, refl}
-use Rattle.pid_moderation.specs.Views.{views_of}
-use Rattle.pid_service.proofs.Obeyed.{accepted, accepted_spares, failed}
+use Rattle.std.proofs.Common.{◌≡◌, Ok, ap, inl, inr, refl, subst}
+use Rattle.pid_moderation.specs.Views.{items_of, views_of}
+use Rattle.pid_service.specs.declared.judging.Judged.{Judged}
+use Rattle.pid_service.specs.Steps.Judging.{JudgesCommand}
+use Rattle.pid_service.proofs.Obeyed.{accepted, accepted_spares, failed, kept}
 use Rattle.pid_service.proofs.registry.Registry.carry_out.Goals as goal
+
+-- ---- a reply that was kept
+
+pub returns-in-Kept-clause-obeyed : goal.returns-in-Kept-clause-obeyed
+returns-in-Kept-clause-obeyed g c h asks to =
+    kept g.S.Store c.args.self.now h asks c.in-Kept.reply to.shows (subst (λ (j : Judged). JudgesCommand h asks (Ok j)) c.in-Kept.is to.comes)
+
+pub returns-in-Kept-clause-spares : goal.returns-in-Kept-clause-spares
+returns-in-Kept-clause-spares g c h asks to = let told = subst (λ (j : Judged). JudgesCommand h asks (Ok j)) c.in-Kept.is to.comes in
+    inr (ap items_of told.1)
+
+-- ---- a change
 
 pub returns-in-Ok-clause-obeyed : goal.returns-in-Ok-clause-obeyed
 returns-in-Ok-clause-obeyed g c h asks to =
-    accepted g.S.Store c.args.self.now _ h asks c.args.change.now c.args.reply to.shows to.judged to.reached
+    accepted g.S.Store c.args.self.now _ h asks c.in-Accepted.change c.in-Accepted.reply to.shows (subst (λ (j : Judged). JudgesCommand h asks (Ok j)) c.in-Accepted.is to.comes) to.reached
     (λ v rest fit. c.in-Ok.ensures.stands v rest fit) refl c.write.ensures.clean
     (λ fits kept. c.follow.ensures.right (views_of h) (c.views_of_sound_histories.ensures.views h (c.reached_histories_are_kept.ensures.sound h to.shows.history)) fits kept)
 
 pub returns-in-Err-clause-obeyed : goal.returns-in-Err-clause-obeyed
 returns-in-Err-clause-obeyed g c h asks to =
-    failed g.S.Store c.args.self.now _ h asks c.args.change.now c.args.reply c.refusal_of.result to.shows to.judged to.reached
+    failed g.S.Store c.args.self.now _ h asks c.in-Accepted.change c.in-Accepted.reply c.refusal_of.result to.shows (subst (λ (j : Judged). JudgesCommand h asks (Ok j)) c.in-Accepted.is to.comes) to.reached
     (λ v rest fit. c.in-Err.ensures.either v rest fit) refl c.clear.ensures c.refusal_of.ensures.fault
 
 pub returns-in-Ok-clause-spares : goal.returns-in-Ok-clause-spares
-returns-in-Ok-clause-spares g c h asks to = accepted_spares _ h asks c.args.change.now c.args.reply to.judged c.follow.ensures.spares
+returns-in-Ok-clause-spares g c h asks to =
+    accepted_spares _ h asks c.in-Accepted.change c.in-Accepted.reply (subst (λ (j : Judged). JudgesCommand h asks (Ok j)) c.in-Accepted.is to.comes) c.follow.ensures.spares
 
 pub returns-in-Err-clause-spares : goal.returns-in-Err-clause-spares
 returns-in-Err-clause-spares g c h asks to = inl c.clear.ensures.items

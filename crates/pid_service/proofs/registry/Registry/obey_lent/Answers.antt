@@ -1,11 +1,9 @@
-use Rattle.std.proofs.Common.{◌≡◌, inl, inr, false, Ok, ap, refl, rules, subst, ◌∙◌}
+use Rattle.std.proofs.Common.{◌≡◌, inl, inr, false, Ok, ap, refl, rules, ◌∙◌}
 use Rattle.pid_moderation.specs.History.{Asked, History, is_import}
 use Rattle.pid_moderation.specs.CheckTables.{is_broken}
 use Rattle.pid_moderation.specs.Judgement.{answer}
-use Rattle.pid_moderation.specs.Views.{items_of, views_of}
+use Rattle.pid_moderation.specs.Views.{views_of}
 use Rattle.pid_tables.specs.Files.{asks, file_of, file_reading, reading_of}
-use Rattle.pid_service.specs.declared.judging.Judged.{Judged}
-use Rattle.pid_service.specs.declared.judging.Judged.TheVariants.{Accepted}
 use Rattle.pid_service.specs.Histories.{Shows}
 use Rattle.pid_service.specs.Obeying.{Obeys}
 use Rattle.pid_service.specs.Registries.{HasCleanDisk}
@@ -14,7 +12,7 @@ use Rattle.pid_service.specs.Steps.Obeying.{SparesNames}
 use Rattle.pid_service.proofs.ImportCauses.{bad_text}
 use Rattle.pid_service.proofs.Imported.{file_given}
 use Rattle.pid_service.proofs.Lasting.{carried, lasting, not_failed}
-use Rattle.pid_service.proofs.Obeyed.{broken_form, broken_spares, failed_over, judged_for, kept, only_read, refused, refused_spares, spare_forgets, then_spares, well_made}
+use Rattle.pid_service.proofs.Obeyed.{broken_form, broken_spares, failed_over, judged_for, only_read, refused, refused_spares, spare_forgets, then_spares, well_made}
 use Rattle.pid_service.proofs.ReadFiles.{tells_any}
 use Rattle.pid_service.proofs.registry.Registry.obey_lent.Goals as goal
 
@@ -86,39 +84,14 @@ returns-in-Err-clause-spares g c clean h shows =
     let other : is_import c.args.command.now.act ≡ false = search rules in
     refused_spares _ h (asks c.args.command.now) c.in-Err.refusal (c.in-Err.ensures.judged clean h (file_reading (file_of c.args.command.now.act)) shows.history shows.tables other)
 
--- ---- a reply that was kept
+-- ---- what comes of it otherwise
 
-pub returns-in-Ok-Kept-clause-does : goal.returns-in-Ok-Kept-clause-does
-returns-in-Ok-Kept-clause-does g c =
+pub returns-in-Ok-clause-does : goal.returns-in-Ok-clause-does
+returns-in-Ok-clause-does g c =
     let reading = file_reading (file_of c.args.command.now.act) in
     let other : is_import c.args.command.now.act ≡ false = search rules in
-    record {
-      clean = c.judge.ensures.rests.clean;
-      failed = search rules;
-      form = search rules;
-      obeyed = λ clean h shows.
-          kept g.S.Store _ h (asks c.args.command.now) c.in-Ok-Kept.reply (only_read g.S.Store c.args.self.now _ h refl c.judge.ensures.rests refl shows)
-          (subst (λ (j : Judged). JudgesCommand h (asks c.args.command.now) (Ok j)) c.in-Ok-Kept.field-0-is (c.in-Ok-Kept.ensures.judged clean h reading shows.history shows.tables other));
-      import_caused = search rules;
-      caused = λ clean h shows same. tt;
-      forgets = λ clean h shows same. inr (only_read g.S.Store c.args.self.now _ h refl c.judge.ensures.rests refl shows);
-      lasts = lasting g.S.Store c.args.self.now _ _ refl c.judge.ensures.rests.survives.limit;
-    }
-
-pub returns-in-Ok-Kept-clause-spares : goal.returns-in-Ok-Kept-clause-spares
-returns-in-Ok-Kept-clause-spares g c clean h shows =
-    let other : is_import c.args.command.now.act ≡ false = search rules in
-    let told = subst (λ (j : Judged). JudgesCommand h (asks c.args.command.now) (Ok j)) c.in-Ok-Kept.field-0-is (c.in-Ok-Kept.ensures.judged clean h (file_reading (file_of c.args.command.now.act)) shows.history shows.tables other) in
-    inr (inl (ap items_of told.1))
-
--- ---- a change
-
-pub returns-in-Ok-Accepted-clause-does : goal.returns-in-Ok-Accepted-clause-does
-returns-in-Ok-Accepted-clause-does g c =
-    let reading = file_reading (file_of c.args.command.now.act) in
-    let other : is_import c.args.command.now.act ≡ false = search rules in
-    let told : (clean : HasCleanDisk g.S.Store c.carry_out.new.self) (h : History) (shows : Shows g.S.Store c.args.self.now h) → JudgesCommand h (asks c.args.command.now) (Ok (Accepted c.in-Ok-Accepted.change c.in-Ok-Accepted.reply)) =
-    λ clean h shows. subst (λ (j : Judged). JudgesCommand h (asks c.args.command.now) (Ok j)) c.in-Ok-Accepted.field-0-is (c.in-Ok-Accepted.ensures.judged (c.carry_out.ensures.clean clean) h reading shows.history shows.tables other) in
+    let told : (clean : HasCleanDisk g.S.Store c.carry_out.new.self) (h : History) (shows : Shows g.S.Store c.args.self.now h) → JudgesCommand h (asks c.args.command.now) (Ok c.in-Ok.judged) =
+    λ clean h shows. c.in-Ok.ensures.judged (c.carry_out.ensures.clean clean) h reading shows.history shows.tables other in
     record {
       clean = λ clean. c.judge.ensures.rests.clean (c.carry_out.ensures.clean clean);
       failed = search rules;
@@ -128,24 +101,23 @@ returns-in-Ok-Accepted-clause-does g c =
           (record {
             shows = only_read g.S.Store c.args.self.now _ h refl c.judge.ensures.rests refl shows;
             reached = c.commands_lead_on.ensures h (asks c.args.command.now) shows.history (well_made c.args.command.now reading other c.command_is_well_made.ensures);
-            judged = told clean h shows;
+            comes = told clean h shows;
           });
       import_caused = search rules;
-      caused = λ clean h shows same.
-          failed_over g.S.Store c.args.self.now c.carry_out.new.self c.args.self.now.live h (asks c.args.command.now) c.in-Ok-Accepted.change c.in-Ok-Accepted.reply c.carry_out.result c.carry_out.ensures.held (told clean h shows);
+      caused = λ clean h shows same. failed_over g.S.Store c.args.self.now c.carry_out.new.self c.args.self.now.live h (asks c.args.command.now) c.in-Ok.judged c.carry_out.result c.carry_out.ensures.held (told clean h shows);
       forgets = λ clean h shows.
           spare_forgets g.S.Store c.carry_out.new.self h (asks c.args.command.now)
           (c.carry_out.ensures.spares h (asks c.args.command.now)
           (record {
             shows = only_read g.S.Store c.args.self.now _ h refl c.judge.ensures.rests refl shows;
             reached = c.commands_lead_on.ensures h (asks c.args.command.now) shows.history (well_made c.args.command.now reading other c.command_is_well_made.ensures);
-            judged = told clean h shows;
+            comes = told clean h shows;
           }));
       lasts = lasting g.S.Store c.args.self.now c.carry_out.new.self c.carry_out.result (carried c.carry_out.result c.args.self.now.live c.carry_out.new.self.live c.carry_out.ensures.held) (c.carry_out.ensures.limit ∙ c.judge.ensures.rests.survives.limit);
     }
 
-pub returns-in-Ok-Accepted-clause-spares : goal.returns-in-Ok-Accepted-clause-spares
-returns-in-Ok-Accepted-clause-spares g c clean h shows =
+pub returns-in-Ok-clause-spares : goal.returns-in-Ok-clause-spares
+returns-in-Ok-clause-spares g c clean h shows =
     let reading = file_reading (file_of c.args.command.now.act) in
     let other : is_import c.args.command.now.act ≡ false = search rules in
     then_spares _ h (asks c.args.command.now) c.carry_out.result
@@ -153,5 +125,5 @@ returns-in-Ok-Accepted-clause-spares g c clean h shows =
     (record {
       shows = only_read g.S.Store c.args.self.now _ h refl c.judge.ensures.rests refl shows;
       reached = c.commands_lead_on.ensures h (asks c.args.command.now) shows.history (well_made c.args.command.now reading other c.command_is_well_made.ensures);
-      judged = subst (λ (j : Judged). JudgesCommand h (asks c.args.command.now) (Ok j)) c.in-Ok-Accepted.field-0-is (c.in-Ok-Accepted.ensures.judged (c.carry_out.ensures.clean clean) h reading shows.history shows.tables other);
+      comes = c.in-Ok.ensures.judged (c.carry_out.ensures.clean clean) h reading shows.history shows.tables other;
     }))
