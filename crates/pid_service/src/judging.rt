@@ -1,5 +1,5 @@
 //! What comes of a command, before anything is written.
-ghost use Rattle.std.specs.Prelude.{◌≡◌, ◌≢◌, ◌⊎◌, false, is_some, Err, IfErr};
+ghost use Rattle.std.specs.Prelude.{◌≡◌, ◌≢◌, ◌⊎◌, false, Err, IfErr};
 ghost use Rattle.pid_moderation.specs.FactsOfViews.{facts_of};
 ghost use Rattle.pid_moderation.specs.History.{History, Reading, asked, is_import};
 ghost use Rattle.pid_moderation.specs.Judgement.{answer, judge as judgement};
@@ -22,12 +22,6 @@ pub(crate) enum Judged {
     Accepted { change: Change, reply: Reply },
 }
 
-fn is_there(reply: Option<Reply>) -> bool
-    ensures { result ≡ is_some reply }
-{
-    reply.is_some()
-}
-
 fn judged_by(facts: &Facts, command: &Command) -> Result<Judged, Refusal>
     ensures judged { (h : History) (reading : Reading) → IsMarked h
         → is_import command.now.act ≡ false
@@ -42,7 +36,7 @@ fn judged_by(facts: &Facts, command: &Command) -> Result<Judged, Refusal>
     match decide(facts, command) {
         Err(refusal) => Err(refusal),
         Ok((change, reply)) => {
-            if is_there(facts.kept) {
+            if facts.kept.is_some() {
                 Ok(Judged::Kept(reply))
             } else {
                 Ok(Judged::Accepted { change, reply })

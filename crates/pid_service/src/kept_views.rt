@@ -96,16 +96,6 @@ fn waiting_after(numbers: Option<Vec<u32>>, effect: &Effect) -> Option<Vec<u32>>
 }
 
 impl KeptItems {
-    /// Nothing is kept.
-    pub(crate) fn new(alloc: Global) -> Result<KeptItems, AllocError>
-        ensures { IfOk result (λ kept. kept ≡ nothing) }
-    {
-        Ok(KeptItems {
-            names: NameCache::new(alloc)?,
-            text: None,
-        })
-    }
-
     /// Drops all that is kept.
     pub(crate) fn clear(&mut self)
         ensures { self.new ≡ nothing }
@@ -121,7 +111,10 @@ impl KeptViews {
         ensures { IfOk result KeepsNothing }
     {
         Ok(KeptViews {
-            items: KeptItems::new(alloc)?,
+            items: KeptItems {
+                names: NameCache::new(alloc)?,
+                text: None,
+            },
             pending: None,
             pending_read: false,
         })

@@ -7,13 +7,13 @@ use Rattle.pid_service.proofs.judging.judged_by.Goals as goal
 pub returns-in-Err-clause-judged : goal.returns-in-Err-clause-judged
 returns-in-Err-clause-judged c h reading marked other is = refusal_told h (asked c.args.command.now reading) c.in-Err.refusal ((c.in-Err.ensures.answers (views_of h) reading is).refusal)
 
-pub returns-else-is_there-clause-judged : goal.returns-else-is_there-clause-judged
-returns-else-is_there-clause-judged c h reading marked other is =
+pub returns-else-is_some-clause-judged : goal.returns-else-is_some-clause-judged
+returns-else-is_some-clause-judged c h reading marked other is =
     ((c.in-Ok.ensures.answers (views_of h) reading is).reply, leads h c.args.command.now reading c.in-Ok.change other (c.in-Ok.ensures.change h reading marked is), fits h c.args.command.now reading c.in-Ok.change other (c.in-Ok.ensures.fits h reading is))
 
-pub returns-then-is_there-clause-judged : goal.returns-then-is_there-clause-judged
-returns-then-is_there-clause-judged c h reading marked other is =
-    let there : is_some c.args.facts.now.kept ≡ true = sym c.is_there.ensures ∙ c.if-is_there.true in
+pub returns-then-is_some-clause-judged : goal.returns-then-is_some-clause-judged
+returns-then-is_some-clause-judged c h reading marked other is =
+    let there : is_some c.args.facts.now.kept ≡ true = sym c.is_some.ensures ∙ c.if-is_some.true in
     ((c.in-Ok.ensures.answers (views_of h) reading is).reply, repeated_stays h (asked c.args.command.now reading) (sym (ap (λ f. is_some f.kept) is) ∙ there))
 
 pub returns-in-Err-clause-refused : goal.returns-in-Err-clause-refused
