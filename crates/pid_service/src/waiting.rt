@@ -91,8 +91,10 @@ pub(crate) fn waiting_numbers<S: Alter + Drop>(
 fn plus(count: u32, page: &[Pending]) -> Option<u32>
     ensures { IfSome result (λ n. n ≡ count + length page.now) }
 {
-    let more = u32::try_from(page.len()).ok()?;
-    count.checked_add(more)
+    match u32::try_from(page.len()) {
+        Ok(more) => count.checked_add(more),
+        Err(_) => None,
+    }
 }
 
 /// How many submissions are pending, by pages of them.
