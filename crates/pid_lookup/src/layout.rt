@@ -97,7 +97,7 @@ pub fn pair_parts<'a>(
 fn second_half(number: &[u8]) -> &[u8]
     ensures { result.now ≡ second_half_of number.now }
 {
-    let (_, half) = number.split_at(5.min(number.len()));
+    let (_, half) = number.split_at(number.len().min(5));
     half
 }
 
