@@ -1,4 +1,4 @@
-use Rattle.std.proofs.Common.{◌≡◌, Ok, ap, inl, inr, refl, subst}
+use Rattle.std.proofs.Common.{Ok, ap, inl, inr, refl, subst}
 use Rattle.pid_moderation.specs.Views.{items_of, views_of}
 use Rattle.pid_service.specs.declared.judging.Judged.{Judged}
 use Rattle.pid_service.specs.Steps.Judging.{JudgesCommand}
