@@ -9,7 +9,6 @@ ghost use Rattle.std.specs.Prelude.{
   Option,
   true,
   false,
-  if◌then◌else◌,
   Ok,
   Err,
   IfOk,
@@ -17,17 +16,15 @@ ghost use Rattle.std.specs.Prelude.{
   OnErr,
   OnOk,
   IsSome,
-  IsErrOf,
 };
-ghost use Rattle.pid_lookup.specs.declared.answering.LookupRefusal.TheVariants as lookups;
 ghost use Rattle.pid_moderation.specs.ReplyLines.{refused_line, outcome_line};
 ghost use Rattle.std.specs.Io.KnownBytes.{Appends};
 ghost use Rattle.pid_ident.specs.Sending.{SendsFront};
 ghost use Rattle.pid_moderation.specs.declared.refusal.Refusal.TheVariants as refusals;
-ghost use Rattle.pid_lookup.specs.Flags.{is_bad};
 ghost use Rattle.pid_script.specs.StopLines.{is_stop as is_stopping};
 ghost use Rattle.pid_script.specs.Steps.Output.{
   out,
+  TellsFound,
   TellsLine,
   SaysText,
   IsGivenStop,
@@ -36,7 +33,7 @@ ghost use Rattle.pid_script.specs.Steps.Output.{
   refusal_given,
   refusal_of_names,
 };
-ghost use Rattle.pid_script.specs.Replies.{name_line, answer_line, BAD_FLAGS};
+ghost use Rattle.pid_script.specs.Replies.{name_line};
 
 use crate::line_end::LineEnd;
 use crate::output::{flush, say, say_all};
@@ -200,13 +197,8 @@ pub fn send_found<O: Output>(
     held: &mut Vec<u8>,
     found: Result<Answer, LookupRefusal<Refusal>>,
 ) -> Result<(), LineEnd>
-    ensures told { (flags : ℕ) (good : _)
-        → IfOk found (λ answer. (is_bad flags ≡ false) × (answer ≡ good))
-        → (IsErrOf found lookups.BadFlags → is_bad flags ≡ true) →
-        ((e : _) → IsErrOf found (lookups.Names e) → is_stopping e ≡ true) →
-        TellsLine result (if is_bad flags then BAD_FLAGS else answer_line good)
-        (IsGivenStop (refusal_of_names found))
-        (out (O.taken output.old) held.old.items) (out (O.taken output.new) held.new.items) }
+    ensures told { TellsFound result found (out (O.taken output.old) held.old.items)
+        (out (O.taken output.new) held.new.items) }
     ensures goes_on { GoesOnAfter result (refusal_of_names found) }
     ensures fault { result ≡ Err LineEnd.WriteFault → IsSome (O.write_fault output.new) }
     ensures fits { result ≡ Err LineEnd.TooLong → ⊥ }

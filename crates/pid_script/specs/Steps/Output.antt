@@ -1,12 +1,13 @@
 -- What the functions that answer one line leave of the writer, of what is held for it, and of the
 -- registry.
 use Rattle.std.specs.Prelude.{◌≡◌, ◌⊎◌, ℕ, ◌+◌, ◌<◌, true, false, List, [], ◌++◌, length, Option}
-use Rattle.std.specs.Prelude.{Some, None, Result, Ok, Err, MatchResult}
+use Rattle.std.specs.Prelude.{Some, None, Result, Ok, Err, MatchResult, IfOk, IsErrOf, if◌then◌else◌}
 use Rattle.std.specs.Io.KnownBytes.{Appends}
 use Rattle.pid_ident.specs.Sending.{SendsFront}
 use Rattle.pid_lookup.specs.declared.answer.Answer.{Answer}
 use Rattle.pid_lookup.specs.declared.answering.LookupRefusal.{LookupRefusal}
 use Rattle.pid_lookup.specs.declared.answering.LookupRefusal.TheVariants as lookups
+use Rattle.pid_lookup.specs.Flags.{is_bad}
 use Rattle.pid_moderation.specs.declared.refusal.Refusal.{Refusal}
 use Rattle.pid_moderation.specs.declared.refusal.Refusal.TheVariants.{BadText, Memory}
 use Rattle.pid_moderation.specs.History.{History}
@@ -19,7 +20,7 @@ use Rattle.pid_script.specs.declared.moderated.Moderated.{Ghosts}
 use Rattle.pid_script.specs.Calling.{CallsSend, CallsSendEither}
 use Rattle.pid_script.specs.ScriptLines as lines
 use Rattle.pid_script.specs.ScriptLines.{Ask}
-use Rattle.pid_script.specs.Replies.{line_reply, command_of, is_call}
+use Rattle.pid_script.specs.Replies.{BAD_FLAGS, answer_line, line_reply, command_of, is_call}
 use Rattle.pid_script.specs.RegistryStates.{Becomes, BecomesEither, StopsBehind}
 use Rattle.pid_script.specs.StopLines.{is_stop, IsStopInPlace, IsStopText}
 
@@ -92,6 +93,17 @@ refusal_of_names (Ok text) = None
 refusal_of_names (Err lookups.BadFlags) = None
 refusal_of_names (Err (lookups.Names refusal)) = Some refusal
 refusal_of_names (Err lookups.Memory) = Some Memory
+
+-- What was said to a look-up by flags whose good answer is this, if an answer found is that one,
+-- bad flags are bad, and a refusal stops.
+abbrev pub TellsFound : Result (Unit {0}) LineEnd → Result Answer (LookupRefusal Refusal)
+    → (old new : Out) → Type 0
+TellsFound result found old new = (flags : ℕ) (good : Answer)
+    → IfOk found (λ answer. (is_bad flags ≡ false) × (answer ≡ good))
+    → (IsErrOf found lookups.BadFlags → is_bad flags ≡ true)
+    → ((e : Refusal) → IsErrOf found (lookups.Names e) → is_stop e ≡ true)
+    → TellsLine result (if is_bad flags then BAD_FLAGS else answer_line good)
+    (IsGivenStop (refusal_of_names found)) old new
 
 -- the line of an answer is a reply; or the answer is a stop
 abbrev pub IsReplyOrStop : List ℕ → Result Reply Refusal → Type 0
