@@ -19,7 +19,7 @@ use pid_service::Registry;
 use sqlite::Alter;
 use std::alloc::{AllocError, Global};
 
-/// The item at a path, if the text was one.
+/// The item at a path; or a refusal, if the text was no path.
 pub(crate) fn read<S: Alter + Drop>(
     alloc: Global,
     registry: &mut Registry<S>,
@@ -104,7 +104,7 @@ pub(crate) fn lookup<S: Alter + Drop>(
     lookup_reply(alloc, found)
 }
 
-/// The submission with a number, if the text was one.
+/// The submission with a number; or a refusal, if the text was no number.
 pub(crate) fn submission<S: Alter + Drop>(
     alloc: Global,
     registry: &mut Registry<S>,

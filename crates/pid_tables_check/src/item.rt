@@ -91,8 +91,8 @@ fn hold_parents(paths: &BTreeSet<Path>) -> bool
     true
 }
 
-/// What is kept of the items: `good` says whether each row so far is an item's alone, and once all
-/// are read, whether they are those of a registry.
+/// What is kept of the items: `good` says whether each row so far is by itself an item's, and once
+/// all are read, whether they are those of a registry.
 #[derive(Drop)]
 pub(crate) struct Items {
     pub(crate) good: bool,

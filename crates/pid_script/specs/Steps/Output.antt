@@ -95,8 +95,8 @@ refusal_of_names (Err lookups.BadFlags) = None
 refusal_of_names (Err (lookups.Names refusal)) = Some refusal
 refusal_of_names (Err lookups.Memory) = Some Memory
 
--- What was said to a look-up by flags whose good answer is this, if an answer found is that one,
--- bad flags are bad, and a refusal stops.
+-- What was said to a look-up, if what was found is right: an answer is the good one, flags are
+-- called bad only if they are, and a refusal is one that stops a script.
 abbrev pub TellsFound : Result (Unit {0}) LineEnd → Result Answer (LookupRefusal Refusal)
     → (old new : Out) → Type 0
 TellsFound result found old new = (flags : ℕ) (good : Answer)
