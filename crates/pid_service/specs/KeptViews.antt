@@ -1,5 +1,5 @@
 -- What a registry keeps in memory of what is asked for again and again.
-use Rattle.std.specs.Prelude.{◌≡◌, ◌⊎◌, ℕ, true, List, [], Option, None, IfSome, IsSome, Vec, map}
+use Rattle.std.specs.Prelude.{◌≡◌, ◌⊎◌, ℕ, true, false, List, [], Option, None, IfSome, IsSome, Vec, map}
 use Rattle.std.specs.declared.alloc.Global.{Global}
 use Rattle.sqlite_trees.specs.declared.store.Store.{Ghosts}
 use Rattle.pid_moderation.specs.History.{History}
@@ -30,6 +30,7 @@ nothing = record { names = []; text = None }
 pub record KeepsNothing (k : KeptViews) : Type 0 where
   pub items : k.items ≡ nothing
   pub pending : k.pending ≡ None
+  pub read : k.pending_read ≡ false
 
 -- What is kept stays: the names, and the text and the numbers if there are any. If there are none,
 -- they may come to be kept: the numbers only if they were not read before.
@@ -39,6 +40,12 @@ pub record LeavesKept (old new : KeptViews) : Type 0 where
   pub pending : IsSome old.pending → new.pending ≡ old.pending
   -- numbers that were read still count as read
   pub read : old.pending_read ≡ true → (new.pending_read ≡ true) × (new.pending ≡ old.pending)
+
+-- What a change of the views leaves of what is kept: that of the items, unless they are others now;
+-- and the numbers, if there are any, unless a submission was added, for which memory may run out.
+pub record CarriesOn (old new : KeptViews) (before now : Views) : Type 0 where
+  pub items : now.items ≡ before.items → new.items ≡ old.items
+  pub pending : now.submits ≡ before.submits → IsSome old.pending → IsSome new.pending
 
 -- the numbers of what is pending were read: they are kept, or count as read, so that no question
 -- reads them again

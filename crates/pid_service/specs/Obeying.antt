@@ -1,5 +1,5 @@
 -- What a registry answers to a command, and what it shows afterwards.
-use Rattle.std.specs.Prelude.{◌≡◌, ◌≢◌, ◌⊎◌, true, false, Result, Ok, Err, IfErr, IsErrAnd}
+use Rattle.std.specs.Prelude.{◌≡◌, ◌≢◌, ◌⊎◌, true, false, Result, Err, IfErr, OnOk, IsErrAnd}
 use Rattle.sqlite_trees.specs.declared.store.Store.{Ghosts}
 use Rattle.pid_service_laws.specs.Outcomes.{is_outcome}
 use Rattle.pid_service_laws.specs.Registries.{CommandLeaves}
@@ -11,13 +11,13 @@ use Rattle.pid_moderation.specs.BeforeFile.{WaitsForFile}
 use Rattle.pid_moderation.specs.CheckTables.{is_broken}
 use Rattle.pid_moderation.specs.FactsOfViews.{NoRows, facts_at}
 use Rattle.pid_moderation.specs.History.{Asked, History, is_import}
-use Rattle.pid_moderation.specs.Judgement.{after, answer, judge}
+use Rattle.pid_moderation.specs.Judgement.{Accepts, Repeated, after, answer, judge}
 use Rattle.pid_moderation.specs.Views.{items_of, views_of}
 use Rattle.pid_tables.specs.Files.{asks}
 use Rattle.pid_service.specs.declared.registry.Registry.{Registry}
 use Rattle.pid_service.specs.Asking.{FaultIsCaused}
 use Rattle.pid_service.specs.Histories.{IsMemoryOrStore, OverHistory, Shows, showing}
-use Rattle.pid_service.specs.KeptViews.{kept_by, nothing}
+use Rattle.pid_service.specs.KeptViews.{CarriesOn, kept_by, kept_views, nothing}
 use Rattle.pid_service.specs.Registries.{HasCleanDisk, KeepsLimit, is_live}
 
 -- What a session asks of a command (`CommandLeaves` of pid_service_laws). The answer is that of the
@@ -29,18 +29,17 @@ abbrev pub Obeys : {S : Type 0} → (store : Ghosts S) → Result Reply Refusal 
     → History → Asked → Type 0
 Obeys store result r h c = CommandLeaves (showing store) result r h c
 
--- the judgement over the history accepts it, or answers a reply that is kept
-abbrev pub IsAnswered : History → Asked → Type 0
-IsAnswered h c = (reply : Reply) × (answer (judge (views_of h) c) ≡ Ok reply)
+-- the judgement over the history accepts it
+abbrev pub IsAccepted : History → Asked → Type 0
+IsAccepted h c = (reply : Reply) × (judge (views_of h) c ≡ Accepts reply)
 
 -- It is what the judgement over the history answers; or a fault that has its cause in the call and
--- leaves the registry live; or one that fails it, over a command that the judgement does not
--- refuse.
+-- leaves the registry live; or one that fails it, over a command that the judgement accepts.
 abbrev pub IsRefusedFor : {S : Type 0} → (store : Ghosts S) → Registry S store → Registry S store
     → History → Asked → Refusal → Type 0
 IsRefusedFor store old new h c e = (answer (judge (views_of h) c) ≡ Err e)
     ⊎ (((is_live new ≡ true) × FaultIsCaused store old new e)
-    ⊎ ((is_live new ≡ false) × IsAnswered h c))
+    ⊎ ((is_live new ≡ false) × IsAccepted h c))
 
 -- the answer of an import depends on its file: no reply is kept for it, and no check before those of
 -- the file fails
@@ -85,7 +84,7 @@ module _ {S : Type 0} (store : Ghosts S) where
     pub obeyed : OverHistory store old new (λ h. Obeys store result new h (asks command))
     -- A command other than an import that is refused: the judgement refuses it; or a fault has its
     -- cause in the call, and the registry is live still; or it has failed, over a command that the
-    -- judgement does not refuse.
+    -- judgement accepts.
     pub caused : OverHistory store old new (λ h. is_import command.act ≡ false
         → IfErr result (IsRefusedFor store old new h (asks command)))
     -- An import has its refusal from the judgement, as `obeyed` says, or for such a fault.
@@ -93,4 +92,17 @@ module _ {S : Type 0} (store : Ghosts S) where
         → IfErr result (ImportFaults store old new h (asks command)))
     -- if it leaves other items, no name is kept in memory
     pub forgets : OverHistory store old new (λ h. Forgets store new h (asks command))
+    -- A command other than an import that is refused leaves what is kept in memory, if the registry
+    -- is live still, and so does one whose reply was kept.
+    pub unmoved : is_import command.act ≡ false
+        → IfErr result (λ e. is_live new ≡ true → kept_views new ≡ kept_views old)
+    pub repeated : OverHistory store old new (λ h. is_import command.act ≡ false → (reply : Reply)
+        → judge (views_of h) (asks command) ≡ Repeated reply → kept_views new ≡ kept_views old)
+    -- If it has a reply, numbers that were read still count as read, and only numbers that were;
+    pub read : is_import command.act ≡ false
+        → OnOk result ((kept_views new).pending_read ≡ (kept_views old).pending_read)
+    -- and no more is dropped than has to be.
+    pub carried : OverHistory store old new (λ h. is_import command.act ≡ false
+        → OnOk result (CarriesOn (kept_views old) (kept_views new)
+        (views_of h) (views_of (after h (asks command)))))
     pub lasts : Lasts old new result

@@ -9,12 +9,14 @@ ghost use Rattle.std.specs.Prelude.{
   filter,
   IfOk,
   IfSome,
+  IsSome,
 };
 ghost use Rattle.pid_moderation.specs.Changes.{FitsEffect, FitsViews, affected, changed};
 ghost use Rattle.pid_moderation.specs.CheckTables.{is_pending};
 ghost use Rattle.pid_moderation.specs.Views.{Views};
 ghost use Rattle.pid_tables_rows.specs.Shows.{AreViews};
 ghost use Rattle.pid_service.specs.KeptViews.{HoldsWaiting, IsRightFor, KeepsNothing, nothing};
+ghost use Rattle.pid_service.specs.Steps.Obeying.{Follows, adds_number, writes_items as writes};
 
 use crate::waiting::add_number;
 use pid_lookup::NameCache;
@@ -40,7 +42,9 @@ pub struct KeptViews {
 }
 
 fn writes_items(effect: &Effect) -> bool
-    ensures { (n : ℕ) (v : Views) → result ≡ false → (affected n effect.now v).items ≡ v.items }
+    ensures told { result ≡ writes effect.now }
+    ensures spares { (n : ℕ) (v : Views) → result ≡ false
+        → (affected n effect.now v).items ≡ v.items }
 {
     match effect {
         Effect::Decided { write, .. } => write.is_some(),
@@ -62,8 +66,9 @@ fn without(mut numbers: Vec<u32>, number: u32) -> Vec<u32>
 
 // Numbers after one gets a state; none if that is no decision.
 fn without_decided(numbers: Vec<u32>, number: u32, state: &State) -> Option<Vec<u32>>
-    ensures { IfSome result (λ left. (is_pending state.now ≡ false)
+    ensures left { IfSome result (λ left. (is_pending state.now ≡ false)
         × (left.items ≡ filter (λ n. not (n == number)) numbers.items)) }
+    ensures still { is_pending state.now ≡ false → IsSome result }
 {
     match state {
         State::Pending => None,
@@ -75,8 +80,9 @@ fn without_decided(numbers: Vec<u32>, number: u32, state: &State) -> Option<Vec<
 
 // The numbers of what is pending after a change.
 fn waiting_after(numbers: Option<Vec<u32>>, effect: &Effect) -> Option<Vec<u32>>
-    ensures { (n : ℕ) (v : Views) → AreViews v → FitsEffect effect.now v → HoldsWaiting numbers v
-        → HoldsWaiting result (affected n effect.now v) }
+    ensures holds { (n : ℕ) (v : Views) → AreViews v → FitsEffect effect.now v
+        → HoldsWaiting numbers v → HoldsWaiting result (affected n effect.now v) }
+    ensures still { adds_number effect.now ≡ false → IsSome numbers → IsSome result }
 {
     let mut numbers = numbers?;
     match effect {
@@ -137,6 +143,7 @@ impl KeptViews {
         ensures spares { (self.new.items ≡ nothing)
             ⊎ ((v : Views) → (changed change.now v).items ≡ v.items) }
         ensures none { self.old.items ≡ nothing → self.new.items ≡ nothing }
+        ensures follows { Follows change.now.effect self.old self.new }
     {
         let numbers = self.pending.take();
         self.pending = waiting_after(numbers, &change.effect);

@@ -8,7 +8,7 @@ ghost use Rattle.pid_service.specs.Histories.{OverHistory};
 ghost use Rattle.pid_service.specs.KeptViews.{kept_by, nothing};
 ghost use Rattle.pid_service.specs.Obeying.{IsObeyed, Obeys};
 ghost use Rattle.pid_service.specs.Registries.{HasCleanDisk, KeepsLimit};
-ghost use Rattle.pid_service.specs.Steps.Obeying.{ComesOf, LivesOrFails, SparesNames};
+ghost use Rattle.pid_service.specs.Steps.Obeying.{ComesOf, KeptAfter, LivesOrFails, SparesNames};
 
 use crate::judging::{Judged, judge};
 use crate::laws;
@@ -30,6 +30,7 @@ impl<S: Alter + Drop> Registry<S> {
         ensures none { kept_by self.old ≡ nothing → kept_by self.new ≡ nothing }
         ensures held { LivesOrFails S.Store result self.old self.new }
         ensures limit { KeepsLimit S.Store self.old self.new }
+        ensures kept { KeptAfter S.Store self.old self.new judged.now result }
     {
         laws::reached_histories_are_kept(); // proof only
         pid_tables::laws::views_of_sound_histories(); // proof only

@@ -1,7 +1,8 @@
 use Rattle.pid_moderation.specs.History.{asked}
+use Rattle.pid_moderation.specs.Judgement.{Accepts, judge, judged}
 use Rattle.pid_moderation.specs.Views.{views_of}
-use Rattle.std.proofs.Common.{is_some, true, ◌≡◌, ap, sym, ◌∙◌}
-use Rattle.pid_service.proofs.Judged.{refusal_told, told_or_memory, leads, fits, repeated_stays}
+use Rattle.std.proofs.Common.{is_some, true, false, ◌≡◌, ap, sym, ◌∙◌}
+use Rattle.pid_service.proofs.Judged.{refusal_told, told_or_memory, leads, fits, newly_accepts, plain, repeated_stays}
 use Rattle.pid_service.proofs.judging.judged_by.Goals as goal
 
 pub returns-in-Err-clause-judged : goal.returns-in-Err-clause-judged
@@ -9,7 +10,15 @@ returns-in-Err-clause-judged c h reading marked other is = refusal_told h (asked
 
 pub returns-else-is_some-clause-judged : goal.returns-else-is_some-clause-judged
 returns-else-is_some-clause-judged c h reading marked other is =
-    ((c.in-Ok.ensures.answers (views_of h) reading is).reply, leads h c.args.command.now reading c.in-Ok.change other (c.in-Ok.ensures.change h reading marked is), fits h c.args.command.now reading c.in-Ok.change other (c.in-Ok.ensures.fits h reading is))
+    let none : is_some c.args.facts.now.kept ≡ false = sym c.is_some.ensures ∙ c.if-is_some.false in
+    let asks = asked c.args.command.now reading in
+    let accepts : judge (views_of h) asks ≡ Accepts c.in-Ok.reply = newly_accepts h asks c.in-Ok.reply (sym (ap (λ f. is_some f.kept) is) ∙ none) (c.in-Ok.ensures.answers (views_of h) reading is).reply in
+    record {
+      judged = accepts;
+      leads = leads h c.args.command.now reading c.in-Ok.change other (c.in-Ok.ensures.change h reading marked is);
+      fits = fits h c.args.command.now reading c.in-Ok.change other (c.in-Ok.ensures.fits h reading is);
+      plain = plain c.args.facts.now c.args.command.now reading c.in-Ok.change c.in-Ok.reply other (c.in-Ok.ensures.decides reading).1 (ap (λ f. judged f asks) is ∙ accepts);
+    }
 
 pub returns-then-is_some-clause-judged : goal.returns-then-is_some-clause-judged
 returns-then-is_some-clause-judged c h reading marked other is =

@@ -1,8 +1,8 @@
-use Rattle.std.proofs.Common.{Ok, ap, inl, inr, refl, subst}
+use Rattle.std.proofs.Common.{Ok, ap, inl, inr, refl, rules, subst}
 use Rattle.pid_moderation.specs.Views.{items_of, views_of}
 use Rattle.pid_service.specs.declared.judging.Judged.{Judged}
 use Rattle.pid_service.specs.Steps.Judging.{JudgesCommand}
-use Rattle.pid_service.proofs.Obeyed.{accepted, accepted_spares, failed, kept}
+use Rattle.pid_service.proofs.Obeyed.{accepted, accepted_spares, carries, failed, kept}
 use Rattle.pid_service.proofs.registry.Registry.carry_out.Goals as goal
 
 -- ---- a reply that was kept
@@ -34,3 +34,27 @@ returns-in-Ok-clause-spares g c h asks to =
 
 pub returns-in-Err-clause-spares : goal.returns-in-Err-clause-spares
 returns-in-Err-clause-spares g c h asks to = inl c.clear.ensures.items
+
+-- ---- what is kept in memory
+
+pub returns-in-Kept-clause-kept : goal.returns-in-Kept-clause-kept
+returns-in-Kept-clause-kept g c = record {
+  repeated = search rules;
+  read = refl;
+  carried = λ h asks to. record { items = λ same. refl; pending = λ same some. some };
+}
+
+pub returns-in-Ok-clause-kept : goal.returns-in-Ok-clause-kept
+returns-in-Ok-clause-kept g c = record {
+  repeated = search rules;
+  read = c.follow.ensures.follows.read;
+  carried = λ h asks to.
+      carries h asks c.in-Accepted.change c.in-Accepted.reply c.args.self.now.kept c.follow.new.self (subst (λ (j : Judged). JudgesCommand h asks (Ok j)) c.in-Accepted.is to.comes) c.follow.ensures.follows;
+}
+
+pub returns-in-Err-clause-kept : goal.returns-in-Err-clause-kept
+returns-in-Err-clause-kept g c = record {
+  repeated = search rules;
+  read = tt;
+  carried = λ h asks to. tt;
+}

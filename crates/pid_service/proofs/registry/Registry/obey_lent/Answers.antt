@@ -12,7 +12,7 @@ use Rattle.pid_service.specs.Steps.Obeying.{SparesNames}
 use Rattle.pid_service.proofs.ImportCauses.{bad_text}
 use Rattle.pid_service.proofs.Imported.{file_given}
 use Rattle.pid_service.proofs.Lasting.{carried, lasting, not_failed}
-use Rattle.pid_service.proofs.Obeyed.{broken_form, broken_spares, failed_over, judged_for, only_read, refused, refused_spares, spare_forgets, then_spares, well_made}
+use Rattle.pid_service.proofs.Obeyed.{broken_form, broken_spares, failed_over, judged_for, off_fails, only_read, refused, repeats, refused_spares, spare_forgets, then_spares, well_made}
 use Rattle.pid_service.proofs.ReadFiles.{tells_any}
 use Rattle.pid_service.proofs.registry.Registry.obey_lent.Goals as goal
 
@@ -29,6 +29,10 @@ returns-then-breaks_form-clause-does g c =
       caused = λ clean h shows other. inl (ap answer (is h));
       import_caused = λ clean h shows import. bad_text;
       forgets = λ clean h shows other. inr shows;
+      unmoved = λ other same. refl;
+      repeated = λ clean h shows other reply is. refl;
+      read = λ other. tt;
+      carried = λ clean h shows other. tt;
       lasts = lasting g.S.Store c.args.self.now c.args.self.now _ (not_failed, inr refl) refl;
     }
 
@@ -51,6 +55,10 @@ returns-in-Import-clause-does g c =
       caused = search rules;
       import_caused = λ clean h shows import. c.import_bytes.ensures.caused clean h shows (reading_of c.args.command.now.act) import;
       forgets = λ clean h shows other. c.import_bytes.ensures.forgets h shows;
+      unmoved = search rules;
+      repeated = search rules;
+      read = search rules;
+      carried = search rules;
       lasts = lasting g.S.Store c.args.self.now c.import_bytes.new.self c.import_bytes.result c.import_bytes.ensures.lasts.live c.import_bytes.ensures.lasts.limit;
     }
 
@@ -76,6 +84,10 @@ returns-in-Err-clause-does g c =
       import_caused = search rules;
       caused = λ clean h shows same. judged_for g.S.Store c.args.self.now.tables.conn c.judge.new.tables.conn c.args.self.now.live h (asks c.args.command.now) c.in-Err.refusal shows.lives (c.in-Err.ensures.caused clean h reading shows.history shows.tables other);
       forgets = λ clean h shows same. inr (only_read g.S.Store c.args.self.now _ h refl c.judge.ensures.rests refl shows);
+      unmoved = λ other live. refl;
+      repeated = λ clean h shows other reply is. refl;
+      read = λ other. tt;
+      carried = λ clean h shows other. tt;
       lasts = lasting g.S.Store c.args.self.now _ _ (c.in-Err.ensures.alive, inr refl) c.judge.ensures.rests.survives.limit;
     }
 
@@ -104,7 +116,7 @@ returns-in-Ok-clause-does g c =
             comes = told clean h shows;
           });
       import_caused = search rules;
-      caused = λ clean h shows same. failed_over g.S.Store c.args.self.now c.carry_out.new.self c.args.self.now.live h (asks c.args.command.now) c.in-Ok.judged c.carry_out.result c.carry_out.ensures.held (told clean h shows);
+      caused = λ clean h shows same. failed_over g.S.Store c.args.self.now c.carry_out.new.self c.args.self.now.live h (asks c.args.command.now) c.in-Ok.judged c.carry_out.result c.carry_out.ensures.held (λ reply is. (c.carry_out.ensures.kept.repeated reply is).0) (told clean h shows);
       forgets = λ clean h shows.
           spare_forgets g.S.Store c.carry_out.new.self h (asks c.args.command.now)
           (c.carry_out.ensures.spares h (asks c.args.command.now)
@@ -113,6 +125,16 @@ returns-in-Ok-clause-does g c =
             reached = c.commands_lead_on.ensures h (asks c.args.command.now) shows.history (well_made c.args.command.now reading other c.command_is_well_made.ensures);
             comes = told clean h shows;
           }));
+      unmoved = λ other. off_fails g.S.Store _ c.carry_out.result c.args.self.now.live c.carry_out.new.self.live c.carry_out.ensures.held;
+      repeated = λ clean h shows other reply is. repeats g.S.Store _ h (asks c.args.command.now) c.in-Ok.judged reply (told clean h shows) is (λ kept same. (c.carry_out.ensures.kept.repeated kept same).1);
+      read = λ other. c.carry_out.ensures.kept.read;
+      carried = λ clean h shows other.
+          c.carry_out.ensures.kept.carried h (asks c.args.command.now)
+          (record {
+            shows = only_read g.S.Store c.args.self.now _ h refl c.judge.ensures.rests refl shows;
+            reached = c.commands_lead_on.ensures h (asks c.args.command.now) shows.history (well_made c.args.command.now reading other c.command_is_well_made.ensures);
+            comes = told clean h shows;
+          });
       lasts = lasting g.S.Store c.args.self.now c.carry_out.new.self c.carry_out.result (carried c.carry_out.result c.args.self.now.live c.carry_out.new.self.live c.carry_out.ensures.held) (c.carry_out.ensures.limit ∙ c.judge.ensures.rests.survives.limit);
     }
 
