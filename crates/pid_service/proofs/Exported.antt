@@ -15,7 +15,7 @@ use Rattle.pid_moderation.specs.Views.{items_of, views_of}
 use Rattle.pid_moderation.specs.Writes.{tree_of}
 use Rattle.pid_tree.specs.Printing.{print}
 use Rattle.pid_service.specs.declared.exporting.ExportFault.{ExportFault}
-use Rattle.pid_service.specs.declared.exporting.ExportFault.TheVariants.{Refused, Write}
+use Rattle.pid_service.specs.declared.exporting.ExportFault.TheVariants.{Refused}
 use Rattle.sqlite.specs.Held.{Held}
 use Rattle.sqlite_trees.specs.declared.store.Store.{Ghosts}
 use Rattle.pid_tables.specs.Faults.{refusal_for}

@@ -1,5 +1,5 @@
 -- What a writer took of the text of a registry's items.
-use Rattle.std.specs.Prelude.{◌≡◌, ℕ, List, false, Option, Some, Result, Ok, Err}
+use Rattle.std.specs.Prelude.{◌≡◌, ◌≢◌, ℕ, List, true, false, Option, Some, IsSome, Result, Ok, Err}
 use Rattle.std.specs.Io.KnownBytes.{Appends}
 use Rattle.sqlite_trees.specs.declared.store.Store.{Ghosts}
 use Rattle.pid_file.specs.declared.io.Output as outputs
@@ -18,7 +18,7 @@ use Rattle.pid_service.specs.declared.exporting.ExportFault.TheVariants.{Refused
 use Rattle.pid_service.specs.declared.registry.Registry.{Registry}
 use Rattle.pid_service.specs.Asking.{FaultIsCaused, MayGive}
 use Rattle.pid_service.specs.Histories.{OverHistory, Shows}
-use Rattle.pid_service.specs.KeptViews.{LeavesKept, kept_views}
+use Rattle.pid_service.specs.KeptViews.{kept_by, kept_views}
 use Rattle.pid_service.specs.Registries.{OnlyReads, is_live}
 
 -- the canonical text of the tree; if the writer failed, a prefix of it that lacks some; and if
@@ -38,7 +38,11 @@ pub record IsExported {S W : Type 0} (store : Ghosts S) (writer : outputs.Ghosts
       × (writer.taken after ≡ writer.taken before)
   pub lives : is_live new ≡ is_live old
   pub rests : OnlyReads store old new
-  pub leaves : LeavesKept (kept_views old) (kept_views new)
+  -- what is kept in memory stays as it was
+  pub leaves : kept_views new ≡ kept_views old
+  -- A text that is kept is written with no question to the tables, so only the writer can fail.
+  pub by_text : is_live old ≡ true → IsSome (kept_by old).text
+      → (new ≡ old) × ((e : Refusal) → result ≢ Err (Refused e))
   pub shown : (h : History) → Shows store old h → Shows store new h
   pub printed : OverHistory store old new
       (ExportsTree result (writer.taken before) (writer.taken after))

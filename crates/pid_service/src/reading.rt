@@ -9,6 +9,7 @@ ghost use Rattle.pid_moderation.specs.Children.{children_of};
 ghost use Rattle.pid_moderation.specs.Submissions.{discussion_in, discussion_of};
 ghost use Rattle.pid_moderation.specs.SubmissionPages.{submission_page_of, submissions_of};
 ghost use Rattle.pid_service.specs.Asking.{Answers, AnswersIfThere};
+ghost use Rattle.pid_service.specs.KeptViews.{kept_views};
 ghost use Rattle.pid_service.specs.Steps.Asking.{answered_as};
 
 use crate::laws;
@@ -35,8 +36,9 @@ impl<S: Alter + Drop> Registry<S> {
     /// The name of the item at a path, if there is one. It asks the tables, whatever names are
     /// kept in memory.
     pub fn read(&mut self, path: &Path) -> Result<Option<Name>, Refusal>
-        ensures { Answers S.Store self.old self.new result
+        ensures answers { Answers S.Store self.old self.new result
             (λ h name. name ≡ name_at (path_text path.now) (items_of h)) }
+        ensures stays { kept_views self.new ≡ kept_views self.old }
     {
         if !self.live {
             return Err(Refusal::Failed);
@@ -50,7 +52,9 @@ impl<S: Alter + Drop> Registry<S> {
 
     /// The rank of an account, where there is one.
     pub fn rank(&mut self, who: &Account) -> Result<Option<Rank>, Refusal>
-        ensures { Answers S.Store self.old self.new result (λ h rank. rank ≡ rank_of who.now h) }
+        ensures answers { Answers S.Store self.old self.new result
+            (λ h rank. rank ≡ rank_of who.now h) }
+        ensures stays { kept_views self.new ≡ kept_views self.old }
     {
         if !self.live {
             return Err(Refusal::Failed);
@@ -63,9 +67,10 @@ impl<S: Alter + Drop> Registry<S> {
     /// a vendor after its devices; without a path the vendors and the classes. Below a path that
     /// has no item there is none.
     pub fn children(&mut self, above: Option<Path>) -> Result<Vec<Item>, Refusal>
-        ensures { Answers S.Store self.old self.new result
+        ensures answers { Answers S.Store self.old self.new result
             (λ h items. map pair_of items.items
             ≡ children_of (option_map path_text above) (items_of h)) }
+        ensures stays { kept_views self.new ≡ kept_views self.old }
     {
         if !self.live {
             return Err(Refusal::Failed);
@@ -77,8 +82,9 @@ impl<S: Alter + Drop> Registry<S> {
     /// The submission with the number, as it is now, and the remarks on it in their order.
     /// `NoSubmission` if there is none.
     pub fn submission(&mut self, number: u32) -> Result<Discussion, Refusal>
-        ensures { AnswersIfThere S.Store self.old self.new result
+        ensures answers { AnswersIfThere S.Store self.old self.new result
             (λ h. discussion_in (views_of h) number) discussion_of }
+        ensures stays { kept_views self.new ≡ kept_views self.old }
     {
         if !self.live {
             return Err(Refusal::Failed);
@@ -101,12 +107,13 @@ impl<S: Alter + Drop> Registry<S> {
         author: Option<&Account>,
         before: u32,
     ) -> Result<SubmissionPage, Refusal>
-        ensures { Answers S.Store self.old self.new result
+        ensures answers { Answers S.Store self.old self.new result
             (λ h page. submission_page_of page ≡ submissions_of PAGE SEARCHED (record {
               path = option_copied path.entry;
               author = option_copied author.entry;
               before = before;
             }) (views_of h)) }
+        ensures stays { kept_views self.new ≡ kept_views self.old }
     {
         if !self.live {
             return Err(Refusal::Failed);
@@ -121,9 +128,10 @@ impl<S: Alter + Drop> Registry<S> {
     /// are left out. With them the revision at which they were read; if `since` is not below it,
     /// the items are not looked at.
     pub fn changes(&mut self, since: u64, after: Option<&Path>) -> Result<Changes, Refusal>
-        ensures { Answers S.Store self.old self.new result
+        ensures answers { Answers S.Store self.old self.new result
             (λ h changes. page_of changes
             ≡ changes_in PAGE since (start_text (option_copied after.entry)) (views_of h)) }
+        ensures stays { kept_views self.new ≡ kept_views self.old }
     {
         if !self.live {
             return Err(Refusal::Failed);

@@ -20,7 +20,7 @@ question search format = record {
 }
 
 pub returns-in-Ok : goal.returns-in-Ok
-returns-in-Ok g c = replied _ _ _ _ _ _ c.submissions_reply.ensures (question_met _ c.clauses_meet_lives.ensures.looks _ _ _ _ _ _ _ (question (record { path = option_copied c.args.path; author = option_copied c.args.author; before = c.args.before }) c.args.format) c.in-Ok.ensures)
+returns-in-Ok g c = replied _ _ _ _ _ _ c.submissions_reply.ensures (question_met _ c.clauses_meet_lives.ensures.looks _ _ _ _ _ _ _ (question (record { path = option_copied c.args.path; author = option_copied c.args.author; before = c.args.before }) c.args.format) c.in-Ok.ensures.answers)
 
 pub returns-in-Err : goal.returns-in-Err
-returns-in-Err g c = replied _ _ _ _ _ _ c.refusal_reply.ensures (question_met _ c.clauses_meet_lives.ensures.looks _ _ _ _ _ _ _ (question (record { path = option_copied c.args.path; author = option_copied c.args.author; before = c.args.before }) c.args.format) c.in-Err.ensures)
+returns-in-Err g c = replied _ _ _ _ _ _ c.refusal_reply.ensures (question_met _ c.clauses_meet_lives.ensures.looks _ _ _ _ _ _ _ (question (record { path = option_copied c.args.path; author = option_copied c.args.author; before = c.args.before }) c.args.format) c.in-Err.ensures.answers)

@@ -47,7 +47,7 @@ returns-in-None g c =
     rw c.in-None.is (replied _ _ _ (Answered given) _ given c.refusal_reply.ensures (no_call _ _ _ (answered given)))
 
 pub returns-in-Ok : goal.returns-in-Ok
-returns-in-Ok g c = rw c.in-Some.is (replied _ _ _ _ _ _ c.submission_reply.ensures (met _ c.clauses_meet_lives.ensures.looks _ _ c.in-Some.number c.args.format _ c.in-Ok.ensures))
+returns-in-Ok g c = rw c.in-Some.is (replied _ _ _ _ _ _ c.submission_reply.ensures (met _ c.clauses_meet_lives.ensures.looks _ _ c.in-Some.number c.args.format _ c.in-Ok.ensures.answers))
 
 pub returns-in-Err : goal.returns-in-Err
-returns-in-Err g c = rw c.in-Some.is (replied _ _ _ _ _ _ c.refusal_reply-in-Err.ensures (met _ c.clauses_meet_lives.ensures.looks _ _ c.in-Some.number c.args.format _ c.in-Err.ensures))
+returns-in-Err g c = rw c.in-Some.is (replied _ _ _ _ _ _ c.refusal_reply-in-Err.ensures (met _ c.clauses_meet_lives.ensures.looks _ _ c.in-Some.number c.args.format _ c.in-Err.ensures.answers))

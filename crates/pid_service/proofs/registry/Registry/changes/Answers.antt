@@ -16,8 +16,8 @@ page_without revision now told items same empty none =
     let left : map changed_of told ≡ [] = ap (map changed_of) empty in
     ap (λ (l : List Changed). record { revision = revision; items = l }) (left ∙ sym none) ∙ ap (λ (n : ℕ). record { revision = n; items = items }) same
 
-pub returns-in-Err : goal.returns-in-Err
-returns-in-Err g c = record {
+pub returns-in-Err-clause-answers : goal.returns-in-Err-clause-answers
+returns-in-Err-clause-answers g c = record {
   failed = search rules;
   fault = search rules;
   lives = search rules;
@@ -28,8 +28,8 @@ returns-in-Err g c = record {
       caused_by g.S.Store c.args.self.now.tables.conn c.revision.new.conn c.in-Err.fault c.refusal_of.result c.refusal_of.ensures.same (c.in-Err.ensures.told clean (views_of h) shows.tables (c.reached_histories_are_kept.ensures.readable h shows.history));
 }
 
-pub returns-then-revision-since : goal.returns-then-revision-since
-returns-then-revision-since g c = record {
+pub returns-then-revision-since-clause-answers : goal.returns-then-revision-since-clause-answers
+returns-then-revision-since-clause-answers g c = record {
   failed = search rules;
   fault = tt;
   lives = refl;
@@ -45,8 +45,8 @@ returns-then-revision-since g c = record {
   caused = λ clean h shows. tt;
 }
 
-pub returns-else-revision-since : goal.returns-else-revision-since
-returns-else-revision-since g c =
+pub returns-else-revision-since-clause-answers : goal.returns-else-revision-since-clause-answers
+returns-else-revision-since-clause-answers g c =
     let on : c.args.self.now.live ≡ true = search rules in
     answers_read g.S.Store c.args.self.now _ c.changes_page.result c.or_refusal.result _ _ on refl refl
     (reads_behind g.S.Store c.args.self.now.tables.conn c.revision.new.conn c.changes_page.new.self.conn c.changes_page.result _ c.revision.ensures.rests c.changes_page.ensures)

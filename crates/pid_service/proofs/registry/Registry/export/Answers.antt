@@ -5,7 +5,6 @@ use Rattle.pid_moderation.specs.Views.{views_of}
 use Rattle.pid_moderation.specs.Writes.{tree_of}
 use Rattle.pid_tree.specs.Printing.{print}
 use Rattle.pid_service.proofs.Exported.{text_told, told_by, told_cause, told_tree, whole_tree}
-use Rattle.pid_service.proofs.Keeping.{left_same}
 use Rattle.pid_service.proofs.registry.Registry.export.Goals as goal
 
 -- ---- the text is kept
@@ -15,7 +14,8 @@ returns-in-Ok g c = record {
   failed = search rules;
   lives = search rules;
   rests = search rules;
-  leaves = left_same _;
+  leaves = refl;
+  by_text = λ on some. (refl, λ e is. let no : ⊥ = cc in no);
   shown = search rules;
   printed = λ clean h shows.
       let same : c.as_slice.result.now ≡ print (tree_of h) = c.as_slice.ensures.value ∙ text_told g.S.Store c.args.self.now h c.in-Some.text c.in-Some.is clean shows (c.items_print_as_their_tree.ensures h) in
@@ -30,7 +30,8 @@ returns-in-Err g c = record {
   failed = search rules;
   lives = search rules;
   rests = search rules;
-  leaves = left_same _;
+  leaves = refl;
+  by_text = λ on some. (refl, λ e is. let no : ⊥ = cc in no);
   shown = search rules;
   printed = λ clean h shows.
       let same : c.as_slice.result.now ≡ print (tree_of h) = c.as_slice.ensures.value ∙ text_told g.S.Store c.args.self.now h c.in-Some.text c.in-Some.is clean shows (c.items_print_as_their_tree.ensures h) in
@@ -47,7 +48,8 @@ returns-in-Ok-export_items g c = record {
   failed = search rules;
   lives = search rules;
   rests = search rules;
-  leaves = left_same _;
+  leaves = refl;
+  by_text = search rules;
   shown = search rules;
   printed = λ clean h shows. whole_tree _ _ h (c.items_print_as_their_tree.ensures h) (c.in-Ok-export_items.ensures.printed clean (views_of h) shows.tables);
   refused = search rules;
@@ -60,7 +62,8 @@ returns-in-Err-export_items g c = record {
   failed = search rules;
   lives = search rules;
   rests = search rules;
-  leaves = left_same _;
+  leaves = refl;
+  by_text = search rules;
   shown = search rules;
   printed = λ clean h shows. told_tree c.in-Err-export_items.end c.fault_of.result _ _ h (c.items_print_as_their_tree.ensures h) c.fault_of.ensures (c.in-Err-export_items.ensures.printed clean (views_of h) shows.tables);
   refused = search rules;

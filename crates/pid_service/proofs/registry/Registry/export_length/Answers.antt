@@ -5,8 +5,8 @@ use Rattle.pid_service.proofs.Exported.{text_kept, text_told}
 use Rattle.pid_service.proofs.Keeping.{left_same}
 use Rattle.pid_service.proofs.registry.Registry.export_length.Goals as goal
 
-pub returns-in-Some : goal.returns-in-Some
-returns-in-Some g c = record {
+pub returns-in-Some-clause-answers : goal.returns-in-Some-clause-answers
+returns-in-Some-clause-answers g c = record {
   failed = search rules;
   fault = tt;
   lives = refl;
@@ -18,8 +18,8 @@ returns-in-Some g c = record {
   caused = λ clean h shows. tt;
 }
 
-pub returns-in-Ok : goal.returns-in-Ok
-returns-in-Ok g c = record {
+pub returns-in-Ok-clause-answers : goal.returns-in-Ok-clause-answers
+returns-in-Ok-clause-answers g c = record {
   failed = search rules;
   fault = tt;
   lives = refl;
@@ -31,8 +31,8 @@ returns-in-Ok g c = record {
   caused = λ clean h shows. tt;
 }
 
-pub returns-in-Err : goal.returns-in-Err
-returns-in-Err g c = record {
+pub returns-in-Err-clause-answers : goal.returns-in-Err-clause-answers
+returns-in-Err-clause-answers g c = record {
   failed = search rules;
   fault = search rules;
   lives = search rules;

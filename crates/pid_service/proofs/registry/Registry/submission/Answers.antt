@@ -4,8 +4,8 @@ use Rattle.pid_service.proofs.Causes.{caused_by}
 use Rattle.pid_service.proofs.Keeping.{left_same}
 use Rattle.pid_service.proofs.registry.Registry.submission.Goals as goal
 
-pub returns-in-Err : goal.returns-in-Err
-returns-in-Err g c = record {
+pub returns-in-Err-clause-answers : goal.returns-in-Err-clause-answers
+returns-in-Err-clause-answers g c = record {
   failed = search rules;
   fault = search rules;
   lives = search rules;
