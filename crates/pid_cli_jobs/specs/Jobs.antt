@@ -4,7 +4,6 @@ use Rattle.std.specs.Prelude.{◌≡◌, false, ℕ, List, Option, IfSome, Resul
 use Rattle.sqlite_trees.specs.declared.store.Store.{Ghosts}
 use Rattle.pid_file.specs.declared.io.Input as inputs
 use Rattle.pid_file.specs.declared.io.Output as outputs
-use Rattle.pid_file.specs.Writing.{WriterUse, use_of}
 use Rattle.pid_moderation.specs.declared.command.Reply.{Reply}
 use Rattle.pid_moderation.specs.BeforeFile.{import_of}
 use Rattle.pid_script.specs.declared.moderated.Moderated as moderated
@@ -27,8 +26,8 @@ use Rattle.pid_cli_jobs.specs.declared.job_end.JobEnd.TheVariants.{Told, Replied
 use Rattle.pid_cli_jobs.specs.declared.jobs.RegistryJob.{RegistryJob}
 use Rattle.pid_cli_jobs.specs.declared.jobs.RegistryJob.TheVariants as jobs
 use Rattle.pid_cli_jobs.specs.declared.serving.Port.{Port}
-use Rattle.pid_cli_jobs.specs.Lines.{Streams}
 use Rattle.pid_cli_jobs.specs.Serving.{Serves}
+use Rattle.pid_cli_jobs.specs.Wrote.{AsksNothing, IsSilent, Wrote}
 
 -- what a job is to do with a registry; of an input, with what it has to come
 pub data Work : Type 0 where
@@ -42,21 +41,6 @@ work_of reader (jobs.Script input) = ToAnswer (reader.to_come input)
 work_of reader (jobs.Import account key input) = ToImport account key (reader.to_come input)
 work_of reader jobs.Export = ToExport
 work_of reader (jobs.Serve port) = ToServe port
-
--- The writer of a job before it and after it, what became of the writer of faults, and how the job
--- ended.
-pub record Wrote (W : Type 0) : Type 0 where
-  pub output : W
-  pub output_after : W
-  pub faults : WriterUse
-  pub end : JobEnd
-
--- what became of the two
-abbrev pub streams_of : {W : Type 0} → outputs.Ghosts W → Wrote W → Streams
-streams_of writer w = record {
-  output = use_of writer w.output w.output_after;
-  faults = w.faults;
-}
 
 -- a fault of the reader or the writer is still to be reported
 abbrev pub end_of_script : ScriptEnd → JobEnd
@@ -106,15 +90,15 @@ module _ {S : Type 0} (store : Ghosts S) where
     pub exported : IsExported store writer old new before after result
 
   -- What was done with the registry, what was written, and how the job ended. A script, an import
-  -- and an export report nothing, and an import prints nothing.
-  abbrev pub DoesWork : {W : Type 0} → outputs.Ghosts W → Work → Registry S store
-      → Registry S store → Wrote W → Type 0
+  -- and an export report nothing and ask nothing of the machine, and an import prints nothing.
+  abbrev pub DoesWork : {R W : Type 0} → outputs.Ghosts W → Work → Registry S store
+      → Registry S store → Wrote R W → Type 0
   DoesWork writer (ToAnswer to_come) old new w = RunsLines old new to_come (writer.taken w.output)
       (writer.taken w.output_after) w.end
-      × (w.faults.after ≡ w.faults.before)
+      × (w.faults.after ≡ w.faults.before) × AsksNothing w
   DoesWork writer (ToImport account key to_come) old new w = BringsIn old new account key to_come
       w.end
-      × (w.output_after ≡ w.output) × (w.faults.after ≡ w.faults.before)
+      × IsSilent w × AsksNothing w
   DoesWork writer ToExport old new w = PrintsAll writer old new w.output w.output_after w.end
-      × (w.faults.after ≡ w.faults.before)
-  DoesWork writer (ToServe port) old new w = Serves port (is_live new) (streams_of writer w) w.end
+      × (w.faults.after ≡ w.faults.before) × AsksNothing w
+  DoesWork writer (ToServe port) old new w = Serves writer port (is_live new) w

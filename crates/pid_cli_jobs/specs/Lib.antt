@@ -1,4 +1,6 @@
 pub mod Lines
+pub mod Machines
+pub mod Wrote
 pub mod Serving
 pub mod Jobs
 pub mod Sessions

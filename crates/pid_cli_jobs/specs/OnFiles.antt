@@ -1,5 +1,5 @@
 -- Jobs on the files of a registry, or on a new one in memory. Choices of this project.
-use Rattle.std.specs.Prelude.{Option}
+use Rattle.std.specs.Prelude.{ℕ, List, Option, None, Some}
 use Rattle.sqlite.specs.Files.{over_files}
 use Rattle.sqlite.specs.Held.{Held, IsNew, state}
 use Rattle.sqlite.specs.Steps.{IsEmpty, over_memory}
@@ -16,8 +16,10 @@ use Rattle.pid_tables_rows.specs.declared.fault.TableFault.TheVariants.{Memory}
 use Rattle.pid_cli_jobs.specs.declared.on_files.FileJob.{FileJob}
 use Rattle.pid_cli_jobs.specs.declared.on_files.FileJob.TheVariants as jobs
 use Rattle.pid_cli_jobs.specs.Files.{OpensFiles}
-use Rattle.pid_cli_jobs.specs.Jobs.{Work, Wrote, work_of}
+use Rattle.pid_cli_jobs.specs.Jobs.{Work, work_of}
+use Rattle.pid_cli_jobs.specs.Machines.{AsksFor, DatabaseAt, Opening}
 use Rattle.pid_cli_jobs.specs.Sessions.{Migrates, TellsUnopened, WorksOn}
+use Rattle.pid_cli_jobs.specs.Wrote.{AsksNothing, AsksOnce, Wrote, from_there}
 
 -- what a job is to do on files
 pub data FileTask : Type 0 where
@@ -29,35 +31,39 @@ file_task_of reader (jobs.Work job) = ToWork (work_of reader job)
 file_task_of reader jobs.Migrate = ToMigrate
 
 -- a session of the registry on a connection, or a migration of its tables
-abbrev pub DoesOn : {S W : Type 0} → (store : Ghosts S) → outputs.Ghosts W → Held S → FileTask
-    → Wrote W → Option (Held S) → Type 0
+abbrev pub DoesOn : {S R W : Type 0} → (store : Ghosts S) → outputs.Ghosts W → Held S → FileTask
+    → Wrote R W → Option (Held S) → Type 0
 DoesOn store writer conn (ToWork work) w back = WorksOn store writer conn work w back
 DoesOn store writer conn ToMigrate w back = Migrates store writer conn w back
 
-module _ {E W : Type 0} (files : disk.Ghosts E) (writer : outputs.Ghosts W) where
+module _ {E R W : Type 0} (files : disk.Ghosts E) (writer : outputs.Ghosts W) where
   -- the same, on a connection to files, and something came back
-  pub record DoesThere (conn : Held (FileStore E files)) (task : FileTask) (w : Wrote W)
+  pub record DoesThere (conn : Held (FileStore E files)) (task : FileTask) (w : Wrote R W)
       : Type 0 where
     pub back : Option (Held (FileStore E files))
     pub does : DoesOn over_files writer conn task w back
 
-module _ {E W : Type 0} (files : disk.Ghosts E) (image : Image) (writer : outputs.Ghosts W) where
-  -- a new connection was opened on what the files held, and the task was done there
-  pub record OpensAndDoes (task : FileTask) (w : Wrote W) : Type 0 where
+module _ {E R W : Type 0} (files : disk.Ghosts E) (image : Image) (writer : outputs.Ghosts W) where
+  -- the database at the path was asked for, a new connection was opened on what the files held, and
+  -- the task was done there
+  pub record OpensAndDoes (path : List ℕ) (task : FileTask) (w : Wrote R W) : Type 0 where
+    pub between : Option (List (Opening R))
+    pub asks : AsksFor w.asked.before between (DatabaseAt path None)
     pub conn : Held (FileStore E files)
     pub opens : OpensFiles image conn
     pub fresh : IsNew conn
-    pub there : DoesThere files writer conn task w
+    pub there : DoesThere files writer conn task (from_there w between)
 
   -- a job on the files, or why they were not opened: out of memory, or they cannot be
-  pub data DoesInFiles (task : FileTask) (w : Wrote W) : Type 0 where
-    InFiles : OpensAndDoes task w → DoesInFiles task w
-    NoFiles : (fault : TableFault) → IsMemoryOrStore fault → TellsUnopened fault w
-        → DoesInFiles task w
+  pub data DoesInFiles (path : List ℕ) (task : FileTask) (w : Wrote R W) : Type 0 where
+    InFiles : OpensAndDoes path task w → DoesInFiles path task w
+    NoFiles : (fault : TableFault) → IsMemoryOrStore fault
+        → AsksOnce w (DatabaseAt path (Some fault)) → TellsUnopened fault w
+        → DoesInFiles path task w
 
-module _ {W : Type 0} (memory : Ghosts MemStore) (writer : outputs.Ghosts W) where
+module _ {R W : Type 0} (memory : Ghosts MemStore) (writer : outputs.Ghosts W) where
   -- a new connection to an empty database was opened in memory, and this was done there
-  pub record MakesAndWorks (work : Work) (w : Wrote W) : Type 0 where
+  pub record MakesAndWorks (work : Work) (w : Wrote R W) : Type 0 where
     pub conn : Held MemStore
     pub empty : IsEmpty (state over_memory conn)
     pub fresh : IsNew conn
@@ -65,6 +71,6 @@ module _ {W : Type 0} (memory : Ghosts MemStore) (writer : outputs.Ghosts W) whe
     pub works : WorksOn memory writer conn work w back
 
   -- a job on a new registry, or out of memory
-  pub data WorksOnNew (work : Work) (w : Wrote W) : Type 0 where
+  pub data WorksOnNew (work : Work) (w : Wrote R W) : Type 0 where
     InMemory : MakesAndWorks work w → WorksOnNew work w
-    NoMemory : TellsUnopened Memory w → WorksOnNew work w
+    NoMemory : TellsUnopened Memory w → AsksNothing w → WorksOnNew work w

@@ -1,9 +1,8 @@
 -- What serving a registry prints, and how it ends by that. Choices of this project.
-use Rattle.std.specs.Prelude.{◌≡◌, ℕ, Bool, List, codes, Option}
+use Rattle.std.specs.Prelude.{◌≡◌, ℕ, Bool, true, false, List, codes, Option}
 use Rattle.std.specs.Io.KnownBytes.{Appends}
-use Rattle.pid_file.specs.declared.text_end.TextEnd.TheVariants.{Memory}
-use Rattle.pid_file.specs.TextEnds.{fault_line}
-use Rattle.pid_file.specs.Writing.{FailsWithin, TriesLine}
+use Rattle.pid_file.specs.declared.io.Output as outputs
+use Rattle.pid_file.specs.Writing.{FailsWithin, TriesLine, use_of}
 use Rattle.pid_http_listener.specs.declared.serving.Serving.{Serving}
 use Rattle.pid_http_listener.specs.declared.serving.ServingEnd.{ServingEnd}
 use Rattle.pid_http_listener.specs.declared.serving.ServingEnd.TheVariants.{All, NotLive}
@@ -13,6 +12,8 @@ use Rattle.pid_cli_jobs.specs.declared.job_end.JobEnd.{JobEnd}
 use Rattle.pid_cli_jobs.specs.declared.job_end.JobEnd.TheVariants.{Told, FileFailed}
 use Rattle.pid_cli_jobs.specs.declared.serving.Port.{Port}
 use Rattle.pid_cli_jobs.specs.Lines.{PrintsLine, Streams, count_line}
+use Rattle.pid_cli_jobs.specs.Machines.{PortAt}
+use Rattle.pid_cli_jobs.specs.Wrote.{AsksOnce, TellsMemory, Wrote, streams_of}
 
 -- where it listens; how many streams were started; that a socket failed
 abbrev pub listening_line : ℕ → List ℕ
@@ -51,15 +52,17 @@ pub record HasServed (port : Port) (live : Bool) (w : Streams) (end : JobEnd) : 
   pub streams : ReportsStreams port.connections live
       (record w { output = record w.output { before = between } }) end
 
--- Serving on a port, after which the registry is live or not.
-pub data Serves (port : Port) (live : Bool) (w : Streams) (end : JobEnd) : Type 0 where
-  -- the port could not be had
-  Unbound : end ≡ Told 3 → w.output.after ≡ w.output.before
-      → TriesLine w.faults socket_line → Serves port live w end
-  -- out of memory for the table of routes
-  Unrouted : end ≡ Told 3 → w.output.after ≡ w.output.before
-      → TriesLine w.faults (fault_line Memory) → Serves port live w end
-  -- the line of where it listens did not go out whole, and nothing was accepted
-  Unheard : end ≡ FileFailed → FailsWithin w.output (listening_line port.number)
-      → w.faults.after ≡ w.faults.before → Serves port live w end
-  Served : HasServed port live w end → Serves port live w end
+module _ {R W : Type 0} (writer : outputs.Ghosts W) where
+  -- Serving on a port, after which the registry is live or not.
+  pub data Serves (port : Port) (live : Bool) (w : Wrote R W) : Type 0 where
+    -- the port could not be had
+    Unbound : AsksOnce w (PortAt port.number false) → w.output_after ≡ w.output
+        → TriesLine w.faults socket_line → w.end ≡ Told 3 → Serves port live w
+    -- out of memory for the table of routes
+    Unrouted : AsksOnce w (PortAt port.number true) → TellsMemory w → Serves port live w
+    -- the line of where it listens did not go out whole, and nothing was accepted
+    Unheard : AsksOnce w (PortAt port.number true)
+        → FailsWithin (use_of writer w.output w.output_after) (listening_line port.number)
+        → w.faults.after ≡ w.faults.before → w.end ≡ FileFailed → Serves port live w
+    Served : AsksOnce w (PortAt port.number true) → HasServed port live (streams_of writer w) w.end
+        → Serves port live w

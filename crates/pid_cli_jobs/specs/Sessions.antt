@@ -13,11 +13,12 @@ use Rattle.pid_service.specs.Registries.{connection, is_live}
 use Rattle.pid_tables.specs.declared.migration.Step.{Step}
 use Rattle.pid_tables_rows.specs.declared.fault.TableFault.{TableFault}
 use Rattle.pid_cli_jobs.specs.declared.job_end.JobEnd.TheVariants.{Told}
-use Rattle.pid_cli_jobs.specs.Jobs.{DoesWork, Work, Wrote}
+use Rattle.pid_cli_jobs.specs.Jobs.{DoesWork, Work}
 use Rattle.pid_cli_jobs.specs.Lines.{PrintsLine, step_line, unopened_line}
+use Rattle.pid_cli_jobs.specs.Wrote.{AsksNothing, Wrote}
 
 -- A job that found no registry prints nothing, reports why, and ends with status 3.
-pub record TellsUnopened {W : Type 0} (fault : TableFault) (w : Wrote W) : Type 0 where
+pub record TellsUnopened {R W : Type 0} (fault : TableFault) (w : Wrote R W) : Type 0 where
   pub silent : w.output_after ≡ w.output
   pub told : TriesLine w.faults (unopened_line fault)
   pub ends : w.end ≡ Told 3
@@ -33,16 +34,17 @@ module _ {S : Type 0} (store : Ghosts S) where
   handed_back r = if is_live r then Some (connection r) else None
 
   -- No registry was opened, and nothing came back.
-  pub record IsUnopened {W : Type 0} (conn : Held S) (w : Wrote W) (back : Option (Held S))
+  pub record IsUnopened {R W : Type 0} (conn : Held S) (w : Wrote R W) (back : Option (Held S))
       : Type 0 where
     pub fault : TableFault
     pub left : Held S
     pub opens : OpensTo store conn (Err (fault, left))
     pub tells : TellsUnopened fault w
+    pub unasked : AsksNothing w
     pub hands : back ≡ None
 
   -- A migration of a connection that succeeded prints what it did, and hands it back as it left it.
-  pub record IsMigrated {W : Type 0} (writer : outputs.Ghosts W) (conn : Held S) (w : Wrote W)
+  pub record IsMigrated {R W : Type 0} (writer : outputs.Ghosts W) (conn : Held S) (w : Wrote R W)
       (back : Option (Held S)) : Type 0 where
     pub step : Step
     pub moved : Held S
@@ -51,26 +53,28 @@ module _ {S : Type 0} (store : Ghosts S) where
     pub limit : moved.step_limit ≡ conn.step_limit
     pub prints : PrintsLine w.end (use_of writer w.output w.output_after) (step_line step) 0
     pub silent : w.faults.after ≡ w.faults.before
+    pub unasked : AsksNothing w
     pub hands : back ≡ Some moved
 
-  pub record IsUnmoved {W : Type 0} (conn : Held S) (w : Wrote W) (back : Option (Held S))
+  pub record IsUnmoved {R W : Type 0} (conn : Held S) (w : Wrote R W) (back : Option (Held S))
       : Type 0 where
     pub fault : TableFault
     pub left : Held S
     pub moves : MovesTo store conn (Err (fault, left))
     pub tells : TellsUnopened fault w
+    pub unasked : AsksNothing w
     pub hands : back ≡ None
 
   -- A job that migrates does that, or reports why not.
-  pub data Migrates {W : Type 0} (writer : outputs.Ghosts W) (conn : Held S) (w : Wrote W)
+  pub data Migrates {R W : Type 0} (writer : outputs.Ghosts W) (conn : Held S) (w : Wrote R W)
       (back : Option (Held S)) : Type 0 where
     Migrated : IsMigrated writer conn w back → Migrates writer conn w back
     Unmoved : IsUnmoved conn w back → Migrates writer conn w back
 
   -- A registry was opened on the connection, and the work was done there: calls led from its
   -- opening to its end. Its connection came back if it was live.
-  pub record IsSession {W : Type 0} (writer : outputs.Ghosts W) (conn : Held S) (work : Work)
-      (w : Wrote W) (back : Option (Held S)) : Type 0 where
+  pub record IsSession {R W : Type 0} (writer : outputs.Ghosts W) (conn : Held S) (work : Work)
+      (w : Wrote R W) (back : Option (Held S)) : Type 0 where
     pub opened : Registry S store
     pub opens : OpensTo store conn (Ok opened)
     -- no limit of steps was set before
@@ -81,7 +85,7 @@ module _ {S : Type 0} (store : Ghosts S) where
     pub hands : back ≡ handed_back ended
 
   -- A job on a connection is a session of the registry there, or there was none.
-  pub data WorksOn {W : Type 0} (writer : outputs.Ghosts W) (conn : Held S) (work : Work)
-      (w : Wrote W) (back : Option (Held S)) : Type 0 where
+  pub data WorksOn {R W : Type 0} (writer : outputs.Ghosts W) (conn : Held S) (work : Work)
+      (w : Wrote R W) (back : Option (Held S)) : Type 0 where
     Session : IsSession writer conn work w back → WorksOn writer conn work w back
     Unopened : IsUnopened conn w back → WorksOn writer conn work w back

@@ -4,8 +4,10 @@ ghost use Rattle.pid_file.specs.Writing.{use_of};
 ghost use Rattle.pid_cli_jobs.specs.Jobs.{BringsIn, DoesWork, PrintsAll, RunsLines, work_of};
 ghost use Rattle.pid_cli_jobs.specs.Sessions.{IsPartOfSession, Migrates, WorksOn};
 ghost use Rattle.pid_cli_jobs.specs.Sessions.{handed_back as back_of};
+ghost use Rattle.pid_cli_jobs.specs.Wrote.{job_wrote};
 
 use crate::job_end::JobEnd;
+use crate::machine::Machine;
 use crate::replies::{print_step, tell_unopened};
 use crate::serving::{Port, serve_registry};
 use pid_ident::{Account, Input, Key, Output};
@@ -79,31 +81,27 @@ fn print_all<S: Alter + Drop, O: Output>(registry: &mut Registry<S>, output: &mu
     }
 }
 
-fn do_job<S: Alter + Drop, I: Input + Drop, O: Output, F: Output>(
-    rt: &HostRuntime,
+fn do_job<M: Machine, S: Alter + Drop, I: Input + Drop, O: Output, F: Output>(
+    machine: &mut M,
     registry: &mut Registry<S>,
     job: RegistryJob<I>,
     output: &mut O,
     faults: &mut F,
 ) -> JobEnd
     ensures goes { IsPartOfSession S.Store registry.old registry.new }
-    ensures does { DoesWork S.Store O.Output (work_of I.Input job)
-        registry.old registry.new (record {
-          output = output.old;
-          output_after = output.new;
-          faults = use_of F.Output faults.old faults.new;
-          end = result;
-        }) }
+    ensures does { DoesWork S.Store O.Output (work_of I.Input job) registry.old registry.new
+        (job_wrote (output.old, output.new) (use_of F.Output faults.old faults.new)
+        (M.asked machine.old, M.asked machine.new) result) }
 {
     match job {
-        RegistryJob::Script(input) => run_lines(rt.alloc(), registry, input, output),
+        RegistryJob::Script(input) => run_lines(machine.alloc(), registry, input, output),
         RegistryJob::Import {
             account,
             key,
             input,
         } => bring_in(registry, account, key, input),
         RegistryJob::Export => print_all(registry, output),
-        RegistryJob::Serve(port) => serve_registry(rt, registry, port, output, faults),
+        RegistryJob::Serve(port) => serve_registry(machine, registry, port, output, faults),
     }
 }
 
@@ -124,25 +122,22 @@ fn handed_back<S: Alter + Drop>(registry: Registry<S>) -> Option<Connection<S>>
 /// calls between an opening and an end holds of it. What is printed is that of the job: the replies
 /// to a script, the canonical text of an export, the lines of a server; the reply to an import is
 /// returned. Where the registry is not opened, `faults` gets the reason (`open: Store`), and the
-/// exit status is 3.
-pub fn work_on<S: Alter + Drop, I: Input + Drop, O: Output, F: Output>(
-    rt: &HostRuntime,
+/// exit status is 3. The machine is asked for nothing but the port of a server.
+pub fn work_on<M: Machine, S: Alter + Drop, I: Input + Drop, O: Output, F: Output>(
+    machine: &mut M,
     conn: Connection<S>,
     job: RegistryJob<I>,
     output: &mut O,
     faults: &mut F,
 ) -> (JobEnd, Option<Connection<S>>)
-    ensures { WorksOn S.Store O.Output conn (work_of I.Input job) (record {
-      output = output.old;
-      output_after = output.new;
-      faults = use_of F.Output faults.old faults.new;
-      end = result.0;
-    }) result.1 }
+    ensures { WorksOn S.Store O.Output conn (work_of I.Input job)
+        (job_wrote (output.old, output.new) (use_of F.Output faults.old faults.new)
+        (M.asked machine.old, M.asked machine.new) result.0) result.1 }
 {
-    match open(rt.alloc(), conn) {
+    match open(machine.alloc(), conn) {
         Ok(registry) => {
             let mut registry = registry;
-            let end = do_job(rt, &mut registry, job, output, faults);
+            let end = do_job(machine, &mut registry, job, output, faults);
             (end, handed_back(registry))
         }
         Err((fault, _)) => (JobEnd::Told(tell_unopened(fault, faults)), None),
@@ -150,20 +145,17 @@ pub fn work_on<S: Alter + Drop, I: Input + Drop, O: Output, F: Output>(
 }
 
 /// Moves the tables of a connection to the newest schema; opens no registry. Prints what was done.
-pub fn migrate_on<S: Alter + Drop, O: Output, F: Output>(
-    alloc: Global,
+pub fn migrate_on<M: Machine, S: Alter + Drop, O: Output, F: Output>(
+    machine: &M,
     conn: Connection<S>,
     output: &mut O,
     faults: &mut F,
 ) -> (JobEnd, Option<Connection<S>>)
-    ensures { Migrates S.Store O.Output conn (record {
-      output = output.old;
-      output_after = output.new;
-      faults = use_of F.Output faults.old faults.new;
-      end = result.0;
-    }) result.1 }
+    ensures { Migrates S.Store O.Output conn
+        (job_wrote (output.old, output.new) (use_of F.Output faults.old faults.new)
+        (M.asked machine.now, M.asked machine.now) result.0) result.1 }
 {
-    match migrate(alloc, conn) {
+    match migrate(machine.alloc(), conn) {
         Ok((conn, step)) => (print_step(step, output), Some(conn)),
         Err((fault, _)) => (JobEnd::Told(tell_unopened(fault, faults)), None),
     }

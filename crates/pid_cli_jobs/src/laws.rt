@@ -1,8 +1,8 @@
 //! The crash prefix, for the files that a program is given. Each law is the contract of a function
 //! that does nothing.
 //!
-//! A run opens the files by `open_file`, and `work_on` is a session on them. So what a run leaves
-//! are databases (`calls_leave_databases`), the next one finds one of them
+//! A run opens the files by `open_database` of `Machine`, and `work_on` is a session on them. So
+//! what a run leaves are databases (`calls_leave_databases`), the next one finds one of them
 //! (`files_show_what_was_left`), and shows the history after a prefix of the commands of each run
 //! before (`runs_show_prefixes`).
 ghost use Rattle.pid_cli_jobs.specs.Files.{

@@ -2,21 +2,19 @@
 //! and the lines and the statuses with which they end.
 #![tactic(auto)]
 
-mod files;
 mod job_end;
 mod jobs;
 pub mod laws;
 mod lookups;
+mod machine;
 mod on_files;
-mod opener;
 mod replies;
 mod running;
 mod serving;
 
-pub use files::open_file;
 pub use job_end::JobEnd;
 pub use jobs::{RegistryJob, migrate_on, work_on};
-pub use opener::Opener;
+pub use machine::Machine;
 pub use replies::{print_answer, print_reply, tell_reply, tell_unopened};
 pub use running::{PlainJob, answer_plain, export_through, report_end, run_words};
 pub use serving::Port;

@@ -9,10 +9,11 @@ ghost use Rattle.pid_cli_jobs.specs.OnFiles.{
   WorksOnNew,
   file_task_of,
 };
+ghost use Rattle.pid_cli_jobs.specs.Wrote.{job_wrote};
 
-use crate::files::open_file;
 use crate::job_end::JobEnd;
 use crate::jobs::{RegistryJob, migrate_on, work_on};
+use crate::machine::Machine;
 use crate::replies::tell_unopened;
 use pid_ident::{Input, Output};
 use pid_service::TableFault;
@@ -30,43 +31,37 @@ pub enum FileJob<I> {
     Migrate,
 }
 
-fn do_on<S: Alter + Drop, I: Input + Drop, O: Output, F: Output>(
-    rt: &HostRuntime,
+fn do_on<M: Machine, S: Alter + Drop, I: Input + Drop, O: Output, F: Output>(
+    machine: &mut M,
     conn: Connection<S>,
     job: FileJob<I>,
     output: &mut O,
     faults: &mut F,
 ) -> (JobEnd, Option<Connection<S>>)
-    ensures { DoesOn S.Store O.Output conn (file_task_of I.Input job) (record {
-      output = output.old;
-      output_after = output.new;
-      faults = use_of F.Output faults.old faults.new;
-      end = result.0;
-    }) result.1 }
+    ensures { DoesOn S.Store O.Output conn (file_task_of I.Input job)
+        (job_wrote (output.old, output.new) (use_of F.Output faults.old faults.new)
+        (M.asked machine.old, M.asked machine.new) result.0) result.1 }
 {
     match job {
-        FileJob::Work(job) => work_on(rt, conn, job, output, faults),
-        FileJob::Migrate => migrate_on(rt.alloc(), conn, output, faults),
+        FileJob::Work(job) => work_on(machine, conn, job, output, faults),
+        FileJob::Migrate => migrate_on(machine, conn, output, faults),
     }
 }
 
 // Does a job on a connection to files, and closes it if it came back. No other function names a
 // store of files together with a drop, since each one that does takes half a minute to prove.
-fn do_there<D: Disk + Drop, I: Input + Drop, O: Output, F: Output>(
-    rt: &HostRuntime,
+fn do_there<M: Machine, D: Disk + Drop, I: Input + Drop, O: Output, F: Output>(
+    machine: &mut M,
     conn: Connection<FileStore<D>>,
     job: FileJob<I>,
     output: &mut O,
     faults: &mut F,
 ) -> JobEnd
-    ensures { DoesThere D.Disk O.Output conn (file_task_of I.Input job) (record {
-      output = output.old;
-      output_after = output.new;
-      faults = use_of F.Output faults.old faults.new;
-      end = result;
-    }) }
+    ensures { DoesThere D.Disk O.Output conn (file_task_of I.Input job)
+        (job_wrote (output.old, output.new) (use_of F.Output faults.old faults.new)
+        (M.asked machine.old, M.asked machine.new) result) }
 {
-    let (end, back) = do_on(rt, conn, job, output, faults);
+    let (end, back) = do_on(machine, conn, job, output, faults);
     if let Some(conn) = back {
         // If the log cannot be copied into the file, it stays for the next opening.
         let _ = conn.close();
@@ -75,46 +70,40 @@ fn do_there<D: Disk + Drop, I: Input + Drop, O: Output, F: Output>(
 }
 
 /// Does the job on the files of a registry, which are created if they do not exist. Afterwards, all
-/// that was committed is in the file or in the log next to it. `start` is as for `open_file`.
-pub fn do_in_files<S: Start, I: Input + Drop, O: Output, F: Output>(
-    rt: &HostRuntime,
+/// that was committed is in the file or in the log next to it. `start` is as for `open_database`.
+pub fn do_in_files<M: Machine, S: Start, I: Input + Drop, O: Output, F: Output>(
+    machine: &mut M,
     start: S,
     path: &str,
     job: FileJob<I>,
     output: &mut O,
     faults: &mut F,
 ) -> JobEnd
-    ensures { DoesInFiles ⟦<FileFrom<S> as Disk>⟧ (image_at S.Start) O.Output
-        (file_task_of I.Input job) (record {
-          output = output.old;
-          output_after = output.new;
-          faults = use_of F.Output faults.old faults.new;
-          end = result;
-        }) }
+    ensures { DoesInFiles ⟦<FileFrom<S> as Disk>⟧ (image_at S.Start) O.Output path.now
+        (file_task_of I.Input job)
+        (job_wrote (output.old, output.new) (use_of F.Output faults.old faults.new)
+        (M.asked machine.old, M.asked machine.new) result) }
 {
-    match open_file(rt, path, start) {
-        Ok(conn) => do_there(rt, conn, job, output, faults),
+    match machine.open_database(path, start) {
+        Ok(conn) => do_there(machine, conn, job, output, faults),
         Err(fault) => JobEnd::Told(tell_unopened(fault, faults)),
     }
 }
 
 /// Does the job on a new registry in memory.
-pub fn work_on_memory<I: Input + Drop, O: Output, F: Output>(
-    rt: &HostRuntime,
+pub fn work_on_memory<M: Machine, I: Input + Drop, O: Output, F: Output>(
+    machine: &mut M,
     job: RegistryJob<I>,
     output: &mut O,
     faults: &mut F,
 ) -> JobEnd
-    ensures { WorksOnNew ⟦<MemStore as Store>⟧ O.Output (work_of I.Input job) (record {
-      output = output.old;
-      output_after = output.new;
-      faults = use_of F.Output faults.old faults.new;
-      end = result;
-    }) }
+    ensures { WorksOnNew ⟦<MemStore as Store>⟧ O.Output (work_of I.Input job)
+        (job_wrote (output.old, output.new) (use_of F.Output faults.old faults.new)
+        (M.asked machine.old, M.asked machine.new) result) }
 {
-    match Connection::open_in_memory(rt.alloc()) {
+    match Connection::open_in_memory(machine.alloc()) {
         Ok(conn) => {
-            let (end, _) = work_on(rt, conn, job, output, faults);
+            let (end, _) = work_on(machine, conn, job, output, faults);
             end
         }
         Err(_) => JobEnd::Told(tell_unopened(TableFault::Memory, faults)),

@@ -17,12 +17,13 @@ ghost use Rattle.pid_cli_jobs.specs.Plain.{
   LooksUpAt,
   LooksUpInFile,
 };
+ghost use Rattle.pid_cli_jobs.specs.Wrote.{job_wrote};
 
 use crate::job_end::JobEnd;
 use crate::jobs::RegistryJob;
 use crate::lookups::{Lookup, print_lookup, read_words};
+use crate::machine::{Host, Machine};
 use crate::on_files::{FileJob, do_in_files, work_on_memory};
-use crate::opener::Opener;
 use crate::replies::{print_reply, tell_reply};
 use crate::serving::Port;
 use pid_cli_words::{Counted, Job, LookupWords, Progress, job_of, tell_no_job};
@@ -109,18 +110,27 @@ fn run_plain<S: Start, I: Read + Drop, O: Write + Drop, F: Write + Drop>(
     output: O,
     faults: F,
 ) -> u8 {
+    let mut machine = Host(rt);
+    let mut progress = Progress::new(rt, "importing", rt.stderr().is_terminal());
     let mut output = Plain::new(Watched::new(output));
     let mut faults = Plain::new(faults);
-    let input = Plain::new(input);
-    let end = answer_plain(rt, rt, start, job, input, &mut output, &mut faults);
+    let end = answer_plain(
+        &mut machine,
+        &mut progress,
+        start,
+        job,
+        Plain::new(input),
+        &mut output,
+        &mut faults,
+    );
     report_end(end, output.into_inner().is_unread(), &mut faults)
 }
 
 /// Does a job, and then prints the reply to an import, or to a lookup whose arguments are refused:
-/// once all files are closed. `files` opens the pci.ids file; `start` is as for `open_file`.
-pub fn answer_plain<R: Opener, S: Start, I: Input + Drop, O: Output, F: Output>(
-    rt: &HostRuntime,
-    files: &R,
+/// once all files are closed. `progress` is that of an import; `start` is as for `open_database`.
+pub fn answer_plain<M: Machine, S: Start, I: Input + Drop, O: Output, F: Output>(
+    machine: &mut M,
+    progress: &mut Progress<'_>,
     start: S,
     job: PlainJob<'_>,
     input: I,
@@ -128,23 +138,19 @@ pub fn answer_plain<R: Opener, S: Start, I: Input + Drop, O: Output, F: Output>(
     faults: &mut F,
 ) -> JobEnd
     ensures { AnswersPlain ⟦<FileFrom<S> as Disk>⟧ (image_at S.Start) ⟦<MemStore as Store>⟧
-        (record { opens = R.opens files.now; holds = R.Opened.remaining })
-        O.Output job.entry (I.to_come input) (record {
-          output = output.old;
-          output_after = output.new;
-          faults = use_of F.Output faults.old faults.new;
-          end = result;
-        }) }
+        M.Opened.remaining O.Output job.entry (I.to_come input)
+        (job_wrote (output.old, output.new) (use_of F.Output faults.old faults.new)
+        (M.asked machine.old, M.asked machine.new) result) }
 {
-    match do_plain(rt, files, start, job, input, output, faults) {
+    match do_plain(machine, progress, start, job, input, output, faults) {
         JobEnd::Replied(reply) => print_reply(reply, output),
         end => end,
     }
 }
 
-fn do_plain<R: Opener, S: Start, I: Input + Drop, O: Output, F: Output>(
-    rt: &HostRuntime,
-    files: &R,
+fn do_plain<M: Machine, S: Start, I: Input + Drop, O: Output, F: Output>(
+    machine: &mut M,
+    progress: &mut Progress<'_>,
     start: S,
     job: PlainJob<'_>,
     input: I,
@@ -152,32 +158,30 @@ fn do_plain<R: Opener, S: Start, I: Input + Drop, O: Output, F: Output>(
     faults: &mut F,
 ) -> JobEnd
     ensures { DoesPlain ⟦<FileFrom<S> as Disk>⟧ (image_at S.Start) ⟦<MemStore as Store>⟧
-        (record { opens = R.opens files.now; holds = R.Opened.remaining })
-        O.Output job.entry (I.to_come input) (record {
-          output = output.old;
-          output_after = output.new;
-          faults = use_of F.Output faults.old faults.new;
-          end = result;
-        }) }
+        M.Opened.remaining O.Output job.entry (I.to_come input)
+        (job_wrote (output.old, output.new) (use_of F.Output faults.old faults.new)
+        (M.asked machine.old, M.asked machine.new) result) }
 {
     match job {
-        PlainJob::Lookup(words) => run_lookup(rt.alloc(), files, &words, output, faults),
+        PlainJob::Lookup(words) => run_lookup(machine, &words, output, faults),
         PlainJob::Script(Some(file)) => {
             let job = FileJob::Work(RegistryJob::Script(input));
-            do_in_files(rt, start, file, job, output, faults)
+            do_in_files(machine, start, file, job, output, faults)
         }
-        PlainJob::Script(None) => work_on_memory(rt, RegistryJob::Script(input), output, faults),
+        PlainJob::Script(None) => {
+            work_on_memory(machine, RegistryJob::Script(input), output, faults)
+        }
         PlainJob::Import {
             files: paths,
             sender,
-        } => run_import(rt, files, start, paths, sender, output, faults),
+        } => run_import(machine, progress, start, paths, sender, output, faults),
         PlainJob::Serve(file, port) => {
             let job: FileJob<I> = FileJob::Work(RegistryJob::Serve(port));
-            do_in_files(rt, start, file, job, output, faults)
+            do_in_files(machine, start, file, job, output, faults)
         }
         PlainJob::Migrate(file) => {
             let job: FileJob<I> = FileJob::Migrate;
-            do_in_files(rt, start, file, job, output, faults)
+            do_in_files(machine, start, file, job, output, faults)
         }
     }
 }
@@ -209,7 +213,8 @@ fn run_export<S: Start, O: Write + Drop, F: Write + Drop>(
     let output = Watched::new(Counted::new(output, &mut progress));
     let (end, is_unread) = match BufWriter::with_capacity(rt.alloc(), BUFFER, output) {
         Ok(buffer) => {
-            let (end, output) = export_through(rt, start, db, buffer, &mut faults);
+            let mut machine = Host(rt);
+            let (end, output) = export_through(&mut machine, start, db, buffer, &mut faults);
             (end, output.is_unread())
         }
         Err(_) => (JobEnd::Told(tell_end(TextEnd::Memory, &mut faults)), false),
@@ -219,24 +224,22 @@ fn run_export<S: Start, O: Write + Drop, F: Write + Drop>(
 }
 
 /// Prints the registry of a file through a buffer, and hands back the writer that this is over: if
-/// the end is `Told(0)`, all of the text went there. `start` is as for `open_file`.
-pub fn export_through<S: Start, O: Write + Drop, F: Output>(
-    rt: &HostRuntime,
+/// the end is `Told(0)`, all of the text went there. `start` is as for `open_database`.
+pub fn export_through<M: Machine, S: Start, O: Write + Drop, F: Output>(
+    machine: &mut M,
     start: S,
     db: &str,
     buffer: BufWriter<O>,
     faults: &mut F,
 ) -> (JobEnd, O)
     ensures { ExportsThrough ⟦<FileFrom<S> as Disk>⟧ (image_at S.Start)
-        ⟦<Plain<BufWriter<O>> as Output>⟧ (record {
-          output = writer_contents O.contents buffer;
-          output_after = O.contents result.1;
-          faults = use_of F.Output faults.old faults.new;
-        }) result.0 }
+        ⟦<Plain<BufWriter<O>> as Output>⟧ db.now
+        (job_wrote (writer_contents O.contents buffer, O.contents result.1)
+        (use_of F.Output faults.old faults.new) (M.asked machine.old, M.asked machine.new) result.0) }
 {
     let mut output = Plain::new(buffer);
     let job: FileJob<Plain<Stdin>> = FileJob::Work(RegistryJob::Export);
-    let end = do_in_files(rt, start, db, job, &mut output, faults);
+    let end = do_in_files(machine, start, db, job, &mut output, faults);
     let mut buffer = output.into_inner();
     let end = match (end, buffer.flush()) {
         (JobEnd::Told(0), Err(_)) => JobEnd::FileFailed,
@@ -246,55 +249,48 @@ pub fn export_through<S: Start, O: Write + Drop, F: Output>(
     (end, output)
 }
 
-fn run_lookup<R: Opener, O: Output, F: Output>(
-    alloc: Global,
-    files: &R,
+fn run_lookup<M: Machine, O: Output, F: Output>(
+    machine: &mut M,
     words: &LookupWords<'_>,
     output: &mut O,
     faults: &mut F,
 ) -> JobEnd
-    ensures { LooksUpInFile (record { opens = R.opens files.now; holds = R.Opened.remaining })
-        O.Output words.now.ids.now (fields_given words.now) (record {
-          output = output.old;
-          output_after = output.new;
-          faults = use_of F.Output faults.old faults.new;
-          end = result;
-        }) }
+    ensures { LooksUpInFile M.Opened.remaining O.Output words.now.ids.now (fields_given words.now)
+        (job_wrote (output.old, output.new) (use_of F.Output faults.old faults.new)
+        (M.asked machine.old, M.asked machine.new) result) }
 {
-    match read_words(alloc, words) {
-        Ok(Ok(lookup)) => look_up_at(alloc, files, words.ids, &lookup, output, faults),
+    match read_words(machine.alloc(), words) {
+        Ok(Ok(lookup)) => look_up_at(machine, words.ids, &lookup, output, faults),
         Ok(Err(_)) => JobEnd::Replied(Err(Refusal::BadText)),
         Err(_) => JobEnd::Told(tell_end(TextEnd::Memory, faults)),
     }
 }
 
 // Looks up in the file at a path.
-fn look_up_at<R: Opener, O: Output, F: Output>(
-    alloc: Global,
-    files: &R,
+fn look_up_at<M: Machine, O: Output, F: Output>(
+    machine: &mut M,
     path: &str,
     lookup: &Lookup,
     output: &mut O,
     faults: &mut F,
 ) -> JobEnd
-    ensures { LooksUpAt (record { opens = R.opens files.now; holds = R.Opened.remaining })
-        O.Output path.now lookup.now (record {
-          output = output.old;
-          output_after = output.new;
-          faults = use_of F.Output faults.old faults.new;
-          end = result;
-        }) }
+    ensures { LooksUpAt M.Opened.remaining O.Output path.now lookup.now
+        (job_wrote (output.old, output.new) (use_of F.Output faults.old faults.new)
+        (M.asked machine.old, M.asked machine.new) result) }
 {
-    match files.open(path) {
-        Some(file) => print_lookup(alloc, lookup, &mut Plain::new(file), output, faults),
+    match machine.open_text(path) {
+        Some(file) => {
+            let alloc = machine.alloc();
+            print_lookup(alloc, lookup, &mut Plain::new(file), output, faults)
+        }
         None => JobEnd::FileFailed,
     }
 }
 
 // `paths` are those of the registry file and the pci.ids file; `sender` is the account and the key.
-fn run_import<R: Opener, S: Start, O: Output, F: Output>(
-    rt: &HostRuntime,
-    files: &R,
+fn run_import<M: Machine, S: Start, O: Output, F: Output>(
+    machine: &mut M,
+    progress: &mut Progress<'_>,
     start: S,
     paths: (&str, &str),
     sender: (&str, Option<&str>),
@@ -302,25 +298,22 @@ fn run_import<R: Opener, S: Start, O: Output, F: Output>(
     faults: &mut F,
 ) -> JobEnd
     ensures { ImportsFile ⟦<FileFrom<S> as Disk>⟧ (image_at S.Start)
-        (record { opens = R.opens files.now; holds = R.Opened.remaining })
-        O.Output paths.entry.1.now sender.entry.0.now (text_given sender.entry.1) (record {
-          output = output.old;
-          output_after = output.new;
-          faults = use_of F.Output faults.old faults.new;
-          end = result;
-        }) }
+        M.Opened.remaining O.Output (paths.entry.0.now, paths.entry.1.now) sender.entry.0.now
+        (text_given sender.entry.1)
+        (job_wrote (output.old, output.new) (use_of F.Output faults.old faults.new)
+        (M.asked machine.old, M.asked machine.new) result) }
 {
-    match sender_of(rt.alloc(), sender) {
-        Ok(sender) => import_at(rt, files, start, paths, sender, output, faults),
+    match sender_of(machine.alloc(), sender) {
+        Ok(sender) => import_at(machine, progress, start, paths, sender, output, faults),
         Err(WordFault::Bad) => JobEnd::Replied(Err(Refusal::BadText)),
         Err(WordFault::Memory) => JobEnd::Told(tell_end(TextEnd::Memory, faults)),
     }
 }
 
 // Imports the pci.ids file at a path into the registry of a file.
-fn import_at<R: Opener, S: Start, O: Output, F: Output>(
-    rt: &HostRuntime,
-    files: &R,
+fn import_at<M: Machine, S: Start, O: Output, F: Output>(
+    machine: &mut M,
+    progress: &mut Progress<'_>,
     start: S,
     paths: (&str, &str),
     sender: (Account, Option<Key>),
@@ -328,28 +321,23 @@ fn import_at<R: Opener, S: Start, O: Output, F: Output>(
     faults: &mut F,
 ) -> JobEnd
     ensures { ImportsAt ⟦<FileFrom<S> as Disk>⟧ (image_at S.Start)
-        (record { opens = R.opens files.now; holds = R.Opened.remaining })
-        O.Output paths.entry.1.now sender.0 sender.1 (record {
-          output = output.old;
-          output_after = output.new;
-          faults = use_of F.Output faults.old faults.new;
-          end = result;
-        }) }
+        M.Opened.remaining O.Output (paths.entry.0.now, paths.entry.1.now) sender.0 sender.1
+        (job_wrote (output.old, output.new) (use_of F.Output faults.old faults.new)
+        (M.asked machine.old, M.asked machine.new) result) }
 {
     let (db, ids) = paths;
-    let Some(file) = files.open(ids) else {
+    let Some(file) = machine.open_text(ids) else {
         return JobEnd::FileFailed;
     };
     let (account, key) = sender;
-    let mut progress = Progress::new(rt, "importing", rt.stderr().is_terminal());
-    let counted = Counted::new(file, &mut progress);
+    let counted = Counted::new(file, progress);
     let input = Plain::new(counted);
     let job = RegistryJob::Import {
         account,
         key,
         input,
     };
-    let end = do_in_files(rt, start, db, FileJob::Work(job), output, faults);
+    let end = do_in_files(machine, start, db, FileJob::Work(job), output, faults);
     progress.clear();
     end
 }

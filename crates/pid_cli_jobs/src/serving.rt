@@ -5,9 +5,11 @@ ghost use Rattle.pid_http.specs.Known.{LivesOn};
 ghost use Rattle.pid_service.specs.Registries.{is_live};
 ghost use Rattle.pid_cli_jobs.specs.Serving.{ReportsServing, ReportsStreams, Serves, socket_line};
 ghost use Rattle.pid_cli_jobs.specs.Sessions.{IsPartOfSession};
-ghost use Rattle.pid_cli_jobs.specs.Steps.Serving.{GivesStreams, IsLoopback};
+ghost use Rattle.pid_cli_jobs.specs.Steps.Serving.{GivesStreams};
+ghost use Rattle.pid_cli_jobs.specs.Wrote.{job_wrote};
 
 use crate::job_end::JobEnd;
+use crate::machine::Machine;
 use crate::replies::write_count;
 use pid_file::{FAILED, TextEnd, tell_end};
 use pid_http::{Routes, serve_with};
@@ -17,8 +19,7 @@ use pid_ident::{Input, Output, WriteFault, write_all};
 use pid_service::Registry;
 use sqlite::Alter;
 use std::alloc::Global;
-use std::io;
-use std::net::{IpAddr, Ipv4Addr, SocketAddr, TcpListener};
+use std::net::TcpListener;
 
 /// The port that clients connect to, and the number of connections to serve, one after the other.
 #[derive(Clone, Copy)]
@@ -131,49 +132,35 @@ fn serve_listener<S: Alter + Drop, O: Output, F: Output>(
     give_streams(alloc, listener, &mut server, connections, output, faults)
 }
 
-// The address of a port for clients on this machine, and for no others.
-fn address_of(port: u16) -> SocketAddr
-    ensures { IsLoopback result port }
-{
-    SocketAddr::new(IpAddr::V4(Ipv4Addr::new(127, 0, 0, 1)), port)
-}
-
-// Listens at an address that no other machine reaches. `_port` is there for the premise alone.
-fn listen(rt: &HostRuntime, address: SocketAddr, _port: u16) -> io::Result<TcpListener>
-    requires { IsLoopback address _port }
-{
-    TcpListener::bind(rt, address)
-}
-
 /// Listens on a port of this machine and serves a registry to so many connections, one at a time.
 ///
 /// Prints where it listens before it accepts the first connection, and the number of streams that
 /// were started at the end. The exit status is 0 if all connections were served and the registry is
 /// live, else 3.
-pub fn serve_registry<S: Alter + Drop, O: Output, F: Output>(
-    rt: &HostRuntime,
+pub fn serve_registry<M: Machine, S: Alter + Drop, O: Output, F: Output>(
+    machine: &mut M,
     registry: &mut Registry<S>,
     port: Port,
     output: &mut O,
     faults: &mut F,
 ) -> JobEnd
     ensures goes { IsPartOfSession S.Store registry.old registry.new }
-    ensures serves { Serves port (is_live registry.new) (record {
-      output = use_of O.Output output.old output.new;
-      faults = use_of F.Output faults.old faults.new;
-    }) result }
+    ensures serves { Serves O.Output port (is_live registry.new)
+        (job_wrote (output.old, output.new) (use_of F.Output faults.old faults.new)
+        (M.asked machine.old, M.asked machine.new) result) }
 {
-    let Ok(listener) = listen(rt, address_of(port.number), port.number) else {
+    let alloc = machine.alloc();
+    let Some(listener) = machine.listen(port.number) else {
         return tell_socket(faults);
     };
-    let Ok(routes) = Routes::new(rt.alloc()) else {
+    let Ok(routes) = Routes::new(alloc) else {
         return JobEnd::Told(tell_end(TextEnd::Memory, faults));
     };
     let number = u64::from(port.number);
     match write_count("listening on 127.0.0.1:", number, output) {
         Ok(()) => {
             let listener = (&listener, port.connections);
-            serve_listener(rt.alloc(), registry, listener, &routes, output, faults)
+            serve_listener(alloc, registry, listener, &routes, output, faults)
         }
         Err(_) => JobEnd::FileFailed,
     }

@@ -15,6 +15,7 @@ returns-in-Ok g c = Migrated (record {
       c.in-Ok.is c.migrate.ensures.busy c.migrate.ensures.at_once;
   prints = c.print_step.ensures;
   silent = refl;
+  unasked = refl;
   hands = refl;
 })
 
@@ -28,5 +29,6 @@ returns g c = Unmoved (record {
     told = c.tell_unopened.ensures.told;
     ends = ap Told c.tell_unopened.ensures.status;
   };
+  unasked = refl;
   hands = refl;
 })

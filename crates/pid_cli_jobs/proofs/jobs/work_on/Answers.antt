@@ -28,5 +28,6 @@ returns-in-Err g c = Unopened (record {
     told = c.tell_unopened.ensures.told;
     ends = ap Told c.tell_unopened.ensures.status;
   };
+  unasked = refl;
   hands = refl;
 })

@@ -5,6 +5,8 @@ use Rattle.pid_cli_jobs.proofs.on_files.do_in_files.Goals as goal
 
 pub returns-in-Ok : goal.returns-in-Ok
 returns-in-Ok g c = InFiles (record {
+  between = g.M.Machine.asked c.open_database.new.self;
+  asks = c.in-Ok.ensures.asks;
   conn = c.in-Ok.conn;
   opens = c.in-Ok.ensures.opened;
   fresh = c.in-Ok.ensures.fresh;
@@ -12,7 +14,7 @@ returns-in-Ok g c = InFiles (record {
 })
 
 pub returns-in-Err : goal.returns-in-Err
-returns-in-Err g c = NoFiles c.in-Err.fault c.in-Err.ensures.fault (record {
+returns-in-Err g c = NoFiles c.in-Err.fault c.in-Err.ensures.fault c.in-Err.ensures.asks (record {
   silent = refl;
   told = c.tell_unopened.ensures.told;
   ends = ap Told c.tell_unopened.ensures.status;

@@ -12,11 +12,15 @@ returns g c = record {
     output = c.new-output.result;
     output_after = c.do_in_files-end.new.output;
     faults = use_of g.F.Output c.args.faults.now c.do_in_files-end.new.faults;
+    asked = record {
+      before = g.M.Machine.asked c.args.machine.now;
+      after = g.M.Machine.asked c.do_in_files-end.new.machine;
+    };
     end = c.do_in_files-end.result;
   };
   exports = c.do_in_files-end.ensures;
   begins = ap (writer_contents g.O.Write.contents) c.new-output.ensures.wraps;
-  reports = refl;
+  reports = (refl, refl);
   ends = elim c.match-end.branch [
     | in-Told-eq0-Err w ↦ inr w.end-is
     | in_default w ↦ inl w.end-is

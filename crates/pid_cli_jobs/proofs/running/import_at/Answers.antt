@@ -3,7 +3,7 @@ use Rattle.pid_cli_jobs.specs.Plain.{ImportsHere, NoFileToImport}
 use Rattle.pid_cli_jobs.proofs.running.import_at.Goals as goal
 
 pub returns : goal.returns
-returns g c = ImportsHere c.in-Some.file c.in-Some.ensures
+returns g c = ImportsHere c.in-Some.file (g.M.Machine.asked c.open_text.new.self) c.in-Some.ensures
     (rw (c.new-input.ensures.wraps, c.new-counted.ensures) at c.do_in_files-end.ensures)
 
 pub returns-in_default : goal.returns-in_default

@@ -11,4 +11,4 @@ returns-in-Ok-Ok g c = LooksUp c.in-Ok-Ok.lookup
 pub returns-in-Ok-Err : goal.returns-in-Ok-Err
 returns-in-Ok-Err g c = BadFields c.in-Ok-Err.field-0-0
     (subst (λ r. IsReadFrom (fields_given c.args.words.now) r) c.in-Ok-Err.field-0-is c.in-Ok-Err.ensures)
-    refl (refl, refl)
+    refl (refl, refl) refl

@@ -2,6 +2,7 @@ use Rattle.std.specs.Prelude.{codes}
 use Rattle.std.specs.Io.KnownBytes.{Appends}
 use Rattle.std.proofs.Common.{refl, subst}
 use Rattle.pid_file.specs.Writing.{FailsWithin, use_of}
+use Rattle.pid_cli_jobs.specs.declared.job_end.JobEnd.TheVariants.{FileFailed}
 use Rattle.pid_cli_jobs.specs.Lines.{count_line}
 use Rattle.pid_cli_jobs.specs.Serving.{Served, Unheard}
 use Rattle.pid_cli_jobs.proofs.Lines.{taken_in_part, taken_whole}
@@ -11,7 +12,7 @@ pub returns-in-Ok-write_count-clause-serves : goal.returns-in-Ok-write_count-cla
 returns-in-Ok-write_count-clause-serves g c =
     let w = use_of g.O.Output c.args.output.now c.write_count.new.output in
     let word = codes "listening on 127.0.0.1:" in
-    Served (record {
+    Served c.in-Some.ensures (record {
       between = w.after;
       listens = subst (λ n. Appends w.before w.after (count_line word n)) c.from-number.ensures
           (taken_whole w (count_line word c.from-number.result) c.write_count.result
@@ -23,7 +24,8 @@ pub returns-clause-serves : goal.returns-clause-serves
 returns-clause-serves g c =
     let w = use_of g.O.Output c.args.output.now c.write_count.new.output in
     let word = codes "listening on 127.0.0.1:" in
-    Unheard refl
+    Unheard c.in-Some.ensures
     (subst (λ n. FailsWithin w (count_line word n)) c.from-number.ensures
     (taken_in_part w (count_line word c.from-number.result) c.write_count.result
-    c.in-Err.field-0 c.in-Err.is c.write_count.ensures.sent c.write_count.ensures.fault)) refl
+    c.in-Err.field-0 c.in-Err.is c.write_count.ensures.sent c.write_count.ensures.fault))
+    (refl {a = g.F.Output.taken c.args.faults.now}) (refl {a = FileFailed})

@@ -1,0 +1,105 @@
+//! The machine that jobs run on.
+ghost use Rattle.pid_cli_jobs.specs.Steps.Serving.{IsLoopback};
+
+use pid_service::TableFault;
+use sqlite::{Connection, FileStore};
+use sqlite_disk::Start;
+use sqlite_std_file::FileFrom;
+use std::alloc::Global;
+use std::fs::File;
+use std::io::Read;
+use std::net::{IpAddr, Ipv4Addr, SocketAddr, TcpListener};
+use std::{fs, io};
+
+/// All that a job can ask of the machine it runs on, but for its streams.
+pub trait Machine {
+    ghost use Rattle.std.specs.Prelude.{List, None, Option, IfErr, IfOk, is_some};
+    ghost use Rattle.sqlite.specs.Held.{IsNew};
+    ghost use Rattle.sqlite_wal.specs.Files.{image_at};
+    ghost use Rattle.pid_tables_rows.specs.Faults.{IsMemoryOrStore};
+    ghost use Rattle.pid_cli_jobs.specs.Files.{OpensFiles};
+    ghost use Rattle.pid_cli_jobs.specs.Machines.{
+      AsksFor,
+      DatabaseAt,
+      Opening,
+      PortAt,
+      TextAt,
+      why_unopened,
+    };
+
+    /// An open pci.ids file.
+    type Opened: Read + Drop;
+
+    /// What it was asked to open so far and what came of that, in order, if it keeps that.
+    ghost asked: { Self → Option (List (Opening Self.Opened)) } = { λ _. None };
+
+    fn alloc(&self) -> Global;
+
+    /// Opens the pci.ids file at a path.
+    fn open_text(&mut self, path: &str) -> Option<Self::Opened>
+        ensures { AsksFor (asked self.old) (asked self.new) (TextAt path.now result) };
+
+    /// Opens the database file at a path, which is created if it does not exist. `start` stands for
+    /// what the files hold, and says how a crash is read (`Unknown`: a torn write leaves each byte
+    /// old or new; `Wary`: it may leave anything). Fails with `Memory` or `Store`: no table is read
+    /// yet.
+    fn open_database<S: Start>(
+        &mut self,
+        path: &str,
+        start: S,
+    ) -> Result<Connection<FileStore<FileFrom<S>>>, TableFault>
+        ensures asks { AsksFor (asked self.old) (asked self.new)
+            (DatabaseAt path.now (why_unopened result)) }
+        ensures opened { IfOk result (λ conn. OpensFiles (image_at S.Start) conn) }
+        ensures fresh { IfOk result IsNew }
+        ensures fault { IfErr result IsMemoryOrStore };
+
+    /// Listens on a port, for clients on this machine and for no others.
+    fn listen(&mut self, port: u16) -> Option<TcpListener>
+        ensures { AsksFor (asked self.old) (asked self.new) (PortAt port (is_some result)) };
+}
+
+/// The machine of the process. Which files its paths name is not said, nor what a socket does.
+#[derive(Drop)]
+pub struct Host<'r>(pub &'r HostRuntime);
+
+impl Machine for Host<'_> {
+    type Opened = File;
+
+    fn alloc(&self) -> Global {
+        self.0.alloc()
+    }
+
+    fn open_text(&mut self, path: &str) -> Option<File> {
+        fs::open(self.0, path).ok()
+    }
+
+    fn open_database<S: Start>(
+        &mut self,
+        path: &str,
+        start: S,
+    ) -> Result<Connection<FileStore<FileFrom<S>>>, TableFault> {
+        match Connection::open_from(self.0, path, false, start) {
+            Ok(conn) => Ok(conn),
+            Err((error, _)) => Err(TableFault::from(error)),
+        }
+    }
+
+    fn listen(&mut self, port: u16) -> Option<TcpListener> {
+        listen_at(self.0, address_of(port), port).ok()
+    }
+}
+
+// The address of a port for clients on this machine, and for no others.
+fn address_of(port: u16) -> SocketAddr
+    ensures { IsLoopback result port }
+{
+    SocketAddr::new(IpAddr::V4(Ipv4Addr::new(127, 0, 0, 1)), port)
+}
+
+// Listens at an address that no other machine reaches. `_port` is there for the premise alone.
+fn listen_at(rt: &HostRuntime, address: SocketAddr, _port: u16) -> io::Result<TcpListener>
+    requires { IsLoopback address _port }
+{
+    TcpListener::bind(rt, address)
+}
