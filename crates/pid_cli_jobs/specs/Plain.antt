@@ -70,7 +70,9 @@ module _ {E R W : Type 0} (files : disk.Ghosts E) (image : Image) (holds : R →
       (w : Wrote R W) : Type 0 where
     BadSender : IsBadSender account key → w.end ≡ Replied (Err BadText) → IsSilent w
         → AsksNothing w → ImportsFile paths account key w
-    NoMemoryToImport : TellsMemory w → AsksNothing w → ImportsFile paths account key w
+    -- the account was looked at before the key was
+    NoMemoryToImport : is_account account ≡ true → TellsMemory w → AsksNothing w
+        → ImportsFile paths account key w
     Imports : IsGoodSender account key → ImportsAt paths account key w
         → ImportsFile paths account key w
 

@@ -1,7 +1,8 @@
 //! The job that the arguments name, on the streams of the process.
-ghost use Rattle.std.specs.Prelude.{◌≡◌, IfOk, IsErrOf};
+ghost use Rattle.std.specs.Prelude.{◌≡◌, true, IfOk, IsErrOf};
 ghost use Rattle.std.specs.Io.Buffered.{writer_contents};
 ghost use Rattle.sqlite_wal.specs.Files.{image_at};
+ghost use Rattle.pid_file.specs.Words.{is_account};
 ghost use Rattle.pid_file.specs.Writing.{use_of};
 ghost use Rattle.pid_cli_words.specs.Jobs.{text_given};
 ghost use Rattle.pid_cli_jobs.specs.Ends.{ReportsLast, exit_status};
@@ -352,6 +353,7 @@ fn sender_of(
         (text_given sender.entry.1)) }
     ensures bad { IsErrOf result WordFault.Bad → IsBadSender sender.entry.0.now
         (text_given sender.entry.1) }
+    ensures memory { IsErrOf result WordFault.Memory → is_account sender.entry.0.now ≡ true }
 {
     let (account, key) = sender;
     let account = Account::of(alloc, account)?;
