@@ -8,8 +8,9 @@ crates above it can cite, without the proofs, so that they have less to load tha
 `rt lib` builds. A prover with N jobs is N copies of one process, of which each costs some seconds
 of a processor. So a crate has one job, those for which the longest chain of crates waits half as
 many as there are processors, and all of them where no crate can be built beside another; the first
-kind gives way to the others. Prints `crate NAME: proved, N s` when a crate is built; what `rattle`
-prints goes to standard error if it fails.
+kind gives way to the others. A program has one job too, since it has few functions of its own.
+Prints `crate NAME: proved, N s` when a crate is built; what `rattle` prints goes to standard error
+if it fails.
 """
 
 import contextlib
@@ -184,7 +185,9 @@ class Build:
         """Returns how many jobs a crate has."""
         if self.in_turn:
             return self.processors
-        return 1 if crate in self.beside else max(1, self.processors // 2)
+        if crate in self.beside or self.toolchain.is_program(crate):
+            return 1
+        return max(1, self.processors // 2)
 
     def build(self, crate):
         """Builds one crate, and lets those above it begin."""
