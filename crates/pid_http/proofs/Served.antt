@@ -1,7 +1,7 @@
 -- What is served of a stream.
 use Rattle.std.proofs.Common.{ℕ, List, [], Option, Some, None, refl, inl, arith}
 use Rattle.std.specs.Prelude.{⊤, IfSome}
-use Rattle.std.proofs.KnownBytes.{Appends-nil}
+use Rattle.std.proofs.KnownBytes.{Appends-nil, Consumes-nil}
 use Rattle.sqlite_trees.specs.declared.store.Store.{Ghosts}
 use Rattle.pid_service.specs.Registries.{HasCleanDisk}
 use Rattle.pid_service.specs.declared.registry.Registry.{Registry}
@@ -13,22 +13,25 @@ use Rattle.pid_http_stream.specs.declared.stream.StreamEnd.TheVariants.{Memory}
 use Rattle.pid_file.specs.declared.io.ReadFault.{ReadFault}
 use Rattle.pid_file.specs.declared.io.WriteFault.{WriteFault}
 use Rattle.pid_http_stream.specs.Causes.{EndsFor}
+use Rattle.pid_http_stream.proofs.Heads.{nothing_yet}
 use Rattle.pid_http.specs.Serving.{serving}
 use Rattle.pid_http.specs.Known.{Told, IsToldOf}
 
 -- no read was made
 pub memory_ends : (reads turns : ℕ) (read_fault : Option ReadFault) (write_fault : Option WriteFault)
-    → EndsFor Memory (record { read_fault = read_fault; write_fault = write_fault; stuck = ⊤; turns = turns; reads = reads; reads_after = reads })
-memory_ends reads turns read_fault write_fault = record { within = omega arith; cause = tt }
+    → EndsFor Memory (record { fault_before = read_fault; read_fault = read_fault; write_fault = write_fault; stuck = ⊤; turns = turns; reads = reads; reads_after = reads })
+memory_ends reads turns read_fault write_fault = record { within = omega arith; cause = tt; failed = inl refl }
 
 module _ {S : Type 0} (store : Ghosts S) where
-  none : (t : Told store) (taken to_come left : Option (List ℕ)) → IfSome to_come (λ stream. IsServed (serving store) (record { handler = t; handler_after = t; taken = taken; taken_after = taken }) stream left Memory 0)
-  none t taken None left = tt
-  none t taken (Some stream) left = record {
-    rest = stream;
+  none : (t : Told store) (taken to_come : Option (List ℕ)) → IfSome to_come (λ stream. IsServed (serving store) (record { handler = t; handler_after = t; taken = taken; taken_after = taken }) stream to_come Memory 0)
+  none t taken None = tt
+  none t taken (Some stream) = record {
+    read = [];
+    consumed = Consumes-nil (Some stream);
+    rest = [];
     mid = t;
     before = record { requests = []; replies = []; fronts = refl; answered = (refl, refl); written = Appends-nil taken; counts = refl };
-    after = inl (inl refl);
+    after = inl (nothing_yet, inl refl);
   }
 
   unread : (t : Told store) (taken to_come : Option (List ℕ)) (moments : Option (List Moment)) → IfSome to_come (λ stream. AllSince (IsCaughtUp (serving store) t taken stream) moments moments)
@@ -36,9 +39,9 @@ module _ {S : Type 0} (store : Ghosts S) where
   unread t taken (Some stream) moments = since_none (IsCaughtUp (serving store) t taken stream) moments
 
   -- there was no memory to begin
-  pub none_served : (r : Registry S store) (taken to_come left : Option (List ℕ))
-      → Leads (HasCleanDisk store) (IsToldOf store) r r (λ t u. IfSome to_come (λ stream. IsServed (serving store) (record { handler = t; handler_after = u; taken = taken; taken_after = taken }) stream left Memory 0))
-  none_served r taken to_come left = record { good = λ g. g; leads = λ good t is. (t, is, none t taken to_come left) }
+  pub none_served : (r : Registry S store) (taken to_come : Option (List ℕ))
+      → Leads (HasCleanDisk store) (IsToldOf store) r r (λ t u. IfSome to_come (λ stream. IsServed (serving store) (record { handler = t; handler_after = u; taken = taken; taken_after = taken }) stream to_come Memory 0))
+  none_served r taken to_come = record { good = λ g. g; leads = λ good t is. (t, is, none t taken to_come) }
 
   -- nor was anything read
   pub none_read : (r : Registry S store) (taken to_come : Option (List ℕ)) (moments : Option (List Moment))

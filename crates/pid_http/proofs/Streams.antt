@@ -10,7 +10,7 @@ use Rattle.pid_http_stream.specs.Conducts.{StandsStill}
 use Rattle.pid_http_stream.specs.Laws.{RequestsStay}
 use Rattle.pid_http_stream.specs.Replies.{Answer, answer_behind}
 use Rattle.pid_http_stream.specs.Requests.{Request, IsRequest}
-use Rattle.pid_http_stream.specs.Serving.{AnswersAll, AnswersFront, BreaksOffInReply, IsServed, IsWrittenNext, LacksMemory, Outside, RestsBehind, StopsReading}
+use Rattle.pid_http_stream.specs.Serving.{AnswersAll, AnswersFront, BreaksOffInReply, IsServed, IsWrittenNext, LacksMemory, Outside, RestsBehind, RunsOut, StopsReading}
 use Rattle.pid_http_stream.specs.Streams.{Ending, clean, closed, faulty, Fronts, Splits}
 use Rattle.pid_http_stream.specs.declared.judging.StreamFault.TheVariants.{BadHead, Encoding, BodyTooLong, BodyShort}
 use Rattle.pid_http_stream.specs.declared.reply_head.ReplyHead.{ReplyHead}
@@ -121,14 +121,20 @@ module _ {S : Type 0} (store : Ghosts S) where
       let f = front_quiet outcomes h o.handler s.last o.handler_after s.read s.rest o.taken o.taken_after count live s.before (still s.last o.handler_after s.stands) in
       record { requests = f.requests; stand = read_in_front stay stream s.read left f.requests s.consumed f.stand; sends = f.sends }
 
-  lacking_sends : AreOutcomes → (h : History) (o : Outside (Told store)) (stream : List ℕ) (count : ℕ) → o.handler.known ≡ Live h → LacksMemory (serving store) o stream count → SendsOf store h o.handler o.handler_after stream
-  lacking_sends outcomes h o stream count live s = by_case s.after
+  lacking_sends : AreOutcomes → RequestsStay → (h : History) (o : Outside (Told store)) (stream : List ℕ) (left : Option (List ℕ)) (count : ℕ) → o.handler.known ≡ Live h → LacksMemory (serving store) o stream left count
+      → SendsOf store h o.handler o.handler_after stream
+  lacking_sends outcomes stay h o stream left count live s =
+      let f = by_case s.after in
+      record { requests = f.requests; stand = read_in_front stay stream s.read left f.requests s.consumed f.stand; sends = f.sends }
     where
-      by_case : StandsStill (serving store) s.mid o.handler_after ⊎ ((request : Request) × (behind : List ℕ) × IsRequest s.rest request behind × (serving store).leaves s.mid request o.handler_after)
-          → SendsOf store h o.handler o.handler_after stream
-      by_case (inl stands) = front_quiet outcomes h o.handler s.mid o.handler_after stream s.rest o.taken o.taken_after count live s.before (still s.mid o.handler_after stands)
-      by_case (inr (request, behind, is, b)) =
-          front_then outcomes h o.handler s.mid o.handler_after stream s.rest o.taken o.taken_after count request behind b.holds.0 live s.before is
+      stood : StandsStill (serving store) s.mid o.handler_after → SendsOf store h o.handler o.handler_after s.read
+      stood stands = front_quiet outcomes h o.handler s.mid o.handler_after s.read s.rest o.taken o.taken_after count live s.before (still s.mid o.handler_after stands)
+
+      by_case : RunsOut (serving store) s.mid s.rest o.handler_after → SendsOf store h o.handler o.handler_after s.read
+      by_case (inl (waits, stands)) = stood stands
+      by_case (inr (request, behind, is, inl stands)) = stood stands
+      by_case (inr (request, behind, is, inr b)) =
+          front_then outcomes h o.handler s.mid o.handler_after s.read s.rest o.taken o.taken_after count request behind b.holds.0 live s.before is
           (record { same_life = b.same_life; more = b.more; joined = b.joined; holds = b.holds.1 })
 
   broken_sends : AreOutcomes → (h : History) (o : Outside (Told store)) (stream : List ℕ) (count : ℕ) → o.handler.known ≡ Live h → BreaksOffInReply (serving store) o stream count → SendsOf store h o.handler o.handler_after stream
@@ -151,7 +157,7 @@ module _ {S : Type 0} (store : Ghosts S) where
   served_sends outcomes stay o h stream left BodyFault count live (fault, of_head, answered, s, e) = all_send outcomes h o stream (faulty fault) _ answered live s
   served_sends outcomes stay o h stream left ReadFault count live s = stopped_sends outcomes stay h o stream left count live s
   served_sends outcomes stay o h stream left TurnsSpent count live s = stopped_sends outcomes stay h o stream left count live s
-  served_sends outcomes stay o h stream left Memory count live s = lacking_sends outcomes h o stream count live s
+  served_sends outcomes stay o h stream left Memory count live s = lacking_sends outcomes stay h o stream left count live s
   served_sends outcomes stay o h stream left WriteFault count live s = broken_sends outcomes h o stream count live s
   served_sends outcomes stay o h stream left StoreFault count live s =
       front_then outcomes h o.handler s.mid o.handler_after stream s.rest o.taken s.taken count s.request s.behind (answer_behind s.cut.head s.cut.told s.cut.body) live s.before s.is s.cut.answered

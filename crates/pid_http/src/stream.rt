@@ -30,7 +30,8 @@ use std::alloc::Global;
 /// - `Clean`, `Closed`, `HeadFault`, `BodyFault`: all requests of the stream were answered, and
 ///   then what is no request was refused.
 /// - `ReadFault`, `TurnsSpent`: the requests that came whole were answered.
-/// - `Memory`: the requests before were answered; the next may have been obeyed.
+/// - `Memory`: the requests before were answered; the next may have been obeyed, and what came of
+///   it is not refused.
 /// - `WriteFault`: the requests before were answered, and a prefix of the next reply was written,
 ///   which may be all of it if the writer failed after it; the next may have been obeyed.
 /// - `StoreFault`: the same within the text of all items, which the store or memory cut short, over
@@ -63,6 +64,7 @@ pub fn serve_stream<S: Alter + Drop, I: Incoming<W>, W: Output>(
     // one that has failed stays as it is.
     ensures lives { LivesOn S.Store registry.old registry.new }
     ensures ended { EndsFor result.end (record {
+      fault_before = I.read_fault reader.old;
       read_fault = I.read_fault reader.new;
       write_fault = W.write_fault writer.new;
       stuck = ⊤;
@@ -99,6 +101,7 @@ pub fn serve_with<S: Alter + Drop, I: Incoming<W>, W: Output>(
         (I.moments reader.old) (I.moments reader.new)) }
     ensures lives { LivesOn S.Store registry.old registry.new }
     ensures ended { EndsFor result.end (record {
+      fault_before = I.read_fault reader.old;
       read_fault = I.read_fault reader.new;
       write_fault = W.write_fault writer.new;
       stuck = ⊤;

@@ -16,6 +16,7 @@ use Rattle.pid_http_stream.specs.Steps.Intakes.{WaitsForRequest, StandsAt}
 use Rattle.pid_http_stream.specs.MomentLaws.{since_so}
 use Rattle.pid_http_stream.specs.Moments.{AllSince}
 use Rattle.pid_http_stream.specs.Requests.{Request, IsRequest}
+use Rattle.pid_http_stream.specs.Serving.{RunsOut}
 use Rattle.pid_http_stream.specs.Steps.Loop.{FrontHead, IsAskedOver, AsksHandler, whole_so, broken_so, asked_so}
 use Rattle.pid_http_stream.specs.declared.one_request.Asked.TheVariants as asked
 use Rattle.pid_http_stream.specs.declared.body_input.BodyFault.{BodyFault}
@@ -134,10 +135,9 @@ pub no_memory : {H : Type 0} (conduct : Conduct H) (a b : H) (held : List ℕ) (
     → IfSome A.to_come (λ _. AsksHandler conduct (record { a = a; b = b; input = A.to_come; input_after = B.to_come }) (record { held = held; headers = headers; spans = spans; content_length = w }) asked.NoMemory)
 no_memory conduct a b held headers spans w A B r none told = by_known A.to_come refl
   where
-    lacks : (s more : List ℕ) → s ≡ r.read.came ++ more → Lacks conduct a b B (record { head = r.stands.found.0; body = body_of A s })
-        → StandsStill conduct a b ⊎ ((request : Request) × IsRequest (held ++ r.read.came) request (drop (spans.len + w) held) × conduct.leaves a request b)
-    lacks s more e (inl stands) = inl stands
-    lacks s more e (inr (end, left)) = inr (record { head = r.stands.found.0; body = body_of A s }, whole_request held headers spans w A B r s more none e, left)
+    lacks : (s more : List ℕ) → s ≡ r.read.came ++ more → Lacks conduct a b B (record { head = r.stands.found.0; body = body_of A s }) → RunsOut conduct a (held ++ r.read.came) b
+    lacks s more e (inl stands) = inr (record { head = r.stands.found.0; body = body_of A s }, drop (spans.len + w) held, whole_request held headers spans w A B r s more none e, inl stands)
+    lacks s more e (inr (end, left)) = inr (record { head = r.stands.found.0; body = body_of A s }, drop (spans.len + w) held, whole_request held headers spans w A B r s more none e, inr left)
 
     by_known : (o : Option (List ℕ)) → A.to_come ≡ o → IfSome o (λ _. AsksHandler conduct (record { a = a; b = b; input = A.to_come; input_after = B.to_come }) (record { held = held; headers = headers; spans = spans; content_length = w }) asked.NoMemory)
     by_known None e = tt
@@ -175,6 +175,27 @@ is_left conduct a b held headers spans w A B r result s e some told whole =
       },
     )
 
+-- what came is a request that has not come whole, or one that has and was not given whole
+came_so : {H : Type 0} (conduct : Conduct H) (a b : H) (held : List ℕ) (headers : List HeaderSpan) (spans : RequestSpans) (w : ℕ) (A B : BodyState) (r : Reading held headers spans w A B) → StandsStill conduct a b → RunsOut conduct a (held ++ r.read.came) b
+came_so conduct a b held headers spans w A B r stands = by_length (cases_lt (length B.held) B.wanted)
+  where
+    given : take r.n (drop spans.len held) ++ r.read.came ≡ r.read.used ++ B.held
+    given = ap (λ (l : List ℕ). l ++ r.read.came) (sym r.held_is) ∙ r.read.given
+
+    by_length : (length B.held < B.wanted) ⊎ (B.wanted ≤ length B.held) → RunsOut conduct a (held ++ r.read.came) b
+    by_length (inl less) =
+        let counted = r.read.counted in
+        let wanted = r.wanted_is in
+        let both = length-append r.read.used B.held in
+        inl (inr (stands_short held headers spans w r.stands r.read.came (short_body (drop spans.len held) r.read.came (r.read.used ++ B.held) w r.n r.n_is given (omega arith))), stands)
+    by_length (inr all) =
+        let counted = r.read.counted in
+        let wanted = r.wanted_is in
+        let fits = r.fits in
+        let both = length-append r.read.used B.held in
+        let sized : length (r.read.used ++ B.held) ≡ w = omega arith in
+        inr (record { head = r.stands.found.0; body = r.read.used ++ B.held }, drop w (drop spans.len held), stands_request held headers spans w r.stands r.read.came (r.read.used ++ B.held) (drop w (drop spans.len held)) (whole_body (drop spans.len held) r.read.came (r.read.used ++ B.held) w r.n r.n_is given sized) sized, inl stands)
+
 pub left_unread : {H E : Type 0} (conduct : Conduct H) (a b : H) (held : List ℕ) (headers : List HeaderSpan) (spans : RequestSpans) (w : ℕ) (A B : BodyState) (r : Reading held headers spans w A B) (result : Result Reply E)
     → 0 < B.wanted → Told (λ request. IsHandled conduct a request result (option_map (λ y. padded B.wanted (B.held ++ y)) B.to_come) b) held headers spans A → IfOk result (λ _. IsAtEnd (option_map (λ y. padded B.wanted (B.held ++ y)) B.to_come))
     → IfSome A.to_come (λ _. AsksHandler conduct (record { a = a; b = b; input = A.to_come; input_after = B.to_come }) (record { held = held; headers = headers; spans = spans; content_length = w }) asked.NoMemory)
@@ -184,7 +205,7 @@ left_unread {H} conduct a b held headers spans w A B r result some told whole = 
     by_known None e = tt
     by_known (Some s) e =
         let l = is_left conduct a b held headers spans w A B r result s e some told whole in
-        record { came = r.read.came; more = l.0; before = l.1.before; after = l.1.after; is = inl l.1.stands }
+        record { came = r.read.came; more = l.0; before = l.1.before; after = l.1.after; is = came_so conduct a b held headers spans w A B r l.1.stands }
 
 broken_told : (held : List ℕ) (headers : List HeaderSpan) (spans : RequestSpans) (w : ℕ) (A B : BodyState) (r : Reading held headers spans w A B) (fault : BodyFault) → B.fault ≡ Some fault → HasBrokenOff B fault
 broken_told held headers spans w A B r fault e =
@@ -254,6 +275,21 @@ from_broken false result (Some g) fault e = cc
 -- why it broke off
 pub broken_cause : {E : Type 0} (held : List ℕ) (headers : List HeaderSpan) (spans : RequestSpans) (w : ℕ) (A B : BodyState) → Reading held headers spans w A B → (result : Result Reply E) (fault : BodyFault) → asked_so result B.wanted B.fault ≡ asked.Broken fault → HasBrokenOff B fault
 broken_cause held headers spans w A B r result fault e = broken_told held headers spans w A B r fault (from_broken (B.wanted == 0) result B.fault fault e)
+
+broken_at : {E : Type 0} (result : Result Reply E) (n : ℕ) (f : Option BodyFault) (fault : BodyFault) → 0 < n → f ≡ Some fault → asked_so result n f ≡ asked.Broken fault
+broken_at result n f fault some is = by_test (n == 0) refl
+  where
+    by_test : (t : Bool) → (n == 0) ≡ t → (if t then whole_so result else broken_so f) ≡ asked.Broken fault
+    by_test true e = let none : n ≡ 0 = eqb-true n 0 e in absurd (omega arith)
+    by_test false e = ap broken_so is
+
+-- a reader that failed meanwhile is why it broke off
+pub failed_so : {E : Type 0} (held : List ℕ) (headers : List HeaderSpan) (spans : RequestSpans) (w : ℕ) (A B : BodyState) → Reading held headers spans w A B → (result : Result Reply E) → (B.kept ≡ A.kept) ⊎ (asked_so result B.wanted B.fault ≡ asked.Broken faults.ReadFault)
+failed_so held headers spans w A B r result = by_case r.read.failed
+  where
+    by_case : (B.kept ≡ A.kept) ⊎ (B.fault ≡ Some faults.ReadFault) → (B.kept ≡ A.kept) ⊎ (asked_so result B.wanted B.fault ≡ asked.Broken faults.ReadFault)
+    by_case (inl e) = inl e
+    by_case (inr e) = inr (broken_at result B.wanted B.fault faults.ReadFault (broken_told held headers spans w A B r faults.ReadFault e).wants e)
 
 still_short : (held : List ℕ) (headers : List HeaderSpan) (spans : RequestSpans) (w : ℕ) (A B : BodyState) (r : Reading held headers spans w A B) (came : List ℕ) → length A.held + length came < A.wanted → length (drop spans.len held ++ came) < w
 still_short held headers spans w A B r came wants =

@@ -1,6 +1,6 @@
 -- What one read of a body leaves of it.
-use Rattle.std.proofs.Common.{◌≡◌, ℕ, zero, suc, ◌+◌, ◌-◌, ◌^◌, ◌<◌, ◌≤◌, List, [], ◌∷◌, ◌++◌, length, take, Option, Some, None, Result, Ok, Err, refl, sym, ap, subst, ◌∙◌, append_assoc, length-append, arith}
-use Rattle.std.specs.Prelude.{option_map, min, IfSome, IsSome, is_some, is_ok, is_err, true, false, if◌then◌else◌}
+use Rattle.std.proofs.Common.{◌≡◌, ℕ, zero, suc, ◌+◌, ◌-◌, ◌^◌, ◌<◌, ◌≤◌, List, [], ◌∷◌, ◌++◌, length, take, Option, Some, None, Result, Ok, Err, refl, sym, ap, subst, ◌∙◌, append_assoc, length-append, arith, inl, inr}
+use Rattle.std.specs.Prelude.{◌⊎◌, option_map, min, IfSome, IsSome, is_some, is_ok, is_err, true, false, if◌then◌else◌}
 use Rattle.std.specs.Io.KnownBytes.{Consumes, IsAtEnd, Keeps}
 use Rattle.std.proofs.KnownBytes.{Consumes-nil, Consumes-trans}
 use Rattle.std.proofs.lemmas.List.{take-append-le, take_all, append-nil}
@@ -12,6 +12,7 @@ use Rattle.pid_http_stream.specs.BodyLaws.{no_turns, stays_kept}
 use Rattle.pid_http_stream.specs.MomentLaws.{since_none, since_so}
 use Rattle.pid_http_stream.specs.Moments.{Moment, AllSince, IsMoment}
 use Rattle.pid_http_stream.specs.declared.body_input.BodyFault.{BodyFault}
+use Rattle.pid_http_stream.specs.declared.body_input.BodyFault.TheVariants.{ReadFault as TheReadFault}
 
 -- bytes given from the front leave the others
 padded_front : (piece rest : List ℕ) (w n : ℕ) → length piece ≡ n → n ≤ w → padded w (piece ++ rest) ≡ piece ++ padded (w - n) rest
@@ -92,6 +93,11 @@ pub some_told : {A : Type 0} (o : Option A) (x : A) → o ≡ Some x → IsSome 
 some_told None x e = cc
 some_told (Some y) x e = refl
 
+-- a read that gave something changes no fault: the reader had none, and has none
+pub still_good : {A : Type 0} (x : A) (before now : Option ReadFault) → IfSome before (λ f. Ok x ≡ Err f) → now ≡ None → now ≡ before
+still_good x None now kept none = none
+still_good x (Some f) now kept none = cc
+
 -- a piece more was read and kept
 pub kept_more : {A E : Type 0} (a b c : Option (List ℕ)) (r : Result A E) (x y z : List ℕ) → Consumes a b x → Consumes b c y → z ≡ (if is_ok r then x ++ y else x) → is_err r ≡ false → Consumes a c z
 kept_more a b c (Ok v) x y z p q e good = subst (Consumes a c) (sym e) (Consumes-trans a b c x y p q)
@@ -127,6 +133,7 @@ gave_held f known kept turns ms u wanted n held behind piece none e l h = record
   turns = no_turns turns;
   fault = stays_kept f;
   told = λ t. untold f (record { held = behind; wanted = wanted - n; fault = f; to_come = known; kept = kept; turns = turns; moments = ms; taken = u }) none refl;
+  failed = inl refl;
   taken = refl;
   moments = since_none (IsWithinBody (record { held = held; wanted = wanted; fault = f; to_come = known; kept = kept; turns = turns; moments = ms; taken = u })) ms;
 }
@@ -146,9 +153,9 @@ read_within s ns none wants noted = since_so (IsMoment s.to_come s.taken) (IsWit
 
 -- some of the reader's bytes were given
 pub gave_read : (f : Option BodyFault) (known left : Option (List ℕ)) (kept still : Option ReadFault) (a b : Turns) (ms ns : Option (List Moment)) (u : Option (List ℕ)) (wanted n : ℕ) (held piece : List ℕ) → f ≡ None → held ≡ [] → Consumes known left piece → length piece ≡ n → n ≤ wanted → SpendsTurns a b
-    → 0 < wanted → AllSince (IsMoment known u) ms ns
+    → 0 < wanted → AllSince (IsMoment known u) ms ns → still ≡ kept
     → HasReadBody (record { held = held; wanted = wanted; fault = f; to_come = known; kept = kept; turns = a; moments = ms; taken = u }) (record { held = held; wanted = wanted - n; fault = f; to_come = left; kept = still; turns = b; moments = ns; taken = u })
-gave_read f known left kept still a b ms ns u wanted n held piece none e c l h spent wants noted = record {
+gave_read f known left kept still a b ms ns u wanted n held piece none e c l h spent wants noted good = record {
   used = piece;
   came = piece;
   consumed = c;
@@ -157,15 +164,21 @@ gave_read f known left kept still a b ms ns u wanted n held piece none e c l h s
   turns = spent;
   fault = stays_kept f;
   told = λ t. untold f (record { held = held; wanted = wanted - n; fault = f; to_come = left; kept = still; turns = b; moments = ns; taken = u }) none refl;
+  failed = inl good;
   taken = refl;
   moments = read_within (record { held = held; wanted = wanted; fault = f; to_come = known; kept = kept; turns = a; moments = ms; taken = u }) ns e wants noted;
 }
 
+told_failed : (still kept : Option ReadFault) (fault : BodyFault) → (still ≡ kept) ⊎ (fault ≡ TheReadFault) → (still ≡ kept) ⊎ (Some fault ≡ Some TheReadFault)
+told_failed still kept fault (inl e) = inl e
+told_failed still kept fault (inr e) = inr (ap Some e)
+
 -- no byte was given, and this is the fault now
 pub broke_off : (f : Option BodyFault) (known left : Option (List ℕ)) (kept still : Option ReadFault) (a b : Turns) (ms ns : Option (List Moment)) (u : Option (List ℕ)) (wanted : ℕ) (held : List ℕ) (fault : BodyFault) → f ≡ None → Consumes known left [] → SpendsTurns a b
     → 0 < wanted → held ≡ [] → AllSince (IsMoment known u) ms ns → IsCauseOf fault (record { held = held; wanted = wanted; fault = Some fault; to_come = left; kept = still; turns = b; moments = ns; taken = u })
+    → (still ≡ kept) ⊎ (fault ≡ TheReadFault)
     → HasReadBody (record { held = held; wanted = wanted; fault = f; to_come = known; kept = kept; turns = a; moments = ms; taken = u }) (record { held = held; wanted = wanted; fault = Some fault; to_come = left; kept = still; turns = b; moments = ns; taken = u })
-broke_off f known left kept still a b ms ns u wanted held fault none c spent wants none_held noted cause = record {
+broke_off f known left kept still a b ms ns u wanted held fault none c spent wants none_held noted cause failed = record {
   used = [];
   came = [];
   consumed = c;
@@ -174,6 +187,7 @@ broke_off f known left kept still a b ms ns u wanted held fault none c spent wan
   turns = spent;
   fault = subst (λ (x : Option BodyFault). StaysKept x (Some fault)) (sym none) tt;
   told = λ t. record { wants = wants; none_held = none_held; cause = cause };
+  failed = told_failed still kept fault failed;
   taken = refl;
   moments = read_within (record { held = held; wanted = wanted; fault = f; to_come = known; kept = kept; turns = a; moments = ms; taken = u }) ns none_held wants noted;
 }

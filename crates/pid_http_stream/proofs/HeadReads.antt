@@ -9,7 +9,10 @@ use Rattle.std.proofs.lemmas.List.Elements.{All-nil, All-append}
 use Rattle.httparse.specs.Ascii.{line_feed}
 use Rattle.httparse.specs.Grammar.{HasNoRequest as HasNoRequestHead, MayBecomeRequest as MayBecomeHead}
 use Rattle.pid_http_stream.specs.Endings.{HasFault, IsNoHead}
-use Rattle.pid_http_stream.specs.Steps.Intakes.{ComesIn, WaitsForRequest}
+use Rattle.pid_file.specs.declared.io.ReadFault.{ReadFault}
+use Rattle.pid_http_stream.specs.Steps.Intakes.{ComesIn, HeadStops, StopsFor, WaitsForRequest}
+use Rattle.pid_http_stream.specs.declared.intake.HeadRead.{HeadRead}
+use Rattle.pid_http_stream.specs.declared.intake.Stop.{Stop}
 use Rattle.pid_http_stream.specs.Leftovers.{AreLineEnds}
 use Rattle.pid_http_stream.specs.MomentLaws.{since_then, since_so}
 use Rattle.pid_http_stream.specs.Moments.{Moment, AllSince, IsMoment}
@@ -61,6 +64,13 @@ begins_whole held may = record { front = held; line = []; is = sym (append-nil h
 
 pub not_line_ends : (b : Bool) (held : List ℕ) → IsTrue b ↔ AreLineEnds held → b ≡ false → ¬ (AreLineEnds held)
 not_line_ends b held both no_end x = iff_false both no_end x
+
+-- the reader had not failed before
+pub stops_since : (stop : Stop) (first before now : Option ReadFault) (left : ℕ) → before ≡ first → StopsFor stop before now left → StopsFor stop first now left
+stops_since stop first before now left e x = subst (λ (f : Option ReadFault). StopsFor stop f now left) e x
+
+pub stops_never : (head : HeadRead) (first before now : Option ReadFault) (left : ℕ) → ((fault : Option ReadFault) (n : ℕ) → HeadStops head fault fault n) → now ≡ before → before ≡ first → HeadStops head first now left
+stops_never head first before now left f d e = subst (λ (f : Option ReadFault). HeadStops head f now left) (d ∙ e) (f now left)
 
 -- the reader was read once more, while what had come was a request that was not whole
 pub waits_on : (held now : List ℕ) (x y taken : Option (List ℕ)) (a b c : Option (List Moment)) → ComesIn held now x y → IsUnfinished now

@@ -1,5 +1,5 @@
 -- What bytes behind a head, or behind what is no head, change.
-use Rattle.std.proofs.Common.{◌≡◌, ℕ, zero, suc, get_or, ◌+◌, ◌<◌, ◌≤◌, Bool, true, false, List, [], ◌∷◌, ◌++◌, length, map, take, drop, refl, sym, ap, subst, ◌∙◌, arith, append_assoc, length-append, inl, inr}
+use Rattle.std.proofs.Common.{◌≡◌, ◌≢◌, ℕ, zero, suc, get_or, ◌+◌, ◌<◌, ◌≤◌, Bool, true, false, List, [], ◌∷◌, ◌++◌, length, map, take, drop, refl, sym, ap, subst, ◌∙◌, arith, append_assoc, length-append, inl, inr}
 use Rattle.std.specs.Prelude.{IsTrue, ◌⊎◌, ◌==◌, not, ◌&&◌, if◌then◌else◌, codes}
 use Rattle.std.specs.List.{flat_map}
 use Rattle.std.proofs.lemmas.Bool.{eqb-true, cases_lt}
@@ -215,6 +215,14 @@ is_shortest ends = record {
 
 reads_shortest : (ends : List LineEnd) (s : List ℕ) → s ≡ print_blank ends → ReadsRequest (s ++ shortest_line) (shortest ends) []
 reads_shortest ends s e = (is_shortest ends, ap (λ (l : List ℕ). l ++ shortest_line) e ∙ sym (print_request-append (shortest ends) []))
+
+-- before anything has come each head may come
+pub nothing_yet : IsUnfinished []
+nothing_yet = inl (record {
+  none = λ h rest x. let some = some_bytes h x.0 in let lengths : 0 ≡ length (print_request h) + length rest = ap length x.1 ∙ length-append (print_request h) rest in omega arith;
+  begins = record { front = []; line = []; is = refl; may = inl (shortest_line, shortest [], reads_shortest [] [] refl); unended = All-nil (λ (b : ℕ). b ≢ 10) };
+  short = omega arith;
+})
 
 -- where all heads have too many fields, what is left is no rest of line ends
 pub not_leftover : (s more : List ℕ) → RequestOverflows 32 s → ¬ (IsLeftover (s ++ more))

@@ -10,7 +10,7 @@ use Rattle.pid_http_stream.specs.Steps.Intakes.{ComesIn}
 use Rattle.pid_http_stream.specs.Leftovers.{IsLeftover}
 use Rattle.pid_http_stream.specs.Replies.{Answer, reply_bytes}
 use Rattle.pid_http_stream.specs.Requests.{Request, IsRequest}
-use Rattle.pid_http_stream.specs.Serving.{saturated, Outside, WritesFront, RestsBehind, AnswersAll, AnswersFront, BreaksOffInReply, StopsReading, LacksMemory, IsWrittenNext, IsServed}
+use Rattle.pid_http_stream.specs.Serving.{saturated, Outside, WritesFront, RestsBehind, AnswersAll, AnswersFront, BreaksOffInReply, StopsReading, LacksMemory, RunsOut, IsWrittenNext, IsServed}
 use Rattle.pid_http_stream.specs.Steps.Loop.{count_with, IsReplied, WritesRefusal, EndsWithin, Steps, stop_end}
 use Rattle.pid_http_stream.specs.Streams.{closes, Ending, clean, closed, faulty, EndsStream, Fronts, Splits}
 use Rattle.pid_http_stream.specs.Unfinished.{IsUnfinished}
@@ -232,14 +232,15 @@ stops_reading conduct a b c t u v stream left held count s stands waits same = r
   unfinished = waits;
 }
 
-lacks_memory : {H : Type 0} (conduct : Conduct H) (a b c : H) (t u v : Option (List ℕ)) (stream rest : List ℕ) (count : ℕ)
-    → AnswersFront conduct (record { handler = a; handler_after = b; taken = t; taken_after = u }) stream rest count
-    → StandsStill conduct b c ⊎ ((request : Request) × (behind : List ℕ) × IsRequest rest request behind × conduct.leaves b request c) → v ≡ u
-    → LacksMemory conduct (record { handler = a; handler_after = c; taken = t; taken_after = v }) stream count
-lacks_memory conduct a b c t u v stream rest count f after same = record {
-  rest = rest;
+lacks_memory : {H : Type 0} (conduct : Conduct H) (a b c : H) (t u v : Option (List ℕ)) (stream : List ℕ) (left : Option (List ℕ)) (held : List ℕ) (count : ℕ)
+    → IsServing conduct (record { handler = a; handler_after = b; taken = t; taken_after = u }) stream left held count → RunsOut conduct b held c → v ≡ u
+    → LacksMemory conduct (record { handler = a; handler_after = c; taken = t; taken_after = v }) stream left count
+lacks_memory conduct a b c t u v stream left held count s after same = record {
+  read = s.read;
+  consumed = s.consumed;
+  rest = held;
   mid = b;
-  before = subst (λ (k : Option (List ℕ)). AnswersFront conduct (record { handler = a; handler_after = b; taken = t; taken_after = k }) stream rest count) (sym same) f;
+  before = subst (λ (k : Option (List ℕ)). AnswersFront conduct (record { handler = a; handler_after = b; taken = t; taken_after = k }) s.read held count) (sym same) s.before;
   after = after;
 }
 
@@ -249,9 +250,7 @@ pub ends_stopped : {H : Type 0} (conduct : Conduct H) (a b : H) (t u : Option (L
     → IsServed conduct (record { handler = a; handler_after = b; taken = t; taken_after = u }) stream left (stop_end stop) count
 ends_stopped conduct a b t u stream left held count stops.ReadFault s none = stops_reading conduct a b b t u u stream left held count s (inl refl) none refl
 ends_stopped conduct a b t u stream left held count stops.TurnsSpent s none = stops_reading conduct a b b t u u stream left held count s (inl refl) none refl
-ends_stopped conduct a b t u stream left held count stops.Memory s none =
-    let w = whole stream left s.read s.consumed in
-    lacks_memory conduct a b b t u u stream (held ++ w.0) count (front_of conduct _ stream left held w.0 count s w.1) (inl (inl refl)) refl
+ends_stopped conduct a b t u stream left held count stops.Memory s none = lacks_memory conduct a b b t u u stream left held count s (inl (none, inl refl)) refl
 
 within : {H : Type 0} (conduct : Conduct H) (a b c : H) (t u v : Option (List ℕ)) (stream : List ℕ) (left : Option (List ℕ)) (came behind more : List ℕ) (count : ℕ) (end : StreamEnd)
     → IsServing conduct (record { handler = a; handler_after = b; taken = t; taken_after = u }) stream left came count → left ≡ Some more
@@ -264,7 +263,7 @@ within conduct a b c t u v stream left came behind more count BodyFault s e (has
     (BodyShort, refl, count, all_answered conduct a b c t u v stream (came ++ more) (faulty BodyShort) _ count (front_of conduct _ stream left came more count s e) has stands written, refl)
 within conduct a b c t u v stream left came behind more count ReadFault s e (stands, none, same) = stops_reading conduct a b c t u v stream left came count s stands none same
 within conduct a b c t u v stream left came behind more count TurnsSpent s e (stands, none, same) = stops_reading conduct a b c t u v stream left came count s stands none same
-within conduct a b c t u v stream left came behind more count Memory s e (after, same) = lacks_memory conduct a b c t u v stream (came ++ more) count (front_of conduct _ stream left came more count s e) after same
+within conduct a b c t u v stream left came behind more count Memory s e (after, same) = lacks_memory conduct a b c t u v stream left came count s after same
 within conduct a b c t u v stream left came behind more count Clean s e r = absurd r
 within conduct a b c t u v stream left came behind more count Closed s e r = absurd r
 within conduct a b c t u v stream left came behind more count HeadFault s e r = absurd r

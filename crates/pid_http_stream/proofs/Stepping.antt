@@ -71,12 +71,7 @@ pub memory_step : {H : Type 0} (conduct : Conduct H) (a b : H) (input left u : O
     → IfSome input (λ _. AsksHandler conduct (record { a = a; b = b; input = input; input_after = left }) (record { held = held; headers = headers; spans = spans; content_length = told }) asked.NoMemory)
     → IfSome input (λ _. Steps conduct (record { handler = a; handler_after = b; taken = u; taken_after = u }) (record { input = input; input_after = left; held = held; held_after = drop (spans.len + told) held }) (answered.Ended ends.Memory))
 memory_step conduct a b input left u held headers spans told asks = if_known input _ _ (λ x.
-    record { came = x.came; more = x.more; before = x.before; after = x.after; is = (lacks (held ++ x.came) x.more x.is, refl) }) asks
-  where
-    lacks : (came more : List ℕ) → StandsStill conduct a b ⊎ ((request : Request) × IsRequest came request (drop (spans.len + told) held) × conduct.leaves a request b)
-        → StandsStill conduct a b ⊎ ((request : Request) × (behind : List ℕ) × IsRequest (came ++ more) request behind × conduct.leaves a request b)
-    lacks came more (inl stands) = inl stands
-    lacks came more (inr (request, is, left)) = inr (request, drop (spans.len + told) held ++ more, IsRequest-append came request (drop (spans.len + told) held) more is, left)
+    record { came = x.came; more = x.more; before = x.before; after = x.after; is = (x.is, refl) }) asks
 
 no_more : (left : Option (List ℕ)) (came more : List ℕ) → left ≡ Some more → IsAtEnd left → came ++ more ≡ came
 no_more left came more e end = let none : more ≡ [] = subst IsAtEnd e end in ap (λ (l : List ℕ). came ++ l) none ∙ append-nil came
@@ -123,65 +118,84 @@ broken_step conduct a b input left u v held headers spans told faults.TurnsSpent
 
 -- ---- why the stream ends
 
+-- a reply was made, or memory was refused: then the reader has not failed
+pub unfailed_reply : (P : Type 0) (reply : Reply) → P ⊎ (asked.Reply reply ≡ asked.Broken faults.ReadFault) → P
+unfailed_reply P reply (inl p) = p
+unfailed_reply P reply (inr e) = cc
+
+pub unfailed_still : (P : Type 0) → P ⊎ (asked.NoMemory ≡ asked.Broken faults.ReadFault) → P
+unfailed_still P (inl p) = p
+unfailed_still P (inr e) = cc
+
+unfailed_broken : (P : Type 0) (fault : BodyFault) → ¬ (fault ≡ faults.ReadFault) → P ⊎ (asked.Broken fault ≡ asked.Broken faults.ReadFault) → P
+unfailed_broken P fault other (inl p) = p
+unfailed_broken P fault other (inr e) = let same : fault ≡ faults.ReadFault = cc in absurd (other same)
+
 -- where the reply was sent so far
-pub sent_ends : (x : LastState) (s : Sent) (closing : Bool) → x.reads_after ≤ x.reads + x.turns → (s ≡ sent.WriteFault → IsSome x.write_fault) → (s ≡ sent.StoreFault → x.write_fault ≡ None) → (s ≡ sent.StoreFault → x.stuck)
+pub sent_ends : (x : LastState) (s : Sent) (closing : Bool) → x.reads_after ≤ x.reads + x.turns → x.read_fault ≡ x.fault_before → (s ≡ sent.WriteFault → IsSome x.write_fault) → (s ≡ sent.StoreFault → x.write_fault ≡ None) → (s ≡ sent.StoreFault → x.stuck)
     → EndsSo (answered_so s closing) x
-sent_ends x sent.Whole true few failed good stuck = tt
-sent_ends x sent.Whole false few failed good stuck = tt
-sent_ends x sent.WriteFault closing few failed good stuck = record { within = few; cause = failed refl }
-sent_ends x sent.StoreFault closing few failed good stuck = record { within = few; cause = (good refl, stuck refl) }
+sent_ends x sent.Whole true few same failed good stuck = same
+sent_ends x sent.Whole false few same failed good stuck = same
+sent_ends x sent.WriteFault closing few same failed good stuck = record { within = few; cause = failed refl; failed = inl same }
+sent_ends x sent.StoreFault closing few same failed good stuck = record { within = few; cause = (good refl, stuck refl); failed = inl same }
 
 -- where a refusal was written
-pub refused_ends : (x : LastState) (fault : StreamFault) (u v : Option (List ℕ)) (end : StreamEnd) → x.reads_after ≤ x.reads + x.turns → WritesRefusal fault u v end → (end ≡ ends.WriteFault → IsSome x.write_fault) → EndsFor end x
-refused_ends x fault u v ends.HeadFault few r failed = record { within = few; cause = tt }
-refused_ends x fault u v ends.BodyFault few r failed = record { within = few; cause = tt }
-refused_ends x fault u v ends.WriteFault few r failed = record { within = few; cause = failed refl }
-refused_ends x fault u v ends.Clean few r failed = absurd r
-refused_ends x fault u v ends.Closed few r failed = absurd r
-refused_ends x fault u v ends.ReadFault few r failed = absurd r
-refused_ends x fault u v ends.StoreFault few r failed = absurd r
-refused_ends x fault u v ends.Memory few r failed = absurd r
-refused_ends x fault u v ends.TurnsSpent few r failed = absurd r
+pub refused_ends : (x : LastState) (fault : StreamFault) (u v : Option (List ℕ)) (end : StreamEnd) → x.reads_after ≤ x.reads + x.turns → x.read_fault ≡ x.fault_before → WritesRefusal fault u v end → (end ≡ ends.WriteFault → IsSome x.write_fault) → EndsFor end x
+refused_ends x fault u v ends.HeadFault few same r failed = record { within = few; cause = tt; failed = inl same }
+refused_ends x fault u v ends.BodyFault few same r failed = record { within = few; cause = tt; failed = inl same }
+refused_ends x fault u v ends.WriteFault few same r failed = record { within = few; cause = failed refl; failed = inl same }
+refused_ends x fault u v ends.Clean few same r failed = absurd r
+refused_ends x fault u v ends.Closed few same r failed = absurd r
+refused_ends x fault u v ends.ReadFault few same r failed = absurd r
+refused_ends x fault u v ends.StoreFault few same r failed = absurd r
+refused_ends x fault u v ends.Memory few same r failed = absurd r
+refused_ends x fault u v ends.TurnsSpent few same r failed = absurd r
 
 -- where a body broke off
-pub broken_ends : (x : LastState) (fault : BodyFault) (u v : Option (List ℕ)) (end : StreamEnd) → x.reads_after ≤ x.reads + x.turns → EndsBroken fault u v end
+pub broken_ends : (x : LastState) (fault : BodyFault) (u v : Option (List ℕ)) (end : StreamEnd) → x.reads_after ≤ x.reads + x.turns → EndsBroken fault u v end → (x.read_fault ≡ x.fault_before) ⊎ (asked.Broken fault ≡ asked.Broken faults.ReadFault)
     → (asked.Broken fault ≡ asked.Broken faults.ReadFault → IsSome x.read_fault) → (asked.Broken fault ≡ asked.Broken faults.TurnsSpent → HasEndCause ends.TurnsSpent x) → (end ≡ ends.WriteFault → IsSome x.write_fault) → EndsFor end x
-broken_ends x faults.Short u v end few r read spent failed = refused_ends x BodyShort u v end few r failed
-broken_ends x faults.ReadFault u v end few (e, same) read spent failed = subst (λ k. EndsFor k x) (sym e) (record { within = few; cause = read refl })
-broken_ends x faults.TurnsSpent u v end few (e, same) read spent failed = subst (λ k. EndsFor k x) (sym e) (record { within = few; cause = spent refl })
+broken_ends x faults.Short u v end few r kept read spent failed = refused_ends x BodyShort u v end few (unfailed_broken _ faults.Short (λ e. cc) kept) r failed
+broken_ends x faults.ReadFault u v end few (e, same) kept read spent failed = subst (λ k. EndsFor k x) (sym e) (record { within = few; cause = read refl; failed = inr refl })
+broken_ends x faults.TurnsSpent u v end few (e, same) kept read spent failed =
+    subst (λ k. EndsFor k x) (sym e) (record { within = few; cause = spent refl; failed = inl (unfailed_broken _ faults.TurnsSpent (λ e. cc) kept) })
 
 -- where reading stopped
-pub stopped_ends : (x : LastState) (stop : Stop) (left : ℕ) → x.reads_after ≤ x.reads + x.turns → StopsFor stop x.read_fault left → (left ≡ 0 → HasEndCause ends.TurnsSpent x) → EndsFor (stop_end stop) x
-stopped_ends x stops.ReadFault left few why spent = record { within = few; cause = why }
-stopped_ends x stops.TurnsSpent left few why spent = record { within = few; cause = spent why }
-stopped_ends x stops.Memory left few why spent = record { within = few; cause = tt }
+pub stopped_ends : (x : LastState) (stop : Stop) (left : ℕ) → x.reads_after ≤ x.reads + x.turns → StopsFor stop x.fault_before x.read_fault left → (left ≡ 0 → HasEndCause ends.TurnsSpent x) → EndsFor (stop_end stop) x
+stopped_ends x stops.ReadFault left few why spent = record { within = few; cause = why; failed = inr refl }
+stopped_ends x stops.TurnsSpent left few why spent = record { within = few; cause = spent why.0; failed = inl why.1 }
+stopped_ends x stops.Memory left few why spent = record { within = few; cause = tt; failed = inl why }
 
 pub turns_within : (a b : Turns) → SpendsTurns a b → b.reads ≤ a.reads + a.left
 turns_within a b s = let e = s.spent in omega (arith, e)
 
 -- some turns were spent before
-cause_later : (rf : Option ReadFault) (wf : Option WriteFault) (stuck : Type 0) (a b : Turns) (n : ℕ) → SpendsTurns a b → (end : StreamEnd)
-    → HasEndCause end (record { read_fault = rf; write_fault = wf; stuck = stuck; turns = b.left; reads = b.reads; reads_after = n })
-    → HasEndCause end (record { read_fault = rf; write_fault = wf; stuck = stuck; turns = a.left; reads = a.reads; reads_after = n })
-cause_later rf wf stuck a b n s ends.Clean why = tt
-cause_later rf wf stuck a b n s ends.Closed why = tt
-cause_later rf wf stuck a b n s ends.HeadFault why = tt
-cause_later rf wf stuck a b n s ends.BodyFault why = tt
-cause_later rf wf stuck a b n s ends.ReadFault why = why
-cause_later rf wf stuck a b n s ends.WriteFault why = why
-cause_later rf wf stuck a b n s ends.StoreFault why = why
-cause_later rf wf stuck a b n s ends.Memory why = tt
-cause_later rf wf stuck a b n s ends.TurnsSpent why = λ few.
+cause_later : (bf mf rf : Option ReadFault) (wf : Option WriteFault) (stuck : Type 0) (a b : Turns) (n : ℕ) → SpendsTurns a b → (end : StreamEnd)
+    → HasEndCause end (record { fault_before = mf; read_fault = rf; write_fault = wf; stuck = stuck; turns = b.left; reads = b.reads; reads_after = n })
+    → HasEndCause end (record { fault_before = bf; read_fault = rf; write_fault = wf; stuck = stuck; turns = a.left; reads = a.reads; reads_after = n })
+cause_later bf mf rf wf stuck a b n s ends.Clean why = tt
+cause_later bf mf rf wf stuck a b n s ends.Closed why = tt
+cause_later bf mf rf wf stuck a b n s ends.HeadFault why = tt
+cause_later bf mf rf wf stuck a b n s ends.BodyFault why = tt
+cause_later bf mf rf wf stuck a b n s ends.ReadFault why = why
+cause_later bf mf rf wf stuck a b n s ends.WriteFault why = why
+cause_later bf mf rf wf stuck a b n s ends.StoreFault why = why
+cause_later bf mf rf wf stuck a b n s ends.Memory why = tt
+cause_later bf mf rf wf stuck a b n s ends.TurnsSpent why = λ few.
     let e = s.exact few in
     let room : b.reads + b.left ≤ 2 ^ 64 - 1 = omega (arith, e, few) in
     why room ∙ e
 
-pub ends_later : (rf : Option ReadFault) (wf : Option WriteFault) (stuck : Type 0) (a b : Turns) (n : ℕ) → SpendsTurns a b → (end : StreamEnd)
-    → EndsFor end (record { read_fault = rf; write_fault = wf; stuck = stuck; turns = b.left; reads = b.reads; reads_after = n })
-    → EndsFor end (record { read_fault = rf; write_fault = wf; stuck = stuck; turns = a.left; reads = a.reads; reads_after = n })
-ends_later rf wf stuck a b n s end x = record {
-  within = let few = x.within in let e = s.spent in omega (arith, few, e);
-  cause = cause_later rf wf stuck a b n s end x.cause;
+failed_later : (bf mf rf : Option ReadFault) (P : Type 0) → mf ≡ bf → (rf ≡ mf) ⊎ P → (rf ≡ bf) ⊎ P
+failed_later bf mf rf P e (inl same) = inl (same ∙ e)
+failed_later bf mf rf P e (inr p) = inr p
+
+pub ends_later : (bf mf rf : Option ReadFault) (wf : Option WriteFault) (stuck : Type 0) (a b : Turns) (n : ℕ) → mf ≡ bf → SpendsTurns a b → (end : StreamEnd)
+    → EndsFor end (record { fault_before = mf; read_fault = rf; write_fault = wf; stuck = stuck; turns = b.left; reads = b.reads; reads_after = n })
+    → EndsFor end (record { fault_before = bf; read_fault = rf; write_fault = wf; stuck = stuck; turns = a.left; reads = a.reads; reads_after = n })
+ends_later bf mf rf wf stuck a b n e s end x = record {
+  within = let few = x.within in let spent = s.spent in omega (arith, few, spent);
+  cause = cause_later bf mf rf wf stuck a b n s end x.cause;
+  failed = failed_later bf mf rf (end ≡ ends.ReadFault) e x.failed;
 }
 
 -- all turns were spent, each on a read

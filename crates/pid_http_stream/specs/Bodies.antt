@@ -1,6 +1,6 @@
 -- A reader of a request's body, and what reads leave of it.
-use Rattle.std.specs.Prelude.{◌≡◌, ℕ, zero, suc, ◌+◌, ◌-◌, ◌^◌, ◌<◌, ◌≤◌, List, [], ◌∷◌, ◌++◌}
-use Rattle.std.specs.Prelude.{length, Option, Some, None, IfSome, IsSome}
+use Rattle.std.specs.Prelude.{◌≡◌, ℕ, zero, suc, ◌+◌, ◌-◌, ◌^◌, ◌<◌, ◌≤◌, ◌⊎◌, List, [], ◌∷◌}
+use Rattle.std.specs.Prelude.{◌++◌, length, Option, Some, None, IfSome, IsSome}
 use Rattle.std.specs.Io.KnownBytes.{Consumes, IsAtEnd}
 use Rattle.pid_file.specs.declared.io.ReadFault.{ReadFault}
 use Rattle.pid_file.specs.declared.io.ReadFault.TheVariants.{Device}
@@ -70,7 +70,8 @@ pub record IsWithinBody (s : BodyState) (m : Moment) : Type 0 where
   pub wants : length s.held + length came < s.wanted
   pub taken : m.taken ≡ s.taken
 
--- the first bytes were used: of those that were held, and then of those that came
+-- the first bytes were used: of those that were held, and then of those that came; and if the
+-- reader under it failed meanwhile, that is the fault
 pub record HasReadBody (a b : BodyState) : Type 0 where
   pub used : List ℕ
   pub came : List ℕ
@@ -80,5 +81,6 @@ pub record HasReadBody (a b : BodyState) : Type 0 where
   pub turns : SpendsTurns a.turns b.turns
   pub fault : StaysKept a.fault b.fault
   pub told : IsFaultCaused a → IsFaultCaused b
+  pub failed : (b.kept ≡ a.kept) ⊎ (b.fault ≡ Some faults.ReadFault)
   pub taken : b.taken ≡ a.taken
   pub moments : AllSince (IsWithinBody a) a.moments b.moments

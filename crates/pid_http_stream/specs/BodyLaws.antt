@@ -1,14 +1,17 @@
 -- Proofs alone, no definitions: the laws that the reader of a body has for `stays` and `joins` of
 -- `Input`.
 use Rattle.std.proofs.Common.{◌≡◌, ℕ, ◌+◌, List, [], ◌++◌, Option, Some, None, refl, sym, ap, ◌∙◌}
-use Rattle.std.proofs.Common.{append_assoc, length, length-append, arith}
+use Rattle.std.proofs.Common.{append_assoc, length, length-append, arith, subst, inl, inr}
+use Rattle.std.specs.Prelude.{◌⊎◌}
 use Rattle.std.proofs.lemmas.List.{append-nil}
 use Rattle.std.proofs.KnownBytes.{Consumes-nil, Consumes-trans}
+use Rattle.pid_file.specs.declared.io.ReadFault.{ReadFault as ReaderFault}
 use Rattle.pid_ident.specs.InputCalls.{StaysKept}
 use Rattle.pid_http_stream.specs.Bodies.{Turns, SpendsTurns, BodyState, IsWithinBody, HasReadBody}
 use Rattle.pid_http_stream.specs.MomentLaws.{since_none, since_then, since_so}
 use Rattle.pid_http_stream.specs.Moments.{Moment}
 use Rattle.pid_http_stream.specs.declared.body_input.BodyFault.{BodyFault}
+use Rattle.pid_http_stream.specs.declared.body_input.BodyFault.TheVariants.{ReadFault}
 
 -- no read costs nothing
 pub no_turns : (a : Turns) → SpendsTurns a a
@@ -32,6 +35,14 @@ kept_then None g h p q = tt
 kept_then (Some x) None h p q = absurd cc
 kept_then (Some x) (Some y) h p q = q ∙ p
 
+-- the reader under it failed in the first reads or in the others
+failed_then : (a b c : Option ReaderFault) (f g : Option BodyFault) → (b ≡ a) ⊎ (f ≡ Some ReadFault)
+    → (c ≡ b) ⊎ (g ≡ Some ReadFault) → StaysKept f g → (c ≡ a) ⊎ (g ≡ Some ReadFault)
+failed_then a b c f g p (inr e) s = inr e
+failed_then a b c f g (inl d) (inl e) s = inl (e ∙ d)
+failed_then a b c f g (inr d) (inl e) s = inr
+    (subst (λ (k : Option BodyFault). StaysKept k g) d s)
+
 -- no read leaves the reader of a body as it is
 pub no_body_reads : (s : BodyState) → HasReadBody s s
 no_body_reads s = record {
@@ -43,6 +54,7 @@ no_body_reads s = record {
   turns = no_turns s.turns;
   fault = stays_kept s.fault;
   told = λ h. h;
+  failed = inl refl;
   taken = refl;
   moments = since_none (IsWithinBody s) s.moments;
 }
@@ -73,6 +85,7 @@ more_body_reads a b c p q = record {
   turns = more_turns a.turns b.turns c.turns p.turns q.turns;
   fault = kept_then a.fault b.fault c.fault p.fault q.fault;
   told = λ h. q.told (p.told h);
+  failed = failed_then a.kept b.kept c.kept b.fault c.fault p.failed q.failed q.fault;
   taken = q.taken ∙ p.taken;
   moments = since_then (IsWithinBody a) a.moments b.moments c.moments p.moments
       (since_so (IsWithinBody b) (IsWithinBody a) b.moments c.moments

@@ -1,5 +1,5 @@
 -- Why the serving of a stream ended, and how many reads it made.
-use Rattle.std.specs.Prelude.{◌≡◌, ℕ, ◌+◌, ◌-◌, ◌^◌, ◌≤◌, Option, None, IsSome, ⊤}
+use Rattle.std.specs.Prelude.{◌≡◌, ℕ, ◌+◌, ◌-◌, ◌^◌, ◌≤◌, ◌⊎◌, Option, None, IsSome, ⊤}
 use Rattle.pid_file.specs.declared.io.ReadFault.{ReadFault}
 use Rattle.pid_file.specs.declared.io.WriteFault.{WriteFault}
 use Rattle.pid_http_stream.specs.declared.stream.StreamEnd.{StreamEnd}
@@ -7,7 +7,9 @@ use Rattle.pid_http_stream.specs.declared.stream.StreamEnd.TheVariants as ends
 
 -- what is known of the reader, of the writer and of the handler when a stream has ended
 pub record LastState : Type 1 where
-  -- the fault that the reader keeps
+  -- the fault that the reader kept before the stream
+  pub fault_before : Option ReadFault
+  -- and the one that it keeps after it
   pub read_fault : Option ReadFault
   -- the fault that the writer keeps
   pub write_fault : Option WriteFault
@@ -38,3 +40,5 @@ pub record EndsFor (end : StreamEnd) (s : LastState) : Type 0 where
   pub within : s.reads_after ≤ s.reads + s.turns
   -- a fault is kept by who has it; and if the turns are used up, as many reads were made
   pub cause : HasEndCause end s
+  -- a reader that fails within the stream ends it so
+  pub failed : (s.read_fault ≡ s.fault_before) ⊎ (end ≡ ends.ReadFault)

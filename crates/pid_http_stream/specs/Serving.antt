@@ -150,17 +150,24 @@ pub record StopsReading {H : Type 0} (conduct : Conduct H) (o : Outside H) (stre
   pub none : HasNoRequest rest
   pub unfinished : IsUnfinished rest
 
--- the first requests of the stream were answered; the handler is as it was, or ran out of memory
--- for the reply to the next
+-- memory ran out over what had come: a request that had not come whole, or one that had, for which
+-- the handler may have run out of it
+abbrev pub RunsOut : {H : Type 0} → Conduct H → H → List ℕ → H → Type 0
+RunsOut conduct a came b = (IsUnfinished came × StandsStill conduct a b)
+    ⊎ ((request : Request) × (behind : List ℕ) × IsRequest came request behind
+    × (StandsStill conduct a b ⊎ conduct.leaves a request b))
+
+-- what was read of the stream is the requests that were answered, and a rest over which memory ran
+-- out: nothing that is refused
 pub record LacksMemory {H : Type 0} (conduct : Conduct H) (o : Outside H) (stream : List ℕ)
-    (count : ℕ) : Type 0 where
+    (left : Option (List ℕ)) (count : ℕ) : Type 0 where
+  pub read : List ℕ
+  pub consumed : Consumes (Some stream) left read
   pub rest : List ℕ
   pub mid : H
   pub before : AnswersFront conduct
-      (outside o.handler mid o.taken o.taken_after) stream rest count
-  pub after : StandsStill conduct mid o.handler_after
-      ⊎ ((request : Request) × (behind : List ℕ) × IsRequest rest request behind
-      × conduct.leaves mid request o.handler_after)
+      (outside o.handler mid o.taken o.taken_after) read rest count
+  pub after : RunsOut conduct mid rest o.handler_after
 
 -- a reader was read at this moment, as pipelining wants it (RFC 9112, section 9.3.2): the first
 -- requests of what had come were answered, and the writer had taken the replies; after them came no
@@ -201,6 +208,6 @@ IsServed conduct o stream left HeadFault count = RefusesLast true conduct o stre
 IsServed conduct o stream left BodyFault count = RefusesLast false conduct o stream count
 IsServed conduct o stream left ReadFault count = StopsReading conduct o stream left count
 IsServed conduct o stream left TurnsSpent count = StopsReading conduct o stream left count
-IsServed conduct o stream left Memory count = LacksMemory conduct o stream count
+IsServed conduct o stream left Memory count = LacksMemory conduct o stream left count
 IsServed conduct o stream left WriteFault count = BreaksOffInReply conduct o stream count
 IsServed conduct o stream left StoreFault count = BreaksOffInBody conduct o stream count

@@ -94,7 +94,8 @@ fn fill<I: Incoming<W>, W: Output>(
         (turns_at (I.reads input.new) turns_left.new) }
     ensures noted { AllSince (IsMoment (I.to_come input.old) (W.taken output.now))
         (I.moments input.old) (I.moments input.new) }
-    ensures stopped { FillStops result (I.read_fault input.new) turns_left.new }
+    ensures stopped { FillStops result (I.read_fault input.old) (I.read_fault input.new)
+        turns_left.new }
     ensures goes { I.goes input.old input.new }
 {
     if *turns_left == 0 {
@@ -130,7 +131,7 @@ fn judge_end(held: &[u8]) -> HeadRead
     requires short { length held.now ≤ LONGEST_HEAD }
     ensures judged { (fields : List FieldSpan) → (left : Option (List ℕ)) → IsAtEnd left
         → IsHeadRead held.now fields left result }
-    ensures stopped { (fault : Option ReadFault) (left : ℕ) → HeadStops result fault left }
+    ensures stopped { (fault : Option ReadFault) (left : ℕ) → HeadStops result fault fault left }
 {
     if are_line_ends(held) {
         HeadRead::Nothing
@@ -174,7 +175,8 @@ pub(crate) fn read_head<I: Incoming<W>, W: Output>(
     ensures waits { AllSince
         (WaitsForRequest held.old.items (I.to_come input.old) (W.taken output.now))
         (I.moments input.old) (I.moments input.new) }
-    ensures stopped { HeadStops result (I.read_fault input.new) turns_left.new }
+    ensures stopped { HeadStops result (I.read_fault input.old) (I.read_fault input.new)
+        turns_left.new }
     ensures goes { I.goes input.old input.new }
 {
     let mut judged = judge(held, fields);

@@ -4,6 +4,7 @@ ghost use Rattle.std.specs.Prelude.{
   ℕ,
   ◌+◌,
   ◌≤◌,
+  ◌⊎◌,
   List,
   [],
   length,
@@ -25,7 +26,12 @@ ghost use Rattle.pid_http_stream.specs.HeadParts.{IsHeadOf};
 ghost use Rattle.pid_http_stream.specs.Leading.{Leads};
 ghost use Rattle.pid_http_stream.specs.Moments.{AllSince};
 ghost use Rattle.pid_http_stream.specs.Requests.{Request};
-ghost use Rattle.pid_http_stream.specs.Steps.Loop.{AsksHandler, asked_so};
+ghost use Rattle.pid_http_stream.specs.Steps.Loop.{
+  AsksHandler,
+  around,
+  asked_so,
+  front_head,
+};
 
 use crate::body_input::{BodyFault, BodyInput};
 use crate::handler::{Handler, NoReply, Reply, Wanted};
@@ -188,18 +194,15 @@ pub(crate) fn ask_over<H: Handler, I: Incoming<W>, W: Output>(
     ensures becomes { H.becomes handler.old handler.new }
     ensures asked { Leads H.is_good H.stands handler.old handler.new
         (λ v w. IfSome (I.to_come input.old) (λ _. AsksHandler H.conduct
-        (record { a = v; b = w; input = I.to_come input.old; input_after = I.to_come input.new })
-        (record {
-          held = head.now.bytes.now;
-          headers = head.now.fields.now;
-          spans = head.now.spans;
-          content_length = content_length;
-        }) result)) }
+        (around v w (I.to_come input.old) (I.to_come input.new))
+        (front_head head.now content_length) result)) }
     ensures turns { SpendsTurns (turns_at (I.reads input.old) turns_left.old)
         (turns_at (I.reads input.new) turns_left.new) }
     ensures waits { AllSince (WaitsForRequest head.now.bytes.now (I.to_come input.old)
         (W.taken output.now)) (I.moments input.old) (I.moments input.new) }
     ensures fault { result ≡ Asked.Broken BodyFault.ReadFault → IsSome (I.read_fault input.new) }
+    ensures failed { (I.read_fault input.new ≡ I.read_fault input.old)
+        ⊎ (result ≡ Asked.Broken BodyFault.ReadFault) }
     ensures spent { result ≡ Asked.Broken BodyFault.TurnsSpent → turns_left.new ≡ 0 }
     ensures goes { I.goes input.old input.new }
 {

@@ -30,6 +30,7 @@ ghost use Rattle.pid_http_stream.specs.Steps.Loop.{
   answered_so,
   count_with,
   stop_end,
+  taken_of,
 };
 
 use crate::body_input::BodyFault;
@@ -64,7 +65,7 @@ pub enum StreamEnd {
     /// The handler could not go on with a body that it wrote itself, and the writer is good; the
     /// head of the reply was written, and a prefix of the body.
     StoreFault,
-    /// Memory was refused.
+    /// Memory was refused; the reader is good, and nothing that came is refused.
     Memory,
     /// All reads were made that might be.
     TurnsSpent,
@@ -155,18 +156,15 @@ fn serve_request<H: Handler, I: Incoming<W>, W: Output>(
     ensures stepped { Leads H.is_good H.stands handler.old handler.new
         (λ v w. IfSome (I.to_come input.old) (λ _. Steps H.conduct
         (outside v w (W.taken out.old) (W.taken out.new))
-        (record {
-          input = I.to_come input.old;
-          input_after = I.to_come input.new;
-          held = head.now.bytes.now;
-          held_after = drop (head.now.spans.len + content_length) head.now.bytes.now;
-        }) result)) }
+        (taken_of head.now content_length (I.to_come input.old) (I.to_come input.new))
+        result)) }
     ensures turns { SpendsTurns (turns_at (I.reads input.old) turns_left.old)
         (turns_at (I.reads input.new) turns_left.new) }
     ensures waits { AllSince
         (WaitsForRequest head.now.bytes.now (I.to_come input.old) (W.taken out.old))
         (I.moments input.old) (I.moments input.new) }
     ensures ended { EndsSo result (record {
+      fault_before = I.read_fault input.old;
       read_fault = I.read_fault input.new;
       write_fault = W.write_fault out.new;
       stuck = H.cannot_go_on handler.new;
@@ -232,6 +230,7 @@ fn serve_held<H: Handler, I: Incoming<W>, W: Output>(
         (IsCaughtUp H.conduct v (W.taken output.old) stream)
         (I.moments input.old) (I.moments input.new))) }
     ensures ended { EndsFor result.end (record {
+      fault_before = I.read_fault input.old;
       read_fault = I.read_fault input.new;
       write_fault = W.write_fault output.new;
       stuck = H.cannot_go_on handler.new;
@@ -310,6 +309,7 @@ pub fn serve_stream<H: Handler, I: Incoming<W>, W: Output>(
         (IsCaughtUp H.conduct v (W.taken output.old) stream)
         (I.moments input.old) (I.moments input.new))) }
     ensures ended { EndsFor result.end (record {
+      fault_before = I.read_fault input.old;
       read_fault = I.read_fault input.new;
       write_fault = W.write_fault output.new;
       stuck = H.cannot_go_on handler.new;

@@ -42,24 +42,25 @@ StaysBut held held_after left filled.Piece = ⊤
 StaysBut held held_after left filled.End = (held_after ≡ held) × IsAtEnd left
 StaysBut held held_after left (filled.Stopped stop) = held_after ≡ held
 
--- why reading stops, by the fault that the reader keeps and the turns that are left
-abbrev pub StopsFor : Stop → Option ReadFault → ℕ → Type 0
-StopsFor stops.ReadFault fault left = IsSome fault
-StopsFor stops.TurnsSpent fault left = left ≡ 0
-StopsFor stops.Memory fault left = ⊤
+-- why reading stops, by the fault that the reader kept before and the one that it keeps now, and
+-- the turns that are left
+abbrev pub StopsFor : Stop → Option ReadFault → Option ReadFault → ℕ → Type 0
+StopsFor stops.ReadFault before now left = IsSome now
+StopsFor stops.TurnsSpent before now left = (left ≡ 0) × (now ≡ before)
+StopsFor stops.Memory before now left = now ≡ before
 
--- a read that stops has its cause
-abbrev pub FillStops : Filled → Option ReadFault → ℕ → Type 0
-FillStops filled.Piece fault left = ⊤
-FillStops filled.End fault left = ⊤
-FillStops (filled.Stopped stop) fault left = StopsFor stop fault left
+-- a read that stops has its cause; another one has not failed
+abbrev pub FillStops : Filled → Option ReadFault → Option ReadFault → ℕ → Type 0
+FillStops filled.Piece before now left = now ≡ before
+FillStops filled.End before now left = now ≡ before
+FillStops (filled.Stopped stop) before now left = StopsFor stop before now left
 
--- and so does a head that is not read to its end
-abbrev pub HeadStops : HeadRead → Option ReadFault → ℕ → Type 0
-HeadStops (heads.Head spans body) fault left = ⊤
-HeadStops heads.Nothing fault left = ⊤
-HeadStops (heads.Faulty why) fault left = ⊤
-HeadStops (heads.Stopped stop) fault left = StopsFor stop fault left
+-- and so it is with a head that is not read to its end
+abbrev pub HeadStops : HeadRead → Option ReadFault → Option ReadFault → ℕ → Type 0
+HeadStops (heads.Head spans body) before now left = now ≡ before
+HeadStops heads.Nothing before now left = now ≡ before
+HeadStops (heads.Faulty why) before now left = now ≡ before
+HeadStops (heads.Stopped stop) before now left = StopsFor stop before now left
 
 -- the spans are those of a head that begins the bytes, which says that its body has so many bytes
 pub record StandsAt (held : List ℕ) (headers : List HeaderSpan) (spans : RequestSpans)

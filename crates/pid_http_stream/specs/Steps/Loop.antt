@@ -1,6 +1,6 @@
 -- What the steps of the serving loop do.
 use Rattle.std.specs.Prelude.{◌≡◌, ℕ, ◌+◌, ◌⊎◌, Bool, true, false, List, ◌++◌, drop, Option, Some}
-use Rattle.std.specs.Prelude.{None, Result, Ok, Err, ◌==◌, if◌then◌else◌, ⊤}
+use Rattle.std.specs.Prelude.{None, Result, Ok, Err, ◌==◌, if◌then◌else◌}
 use Rattle.std.specs.Io.KnownBytes.{Appends, IsAtEnd}
 use Rattle.httparse.specs.Spans.{IsRequestAt}
 use Rattle.httparse.specs.declared.spans.HeaderSpan.{HeaderSpan}
@@ -12,7 +12,7 @@ use Rattle.pid_http_stream.specs.Handling.{MayReply}
 use Rattle.pid_http_stream.specs.Replies.{Answer, reply_head, reply_bytes, fault_answer}
 use Rattle.pid_http_stream.specs.Requests.{Request, IsRequest}
 use Rattle.pid_http_stream.specs.Serving.{saturated, Outside, WritesFront, IsWrittenNext}
-use Rattle.pid_http_stream.specs.Serving.{IsCutInBody, is_head_fault}
+use Rattle.pid_http_stream.specs.Serving.{IsCutInBody, RunsOut, is_head_fault}
 use Rattle.pid_http_stream.specs.Streams.{closes}
 use Rattle.pid_http_stream.specs.Unfinished.{IsUnfinished}
 use Rattle.pid_http_stream.specs.declared.judging.StreamFault.{StreamFault}
@@ -20,6 +20,7 @@ use Rattle.pid_http_stream.specs.declared.judging.StreamFault.TheVariants.{BodyS
 use Rattle.pid_http_stream.specs.declared.body_input.BodyFault.{BodyFault}
 use Rattle.pid_http_stream.specs.declared.body_input.BodyFault.TheVariants as faults
 use Rattle.pid_http_stream.specs.declared.handler.Reply.{Reply}
+use Rattle.pid_http_stream.specs.declared.head.Head.{Head}
 use Rattle.pid_http_stream.specs.declared.reply_head.ReplyHead.{ReplyHead}
 use Rattle.pid_http_stream.specs.declared.one_request.Asked.{Asked}
 use Rattle.pid_http_stream.specs.declared.one_request.Asked.TheVariants as asked
@@ -39,12 +40,24 @@ pub record Around (H : Type 0) : Type 0 where
   pub input : Option (List ℕ)
   pub input_after : Option (List ℕ)
 
+abbrev pub around : {H : Type 0} → H → H → Option (List ℕ) → Option (List ℕ) → Around H
+around a b old new = record { a = a; b = b; input = old; input_after = new }
+
 -- a head that begins the bytes held: where its parts are, and the length that it says of its body
 pub record FrontHead : Type 0 where
   pub held : List ℕ
   pub headers : List HeaderSpan
   pub spans : RequestSpans
   pub content_length : ℕ
+
+-- a head over its bytes, whose body has so many
+abbrev pub front_head : Head → ℕ → FrontHead
+front_head head n = record {
+  held = head.bytes.now;
+  headers = head.fields.now;
+  spans = head.spans;
+  content_length = n;
+}
 
 -- what is held after the request that has this head
 abbrev pub held_behind : FrontHead → List ℕ
@@ -64,8 +77,7 @@ abbrev pub IsAskedOver : {H : Type 0} → Conduct H → Around H → Coming → 
 IsAskedOver conduct o c (asked.Reply reply) = (request : Request) × HasCome c request
     × IsRequestAt c.front.held c.front.headers c.front.spans request.head
     × MayReply conduct o.a request reply o.b
-IsAskedOver conduct o c asked.NoMemory = StandsStill conduct o.a o.b
-    ⊎ ((request : Request) × HasCome c request × conduct.leaves o.a request o.b)
+IsAskedOver conduct o c asked.NoMemory = RunsOut conduct o.a (c.front.held ++ c.came) o.b
 IsAskedOver conduct o c (asked.Broken faults.Short) = StandsStill conduct o.a o.b
     × IsAtEnd o.input_after × IsShort (c.front.held ++ c.came)
 IsAskedOver conduct o c (asked.Broken faults.ReadFault) = StandsStill conduct o.a o.b
@@ -164,9 +176,7 @@ EndsWithin conduct o p ends.BodyFault = HasFault p.all BodyShort
     × Appends o.taken o.taken_after (reply_bytes (fault_answer BodyShort) true)
 EndsWithin conduct o p ends.ReadFault = WaitsWithin conduct o p
 EndsWithin conduct o p ends.TurnsSpent = WaitsWithin conduct o p
-EndsWithin conduct o p ends.Memory =
-    (StandsStill conduct o.handler o.handler_after ⊎ ((request : Request) × (behind : List ℕ)
-    × IsRequest p.all request behind × conduct.leaves o.handler request o.handler_after))
+EndsWithin conduct o p ends.Memory = RunsOut conduct o.handler p.came o.handler_after
     × (o.taken_after ≡ o.taken)
 EndsWithin conduct o p ends.Clean = ⊥
 EndsWithin conduct o p ends.Closed = ⊥
@@ -185,6 +195,15 @@ pub record Taken : Type 0 where
   pub held : List ℕ
   pub held_after : List ℕ
 
+-- the request that has this head was taken of what is held
+abbrev pub taken_of : Head → ℕ → Option (List ℕ) → Option (List ℕ) → Taken
+taken_of head n input after = record {
+  input = input;
+  input_after = after;
+  held = head.bytes.now;
+  held_after = drop (head.spans.len + n) head.bytes.now;
+}
+
 -- of what was taken: this came of a request, and this was left of the stream
 abbrev pub portion_of : Taken → List ℕ → List ℕ → Portion
 portion_of t came more =
@@ -199,10 +218,10 @@ pub record Steps {H : Type 0} (conduct : Conduct H) (o : Outside H) (t : Taken)
   pub after : t.input_after ≡ Some more
   pub is : IsStep conduct o (portion_of t came more) result
 
--- if the stream ends within the request, there is a cause
+-- if the stream ends within the request, there is a cause; if not, the reader has not failed
 abbrev pub EndsSo : Answered → LastState → Type 0
-EndsSo answered.Open s = ⊤
-EndsSo answered.Closed s = ⊤
+EndsSo answered.Open s = s.read_fault ≡ s.fault_before
+EndsSo answered.Closed s = s.read_fault ≡ s.fault_before
 EndsSo (answered.Ended end) s = EndsFor end s
 
 -- what becomes of a request whose reply was sent so far

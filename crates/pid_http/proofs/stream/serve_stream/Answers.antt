@@ -3,7 +3,7 @@ use Rattle.pid_http.proofs.Served.{memory_ends, none_read, none_served}
 use Rattle.pid_http.proofs.stream.serve_stream.Goals as goal
 
 pub returns-in_default-clause-served : goal.returns-in_default-clause-served
-returns-in_default-clause-served g c = none_served _ _ _ (g.I.Incoming.to_come c.args.reader.now) (g.I.Incoming.to_come c.args.reader.now)
+returns-in_default-clause-served g c = none_served _ _ _ (g.I.Incoming.to_come c.args.reader.now)
 
 pub returns-in_default-clause-caught_up : goal.returns-in_default-clause-caught_up
 returns-in_default-clause-caught_up g c = none_read _ _ _ (g.I.Incoming.to_come c.args.reader.now) _

@@ -3,7 +3,7 @@ use Rattle.std.proofs.KnownBytes.{Consumes-nil}
 use Rattle.pid_http_stream.specs.BodyLaws.{no_turns}
 use Rattle.pid_http_stream.specs.MomentLaws.{since_none}
 use Rattle.pid_http_stream.specs.Moments.{IsMoment}
-use Rattle.pid_http_stream.proofs.BodyReads.{keeps_nil, one_turn}
+use Rattle.pid_http_stream.proofs.BodyReads.{keeps_nil, one_turn, still_good}
 use Rattle.pid_http_stream.proofs.HeadReads.{nothing_came, none_came, piece_came}
 use Rattle.pid_http_stream.proofs.intake.fill.Goals as goal
 
@@ -50,4 +50,7 @@ pub returns-in-Ok-clause-turns : goal.returns-in-Ok-clause-turns
 returns-in-Ok-clause-turns g c = one_turn _ c.args.turns_left.now _ (search rules) c.read_behind.ensures.count
 
 pub returns-in-Ok-clause-stopped : goal.returns-in-Ok-clause-stopped
-returns-in-Ok-clause-stopped g c = rw c.keep.ensures.piece tt
+returns-in-Ok-clause-stopped g c = rw c.keep.ensures.piece (still_good _ _ _ c.in-Ok.ensures.kept c.in-Ok.ensures.fault)
+
+pub returns-in-Ok-eq0-clause-stopped : goal.returns-in-Ok-eq0-clause-stopped
+returns-in-Ok-eq0-clause-stopped g c = still_good _ _ _ c.in-Ok-eq0.ensures.kept c.in-Ok-eq0.ensures.fault

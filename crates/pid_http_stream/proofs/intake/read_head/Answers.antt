@@ -1,9 +1,9 @@
-use Rattle.std.proofs.Common.{rules, refl, sym, subst, arith, inl}
+use Rattle.std.proofs.Common.{rules, refl, sym, subst, ◌∙◌, arith, inl}
 use Rattle.pid_http_stream.specs.BodyLaws.{no_turns, more_turns}
 use Rattle.pid_http_stream.specs.MomentLaws.{since_none}
 use Rattle.pid_http_stream.specs.Steps.Intakes.{IsHeadRead, WaitsForRequest}
 use Rattle.pid_http_stream.specs.Unfinished.{IsUnfinished}
-use Rattle.pid_http_stream.proofs.HeadReads.{nothing_came, comes_then, any_faulty, waits_on}
+use Rattle.pid_http_stream.proofs.HeadReads.{nothing_came, comes_then, any_faulty, stops_never, stops_since, waits_on}
 use Rattle.pid_http_stream.proofs.intake.read_head.Goals as goal
 
 pub reading-init : goal.reading-init
@@ -11,6 +11,7 @@ reading-init g c = record {
   comes = nothing_came _ _;
   judged = search rules;
   turns = no_turns _;
+  failed = refl;
   pace = omega arith;
   room = search rules;
   waits = since_none (WaitsForRequest _ _ _) _;
@@ -22,6 +23,7 @@ reading-preserved g c = record {
   comes = comes_then _ _ _ _ _ _ c.reading.invariant.comes c.in-Piece.ensures.comes;
   judged = search rules;
   turns = more_turns _ _ _ c.reading.invariant.turns c.in-Piece.ensures.turns;
+  failed = c.in-Piece.ensures.stopped ∙ c.reading.invariant.failed;
   pace = let p = c.in-Piece.ensures.piece refl in omega (arith, c.reading.invariant.pace, p.0, p.1);
   room = search rules;
   waits = waits_on _ _ _ _ _ _ _ _ c.reading.invariant.comes (inl (rw c.in-More.is at c.reading.invariant.judged)) c.reading.invariant.waits c.in-Piece.ensures.noted;
@@ -33,6 +35,9 @@ returns-in-Faulty-clause-head g c = any_faulty _ _ (rw c.in-Faulty.is at c.readi
 
 pub returns-in-Stopped-clause-head : goal.returns-in-Stopped-clause-head
 returns-in-Stopped-clause-head g c = subst IsUnfinished (sym c.in-Stopped.ensures.stays) (inl (rw c.in-More.is at c.reading.invariant.judged))
+
+pub returns-in-Stopped-clause-stopped : goal.returns-in-Stopped-clause-stopped
+returns-in-Stopped-clause-stopped g c = stops_since c.in-Stopped.stop _ _ _ _ c.reading.invariant.failed c.in-Stopped.ensures.stopped
 
 pub returns-in-Stopped-clause-comes : goal.returns-in-Stopped-clause-comes
 returns-in-Stopped-clause-comes g c = comes_then _ _ _ _ _ _ c.reading.invariant.comes c.in-Stopped.ensures.comes
@@ -50,7 +55,7 @@ pub returns-in-End-clause-head : goal.returns-in-End-clause-head
 returns-in-End-clause-head g c = subst (λ l. IsHeadRead l c.reading.fields (g.I.Incoming.to_come c.fill.new.input) c.judge_end.result) c.deref-in-End.ensures.value (c.judge_end.ensures.judged _ _ c.in-End.ensures.stays.1)
 
 pub returns-in-End-clause-stopped : goal.returns-in-End-clause-stopped
-returns-in-End-clause-stopped g c = c.judge_end.ensures.stopped _ _
+returns-in-End-clause-stopped g c = stops_never c.judge_end.result _ _ _ _ c.judge_end.ensures.stopped c.in-End.ensures.stopped c.reading.invariant.failed
 
 pub returns-in-Stopped-clause-waits : goal.returns-in-Stopped-clause-waits
 returns-in-Stopped-clause-waits g c = waits_on _ _ _ _ _ _ _ _ c.reading.invariant.comes (inl (rw c.in-More.is at c.reading.invariant.judged)) c.reading.invariant.waits c.in-Stopped.ensures.noted

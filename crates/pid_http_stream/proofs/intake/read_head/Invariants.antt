@@ -11,6 +11,7 @@ invariant-reading g l = record {
   comes : ComesIn l.fn.held.items l.held.items (g.I.Incoming.to_come l.fn.input) (g.I.Incoming.to_come l.input);
   judged : IsHeadJudged l.held.items l.fields l.judged;
   turns : SpendsTurns (record { reads = g.I.Incoming.reads l.fn.input; left = l.fn.turns_left }) (record { reads = g.I.Incoming.reads l.input; left = l.turns_left });
+  failed : g.I.Incoming.read_fault l.input ≡ g.I.Incoming.read_fault l.fn.input;
   pace : l.turns_left * READ_SIZE + length l.held.items ≤ l.fn.turns_left * READ_SIZE + length l.fn.held.items;
   room : length l.fields ≡ MOST_FIELDS;
   waits : AllSince (WaitsForRequest l.fn.held.items (g.I.Incoming.to_come l.fn.input) (g.W.Output.taken l.output)) (g.I.Incoming.moments l.fn.input) (g.I.Incoming.moments l.input);

@@ -1,6 +1,7 @@
-use Rattle.std.proofs.Common.{rules, arith, sym, subst}
+use Rattle.std.proofs.Common.{rules, arith, refl, sym, subst, ◌∙◌, inl}
 use Rattle.std.specs.Prelude.{IfSome}
 use Rattle.pid_http_stream.specs.BodyLaws.{no_turns, more_turns}
+use Rattle.pid_http_stream.proofs.HeadReads.{stops_since}
 use Rattle.pid_http_stream.proofs.Leading.{stays, turned, joined, beside}
 use Rattle.pid_http_stream.proofs.Looping.{loop_unread, loop_nothing, loop_faulty, loop_stopped, loop_open, loop_closed, loop_ended, loop_waits, loop_waits_within}
 use Rattle.pid_http_stream.proofs.Serving.{IsServing, begins}
@@ -16,6 +17,7 @@ serving-init g c = record {
   becomes = g.met.H.Handler.stays _;
   room = search rules;
   turns = no_turns _;
+  failed = refl;
   goes = g.met.I.Incoming.stays _;
 }
 
@@ -56,6 +58,7 @@ serving-preserved g c = record {
   becomes = g.met.H.Handler.joins _ _ _ c.serving.invariant.becomes c.serve_request.ensures.becomes;
   room = search rules;
   turns = more_turns _ _ _ c.serving.invariant.turns (more_turns _ _ _ c.read_head.ensures.turns c.serve_request.ensures.turns);
+  failed = c.in-Open.ensures.ended ∙ c.in-Head.ensures.stopped ∙ c.serving.invariant.failed;
   goes = g.met.I.Incoming.joins _ _ _ (g.met.I.Incoming.joins _ _ _ c.serving.invariant.goes c.read_head.ensures.goes) c.serve_request.ensures.goes;
 }
 
@@ -84,18 +87,18 @@ pub returns-in-Ended-clause-caught_up : goal.returns-in-Ended-clause-caught_up
 returns-in-Ended-clause-caught_up g c = joined _ _ _ _ _ _ (λ u v w past step. past) (beside _ _ _ _ _ (λ u v w serving past. loop_waits_within _ _ _ _ _ _ _ _ _ _ _ _ _ _ _ _ serving past c.in-Head.ensures.waits c.in-Head.ensures.comes c.deref.ensures.value c.in-Ended.ensures.waits) c.serving.invariant.serving c.serving.invariant.caught_up) c.in-Ended.ensures.stepped
 
 pub returns-in-Nothing-clause-ended : goal.returns-in-Nothing-clause-ended
-returns-in-Nothing-clause-ended g c = record { within = turns_within _ _ (more_turns _ _ _ c.serving.invariant.turns c.in-Nothing.ensures.turns); cause = tt }
+returns-in-Nothing-clause-ended g c = record { within = turns_within _ _ (more_turns _ _ _ c.serving.invariant.turns c.in-Nothing.ensures.turns); cause = tt; failed = inl (c.in-Nothing.ensures.stopped ∙ c.serving.invariant.failed) }
 
 pub returns-in-Faulty-clause-ended : goal.returns-in-Faulty-clause-ended
-returns-in-Faulty-clause-ended g c = refused_ends _ _ _ _ _ (turns_within _ _ (more_turns _ _ _ c.serving.invariant.turns c.in-Faulty.ensures.turns)) c.refuse-end.ensures.refused c.refuse-end.ensures.fault
+returns-in-Faulty-clause-ended g c = refused_ends _ _ _ _ _ (turns_within _ _ (more_turns _ _ _ c.serving.invariant.turns c.in-Faulty.ensures.turns)) (c.in-Faulty.ensures.stopped ∙ c.serving.invariant.failed) c.refuse-end.ensures.refused c.refuse-end.ensures.fault
 
 pub returns-in-Stopped-clause-ended : goal.returns-in-Stopped-clause-ended
 returns-in-Stopped-clause-ended g c =
     let turns = more_turns _ _ _ c.serving.invariant.turns c.in-Stopped.ensures.turns in
-    rw c.end_of-end.ensures (stopped_ends _ c.in-Stopped.stop _ (turns_within _ _ turns) c.in-Stopped.ensures.stopped (λ none few. spent_exactly _ _ turns none few))
+    rw c.end_of-end.ensures (stopped_ends _ c.in-Stopped.stop _ (turns_within _ _ turns) (stops_since c.in-Stopped.stop _ _ _ _ c.serving.invariant.failed c.in-Stopped.ensures.stopped) (λ none few. spent_exactly _ _ turns none few))
 
 pub returns-in-Closed-clause-ended : goal.returns-in-Closed-clause-ended
-returns-in-Closed-clause-ended g c = record { within = turns_within _ _ (more_turns _ _ _ c.serving.invariant.turns (more_turns _ _ _ c.read_head.ensures.turns c.serve_request.ensures.turns)); cause = tt }
+returns-in-Closed-clause-ended g c = record { within = turns_within _ _ (more_turns _ _ _ c.serving.invariant.turns (more_turns _ _ _ c.read_head.ensures.turns c.serve_request.ensures.turns)); cause = tt; failed = inl (c.in-Closed.ensures.ended ∙ c.in-Head.ensures.stopped ∙ c.serving.invariant.failed) }
 
 pub returns-in-Ended-clause-ended : goal.returns-in-Ended-clause-ended
-returns-in-Ended-clause-ended g c = ends_later _ _ _ _ _ _ (more_turns _ _ _ c.serving.invariant.turns c.read_head.ensures.turns) _ c.in-Ended.ensures.ended
+returns-in-Ended-clause-ended g c = ends_later _ _ _ _ _ _ _ _ (c.in-Head.ensures.stopped ∙ c.serving.invariant.failed) (more_turns _ _ _ c.serving.invariant.turns c.read_head.ensures.turns) _ c.in-Ended.ensures.ended

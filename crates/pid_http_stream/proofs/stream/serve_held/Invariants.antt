@@ -18,6 +18,7 @@ invariant-serving g l = record {
   becomes : g.H.Handler.becomes l.fn.handler l.handler;
   room : length l.fields ≡ MOST_FIELDS;
   turns : SpendsTurns (record { reads = g.I.Incoming.reads l.fn.input; left = l.turns }) (record { reads = g.I.Incoming.reads l.input; left = l.turns_left });
+  failed : g.I.Incoming.read_fault l.input ≡ g.I.Incoming.read_fault l.fn.input;
   goes : g.I.Incoming.goes l.fn.input l.input;
 }
 

@@ -1,4 +1,4 @@
-use Rattle.std.proofs.Common.{rules, ◌++◌, length, take, drop, refl, sym, ap, subst, ◌∙◌, ℕ}
+use Rattle.std.proofs.Common.{rules, ◌++◌, length, take, drop, refl, sym, ap, subst, ◌∙◌, ℕ, inl, inr}
 use Rattle.std.specs.Io.KnownBytes.{Consumes}
 use Rattle.std.proofs.KnownBytes.{Consumes-nil}
 use Rattle.std.proofs.lemmas.List.{length-take-le, take-append-drop, take-append-le}
@@ -6,7 +6,7 @@ use Rattle.pid_http_stream.specs.BodyLaws.{no_body_reads, no_turns}
 use Rattle.pid_http_stream.specs.MomentLaws.{since_none}
 use Rattle.pid_http_stream.specs.Moments.{IsMoment}
 use Rattle.pid_http_stream.specs.declared.body_input.BodyFault.TheVariants.{Short, ReadFault, TurnsSpent}
-use Rattle.pid_http_stream.proofs.BodyReads.{held_given, read_given, whole_front, nothing, keeps_same, keeps_padded, keeps_nil, none_of, told_some, told_none, kept_told, none_kept, some_told, gave_held, gave_read, broke_off, one_turn}
+use Rattle.pid_http_stream.proofs.BodyReads.{held_given, read_given, whole_front, nothing, keeps_same, keeps_padded, keeps_nil, none_of, told_some, told_none, kept_told, none_kept, some_told, still_good, gave_held, gave_read, broke_off, one_turn}
 use Rattle.pid_http_stream.proofs.body_input.BodyInputInput.read.Goals as goal
 use Rattle.pid_http_stream.proofs.body_input.BodyInputInput.read.Goals.{then-self-eq0-via-then-self-eq0, then-self-eq0-via-else-self-eq0+then-is_empty}
 
@@ -42,7 +42,7 @@ returns-then-self-eq0-2-clause-goes g c = (
   refl,
   g.met.I.Incoming.stays c.args.self.now.input.now,
   broke_off c.args.self.now.fault (g.I.Incoming.to_come c.args.self.now.input.now) (g.I.Incoming.to_come c.args.self.now.input.now) _ _ _ _ _ _ _ c.args.self.now.wanted c.args.self.now.held.now TurnsSpent
-      (none_of c.args.self.now.fault (search rules)) (Consumes-nil _) (no_turns _) (search rules) (nothing c.args.self.now.held.now (search rules)) (since_none (IsMoment _ _) _) c.if-self-eq0-2.true,
+      (none_of c.args.self.now.fault (search rules)) (Consumes-nil _) (no_turns _) (search rules) (nothing c.args.self.now.held.now (search rules)) (since_none (IsMoment _ _) _) c.if-self-eq0-2.true (inl refl),
 )
 
 pub returns-in-Err-clause-goes : goal.returns-in-Err-clause-goes
@@ -50,7 +50,7 @@ returns-in-Err-clause-goes g c = (
   refl,
   c.read_behind.ensures.goes,
   broke_off c.args.self.now.fault (g.I.Incoming.to_come c.args.self.now.input.now) (g.I.Incoming.to_come c.read_behind.new.self) _ _ _ _ _ _ _ c.args.self.now.wanted c.args.self.now.held.now ReadFault
-      (none_of c.args.self.now.fault (search rules)) (keeps_nil _ _ c.in-Err.ensures.bytes) (one_turn _ c.args.self.now.left _ (search rules) c.read_behind.ensures.count) (search rules) (nothing c.args.self.now.held.now (search rules)) c.in-Err.ensures.noted (some_told _ _ c.in-Err.ensures.fault),
+      (none_of c.args.self.now.fault (search rules)) (keeps_nil _ _ c.in-Err.ensures.bytes) (one_turn _ c.args.self.now.left _ (search rules) c.read_behind.ensures.count) (search rules) (nothing c.args.self.now.held.now (search rules)) c.in-Err.ensures.noted (some_told _ _ c.in-Err.ensures.fault) (inr refl),
 )
 
 pub returns-else-count-eq0-clause-bytes : goal.returns-else-count-eq0-clause-bytes
@@ -65,7 +65,7 @@ returns-else-count-eq0-clause-goes g c = (
   refl,
   c.read_behind.ensures.goes,
   gave_read c.args.self.now.fault (g.I.Incoming.to_come c.args.self.now.input.now) (g.I.Incoming.to_come c.read_behind.new.self) _ _ _ _ _ _ _ c.args.self.now.wanted c.in-Ok.count c.args.self.now.held.now (take c.in-Ok.count c.read_behind.new.buffer)
-      (none_of c.args.self.now.fault (search rules)) (nothing _ (search rules)) c.in-Ok.ensures.bytes.0 (length-take-le c.in-Ok.count c.read_behind.new.buffer c.in-Ok.ensures.room) (search rules) (one_turn _ c.args.self.now.left _ (search rules) c.read_behind.ensures.count) (search rules) c.in-Ok.ensures.noted,
+      (none_of c.args.self.now.fault (search rules)) (nothing _ (search rules)) c.in-Ok.ensures.bytes.0 (length-take-le c.in-Ok.count c.read_behind.new.buffer c.in-Ok.ensures.room) (search rules) (one_turn _ c.args.self.now.left _ (search rules) c.read_behind.ensures.count) (search rules) c.in-Ok.ensures.noted (still_good _ _ _ c.in-Ok.ensures.kept c.in-Ok.ensures.fault),
 )
 
 pub returns-then-count-eq0-clause-goes : goal.returns-then-count-eq0-clause-goes
@@ -74,7 +74,7 @@ returns-then-count-eq0-clause-goes g c = (
   c.read_behind.ensures.goes,
   broke_off c.args.self.now.fault (g.I.Incoming.to_come c.args.self.now.input.now) (g.I.Incoming.to_come c.read_behind.new.self) _ _ _ _ _ _ _ c.args.self.now.wanted c.args.self.now.held.now Short
       (none_of c.args.self.now.fault (search rules)) (subst (Consumes _ _) (ap (λ (n : ℕ). take n c.read_behind.new.buffer) c.if-count-eq0.true) c.in-Ok.ensures.bytes.0) (one_turn _ c.args.self.now.left _ (search rules) c.read_behind.ensures.count) (search rules) (nothing c.args.self.now.held.now (search rules)) c.in-Ok.ensures.noted
-      (c.in-Ok.ensures.bytes.1 c.if-count-eq0.true (search rules)),
+      (c.in-Ok.ensures.bytes.1 c.if-count-eq0.true (search rules)) (inl (still_good _ _ _ c.in-Ok.ensures.kept c.in-Ok.ensures.fault)),
 )
 
 pub returns-then-is_some-clause-bytes : goal.returns-then-is_some-clause-bytes
