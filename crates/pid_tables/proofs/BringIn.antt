@@ -69,7 +69,7 @@ module _ {K : Type 0} (puts : K → Item → Put → K → Type 0) (gives_up : K
       (at, faulty h command g (file_reading text) faults.TooMany import open_ (short_reading text put.ends.0.short ∙ ap (λ (o : Option ReadRefusal). read_as o (entries_of (lines_of text))) no))
   left_stops (ends.Cut (cuts.Refused reads.Memory)) stop s h command g is put import open_ at =
       subst (λ (x : Stop). EndsImport (Err x) s h (asked command (file_reading text))) (sym is) (leaves_first s _ _ at, inl refl)
-  left_stops (ends.Cut (cuts.Fault f)) stop s h command g (e, is, fault) put import open_ at =
+  left_stops (ends.Cut (cuts.Fault f)) stop s h command g (e, is, fault, same) put import open_ at =
       subst (λ (x : Stop). EndsImport (Err x) s h (asked command (file_reading text))) (sym is) (leaves_first s _ _ at, fault)
 
 pub body_end : (end : InputEnd TableFault) (stop : Stop) → IsStopOf end stop → stop ≡ stops.Body → end ≡ ends.ReadFault
@@ -78,7 +78,7 @@ body_end ends.TooLong stop is body = absurd (let e = sym is ∙ body in let no :
 body_end (ends.Cut (cuts.Refused (reads.Line line kind))) stop is body = absurd (let e = sym is ∙ body in let no : ⊥ = cc in no)
 body_end (ends.Cut (cuts.Refused reads.TooManyEntries)) stop is body = absurd (let e = sym is ∙ body in let no : ⊥ = cc in no)
 body_end (ends.Cut (cuts.Refused reads.Memory)) stop is body = absurd (let e = sym is ∙ body in let no : ⊥ = cc in no)
-body_end (ends.Cut (cuts.Fault f)) stop (x, is, fault) body = absurd (let e = sym is ∙ body in let no : ⊥ = cc in no)
+body_end (ends.Cut (cuts.Fault f)) stop (x, is, fault, same) body = absurd (let e = sym is ∙ body in let no : ⊥ = cc in no)
 
 pub end_body : (end : InputEnd TableFault) (stop : Stop) → IsStopOf end stop → end ≡ ends.ReadFault → stop ≡ stops.Body
 end_body end stop is fault = subst (λ (e : InputEnd TableFault). IsStopOf e stop) fault is
@@ -109,4 +109,4 @@ stop_live ends.TooLong stop is = subst StopIsNotFailed (sym is) (λ bad. let no 
 stop_live (ends.Cut (cuts.Refused (reads.Line line kind))) stop is = subst StopIsNotFailed (sym is) (λ bad. let no : ⊥ = cc in no)
 stop_live (ends.Cut (cuts.Refused reads.TooManyEntries)) stop is = subst StopIsNotFailed (sym is) (λ bad. let no : ⊥ = cc in no)
 stop_live (ends.Cut (cuts.Refused reads.Memory)) stop is = subst StopIsNotFailed (sym is) (λ bad. let no : ⊥ = cc in no)
-stop_live (ends.Cut (cuts.Fault f)) stop (e, is, fault) = subst StopIsNotFailed (sym is) (fault_live e fault)
+stop_live (ends.Cut (cuts.Fault f)) stop (e, is, fault, same) = subst StopIsNotFailed (sym is) (fault_live e fault)

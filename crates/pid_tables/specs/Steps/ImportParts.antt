@@ -22,7 +22,7 @@ use Rattle.pid_tables.specs.Applies.{CountsFit}
 use Rattle.pid_tables.specs.declared.put_file.Stop.{Stop}
 use Rattle.pid_tables.specs.declared.put_file.Stop.TheVariants as stops
 use Rattle.pid_tables.specs.declared.tally.Tally.{Tally}
-use Rattle.pid_tables.specs.Faults.{IsMemoryOrStore}
+use Rattle.pid_tables.specs.Faults.{IsMemoryOrStore, refusal_for}
 use Rattle.pid_tables.specs.Files.{fault_as}
 use Rattle.pid_tables.specs.Steps.Tallies.{tally_of}
 use Rattle.pid_tables.specs.Importing.{RefusesImport}
@@ -56,4 +56,5 @@ IsStopOf (ends.Cut (cuts.Refused (reads.Line line kind))) stop = stop
 IsStopOf (ends.Cut (cuts.Refused reads.TooManyEntries)) stop = stop
     ≡ stops.Refused (refusals.FileFault (fault_as reads.TooManyEntries))
 IsStopOf (ends.Cut (cuts.Refused reads.Memory)) stop = stop ≡ stops.Failed refusals.Memory
-IsStopOf (ends.Cut (cuts.Fault f)) stop = (e : Refusal) × (stop ≡ stops.Failed e) × IsMemoryOrStore e
+IsStopOf (ends.Cut (cuts.Fault f)) stop = (e : Refusal) × (stop ≡ stops.Failed e)
+    × IsMemoryOrStore e × (e ≡ refusal_for f)
