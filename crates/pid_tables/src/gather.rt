@@ -77,15 +77,16 @@ fn named<S: Alter>(
     ensures { Reads S.Store conn.old conn.new result (λ v named. named ≡ named_in v number) }
 {
     let remarks = remark_count(conn, number)?;
-    match standing(conn, alloc, number)? {
-        None => Ok(None),
-        Some(found) => Ok(Some(Named {
+    match standing(conn, alloc, number) {
+        Ok(None) => Ok(None),
+        Ok(Some(found)) => Ok(Some(Named {
             author: found.author,
             path: found.path,
             proposal: found.proposal,
             state: found.state,
             remarks,
         })),
+        Err(fault) => Err(fault),
     }
 }
 
@@ -128,7 +129,10 @@ fn has_parent<S: Alter>(
 {
     match path.parent() {
         None => Ok(true),
-        Some(parent) => Ok(name_of(conn, alloc, &parent)?.is_some()),
+        Some(parent) => match name_of(conn, alloc, &parent) {
+            Ok(name) => Ok(name.is_some()),
+            Err(fault) => Err(fault),
+        },
     }
 }
 

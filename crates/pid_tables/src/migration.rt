@@ -163,14 +163,14 @@ fn bring<S: Alter>(conn: &mut Connection<S>, found: Option<Version>) -> Result<S
     ensures never { HasCleanDisk S.Store conn.new → IfErr result IsNotNewerSchema }
 {
     match found {
-        None => {
-            create(conn)?;
-            Ok(Step::Created)
-        }
-        Some(Version::One) => {
-            move_up(conn)?;
-            Ok(Step::Moved)
-        }
+        None => match create(conn) {
+            Ok(()) => Ok(Step::Created),
+            Err(fault) => Err(fault),
+        },
+        Some(Version::One) => match move_up(conn) {
+            Ok(()) => Ok(Step::Moved),
+            Err(fault) => Err(fault),
+        },
         Some(Version::Two) => Ok(Step::Already),
     }
 }
