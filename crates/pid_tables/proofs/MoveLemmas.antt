@@ -94,3 +94,8 @@ not_ok (Err y) e P h = tt
 pub not_on_ok : {X : Type 0} (r : Result X TableFault) (e : TableFault) (P : Type 0) → IsErrAnd r (λ y. y ≡ e) → OnOk r P
 not_on_ok (Ok x) e P h = absurd h
 not_on_ok (Err y) e P h = tt
+
+-- what is known needs no value
+pub known : {X E P : Type 0} (r : Result X E) → P → OnOk r P
+known (Ok x) p = p
+known (Err e) p = tt

@@ -209,6 +209,9 @@ pub(crate) fn gather_facts<S: Alter>(
     let mut facts = known(conn, account, key)?;
     match add_rows(conn, alloc, rows, &mut facts) {
         Ok(()) => Ok(facts),
-        Err(fault) => Err(fault),
+        Err(fault) => {
+            drop(facts);
+            Err(fault)
+        }
     }
 }

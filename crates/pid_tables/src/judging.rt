@@ -48,7 +48,10 @@ pub fn judge_import<S: Alter + Drop>(
         Ok(items) => match tables.gather(alloc, &command.account, &command.key, Rows::Nothing) {
             Err(fault) => Early::Answered(Err(refusal_of(fault))),
             Ok(facts) => match before_file(&facts) {
-                Some(answer) => Early::Answered(answer),
+                Some(answer) => {
+                    drop(facts);
+                    Early::Answered(answer)
+                }
                 None => Early::Open { facts, items },
             },
         },

@@ -147,10 +147,14 @@ fn apply_file<S: Alter>(
     laws::texts_read_to_files(); // proof only
     match judge_file(facts, items, tally, command) {
         Err(refusal) => Err(Stop::Refused(refusal)),
-        Ok((change, reply)) => match apply(batch, alloc, &change) {
-            Ok(()) => Ok(reply),
-            Err(fault) => Err(Stop::Failed(refusal_of(fault))),
-        },
+        Ok((change, reply)) => {
+            let applied = apply(batch, alloc, &change);
+            drop(change);
+            match applied {
+                Ok(()) => Ok(reply),
+                Err(fault) => Err(Stop::Failed(refusal_of(fault))),
+            }
+        }
     }
 }
 

@@ -3,10 +3,19 @@ use Rattle.sqlite.specs.Held.{state}
 use Rattle.pid_moderation.specs.Views.{views_of}
 use Rattle.pid_tables_rows.proofs.CauseLemmas.{caused_later}
 use Rattle.pid_tables_rows.proofs.OnlyReading.{reads_then}
-use Rattle.pid_tables.proofs.EarlyCauses.{caused_as}
+use Rattle.pid_tables.proofs.EarlyCauses.{caused_as, settled_once, settled_caused}
 use Rattle.pid_tables.proofs.judging.judge_import.Goals as goal
 
 -- ---- no count of items
+
+pub returns-in-Err-clause-rests : goal.returns-in-Err-clause-rests
+returns-in-Err-clause-rests g c = c.items.ensures.rests
+
+pub returns-in-Err-clause-judged : goal.returns-in-Err-clause-judged
+returns-in-Err-clause-judged g c clean h sound rest = inr c.refusal_of.ensures.fault
+
+pub returns-in-Err-clause-alive : goal.returns-in-Err-clause-alive
+returns-in-Err-clause-alive g c = c.refusal_of.ensures.alive
 
 pub returns-in-Err-clause-caused : goal.returns-in-Err-clause-caused
 returns-in-Err-clause-caused g c clean h sound rest =
@@ -14,6 +23,12 @@ returns-in-Err-clause-caused g c clean h sound rest =
     (c.in-Err.ensures.told clean (views_of h) rest (c.views_of_sound_histories.ensures.readable h sound)))
 
 -- ---- no facts
+
+pub returns-in-Err-gather-clause-judged : goal.returns-in-Err-gather-clause-judged
+returns-in-Err-gather-clause-judged g c clean h sound rest = inr c.refusal_of-in-Err-gather.ensures.fault
+
+pub returns-in-Err-gather-clause-alive : goal.returns-in-Err-gather-clause-alive
+returns-in-Err-gather-clause-alive g c = c.refusal_of-in-Err-gather.ensures.alive
 
 pub returns-in-Err-gather-clause-rests : goal.returns-in-Err-gather-clause-rests
 returns-in-Err-gather-clause-rests g c = reads_then _ _ _ c.items.ensures.rests c.gather.ensures.rests
@@ -32,6 +47,21 @@ returns-in-Err-gather-clause-caused g c clean h sound rest =
 
 pub returns-in-Some-clause-rests : goal.returns-in-Some-clause-rests
 returns-in-Some-clause-rests g c = reads_then _ _ _ c.items.ensures.rests c.gather.ensures.rests
+
+pub returns-in-Some-clause-judged : goal.returns-in-Some-clause-judged
+returns-in-Some-clause-judged g c clean h sound rest =
+    let kept = c.items.ensures.rests.kept (views_of h) rest in
+    let facts = c.in-Ok-gather.ensures.told clean (views_of h) kept (c.views_of_sound_histories.ensures.items h sound) (c.views_of_sound_histories.ensures.parents h sound) in
+    settled_once h c.args.command.now c.in-Some.answer (c.in-Some.ensures.settled h _ _ facts)
+
+pub returns-in-Some-clause-caused : goal.returns-in-Some-clause-caused
+returns-in-Some-clause-caused g c clean h sound rest =
+    let kept = c.items.ensures.rests.kept (views_of h) rest in
+    let facts = c.in-Ok-gather.ensures.told clean (views_of h) kept (c.views_of_sound_histories.ensures.items h sound) (c.views_of_sound_histories.ensures.parents h sound) in
+    settled_caused (state g.S.Store c.args.tables.now.conn) (state g.S.Store c.gather.new.self.conn) h c.args.command.now c.in-Some.answer (c.in-Some.ensures.settled h _ _ facts)
+
+pub returns-in-Some-clause-alive : goal.returns-in-Some-clause-alive
+returns-in-Some-clause-alive g c = c.in-Some.ensures.alive
 
 pub returns-in-None-clause-rests : goal.returns-in-None-clause-rests
 returns-in-None-clause-rests g c = reads_then _ _ _ c.items.ensures.rests c.gather.ensures.rests

@@ -1,17 +1,13 @@
-use Rattle.std.proofs.Common.{Ok, Err, Result, OnOk, refl, sym, subst, ◌∙◌}
+use Rattle.std.proofs.Common.{refl, sym, subst, ◌∙◌}
 use Rattle.sqlite.specs.Effect.{Database}
 use Rattle.pid_tables_rows.specs.Faults.{IsMemoryOrStore}
 use Rattle.pid_tables_rows.specs.Shows.{ShowsKeeping}
 use Rattle.pid_tables_rows.proofs.CauseLemmas.{passed_from}
 use Rattle.pid_tables_rows.proofs.OnlyReading.{reads_then}
 use Rattle.pid_tables_check.specs.Shapes.{HasSomeTable}
-use Rattle.pid_tables.proofs.MoveLemmas.{not_ok, not_on_ok}
+use Rattle.pid_tables.proofs.MoveLemmas.{known, not_ok, not_on_ok}
 use Rattle.pid_tables.proofs.StandLemmas.{tables_some, named_before}
 use Rattle.pid_tables.proofs.migration.is_current.Goals as goal
-
-known : {X E P : Type 0} (r : Result X E) → P → OnOk r P
-known (Ok x) p = p
-known (Err e) p = tt
 
 pub returns-then-branch-clause-shown : goal.returns-then-branch-clause-shown
 returns-then-branch-clause-shown g c clean version counts numbers v shows =

@@ -15,16 +15,16 @@ use Rattle.pid_tables.proofs.put_file.apply_file.Goals as goal
 pub returns-in-Err-clause-applied : goal.returns-in-Err-clause-applied
 returns-in-Err-clause-applied g c h text n marked is open_ many was next within = c.in-Err.ensures.judged h text marked is open_ many was
 
-pub returns-in-Ok-apply-clause-applied : goal.returns-in-Ok-apply-clause-applied
-returns-in-Ok-apply-clause-applied g c h text n marked is open_ many was next within =
+pub returns-in-Ok-applied-clause-applied : goal.returns-in-Ok-applied-clause-applied
+returns-in-Ok-applied-clause-applied g c h text n marked is open_ many was next within =
     let v = views_of h in
     let pairs = entries_of (lines_of text) in
     let judged = c.in-Ok.ensures.judged h text marked is open_ many was in
     let number : n ≡ v.revision + 1 = next_is h c.args.command.now c.args.facts.now n open_ next judged.0 in
     let put : put_in_turn n pairs v ≡ with_pairs pairs v = in_turn n pairs v (c.texts_read_to_files.ensures.entries text was.good).apart ∙ ap (λ (m : ℕ). with_items m (imported pairs v.items) v) number in
     let begun = subst (λ (w : Views). Within (counts_of v) (state g.S.Store c.args.batch.now.conn.now) v w) put within in
-    let done = c.in-Ok-apply.ensures.applied (counts_of v) v (with_pairs pairs v) begun judged.4 judged.3 in
-    (judged.1, subst (λ (w : Views). Written (counts_of w) (state g.S.Store c.apply.new.batch.conn.now) v w) (sym judged.2) done)
+    let done = c.in-Ok-applied.ensures.applied (counts_of v) v (with_pairs pairs v) begun judged.4 judged.3 in
+    (judged.1, subst (λ (w : Views). Written (counts_of w) (state g.S.Store c.apply-applied.new.batch.conn.now) v w) (sym judged.2) done)
 
-pub returns-clause-applied : goal.returns-clause-applied
-returns-clause-applied g c h text n marked is open_ many was next within = c.refusal_of.ensures.fault
+pub returns-in-Err-applied-clause-applied : goal.returns-in-Err-applied-clause-applied
+returns-in-Err-applied-clause-applied g c h text n marked is open_ many was next within = c.refusal_of.ensures.fault

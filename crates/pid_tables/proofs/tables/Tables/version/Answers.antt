@@ -2,15 +2,16 @@ use Rattle.std.proofs.Common.{◌≡◌, codes, IfOk, IfErr, MatchResult, refl, 
 use Rattle.sqlite.specs.Effect.{Database}
 use Rattle.sqlite.specs.Held.{state}
 use Rattle.pid_tables_rows.specs.declared.version.Version.TheVariants.{One}
-use Rattle.pid_tables_rows.specs.Causes.{IsReadable}
+use Rattle.pid_tables_rows.specs.Causes.{IsCaused, IsReadable}
 use Rattle.pid_tables_rows.specs.Faults.{IsMemoryOrStore, IsNotNewerSchema}
 use Rattle.pid_tables_rows.specs.LabelRows.{ExplainsNumber, HasLabel, IsDamageOf, LacksNumber, ShowsNoNumber, ShowsNumber}
 use Rattle.pid_tables_rows.specs.Shows.{ShowsIn}
 use Rattle.pid_tables_rows.proofs.CauseLemmas.{passed_from, passed_on}
+use Rattle.pid_tables_rows.proofs.OnlyReading.{reads_then}
 use Rattle.pid_tables_check.proofs.Later.{untold_never}
 use Rattle.pid_tables_check.proofs.Complete.{complete, complete_first, each_some}
 use Rattle.pid_tables_check.specs.Shapes.{IsMadeFirst}
-use Rattle.pid_tables.proofs.MoveLemmas.{not_ok}
+use Rattle.pid_tables.proofs.MoveLemmas.{known, not_ok, not_on_ok}
 use Rattle.pid_tables.proofs.SchemaNumbers.{bad_of, caused_all, good_of, number_told, untold_damage}
 use Rattle.pid_tables.proofs.StandLemmas.{exactly_first, meta_first}
 use Rattle.pid_tables.proofs.tables.Tables.version.Goals as goal
@@ -75,3 +76,33 @@ returns-else-branch-clause-shown g c =
 
 pub returns-in_err-has_some_table-clause-never : goal.returns-in_err-has_some_table-clause-never
 returns-in_err-has_some_table-clause-never g c = passed_from c.from_residual.result _ IsNotNewerSchema c.from_residual.ensures.1 (untold_never _ c.in_err-has_some_table.ensures.untold)
+
+-- ---- what goes through
+
+pub returns-in_err-has_some_table-clause-rests : goal.returns-in_err-has_some_table-clause-rests
+returns-in_err-has_some_table-clause-rests g c = c.has_some_table.ensures.reads.rests
+
+pub returns-in_err-has_some_table-clause-told : goal.returns-in_err-has_some_table-clause-told
+returns-in_err-has_some_table-clause-told g c clean v rest =
+    passed_on c.from_residual.result _ _ (λ fault. IsReadable v → IsCaused (state g.S.Store c.args.self.now.conn) (state g.S.Store c.has_some_table.new.conn) fault) c.from_residual.ensures.1 (c.in_err-has_some_table.ensures.reads.told clean v rest)
+
+pub returns-in_err-has_some_table-clause-was_open : goal.returns-in_err-has_some_table-clause-was_open
+returns-in_err-has_some_table-clause-was_open g c clean = not_on_ok c.from_residual.result _ _ c.from_residual.ensures.1
+
+pub returns-then-branch-clause-rests : goal.returns-then-branch-clause-rests
+returns-then-branch-clause-rests g c = reads_then _ _ _ c.has_some_table.ensures.reads.rests c.schema_number.ensures.reads.rests
+
+pub returns-then-branch-clause-was_open : goal.returns-then-branch-clause-was_open
+returns-then-branch-clause-was_open g c clean = known c.schema_number.result (c.in_ok-has_some_table.ensures.was_open (c.schema_number.ensures.reads.rests.clean clean))
+
+pub returns-then-branch-clause-never : goal.returns-then-branch-clause-never
+returns-then-branch-clause-never g c = c.schema_number.ensures.never
+
+pub returns-else-branch-clause-rests : goal.returns-else-branch-clause-rests
+returns-else-branch-clause-rests g c = c.has_some_table.ensures.reads.rests
+
+pub returns-else-branch-clause-told : goal.returns-else-branch-clause-told
+returns-else-branch-clause-told g c clean v rest = absurd (let both = sym (c.in_ok-has_some_table.ensures.reads.told clean v rest) ∙ c.if-branch.false in cc)
+
+pub returns-else-branch-clause-was_open : goal.returns-else-branch-clause-was_open
+returns-else-branch-clause-was_open g c clean = c.in_ok-has_some_table.ensures.was_open clean
