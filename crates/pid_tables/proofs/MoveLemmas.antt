@@ -17,7 +17,7 @@ use Rattle.pid_tables_rows.specs.Causes.{IsCaused}
 use Rattle.pid_tables_rows.specs.Faults.{IsMemoryOrStore, IsNotNewerSchema}
 use Rattle.pid_tables_rows.specs.Leaves.{GoesOn, RestsIn}
 use Rattle.pid_tables_rows.specs.Shows.{Shows, ShowsIn}
-use Rattle.pid_tables_rows.proofs.GoingLemmas.{earlier}
+use Rattle.pid_tables_rows.proofs.GoingLemmas.{earlier, goes_then}
 use Rattle.pid_tables_rows.proofs.LeaveLemmas.{shows_found}
 use Rattle.pid_tables_check.proofs.Later.{untold_never}
 use Rattle.pid_tables.specs.Creation.{IsUndone}
@@ -99,3 +99,18 @@ not_on_ok (Err y) e P h = tt
 pub known : {X E P : Type 0} (r : Result X E) → P → OnOk r P
 known (Ok x) p = p
 known (Err e) p = tt
+
+-- ---- calls in a transaction
+
+pub goes_value : {X Y : Type 0} (a b : State) (x : X) (y : Y) → GoesOn {E = TableFault} a b (Ok x) → GoesOn {E = TableFault} a b (Ok y)
+goes_value a b x y goes = record { survives = goes.survives; was_open = goes.was_open; committed = goes.committed; going = goes.going }
+
+pub goes_fault : {X Y : Type 0} (a b : State) (e : TableFault) (r : Result Y TableFault) → IsErrAnd r (λ y. y ≡ e) → GoesOn {X = X} a b (Err e) → GoesOn a b r
+goes_fault a b e r is goes = record { survives = goes.survives; was_open = goes.was_open; committed = goes.committed; going = λ clean inside. not_on_ok r e _ is }
+
+pub goes_fault_after : {X Y Z : Type 0} (a b c : State) (x : X) (e : TableFault) (r : Result Z TableFault) → IsErrAnd r (λ y. y ≡ e) → GoesOn {E = TableFault} a b (Ok x) → GoesOn {X = Y} b c (Err e) → GoesOn a c r
+goes_fault_after a b c x e r is one two = goes_fault a c e r is (goes_then a b c x (Err e) one two)
+
+-- a fault of one's own, after a call that answered a value
+pub goes_lost : {X Y : Type 0} (a b : State) (x : X) (e : TableFault) (r : Result Y TableFault) → IsErrAnd r (λ y. y ≡ e) → GoesOn {E = TableFault} a b (Ok x) → GoesOn a b r
+goes_lost a b x e r is goes = record { survives = goes.survives; was_open = goes.was_open; committed = goes.committed; going = λ clean inside. not_on_ok r e _ is }

@@ -1,4 +1,4 @@
-use Rattle.std.proofs.Common.{ℕ, List, [], ◌∷◌, ◌++◌, None, refl, codes}
+use Rattle.std.proofs.Common.{ℕ, List, [], ◌∷◌, ◌++◌, None, Ok, refl, codes}
 use Rattle.sqlite.specs.Held.{state}
 use Rattle.sqlite.specs.declared.types.Value.TheVariants.{Text}
 use Rattle.pid_tables_rows.specs.TableRows.{number}
@@ -7,7 +7,8 @@ use Rattle.pid_tables.proofs.Carrying.{carried_both, carried_then}
 use Rattle.pid_tables.specs.Steps.MakingTables.{with_label}
 use Rattle.pid_tables_rows.specs.Faults.{IsMemoryOrStore, IsNotNewerSchema}
 use Rattle.pid_tables_rows.proofs.CauseLemmas.{passed_on, passed_from}
-use Rattle.pid_tables_rows.proofs.GoingLemmas.{earlier}
+use Rattle.pid_tables_rows.proofs.GoingLemmas.{earlier, goes_then}
+use Rattle.pid_tables.proofs.MoveLemmas.{goes_fault, goes_fault_after, not_on_ok}
 use Rattle.pid_tables.proofs.creation.add_labels.Goals as goal
 
 pub returns-clause-added : goal.returns-clause-added
@@ -84,3 +85,40 @@ returns-clause-carried g c clean inside =
     (carried_both g.S.Store (revision ++ submissions) items start b d
     (carried_both g.S.Store revision submissions start a b (one.carried first inside) (two.carried second in_one)) (three.carried third in_two))
     (c.add_label-4.ensures.carried clean (three.goes.going third in_two).1)
+
+-- ---- what the transaction goes on with
+
+pub returns-in_err-add_label-clause-goes : goal.returns-in_err-add_label-clause-goes
+returns-in_err-add_label-clause-goes g c =
+    goes_fault (state g.S.Store c.args.tx.now.conn.now) (state g.S.Store c.add_label.new.tx.conn.now) _ c.from_residual.result c.from_residual.ensures.1 c.in_err-add_label.ensures.goes
+
+pub returns-in_err-add_label-2-clause-goes : goal.returns-in_err-add_label-2-clause-goes
+returns-in_err-add_label-2-clause-goes g c =
+    goes_fault_after (state g.S.Store c.args.tx.now.conn.now) (state g.S.Store c.add_label.new.tx.conn.now) (state g.S.Store c.add_label-2.new.tx.conn.now) _ _
+    c.from_residual-in_err-add_label-2.result c.from_residual-in_err-add_label-2.ensures.1 c.in_ok-add_label.ensures.goes c.in_err-add_label-2.ensures.goes
+
+pub returns-in_err-add_label-3-clause-goes : goal.returns-in_err-add_label-3-clause-goes
+returns-in_err-add_label-3-clause-goes g c =
+    let start = state g.S.Store c.args.tx.now.conn.now in
+    let a = state g.S.Store c.add_label.new.tx.conn.now in
+    let b = state g.S.Store c.add_label-2.new.tx.conn.now in
+    goes_fault_after start b (state g.S.Store c.add_label-3.new.tx.conn.now) _ _ c.from_residual-in_err-add_label-3.result c.from_residual-in_err-add_label-3.ensures.1
+    (goes_then start a b _ (Ok c.in_ok-add_label-2.field-0) c.in_ok-add_label.ensures.goes c.in_ok-add_label-2.ensures.goes) c.in_err-add_label-3.ensures.goes
+
+pub returns-clause-goes : goal.returns-clause-goes
+returns-clause-goes g c =
+    let a = state g.S.Store c.add_label.new.tx.conn.now in
+    let b = state g.S.Store c.add_label-2.new.tx.conn.now in
+    let end = state g.S.Store c.add_label-4.new.tx.conn.now in
+    goes_then (state g.S.Store c.args.tx.now.conn.now) a end _ c.add_label-4.result c.in_ok-add_label.ensures.goes
+    (goes_then a b end _ c.add_label-4.result c.in_ok-add_label-2.ensures.goes
+    (goes_then b (state g.S.Store c.add_label-3.new.tx.conn.now) end _ c.add_label-4.result c.in_ok-add_label-3.ensures.goes c.add_label-4.ensures.goes))
+
+pub returns-in_err-add_label-clause-carried : goal.returns-in_err-add_label-clause-carried
+returns-in_err-add_label-clause-carried g c clean inside = not_on_ok c.from_residual.result _ _ c.from_residual.ensures.1
+
+pub returns-in_err-add_label-2-clause-carried : goal.returns-in_err-add_label-2-clause-carried
+returns-in_err-add_label-2-clause-carried g c clean inside = not_on_ok c.from_residual-in_err-add_label-2.result _ _ c.from_residual-in_err-add_label-2.ensures.1
+
+pub returns-in_err-add_label-3-clause-carried : goal.returns-in_err-add_label-3-clause-carried
+returns-in_err-add_label-3-clause-carried g c clean inside = not_on_ok c.from_residual-in_err-add_label-3.result _ _ c.from_residual-in_err-add_label-3.ensures.1

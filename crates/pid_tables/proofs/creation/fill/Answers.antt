@@ -2,11 +2,12 @@ use Rattle.std.proofs.Common.{[], ◌∷◌, ◌++◌, refl}
 use Rattle.sqlite.specs.Held.{state}
 use Rattle.pid_tables_rows.specs.Faults.{IsNotNewerSchema}
 use Rattle.pid_tables_rows.proofs.CauseLemmas.{passed_on, passed_from}
-use Rattle.pid_tables_rows.proofs.GoingLemmas.{earlier}
+use Rattle.pid_tables_rows.proofs.GoingLemmas.{earlier, goes_then}
 use Rattle.pid_tables.specs.Creation.{IsFaultOfTaken}
 use Rattle.pid_tables.specs.Steps.Making.{all_statements, label_statements, root_statement}
 use Rattle.pid_tables.proofs.Carrying.{carried_both, carried_then}
 use Rattle.pid_tables.proofs.CreateLemmas.{all_made, shows_nothing, nothing_yet}
+use Rattle.pid_tables.proofs.MoveLemmas.{goes_fault, goes_fault_after, not_on_ok}
 use Rattle.pid_tables.proofs.MetLemmas.{none_met}
 use Rattle.pid_tables.proofs.creation.fill.Goals as goal
 
@@ -83,3 +84,27 @@ returns-clause-carried g c clean inside =
     carried_then g.S.Store (all_statements ++ label_statements) (root_statement ∷ []) a d e c.add_root.result
     (carried_both g.S.Store all_statements label_statements a b d (one.carried first inside) (two.carried second within))
     (c.add_root.ensures.carried clean (two.goes.going second within).1)
+
+-- ---- what the transaction goes on with
+
+pub returns-in_err-make_tables-clause-goes : goal.returns-in_err-make_tables-clause-goes
+returns-in_err-make_tables-clause-goes g c =
+    goes_fault (state g.S.Store c.args.tx.now.conn.now) (state g.S.Store c.make_tables.new.tx.conn.now) _ c.from_residual.result c.from_residual.ensures.1 c.in_err-make_tables.ensures.goes
+
+pub returns-in_err-add_labels-clause-goes : goal.returns-in_err-add_labels-clause-goes
+returns-in_err-add_labels-clause-goes g c =
+    goes_fault_after (state g.S.Store c.args.tx.now.conn.now) (state g.S.Store c.make_tables.new.tx.conn.now) (state g.S.Store c.add_labels.new.tx.conn.now) _ _
+    c.from_residual-in_err-add_labels.result c.from_residual-in_err-add_labels.ensures.1 c.in_ok-make_tables.ensures.goes c.in_err-add_labels.ensures.goes
+
+pub returns-clause-goes : goal.returns-clause-goes
+returns-clause-goes g c =
+    let b = state g.S.Store c.make_tables.new.tx.conn.now in
+    let e = state g.S.Store c.add_root.new.tx.conn.now in
+    goes_then (state g.S.Store c.args.tx.now.conn.now) b e _ c.add_root.result c.in_ok-make_tables.ensures.goes
+    (goes_then b (state g.S.Store c.add_labels.new.tx.conn.now) e _ c.add_root.result c.in_ok-add_labels.ensures.goes c.add_root.ensures.goes)
+
+pub returns-in_err-make_tables-clause-carried : goal.returns-in_err-make_tables-clause-carried
+returns-in_err-make_tables-clause-carried g c clean inside = not_on_ok c.from_residual.result _ _ c.from_residual.ensures.1
+
+pub returns-in_err-add_labels-clause-carried : goal.returns-in_err-add_labels-clause-carried
+returns-in_err-add_labels-clause-carried g c clean inside = not_on_ok c.from_residual-in_err-add_labels.result _ _ c.from_residual-in_err-add_labels.ensures.1

@@ -3,12 +3,13 @@ use Rattle.sqlite.specs.Held.{state}
 use Rattle.pid_tables_rows.specs.Faults.{IsMemoryOrStore, IsNotNewerSchema}
 use Rattle.pid_tables_rows.specs.Schema.{meta, account, item, submission, remark, receipt}
 use Rattle.pid_tables_rows.proofs.CauseLemmas.{passed_on}
-use Rattle.pid_tables_rows.proofs.GoingLemmas.{earlier}
+use Rattle.pid_tables_rows.proofs.GoingLemmas.{earlier, goes_then}
 use Rattle.pid_tables.specs.Statements.{submission_text, remark_text, receipt_text}
 use Rattle.pid_tables.proofs.Carrying.{carried_both, carried_then}
 use Rattle.pid_tables.proofs.CreateTexts.{submission_creates, remark_creates, receipt_creates}
 use Rattle.pid_tables.proofs.MakerTexts.{submission_maker, remark_maker, receipt_maker}
 use Rattle.pid_tables.proofs.MetLemmas.{took_then, took_both}
+use Rattle.pid_tables.proofs.MoveLemmas.{goes_fault, goes_fault_after, not_on_ok}
 use Rattle.pid_tables.proofs.creation.make_rest.Goals as goal
 
 pub returns-in_err-make_table-clause-made : goal.returns-in_err-make_table-clause-made
@@ -69,3 +70,26 @@ returns-clause-carried g c clean inside =
     carried_then g.S.Store ((submission_text, []) ∷ (remark_text, []) ∷ []) ((receipt_text, []) ∷ []) a d e c.make_table-3.result
     (carried_both g.S.Store ((submission_text, []) ∷ []) ((remark_text, []) ∷ []) a b d (one.carried first inside) (two.carried second within))
     (c.make_table-3.ensures.carried clean (two.goes.going second within).1)
+
+-- ---- what the transaction goes on with
+
+pub returns-in_err-make_table-clause-goes : goal.returns-in_err-make_table-clause-goes
+returns-in_err-make_table-clause-goes g c =
+    goes_fault (state g.S.Store c.args.tx.now.conn.now) (state g.S.Store c.make_table.new.tx.conn.now) _ c.from_residual.result c.from_residual.ensures.1 c.in_err-make_table.ensures.goes
+
+pub returns-in_err-make_table-2-clause-goes : goal.returns-in_err-make_table-2-clause-goes
+returns-in_err-make_table-2-clause-goes g c =
+    goes_fault_after (state g.S.Store c.args.tx.now.conn.now) (state g.S.Store c.make_table.new.tx.conn.now) (state g.S.Store c.make_table-2.new.tx.conn.now) _ _ c.from_residual-in_err-make_table-2.result c.from_residual-in_err-make_table-2.ensures.1 c.in_ok-make_table.ensures.goes c.in_err-make_table-2.ensures.goes
+
+pub returns-clause-goes : goal.returns-clause-goes
+returns-clause-goes g c =
+    let a = state g.S.Store c.make_table.new.tx.conn.now in
+    let end = state g.S.Store c.make_table-3.new.tx.conn.now in
+    goes_then (state g.S.Store c.args.tx.now.conn.now) a end _ c.make_table-3.result c.in_ok-make_table.ensures.goes
+    (goes_then a (state g.S.Store c.make_table-2.new.tx.conn.now) end _ c.make_table-3.result c.in_ok-make_table-2.ensures.goes c.make_table-3.ensures.goes)
+
+pub returns-in_err-make_table-clause-carried : goal.returns-in_err-make_table-clause-carried
+returns-in_err-make_table-clause-carried g c clean inside = not_on_ok c.from_residual.result _ _ c.from_residual.ensures.1
+
+pub returns-in_err-make_table-2-clause-carried : goal.returns-in_err-make_table-2-clause-carried
+returns-in_err-make_table-2-clause-carried g c clean inside = not_on_ok c.from_residual-in_err-make_table-2.result _ _ c.from_residual-in_err-make_table-2.ensures.1

@@ -3,7 +3,7 @@ use Rattle.sqlite.specs.Held.{state}
 use Rattle.pid_tables_rows.specs.Faults.{IsMemoryOrStore, IsNotNewerSchema}
 use Rattle.pid_tables_rows.specs.Schema.{meta, account, item, submission, remark, receipt, item_since}
 use Rattle.pid_tables_rows.proofs.CauseLemmas.{passed_on}
-use Rattle.pid_tables_rows.proofs.GoingLemmas.{earlier}
+use Rattle.pid_tables_rows.proofs.GoingLemmas.{earlier, goes_then}
 use Rattle.pid_tables.specs.Creation.{IsFaultOfTaken}
 use Rattle.pid_tables.specs.Statements.{item_since_text}
 use Rattle.pid_tables.specs.Steps.Making.{first_statements, rest_statements}
@@ -11,6 +11,7 @@ use Rattle.pid_tables.proofs.Carrying.{carried_both, carried_then}
 use Rattle.pid_tables.proofs.CreateTexts.{item_since_creates}
 use Rattle.pid_tables.proofs.MakerTexts.{item_since_maker}
 use Rattle.pid_tables.proofs.MetLemmas.{took_then, took_both}
+use Rattle.pid_tables.proofs.MoveLemmas.{goes_fault, goes_fault_after, not_on_ok}
 use Rattle.pid_tables.proofs.creation.make_tables.Goals as goal
 
 pub returns-in_err-make_first-clause-made : goal.returns-in_err-make_first-clause-made
@@ -85,3 +86,26 @@ returns-clause-carried g c clean inside =
     carried_then g.S.Store (first_statements ++ rest_statements) ((item_since_text, []) ∷ []) a d e c.make_table.result
     (carried_both g.S.Store first_statements rest_statements a b d (one.carried first inside) (two.carried second within))
     (c.make_table.ensures.carried clean (two.goes.going second within).1)
+
+-- ---- what the transaction goes on with
+
+pub returns-in_err-make_first-clause-goes : goal.returns-in_err-make_first-clause-goes
+returns-in_err-make_first-clause-goes g c =
+    goes_fault (state g.S.Store c.args.tx.now.conn.now) (state g.S.Store c.make_first.new.tx.conn.now) _ c.from_residual.result c.from_residual.ensures.1 c.in_err-make_first.ensures.goes
+
+pub returns-in_err-make_rest-clause-goes : goal.returns-in_err-make_rest-clause-goes
+returns-in_err-make_rest-clause-goes g c =
+    goes_fault_after (state g.S.Store c.args.tx.now.conn.now) (state g.S.Store c.make_first.new.tx.conn.now) (state g.S.Store c.make_rest.new.tx.conn.now) _ _ c.from_residual-in_err-make_rest.result c.from_residual-in_err-make_rest.ensures.1 c.in_ok-make_first.ensures.goes c.in_err-make_rest.ensures.goes
+
+pub returns-clause-goes : goal.returns-clause-goes
+returns-clause-goes g c =
+    let a = state g.S.Store c.make_first.new.tx.conn.now in
+    let end = state g.S.Store c.make_table.new.tx.conn.now in
+    goes_then (state g.S.Store c.args.tx.now.conn.now) a end _ c.make_table.result c.in_ok-make_first.ensures.goes
+    (goes_then a (state g.S.Store c.make_rest.new.tx.conn.now) end _ c.make_table.result c.in_ok-make_rest.ensures.goes c.make_table.ensures.goes)
+
+pub returns-in_err-make_first-clause-carried : goal.returns-in_err-make_first-clause-carried
+returns-in_err-make_first-clause-carried g c clean inside = not_on_ok c.from_residual.result _ _ c.from_residual.ensures.1
+
+pub returns-in_err-make_rest-clause-carried : goal.returns-in_err-make_rest-clause-carried
+returns-in_err-make_rest-clause-carried g c clean inside = not_on_ok c.from_residual-in_err-make_rest.result _ _ c.from_residual-in_err-make_rest.ensures.1

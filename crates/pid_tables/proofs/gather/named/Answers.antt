@@ -1,6 +1,5 @@
 use Rattle.std.proofs.Common.{Err, refl}
 use Rattle.pid_tables_rows.proofs.CauseLemmas.{passed_on}
-use Rattle.pid_tables_rows.proofs.OnlyReading.{reads_then}
 use Rattle.pid_tables_rows.specs.Causes.{IsCaused, IsReadable}
 use Rattle.sqlite.specs.Held.{state}
 use Rattle.pid_tables.proofs.ThenReads.{fault_after}

@@ -9,6 +9,7 @@ use Rattle.pid_tables_rows.proofs.FindLemmas.{name_found}
 use Rattle.pid_tables_rows.proofs.KeyTexts.{select_item_is}
 use Rattle.pid_tables_rows.proofs.ReadLemmas.{shows_still}
 use Rattle.pid_tables_rows.proofs.StatementTexts.{select_item}
+use Rattle.pid_tables.proofs.MoveLemmas.{goes_fault, goes_lost, goes_value, not_ok}
 use Rattle.pid_tables.proofs.PutLemmas.{added_over, text_there, same_over, renamed_over}
 use Rattle.pid_tables.proofs.putting.compare.Goals as goal
 
@@ -57,3 +58,26 @@ returns-in_err-is_text_at-in-Some-clause-shows g c clean inside counts v shows _
     let row = c.in-Some.ensures.value ∙ ap (λ l. slice_get l 0) c.deref.ensures.value ∙ found in
     passed_on c.from_residual-in_err-is_text_at-in-Some.result _ _ IsMemoryOrStore c.from_residual-in_err-is_text_at-in-Some.ensures.1
     (absurd (c.in_err-is_text_at-in-Some.ensures.no_text.1 (text_there (name_at c.args.path.now v.items) c.in-Some.row.now row)))
+
+-- ---- what the transaction goes on with
+
+pub returns-in-None-clause-goes : goal.returns-in-None-clause-goes
+returns-in-None-clause-goes g c = goes_value (state g.S.Store c.args.batch.now.conn.now) (state g.S.Store c.read_inside.new.tx.conn.now) _ _ c.in_ok-rows.ensures.goes
+
+pub returns-then-branch-clause-goes : goal.returns-then-branch-clause-goes
+returns-then-branch-clause-goes g c = goes_value (state g.S.Store c.args.batch.now.conn.now) (state g.S.Store c.read_inside.new.tx.conn.now) _ _ c.in_ok-rows.ensures.goes
+
+pub returns-clause-goes : goal.returns-clause-goes
+returns-clause-goes g c = goes_value (state g.S.Store c.args.batch.now.conn.now) (state g.S.Store c.read_inside.new.tx.conn.now) _ _ c.in_ok-rows.ensures.goes
+
+pub returns-in_err-rows-clause-goes : goal.returns-in_err-rows-clause-goes
+returns-in_err-rows-clause-goes g c = goes_fault (state g.S.Store c.args.batch.now.conn.now) (state g.S.Store c.read_inside.new.tx.conn.now) _ c.from_residual.result c.from_residual.ensures.1 c.in_err-rows.ensures.goes
+
+pub returns-in_err-rows-clause-found : goal.returns-in_err-rows-clause-found
+returns-in_err-rows-clause-found g c clean counts v shows = not_ok c.from_residual.result _ _ c.from_residual.ensures.1
+
+pub returns-in_err-is_text_at-in-Some-clause-goes : goal.returns-in_err-is_text_at-in-Some-clause-goes
+returns-in_err-is_text_at-in-Some-clause-goes g c = goes_lost (state g.S.Store c.args.batch.now.conn.now) (state g.S.Store c.read_inside.new.tx.conn.now) _ _ c.from_residual-in_err-is_text_at-in-Some.result c.from_residual-in_err-is_text_at-in-Some.ensures.1 c.in_ok-rows.ensures.goes
+
+pub returns-in_err-is_text_at-in-Some-clause-found : goal.returns-in_err-is_text_at-in-Some-clause-found
+returns-in_err-is_text_at-in-Some-clause-found g c clean counts v shows = not_ok c.from_residual-in_err-is_text_at-in-Some.result _ _ c.from_residual-in_err-is_text_at-in-Some.ensures.1

@@ -1,7 +1,9 @@
-use Rattle.std.proofs.Common.{sym, ◌∙◌, arith}
+use Rattle.std.proofs.Common.{Ok, sym, ◌∙◌, arith}
 use Rattle.sqlite.specs.Held.{state}
 use Rattle.sqlite.specs.State.{HasCleanDisk}
 use Rattle.pid_moderation.specs.Items.{name_at}
+use Rattle.pid_tables_rows.proofs.GoingLemmas.{goes_then}
+use Rattle.pid_tables.proofs.MoveLemmas.{goes_fault, goes_fault_after, goes_value, not_ok}
 use Rattle.pid_tables.proofs.PutLemmas.{none_there, other_there, same_there, still_with}
 use Rattle.pid_tables_rows.specs.Faults.{IsMemoryOrStore}
 use Rattle.pid_tables_rows.proofs.CauseLemmas.{passed_on}
@@ -59,3 +61,45 @@ returns-in_err-rename_item-in-Renamed-clause-shows g c clean inside counts v sho
     passed_on c.from_residual-in_err-rename_item-in-Renamed.result _ _ IsMemoryOrStore c.from_residual-in_err-rename_item-in-Renamed.ensures.1
     (c.in_err-rename_item-in-Renamed.ensures.shows clean (first.goes.going early inside).1 counts v (first.shows early inside counts v shows tt)
     (other_there c.args.name.now (name_at c.args.path.now v.items) (sym c.in-Renamed.is ∙ first.found early counts v shows)))
+
+-- ---- what the transaction goes on with
+
+pub returns-in_ok-add_item-in-Added-clause-goes : goal.returns-in_ok-add_item-in-Added-clause-goes
+returns-in_ok-add_item-in-Added-clause-goes g c =
+    let old = state g.S.Store c.args.batch.now.conn.now in
+    let mid = state g.S.Store c.compare.new.batch.conn.now in
+    let new = state g.S.Store c.add_item.new.tx.conn.now in
+    goes_value old new _ _ (goes_then old mid new _ (Ok c.in_ok-add_item-in-Added.field-0) c.in_ok-compare.ensures.goes c.in_ok-add_item-in-Added.ensures.goes)
+
+pub returns-in_ok-rename_item-in-Renamed-clause-goes : goal.returns-in_ok-rename_item-in-Renamed-clause-goes
+returns-in_ok-rename_item-in-Renamed-clause-goes g c =
+    let old = state g.S.Store c.args.batch.now.conn.now in
+    let mid = state g.S.Store c.compare.new.batch.conn.now in
+    let new = state g.S.Store c.rename_item.new.tx.conn.now in
+    goes_value old new _ _ (goes_then old mid new _ (Ok c.in_ok-rename_item-in-Renamed.field-0) c.in_ok-compare.ensures.goes c.in_ok-rename_item-in-Renamed.ensures.goes)
+
+pub returns-in-Same-clause-goes : goal.returns-in-Same-clause-goes
+returns-in-Same-clause-goes g c = goes_value (state g.S.Store c.args.batch.now.conn.now) (state g.S.Store c.compare.new.batch.conn.now) _ _ c.in_ok-compare.ensures.goes
+
+pub returns-in_err-compare-clause-goes : goal.returns-in_err-compare-clause-goes
+returns-in_err-compare-clause-goes g c =
+    goes_fault (state g.S.Store c.args.batch.now.conn.now) (state g.S.Store c.compare.new.batch.conn.now) _ c.from_residual.result c.from_residual.ensures.1 c.in_err-compare.ensures.goes
+
+pub returns-in_err-compare-clause-told : goal.returns-in_err-compare-clause-told
+returns-in_err-compare-clause-told g c clean counts v shows = not_ok c.from_residual.result _ _ c.from_residual.ensures.1
+
+pub returns-in_err-add_item-in-Added-clause-goes : goal.returns-in_err-add_item-in-Added-clause-goes
+returns-in_err-add_item-in-Added-clause-goes g c =
+    goes_fault_after (state g.S.Store c.args.batch.now.conn.now) (state g.S.Store c.compare.new.batch.conn.now) (state g.S.Store c.add_item.new.tx.conn.now) _ _
+    c.from_residual-in_err-add_item-in-Added.result c.from_residual-in_err-add_item-in-Added.ensures.1 c.in_ok-compare.ensures.goes c.in_err-add_item-in-Added.ensures.goes
+
+pub returns-in_err-add_item-in-Added-clause-told : goal.returns-in_err-add_item-in-Added-clause-told
+returns-in_err-add_item-in-Added-clause-told g c clean counts v shows = not_ok c.from_residual-in_err-add_item-in-Added.result _ _ c.from_residual-in_err-add_item-in-Added.ensures.1
+
+pub returns-in_err-rename_item-in-Renamed-clause-goes : goal.returns-in_err-rename_item-in-Renamed-clause-goes
+returns-in_err-rename_item-in-Renamed-clause-goes g c =
+    goes_fault_after (state g.S.Store c.args.batch.now.conn.now) (state g.S.Store c.compare.new.batch.conn.now) (state g.S.Store c.rename_item.new.tx.conn.now) _ _
+    c.from_residual-in_err-rename_item-in-Renamed.result c.from_residual-in_err-rename_item-in-Renamed.ensures.1 c.in_ok-compare.ensures.goes c.in_err-rename_item-in-Renamed.ensures.goes
+
+pub returns-in_err-rename_item-in-Renamed-clause-told : goal.returns-in_err-rename_item-in-Renamed-clause-told
+returns-in_err-rename_item-in-Renamed-clause-told g c clean counts v shows = not_ok c.from_residual-in_err-rename_item-in-Renamed.result _ _ c.from_residual-in_err-rename_item-in-Renamed.ensures.1
