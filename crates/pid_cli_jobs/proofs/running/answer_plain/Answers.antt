@@ -1,7 +1,16 @@
 use Rattle.std.proofs.Common.{refl}
 use Rattle.pid_file.specs.Writing.{use_of}
+use Rattle.pid_cli_jobs.specs.declared.job_end.JobEnd.TheVariants.{Replied}
 use Rattle.pid_cli_jobs.proofs.Ends.{not_printed}
 use Rattle.pid_cli_jobs.proofs.running.answer_plain.Goals as goal
+
+pub returns-in-Replied : goal.returns-in-Replied
+returns-in-Replied g c = record {
+  between = c.do_plain.new.output;
+  done = Replied c.in-Replied.reply;
+  does = c.in-Replied.ensures;
+  prints = c.print_reply.ensures;
+}
 
 pub returns-in_default : goal.returns-in_default
 returns-in_default g c = record {

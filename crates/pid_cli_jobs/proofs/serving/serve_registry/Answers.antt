@@ -1,12 +1,23 @@
 use Rattle.std.specs.Prelude.{codes}
 use Rattle.std.specs.Io.KnownBytes.{Appends}
-use Rattle.std.proofs.Common.{refl, subst}
+use Rattle.std.proofs.Common.{ap, refl, subst}
 use Rattle.pid_file.specs.Writing.{FailsWithin, use_of}
-use Rattle.pid_cli_jobs.specs.declared.job_end.JobEnd.TheVariants.{FileFailed}
+use Rattle.pid_cli_jobs.specs.declared.job_end.JobEnd.TheVariants.{Told, FileFailed}
 use Rattle.pid_cli_jobs.specs.Lines.{count_line}
-use Rattle.pid_cli_jobs.specs.Serving.{Served, Unheard}
+use Rattle.pid_cli_jobs.specs.Serving.{Served, Unbound, Unheard, Unrouted}
 use Rattle.pid_cli_jobs.proofs.Lines.{taken_in_part, taken_whole}
 use Rattle.pid_cli_jobs.proofs.serving.serve_registry.Goals as goal
+
+pub returns-in_default-clause-serves : goal.returns-in_default-clause-serves
+returns-in_default-clause-serves g c = Unbound c.in_default.ensures refl
+    c.tell_socket.ensures.told c.tell_socket.ensures.ends
+
+pub returns-in_default-new-clause-serves : goal.returns-in_default-new-clause-serves
+returns-in_default-new-clause-serves g c = Unrouted c.in-Some.ensures (record {
+  silent = refl;
+  told = c.tell_end.ensures.told;
+  ends = ap Told c.tell_end.ensures.status;
+})
 
 pub returns-in-Ok-write_count-clause-serves : goal.returns-in-Ok-write_count-clause-serves
 returns-in-Ok-write_count-clause-serves g c =
