@@ -24,6 +24,7 @@ use Rattle.pid_tables_rows.proofs.GoingLemmas.{earlier}
 use Rattle.pid_tables_rows.proofs.LeaveLemmas.{rests_in_two}
 use Rattle.pid_tables_rows.proofs.OnlyReading.{reads_then, rests_in_still}
 use Rattle.pid_tables_check.specs.Shapes.{HasNoTable, HasSomeTable, IsMadeFirst}
+use Rattle.pid_tables_check.proofs.Asking.{nothing_read}
 use Rattle.pid_tables_check.proofs.Complete.{made_first}
 use Rattle.pid_tables.specs.AtOnce.{IsCommitted, IsOneStep}
 use Rattle.pid_tables.specs.Creation.{table_names, IsNameTaken, RestsBare}
@@ -32,7 +33,7 @@ use Rattle.pid_tables.specs.Bringing.{Brings, Left, Raised, HandsLatest, NamesLa
 use Rattle.pid_tables.specs.Steps.Bringing.{IsStanding, Named, Found, step_for}
 use Rattle.pid_tables.specs.declared.migration.Step.{Step}
 use Rattle.pid_tables.specs.declared.migration.Step.TheVariants.{Created, Moved, Already}
-use Rattle.pid_tables.proofs.AtOnceLemmas.{reads_then_once}
+use Rattle.pid_tables.proofs.AtOnceLemmas.{reads_never, reads_then_once}
 use Rattle.pid_tables.proofs.SchemaNumbers.{schema_told}
 use Rattle.pid_tables.proofs.StandLemmas.{standing_latest}
 
@@ -111,6 +112,29 @@ left_alone g old mid end found (Err e) reads two step h = h
 pub or_untold : (P : Step → Type 0) (Q : TableFault → Type 0) (r : Result Step TableFault) → MatchResult r P (λ _. ⊥) → MatchResult r P Q
 or_untold P Q (Ok x) h = h
 or_untold P Q (Err e) h = absurd h
+
+-- ---- tables of schema 1
+
+-- they are moved only where schema 1 stands
+moved_one : (found : Option Version) → step_for found ≡ Moved → found ≡ Some One
+moved_one None is = absurd (let made : Created ≡ Moved = is in let no : ⊥ = cc in no)
+moved_one (Some One) is = refl
+moved_one (Some Two) is = absurd (let left : Already ≡ Moved = is in let no : ⊥ = cc in no)
+
+pub moved_brought : (P : Type 0) (found : Option Version) (r : Result Step TableFault) → IfOk r (λ step. step ≡ step_for found) → (found ≡ Some One → OnOk r P) → IfOk r (λ step. step ≡ Moved → P)
+moved_brought P found (Ok x) step moved = λ is. moved (moved_one found (sym step ∙ is))
+moved_brought P found (Err e) step moved = tt
+
+-- where some table stands, it is left alone or moved
+pub some_moved : {S : Type 0} (g : Ghosts S) (IsMoved : Trees → Type 0) (db : Database) (mid end : Held S) (found : Option Version) (r : Result Step TableFault) → IsStanding db found → HasSomeTable db.schema → (state g mid).in_transaction ≡ false
+    → (found ≡ Some One → Survives (state g mid) (state g end) IsMoved) → (found ≡ Some Two → MatchResult r (λ _. end ≡ mid) (λ _. ⊥)) → Survives (state g mid) (state g end) IsMoved
+some_moved g IsMoved db mid end None r (Named is names) some off moved already = absurd (let no : ⊥ = cc in no)
+some_moved g IsMoved db mid end None r (Found none) some off moved already = absurd (none some)
+some_moved g IsMoved db mid end (Some One) r stands some off moved already = moved refl
+some_moved g IsMoved db mid end (Some Two) (Ok x) stands some off moved already =
+    let here = state g mid in
+    subst (λ c. Survives here (state g c) IsMoved) (sym (already refl)) (reads_never IsMoved here here (nothing_read here off))
+some_moved g IsMoved db mid end (Some Two) (Err e) stands some off moved already = absurd (already refl)
 
 -- ---- any tables
 

@@ -87,12 +87,18 @@ pub record MigratesShown (old new : State) (result : Result Step TableFault) : T
   pub kept : HasCleanDisk new → (version : Version) (v : Views) → RestsIn version old v
       → OnOk result (RestsIn Two new v)
 
--- Whatever the tables are, they are judged before anything is done.
-pub record MigratesJudged (old new : State) (result : Result Step TableFault) : Type 0 where
+-- Whatever the tables are, they are judged before anything is done; `IsMoved` is what moving those
+-- of schema 1 comes to.
+pub record MigratesJudged (IsMoved : Trees → Type 0) (old new : State)
+    (result : Result Step TableFault) : Type 0 where
   -- Those of schema 1 are moved only if they keep all conditions, and a judgement changes
   -- nothing.
   pub found : HasCleanDisk new → HasSomeTable old.now.schema
       → MatchResult result (λ step. Brings old step new) (λ fault. Refuses old fault new)
+  -- Nothing is written but what moves them: a crash leaves what it left before, or all of it.
+  pub moved : HasSomeTable old.now.schema → Survives old new IsMoved
+  -- If `Moved` is answered, the connection sees all of it, and a crash leaves it.
+  pub done : HasCleanDisk new → IfOk result (λ step. step ≡ Moved → IsCommitted IsMoved new)
   -- `Already` is answered only if the labels show schema 2,
   pub named : HasCleanDisk new → IfOk result (λ step. step ≡ Already → NamesLatest old.now)
   -- and then nothing is done to other tables either

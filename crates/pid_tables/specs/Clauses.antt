@@ -18,7 +18,7 @@ use Rattle.pid_tables.specs.Judging as judging
 use Rattle.pid_tables.specs.Putting as putting
 use Rattle.pid_tables.specs.SchemaNumbers as numbers
 use Rattle.pid_tables.specs.ShowsOrBlank as shows
-use Rattle.pid_tables.specs.Statements.{IsMadeBy, registry_statements}
+use Rattle.pid_tables.specs.Statements.{IsMadeBy, move_statements, registry_statements}
 
 module _ {S : Type 0} (store : Ghosts S) where
   abbrev pub IsBlank : Held S → Type 0
@@ -75,7 +75,8 @@ module _ {S : Type 0} (store : Ghosts S) where
   MigratesShown old new result = bringing.MigratesShown (state store old) (state store new) result
 
   abbrev pub MigratesJudged : Held S → Held S → Result Step TableFault → Type 0
-  MigratesJudged old new result = bringing.MigratesJudged (state store old) (state store new) result
+  MigratesJudged old new result = bringing.MigratesJudged (IsMadeBy store move_statements old)
+      (state store old) (state store new) result
 
   abbrev pub MigratesNone : Held S → Held S → Result Step TableFault → Type 0
   MigratesNone old new result = bringing.MigratesNone (IsMadeBy store registry_statements old)

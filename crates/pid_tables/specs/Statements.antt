@@ -1,4 +1,5 @@
--- What statements in turn make of a database, whatever tables it has, and those of a new registry.
+-- What statements in turn make of a database, whatever tables it has; those of a new registry, and
+-- those that move one of schema 1.
 -- A text means what SQLite takes it for there, by the names that the database has.
 use Rattle.std.specs.Prelude.{◌≡◌, ◌++◌, ℕ, List, [], ◌∷◌, Result, Ok, OnOk, IsTrue, codes}
 use Rattle.sqlite.specs.Held.{Held, state}
@@ -47,9 +48,17 @@ abbrev pub item_since_text : List ℕ
 item_since_text = codes "CREATE TABLE item_since (path TEXT NOT NULL PRIMARY KEY REFERENCES "
     ++ codes "item(path) ON DELETE CASCADE, since INTEGER NOT NULL) STRICT"
 
+-- the number 0 of each item
+abbrev pub item_since_rows_text : List ℕ
+item_since_rows_text = codes "INSERT INTO item_since (path, since) SELECT path, 0 FROM item"
+
 -- a label with its number
 abbrev pub new_label_text : List ℕ
 new_label_text = codes "INSERT INTO meta (label, value) VALUES (?1, ?2)"
+
+-- another number for a label
+abbrev pub label_text : List ℕ
+label_text = codes "UPDATE meta SET value = ?2 WHERE label = ?1"
 
 -- an account with its rank
 abbrev pub new_account_text : List ℕ
@@ -64,6 +73,12 @@ registry_statements = (meta_text, []) ∷ (account_text, []) ∷ (item_text, [])
     ∷ (new_label_text, Text (codes "items") ∷ number 0 ∷ [])
     ∷ (new_label_text, Text (codes "schema") ∷ number 2 ∷ [])
     ∷ (new_account_text, Text (codes "root") ∷ number 3 ∷ []) ∷ []
+
+-- schema 1 becomes schema 2: the table of the numbers of changes, the revision, and the schema
+abbrev pub move_statements : List Statement
+move_statements = (item_since_text, []) ∷ (item_since_rows_text, [])
+    ∷ (new_label_text, Text (codes "revision") ∷ number 0 ∷ [])
+    ∷ (label_text, Text (codes "schema") ∷ number 2 ∷ []) ∷ []
 
 module _ {S : Type 0} (store : Ghosts S) where
   -- from the first connection to the second these were carried out in turn, and nothing else

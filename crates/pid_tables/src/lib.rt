@@ -8,6 +8,7 @@ mod gather;
 mod judging;
 pub mod laws;
 mod migration;
+mod moving;
 mod put_file;
 mod put_sink;
 mod putting;

@@ -35,16 +35,16 @@ ghost use Rattle.pid_tables.specs.Clauses.{
   RestsBare,
   WritesAtOnce,
 };
-ghost use Rattle.pid_tables.specs.Statements.{Carries, registry_statements};
+ghost use Rattle.pid_tables.specs.Statements.{Carries, move_statements, registry_statements};
 ghost use Rattle.pid_tables.specs.Steps.Clauses.{FindsShown};
 ghost use Rattle.pid_tables.specs.Bringing.{NamesLatest};
 ghost use Rattle.pid_tables.specs.Steps.Bringing.{IsStanding, TellsLatest, is_latest, step_for};
 
 use crate::batch::commit;
 use crate::creation::create;
+use crate::moving::move_tables;
 use pid_tables_check::{check, has_some_table};
 use pid_tables_rows::meta::schema_number;
-use pid_tables_rows::moving::move_tables;
 use pid_tables_rows::{TableFault, Version};
 use sqlite::{Alter, Connection};
 use std::alloc::Global;
@@ -136,6 +136,7 @@ fn move_up<S: Alter>(conn: &mut Connection<S>) -> Result<(), TableFault>
     ensures untold { HasCleanDisk S.Store conn.new → (v : Views) → RestsIn S.Store One conn.old v
         → IfErr result IsMemoryOrStore }
     ensures never { HasCleanDisk S.Store conn.new → IfErr result IsNotNewerSchema }
+    ensures statements { Carries S.Store move_statements conn.old conn.new result }
 {
     let mut batch = conn.transaction();
     move_tables(&mut batch)?;
@@ -156,6 +157,8 @@ fn bring<S: Alter>(conn: &mut Connection<S>, found: Option<Version>) -> Result<S
         (λ fault. IsNotNewerSchema fault × OnlyReads S.Store conn.old conn.new) }
     ensures made { found ≡ None
         → Carries S.Store registry_statements conn.old conn.new result }
+    ensures raised { found ≡ Some One
+        → Carries S.Store move_statements conn.old conn.new result }
     ensures moved { HasCleanDisk S.Store conn.new → found ≡ Some One → (v : Views)
         → RestsIn S.Store One conn.old v → MatchResult result (λ _. AtRest S.Store conn.new v)
         (λ fault. IsMemoryOrStore fault × RestsIn S.Store One conn.new v) }
@@ -180,10 +183,11 @@ fn bring<S: Alter>(conn: &mut Connection<S>, found: Option<Version>) -> Result<S
 ///
 /// Tables of schema 1 are judged before, as `check` does it, and moved in one transaction. Whatever
 /// a crash leaves of that shows the same history, in schema 1 or in schema 2. Tables whose labels
-/// name schema 2 are not judged. If there is no table of a registry, whatever others there are,
-/// nothing is written but the statements of a new registry, and `Ok` says that they were carried
-/// out. A fault other than `Memory` and `Store` changes nothing; after those two the connection
-/// shows what it showed, and the call may be made again.
+/// name schema 2 are not judged. Whatever other tables there are, nothing is written but the
+/// statements of a new registry, if there is no table of one, or else those that move schema 1; and
+/// `Created` and `Moved` say that they were carried out. A fault other than `Memory` and `Store`
+/// changes nothing; after those two the connection shows what it showed, and the call may be made
+/// again.
 pub fn migrate<S: Alter>(conn: &mut Connection<S>, alloc: Global) -> Result<Step, TableFault>
     requires { conn.old.in_transaction ≡ false }
     // Whatever there is, it is one step.

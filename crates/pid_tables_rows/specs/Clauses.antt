@@ -126,6 +126,3 @@ module _ {S : Type 0} (store : Ghosts S) where
     recount = λ c. c;
     next = next;
   })
-
-  abbrev pub Moves : {X : Type 0} → Held S → Held S → Result X TableFault → Type 0
-  Moves old new result = leaves.Moves (state store old) (state store new) result

@@ -17,8 +17,7 @@
 -- transaction stays in it (`GoesOn`) and leads on to the next views (`LeadsTo`). A connection that
 -- a fault has shut shows nothing, but what a crash leaves is as good as it was.
 --
--- All of it is of schema 2. `RestsIn` is at rest in one schema or the other, and `Moves` leads from
--- the one to the other.
+-- All of it is of schema 2. `RestsIn` is at rest in one schema or the other.
 use Rattle.std.specs.Prelude.{◌≡◌, ◌⊎◌, false, Result, OnOk, MatchResult, IsTrue}
 use Rattle.sqlite.specs.Tree.{Trees}
 use Rattle.sqlite.specs.State.{State, HasCleanDisk, Survives}
@@ -29,10 +28,8 @@ use Rattle.pid_tables_rows.specs.declared.fault.TableFault.{TableFault}
 use Rattle.pid_tables_rows.specs.Faults.{IsMemoryOrStore}
 use Rattle.pid_tables_rows.specs.Causes.{IsCaused, IsReadable}
 use Rattle.pid_tables_rows.specs.declared.version.Version.{Version}
-use Rattle.pid_tables_rows.specs.declared.version.Version.TheVariants.{One}
 use Rattle.pid_tables_rows.specs.Schema.{schema_of, pid_schema}
-use Rattle.pid_tables_rows.specs.Shows.{Counts, ShowsKeeping, ShowsIn, ShowsCounting, Shows}
-use Rattle.pid_tables_rows.specs.Shows.{numbers_in}
+use Rattle.pid_tables_rows.specs.Shows.{Counts, ShowsIn, ShowsCounting, Shows}
 
 -- trees as an open finds them, with the schema that they list
 abbrev pub found_in : Schema → Trees → Database
@@ -122,15 +119,6 @@ LeadsTo old new result turn =
     HasCleanDisk new → IsTrue old.in_transaction → (c : Counts) (v : Views)
     → ShowsCounting c old.now v → turn.IsFor c v
     → MatchResult result (λ _. ShowsCounting (turn.recount c) new.now (turn.next v)) IsMemoryOrStore
-
--- If the transaction, while it is open, shows views in schema 1, it answers a value only with it
--- showing the same in schema 2, and a fault only if there is no memory, or if the store
--- failed or refused.
-abbrev pub Moves : {X : Type 0} → State → State → Result X TableFault → Type 0
-Moves old new result =
-    HasCleanDisk new → IsTrue old.in_transaction → (c : Counts) (v : Views)
-    → (IsTrue old.is_open → ShowsKeeping One c (numbers_in v) old.now v)
-    → MatchResult result (λ _. ShowsCounting c new.now v) IsMemoryOrStore
 
 -- while it is open, the connection sees this database, and it is committed
 pub record RestsOn (s : State) (d : Database) : Type 0 where

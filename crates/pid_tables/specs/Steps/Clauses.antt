@@ -5,14 +5,15 @@ use Rattle.pid_moderation.specs.declared.change.Change.{Change}
 use Rattle.pid_moderation.specs.Changes.{changed, FitsViews}
 use Rattle.pid_moderation.specs.Views.{Views}
 use Rattle.pid_tables_rows.specs.declared.fault.TableFault.{TableFault}
-use Rattle.pid_tables_rows.specs.Clauses.{HasCleanDisk, seen}
+use Rattle.pid_tables_rows.specs.Clauses.{HasCleanDisk, is_open, seen}
 use Rattle.pid_tables_rows.specs.Faults.{IsMemoryOrStore}
-use Rattle.pid_tables_rows.specs.Shows.{Counts, Shows, ShowsCounting}
+use Rattle.pid_tables_rows.specs.Shows.{Counts, Shows, ShowsCounting, ShowsKeeping, numbers_in}
 use Rattle.pid_tables.specs.Applies.{CountsFit}
 use Rattle.std.specs.Prelude.{ℕ, List, Option}
 use Rattle.sqlite.specs.Held.{Held, state}
 use Rattle.sqlite.specs.Table.{Table}
 use Rattle.pid_tables_rows.specs.declared.version.Version.{Version}
+use Rattle.pid_tables_rows.specs.declared.version.Version.TheVariants.{One}
 use Rattle.pid_tables.specs.Steps.MakingTables as making
 use Rattle.pid_tables.specs.Steps.Bringing as steps
 
@@ -36,6 +37,15 @@ module _ {S : Type 0} (store : Ghosts S) where
       → (Views → X → Type 0) → Type 0
   TellsWithin old new result Says = HasCleanDisk store new → (c : Counts) (v : Views)
       → ShowsCounting c (seen store old) v → IfOk result (Says v)
+
+  -- If the transaction, while it is open, shows views in schema 1, it answers a value only with it
+  -- showing the same in schema 2, and a fault only if there is no memory, or if the store failed or
+  -- refused.
+  abbrev pub Moves : {X : Type 0} → Held S → Held S → Result X TableFault → Type 0
+  Moves old new result = HasCleanDisk store new → IsTrue old.in_transaction
+      → (c : Counts) (v : Views)
+      → (IsTrue (is_open store old) → ShowsKeeping One c (numbers_in v) (seen store old) v)
+      → MatchResult result (λ _. ShowsCounting c (seen store new) v) IsMemoryOrStore
 
   -- if the transaction shows views to which the change fits, it shows the changed ones then
   abbrev pub WritesChange : {X : Type 0} → Held S → Held S → Result X TableFault → Change → Type 0

@@ -34,6 +34,9 @@ returns-in-Ok-clause-met g c clean none met = c.in-Ok.ensures.spares.refused cle
 pub returns-in-Ok-clause-made : goal.returns-in-Ok-clause-made
 returns-in-Ok-clause-made g c none = let h = c.in-Ok.ensures.statements in record { survives = h.survives; done = h.done }
 
+pub returns-in-Ok-clause-raised : goal.returns-in-Ok-clause-raised
+returns-in-Ok-clause-raised g c one = none_one c.args.found c.in-None.is one
+
 pub returns-in-Ok-clause-moved : goal.returns-in-Ok-clause-moved
 returns-in-Ok-clause-moved g c clean one v rest = none_one c.args.found c.in-None.is one
 
@@ -51,6 +54,9 @@ returns-in-Err-clause-met g c clean none met = let h = c.in-Err.ensures.spares i
 
 pub returns-in-Err-clause-made : goal.returns-in-Err-clause-made
 returns-in-Err-clause-made g c none = let h = c.in-Err.ensures.statements in record { survives = h.survives; done = λ clean. tt }
+
+pub returns-in-Err-clause-raised : goal.returns-in-Err-clause-raised
+returns-in-Err-clause-raised g c one = none_one c.args.found c.in-None.is one
 
 pub returns-in-Err-clause-moved : goal.returns-in-Err-clause-moved
 returns-in-Err-clause-moved g c clean one v rest = none_one c.args.found c.in-None.is one
@@ -78,6 +84,9 @@ returns-in-Ok-move_up-clause-met g c clean none met = none_one c.args.found none
 pub returns-in-Ok-move_up-clause-made : goal.returns-in-Ok-move_up-clause-made
 returns-in-Ok-move_up-clause-made g c none = none_one c.args.found none (c.in-Some-One.is ∙ ap Some (rw c.in-Some-One.is at c.in-Some-One.field-0-is))
 
+pub returns-in-Ok-move_up-clause-raised : goal.returns-in-Ok-move_up-clause-raised
+returns-in-Ok-move_up-clause-raised g c one = let h = c.in-Ok-move_up.ensures.statements in record { survives = h.survives; done = h.done }
+
 pub returns-in-Ok-move_up-clause-moved : goal.returns-in-Ok-move_up-clause-moved
 returns-in-Ok-move_up-clause-moved g c clean one v rest = c.in-Ok-move_up.ensures.moved v rest
 
@@ -95,6 +104,9 @@ returns-in-Err-move_up-clause-met g c clean none met = none_one c.args.found non
 
 pub returns-in-Err-move_up-clause-made : goal.returns-in-Err-move_up-clause-made
 returns-in-Err-move_up-clause-made g c none = none_one c.args.found none (c.in-Some-One.is ∙ ap Some (rw c.in-Some-One.is at c.in-Some-One.field-0-is))
+
+pub returns-in-Err-move_up-clause-raised : goal.returns-in-Err-move_up-clause-raised
+returns-in-Err-move_up-clause-raised g c one = let h = c.in-Err-move_up.ensures.statements in record { survives = h.survives; done = λ clean. tt }
 
 pub returns-in-Err-move_up-clause-moved : goal.returns-in-Err-move_up-clause-moved
 returns-in-Err-move_up-clause-moved g c clean one v rest = let h = c.in-Err-move_up.ensures in (h.untold clean v rest, h.kept v rest)
@@ -118,6 +130,9 @@ returns-in-Some-Two-clause-met g c clean none met = none_two c.args.found none (
 
 pub returns-in-Some-Two-clause-made : goal.returns-in-Some-Two-clause-made
 returns-in-Some-Two-clause-made g c none = none_two c.args.found none (c.in-Some-Two.is ∙ ap Some (rw c.in-Some-Two.is at c.in-Some-Two.field-0-is))
+
+pub returns-in-Some-Two-clause-raised : goal.returns-in-Some-Two-clause-raised
+returns-in-Some-Two-clause-raised g c one = one_two c.args.found one (c.in-Some-Two.is ∙ ap Some (rw c.in-Some-Two.is at c.in-Some-Two.field-0-is))
 
 pub returns-in-Some-Two-clause-moved : goal.returns-in-Some-Two-clause-moved
 returns-in-Some-Two-clause-moved g c clean one v rest = one_two c.args.found one (c.in-Some-Two.is ∙ ap Some (rw c.in-Some-Two.is at c.in-Some-Two.field-0-is))

@@ -11,9 +11,9 @@ use Rattle.pid_tables_check.proofs.Later.{untold_never}
 use Rattle.pid_tables_check.specs.Checking.{Explains}
 use Rattle.pid_tables.specs.Bringing.{Refuses, Fails}
 use Rattle.pid_tables.specs.Creation.{RestsBare}
-use Rattle.pid_tables.specs.Statements.{IsMadeBy, registry_statements}
+use Rattle.pid_tables.specs.Statements.{IsMadeBy, move_statements, registry_statements}
 use Rattle.pid_tables.proofs.AtOnceLemmas.{reads_at_once, reads_never, reads_then_at_once, still_bare}
-use Rattle.pid_tables.proofs.BringLemmas.{made_alone, with_step, none_there, still_met, met_reads, left_alone, or_untold, brought, named_brought, read_alone, one_found, ok_rests, left_rests, kept_rests, hands_latest, reads_then_kept, reads_then_made}
+use Rattle.pid_tables.proofs.BringLemmas.{made_alone, with_step, none_there, still_met, met_reads, left_alone, or_untold, brought, named_brought, moved_brought, some_moved, read_alone, one_found, ok_rests, left_rests, kept_rests, hands_latest, reads_then_kept, reads_then_made}
 use Rattle.pid_tables.proofs.StandLemmas.{standing_latest, tables_some, untold_told}
 use Rattle.pid_tables.proofs.MoveLemmas.{not_ok, not_on_ok}
 use Rattle.pid_tables.proofs.migration.migrate.Goals as goal
@@ -46,6 +46,8 @@ returns-in_err-found-clause-judged g c =
     let mid = state g.S.Store c.standing.new.conn in
     record {
       found = λ clean some. passed_on c.from_residual.result _ _ (λ fault. Refuses old fault mid) c.from_residual.ensures.1 (Fails (c.in_err-found.ensures.told clean) c.standing.ensures.rests);
+      moved = λ some. reads_never (IsMadeBy g.S.Store move_statements c.args.conn.now) old mid c.standing.ensures.rests;
+      done = λ clean. not_ok c.from_residual.result _ _ c.from_residual.ensures.1;
       named = λ clean. not_ok c.from_residual.result _ _ c.from_residual.ensures.1;
       only_read = not_ok c.from_residual.result _ _ c.from_residual.ensures.1;
       latest = λ clean. not_ok c.from_residual.result _ _ c.from_residual.ensures.1;
@@ -119,6 +121,14 @@ returns-clause-judged g c =
       found = λ clean some.
           brought old new found c.bring.result (c.in_ok-found.ensures.told (c.bring.ensures.at_once.clean clean)) some step
           (λ is. left_alone g.S.Store old c.standing.new.conn c.bring.new.conn found c.bring.result reads is step (c.bring.ensures.already is)) (c.bring.ensures.never clean);
+      moved = λ some.
+          reads_then_made g.S.Store move_statements c.args.conn.now c.standing.new.conn c.bring.new.conn reads c.standing.ensures.same c.bring.ensures.at_once.once
+          (λ clean.
+          some_moved g.S.Store (IsMadeBy g.S.Store move_statements c.standing.new.conn) old.now c.standing.new.conn c.bring.new.conn found c.bring.result (c.in_ok-found.ensures.told (c.bring.ensures.at_once.clean clean)) some reads.settled
+          (λ one. (c.bring.ensures.raised one).survives) c.bring.ensures.already);
+      done = λ clean.
+          moved_brought _ found c.bring.result step
+          (λ one. reads_then_kept g.S.Store move_statements c.args.conn.now c.standing.new.conn c.bring.new.conn c.bring.result reads c.standing.ensures.same ((c.bring.ensures.raised one).done clean));
       named = λ clean. named_brought found c.bring.result step (standing_latest old.now found (c.in_ok-found.ensures.told (c.bring.ensures.at_once.clean clean)));
       only_read = read_alone g.S.Store old c.standing.new.conn c.bring.new.conn found c.bring.result reads step c.bring.ensures.already;
       latest = λ clean.

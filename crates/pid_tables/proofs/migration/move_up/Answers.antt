@@ -1,18 +1,20 @@
-use Rattle.std.proofs.Common.{◌≡◌, Ok, OnOk, OnErr, refl, rules, arith, subst}
+use Rattle.std.proofs.Common.{◌≡◌, true, Ok, OnOk, OnErr, refl, rules, arith, subst}
 use Rattle.sqlite.specs.Held.{state}
 use Rattle.sqlite.specs.State.{HasCleanDisk}
 use Rattle.sqlite.proofs.StateLemmas.{clean_if_open}
 use Rattle.pid_tables_rows.specs.declared.version.Version.TheVariants.{One}
 use Rattle.pid_tables_rows.specs.Faults.{IsMemoryOrStore, IsNotNewerSchema}
+use Rattle.pid_tables_rows.specs.Clauses.{seen}
 use Rattle.pid_tables_rows.specs.Leaves.{AtRest, RestsIn}
 use Rattle.pid_tables_rows.specs.Shows.{counts_of}
 use Rattle.pid_tables_rows.proofs.CauseLemmas.{passed_from}
 use Rattle.pid_tables_rows.proofs.GoingLemmas.{earlier}
 use Rattle.pid_tables_rows.proofs.LeaveLemmas.{on_err}
 use Rattle.pid_tables_rows.proofs.OnlyReading.{reads_begun, rests_in_still}
-use Rattle.pid_tables.proofs.AtOnceLemmas.{reads_at_once, commit_at_once}
-use Rattle.pid_tables.proofs.MoveLemmas.{failed_rests, all_never, all_untold}
+use Rattle.pid_tables.proofs.AtOnceLemmas.{reads_at_once, reads_never, commit_at_once, committed_as, kept_as}
+use Rattle.pid_tables.proofs.MoveLemmas.{failed_rests, all_never, all_untold, not_on_ok}
 use Rattle.pid_tables.specs.AtOnce.{WritesAtOnce}
+use Rattle.pid_tables.specs.Statements.{Carries, IsMadeBy, move_statements}
 use Rattle.pid_tables.proofs.migration.move_up.Goals as goal
 
 pub returns-clause-moved : goal.returns-clause-moved
@@ -103,3 +105,42 @@ returns-clause-never g c clean =
     let goes = rw c.transaction-batch.ensures.begun at c.in_ok-move_tables.ensures.goes in
     all_never c.commit.result (all_untold (state g.S.Store first) (state g.S.Store end) c.commit.result
     (c.commit.ensures.ends.caused late (goes.going (earlier (state g.S.Store first) (state g.S.Store end) c.commit.ensures.survives late) refl).1))
+
+-- ---- what was carried out
+
+pub returns-in_err-move_tables-clause-statements : goal.returns-in_err-move_tables-clause-statements
+returns-in_err-move_tables-clause-statements g c =
+    let old = state g.S.Store c.args.conn.now in
+    let end = c.drop-batch.new.self.0 in
+    let same : end ≡ c.conn-1.given.0 = search rules in
+    let first = c.move_tables.new.tx.conn.now in
+    let goes = rw c.transaction-batch.ensures.begun at c.move_tables.ensures.goes in
+    let made = IsMadeBy g.S.Store move_statements c.args.conn.now in
+    subst (λ h. Carries g.S.Store move_statements c.args.conn.now h c.from_residual.result) same (record {
+      survives = reads_never made old (state g.S.Store end) (reads_begun g.S.Store c.args.conn.now first end c.move_tables.result (clean_if_open (g.S.Store.view first.store) (g.met.S.Store.shut_if_dirty first.store))
+          (clean_if_open (g.S.Store.view end.store) (g.met.S.Store.shut_if_dirty end.store)) goes c.drop-batch.ensures.ended c.drop-batch.ensures.undone c.drop-batch.ensures.survives);
+      done = λ clean. not_on_ok c.from_residual.result _ _ c.from_residual.ensures.1;
+    })
+
+pub returns-clause-statements : goal.returns-clause-statements
+returns-clause-statements g c =
+    let old = c.args.conn.now in
+    let first = c.move_tables.new.tx.conn.now in
+    let end = c.commit.new.batch.0 in
+    let same : end ≡ c.conn-2-1.given.0 = search rules in
+    let goes = rw c.transaction-batch.ensures.begun at c.in_ok-move_tables.ensures.goes in
+    let carried = rw c.transaction-batch.ensures.begun at c.in_ok-move_tables.ensures.carried in
+    let made = IsMadeBy g.S.Store move_statements old in
+    let is_made : HasCleanDisk (state g.S.Store first) → made (seen g.S.Store first).trees = λ clean. record {
+      was_open = goes.was_open clean (goes.going clean refl).0;
+      first = record old { in_transaction = true };
+      same = refl;
+      last = first;
+      carried = carried clean refl;
+      made = refl;
+    } in
+    subst (λ h. Carries g.S.Store move_statements old h c.commit.result) same (record {
+      survives = committed_as g.S.Store old first end (Ok c.in_ok-move_tables.field-0) goes c.commit.ensures.survives made is_made;
+      done = λ clean.
+          kept_as made (seen g.S.Store first).trees (state g.S.Store end) c.commit.result (is_made (earlier (state g.S.Store first) (state g.S.Store end) c.commit.ensures.survives clean)) (c.commit.ensures.ends.done clean);
+    })

@@ -1,3 +1,4 @@
+use Rattle.std.proofs.Common.{[], ◌∷◌, refl}
 use Rattle.sqlite.specs.Held.{state}
 use Rattle.pid_tables_rows.specs.Faults.{IsMemoryOrStore, IsNotNewerSchema}
 use Rattle.pid_tables_rows.specs.Schema.{schema_of}
@@ -8,7 +9,9 @@ use Rattle.pid_tables_rows.proofs.MovingLemmas.{table_made, table_added, fill_wr
 use Rattle.pid_tables_rows.proofs.SinceTexts.{create_is, create_plain, create_whole, create_defined}
 use Rattle.pid_tables_rows.proofs.StatementTexts.{create_since}
 use Rattle.pid_tables_rows.proofs.WriteFaults.{led, create_writes}
-use Rattle.pid_tables_rows.proofs.moving.add_table.Goals as goal
+use Rattle.pid_tables.specs.Statements.{item_since_text, item_since_rows_text}
+use Rattle.pid_tables.proofs.Carrying.{carried_one, carried_then}
+use Rattle.pid_tables.proofs.moving.add_table.Goals as goal
 
 pub returns-clause-added : goal.returns-clause-added
 returns-clause-added g c clean inside counts v shows =
@@ -32,3 +35,14 @@ returns-in_err-write_one-clause-never g c = passed_on c.from_residual.result _ _
 
 pub returns-clause-goes : goal.returns-clause-goes
 returns-clause-goes g c = goes_then (state g.S.Store c.args.tx.now.conn.now) (state g.S.Store c.write_one.new.tx.conn.now) (state g.S.Store c.write_one-2.new.tx.conn.now) _ c.write_one-2.result c.in_ok-write_one.ensures.goes c.write_one-2.ensures.goes
+
+pub returns-clause-carried : goal.returns-clause-carried
+returns-clause-carried g c clean inside =
+    let a = c.args.tx.now.conn.now in
+    let b = c.write_one.new.tx.conn.now in
+    let d = c.write_one-2.new.tx.conn.now in
+    let before = earlier (state g.S.Store b) (state g.S.Store d) c.write_one-2.ensures.goes.survives clean in
+    let first = c.in_ok-write_one.ensures in
+    let made = first.runs.ran before inside in
+    carried_then g.S.Store ((item_since_text, []) ∷ []) ((item_since_rows_text, []) ∷ []) a b d c.write_one-2.result (b, made.0, made.1, refl)
+    (carried_one g.S.Store item_since_rows_text [] b d c.write_one-2.result (c.write_one-2.ensures.runs.ran clean (first.goes.going before inside).1))
