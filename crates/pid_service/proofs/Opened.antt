@@ -133,6 +133,13 @@ committed_then_reads store IsMade mid new (Ok x) made reads same clean = record 
   leaves = λ db may. elim (reads.survives.crash clean db may) [ inl before ↦ subst IsMade (sym (made.leaves db before)) made.sees | inr none ↦ absurd none ];
 }
 
+-- what was moved and committed is there after reads, or nothing was done
+pub moved_then_reads : {S X : Type 0} (store : Ghosts S) (IsMoved : Trees → Type 0) (old mid new : Held S) (r : Result X TableFault) (step : Step) → tables.Brings store old step mid → (step ≡ Moved → IsCommitted IsMoved (state store mid))
+    → clauses.OnlyReads store mid new → (IsTrue (clauses.is_open store new) → clauses.seen store new ≡ clauses.seen store mid) → clauses.HasCleanDisk store new → OnOk r (HasWritten store IsMoved new ⊎ clauses.OnlyReads store old new)
+moved_then_reads store IsMoved old mid new (Err e) step brings moved reads same clean = tt
+moved_then_reads store IsMoved old mid new (Ok x) step (Left is before) moved reads same clean = inr (reads_then (state store old) (state store mid) (state store new) before reads)
+moved_then_reads store IsMoved old mid new (Ok x) step (Raised is found) moved reads same clean = inl (committed_then_reads store IsMoved mid new (Ok x) (moved is) reads same clean)
+
 -- what is taken back is seen as before
 pub seen_back : (old new : State) → (IsTrue old.is_open → old.now ≡ old.committed) → IsTakenBack old new → IsTrue new.is_open → IsTrue old.is_open × (new.now ≡ old.now)
 seen_back old new settled back opened = (back.was_open opened, (back.same old.now (record { sees = λ was. refl; committed = λ was. sym (settled was) })).sees opened)

@@ -20,7 +20,7 @@ use Rattle.pid_tables.specs.declared.migration.Step.TheVariants.{Created, Moved,
 use Rattle.pid_tables.specs.AtOnce.{IsCommitted}
 use Rattle.pid_tables.specs.Bringing.{NamesLatest}
 use Rattle.pid_tables.specs.Clauses as tables
-use Rattle.pid_tables.specs.Statements.{IsMadeBy, registry_statements}
+use Rattle.pid_tables.specs.Statements.{IsMadeBy, move_statements, registry_statements}
 use Rattle.pid_service.specs.declared.registry.Registry.{Registry}
 use Rattle.pid_service.specs.Histories.{IsReached, Shows}
 use Rattle.pid_service.specs.KeptViews.{KeepsNothing, kept_views}
@@ -112,6 +112,11 @@ module _ {S : Type 0} (store : Ghosts S) where
   WritesRegistry old new = HasNoTable (seen store old).schema
       → clauses.Survives store old new (IsMadeBy store registry_statements old)
 
+  -- and where there is some, whatever others there are, nothing but what moves those of schema 1
+  abbrev pub WritesMove : Held S → Held S → Type 0
+  WritesMove old new = HasSomeTable (seen store old).schema
+      → clauses.Survives store old new (IsMadeBy store move_statements old)
+
   -- such trees were committed: a crash leaves them, and the connection sees them while it is open
   pub record HasWritten (IsSuch : Trees → Type 0) (conn : Held S) : Type 0 where
     pub sees : IsTrue (clauses.is_open store conn) → IsSuch (seen store conn).trees
@@ -131,6 +136,11 @@ module _ {S : Type 0} (store : Ghosts S) where
     -- a registry that is opened there was written and committed whole
     pub done : clauses.HasCleanDisk store new → HasNoTable (seen store old).schema
         → OnOk result (HasWritten (IsMadeBy store registry_statements old) new)
+    pub moved : WritesMove old new
+    -- one of tables that were there: the move was written and committed whole, or nothing was
+    pub raised : clauses.HasCleanDisk store new → HasSomeTable (seen store old).schema
+        → OnOk result (HasWritten (IsMadeBy store move_statements old) new
+        ⊎ clauses.OnlyReads store old new)
 
   -- What an opening answers, by what there is, while the disk returns what was written.
   pub record ExplainsOpening {X : Type 0} (old new : Held S) (result : Result X TableFault)
@@ -196,6 +206,10 @@ module _ {S : Type 0} (store : Ghosts S) where
     pub done : clauses.HasCleanDisk store (moved_to result) → HasNoTable (seen store conn).schema
         → OnOk result (IsCommitted (IsMadeBy store registry_statements conn)
         (state store (moved_to result)))
+    pub moved : WritesMove conn (moved_to result)
+    -- and so does `Moved` of a move
+    pub raised : clauses.HasCleanDisk store (moved_to result) → IfOk result (λ r. r.1 ≡ Moved
+        → IsCommitted (IsMadeBy store move_statements conn) (state store (moved_to result)))
     -- One that fails, or finds nothing to do, leaves all that is seen as it was.
     pub unchanged : MatchResult result (λ r. r.1 ≡ Already → SeesTheSame conn r.0)
         (λ e. SeesTheSame conn e.1)

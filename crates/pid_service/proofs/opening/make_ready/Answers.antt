@@ -7,7 +7,7 @@ use Rattle.pid_tables_rows.specs.Faults.{IsNotNewerSchema}
 use Rattle.pid_tables_check.specs.Checking.{Explains}
 use Rattle.pid_tables_rows.proofs.LeaveLemmas.{rests_in_two}
 use Rattle.pid_tables_rows.proofs.OnlyReading.{reads_then}
-use Rattle.pid_service.proofs.Opened.{back_behind, brought_reads, committed_then_reads, explained_now, explains_now, judged_now, judged_ready, kept_ok, made_then_reads, once_then_reads, refused_reads, step_shown, step_rests, still_views, told_then}
+use Rattle.pid_service.proofs.Opened.{back_behind, brought_reads, committed_then_reads, explained_now, explains_now, judged_now, judged_ready, kept_ok, made_then_reads, moved_then_reads, once_then_reads, refused_reads, step_shown, step_rests, still_views, told_then}
 use Rattle.pid_service.proofs.opening.make_ready.Goals as goal
 
 -- ---- a migration that failed
@@ -20,6 +20,8 @@ returns-in-Err-clause-at_once g c = record {
   back = inl c.in-Err.ensures.at_once.back;
   made = c.migrate.ensures.none.made;
   done = λ clean none. tt;
+  moved = c.migrate.ensures.judged.moved;
+  raised = λ clean some. tt;
 }
 
 pub returns-in-Err-clause-ready : goal.returns-in-Err-clause-ready
@@ -62,6 +64,11 @@ returns-in-Ok-clause-at_once g c =
       made = λ none. made_then_reads _ old mid new (c.migrate.ensures.none.made none) c.judge_tables.ensures.rests;
       done = λ clean none.
           committed_then_reads g.S.Store _ c.migrate.new.conn c.judge_tables.new.tables.conn c.judge_tables.result (c.in-Ok.ensures.none.done (c.judge_tables.ensures.rests.clean clean) none)
+          c.judge_tables.ensures.rests c.judge_tables.ensures.same clean;
+      moved = λ some. made_then_reads _ old mid new (c.migrate.ensures.judged.moved some) c.judge_tables.ensures.rests;
+      raised = λ clean some.
+          let first = c.judge_tables.ensures.rests.clean clean in
+          moved_then_reads g.S.Store _ c.args.tables.now.conn c.migrate.new.conn c.judge_tables.new.tables.conn c.judge_tables.result c.in-Ok.field-0 (c.in-Ok.ensures.judged.found first some) (c.in-Ok.ensures.judged.done first)
           c.judge_tables.ensures.rests c.judge_tables.ensures.same clean;
     }
 

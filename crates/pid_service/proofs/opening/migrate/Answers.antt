@@ -19,6 +19,8 @@ returns-in-Ok-clause-at_once g c off =
       back = tt;
       made = c.migrate.ensures.none.made;
       done = λ clean none. c.in-Ok.ensures.none.done clean none;
+      moved = c.migrate.ensures.judged.moved;
+      raised = λ clean is. c.in-Ok.ensures.judged.done clean is;
       unchanged = λ is. seen_back old new (c.is_autocommit.ensures.settled (c.is_autocommit.ensures.value ∙ ap not off)) (reads_back old new (c.in-Ok.ensures.judged.only_read is));
       only_read = λ is. c.in-Ok.ensures.judged.only_read is;
     }
@@ -59,6 +61,8 @@ returns-in-Err-clause-at_once g c off = record {
   back = c.in-Err.ensures.at_once.back;
   made = c.migrate.ensures.none.made;
   done = λ clean none. tt;
+  moved = c.migrate.ensures.judged.moved;
+  raised = λ clean. tt;
   unchanged = seen_back (state g.S.Store c.args.conn) (state g.S.Store c.migrate.new.conn) (c.is_autocommit.ensures.settled (c.is_autocommit.ensures.value ∙ ap not off)) c.in-Err.ensures.at_once.back;
   only_read = λ clean told. c.in-Err.ensures.at_once.unchanged clean told;
 }

@@ -23,7 +23,7 @@ pub returns-in_default-clause-at_once : goal.returns-in_default-clause-at_once
 returns-in_default-clause-at_once g c off =
     let here = state g.S.Store c.args.conn in
     let same = nothing_read here off in
-    record { settled = off; clean = λ clean. clean; once = reads_once here here same; back = inl (reads_back here here same); made = λ none. made_by_reads _ here here same; done = λ clean none. tt }
+    record { settled = off; clean = λ clean. clean; once = reads_once here here same; back = inl (reads_back here here same); made = λ none. made_by_reads _ here here same; done = λ clean none. tt; moved = λ some. made_by_reads _ here here same; raised = λ clean some. tt }
 
 pub returns-in_default-clause-explains : goal.returns-in_default-clause-explains
 returns-in_default-clause-explains g c off =
