@@ -1,4 +1,5 @@
 pub mod Floats
 pub mod ListTexts
+pub mod MemberSteps
 pub mod ObjectTexts
 mod Rows

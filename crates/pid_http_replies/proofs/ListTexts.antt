@@ -44,7 +44,7 @@ module _ {A B : Type 0} (f : B → Data) (g : A → B) (xs : List A) (i : ℕ) w
   one_more : (x : A) → i < length xs → get_or xs i x ≡ x → take (i + 1) xs ≡ take i xs ++ x ∷ []
   one_more x inside at = take_more xs i x inside ∙ ap (λ y. take i xs ++ y ∷ []) at
 
-  told_more : (x : A) → i < length xs → get_or xs i x ≡ x → map f (map g (take (i + 1) xs)) ≡ map f (map g (take i xs)) ++ f (g x) ∷ []
+  pub told_more : (x : A) → i < length xs → get_or xs i x ≡ x → map f (map g (take (i + 1) xs)) ≡ map f (map g (take i xs)) ++ f (g x) ∷ []
   told_more x inside at =
       ap (λ ys. map f (map g ys)) (one_more x inside at) ∙ (ap (map f) (map-append g (take i xs) (x ∷ [])) ∙ map-append f (map g (take i xs)) (g x ∷ []))
 

@@ -1,5 +1,5 @@
 //! Replies with items that were added or renamed.
-ghost use Rattle.std.specs.Prelude.{◌≡◌, refl, string_bytes, IfOk};
+ghost use Rattle.std.specs.Prelude.{◌≡◌, ◌++◌, refl, string_bytes, IfOk, OnOk};
 ghost use Rattle.serde_json.specs.View.{view};
 ghost use Rattle.pid_moderation.specs.ChangePages.{Changed, changed_of, page_of};
 ghost use Rattle.pid_http_replies.specs.ChangeAnswers.{
@@ -12,15 +12,16 @@ ghost use Rattle.pid_http_replies.specs.ChangeAnswers.{
 ghost use Rattle.pid_http_replies.specs.Replying.{MakesReply};
 
 use crate::list::{Row, push_lines, rows_value};
+use crate::members::{with_path, with_text, with_value};
 use crate::reply::{json_reply, text_reply};
-use crate::text::{push_line, push_long_number};
+use crate::text::{push_line, push_word};
 use http::StatusCode;
 use itoa::Buffer;
 use pid_http_requests::Format;
 use pid_http_stream::Reply;
 use pid_ident::PathText;
 use pid_moderation::{ChangedItem, Changes};
-use serde_json::{Value, json};
+use serde_json::{Map, Value};
 use std::alloc::{AllocError, Global};
 
 impl Row for ChangedItem {
@@ -33,14 +34,16 @@ impl Row for ChangedItem {
     ghost line = { changed_line };
 
     fn value(&self, alloc: Global) -> Result<Value, AllocError> {
-        let path = self.path.path_text(alloc)?;
-        json!(in alloc; {"name": self.name.as_str(), "path": path.as_str(), "since": self.since})
+        let members = with_text(Map::new(alloc), alloc, "name", self.name.as_str())?;
+        let members = with_path(members, alloc, &self.path)?;
+        let members = with_value(members, alloc, "since", Value::from(self.since))?;
+        Ok(Value::Object(members))
     }
 
     fn push_line(&self, alloc: Global, text: &mut String) -> Result<(), AllocError> {
+        let mut digits = Buffer::new();
+        push_word(text, digits.format(self.since))?;
         let path = self.path.path_text(alloc)?;
-        push_long_number(text, self.since)?;
-        text.push_str(" ")?;
         push_line(text, path.as_str(), self.name.as_str())
     }
 
@@ -51,17 +54,18 @@ fn changes_value(alloc: Global, changes: &Changes) -> Result<Value, AllocError>
     ensures { IfOk result (λ value. view value ≡ changes_data (page_of changes.now)) }
 {
     let items = rows_value(alloc, changes.items.as_slice())?;
-    json!(in alloc; {"items": items, "revision": changes.revision})
+    let members = with_value(Map::new(alloc), alloc, "items", items)?;
+    let members = with_value(members, alloc, "revision", Value::from(changes.revision))?;
+    Ok(Value::Object(members))
 }
 
-fn changes_text(alloc: Global, changes: &Changes) -> Result<String, AllocError>
-    ensures { IfOk result (λ text. string_bytes text ≡ text_of_changes (page_of changes.now)) }
+fn push_changes(alloc: Global, text: &mut String, changes: &Changes) -> Result<(), AllocError>
+    ensures { OnOk result (string_bytes text.new
+        ≡ string_bytes text.old ++ text_of_changes (page_of changes.now)) }
 {
     let mut digits = Buffer::new();
-    let mut text = String::new(alloc);
-    push_line(&mut text, "revision", digits.format(changes.revision))?;
-    push_lines(alloc, &mut text, changes.items.as_slice())?;
-    Ok(text)
+    push_line(text, "revision", digits.format(changes.revision))?;
+    push_lines(alloc, text, changes.items.as_slice())
 }
 
 /// The reply with items that were added or renamed, in their order. The text has the line
@@ -76,7 +80,8 @@ pub fn changes_reply(alloc: Global, format: Format, changes: &Changes) -> Result
             json_reply(alloc, StatusCode::OK, value)
         }
         Format::Text => {
-            let text = changes_text(alloc, changes)?;
+            let mut text = String::new(alloc);
+            push_changes(alloc, &mut text, changes)?;
             Ok(text_reply(StatusCode::OK, text))
         }
     }

@@ -13,7 +13,7 @@ use pid_moderation::Refusal;
 use std::alloc::{AllocError, Global};
 
 /// Why a request comes to no call.
-#[derive(Clone, Copy, Debug, PartialEq, Eq)]
+#[derive(Clone, Copy)]
 pub enum Early {
     /// Its method is neither GET nor POST.
     AnotherMethod,

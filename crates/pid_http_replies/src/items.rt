@@ -12,6 +12,7 @@ ghost use Rattle.pid_http_replies.specs.ItemAnswers.{
 ghost use Rattle.pid_http_replies.specs.Replying.{MakesReply};
 
 use crate::list::{Row, list_reply};
+use crate::members::{with_path, with_text};
 use crate::reply::{json_reply, text_reply};
 use crate::text::push_line;
 use http::StatusCode;
@@ -19,14 +20,15 @@ use pid_http_requests::Format;
 use pid_http_stream::Reply;
 use pid_ident::{Name, Path, PathText};
 use pid_moderation::Item;
-use serde_json::{Value, json};
+use serde_json::{Map, Value};
 use std::alloc::{AllocError, Global};
 
 fn item_value(alloc: Global, path: &Path, name: &Name) -> Result<Value, AllocError>
     ensures { IfOk result (λ value. view value ≡ item_data (path_text path.now, name.now)) }
 {
-    let path = path.path_text(alloc)?;
-    json!(in alloc; {"name": name.as_str(), "path": path.as_str()})
+    let members = with_text(Map::new(alloc), alloc, "name", name.as_str())?;
+    let members = with_path(members, alloc, path)?;
+    Ok(Value::Object(members))
 }
 
 /// The reply with an item. The text is its name.

@@ -6,7 +6,7 @@ ghost use Rattle.serde_json.specs.View.{items_of, view};
 ghost use Rattle.serde_json.specs.Written.{comma_if, compact_text, has_float};
 ghost use Rattle.pid_http_replies.specs.Replying.{answer_in, MakesReply};
 
-use crate::reply::{json_text_reply, text_reply};
+use crate::reply::{json_text_reply, printed, text_reply};
 use http::StatusCode;
 use pid_http_requests::Format;
 use pid_http_stream::Reply;
@@ -55,20 +55,16 @@ pub(crate) fn rows_value<R: Row>(alloc: Global, rows: &[R]) -> Result<Value, All
     Ok(Value::Array(values))
 }
 
-// Appends a value, after a comma if `later` says that there is a row before it.
-fn push_value(alloc: Global, text: &mut String, later: bool, value: Value) -> Result<(), AllocError>
+/// Appends a value.
+pub(crate) fn push_value(alloc: Global, text: &mut String, value: Value) -> Result<(), AllocError>
     ensures { (json : Data) → view value ≡ json → has_float json ≡ false
-        → OnOk result (string_bytes text.new
-        ≡ string_bytes text.old ++ comma_if later ++ compact_text json) }
+        → OnOk result (string_bytes text.new ≡ string_bytes text.old ++ compact_text json) }
 {
-    let row = value.to_string(alloc)?;
-    if later {
-        text.push_str(",")?;
-    }
-    text.push_str(row.as_str())?;
-    Ok(())
+    let printed = printed(alloc, value)?;
+    text.push_str(printed.as_str())
 }
 
+// Appends a row, after a comma if `later` says that there is one before it.
 fn push_row<R: Row>(
     alloc: Global,
     text: &mut String,
@@ -78,8 +74,11 @@ fn push_row<R: Row>(
     ensures { OnOk result (string_bytes text.new
         ≡ string_bytes text.old ++ comma_if later ++ compact_text (R.json (R.seen row.now))) }
 {
+    if later {
+        text.push_str(",")?;
+    }
     let value = row.value(alloc)?;
-    push_value(alloc, text, later, value)
+    push_value(alloc, text, value)
 }
 
 /// Appends the rows as an array, row by row.

@@ -11,15 +11,10 @@ ghost use Rattle.pid_http_replies.specs.Outcomes.{
   outcome_data,
   status_of_outcome,
   unanswered_answer,
-  unanswered_data,
 };
 ghost use Rattle.pid_http_replies.specs.Replying.{MakesReply};
 ghost use Rattle.pid_http_stream.specs.Replies.{request_answer};
-ghost use Rattle.pid_http_stream.specs.RequestRefusals.{
-  refusal_data,
-  request_refusal_number,
-  request_refusal_word,
-};
+ghost use Rattle.pid_http_stream.specs.RequestRefusals.{refusal_data};
 ghost use Rattle.pid_http_stream.specs.Statuses.{allows_body};
 
 use crate::members::{with_text, with_value};
@@ -29,7 +24,7 @@ use pid_http_requests::Format;
 use pid_http_stream::{Reply as HttpReply, RequestRefusal};
 use pid_lookup::Unanswered;
 use pid_moderation::{FileFault, Refusal, Reply, reply_line};
-use serde_json::{Map, Value, json};
+use serde_json::{Map, Value};
 use std::alloc::{AllocError, Global};
 
 fn status_of(outcome: Result<Reply, Refusal>) -> StatusCode
@@ -59,19 +54,26 @@ fn status_of(outcome: Result<Reply, Refusal>) -> StatusCode
 fn done_value(alloc: Global) -> Result<Value, AllocError>
     ensures { IfOk result (λ value. view value ≡ done_data) }
 {
-    json!(in alloc; {"ok": true})
+    let members = with_value(Map::new(alloc), alloc, "ok", Value::Bool(true))?;
+    Ok(Value::Object(members))
 }
 
 fn numbered_value(alloc: Global, number: u32) -> Result<Value, AllocError>
     ensures { IfOk result (λ value. view value ≡ numbered_data number) }
 {
-    json!(in alloc; {"num": number, "ok": true})
+    let members = with_value(Map::new(alloc), alloc, "num", Value::from(number))?;
+    let members = with_value(members, alloc, "ok", Value::Bool(true))?;
+    Ok(Value::Object(members))
 }
 
 fn counts_value(alloc: Global, added: u32, renamed: u32, same: u32) -> Result<Value, AllocError>
     ensures { IfOk result (λ value. view value ≡ counts_data added renamed same) }
 {
-    json!(in alloc; {"added": added, "ok": true, "renamed": renamed, "same": same})
+    let members = with_value(Map::new(alloc), alloc, "added", Value::from(added))?;
+    let members = with_value(members, alloc, "ok", Value::Bool(true))?;
+    let members = with_value(members, alloc, "renamed", Value::from(renamed))?;
+    let members = with_value(members, alloc, "same", Value::from(same))?;
+    Ok(Value::Object(members))
 }
 
 fn fault_value(alloc: Global, line: u64, kind: u8) -> Result<Value, AllocError>
@@ -89,7 +91,10 @@ fn fault_value(alloc: Global, line: u64, kind: u8) -> Result<Value, AllocError>
 pub(crate) fn refusal_value(alloc: Global, number: u8, word: &str) -> Result<Value, AllocError>
     ensures { IfOk result (λ value. view value ≡ refusal_data number word.now) }
 {
-    json!(in alloc; {"ok": false, "refused": number, "word": word})
+    let members = with_value(Map::new(alloc), alloc, "ok", Value::Bool(false))?;
+    let members = with_value(members, alloc, "refused", Value::from(number))?;
+    let members = with_text(members, alloc, "word", word)?;
+    Ok(Value::Object(members))
 }
 
 fn outcome_value(alloc: Global, outcome: Result<Reply, Refusal>) -> Result<Value, AllocError>
@@ -147,25 +152,12 @@ pub fn refusal_reply(
     outcome_reply(alloc, format, Err(refusal))
 }
 
-fn request_value(alloc: Global, refusal: RequestRefusal) -> Result<Value, AllocError>
-    ensures { IfOk result (λ value. view value
-        ≡ refusal_data (request_refusal_number refusal) (request_refusal_word refusal)) }
-{
-    refusal_value(alloc, refusal.number(), refusal.word())
-}
-
 /// The reply to a request that is refused before anything is asked for it, as JSON.
 pub(crate) fn request_reply(alloc: Global, refusal: RequestRefusal) -> Result<HttpReply, AllocError>
     ensures { MakesReply result (request_answer refusal) }
 {
-    let value = request_value(alloc, refusal)?;
+    let value = refusal_value(alloc, refusal.number(), refusal.word())?;
     json_reply(alloc, refusal.status(), value)
-}
-
-fn unanswered_value(alloc: Global, why: Unanswered) -> Result<Value, AllocError>
-    ensures { IfOk result (λ value. view value ≡ unanswered_data why) }
-{
-    refusal_value(alloc, why.number(), why.word())
 }
 
 /// The reply to a question that has no answer, as JSON.
@@ -177,7 +169,7 @@ pub(crate) fn unanswered_reply(
     requires { IsTrue (allows_body status) }
     ensures { MakesReply result (unanswered_answer status why) }
 {
-    let value = unanswered_value(alloc, why)?;
+    let value = refusal_value(alloc, why.number(), why.word())?;
     json_reply(alloc, status, value)
 }
 
@@ -186,10 +178,7 @@ pub fn missing_reply(alloc: Global, format: Format) -> Result<HttpReply, AllocEr
     ensures { MakesReply result (missing_answer format) }
 {
     match format {
-        Format::Json => {
-            let value = unanswered_value(alloc, Unanswered::NoItem)?;
-            json_reply(alloc, StatusCode::NOT_FOUND, value)
-        }
+        Format::Json => unanswered_reply(alloc, StatusCode::NOT_FOUND, Unanswered::NoItem),
         Format::Text => {
             let line = String::from_str(alloc, Unanswered::NoItem.line())?;
             Ok(text_reply(StatusCode::NOT_FOUND, line))

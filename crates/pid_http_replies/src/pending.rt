@@ -17,7 +17,8 @@ ghost use Rattle.pid_http_replies.specs.Steps.NoFloats.{pending_has_none};
 
 use crate::list::{Row, list_reply};
 use crate::members::{with_path, with_text, with_value};
-use crate::text::push_number;
+use crate::text::{push_line, push_word};
+use itoa::Buffer;
 use pid_http_requests::Format;
 use pid_http_stream::Reply;
 use pid_ident::PathText;
@@ -56,28 +57,22 @@ pub(crate) fn submission_members(
     with_path(members, alloc, &submission.path)
 }
 
-/// Appends what is proposed (`name` or `remove`), the path, and after `name` the name.
+/// Appends what is proposed (`name` or `remove`), the path, after `name` the name, and a line feed.
 pub(crate) fn push_proposal(
     text: &mut String,
     proposal: &Proposal,
     path: &str,
 ) -> Result<(), AllocError>
     ensures { OnOk result (string_bytes text.new
-        ≡ string_bytes text.old ++ proposal_words proposal.now path.now) }
+        ≡ string_bytes text.old ++ proposal_words proposal.now path.now ++ codes "\n") }
 {
     match proposal {
         Proposal::Name(name) => {
-            text.push_str("name ")?;
-            text.push_str(path)?;
-            text.push_str(" ")?;
-            text.push_str(name.as_str())?;
+            push_word(text, "name")?;
+            push_line(text, path, name.as_str())
         }
-        Proposal::Removal => {
-            text.push_str("remove ")?;
-            text.push_str(path)?;
-        }
+        Proposal::Removal => push_line(text, "remove", path),
     }
-    Ok(())
 }
 
 /// Appends the line of a pending submission.
@@ -90,14 +85,11 @@ pub(crate) fn push_submission(
     ensures { OnOk result (string_bytes text.new
         ≡ string_bytes text.old ++ pending_line (number, standing_of submission.now)) }
 {
+    let mut digits = Buffer::new();
+    push_word(text, digits.format(number))?;
+    push_word(text, submission.author.as_str())?;
     let path = submission.path.path_text(alloc)?;
-    push_number(text, number)?;
-    text.push_str(" ")?;
-    text.push_str(submission.author.as_str())?;
-    text.push_str(" ")?;
-    push_proposal(text, &submission.proposal, path.as_str())?;
-    text.push_str("\n")?;
-    Ok(())
+    push_proposal(text, &submission.proposal, path.as_str())
 }
 
 impl Row for Pending {

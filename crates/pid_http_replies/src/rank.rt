@@ -1,15 +1,15 @@
 //! The reply with the rank of an account.
-ghost use Rattle.std.specs.Prelude.{◌≡◌, string_bytes, IfOk};
+ghost use Rattle.std.specs.Prelude.{◌≡◌, IfOk};
 ghost use Rattle.serde_json.specs.View.{view};
 ghost use Rattle.pid_http_replies.specs.RankAnswers.{
   no_account_answer,
   rank_answer,
   rank_data,
-  rank_line as line_of_rank,
   ranked_answer,
 };
 ghost use Rattle.pid_http_replies.specs.Replying.{MakesReply};
 
+use crate::members::{with_text, with_value};
 use crate::outcome::refusal_value;
 use crate::reply::{json_reply, text_reply};
 use crate::text::push_line;
@@ -19,22 +19,15 @@ use pid_http_requests::Format;
 use pid_http_stream::Reply;
 use pid_ident::Account;
 use pid_moderation::Rank;
-use serde_json::{Value, json};
+use serde_json::{Map, Value};
 use std::alloc::{AllocError, Global};
 
 fn rank_value(alloc: Global, who: &Account, rank: Rank) -> Result<Value, AllocError>
     ensures { IfOk result (λ value. view value ≡ rank_data who.now rank) }
 {
-    json!(in alloc; {"rank": rank.number(), "who": who.as_str()})
-}
-
-fn rank_line(alloc: Global, who: &Account, rank: Rank) -> Result<String, AllocError>
-    ensures { IfOk result (λ text. string_bytes text ≡ line_of_rank who.now rank) }
-{
-    let mut digits = Buffer::new();
-    let mut text = String::new(alloc);
-    push_line(&mut text, who.as_str(), digits.format(rank.number()))?;
-    Ok(text)
+    let members = with_value(Map::new(alloc), alloc, "rank", Value::from(rank.number()))?;
+    let members = with_text(members, alloc, "who", who.as_str())?;
+    Ok(Value::Object(members))
 }
 
 fn ranked_reply(
@@ -51,7 +44,9 @@ fn ranked_reply(
             json_reply(alloc, StatusCode::OK, value)
         }
         Format::Text => {
-            let text = rank_line(alloc, who, rank)?;
+            let mut digits = Buffer::new();
+            let mut text = String::new(alloc);
+            push_line(&mut text, who.as_str(), digits.format(rank.number()))?;
             Ok(text_reply(StatusCode::OK, text))
         }
     }

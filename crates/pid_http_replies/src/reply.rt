@@ -1,5 +1,5 @@
 //! Replies whose body is there.
-ghost use Rattle.std.specs.Prelude.{◌≡◌, false, string_bytes, IsTrue};
+ghost use Rattle.std.specs.Prelude.{◌≡◌, false, string_bytes, IfOk, IsTrue};
 ghost use Rattle.serde_json.specs.Data.{Data};
 ghost use Rattle.serde_json.specs.View.{view};
 ghost use Rattle.serde_json.specs.Written.{compact_text, has_float};
@@ -39,6 +39,14 @@ pub(crate) fn json_text_reply(status: StatusCode, text: String) -> Reply
     reply_with(status, Content::Json, text.into_bytes())
 }
 
+/// The text of a value as compact JSON.
+pub(crate) fn printed(alloc: Global, value: Value) -> Result<String, AllocError>
+    ensures { (json : Data) → view value ≡ json → has_float json ≡ false
+        → IfOk result (λ text. string_bytes text ≡ compact_text json) }
+{
+    value.to_string(alloc)
+}
+
 /// The reply with a value as compact JSON.
 pub(crate) fn json_reply(
     alloc: Global,
@@ -49,6 +57,6 @@ pub(crate) fn json_reply(
     ensures { (json : Data) → view value ≡ json → has_float json ≡ false
         → MakesReply result (answer_with status Content.Json (compact_text json)) }
 {
-    let text = value.to_string(alloc)?;
+    let text = printed(alloc, value)?;
     Ok(json_text_reply(status, text))
 }

@@ -50,17 +50,15 @@ fn push_count(text: &mut String, word: &str, count: u64) -> Result<(), AllocErro
     push_line(text, word, digits.format(count))
 }
 
-fn status_text(alloc: Global, status: &Status) -> Result<String, AllocError>
-    ensures { IfOk result (λ text. string_bytes text
-        ≡ text_of_status (registry_status_of status.now)) }
+fn push_status(text: &mut String, status: &Status) -> Result<(), AllocError>
+    ensures { OnOk result (string_bytes text.new
+        ≡ string_bytes text.old ++ text_of_status (registry_status_of status.now)) }
 {
-    let mut text = String::new(alloc);
-    push_count(&mut text, "accounts", status.accounts)?;
-    push_count(&mut text, "items", u64::from(status.items))?;
-    push_count(&mut text, "pending", u64::from(status.pending))?;
-    push_count(&mut text, "revision", status.revision)?;
-    push_count(&mut text, "submissions", u64::from(status.submissions))?;
-    Ok(text)
+    push_count(text, "accounts", status.accounts)?;
+    push_count(text, "items", u64::from(status.items))?;
+    push_count(text, "pending", u64::from(status.pending))?;
+    push_count(text, "revision", status.revision)?;
+    push_count(text, "submissions", u64::from(status.submissions))
 }
 
 /// The reply with how many accounts, items, pending submissions, accepted commands and submissions
@@ -74,7 +72,8 @@ pub fn status_reply(alloc: Global, format: Format, status: &Status) -> Result<Re
             json_reply(alloc, StatusCode::OK, value)
         }
         Format::Text => {
-            let text = status_text(alloc, status)?;
+            let mut text = String::new(alloc);
+            push_status(&mut text, status)?;
             Ok(text_reply(StatusCode::OK, text))
         }
     }

@@ -1,5 +1,5 @@
 //! The reply with a submission.
-ghost use Rattle.std.specs.Prelude.{◌≡◌, ◌++◌, codes, refl, string_bytes, IfOk, OnOk};
+ghost use Rattle.std.specs.Prelude.{◌≡◌, ◌++◌, codes, map, refl, string_bytes, IfOk, OnOk};
 ghost use Rattle.pid_moderation.specs.Submissions.{
   decider_of,
   reason_of,
@@ -16,6 +16,7 @@ ghost use Rattle.pid_http_replies.specs.SubmissionAnswers.{
   proposal_line,
   remark_data,
   remark_line,
+  remarks_data,
   standing_text,
   state_word,
   submission_answer,
@@ -23,18 +24,18 @@ ghost use Rattle.pid_http_replies.specs.SubmissionAnswers.{
 };
 ghost use Rattle.pid_http_replies.specs.Steps.SubmissionParts.{standing_members};
 
-use crate::list::{Row, push_lines, push_rows};
+use crate::list::{Row, push_lines, push_rows, push_value};
 use crate::members::with_text;
 use crate::pending::submission_members;
-use crate::reply::{json_text_reply, text_reply};
-use crate::text::push_line;
+use crate::reply::{json_text_reply, printed, text_reply};
+use crate::text::{push_line, push_word};
 use http::StatusCode;
 use itoa::Buffer;
 use pid_http_requests::Format;
 use pid_http_stream::Reply;
 use pid_ident::PathText;
 use pid_moderation::{Comment, Discussion, Proposal, State, Submission};
-use serde_json::{Value, json};
+use serde_json::{Map, Value};
 use std::alloc::{AllocError, Global};
 
 /// The state in one word.
@@ -81,11 +82,13 @@ impl Row for Comment {
     ghost line = { remark_line };
 
     fn value(&self, alloc: Global) -> Result<Value, AllocError> {
-        json!(in alloc; {"author": self.author.as_str(), "text": self.text.as_str()})
+        let members = with_text(Map::new(alloc), alloc, "author", self.author.as_str())?;
+        let members = with_text(members, alloc, "text", self.text.as_str())?;
+        Ok(Value::Object(members))
     }
 
     fn push_line(&self, _alloc: Global, text: &mut String) -> Result<(), AllocError> {
-        text.push_str("remark ")?;
+        push_word(text, "remark")?;
         push_line(text, self.author.as_str(), self.text.as_str())
     }
 
@@ -110,17 +113,30 @@ fn standing_json(alloc: Global, number: u32, submission: &Submission) -> Result<
         ≡ compact_text (object (standing_members number (standing_of submission.now)))) }
 {
     let value = standing_value(alloc, number, submission)?;
-    let mut text = value.to_string(alloc)?;
+    let mut text = printed(alloc, value)?;
     text.pop();
     Ok(text)
 }
 
-fn state_json(alloc: Global, state: &State) -> Result<String, AllocError>
-    ensures { IfOk result (λ text. string_bytes text
-        ≡ compact_text (string (state_word state.now))) }
+// Appends the last members, and the closing brace.
+fn push_remarks_and_state(
+    alloc: Global,
+    text: &mut String,
+    discussion: &Discussion,
+) -> Result<(), AllocError>
+    ensures { OnOk result (string_bytes text.new ≡ string_bytes text.old
+        ++ codes ",\"remarks\":"
+        ++ compact_text (remarks_data (map remark_of discussion.now.remarks.items))
+        ++ codes ",\"state\":"
+        ++ compact_text (string (state_word discussion.now.submission.state)) ++ codes "}") }
 {
-    let value = json!(in alloc; state_name(state))?;
-    value.to_string(alloc)
+    text.push_str(",\"remarks\":")?;
+    push_rows(alloc, text, discussion.remarks.as_slice())?;
+    text.push_str(",\"state\":")?;
+    let state = Value::try_from_str(alloc, state_name(&discussion.submission.state))?;
+    push_value(alloc, text, state)?;
+    text.push_str("}")?;
+    Ok(())
 }
 
 fn submission_json(
@@ -131,13 +147,8 @@ fn submission_json(
     ensures { IfOk result (λ text. string_bytes text
         ≡ compact_text (submission_data number (discussion_of discussion.now))) }
 {
-    let state = state_json(alloc, &discussion.submission.state)?;
     let mut text = standing_json(alloc, number, &discussion.submission)?;
-    text.push_str(",\"remarks\":")?;
-    push_rows(alloc, &mut text, discussion.remarks.as_slice())?;
-    text.push_str(",\"state\":")?;
-    text.push_str(state.as_str())?;
-    text.push_str("}")?;
+    push_remarks_and_state(alloc, &mut text, discussion)?;
     Ok(text)
 }
 
@@ -147,29 +158,28 @@ fn push_proposal_line(text: &mut String, proposal: &Proposal) -> Result<(), Allo
 {
     match proposal {
         Proposal::Name(name) => push_line(text, "name", name.as_str()),
-        Proposal::Removal => {
-            text.push_str("remove\n")?;
-            Ok(())
-        }
+        Proposal::Removal => text.push_str("remove\n"),
     }
 }
 
-fn standing_lines(alloc: Global, number: u32, submission: &Submission) -> Result<String, AllocError>
-    ensures { IfOk result (λ text. string_bytes text
-        ≡ standing_text number (standing_of submission.now)) }
+fn push_standing(
+    alloc: Global,
+    text: &mut String,
+    number: u32,
+    submission: &Submission,
+) -> Result<(), AllocError>
+    ensures { OnOk result (string_bytes text.new
+        ≡ string_bytes text.old ++ standing_text number (standing_of submission.now)) }
 {
-    let path = submission.path.path_text(alloc)?;
     let mut digits = Buffer::new();
-    let mut text = String::new(alloc);
-    push_line(&mut text, "num", digits.format(number))?;
-    push_line(&mut text, "author", submission.author.as_str())?;
-    push_line(&mut text, "path", path.as_str())?;
-    push_proposal_line(&mut text, &submission.proposal)?;
-    push_line(&mut text, "note", submission.note.as_str())?;
-    push_line(&mut text, "state", state_name(&submission.state))?;
-    push_line(&mut text, "decider", decider(submission))?;
-    push_line(&mut text, "reason", reason(&submission.state))?;
-    Ok(text)
+    push_line(text, "num", digits.format(number))?;
+    push_line(text, "author", submission.author.as_str())?;
+    push_line(text, "path", submission.path.path_text(alloc)?.as_str())?;
+    push_proposal_line(text, &submission.proposal)?;
+    push_line(text, "note", submission.note.as_str())?;
+    push_line(text, "state", state_name(&submission.state))?;
+    push_line(text, "decider", decider(submission))?;
+    push_line(text, "reason", reason(&submission.state))
 }
 
 /// The reply with the submission of a number, as it stands, and the remarks on it. In the text each
@@ -188,7 +198,8 @@ pub fn submission_reply(
             Ok(json_text_reply(StatusCode::OK, text))
         }
         Format::Text => {
-            let mut text = standing_lines(alloc, number, &discussion.submission)?;
+            let mut text = String::new(alloc);
+            push_standing(alloc, &mut text, number, &discussion.submission)?;
             push_lines(alloc, &mut text, discussion.remarks.as_slice())?;
             Ok(text_reply(StatusCode::OK, text))
         }

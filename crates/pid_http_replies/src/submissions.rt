@@ -1,5 +1,5 @@
 //! Replies with pages of submissions.
-ghost use Rattle.std.specs.Prelude.{◌≡◌, string_bytes, IfOk};
+ghost use Rattle.std.specs.Prelude.{◌≡◌, ◌++◌, string_bytes, IfOk, OnOk};
 ghost use Rattle.pid_moderation.specs.SubmissionPages.{Listing, listed_of, submission_page_of};
 ghost use Rattle.serde_json.specs.View.{view};
 ghost use Rattle.pid_http_replies.specs.Replying.{MakesReply};
@@ -17,14 +17,14 @@ use crate::members::{with_text, with_value};
 use crate::pending::{push_proposal, submission_members};
 use crate::reply::{json_reply, text_reply};
 use crate::submission::{decider, reason, state_name};
-use crate::text::{push_line, push_number};
+use crate::text::{push_line, push_word};
 use http::StatusCode;
 use itoa::Buffer;
 use pid_http_requests::Format;
 use pid_http_stream::Reply;
 use pid_ident::PathText;
 use pid_moderation::{Listed, SubmissionPage};
-use serde_json::{Value, json};
+use serde_json::{Map, Value};
 use std::alloc::{AllocError, Global};
 
 impl Row for Listed {
@@ -47,16 +47,12 @@ impl Row for Listed {
     }
 
     fn push_line(&self, alloc: Global, text: &mut String) -> Result<(), AllocError> {
+        let mut digits = Buffer::new();
+        push_word(text, digits.format(self.number))?;
+        push_word(text, state_name(&self.submission.state))?;
+        push_word(text, self.submission.author.as_str())?;
         let path = self.submission.path.path_text(alloc)?;
-        push_number(text, self.number)?;
-        text.push_str(" ")?;
-        text.push_str(state_name(&self.submission.state))?;
-        text.push_str(" ")?;
-        text.push_str(self.submission.author.as_str())?;
-        text.push_str(" ")?;
-        push_proposal(text, &self.submission.proposal, path.as_str())?;
-        text.push_str("\n")?;
-        Ok(())
+        push_proposal(text, &self.submission.proposal, path.as_str())
     }
 
     ghost no_float = { listed_has_none };
@@ -66,18 +62,18 @@ fn submissions_value(alloc: Global, page: &SubmissionPage) -> Result<Value, Allo
     ensures { IfOk result (λ value. view value ≡ submissions_data (submission_page_of page.now)) }
 {
     let submissions = rows_value(alloc, page.submissions.as_slice())?;
-    json!(in alloc; {"before": page.before, "submissions": submissions})
+    let members = with_value(Map::new(alloc), alloc, "before", Value::from(page.before))?;
+    let members = with_value(members, alloc, "submissions", submissions)?;
+    Ok(Value::Object(members))
 }
 
-fn submissions_text(alloc: Global, page: &SubmissionPage) -> Result<String, AllocError>
-    ensures { IfOk result (λ text. string_bytes text
-        ≡ text_of_submissions (submission_page_of page.now)) }
+fn push_page(alloc: Global, text: &mut String, page: &SubmissionPage) -> Result<(), AllocError>
+    ensures { OnOk result (string_bytes text.new
+        ≡ string_bytes text.old ++ text_of_submissions (submission_page_of page.now)) }
 {
     let mut digits = Buffer::new();
-    let mut text = String::new(alloc);
-    push_line(&mut text, "before", digits.format(page.before))?;
-    push_lines(alloc, &mut text, page.submissions.as_slice())?;
-    Ok(text)
+    push_line(text, "before", digits.format(page.before))?;
+    push_lines(alloc, text, page.submissions.as_slice())
 }
 
 /// The reply with a page of submissions, the latest first, and the number below which the next page
@@ -97,7 +93,8 @@ pub fn submissions_reply(
             json_reply(alloc, StatusCode::OK, value)
         }
         Format::Text => {
-            let text = submissions_text(alloc, page)?;
+            let mut text = String::new(alloc);
+            push_page(alloc, &mut text, page)?;
             Ok(text_reply(StatusCode::OK, text))
         }
     }

@@ -1,8 +1,7 @@
-use Rattle.std.proofs.Common.{◌≡◌, false, string_bytes, rules, ◌∙◌, ap}
+use Rattle.std.proofs.Common.{◌≡◌, string_bytes, rules, ◌∙◌}
 use Rattle.std.specs.String.{string_len}
 use Rattle.serde_json.specs.Data.{object}
-use Rattle.serde_json.specs.View.{view}
-use Rattle.serde_json.specs.Written.{has_float, compact_text}
+use Rattle.serde_json.specs.Written.{compact_text}
 use Rattle.pid_moderation.specs.Submissions.{standing_of}
 use Rattle.pid_http_replies.proofs.Floats.{standing_has_none}
 use Rattle.pid_http_replies.specs.Steps.SubmissionParts.{standing_members}
@@ -11,8 +10,6 @@ use Rattle.pid_http_replies.proofs.submission.standing_json.Goals as goal
 
 pub returns : goal.returns
 returns c =
-    let seen : view c.in_ok-value.value ≡ object (standing_members c.args.number (standing_of c.args.submission.now)) = c.in_ok-value.ensures in
-    let none : has_float (view c.in_ok-value.value) ≡ false = rw seen (standing_has_none c.args.number (standing_of c.args.submission.now)) in
     let printed : string_bytes c.in_ok-text.text ≡ compact_text (object (standing_members c.args.number (standing_of c.args.submission.now))) =
-    c.in_ok-text.ensures.text none ∙ ap compact_text seen in
+    c.in_ok-text.ensures _ c.in_ok-value.ensures (standing_has_none c.args.number (standing_of c.args.submission.now)) in
     popped (string_len c.in_ok-text.text) _ _ (standing_members c.args.number (standing_of c.args.submission.now)) (search rules) printed c.pop.ensures.ascii_bytes ∙ printed

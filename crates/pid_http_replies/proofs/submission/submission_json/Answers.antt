@@ -30,19 +30,7 @@ assembled n s remarks text is =
     regrouped text (codes ",\"remarks\":") (compact_text (remarks_data remarks)) (codes ",\"state\":") (compact_text (string (state_word s.state))) (codes "}")
     ∙ (ap (λ t. text ++ t) (last_text remarks s) ∙ extended (standing_members n s) (last_members remarks s) text is)
 
-followed : (text old new part : List ℕ) → old ≡ text → new ≡ old ++ part → new ≡ text ++ part
-followed text old new part before is = is ∙ ap (λ t. t ++ part) before
-
 pub returns : goal.returns
 returns c =
-    let submission = c.args.discussion.now.submission in
-    let text : List ℕ = string_bytes c.in_ok-text.text in
-    let list : List ℕ = compact_text (remarks_data (map remark_of c.args.discussion.now.remarks.items)) in
-    let word : List ℕ = compact_text (string (state_word submission.state)) in
-    let told : c.as_str.result.now ≡ word = c.as_str.ensures.value ∙ c.in_ok-state.ensures in
-    let listed : string_bytes c.push_rows.new.text ≡ text ++ codes ",\"remarks\":" ++ list =
-    followed _ _ _ list c.in_ok-push_str.ensures.bytes (c.in_ok-push_rows.ensures ∙ ap (λ items. string_bytes c.push_str.new.self ++ compact_text (remarks_data (map remark_of items))) c.as_slice.ensures.value) in
-    let stated : string_bytes c.push_str-3.new.self ≡ text ++ codes ",\"remarks\":" ++ list ++ codes ",\"state\":" ++ word =
-    followed _ _ _ word (followed _ _ _ (codes ",\"state\":") listed c.in_ok-push_str-2.ensures.bytes) (c.in_ok-push_str-3.ensures.bytes ∙ ap (λ t. string_bytes c.push_str-2.new.self ++ t) told) in
-    followed _ _ _ (codes "}") stated c.in_ok-push_str-4.ensures.bytes
-    ∙ assembled c.args.number (standing_of submission) (map remark_of c.args.discussion.now.remarks.items) text c.in_ok-text.ensures
+    c.in_ok-push_remarks_and_state.ensures
+    ∙ assembled c.args.number (standing_of c.args.discussion.now.submission) (map remark_of c.args.discussion.now.remarks.items) (string_bytes c.in_ok-text.text) c.in_ok-text.ensures

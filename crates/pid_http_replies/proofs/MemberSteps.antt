@@ -1,0 +1,12 @@
+-- Members of an object, one at a time.
+use Rattle.std.proofs.Common.{◌≡◌, ℕ, List, Bool, rules, ◌∙◌}
+use Rattle.serde_json.specs.Data.{Data, Members, boolean, put}
+use Rattle.serde_json.specs.View.{view}
+use Rattle.serde_json.specs.declared.value.Value.{Bool as Truth, the_lemmas}
+
+pub view_truth : (b : Bool) → view (Truth b) ≡ boolean b
+view_truth b = search (rules, the_lemmas)
+
+-- one more, by what its value stands for
+pub one_more : (key : List ℕ) (new old ms : Members) (v d : Data) → new ≡ put key v old → v ≡ d → old ≡ ms → new ≡ put key d ms
+one_more key new old ms v d is value before = is ∙ (λ k. put key (value k) (before k))
