@@ -1,5 +1,5 @@
 //! The tests that commands are checked by.
-ghost use Rattle.std.specs.Prelude.{◌≡◌, true, find, is_none};
+ghost use Rattle.std.specs.Prelude.{◌≡◌, true, find};
 ghost use Rattle.pid_file.specs.Bytes.{is_empty as no_bytes};
 ghost use Rattle.pid_moderation.specs.CheckTables.{
   first_failing as first_that_fails,
@@ -26,7 +26,7 @@ ghost use Rattle.pid_moderation.specs.Items.{has_name as names_so};
 ghost use Rattle.pid_moderation.specs.Steps.Following.{FollowsChecks};
 
 use crate::command::{Act, Command, Expected, Proposal};
-use crate::facts::{Facts, State, Verdict};
+use crate::facts::{Facts, State};
 use crate::rank::Rank;
 use crate::refusal::Refusal;
 use pid_ident::{Name, Text};
@@ -70,13 +70,6 @@ pub fn pass(checks: &[(bool, Refusal)]) -> Result<(), Refusal>
         Some((_, refusal)) => Err(refusal),
         None => Ok(()),
     }
-}
-
-/// Whether the account with this rank is not known.
-pub fn is_unknown(rank: Option<Rank>) -> bool
-    ensures { result ≡ is_none rank }
-{
-    rank.is_none()
 }
 
 /// Whether the rank is this one or a higher one.
@@ -188,22 +181,15 @@ pub fn is_empty_text(text: &Text) -> bool
     matches!(text.as_str().as_bytes(), [])
 }
 
-/// Whether the file of an import is too long: then it comes to nothing.
-pub fn is_missing(file: Option<Verdict>) -> bool
-    ensures { result ≡ is_none file }
-{
-    file.is_none()
-}
-
 /// Whether a command breaks a rule that its type does not keep: an empty comment or reason, or a
-/// file too long. Of an import the facts have what its file comes to.
+/// file too long. Of an import the facts have what its file comes to: nothing if it is too long.
 pub fn is_ill_formed(facts: &Facts, act: &Act) -> bool
     ensures { (reading : Reading) → result ≡ ill_formed facts.now (deed_of act.now reading) }
 {
     match act {
         Act::Comment { text, .. } => is_empty_text(text),
         Act::Reject { reason, .. } => is_empty_text(reason),
-        Act::Import { .. } => is_missing(facts.file),
+        Act::Import { .. } => facts.file.is_none(),
         Act::Account { .. } => false,
         Act::Submit { .. } => false,
         Act::Withdraw { .. } => false,

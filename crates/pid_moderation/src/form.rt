@@ -1,10 +1,15 @@
 //! Commands from their fields.
 ghost use Rattle.std.specs.Prelude.{◌≡◌, ◌≢◌, ◌&&◌, ◌==◌, ◌+◌, nat_le, true, false, codes};
-ghost use Rattle.std.specs.Prelude.{IfOk, IfErr, None, Some};
+ghost use Rattle.std.specs.Prelude.{IfOk, IfErr, None, Some, length};
 ghost use Rattle.pid_file.specs.Words.{is_name as name_test, is_text as text_test};
 ghost use Rattle.std.specs.Str.{bytes_eq};
 ghost use Rattle.std.specs.Option.{option_copied};
-ghost use Rattle.pid_moderation.specs.Fields.{texts_of, value as value_in, text_at as text_in};
+ghost use Rattle.pid_moderation.specs.Fields.{
+  texts_of,
+  is_once as once_in,
+  value as value_in,
+  text_at as text_in,
+};
 ghost use Rattle.pid_moderation.specs.Forms.{
   has_fields as fields_there,
   value_checks,
@@ -32,21 +37,36 @@ use std::alloc::Global;
 fn has_fields(verb: Verb, fields: &[(String, String)]) -> bool
     ensures { result ≡ fields_there verb (texts_of fields.now) }
 {
-    let count = fields.len();
     match verb {
-        Verb::Account => is_once(fields, "who") && is_once(fields, "rank") && count == 2,
+        Verb::Account => has_two(fields, "who", "rank"),
         Verb::Submit => {
             is_once(fields, "path")
                 && is_one_of(fields, "name", "remove")
-                && has_submit_count(count, times(fields, "note"))
+                && has_submit_count(fields.len(), times(fields, "note"))
         }
-        Verb::Comment => is_once(fields, "num") && is_once(fields, "text") && count == 2,
-        Verb::Withdraw => is_once(fields, "num") && count == 1,
-        Verb::Approve => is_once(fields, "num") && count == 1,
-        Verb::Confirm => is_once(fields, "num") && is_once(fields, "was") && count == 2,
-        Verb::Reject => is_once(fields, "num") && is_once(fields, "reason") && count == 2,
-        Verb::Import => is_once(fields, "file") && count == 1,
+        Verb::Comment => has_two(fields, "num", "text"),
+        Verb::Withdraw => has_one(fields, "num"),
+        Verb::Approve => has_one(fields, "num"),
+        Verb::Confirm => has_two(fields, "num", "was"),
+        Verb::Reject => has_two(fields, "num", "reason"),
+        Verb::Import => has_one(fields, "file"),
     }
+}
+
+// Whether these are the fields, each once, and there are no others.
+fn has_two(fields: &[(String, String)], name: &str, other: &str) -> bool
+    ensures { result ≡ (once_in name.now (texts_of fields.now)
+        && once_in other.now (texts_of fields.now) && length (texts_of fields.now) == 2) }
+{
+    is_once(fields, name) && is_once(fields, other) && fields.len() == 2
+}
+
+// Whether this is the one field.
+fn has_one(fields: &[(String, String)], name: &str) -> bool
+    ensures { result ≡ (once_in name.now (texts_of fields.now)
+        && length (texts_of fields.now) == 1) }
+{
+    is_once(fields, name) && fields.len() == 1
 }
 
 // Whether a submission has two fields, or three of which one is its note.
@@ -234,6 +254,11 @@ pub fn command_of(
         return Err(Refusal::BadText);
     }
     let act = act(alloc, verb, fields)?;
-    let (account, key) = sender(alloc, account, key)?;
-    Ok(Command { account, key, act })
+    match sender(alloc, account, key) {
+        Ok((account, key)) => Ok(Command { account, key, act }),
+        Err(refusal) => {
+            drop(act);
+            Err(refusal)
+        }
+    }
 }

@@ -67,8 +67,7 @@ ghost use Rattle.pid_moderation.specs.Revisions.{IsMarked};
 use crate::change::{Change, Edit, Effect, Receipt, Write};
 use crate::checks::{
     ITEMS, REMARKS, REVISIONS, SUBMISSIONS, first_failing, has_rank, is_changed, is_ill_formed,
-    is_pending, is_rank, is_removal, is_so, is_unknown, lacks_parent, leaves_children, overflows,
-    pass,
+    is_pending, is_rank, is_removal, is_so, lacks_parent, leaves_children, overflows, pass,
 };
 use crate::command::{Act, Command, Expected, Proposal, Reply};
 use crate::facts::{Facts, Named, State, Verdict};
@@ -82,11 +81,20 @@ fn absent(facts: &Facts) -> Refusal
     ensures { first_that_fails ((is_none facts.now.rank, Refusal.NoAccount)
         ∷ (true, Refusal.NoSubmission) ∷ []) ≡ Some result }
 {
-    if is_unknown(facts.rank) {
+    if facts.rank.is_none() {
         Refusal::NoAccount
     } else {
         Refusal::NoSubmission
     }
+}
+
+// A text and the account that it comes from, once more.
+fn signed(account: &Account, text: &Text) -> Result<(Account, Text), AllocError>
+    ensures { IfOk result (λ copy. copy ≡ (account.now, text.now)) }
+{
+    let account = account.copy()?;
+    let text = text.copy()?;
+    Ok((account, text))
 }
 
 fn set_rank(
@@ -98,7 +106,7 @@ fn set_rank(
     ensures { Settles facts.now account.now (Ranks who.now rank) result }
 {
     pass(&[
-        (is_unknown(facts.rank), Refusal::NoAccount),
+        (facts.rank.is_none(), Refusal::NoAccount),
         (
             !has_rank(Rank::Administrator, facts.rank),
             Refusal::RankTooLow,
@@ -107,7 +115,7 @@ fn set_rank(
         (is_rank(rank, facts.who), Refusal::NothingToDo),
     ])?;
     let who = who.copy()?;
-    let is_new = is_unknown(facts.who);
+    let is_new = facts.who.is_none();
     Ok((Effect::Ranked { who, rank, is_new }, Reply::Done))
 }
 
@@ -121,16 +129,18 @@ fn submit(
     ensures { Settles facts.now account.now (Submits path.now proposal.now note.now) result }
 {
     pass(&[
-        (is_unknown(facts.rank), Refusal::NoAccount),
+        (facts.rank.is_none(), Refusal::NoAccount),
         (SUBMISSIONS <= facts.submissions, Refusal::Full),
     ])?;
     let number = facts.submissions + 1;
+    let proposal = proposal.copy()?;
+    let (author, note) = signed(account, note)?;
     let effect = Effect::Submitted {
         number,
-        author: account.copy()?,
+        author,
         path: *path,
-        proposal: proposal.copy()?,
-        note: note.copy()?,
+        proposal,
+        note,
     };
     Ok((effect, Reply::Numbered(number)))
 }
@@ -147,14 +157,15 @@ fn comment(
         return Err(absent(facts));
     };
     pass(&[
-        (is_unknown(facts.rank), Refusal::NoAccount),
+        (facts.rank.is_none(), Refusal::NoAccount),
         (REMARKS <= named.remarks, Refusal::Full),
     ])?;
+    let (author, text) = signed(account, text)?;
     let effect = Effect::Remarked {
         number,
         place: named.remarks + 1,
-        author: account.copy()?,
-        text: text.copy()?,
+        author,
+        text,
     };
     Ok((effect, Reply::Done))
 }
@@ -166,7 +177,7 @@ fn withdraw(facts: &Facts, account: &Account, number: u32) -> Result<(Effect, Re
         return Err(absent(facts));
     };
     pass(&[
-        (is_unknown(facts.rank), Refusal::NoAccount),
+        (facts.rank.is_none(), Refusal::NoAccount),
         (*account != named.author, Refusal::NotAuthor),
         (!is_pending(&named.state), Refusal::NotPending),
     ])?;
@@ -185,7 +196,7 @@ fn may_decide(facts: &Facts, account: &Account, named: &Named) -> Result<(), Ref
 {
     let needed = needed_rank(&named.path, is_removal(&named.proposal));
     pass(&[
-        (is_unknown(facts.rank), Refusal::NoAccount),
+        (facts.rank.is_none(), Refusal::NoAccount),
         (!is_pending(&named.state), Refusal::NotPending),
         (!has_rank(needed, facts.rank), Refusal::RankTooLow),
         (*account == named.author, Refusal::OwnDecision),
@@ -306,18 +317,13 @@ fn reject(
         return Err(absent(facts));
     };
     may_decide(facts, account, named)?;
-    let state = State::Rejected {
-        decider: account.copy()?,
-        reason: reason.copy()?,
+    let (decider, reason) = signed(account, reason)?;
+    let effect = Effect::Decided {
+        number,
+        state: State::Rejected { decider, reason },
+        write: None,
     };
-    Ok((
-        Effect::Decided {
-            number,
-            state,
-            write: None,
-        },
-        Reply::Done,
-    ))
+    Ok((effect, Reply::Done))
 }
 
 // What an import is refused for, whatever its file comes to.
@@ -328,7 +334,7 @@ fn import_refusal(facts: &Facts) -> Option<Refusal>
     ensures alive { IfSome result (λ e. e ≢ Refusal.Failed) }
 {
     first_failing(&[
-        (is_unknown(facts.rank), Refusal::NoAccount),
+        (facts.rank.is_none(), Refusal::NoAccount),
         (!has_rank(Rank::Senior, facts.rank), Refusal::RankTooLow),
     ])
 }
@@ -345,7 +351,9 @@ fn bring_in(file: Option<Verdict>) -> Result<(Effect, Reply), Refusal>
                 items,
             },
         ) => {
-            pass(&[(ITEMS < items, Refusal::Full)])?;
+            if ITEMS < items {
+                return Err(Refusal::Full);
+            }
             let reply = Reply::Counts {
                 added,
                 renamed,
@@ -432,7 +440,9 @@ fn count(facts: &Facts, command: &Command, reply: Reply) -> Result<(u64, Option<
     ensures { FollowsChecks (revision_checks facts.now)
         (facts.now.revision + 1, receipt_of command.now.account command.now.key reply) result }
 {
-    pass(&[(REVISIONS <= facts.revision, Refusal::Full)])?;
+    if REVISIONS <= facts.revision {
+        return Err(Refusal::Full);
+    }
     let receipt = receipt(command, reply)?;
     Ok((facts.revision + 1, receipt))
 }
@@ -446,15 +456,20 @@ fn accept(facts: &Facts, command: &Command) -> Result<(Change, Reply), Refusal>
         ) result }
 {
     let (effect, reply) = effect(facts, command)?;
-    let (revision, receipt) = count(facts, command, reply)?;
-    Ok((
-        Change {
-            effect,
-            receipt,
-            revision,
-        },
-        reply,
-    ))
+    match count(facts, command, reply) {
+        Ok((revision, receipt)) => {
+            let change = Change {
+                effect,
+                receipt,
+                revision,
+            };
+            Ok((change, reply))
+        }
+        Err(refusal) => {
+            drop(effect);
+            Err(refusal)
+        }
+    }
 }
 
 // The outcome by the facts, and what it changes.

@@ -4,10 +4,11 @@ ghost use Rattle.pid_moderation.specs.declared.refusal.Refusal.TheVariants as va
 
 use pid_ident::LineKind;
 use std::alloc::AllocError;
+use std::fmt::{self, Display, Formatter, Write};
 use thiserror::Error;
 
 /// Why a file is not imported.
-#[derive(Clone, Copy, Debug, PartialEq, Eq, Error)]
+#[derive(Clone, Copy, Debug, Error)]
 pub enum FileFault {
     /// The first faulty line, counted from 1, and what is wrong with it.
     #[error("line {line}: {} {}", .kind.number(), .kind.word())]
@@ -18,8 +19,7 @@ pub enum FileFault {
 }
 
 /// Why a command is not accepted. A refused command changes nothing.
-#[derive(Clone, Copy, Debug, PartialEq, Eq, Error)]
-#[error("{}", self.sentence())]
+#[derive(Clone, Copy, Debug, Error)]
 pub enum Refusal {
     BadPath,
     BadName,
@@ -118,6 +118,13 @@ impl Refusal {
             Refusal::Failed => "the registry has failed earlier",
             Refusal::Changed => "the item is not as expected any more",
         }
+    }
+}
+
+// By hand: what the derive writes is proved once for each of the 18 refusals.
+impl Display for Refusal {
+    fn fmt<W: Write>(&self, f: &mut Formatter<W>) -> fmt::Result {
+        f.write_str(self.sentence())
     }
 }
 

@@ -11,11 +11,10 @@ returns-in_err-act c =
     let p = err_from_is_err_and c.from_residual.result c.from_residual.ensures.1 in
     said_so (form_checks c.args.verb c.args.account.now (option_copied c.args.key) (texts_of c.args.fields.now)) (command_said c.args.verb c.args.account.now (option_copied c.args.key) (texts_of c.args.fields.now)) _ _ (p.1 ∙ ap Err p.2) (λ m. act_fails c.args.verb c.args.account.now (option_copied c.args.key) (texts_of c.args.fields.now) _ (sym c.has_fields.ensures ∙ c.if-not-has_fields.false) (c.in_err-act.ensures m))
 
-pub returns-in_err-account : goal.returns-in_err-account
-returns-in_err-account c =
-    let p = err_from_is_err_and c.from_residual-in_err-account.result c.from_residual-in_err-account.ensures.1 in
-    said_so (form_checks c.args.verb c.args.account.now (option_copied c.args.key) (texts_of c.args.fields.now)) (command_said c.args.verb c.args.account.now (option_copied c.args.key) (texts_of c.args.fields.now)) _ _ (p.1 ∙ ap Err p.2) (λ m. sender_left c.args.verb c.args.account.now (option_copied c.args.key) (texts_of c.args.fields.now) (sym c.has_fields.ensures ∙ c.if-not-has_fields.false) c.in_ok-act.ensures.0 ∙ c.in_err-account.ensures m)
+pub returns-in-Err : goal.returns-in-Err
+returns-in-Err c =
+    λ m. sender_left c.args.verb c.args.account.now (option_copied c.args.key) (texts_of c.args.fields.now) (sym c.has_fields.ensures ∙ c.if-not-has_fields.false) c.in_ok-act.ensures.0 ∙ c.in-Err.ensures m
 
-pub returns : goal.returns
-returns c = says_command c.args.verb c.args.account.now (option_copied c.args.key) (texts_of c.args.fields.now) c.in_ok-act.act (c.in_ok-account.account, c.in_ok-account.key)
-    (sym c.has_fields.ensures ∙ c.if-not-has_fields.false) c.in_ok-act.ensures.0 c.in_ok-act.ensures.1 c.in_ok-account.ensures.0 c.in_ok-account.ensures.1
+pub returns-in-Ok : goal.returns-in-Ok
+returns-in-Ok c = says_command c.args.verb c.args.account.now (option_copied c.args.key) (texts_of c.args.fields.now) c.in_ok-act.act (c.in-Ok.account, c.in-Ok.key)
+    (sym c.has_fields.ensures ∙ c.if-not-has_fields.false) c.in_ok-act.ensures.0 c.in_ok-act.ensures.1 c.in-Ok.ensures.0 c.in-Ok.ensures.1

@@ -24,17 +24,15 @@ returns-in_err-effect c =
     let facts = c.args.facts.now in
     λ reading. follows_so (checks facts (asked c.args.command.now reading)) _ _ _ (p.1 ∙ ap Err p.2) (λ m. fails_first (command_checks facts (asked c.args.command.now reading)) (revision_checks facts) _ (c.in_err-effect.ensures reading m))
 
-pub returns-in_err-revision : goal.returns-in_err-revision
-returns-in_err-revision c =
-    let p = err_from_is_err_and c.from_residual-in_err-revision.result c.from_residual-in_err-revision.ensures.1 in
+pub returns-in-Err : goal.returns-in-Err
+returns-in-Err c =
     let facts = c.args.facts.now in
-    λ reading. follows_so (checks facts (asked c.args.command.now reading)) _ _ _ (p.1 ∙ ap Err p.2)
-    (λ m. fails_later (command_checks facts (asked c.args.command.now reading)) (revision_checks facts) (c.in_ok-effect.ensures reading).0 ∙ c.in_err-revision.ensures m)
+    λ reading m. fails_later (command_checks facts (asked c.args.command.now reading)) (revision_checks facts) (c.in_ok-effect.ensures reading).0 ∙ c.in-Err.ensures m
 
-pub returns : goal.returns
-returns c =
+pub returns-in-Ok : goal.returns-in-Ok
+returns-in-Ok c =
     let facts = c.args.facts.now in
     λ reading. let command = asked c.args.command.now reading in (
-      fails_later (command_checks facts command) (revision_checks facts) (c.in_ok-effect.ensures reading).0 ∙ c.in_ok-revision.ensures.0,
-      made (c.in_ok-effect.effect, c.in_ok-effect.reply) (c.in_ok-revision.revision, c.in_ok-revision.receipt) (effect_of command.account facts command.deed) (reply_by_facts facts command.deed) (facts.revision + 1) (receipt_of command.account command.key) (c.in_ok-effect.ensures reading).1 c.in_ok-revision.ensures.1,
+      fails_later (command_checks facts command) (revision_checks facts) (c.in_ok-effect.ensures reading).0 ∙ c.in-Ok.ensures.0,
+      made (c.in_ok-effect.effect, c.in_ok-effect.reply) (c.in-Ok.revision, c.in-Ok.receipt) (effect_of command.account facts command.deed) (reply_by_facts facts command.deed) (facts.revision + 1) (receipt_of command.account command.key) (c.in_ok-effect.ensures reading).1 c.in-Ok.ensures.1,
     )

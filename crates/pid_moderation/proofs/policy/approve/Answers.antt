@@ -1,0 +1,63 @@
+use Rattle.std.proofs.Common.{◌≡◌, ℕ, List, [], ◌∷◌, true, Some, None, Err, ap, ◌∙◌}
+use Rattle.std.specs.Prelude.{is_none}
+use Rattle.std.proofs.lemmas.Result.{err_from_is_err_and}
+use Rattle.pid_moderation.specs.declared.change.Effect.{Effect}
+use Rattle.pid_moderation.specs.declared.change.Effect.TheVariants.{Decided}
+use Rattle.pid_moderation.specs.declared.change.Write.{Write}
+use Rattle.pid_moderation.specs.declared.command.Expected.{Expected}
+use Rattle.pid_moderation.specs.declared.command.Reply.{Reply}
+use Rattle.pid_moderation.specs.declared.command.Reply.TheVariants.{Done}
+use Rattle.pid_moderation.specs.declared.facts.Facts.{Facts}
+use Rattle.pid_moderation.specs.declared.facts.Named.{Named}
+use Rattle.pid_moderation.specs.declared.facts.State.TheVariants.{Approved}
+use Rattle.pid_moderation.specs.declared.refusal.Refusal.{Refusal}
+use Rattle.pid_moderation.specs.declared.refusal.Refusal.TheVariants.{NoAccount, NoSubmission}
+use Rattle.pid_moderation.specs.CheckTables.{Checks, approval_checks, first_failing, later_checks}
+use Rattle.pid_moderation.specs.Effects.{effect_of, write_of}
+use Rattle.pid_moderation.specs.History.{Approves}
+use Rattle.pid_moderation.proofs.FormLemmas.{follows_so}
+use Rattle.pid_moderation.proofs.Passing.{all_pass}
+use Rattle.pid_moderation.proofs.policy.approve.Goals as goal
+
+-- the checks of an approval, and those where the submission is there
+abbrev asked_checks : List ℕ → Facts → ℕ → Expected → Checks
+asked_checks account f n e = (is_none f.rank, NoAccount) ∷ later_checks account f (Approves n e)
+
+abbrev its_checks : List ℕ → Facts → Expected → Named → Checks
+its_checks account f e s = (is_none f.rank, NoAccount) ∷ approval_checks account f e s
+
+is_absent : (account : List ℕ) (f : Facts) (n : ℕ) (e : Expected) (refusal : Refusal) → f.named ≡ None
+    → first_failing ((is_none f.rank, NoAccount) ∷ (true, NoSubmission) ∷ []) ≡ Some refusal → first_failing (asked_checks account f n e) ≡ Some refusal
+is_absent account f n e refusal none h = rw none h
+
+is_refused : (account : List ℕ) (f : Facts) (n : ℕ) (e : Expected) (s : Named) (refusal : Refusal) → f.named ≡ Some s
+    → first_failing (its_checks account f e s) ≡ Some refusal → first_failing (asked_checks account f n e) ≡ Some refusal
+is_refused account f n e s refusal is h = rw is h
+
+passes : (account : List ℕ) (f : Facts) (n : ℕ) (e : Expected) (s : Named) → f.named ≡ Some s
+    → first_failing (its_checks account f e s) ≡ None → first_failing (asked_checks account f n e) ≡ None
+passes account f n e s is h = rw is h
+
+decides : (account decider : List ℕ) (f : Facts) (n : ℕ) (e : Expected) (s : Named) (w : Write) → f.named ≡ Some s → decider ≡ account → w ≡ write_of f s
+    → ◌≡◌ {A = Effect × Reply} (Decided n (Approved decider) (Some w), Done) (effect_of account f (Approves n e), Done)
+decides account decider f n e s w is who what =
+    rw is (ap (λ (d : List ℕ). (Decided n (Approved d) (Some w), Done)) who ∙ ap (λ (x : Write). (Decided n (Approved account) (Some x), Done)) what)
+
+pub returns-in_default : goal.returns-in_default
+returns-in_default c = λ _. is_absent c.args.account.now c.args.facts.now c.args.number c.args.expected.now c.absent.result c.in_default.is c.absent.ensures
+
+pub returns-in_err-may_approve : goal.returns-in_err-may_approve
+returns-in_err-may_approve c =
+    let p = err_from_is_err_and c.from_residual.result c.from_residual.ensures.1 in
+    let f = c.args.facts.now in
+    follows_so (asked_checks c.args.account.now f c.args.number c.args.expected.now) _ _ _ (p.1 ∙ ap Err p.2)
+    (λ m. is_refused c.args.account.now f c.args.number c.args.expected.now c.in-Some.named _ c.in-Some.is (c.in_err-may_approve.ensures m))
+
+pub write-requires : goal.write-requires
+write-requires c = (all_pass (its_checks c.args.account.now c.args.facts.now c.args.expected.now c.in-Some.named) c.in_ok-may_approve.ensures.0).1.1.1.1.1.1.1.1.0
+
+pub returns : goal.returns
+returns c = (
+  passes c.args.account.now c.args.facts.now c.args.number c.args.expected.now c.in-Some.named c.in-Some.is c.in_ok-may_approve.ensures.0,
+  decides c.args.account.now c.in_ok-decider.decider c.args.facts.now c.args.number c.args.expected.now c.in-Some.named c.in_ok-write.field-0 c.in-Some.is c.in_ok-decider.ensures c.in_ok-write.ensures,
+)
