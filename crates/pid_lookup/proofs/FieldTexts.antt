@@ -1,5 +1,5 @@
 -- Fields of strings and of their bytes, and the look-up that they say.
-use Rattle.std.proofs.Common.{◌≡◌, ℕ, true, false, cond, List, [], ◌∷◌, Some, None, refl, sym, ap, ◌∙◌, String}
+use Rattle.std.proofs.Common.{◌≡◌, ℕ, Bool, true, false, cond, List, [], ◌∷◌, ◌++◌, Option, Some, None, refl, sym, ap, ◌∙◌, String}
 use Rattle.std.specs.Prelude.{string_bytes, codes, unwrap_or, not, ◌||◌, ◌&&◌, is_none}
 use Rattle.std.specs.List.{list_all, list_any}
 use Rattle.pid_form.specs.FormFields.{bytes_of}
@@ -16,6 +16,27 @@ unknown fields k = ap (λ b. not b || list_any is_none (
     ∷ number_said (codes "vendor") fields ∷ number_said (codes "device") fields
     ∷ number_said (codes "subvendor") fields ∷ number_said (codes "subdevice") fields
     ∷ number_said (codes "class") fields ∷ progif_said fields ∷ [])) k
+
+-- what the eight fields say, in their order
+abbrev pub all_said : Fields → List (Option ℕ)
+all_said fields = flags_said fields ∷ size_said fields
+    ∷ number_said (codes "vendor") fields ∷ number_said (codes "device") fields
+    ∷ number_said (codes "subvendor") fields ∷ number_said (codes "subdevice") fields
+    ∷ number_said (codes "class") fields ∷ progif_said fields ∷ []
+
+true_later : (a b : Bool) → b ≡ true → (a || b) ≡ true
+true_later true b is = refl
+true_later false b is = is
+
+none_among : (before after : List (Option ℕ)) → list_any is_none (before ++ (None ∷ after)) ≡ true
+none_among [] after = refl
+none_among (o ∷ before) after = true_later (is_none o) (list_any is_none (before ++ (None ∷ after))) (none_among before after)
+
+-- one of them says nothing
+pub one_missing : (fields : Fields) (before after : List (Option ℕ)) (o : Option ℕ) → are_known fields ≡ true → all_said fields ≡ before ++ (o ∷ after) → o ≡ None → are_bad fields ≡ true
+one_missing fields before after o known is none =
+    ap (λ b. not b || list_any is_none (all_said fields)) known
+    ∙ (ap (list_any is_none) is ∙ (ap (λ x. list_any is_none (before ++ (x ∷ after))) none ∙ none_among before after))
 
 -- the look-up of fields that are known and of which each says something
 pub said_by : (fields : Fields) (flags size vendor device subvendor subdevice class progif : ℕ) → are_known fields ≡ true → flags_said fields ≡ Some flags → size_said fields ≡ Some size

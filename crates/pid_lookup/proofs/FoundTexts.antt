@@ -1,7 +1,7 @@
 -- What was found shows what its request shows.
 use Rattle.std.proofs.Common.{◌≡◌, ℕ, Bool, true, false, not, ◌&&◌, ◌==◌, List, [], ◌∷◌, Option, Some, None, refl, sym, ap, ◌∙◌}
 use Rattle.pid_file.specs.declared.path.Path.{Path}
-use Rattle.pid_file.specs.declared.path.Path.TheVariants.{Vendor, Device, ProgIf}
+use Rattle.pid_file.specs.declared.path.Path.TheVariants.{Vendor, Device, Class, Subclass, ProgIf, Generic}
 use Rattle.pid_lookup.specs.declared.args.Args.{Args}
 use Rattle.pid_lookup.specs.declared.answer.Answer.{Answer}
 use Rattle.pid_lookup.specs.declared.answer.Answer.TheVariants.{Text}
@@ -11,12 +11,46 @@ use Rattle.pid_lookup.specs.declared.flags.Request.{Request}
 use Rattle.pid_lookup.specs.declared.flags.Request.TheVariants as requests
 use Rattle.pid_lookup.specs.declared.flags.Style.TheVariants as styles
 use Rattle.pid_lookup.specs.Flags.{Switches, has_bits}
-use Rattle.pid_lookup.specs.Found.{class_byte, first_there, ide_words, subclass_byte, subsystem_name, where_true}
-use Rattle.pid_lookup.specs.Answers.{cut_answer, request_number, one_shown, pair_shown, request_text, request_word}
+use Rattle.pid_lookup.specs.Found.{class_byte, class_name, first_there, ide_words, subclass_byte, subclass_name, subsystem_name, under_device, own_device, where_true}
+use Rattle.pid_lookup.specs.Answers.{class_shown, cut_answer, request_number, one_shown, pair_shown, request_text, request_word}
 use Rattle.pid_lookup.specs.Cut.{cut}
 use Rattle.pid_lookup.specs.Steps.FoundTexts.{IsFoundFor, found_text, nameless}
 use Rattle.pid_lookup.specs.Steps.Styles.{switches}
 use Rattle.pid_lookup.proofs.AnswerLaws.{both, number_text}
+
+-- one name
+pub for_vendor : (named : Path → Option (List ℕ)) (a : Args) (name : Option (List ℕ)) → name ≡ named (Vendor a.vendor) → IsFoundFor (found.One name) named requests.Vendor a
+for_vendor named a name is = record { shown = λ s. ap (one_shown s requests.Vendor a) is }
+
+pub for_device : (named : Path → Option (List ℕ)) (a : Args) (name : Option (List ℕ)) → name ≡ named (Device a.vendor a.device) → IsFoundFor (found.One name) named requests.Device a
+for_device named a name is = record { shown = λ s. ap (one_shown s requests.Device a) is }
+
+pub for_subvendor : (named : Path → Option (List ℕ)) (a : Args) (name : Option (List ℕ)) → name ≡ named (Vendor a.subvendor) → IsFoundFor (found.One name) named requests.Subvendor a
+for_subvendor named a name is = record { shown = λ s. ap (one_shown s requests.Subvendor a) is }
+
+pub for_subsystem : (named : Path → Option (List ℕ)) (a : Args) (name : Option (List ℕ)) → name ≡ subsystem_name named a → IsFoundFor (found.One name) named requests.Subsystem a
+for_subsystem named a name is = record { shown = λ s. ap (one_shown s requests.Subsystem a) is }
+
+-- a subsystem by its entry under no device, where it has none under its device
+pub by_generic : (named : Path → Option (List ℕ)) (a : Args) (name : List ℕ) → None ≡ under_device named a → Some name ≡ named (Generic a.subvendor a.subdevice) → Some name ≡ subsystem_name named a
+by_generic named a name none is = both (λ under generic. first_there (under ∷ generic ∷ own_device named a ∷ [])) none is
+
+-- a subclass by its entry; without one the class by its own, or neither
+pub its_subclass : (named : Path → Option (List ℕ)) (a : Args) (name : Option (List ℕ)) (class subclass : ℕ)
+    → name ≡ named (Subclass class subclass) → class ≡ class_byte a → subclass ≡ subclass_byte a → name ≡ subclass_name named a
+its_subclass named a name class subclass is is_class is_subclass = is ∙ both (λ c s. named (Subclass c s)) is_class is_subclass
+
+pub its_class : (named : Path → Option (List ℕ)) (a : Args) (name : Option (List ℕ)) (class : ℕ) → name ≡ named (Class class) → class ≡ class_byte a → name ≡ class_name named a
+its_class named a name class is is_class = is ∙ ap (λ c. named (Class c)) is_class
+
+pub for_subclass : (named : Path → Option (List ℕ)) (a : Args) (name : List ℕ) → Some name ≡ subclass_name named a → IsFoundFor (found.One (Some name)) named requests.Class a
+for_subclass named a name is = record { shown = λ s. ap (λ subclass. class_shown s a subclass (class_name named a)) is }
+
+pub for_class : (named : Path → Option (List ℕ)) (a : Args) (name : List ℕ) → None ≡ subclass_name named a → Some name ≡ class_name named a → IsFoundFor (found.ClassOnly name) named requests.Class a
+for_class named a name none is = record { shown = λ s. both (class_shown s a) none is }
+
+pub for_no_class : (named : Path → Option (List ℕ)) (a : Args) → None ≡ subclass_name named a → None ≡ class_name named a → IsFoundFor (found.One None) named requests.Class a
+for_no_class named a none nor = record { shown = λ s. both (class_shown s a) none nor }
 
 -- a pair
 pub for_device_pair : (named : Path → Option (List ℕ)) (a : Args) (v d : Option (List ℕ)) → v ≡ named (Vendor a.vendor) → d ≡ named (Device a.vendor a.device)

@@ -125,7 +125,11 @@ fn answer_request<N: Names>(
     match style {
         Style::Numeric => Ok(show_number(alloc, request, args, size)?),
         _ => match find(names, request, args) {
-            Ok(found) => Ok(show_found(alloc, style, request, args, &found, size)?),
+            Ok(found) => {
+                let shown = show_found(alloc, style, request, args, &found, size);
+                drop(found);
+                Ok(shown?)
+            }
             Err(fault) => Err(LookupRefusal::Names(fault)),
         },
     }

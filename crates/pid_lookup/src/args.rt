@@ -5,7 +5,7 @@ ghost use Rattle.pid_lookup.specs.Found.{class_byte as class_half, subclass_byte
 use pid_ident::{Id8, Id16};
 
 /// The numbers that a look-up is about. A request reads those that concern it.
-#[derive(Clone, Copy, PartialEq, Eq, Default)]
+#[derive(Clone, Copy, Default)]
 pub struct Args {
     pub vendor: Id16,
     pub device: Id16,

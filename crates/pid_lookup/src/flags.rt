@@ -12,7 +12,7 @@ ghost use Rattle.pid_lookup.specs.Steps.Styles.{switches};
 ghost use Rattle.pid_lookup.specs.Answers.{with_numbers, request_word};
 
 /// What a look-up asks for.
-#[derive(Clone, Copy, PartialEq, Eq)]
+#[derive(Clone, Copy)]
 pub enum Request {
     Vendor,
     Device,

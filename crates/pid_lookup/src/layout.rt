@@ -1,5 +1,5 @@
 //! How names and numbers are set.
-ghost use Rattle.std.specs.Prelude.{◌≡◌};
+ghost use Rattle.std.specs.Prelude.{◌≡◌, Some, None};
 ghost use Rattle.std.specs.List.{flat_map};
 ghost use Rattle.std.specs.Option.{option_copied, option_map};
 ghost use Rattle.pid_lookup.specs.Layouts.{one_text, pair_text, second_half as second_half_of};
@@ -26,25 +26,38 @@ pub fn one_parts<'a>(
     ensures { option_map (λ parts. flat_map (λ part. part.now) parts.slices) result
         ≡ one_text (switches style) number.now word.now (option_copied name.entry) }
 {
-    match (style, name) {
-        (Style::Numeric, _) => Some(Parts {
+    match name {
+        Some(name) => match style {
+            Style::Numeric => Some(Parts {
+                slices: [number, b"", b"", b"", b"", b""],
+            }),
+            Style::Plain | Style::NoNumbers => Some(Parts {
+                slices: [name, b"", b"", b"", b"", b""],
+            }),
+            Style::Mixed | Style::NoNumbersMixed => Some(Parts {
+                slices: [name, b" [", number, b"]", b"", b""],
+            }),
+        },
+        None => unnamed_parts(style, number, word),
+    }
+}
+
+// The word of a name that is not there, and the number.
+fn unnamed_parts<'a>(style: Style, number: &'a [u8], word: &'a [u8]) -> Option<Parts<'a>>
+    ensures { option_map (λ parts. flat_map (λ part. part.now) parts.slices) result
+        ≡ one_text (switches style) number.now word.now None }
+{
+    match style {
+        Style::Numeric => Some(Parts {
             slices: [number, b"", b"", b"", b"", b""],
         }),
-        (Style::NoNumbers | Style::NoNumbersMixed, None) => None,
-        (Style::Plain, None) => Some(Parts {
+        Style::Plain => Some(Parts {
             slices: [word, b" ", number, b"", b"", b""],
         }),
-        (Style::Mixed, None) => Some(Parts {
+        Style::Mixed => Some(Parts {
             slices: [word, b" [", number, b"]", b"", b""],
         }),
-        (Style::Plain | Style::NoNumbers, Some(name)) => Some(Parts {
-            slices: [name, b"", b"", b"", b"", b""],
-        }),
-        (Style::Mixed | Style::NoNumbersMixed, Some(name)) => {
-            Some(Parts {
-                slices: [name, b" [", number, b"]", b"", b""],
-            })
-        }
+        Style::NoNumbers | Style::NoNumbersMixed => None,
     }
 }
 
@@ -59,37 +72,47 @@ pub fn pair_parts<'a>(
         ≡ pair_text (switches style) number.now (option_copied vendor.entry)
         (option_copied device.entry) }
 {
-    match (style, vendor, device) {
-        (Style::Numeric, _, _) => Some(Parts {
+    match (vendor, device) {
+        (Some(vendor), Some(device)) => Some(named_pair(style, number, vendor, device)),
+        (Some(vendor), None) => unnamed_device(style, number, vendor),
+        (None, _) => unnamed_parts(style, number, b"Device"),
+    }
+}
+
+// A vendor and a device that have names.
+fn named_pair<'a>(style: Style, number: &'a [u8], vendor: &'a [u8], device: &'a [u8]) -> Parts<'a>
+    ensures { Some (flat_map (λ part. part.now) result.slices)
+        ≡ pair_text (switches style) number.now (Some vendor.now) (Some device.now) }
+{
+    match style {
+        Style::Numeric => Parts {
+            slices: [number, b"", b"", b"", b"", b""],
+        },
+        Style::Plain | Style::NoNumbers => Parts {
+            slices: [vendor, b" ", device, b"", b"", b""],
+        },
+        Style::Mixed | Style::NoNumbersMixed => Parts {
+            slices: [vendor, b" ", device, b" [", number, b"]"],
+        },
+    }
+}
+
+// A vendor that has a name, and a device that has none.
+fn unnamed_device<'a>(style: Style, number: &'a [u8], vendor: &'a [u8]) -> Option<Parts<'a>>
+    ensures { option_map (λ parts. flat_map (λ part. part.now) parts.slices) result
+        ≡ pair_text (switches style) number.now (Some vendor.now) None }
+{
+    match style {
+        Style::Numeric => Some(Parts {
             slices: [number, b"", b"", b"", b"", b""],
         }),
-        (Style::Plain | Style::NoNumbers, Some(vendor), Some(device)) => {
-            Some(Parts {
-                slices: [vendor, b" ", device, b"", b"", b""],
-            })
-        }
-        (Style::Mixed | Style::NoNumbersMixed, Some(vendor), Some(device)) => {
-            Some(Parts {
-                slices: [vendor, b" ", device, b" [", number, b"]"],
-            })
-        }
-        (Style::NoNumbers | Style::NoNumbersMixed, _, _) => None,
-        (Style::Plain, None, _) => Some(Parts {
-            slices: [b"Device ", number, b"", b"", b"", b""],
+        Style::Plain => Some(Parts {
+            slices: [vendor, b" Device ", second_half(number), b"", b"", b""],
         }),
-        (Style::Mixed, None, _) => Some(Parts {
-            slices: [b"Device [", number, b"]", b"", b"", b""],
+        Style::Mixed => Some(Parts {
+            slices: [vendor, b" Device [", number, b"]", b"", b""],
         }),
-        (Style::Plain, Some(vendor), None) => {
-            Some(Parts {
-                slices: [vendor, b" Device ", second_half(number), b"", b"", b""],
-            })
-        }
-        (Style::Mixed, Some(vendor), None) => {
-            Some(Parts {
-                slices: [vendor, b" Device [", number, b"]", b"", b""],
-            })
-        }
+        Style::NoNumbers | Style::NoNumbersMixed => None,
     }
 }
 
