@@ -31,11 +31,34 @@ use Rattle.pid_tables.specs.Creation.{table_names, IsNameTaken, RestsBare}
 use Rattle.pid_tables.specs.Statements.{Statement, IsMadeBy}
 use Rattle.pid_tables.specs.Bringing.{Brings, Left, Raised, HandsLatest, NamesLatest, Refuses, Stays}
 use Rattle.pid_tables.specs.Steps.Bringing.{IsStanding, Named, Found, step_for}
+use Rattle.pid_tables.specs.Steps.Found.{BringsFound, BringsNone, BringsOne}
 use Rattle.pid_tables.specs.declared.migration.Step.{Step}
 use Rattle.pid_tables.specs.declared.migration.Step.TheVariants.{Created, Moved, Already}
 use Rattle.pid_tables.proofs.AtOnceLemmas.{reads_never, reads_then_once}
 use Rattle.pid_tables.proofs.SchemaNumbers.{schema_told}
 use Rattle.pid_tables.proofs.StandLemmas.{standing_latest}
+
+-- ---- what was found
+
+module _ {S : Type 0} (g : Ghosts S) (old new : Held S) (found : Option Version) (r : Result Step TableFault) where
+  pub as_none : found ≡ None → BringsNone g old new r → BringsFound g found old new r
+  as_none is brings = subst (λ f. BringsFound g f old new r) (sym is) brings
+
+  pub as_one : found ≡ Some One → BringsOne g old new r → BringsFound g found old new r
+  as_one is brings = subst (λ f. BringsFound g f old new r) (sym is) brings
+
+  pub as_two : found ≡ Some Two → MatchResult r (λ _. new ≡ old) (λ _. ⊥) → BringsFound g found old new r
+  as_two is brings = subst (λ f. BringsFound g f old new r) (sym is) brings
+
+  module _ (brings : BringsFound g found old new r) where
+    pub of_none : found ≡ None → BringsNone g old new r
+    of_none is = subst (λ f. BringsFound g f old new r) is brings
+
+    pub of_one : found ≡ Some One → BringsOne g old new r
+    of_one is = subst (λ f. BringsFound g f old new r) is brings
+
+    pub of_two : found ≡ Some Two → MatchResult r (λ _. new ≡ old) (λ _. ⊥)
+    of_two is = subst (λ f. BringsFound g f old new r) is brings
 
 -- ---- no table
 

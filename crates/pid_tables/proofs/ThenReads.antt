@@ -9,6 +9,13 @@ use Rattle.pid_tables_rows.specs.Clauses.{AtRest, HasCleanDisk, OnlyReads, Reads
 use Rattle.pid_tables_rows.proofs.CauseLemmas.{caused_later, passed_on}
 use Rattle.pid_tables_rows.proofs.OnlyReading.{reads_then}
 
+-- the first read answers a fault, and so does the call
+pub fault_first : {S : Type 0} (store : Ghosts S) (old new : Held S) {X Y : Type 0} {Says : Views → X → Type 0} {P : Views → Y → Type 0} (e : TableFault) (r : Result Y TableFault) → IsErrAnd r (λ y. y ≡ e) → Reads store old new (Err e) Says → Reads store old new r P
+fault_first store old new {P = P} e r is one = record {
+  rests = one.rests;
+  told = λ clean v rest. passed_on r e (P v) (λ fault. IsReadable v → IsCaused (state store old) (state store new) fault) is (one.told clean v rest);
+}
+
 module _ {S : Type 0} (store : Ghosts S) (old mid new : Held S) (one : OnlyReads store old mid) where
   -- it answers a fault, and so does the call
   pub fault_after : {X Y : Type 0} {Says : Views → X → Type 0} {P : Views → Y → Type 0} (e : TableFault) (r : Result Y TableFault) → IsErrAnd r (λ y. y ≡ e) → Reads store mid new (Err e) Says → Reads store old new r P

@@ -25,6 +25,7 @@ use pid_tables_rows::remark::remark_count;
 use pid_tables_rows::submission::standing;
 use sqlite::{Alter, Connection};
 use std::alloc::Global;
+use std::mem::replace;
 
 fn kept<S: Alter>(
     conn: &mut Connection<S>,
@@ -100,7 +101,9 @@ fn add_named<S: Alter>(
     ensures { Reads S.Store conn.old conn.new result
         (λ v _. facts.new ≡ record facts.old { named = named_in v number }) }
 {
-    facts.named = named(conn, alloc, number)?;
+    let found = named(conn, alloc, number)?;
+    // What was there is dropped in one call.
+    drop(replace(&mut facts.named, found));
     Ok(())
 }
 

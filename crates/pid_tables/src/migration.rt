@@ -1,8 +1,6 @@
 //! Moves the tables of a database to schema 2.
 ghost use Rattle.std.specs.Prelude.{
   ◌≡◌,
-  None,
-  Some,
   true,
   false,
   IfErr,
@@ -12,8 +10,7 @@ ghost use Rattle.std.specs.Prelude.{
   OnErr,
   OnOk,
 };
-ghost use Rattle.pid_moderation.specs.History.{new_history};
-ghost use Rattle.pid_moderation.specs.Views.{Views, views_of};
+ghost use Rattle.pid_moderation.specs.Views.{Views};
 ghost use Rattle.pid_tables_rows.specs.Clauses.{
   AtRest,
   HasCleanDisk,
@@ -24,21 +21,20 @@ ghost use Rattle.pid_tables_rows.specs.Clauses.{
 };
 ghost use Rattle.pid_tables_rows.specs.Faults.{IsMemoryOrStore, IsNotNewerSchema};
 ghost use Rattle.pid_tables_rows.specs.Shows.{Counts, Numbers, ShowsKeeping};
-ghost use Rattle.pid_tables_rows.specs.declared.version.Version.TheVariants.{One, Two};
+ghost use Rattle.pid_tables_rows.specs.declared.version.Version.TheVariants.{One};
 ghost use Rattle.pid_tables_check.specs.Checking.{Explains};
 ghost use Rattle.pid_tables_check.specs.Shapes.{HasNoTable};
 ghost use Rattle.pid_tables.specs.Clauses.{
-  IsNameTaken,
   MigratesJudged,
   MigratesNone,
   MigratesShown,
-  RestsBare,
   WritesAtOnce,
 };
-ghost use Rattle.pid_tables.specs.Statements.{Carries, move_statements, registry_statements};
+ghost use Rattle.pid_tables.specs.Statements.{Carries, move_statements};
 ghost use Rattle.pid_tables.specs.Steps.Clauses.{FindsShown};
 ghost use Rattle.pid_tables.specs.Bringing.{NamesLatest};
 ghost use Rattle.pid_tables.specs.Steps.Bringing.{IsStanding, TellsLatest, is_latest, step_for};
+ghost use Rattle.pid_tables.specs.Steps.Found.{BringsFound};
 
 use crate::batch::commit;
 use crate::creation::create;
@@ -148,21 +144,7 @@ fn bring<S: Alter>(conn: &mut Connection<S>, found: Option<Version>) -> Result<S
     requires { conn.old.in_transaction ≡ false }
     ensures at_once { WritesAtOnce S.Store conn.old conn.new result }
     ensures step { IfOk result (λ step. step ≡ step_for found) }
-    ensures created { HasCleanDisk S.Store conn.new → found ≡ None → RestsBare S.Store conn.old
-        → MatchResult result (λ _. AtRest S.Store conn.new (views_of new_history))
-        (λ fault. IsMemoryOrStore fault × RestsBare S.Store conn.new) }
-    ensures met { HasCleanDisk S.Store conn.new → found ≡ None
-        → (IsTrue (is_open S.Store conn.old) → IsNameTaken S.Store conn.old)
-        → MatchResult result (λ _. ⊥)
-        (λ fault. IsNotNewerSchema fault × OnlyReads S.Store conn.old conn.new) }
-    ensures made { found ≡ None
-        → Carries S.Store registry_statements conn.old conn.new result }
-    ensures raised { found ≡ Some One
-        → Carries S.Store move_statements conn.old conn.new result }
-    ensures moved { HasCleanDisk S.Store conn.new → found ≡ Some One → (v : Views)
-        → RestsIn S.Store One conn.old v → MatchResult result (λ _. AtRest S.Store conn.new v)
-        (λ fault. IsMemoryOrStore fault × RestsIn S.Store One conn.new v) }
-    ensures already { found ≡ Some Two → MatchResult result (λ _. conn.new ≡ conn.old) (λ _. ⊥) }
+    ensures brings { BringsFound S.Store found conn.old conn.new result }
     ensures never { HasCleanDisk S.Store conn.new → IfErr result IsNotNewerSchema }
 {
     match found {

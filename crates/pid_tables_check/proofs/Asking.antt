@@ -1,4 +1,5 @@
 -- What it leaves, and what it tells, to prepare the text of a query.
+use Rattle.std.proofs.lemmas.Bool.{false≢true}
 use mathlib.Core.Bool.{beq}
 use Rattle.std.proofs.Common.{◌≡◌, ◌⊎◌, inl, inr, ℕ, zero, suc, List, [], ◌∷◌, Bool, true, false, not, Some, Ok, Err, Result, IfOk, IfErr, OnOk, IsTrue, refl, sym, ap, subst, ◌∙◌, ◌+◌, ◌<◌, length, get_or, arith}
 use Rattle.std.specs.Result.{result_err}
@@ -15,7 +16,6 @@ use Rattle.sqlite_resolve.specs.declared.compiled.Compiled.{Compiled}
 use Rattle.sqlite_resolve.specs.declared.error.CompileError.{CompileError}
 use Rattle.sqlite_trees.specs.declared.error.StoreError.{StoreError}
 use Rattle.sqlite_trees.specs.declared.error.StoreError.TheVariants as store
-use Rattle.sqlite_rules.specs.Lists as members
 use Rattle.pid_moderation.specs.Views.{Views}
 use Rattle.pid_tables_rows.specs.declared.fault.TableFault.{TableFault}
 use Rattle.pid_tables_rows.specs.declared.fault.TableFault.TheVariants.{Damaged}
@@ -178,7 +178,7 @@ module _ (schema : Schema) where
         let t = unmapped query_of six text has in
         elim (known (understood schema text)) [
           | inl asked ↦ asked
-          | inr not_asked ↦ absurd (not_both lacks none (judged.1 (some_place (IsAsked false) six t.0 t.1 (λ bad. absurd cc, λ is. absurd (not_asked (subst (CanBeAsked schema) (sym t.2) is))))))
+          | inr not_asked ↦ absurd (not_both lacks none (judged.1 (some_place (IsAsked false) six t.0 t.1 (λ bad. absurd (false≢true bad), λ is. absurd (not_asked (subst (CanBeAsked schema) (sym t.2) is))))))
         ],
     λ each. nothing lacks (λ yes. let t = some_member (IsAsked false) six (judged.0 yes) in let bad = t.2.1 (each (query_of t.0) (mapped query_of six t.0 t.1)) in cc),
   )

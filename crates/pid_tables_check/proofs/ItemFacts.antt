@@ -1,5 +1,6 @@
 -- The set of the paths of items, and what makes rows of items those of a registry.
 use Rattle.std.proofs.Common.{◌≡◌, ◌⊎◌, ◌&&◌, inl, inr, ℕ, ◌≤◌, List, [], ◌∷◌, ◌++◌, length, Bool, IsTrue, true, false, cond, refl, sym, ap, subst, ◌∙◌, arith}
+use Rattle.std.proofs.lemmas.Bool.{false≢true}
 use Rattle.std.specs.Prelude.{◌↔◌}
 use Rattle.std.specs.List.{list_any}
 use Rattle.std.specs.Ordering.{is_eq}
@@ -46,7 +47,7 @@ texts_same p q e = cc
 
 pub both : (one other : Bool) → IsTrue (one && other) ↔ (IsTrue one × IsTrue other)
 both true other = (λ yes. (refl, yes), λ it. it.1)
-both false other = (λ no. absurd cc, λ it. it.0)
+both false other = (λ no. absurd (false≢true no), λ it. it.0)
 
 -- one row more, and each is so
 pub one_row : (Is : Row → Type 0) (rows : List Row) (r : Row) (good row : Bool) → (IsTrue row ↔ Is r) → IsPartJudged (AreEach Is) rows good → IsPartJudged (AreEach Is) (rows ++ r ∷ []) (good && row)

@@ -2,6 +2,7 @@
 ghost use Rattle.std.specs.Prelude.{
   ◌≡◌,
   ◌∷◌,
+  ◌++◌,
   [],
   None,
   Some,
@@ -17,24 +18,23 @@ ghost use Rattle.pid_moderation.specs.WellMade.{IsItem, AllItems};
 ghost use Rattle.pid_reader.specs.LookingBack.{Item as Pair};
 ghost use Rattle.pid_tables_rows.specs.Steps.Answers.{item_shown};
 ghost use Rattle.pid_moderation.specs.ItemPairs.{pair_of};
-ghost use Rattle.pid_tables_rows.specs.Steps.Ranges.{generics_from};
 ghost use Rattle.pid_tables_rows.specs.Unread.{IsUnreadable};
 ghost use Rattle.pid_tables_rows.specs.declared.fault.TableFault.{TableFault as FaultValue};
 ghost use Rattle.pid_tables_lists.specs.declared.walk.EachEnd.TheVariants as ends;
 ghost use Rattle.pid_tables_rows.specs.Shows.{AreViews};
 ghost use Rattle.pid_moderation.specs.Children.{children_of};
 ghost use Rattle.pid_tables_lists.specs.Steps.Adding.{Adds};
-ghost use Rattle.pid_tables_lists.specs.Steps.Children.{between, children_among, under};
+ghost use Rattle.pid_tables_lists.specs.Steps.Children.{children_among, under};
 ghost use Rattle.pid_tables_lists.specs.Children.{AreChildren};
 ghost use Rattle.pid_tables_rows.specs.Clauses.{Reads};
 
 use crate::adding::put_last;
 use crate::walk::{EachEnd, each_item};
-use pid_ident::{Id16, Name, Path, PathText};
+use pid_ident::{Name, Path, PathText, hex4};
 use pid_moderation::Item;
 use pid_reader::{Entry, Sink};
 use pid_tables_rows::TableFault;
-use pid_tables_rows::item::{Range, item_of, range_below, range_of_generics};
+use pid_tables_rows::item::{item_of, range_below};
 use pid_tables_rows::run::read_rows;
 use sqlite::types::ValueRef;
 use sqlite::{Alter, Connection, Row};
@@ -79,19 +79,22 @@ fn add_children(
     Ok(())
 }
 
-// Keeps the items of a range that are directly below the path.
-fn add_range<S: Alter>(
+// Keeps the items that are directly below the path, of those whose paths go on after the text of
+// the two parts and a slash.
+fn add_under<S: Alter>(
     kept: &mut Vec<Item>,
     conn: &mut Connection<S>,
     alloc: Global,
-    range: &Range,
+    front: &[u8],
+    rest: &[u8],
     path: Path,
 ) -> Result<(), TableFault>
     requires { conn.old.in_transaction ≡ false }
     ensures { Reads S.Store conn.old conn.new result (λ v _. AreViews v
         × Adds pair_of kept.old.items kept.new.items
-        (children_among path (between range.now.low.items range.now.high.items v.items))) }
+        (children_among path (under (front.now ++ rest.now) v.items))) }
 {
+    let range = range_below(alloc, front, rest)?;
     let low = ValueRef::Text(range.low.as_slice());
     let high = ValueRef::Text(range.high.as_slice());
     let rows = read_rows(
@@ -100,40 +103,6 @@ fn add_range<S: Alter>(
         &[low, high],
     )?;
     add_children(kept, rows.as_slice(), alloc, path)
-}
-
-// Those of the generic subsystems of a vendor.
-fn add_generics<S: Alter>(
-    kept: &mut Vec<Item>,
-    conn: &mut Connection<S>,
-    alloc: Global,
-    vendor: Id16,
-    path: Path,
-) -> Result<(), TableFault>
-    requires { conn.old.in_transaction ≡ false }
-    ensures { Reads S.Store conn.old conn.new result
-        (λ v _. Adds pair_of kept.old.items kept.new.items
-        (children_among path (under (generics_from vendor) v.items))) }
-{
-    let range = range_of_generics(alloc, vendor)?;
-    add_range(kept, conn, alloc, &range, path)
-}
-
-// Those whose paths go on after the path's and a slash.
-fn add_below<S: Alter>(
-    kept: &mut Vec<Item>,
-    conn: &mut Connection<S>,
-    alloc: Global,
-    path: Path,
-) -> Result<(), TableFault>
-    requires { conn.old.in_transaction ≡ false }
-    ensures { Reads S.Store conn.old conn.new result (λ v _. AreViews v
-        × Adds pair_of kept.old.items kept.new.items
-        (children_among path (under (path_text path) v.items))) }
-{
-    let text = path.path_text(alloc)?;
-    let range = range_below(alloc, b"", text.as_bytes())?;
-    add_range(kept, conn, alloc, &range, path)
 }
 
 fn below<S: Alter>(
@@ -145,11 +114,16 @@ fn below<S: Alter>(
     ensures { Reads S.Store conn.old conn.new result
         (λ v items. AreChildren (Some (path_text path)) v items.items) }
 {
+    let text = path.path_text(alloc)?;
     let mut kept = Vec::new(alloc);
-    add_below(&mut kept, conn, alloc, path)?;
+    let added = add_under(&mut kept, conn, alloc, b"", text.as_bytes(), path);
+    drop(text);
+    added?;
     match path {
         Path::Vendor { vendor } => {
-            add_generics(&mut kept, conn, alloc, vendor, path)?;
+            // its generic subsystems, as PS/8086/.. of PC/8086
+            let digits = hex4(vendor);
+            add_under(&mut kept, conn, alloc, b"PS/", digits.as_slice(), path)?;
             Ok(kept)
         }
         _ => Ok(kept),

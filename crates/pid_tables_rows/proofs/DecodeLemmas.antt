@@ -11,6 +11,9 @@ use Rattle.pid_moderation.specs.declared.command.Proposal.{Proposal}
 use Rattle.pid_moderation.specs.declared.command.Proposal.TheVariants.{Name, Removal}
 use Rattle.pid_moderation.specs.declared.command.Reply.{Reply}
 use Rattle.pid_moderation.specs.declared.command.Reply.TheVariants.{Done, Numbered, Counts}
+use Rattle.pid_moderation.specs.declared.rank.Rank.{Rank}
+use Rattle.pid_moderation.specs.declared.rank.Rank.TheVariants.{Contributor, Moderator, Senior, Administrator}
+use Rattle.pid_moderation.specs.Ranks.{rank_number}
 use Rattle.pid_moderation.specs.declared.facts.State.{State}
 use Rattle.pid_moderation.specs.declared.facts.State.TheVariants.{Pending, Approved, Rejected, Withdrawn}
 use Rattle.pid_moderation.specs.Views.{Views, Submitted, submission_at}
@@ -18,7 +21,7 @@ use Rattle.pid_moderation.specs.declared.lists.Submission.{Submission}
 use Rattle.pid_tables_rows.specs.TableRows.{number, form_of, name_of, state_number, reply_kind, first_number, second_number, third_number}
 use Rattle.pid_moderation.specs.Submissions.{Standing, decider_of, reason_of, standing_in, standing_of}
 use Rattle.pid_tables_rows.specs.Answers.{standing_row}
-use Rattle.pid_tables_rows.specs.Steps.Answers.{reply_row}
+use Rattle.pid_tables_rows.specs.Steps.Answers.{name_row, rank_row, reply_row}
 use Rattle.pid_tables_rows.specs.Shows.{AreViews}
 use Rattle.pid_tables_rows.specs.Standings.{ReadsTo}
 
@@ -31,6 +34,38 @@ text_same s t e = cc
 pub some_row : {X : Type 0} (row_of : X → Row) (o : Option X) (row : Row) → Some row ≡ option_map row_of o → (x : X) × (o ≡ Some x) × (row ≡ row_of x)
 some_row row_of None row e = absurd (let bad : ⊥ = cc in bad)
 some_row row_of (Some x) row e = (x, refl, cc)
+
+pub no_row : {X : Type 0} (row_of : X → Row) (o : Option X) → None ≡ option_map row_of o → None ≡ o
+no_row row_of None h = refl
+no_row row_of (Some x) h = cc
+
+-- ---- names
+
+pub name_read : (o : Option (List ℕ)) (row : Row) (name : List ℕ) → Some row ≡ option_map name_row o → column row 0 ≡ Text name → Some name ≡ o
+name_read o row name first is =
+    let it = some_row name_row o row first in
+    ap Some (text_same _ _ (sym is ∙ ap (λ r. column r 0) it.2)) ∙ sym it.1
+
+-- ---- ranks
+
+ranked : ℕ → Rank
+ranked zero = Contributor
+ranked (suc zero) = Moderator
+ranked (suc (suc zero)) = Senior
+ranked (suc (suc (suc n))) = Administrator
+
+same_rank : (r : Rank) → ranked (rank_number r) ≡ r
+unfolding ranked
+same_rank Contributor = refl
+same_rank Moderator = refl
+same_rank Senior = refl
+same_rank Administrator = refl
+
+pub rank_read : (o : Option Rank) (row : Row) (rank : Rank) → Some row ≡ option_map rank_row o → column row 0 ≡ number (rank_number rank) → Some rank ≡ o
+rank_read o row rank first is =
+    let it = some_row rank_row o row first in
+    let same = number_same _ _ (sym is ∙ ap (λ r. column r 0) it.2) in
+    ap Some (sym (same_rank rank) ∙ ap ranked same ∙ same_rank it.0) ∙ sym it.1
 
 -- ---- replies
 
@@ -51,10 +86,6 @@ reply_read o row reply first kind a b c =
     let it = some_row reply_row o row first in
     let at = λ (i : ℕ). ap (λ r. column r i) (sym it.2) in
     ap Some (replies_same reply it.0 (sym (number_same _ _ (at 0 ∙ kind))) (sym (number_same _ _ (at 1 ∙ a))) (sym (number_same _ _ (at 2 ∙ b))) (sym (number_same _ _ (at 3 ∙ c)))) ∙ sym it.1
-
-pub no_row : {X : Type 0} (row_of : X → Row) (o : Option X) → None ≡ option_map row_of o → None ≡ o
-no_row row_of None h = refl
-no_row row_of (Some x) h = cc
 
 -- ---- submissions
 

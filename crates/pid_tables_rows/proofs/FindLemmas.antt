@@ -13,7 +13,7 @@ use Rattle.pid_tables_rows.specs.Schema.{schema_of, meta, account, item, submiss
 use Rattle.pid_tables_rows.specs.TableRows.{number, meta_row, account_row, item_row, submission_row, receipt_row}
 use Rattle.pid_tables_rows.specs.Answers.{standing_row}
 use Rattle.pid_tables_rows.specs.Steps.Answers.{value_row, rank_row, name_row, reply_row}
-use Rattle.pid_tables_rows.specs.Shows.{Counts, Numbers, ShowsKeeping, Shows, labels_of, receipt_in}
+use Rattle.pid_tables_rows.specs.Shows.{AreViews, Counts, Numbers, ShowsKeeping, Shows, counts_of, labels_of, receipt_in}
 use Rattle.pid_moderation.specs.Submissions.{standing_in}
 use Rattle.pid_tables_rows.specs.declared.fault.TableFault.{TableFault}
 use Rattle.pid_tables_rows.specs.Causes.{IsCaused, IsReadable}
@@ -53,3 +53,20 @@ pub at_rest : {S X : Type 0} (g : Ghosts S) (old : Held S) (new : State) (v : Vi
     → MatchResult r P (λ fault. IsReadable v → IsCaused (state g old) new fault)
 at_rest g old new v sql params (Ok x) rows P rest told h caused = rows_at_rest g old v sql params (rows x) (P x) rest (λ mid. told mid x) h
 at_rest g old new v sql params (Err e) rows P rest told h caused = λ readable. caused
+
+-- the first row that a read by a key answers, in a transaction of its own on tables at rest
+module _ {S : Type 0} (g : Ghosts S) (old : Held S) (v : Views) (rest : AtRest (state g old) v) (rows : List Row) where
+  abbrev pub Answers : List ℕ → Row → Type 0
+  Answers sql params = (mid : Held S) × Shown sql params (state g (record old { in_transaction = true })) (state g mid) rows
+
+  pub rank_first : (name : List ℕ) → Answers select_account (Text name ∷ []) → slice_get rows 0 ≡ option_map rank_row (v.rank name)
+  rank_first name h = rows_at_rest g old v select_account _ rows (slice_get rows 0 ≡ option_map rank_row (v.rank name)) rest (λ mid shows h. rank_found _ mid (counts_of v) v shows rows name h) h
+
+  pub name_first : (path : List ℕ) → Answers select_item (Text path ∷ []) → slice_get rows 0 ≡ option_map name_row (name_at path v.items)
+  name_first path h = rows_at_rest g old v select_item _ rows (slice_get rows 0 ≡ option_map name_row (name_at path v.items)) rest (λ mid shows h. name_found _ mid (counts_of v) v shows rows path h) h
+
+  pub standing_first : (n : ℕ) → Answers select_submission (number n ∷ []) → AreViews v × (slice_get rows 0 ≡ option_map standing_row (standing_in v n))
+  standing_first n h = rows_at_rest g old v select_submission _ rows (AreViews v × (slice_get rows 0 ≡ option_map standing_row (standing_in v n))) rest (λ mid shows h. (shows.views, standing_found _ mid (counts_of v) v shows rows n h)) h
+
+  pub reply_first : (who token : List ℕ) → Answers select_receipt (Text who ∷ Text token ∷ []) → slice_get rows 0 ≡ option_map reply_row (v.kept who token)
+  reply_first who token h = rows_at_rest g old v select_receipt _ rows (slice_get rows 0 ≡ option_map reply_row (v.kept who token)) rest (λ mid shows h. reply_found _ mid (counts_of v) v shows rows who token h) h

@@ -1,5 +1,5 @@
 -- What a crash may leave after a call.
-use Rattle.std.proofs.Common.{◌≡◌, inl, inr, refl, sym, ap, subst, ◌∙◌, true, false, IsTrue, arith, Ok, Err, Result, OnErr}
+use Rattle.std.proofs.Common.{◌≡◌, inl, inr, sym, ap, subst, ◌∙◌, false, IsTrue, arith, Ok, Err, Result, OnErr}
 use Rattle.sqlite.specs.Tree.{Trees}
 use Rattle.sqlite.specs.Effect.{Database}
 use Rattle.sqlite.specs.State.{State, HasCleanDisk, Survives, IsRolledBack, Shows as Sees}
@@ -8,27 +8,20 @@ use Rattle.sqlite.specs.Steps.{FailsToCommit}
 use Rattle.sqlite.specs.declared.error.Error.{Error}
 use Rattle.sqlite_trees.specs.declared.store.Store.{Ghosts}
 use Rattle.pid_moderation.specs.Views.{Views}
-use Rattle.pid_tables_rows.specs.Shows.{Counts, Numbers, ShowsKeeping, ShowsIn, Shows, counts_of}
+use Rattle.pid_tables_rows.specs.Shows.{Counts, Numbers, ShowsKeeping, Shows}
 use Rattle.pid_tables_rows.specs.declared.version.Version.{Version}
 use Rattle.pid_tables_rows.specs.declared.version.Version.TheVariants.{Two}
 use Rattle.pid_tables_rows.specs.Schema.{schema_of}
-use Rattle.pid_tables_rows.specs.Leaves.{found_in, LeavesViews, LeavesEither, LeavesShown, AtRest, RestsIn, KeepsCommitted, Within, Written}
+use Rattle.pid_tables_rows.specs.Leaves.{found_in, LeavesViews, LeavesShown, AtRest, RestsIn, KeepsCommitted, Written}
 
 pub leaves_on : (old new : State) (v : Views) → Survives old new (λ _. ⊥) → LeavesViews old v → LeavesViews new v
 leaves_on old new v s all = record { each = λ clean db may. elim (s.crash clean db may) [ inl was ↦ all.each (omega (arith, s.clean)) db was | inr none ↦ absurd none ] }
-
-pub leaves_once : (old new : State) (first second : Views) → Survives old new (λ _. ⊥) → LeavesViews old first → LeavesEither new first second
-leaves_once old new first second s all = record { each = λ clean db may. inl ((leaves_on old new first s all).each clean db may) }
 
 -- the trees, with the schema that they list
 pub shows_found : {version : Version} {c : Counts} {numbers : Numbers} (db : Database) (v : Views) → ShowsKeeping version c numbers db v → (trees : Trees) → trees ≡ db.trees
     → ShowsKeeping version c numbers (found_in (schema_of version) trees) v
 shows_found {version = version} {c = c} {numbers = numbers} db v h trees same =
     subst (λ t. ShowsKeeping version c numbers (found_in (schema_of version) t) v) (sym same) (subst (λ (d : Database). ShowsKeeping version c numbers d v) (ap (λ s. record { schema = s; trees = db.trees }) h.schema) h)
-
-pub leaves_either : (old new : State) (first second : Views) → Survives old new (λ db. db ≡ old.now.trees) → LeavesViews old first → (HasCleanDisk new → Shows old.now second) → LeavesEither new first second
-leaves_either old new first second s all shows =
-    record { each = λ clean db may. elim (s.crash clean db may) [ inl was ↦ inl (all.each (omega (arith, s.clean)) db was) | inr made ↦ inr (shows_found old.now second (shows clean) db made) ] }
 
 -- a transaction that was rolled back leaves what it held
 pub given_back : (old new : State) (v : Views) → (IsTrue new.is_open → HasCleanDisk new) → new.in_transaction ≡ false → (HasCleanDisk new → IsRolledBack old new) → Survives old new (λ _. ⊥) → KeepsCommitted old v → AtRest new v
@@ -37,14 +30,6 @@ given_back old new v law ended undone survives holds = record {
   same = λ opened. let back = (undone (law opened)).undone opened in back.0 ∙ sym back.1;
   shows = λ opened. let back = undone (law opened) in subst (λ d. Shows d v) (sym (back.undone opened).0) (holds.committed (back.was_open opened));
   leaves = leaves_on old new v survives holds.leaves;
-}
-
--- a transaction that begins holds what was at rest, and shows it
-pub begun_within : {S : Type 0} (g : Ghosts S) (old : Held S) (v : Views) → AtRest (state g old) v → Within (counts_of v) (state g (record old { in_transaction = true })) v v
-begun_within g old v rest = record {
-  inside = λ _. refl;
-  holds = record { committed = λ opened. subst (λ d. Shows d v) (rest.same opened) (rest.shows opened); leaves = record { each = rest.leaves.each } };
-  shows = rest.shows;
 }
 
 -- a commit that succeeds lets stand what the transaction showed, and a crash leaves nothing else
@@ -84,18 +69,3 @@ leaves_shown s v all = record { each = λ clean db may. (Two, all.each clean db 
 
 pub rests_in_two : (s : State) (v : Views) → AtRest s v → RestsIn Two s v
 rests_in_two s v rest = record { settled = rest.settled; same = rest.same; shows = rest.shows; leaves = leaves_shown s v rest.leaves }
-
--- a commit of moved tables, whatever it answers
-pub moved_shown : (old new : State) (v : Views) → Survives old new (λ db. db ≡ old.now.trees) → LeavesShown old v → (HasCleanDisk new → Shows old.now v) → LeavesShown new v
-moved_shown old new v s all shows =
-    record { each = λ clean db may. elim (s.crash clean db may) [ inl was ↦ all.each (omega (arith, s.clean)) db was | inr made ↦ (Two, shows_found old.now v (shows clean) db made) ] }
-
--- a transaction that was rolled back leaves what was committed before it
-pub given_back_in : (version : Version) (old new : State) (v : Views) → (IsTrue new.is_open → HasCleanDisk new) → new.in_transaction ≡ false → (HasCleanDisk new → IsRolledBack old new) → Survives old new (λ _. ⊥)
-    → (IsTrue old.is_open → ShowsIn version old.committed v) → LeavesShown old v → RestsIn version new v
-given_back_in version old new v law ended undone survives shows leaves = record {
-  settled = ended;
-  same = λ opened. let back = (undone (law opened)).undone opened in back.0 ∙ sym back.1;
-  shows = λ opened. let back = undone (law opened) in subst (λ d. ShowsIn version d v) (sym (back.undone opened).0) (shows (back.was_open opened));
-  leaves = shown_on old new v survives leaves;
-}

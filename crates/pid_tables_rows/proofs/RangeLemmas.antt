@@ -1,5 +1,6 @@
 -- Whether an item lies in a range.
-use Rattle.std.proofs.Common.{◌≡◌, ◌⊎◌, inl, inr, ℕ, ℤ, pos, List, [], ◌∷◌, length, Bool, cond, true, false, ◌&&◌, None, Some, Option, Ordering, Less, Equal, Greater, is_lt, is_gt, is_eq, refl, sym, ap, subst, ◌∙◌, codes, slice_get}
+use Rattle.std.proofs.Common.{◌≡◌, ◌⊎◌, inl, inr, ℕ, ℤ, pos, List, [], ◌∷◌, length, Bool, cond, true, false, ◌&&◌, None, Some, Option, Ordering, Less, Equal, Greater, is_lt, is_gt, is_eq, refl, sym, ap, subst, ◌∙◌, codes}
+use Rattle.std.specs.Prelude.{not, ◌==◌}
 use Rattle.std.specs.List.{list_any}
 use Rattle.std.specs.Ordering.{ordering_reverse, nat_cmp, eq_by_cmp}
 use Rattle.std.specs.Cmp.Lexicographic.{nat_list_cmp_total}
@@ -170,10 +171,6 @@ module _ {version : Version} {numbers : Numbers} (old new : State) (c : Counts) 
       ]
 
 -- whether it answers a row says whether there is an item
-pub row_within : (low high : List ℕ) (items : Items) (rows : List Row) (row : Row) → Some row ≡ slice_get rows 0 → IsFirstWithin low high items rows → true ≡ holds_between low high items
-row_within low high items rows row first (inl none) = absurd (let e = first ∙ ap (λ l. slice_get l 0) none.0 in let bad : ⊥ = cc in bad)
-row_within low high items rows row first (inr some) = sym some.2
-
-pub none_within : (low high : List ℕ) (items : Items) (rows : List Row) → None ≡ slice_get rows 0 → IsFirstWithin low high items rows → false ≡ holds_between low high items
-none_within low high items rows first (inl none) = sym none.1
-none_within low high items rows first (inr some) = absurd (let e = first ∙ ap (λ l. slice_get l 0) some.1 in let bad : ⊥ = cc in bad)
+pub rows_within : (low high : List ℕ) (items : Items) (answer : List Row) → IsFirstWithin low high items answer → not (length answer == 0) ≡ holds_between low high items
+rows_within low high items answer (inl none) = ap (λ l. not (length l == 0)) none.0 ∙ sym none.1
+rows_within low high items answer (inr some) = ap (λ l. not (length l == 0)) some.1 ∙ sym some.2

@@ -6,12 +6,14 @@ use Rattle.sqlite_rules.specs.Lists.{Has}
 use Rattle.sqlite.specs.Order.{Row, column}
 use Rattle.sqlite.specs.State.{State}
 use Rattle.pid_ident.specs.Words.{is_name}
+use Rattle.pid_moderation.specs.declared.rank.Rank.{Rank}
+use Rattle.pid_moderation.specs.Ranks.{rank_number}
 use Rattle.pid_moderation.specs.Items.{Items, name_at}
 use Rattle.pid_moderation.specs.Views.{Views, Submitted, submission_at}
 use Rattle.pid_moderation.specs.WellMade.{IsItem, AllItems}
 use Rattle.pid_tables_rows.specs.declared.fault.TableFault.{TableFault}
 use Rattle.pid_tables_rows.specs.Answers.{standing_row}
-use Rattle.pid_tables_rows.specs.Steps.Answers.{value_row, name_row}
+use Rattle.pid_tables_rows.specs.Steps.Answers.{value_row, name_row, rank_row, reply_row}
 use Rattle.pid_tables_rows.specs.Causes.{IsCaused, IsReadable, IsReadableSubmission, IsReadableState}
 use Rattle.pid_tables_rows.specs.declared.version.Version.TheVariants.{One, Two}
 use Rattle.pid_tables_rows.specs.Shows.{Counts, labels_of, more_labels, counts_of}
@@ -19,7 +21,7 @@ use Rattle.pid_tables_rows.specs.Steps.Shows.{meta_of}
 use Rattle.pid_moderation.specs.Submissions.{standing_in, Standing}
 use Rattle.pid_tables_rows.specs.TableRows.{number}
 use Rattle.pid_tables_rows.specs.Unread.{IsUnreadable, IsNumber, IsWholeNumber, ReadsAsStanding}
-use Rattle.pid_tables_rows.specs.Steps.Unread.{IsWord}
+use Rattle.pid_tables_rows.specs.Steps.Unread.{IsWord, IsReplyRow}
 use Rattle.pid_tables_rows.proofs.DecodeLemmas.{some_row, number_same, mapped_some, all_at}
 use Rattle.pid_tables_rows.proofs.RangeLemmas.{found_in}
 use Rattle.pid_tables_rows.proofs.UnreadLemmas.{caused_unread}
@@ -51,11 +53,24 @@ pub only_row : {Q : Type 0} (rows : List Row) (row is : Row) → Some row ≡ sl
 only_row rows row is first (inl none) = absurd (let e = first ∙ ap (λ l. slice_get l 0) none.0 in let bad : ⊥ = cc in bad)
 only_row rows row is first (inr one) = let e : Some row ≡ Some is = first ∙ ap (λ l. slice_get l 0) one in cc
 
+pub no_only : {is : Row} (rows : List Row) (n : ℕ) → None ≡ slice_get rows 0 → ((rows ≡ []) × (n ≡ 0)) ⊎ (rows ≡ is ∷ []) → 0 ≡ n
+no_only rows n first (inl none) = sym none.1
+no_only rows n first (inr one) = absurd (let e = first ∙ ap (λ l. slice_get l 0) one in let bad : ⊥ = cc in bad)
+
 -- a whole number in a row of its own
 pub whole_read : (old new : State) (v : Views) (row : Row) (r : Result ℕ TableFault) (n : ℕ) → row ≡ value_row n → IfOk r (λ m. column row 0 ≡ number m) → IfErr r (IsUnreadable (IsWholeNumber (column row 0)))
     → MatchResult r (λ m. m ≡ n) (λ fault. IsReadable v → IsCaused old new fault)
 whole_read old new v row (Ok m) n is read unread = number_same m n (sym read ∙ ap (λ x. column x 0) is)
 whole_read old new v row (Err e) n is read unread = λ readable. caused_unread old new e (n, ap (λ x. column x 0) is) unread
+
+pub rank_written : (o : Option Rank) (row : Row) → Some row ≡ option_map rank_row o → (rank : Rank) × (column row 0 ≡ number (rank_number rank))
+rank_written o row first = let it = some_row rank_row o row first in (it.0, ap (λ r. column r 0) it.2)
+
+pub reply_written : (v : Views) (account key : List ℕ) (row : Row) → IsReadable v → Some row ≡ option_map reply_row (v.kept account key) → IsReplyRow row
+reply_written v account key row readable first =
+    let it = some_row reply_row (v.kept account key) row first in
+    let at = λ (i : ℕ). ap (λ r. column r i) it.2 in
+    (it.0, readable.replies account key it.0 it.1, at 0, at 1, at 2, at 3)
 
 -- the three labels that both schemas have are there, with numbers of 32 bits
 pub meta_there : (c : Counts) (revision : ℕ) (label : List ℕ) → IsSome (labels_of One c 0 label) → IsSome (meta_of c revision label)

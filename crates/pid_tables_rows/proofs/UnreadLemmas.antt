@@ -1,18 +1,12 @@
 -- Values that keep their rules are read, but for want of memory.
-use Rattle.std.proofs.Common.{◌≡◌, ◌≢◌, inl, inr, ℕ, zero, suc, ◌<◌, List, [], ◌∷◌, ◌++◌, length, true, sym, subst, arith}
+use Rattle.std.proofs.Common.{◌≡◌, ℕ, zero, suc, ◌<◌, List, [], ◌∷◌, ◌++◌, true, arith}
 use Rattle.std.specs.List.{list_all}
 use Rattle.std.specs.Char.{digit_char}
 use Rattle.std.specs.Str.{is_utf8, IsUtf8, IsAscii}
-use Rattle.std.proofs.lemmas.Str.{IsUtf8-from_is_utf8, is_utf8-from_IsUtf8, IsUtf8-from_ascii, IsUtf8-append}
+use Rattle.std.proofs.lemmas.Str.{is_utf8-from_IsUtf8, IsUtf8-from_ascii, IsUtf8-append}
 use Rattle.std.proofs.lemmas.Bool.{and_parts}
 use Rattle.std.proofs.lemmas.Bool.Decides.{nat_tests}
-use Rattle.sqlite.specs.declared.types.Value.TheVariants.{Text}
-use Rattle.sqlite.specs.Order.{Row, column}
-use Rattle.sqlite.specs.Reading.{IsReadError}
 use Rattle.sqlite.specs.State.{State}
-use Rattle.sqlite.specs.declared.error.Error.{Error}
-use Rattle.sqlite.specs.declared.error.Error.TheVariants.{SqliteFailure}
-use Rattle.sqlite.specs.declared.error.ErrorCode.TheVariants.{OutOfMemory}
 use Rattle.pid_ident.specs.Identifiers.{hex4, hex2}
 use Rattle.pid_ident.specs.PathTexts.{path_text}
 use Rattle.pid_ident.specs.Words.{is_name, is_account, is_account_byte, is_text}
@@ -21,9 +15,7 @@ use Rattle.pid_file.specs.declared.path.Path.TheVariants.{Vendor, Device, Subsys
 use Rattle.pid_tables_rows.specs.declared.fault.TableFault.{TableFault}
 use Rattle.pid_tables_rows.specs.declared.fault.TableFault.TheVariants.{Memory, Store, NewerSchema, Damaged}
 use Rattle.pid_tables_rows.specs.Causes.{IsCaused}
-use Rattle.pid_tables_rows.specs.Faults.{fault_of_sql}
 use Rattle.pid_tables_rows.specs.Unread.{IsUnreadable}
-use Rattle.pid_tables_rows.specs.Steps.Unread.{IsWord}
 
 -- what is written as it should be is read
 pub caused_unread : {Written : Type 0} (old new : State) (e : TableFault) → Written → IsUnreadable Written e → IsCaused old new e
@@ -39,28 +31,6 @@ unread_more (NewerSchema n) f h = h
 unread_more Damaged f h = λ less. h (f less)
 
 -- ---- texts
-
-there : (row : Row) (at : ℕ) (t : List ℕ) → column row at ≡ Text t → at < length row
-there [] at t e = absurd (let bad : ⊥ = cc in bad)
-there (v ∷ row) zero t e = omega arith
-there (v ∷ row) (suc at) t e = let low = there row at t e in omega (arith, low)
-
-pub unread_text : (row : Row) (at : ℕ) (e : Error) → IsReadError at (column row at) e
-    → (e ≢ SqliteFailure OutOfMemory → at < length row → ((t : List ℕ) × (column row at ≡ Text t) × IsUtf8 t) → ⊥) → IsUnreadable (IsWord is_utf8 (column row at)) (fault_of_sql e)
-unread_text row at e named kind = go named
-  where
-    bad : e ≢ SqliteFailure OutOfMemory → IsWord is_utf8 (column row at) → ⊥
-    bad ample good = kind ample (there row at good.0 good.2) (good.0, good.2, IsUtf8-from_is_utf8 good.0 good.1)
-
-    from : (f : Error) → e ≡ f → IsUnreadable (IsWord is_utf8 (column row at)) (fault_of_sql f) → IsUnreadable (IsWord is_utf8 (column row at)) (fault_of_sql e)
-    from f same h = subst (λ x. IsUnreadable (IsWord is_utf8 (column row at)) (fault_of_sql x)) (sym same) h
-
-    go : IsReadError at (column row at) e → IsUnreadable (IsWord is_utf8 (column row at)) (fault_of_sql e)
-    go (inl same) = from _ same (bad (λ other. let no : ⊥ = cc in no))
-    go (inr (inl same)) = from _ same (bad (λ other. let no : ⊥ = cc in no))
-    go (inr (inr (inl same))) = from _ same (bad (λ other. let no : ⊥ = cc in no))
-    go (inr (inr (inr (inl same)))) = from _ same (bad (λ other. let no : ⊥ = cc in no))
-    go (inr (inr (inr (inr same)))) = from _ same tt
 
 pub name_utf8 : (t : List ℕ) → is_name t ≡ true → is_utf8 t ≡ true
 name_utf8 t h = (and_parts _ _ (and_parts _ _ (and_parts _ _ (and_parts _ _ h).0).0).0).0

@@ -1,15 +1,6 @@
 //! The table of accounts and their ranks.
-ghost use Rattle.std.specs.Prelude.{
-  ◌≡◌,
-  false,
-  None,
-  IfErr,
-  IsSome,
-  option_map,
-  slice_get,
-};
+ghost use Rattle.std.specs.Prelude.{◌≡◌, false, None, IfErr, IsSome};
 ghost use Rattle.pid_tables_rows.specs.Accounts.{HasAccounts};
-ghost use Rattle.pid_tables_rows.specs.Steps.Answers.{rank_row};
 ghost use Rattle.pid_tables_rows.specs.Faults.{IsNotNewerSchema};
 ghost use Rattle.pid_tables_rows.specs.Writes.{with_rank};
 ghost use Rattle.pid_tables_rows.specs.Clauses.{ChangesTo, GoesOn, Reads};
@@ -19,7 +10,7 @@ use crate::run::{read_rows, write_one};
 use crate::value::rank_at;
 use pid_moderation::Rank;
 use sqlite::types::ToSql;
-use sqlite::{Alter, Connection, Row, Transaction};
+use sqlite::{Alter, Connection, Transaction};
 
 /// Adds an account that is not there yet. The name is taken as it is: the caller has tested it.
 /// An account that is there is refused with `Store`.
@@ -64,22 +55,14 @@ pub fn change_rank<S: Alter>(
     )
 }
 
-fn rank_rows<S: Alter>(conn: &mut Connection<S>, name: &str) -> Result<Vec<Row>, TableFault>
-    requires { conn.old.in_transaction ≡ false }
-    ensures { Reads S.Store conn.old conn.new result
-        (λ v rows. slice_get rows.items 0 ≡ option_map rank_row (v.rank name.now)) }
-{
-    let name = name.to_sql();
-    read_rows(conn, "SELECT rank FROM account WHERE name = ?1", &[name])
-}
-
 /// The rank of an account, or none if there is no such account. A number that is no rank's is
 /// `Damaged`.
 pub fn rank<S: Alter>(conn: &mut Connection<S>, name: &str) -> Result<Option<Rank>, TableFault>
     requires { conn.old.in_transaction ≡ false }
     ensures { Reads S.Store conn.old conn.new result (λ v rank. rank ≡ v.rank name.now) }
 {
-    let rows = rank_rows(conn, name)?;
+    let name = name.to_sql();
+    let rows = read_rows(conn, "SELECT rank FROM account WHERE name = ?1", &[name])?;
     match rows.first() {
         Some(row) => Ok(Some(rank_at(row, 0)?)),
         None => Ok(None),

@@ -1,17 +1,5 @@
 //! The tables of items: paths and their names, and the numbers of the last changes of these.
-ghost use Rattle.std.specs.Prelude.{
-  ◌≡◌,
-  ◌++◌,
-  [],
-  ◌∷◌,
-  false,
-  None,
-  IfOk,
-  IfErr,
-  IsSome,
-  option_map,
-  slice_get,
-};
+ghost use Rattle.std.specs.Prelude.{◌≡◌, ◌++◌, [], ◌∷◌, false, None, IfOk, IfErr, IsSome};
 ghost use Rattle.pid_moderation.specs.Items.{
   name_at as item_at,
   has_children as are_children,
@@ -19,8 +7,7 @@ ghost use Rattle.pid_moderation.specs.Items.{
 };
 ghost use Rattle.sqlite.specs.Order.{column};
 ghost use Rattle.sqlite.specs.declared.types.Value.TheVariants.{Text as TextValue};
-ghost use Rattle.pid_tables_rows.specs.Steps.Answers.{name_row};
-ghost use Rattle.pid_tables_rows.specs.Steps.Ranges.{generics_from, holds_between, holds_under};
+ghost use Rattle.pid_tables_rows.specs.Steps.Ranges.{holds_under};
 ghost use Rattle.pid_ident.specs.PathTexts.{path_text};
 ghost use Rattle.pid_moderation.specs.WellMade.{AllItems, HoldsParents};
 ghost use Rattle.pid_tables_rows.specs.Shows.{AreViews};
@@ -31,7 +18,7 @@ ghost use Rattle.pid_tables_rows.specs.Clauses.{ChangesTo, GoesOn, Reads};
 use crate::fault::TableFault;
 use crate::run::{read_rows, write_one};
 use crate::value::{name_at, path_at, stored};
-use pid_ident::{Id16, Name, Path, PathText, hex4};
+use pid_ident::{Name, Path, PathText, hex4};
 use pid_moderation::Item;
 use sqlite::types::{ToSql, ValueRef};
 use sqlite::{Alter, Connection, Row, Transaction};
@@ -109,15 +96,6 @@ pub fn remove_item<S: Alter>(tx: &mut Transaction<'_, S>, path: &str) -> Result<
     write_one(tx, "DELETE FROM item WHERE path = ?1", &[path])
 }
 
-fn name_rows<S: Alter>(conn: &mut Connection<S>, path: &str) -> Result<Vec<Row>, TableFault>
-    requires { conn.old.in_transaction ≡ false }
-    ensures { Reads S.Store conn.old conn.new result
-        (λ v rows. slice_get rows.items 0 ≡ option_map name_row (item_at path.now v.items)) }
-{
-    let path = path.to_sql();
-    read_rows(conn, "SELECT name FROM item WHERE path = ?1", &[path])
-}
-
 /// The name of the item at a path, or none if the path has no item or the text is no path's.
 /// A stored text that is no name is `Damaged`.
 pub fn item_name<S: Alter>(
@@ -128,7 +106,8 @@ pub fn item_name<S: Alter>(
     requires { conn.old.in_transaction ≡ false }
     ensures { Reads S.Store conn.old conn.new result (λ v name. name ≡ item_at path.now v.items) }
 {
-    let rows = name_rows(conn, path)?;
+    let key = path.to_sql();
+    let rows = read_rows(conn, "SELECT name FROM item WHERE path = ?1", &[key])?;
     match rows.first() {
         Some(row) => Ok(Some(name_at(row, alloc, 0)?)),
         None => Ok(None),
@@ -160,21 +139,18 @@ pub fn range_below(alloc: Global, front: &[u8], rest: &[u8]) -> Result<Range, Al
     Ok(Range { low, high })
 }
 
-/// The paths of the generic subsystems of a vendor.
-pub fn range_of_generics(alloc: Global, vendor: Id16) -> Result<Range, AllocError>
-    ensures low { IfOk result (λ range. range.low.items ≡ generics_from vendor ++ 47 ∷ []) }
-    ensures high { IfOk result (λ range. range.high.items ≡ generics_from vendor ++ 48 ∷ []) }
-{
-    let digits = hex4(vendor);
-    range_below(alloc, b"PS/", digits.as_slice())
-}
-
-// Whether some item's path is in the range.
-fn any_within<S: Alter>(conn: &mut Connection<S>, range: &Range) -> Result<bool, TableFault>
+// Whether some item's path goes on after the text of the two parts and a slash.
+fn any_below<S: Alter>(
+    conn: &mut Connection<S>,
+    alloc: Global,
+    front: &[u8],
+    rest: &[u8],
+) -> Result<bool, TableFault>
     requires { conn.old.in_transaction ≡ false }
-    ensures { Reads S.Store conn.old conn.new result (λ v some. AreViews v
-        × (some ≡ holds_between range.now.low.items range.now.high.items v.items)) }
+    ensures { Reads S.Store conn.old conn.new result
+        (λ v some. AreViews v × (some ≡ holds_under (front.now ++ rest.now) v.items)) }
 {
+    let range = range_below(alloc, front, rest)?;
     let low = ValueRef::Text(range.low.as_slice());
     let high = ValueRef::Text(range.high.as_slice());
     let rows = read_rows(
@@ -182,39 +158,7 @@ fn any_within<S: Alter>(conn: &mut Connection<S>, range: &Range) -> Result<bool,
         "SELECT path FROM item WHERE path > ?1 AND path < ?2 LIMIT 1",
         &[low, high],
     )?;
-    match rows.first() {
-        Some(_) => Ok(true),
-        None => Ok(false),
-    }
-}
-
-// Whether an item's path goes on after this one and a slash.
-fn any_below<S: Alter>(
-    conn: &mut Connection<S>,
-    alloc: Global,
-    path: Path,
-) -> Result<bool, TableFault>
-    requires { conn.old.in_transaction ≡ false }
-    ensures { Reads S.Store conn.old conn.new result
-        (λ v some. AreViews v × (some ≡ holds_under (path_text path) v.items)) }
-{
-    let text = path.path_text(alloc)?;
-    let range = range_below(alloc, b"", text.as_bytes())?;
-    any_within(conn, &range)
-}
-
-// Whether some item is a generic subsystem of the vendor.
-fn any_generic<S: Alter>(
-    conn: &mut Connection<S>,
-    alloc: Global,
-    vendor: Id16,
-) -> Result<bool, TableFault>
-    requires { conn.old.in_transaction ≡ false }
-    ensures { Reads S.Store conn.old conn.new result
-        (λ v some. AreViews v × (some ≡ holds_under (generics_from vendor) v.items)) }
-{
-    let range = range_of_generics(alloc, vendor)?;
-    any_within(conn, &range)
+    Ok(!rows.is_empty())
 }
 
 /// Whether some item has the path as its parent. A generic subsystem counts for its vendor.
@@ -228,11 +172,14 @@ pub fn has_children<S: Alter>(
         (λ v some. AllItems v.items → HoldsParents v.items
         → some ≡ are_children (path_text path) v.items) }
 {
-    if any_below(conn, alloc, path)? {
+    let text = path.path_text(alloc)?;
+    let below = any_below(conn, alloc, b"", text.as_bytes());
+    drop(text);
+    if below? {
         return Ok(true);
     }
     match path {
-        Path::Vendor { vendor } => any_generic(conn, alloc, vendor),
+        Path::Vendor { vendor } => any_below(conn, alloc, b"PS/", hex4(vendor).as_slice()),
         _ => Ok(false),
     }
 }

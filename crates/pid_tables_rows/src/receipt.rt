@@ -1,12 +1,11 @@
 //! The table of receipts: replies kept under accounts and keys.
-ghost use Rattle.std.specs.Prelude.{◌≡◌, false, None, option_map, slice_get};
+ghost use Rattle.std.specs.Prelude.{◌≡◌, false, None};
 ghost use Rattle.pid_tables_rows.specs.TableRows.{
   first_number,
   reply_kind,
   second_number,
   third_number,
 };
-ghost use Rattle.pid_tables_rows.specs.Steps.Answers.{reply_row};
 ghost use Rattle.pid_tables_rows.specs.Writes.{with_reply};
 ghost use Rattle.pid_tables_rows.specs.Clauses.{ChangesTo, GoesOn, Reads};
 
@@ -16,7 +15,7 @@ use crate::value::reply_at;
 use pid_ident::{Account, Key};
 use pid_moderation::Reply;
 use sqlite::types::ToSql;
-use sqlite::{Alter, Connection, Row, Transaction};
+use sqlite::{Alter, Connection, Transaction};
 
 // The kind of a reply and its numbers, 0 where it has none.
 fn numbers(reply: Reply) -> (u32, u32, u32, u32)
@@ -64,24 +63,6 @@ pub fn keep_reply<S: Alter>(
     )
 }
 
-fn reply_rows<S: Alter>(
-    conn: &mut Connection<S>,
-    account: &str,
-    key: &str,
-) -> Result<Vec<Row>, TableFault>
-    requires { conn.old.in_transaction ≡ false }
-    ensures { Reads S.Store conn.old conn.new result
-        (λ v rows. slice_get rows.items 0 ≡ option_map reply_row (v.kept account.now key.now)) }
-{
-    let account = account.to_sql();
-    let key = key.to_sql();
-    read_rows(
-        conn,
-        "SELECT kind, a, b, c FROM receipt WHERE account = ?1 AND token = ?2",
-        &[account, key],
-    )
-}
-
 /// The reply that is kept under an account and a key, or none if there is none. Numbers that
 /// are no reply's are `Damaged`.
 pub fn kept_reply<S: Alter>(
@@ -93,7 +74,13 @@ pub fn kept_reply<S: Alter>(
     ensures { Reads S.Store conn.old conn.new result
         (λ v reply. reply ≡ v.kept account.now key.now) }
 {
-    let rows = reply_rows(conn, account, key)?;
+    let account = account.to_sql();
+    let key = key.to_sql();
+    let rows = read_rows(
+        conn,
+        "SELECT kind, a, b, c FROM receipt WHERE account = ?1 AND token = ?2",
+        &[account, key],
+    )?;
     match rows.first() {
         Some(row) => Ok(Some(reply_at(row)?)),
         None => Ok(None),

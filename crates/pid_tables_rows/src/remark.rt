@@ -1,8 +1,7 @@
 //! The table of remarks on submissions.
-ghost use Rattle.std.specs.Prelude.{◌≡◌, ◌⊎◌, ◌+◌, [], ◌∷◌, false, length, IfOk, IfErr};
+ghost use Rattle.std.specs.Prelude.{◌≡◌, ◌+◌, false, length, IfOk, IfErr};
 ghost use Rattle.sqlite.specs.Order.{column};
 ghost use Rattle.sqlite.specs.declared.types.Value.TheVariants.{Text as TextValue};
-ghost use Rattle.pid_tables_rows.specs.Steps.Answers.{value_row};
 ghost use Rattle.pid_tables_rows.specs.Unread.{IsUnreadable, ReadsAsRemark};
 ghost use Rattle.pid_tables_rows.specs.Writes.{with_remark};
 ghost use Rattle.pid_tables_rows.specs.Clauses.{ChangesTo, GoesOn, Reads};
@@ -43,20 +42,6 @@ pub fn add_remark<S: Alter>(
     )
 }
 
-fn place_rows<S: Alter>(conn: &mut Connection<S>, number: u32) -> Result<Vec<Row>, TableFault>
-    requires { conn.old.in_transaction ≡ false }
-    ensures { Reads S.Store conn.old conn.new result
-        (λ v rows. ((rows.items ≡ []) × (length (v.remarks number) ≡ 0))
-        ⊎ (rows.items ≡ value_row (length (v.remarks number)) ∷ [])) }
-{
-    let number = number.to_sql();
-    read_rows(
-        conn,
-        "SELECT seq FROM remark WHERE num = ?1 ORDER BY seq DESC LIMIT 1",
-        &[number],
-    )
-}
-
 /// How many remarks there are on the submission with a number: the place of the last one. No such
 /// submission has 0.
 pub fn remark_count<S: Alter>(conn: &mut Connection<S>, number: u32) -> Result<u32, TableFault>
@@ -64,7 +49,12 @@ pub fn remark_count<S: Alter>(conn: &mut Connection<S>, number: u32) -> Result<u
     ensures { Reads S.Store conn.old conn.new result
         (λ v count. count ≡ length (v.remarks number)) }
 {
-    let rows = place_rows(conn, number)?;
+    let number = number.to_sql();
+    let rows = read_rows(
+        conn,
+        "SELECT seq FROM remark WHERE num = ?1 ORDER BY seq DESC LIMIT 1",
+        &[number],
+    )?;
     match rows.first() {
         Some(row) => number_at(row, 0),
         None => Ok(0),

@@ -9,15 +9,12 @@ ghost use Rattle.std.specs.Prelude.{
   IfErr,
   IsSome,
   option_map,
-  slice_get,
 };
 ghost use Rattle.pid_ident.specs.PathTexts.{path_text};
 ghost use Rattle.pid_moderation.specs.Views.{submission_at};
 ghost use Rattle.pid_moderation.specs.declared.facts.State.TheVariants as states;
 ghost use Rattle.pid_tables_rows.specs.TableRows.{form_of, name_of, state_number};
 ghost use Rattle.pid_moderation.specs.Submissions.{decider_of, reason_of, standing_in, standing_of};
-ghost use Rattle.pid_tables_rows.specs.Answers.{standing_row};
-ghost use Rattle.pid_tables_rows.specs.Shows.{AreViews};
 ghost use Rattle.pid_tables_rows.specs.Standings.{ReadsTo};
 ghost use Rattle.pid_tables_rows.specs.Unread.{IsUnreadable, ReadsAsStanding};
 ghost use Rattle.pid_tables_rows.specs.Writes.{with_submission, with_state};
@@ -203,21 +200,6 @@ pub fn submission_of(row: &Row, alloc: Global) -> Result<Submission, TableFault>
     })
 }
 
-fn submission_rows<S: Alter>(conn: &mut Connection<S>, number: u32) -> Result<Vec<Row>, TableFault>
-    requires { conn.old.in_transaction ≡ false }
-    ensures { Reads S.Store conn.old conn.new result
-        (λ v rows. (slice_get rows.items 0 ≡ option_map standing_row (standing_in v number))
-        × AreViews v) }
-{
-    let number = number.to_sql();
-    read_rows(
-        conn,
-        "SELECT author, path, form, name, note, state, decider, reason FROM submission \
-            WHERE num = ?1",
-        &[number],
-    )
-}
-
 /// The submission with a number, as it stands, or none if there is none. A row that is no
 /// submission's is `Damaged`.
 pub fn standing<S: Alter>(
@@ -230,7 +212,13 @@ pub fn standing<S: Alter>(
         (λ v s. option_map standing_of s ≡ standing_in v number) }
 {
     pid_ident::laws::texts_have_one_path(); // proof only
-    let rows = submission_rows(conn, number)?;
+    let number = number.to_sql();
+    let rows = read_rows(
+        conn,
+        "SELECT author, path, form, name, note, state, decider, reason FROM submission \
+            WHERE num = ?1",
+        &[number],
+    )?;
     match rows.first() {
         Some(row) => Ok(Some(submission_of(row, alloc)?)),
         None => Ok(None),

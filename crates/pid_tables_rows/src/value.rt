@@ -4,13 +4,12 @@ ghost use Rattle.std.specs.Str.{bytes_eq, is_utf8};
 ghost use Rattle.sqlite.specs.declared.types.Value.TheVariants.{Text as TextValue};
 ghost use Rattle.sqlite.specs.Order.{column};
 ghost use Rattle.sqlite_value.specs.Value.{owned};
-ghost use Rattle.pid_ident.specs.PathTexts.{IsTextOf, IsPath, path_text};
+ghost use Rattle.pid_ident.specs.PathTexts.{IsPath, path_text};
 ghost use Rattle.pid_ident.specs.Words.{
   is_name as name_rule,
   is_account as account_rule,
   is_text as text_rule,
 };
-ghost use Rattle.pid_file.specs.declared.path.Path.{Path as PathValue};
 ghost use Rattle.pid_moderation.specs.declared.command.Reply.{Reply as ReplyValue};
 ghost use Rattle.pid_moderation.specs.declared.rank.Rank.{Rank as RankValue};
 ghost use Rattle.pid_moderation.specs.Ranks.{rank_number};
@@ -123,16 +122,6 @@ pub(crate) fn words_at(row: &Row, alloc: Global, at: usize) -> Result<Text, Tabl
     Ok(Text::of(alloc, text)?)
 }
 
-fn parsed(text: &str) -> Result<Path, TableFault>
-    ensures read { IfOk result (IsTextOf text.now) }
-    ensures none { IfErr result (IsMistold ((path : PathValue) × IsTextOf text.now path)) }
-{
-    match Path::parse(text) {
-        Some(path) => Ok(path),
-        None => Err(TableFault::Damaged),
-    }
-}
-
 /// The path whose text is in a column, counted from 0. Any other value is `Damaged`.
 pub fn path_at(row: &Row, at: usize) -> Result<Path, TableFault>
     ensures read { IfOk result (λ path. IsPath path
@@ -140,19 +129,9 @@ pub fn path_at(row: &Row, at: usize) -> Result<Path, TableFault>
     ensures unread { IfErr result (IsUnreadable (IsPathText (column row.now at))) }
 {
     let text = text_at(row, at)?;
-    parsed(text)
-}
-
-fn rank_of(number: u32) -> Result<Rank, TableFault>
-    ensures read { IfOk result (λ rank. rank_number rank ≡ number) }
-    ensures none { IfErr result (IsMistold ((rank : RankValue) × (rank_number rank ≡ number))) }
-{
-    match number {
-        0 => Ok(Rank::Contributor),
-        1 => Ok(Rank::Moderator),
-        2 => Ok(Rank::Senior),
-        3 => Ok(Rank::Administrator),
-        _ => Err(TableFault::Damaged),
+    match Path::parse(text) {
+        Some(path) => Ok(path),
+        None => Err(TableFault::Damaged),
     }
 }
 
@@ -161,8 +140,13 @@ pub(crate) fn rank_at(row: &Row, at: usize) -> Result<Rank, TableFault>
     ensures unread { IfErr result (IsUnreadable
         ((rank : RankValue) × (column row.now at ≡ number (rank_number rank)))) }
 {
-    let number = number_at(row, at)?;
-    rank_of(number)
+    match number_at(row, at)? {
+        0 => Ok(Rank::Contributor),
+        1 => Ok(Rank::Moderator),
+        2 => Ok(Rank::Senior),
+        3 => Ok(Rank::Administrator),
+        _ => Err(TableFault::Damaged),
+    }
 }
 
 // The value is this text.

@@ -1,8 +1,7 @@
 -- Items by ranges of their paths.
-use Rattle.std.specs.Prelude.{ℕ, Bool, ◌&&◌, List, [], ◌∷◌, ◌++◌, codes}
+use Rattle.std.specs.Prelude.{ℕ, Bool, ◌&&◌, List, [], ◌∷◌, ◌++◌}
 use Rattle.std.specs.List.{list_any}
 use Rattle.std.specs.Ordering.{is_lt}
-use Rattle.pid_ident.specs.Identifiers.{hex4}
 use Rattle.pid_ident.specs.Trees.{text_cmp}
 use Rattle.pid_moderation.specs.Items.{Items}
 
@@ -20,7 +19,3 @@ is_under text path = is_between (text ++ 47 ∷ []) (text ++ 48 ∷ []) path
 
 abbrev pub holds_under : List ℕ → Items → Bool
 holds_under text items = holds_between (text ++ 47 ∷ []) (text ++ 48 ∷ []) items
-
--- what the paths of the generic subsystems of a vendor go on from
-abbrev pub generics_from : ℕ → List ℕ
-generics_from vendor = codes "PS/" ++ hex4 vendor

@@ -1,9 +1,9 @@
-use Rattle.std.proofs.Common.{sym, subst, arith}
+use Rattle.std.proofs.Common.{sym, subst}
 use Rattle.sqlite.specs.Held.{state}
-use Rattle.sqlite.specs.State.{HasCleanDisk}
 use Rattle.pid_tables_rows.specs.Faults.{IsMemoryOrStore}
 use Rattle.pid_tables_rows.specs.Shows.{ShowsCounting}
 use Rattle.pid_tables_rows.proofs.CauseLemmas.{passed_on}
+use Rattle.pid_tables_rows.proofs.GoingLemmas.{earlier}
 use Rattle.pid_tables.proofs.ChangeLemmas.{undecided}
 use Rattle.pid_tables.proofs.batch.decision.Goals as goal
 
@@ -13,7 +13,7 @@ returns-in-None-clause-shows g c = rw c.in-None.is (λ clean inside counts v sho
 
 pub returns-in-Some-clause-shows : goal.returns-in-Some-clause-shows
 returns-in-Some-clause-shows g c = rw c.in-Some.is (λ clean inside counts v shows fits.
-    let early : HasCleanDisk (state g.S.Store c.decide.new.tx.conn.now) = omega (arith, c.write_item.ensures.goes.survives.clean) in
+    let early = earlier (state g.S.Store c.decide.new.tx.conn.now) _ c.write_item.ensures.goes.survives clean in
     let first = c.in_ok-decide.ensures in
     c.write_item.ensures.shows clean (first.goes.going early inside).1 counts _ (first.shows early inside counts v shows fits.0) fits.1.1)
 

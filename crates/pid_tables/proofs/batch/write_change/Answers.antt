@@ -1,9 +1,9 @@
-use Rattle.std.proofs.Common.{Some, None, subst, arith}
+use Rattle.std.proofs.Common.{Some, None, subst}
 use Rattle.sqlite.specs.Held.{state}
-use Rattle.sqlite.specs.State.{HasCleanDisk}
 use Rattle.pid_moderation.specs.Changes.{FitsReceipt}
 use Rattle.pid_tables_rows.specs.Faults.{IsMemoryOrStore}
 use Rattle.pid_tables_rows.proofs.CauseLemmas.{passed_on}
+use Rattle.pid_tables_rows.proofs.GoingLemmas.{earlier}
 use Rattle.pid_tables.proofs.ApplyLemmas.{receipt_still_fits, whole_with, either_side}
 use Rattle.pid_tables.proofs.batch.write_change.Goals as goal
 
@@ -18,7 +18,7 @@ returns-in-None-clause-shows g c clean inside counts v shows counted fits =
 
 pub returns-in-Some-clause-shows : goal.returns-in-Some-clause-shows
 returns-in-Some-clause-shows g c clean inside counts v shows counted fits =
-    let early : HasCleanDisk (state g.S.Store c.write_counted.new.batch.conn.now) = omega (arith, c.keep_reply.ensures.goes.survives.clean) in
+    let early = earlier (state g.S.Store c.write_counted.new.batch.conn.now) _ c.keep_reply.ensures.goes.survives clean in
     let first = c.in_ok-write_counted.ensures in
     let change = c.args.change.now in
     let r = c.in-Some.receipt in

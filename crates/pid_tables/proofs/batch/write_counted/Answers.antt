@@ -1,14 +1,13 @@
-use Rattle.std.proofs.Common.{arith}
 use Rattle.sqlite.specs.Held.{state}
-use Rattle.sqlite.specs.State.{HasCleanDisk}
 use Rattle.pid_tables_rows.specs.Faults.{IsMemoryOrStore}
 use Rattle.pid_tables_rows.proofs.CauseLemmas.{passed_on}
+use Rattle.pid_tables_rows.proofs.GoingLemmas.{earlier}
 use Rattle.pid_tables.specs.Steps.Applies.{recounted}
 use Rattle.pid_tables.proofs.batch.write_counted.Goals as goal
 
 pub returns-clause-shows : goal.returns-clause-shows
 returns-clause-shows g c clean inside counts v shows fits =
-    let early : HasCleanDisk (state g.S.Store c.write_effect.new.batch.conn.now) = omega (arith, c.set_revision.ensures.goes.survives.clean) in
+    let early = earlier (state g.S.Store c.write_effect.new.batch.conn.now) _ c.set_revision.ensures.goes.survives clean in
     let first = c.in_ok-write_effect.ensures in
     c.set_revision.ensures.shows clean (first.goes.going early inside).1 (recounted c.args.effect.now counts) _ (first.shows early inside counts v shows fits) tt
 

@@ -1,13 +1,12 @@
-use Rattle.std.proofs.Common.{arith}
 use Rattle.sqlite.specs.Held.{state}
-use Rattle.sqlite.specs.State.{HasCleanDisk}
 use Rattle.pid_tables_rows.specs.Faults.{IsMemoryOrStore}
 use Rattle.pid_tables_rows.proofs.CauseLemmas.{passed_on}
+use Rattle.pid_tables_rows.proofs.GoingLemmas.{earlier}
 use Rattle.pid_tables.proofs.batch.write_item.Goals as goal
 
 pub returns-clause-shows : goal.returns-clause-shows
 returns-clause-shows g c clean inside counts v shows fits =
-    let early : HasCleanDisk (state g.S.Store c.edit_item.new.batch.conn.now) = omega (arith, c.count_items.ensures.goes.survives.clean) in
+    let early = earlier (state g.S.Store c.edit_item.new.batch.conn.now) _ c.count_items.ensures.goes.survives clean in
     let first = c.in_ok-edit_item.ensures in
     let wrote = rw (c.as_str.ensures.value, c.in_ok-path.ensures) at first.shows in
     c.count_items.ensures.shows clean (first.goes.going early inside).1 counts _ (wrote early inside counts v shows fits) tt

@@ -1,4 +1,4 @@
-use Rattle.std.proofs.Common.{◌≡◌, Bool, true, false, Ok, IsTrue, refl, sym, rules, arith, ◌∙◌, subst}
+use Rattle.std.proofs.Common.{◌≡◌, Bool, true, false, Ok, IsTrue, MatchResult, refl, sym, rules, ◌∙◌, subst}
 use Rattle.sqlite.specs.Held.{state}
 use Rattle.sqlite.specs.State.{HasCleanDisk}
 use Rattle.sqlite.proofs.StateLemmas.{clean_if_open, survives_then}
@@ -12,13 +12,21 @@ use Rattle.pid_tables_rows.proofs.CauseLemmas.{passed_on, passed_from}
 use Rattle.pid_tables_rows.proofs.LeaveLemmas.{on_err}
 use Rattle.pid_tables_rows.proofs.GoingLemmas.{earlier}
 use Rattle.pid_tables_rows.proofs.OnlyReading.{reads_begun}
-use Rattle.pid_tables.proofs.MetLemmas.{reads_if_never, met_at_rest}
+use Rattle.pid_tables.proofs.MetLemmas.{reads_if_never, met_at_rest, met_first}
 use Rattle.pid_tables.proofs.MoveLemmas.{all_never, all_untold, not_on_ok}
 use Rattle.pid_tables.proofs.AtOnceLemmas.{reads_at_once, reads_never, commit_at_once, commit_bare, committed_as, kept_as, still_bare}
 use Rattle.pid_tables.specs.AtOnce.{WritesAtOnce}
-use Rattle.pid_tables.specs.Creation.{IsNameTaken, MakesNew, MakesNothing}
+use Rattle.pid_tables.specs.Creation.{IsFaultOfTaken, IsNameTaken, MakesNew, MakesNothing}
 use Rattle.pid_tables.specs.Statements.{Carries, IsMadeBy, registry_statements}
+use Rattle.pid_tables.proofs.creation.create.Given.{Over}
 use Rattle.pid_tables.proofs.creation.create.Goals as goal
+
+-- the connection is what the transaction leaves, which is dropped or committed
+same_undone : (g : Over) (c : goal.After-conn-1 g) → c.drop-batch.new.self.0 ≡ c.conn-1.given.0
+same_undone g c = search rules
+
+same_ended : (g : Over) (c : goal.After-conn-2-1 g) → c.commit.new.batch.0 ≡ c.conn-2-1.given.0
+same_ended g c = search rules
 
 -- ---- a call fails, and all is given up
 
@@ -26,7 +34,7 @@ pub returns-in_err-fill-clause-at_once : goal.returns-in_err-fill-clause-at_once
 returns-in_err-fill-clause-at_once g c =
     let old = state g.S.Store c.args.conn.now in
     let end = c.drop-batch.new.self.0 in
-    let same : end ≡ c.conn-1.given.0 = search rules in
+    let same = same_undone g c in
     let first = c.fill.new.tx.conn.now in
     let goes = rw c.transaction-batch.ensures.begun at c.fill.ensures.goes in
     subst (λ h. WritesAtOnce old (state g.S.Store h) c.from_residual.result) same
@@ -37,7 +45,7 @@ pub returns-in_err-fill-clause-statements : goal.returns-in_err-fill-clause-stat
 returns-in_err-fill-clause-statements g c =
     let old = state g.S.Store c.args.conn.now in
     let end = c.drop-batch.new.self.0 in
-    let same : end ≡ c.conn-1.given.0 = search rules in
+    let same = same_undone g c in
     let first = c.fill.new.tx.conn.now in
     let goes = rw c.transaction-batch.ensures.begun at c.fill.ensures.goes in
     let made = IsMadeBy g.S.Store registry_statements c.args.conn.now in
@@ -51,7 +59,7 @@ pub returns-in_err-fill-clause-makes : goal.returns-in_err-fill-clause-makes
 returns-in_err-fill-clause-makes g c =
     let old = state g.S.Store c.args.conn.now in
     let end = c.drop-batch.new.self.0 in
-    let same : end ≡ c.conn-1.given.0 = search rules in
+    let same = same_undone g c in
     let first = c.fill.new.tx.conn.now in
     let goes = rw c.transaction-batch.ensures.begun at c.fill.ensures.goes in
     let filled = rw c.transaction-batch.ensures.begun at c.in_err-fill.ensures.filled in
@@ -70,7 +78,7 @@ pub returns-in_err-fill-clause-spares : goal.returns-in_err-fill-clause-spares
 returns-in_err-fill-clause-spares g c =
     let old = state g.S.Store c.args.conn.now in
     let end = c.drop-batch.new.self.0 in
-    let same : end ≡ c.conn-1.given.0 = search rules in
+    let same = same_undone g c in
     let first = c.fill.new.tx.conn.now in
     let goes = rw c.transaction-batch.ensures.begun at c.fill.ensures.goes in
     let filled = rw c.transaction-batch.ensures.begun at c.in_err-fill.ensures.filled in
@@ -89,9 +97,9 @@ returns-in_err-fill-clause-spares g c =
 pub returns-in_err-fill-clause-never : goal.returns-in_err-fill-clause-never
 returns-in_err-fill-clause-never g c clean =
     let end = c.drop-batch.new.self.0 in
-    let same : end ≡ c.conn-1.given.0 = search rules in
-    let late : HasCleanDisk (state g.S.Store end) = search rules in
-    let mid : HasCleanDisk (state g.S.Store c.fill.new.tx.conn.now) = omega (arith, c.drop-batch.ensures.survives.clean) in
+    let same = same_undone g c in
+    let late = subst (λ h. HasCleanDisk (state g.S.Store h)) (sym same) clean in
+    let mid = earlier (state g.S.Store c.fill.new.tx.conn.now) (state g.S.Store end) c.drop-batch.ensures.survives late in
     let never = rw c.transaction-batch.ensures.begun at c.in_err-fill.ensures.never in
     passed_from c.from_residual.result _ IsNotNewerSchema c.from_residual.ensures.1 (never mid refl)
 
@@ -101,7 +109,7 @@ pub returns-clause-at_once : goal.returns-clause-at_once
 returns-clause-at_once g c =
     let first = c.fill.new.tx.conn.now in
     let end = c.commit.new.batch.0 in
-    let same : end ≡ c.conn-2-1.given.0 = search rules in
+    let same = same_ended g c in
     let goes = rw c.transaction-batch.ensures.begun at c.in_ok-fill.ensures.goes in
     subst (λ h. WritesAtOnce (state g.S.Store c.args.conn.now) (state g.S.Store h) c.commit.result) same
     (commit_at_once g.S.Store c.args.conn.now first end (Ok c.in_ok-fill.field-0) goes c.commit.ensures.survives (clean_if_open (g.S.Store.view end.store) (g.met.S.Store.shut_if_dirty end.store)) c.commit.result c.commit.ensures.ended
@@ -113,7 +121,7 @@ returns-clause-statements g c =
     let old = c.args.conn.now in
     let first = c.fill.new.tx.conn.now in
     let end = c.commit.new.batch.0 in
-    let same : end ≡ c.conn-2-1.given.0 = search rules in
+    let same = same_ended g c in
     let goes = rw c.transaction-batch.ensures.begun at c.in_ok-fill.ensures.goes in
     let carried = rw c.transaction-batch.ensures.begun at c.in_ok-fill.ensures.carried in
     let made = IsMadeBy g.S.Store registry_statements old in
@@ -136,7 +144,7 @@ returns-clause-makes g c =
     let old = state g.S.Store c.args.conn.now in
     let first = c.fill.new.tx.conn.now in
     let end = c.commit.new.batch.0 in
-    let same : end ≡ c.conn-2-1.given.0 = search rules in
+    let same = same_ended g c in
     let goes = rw c.transaction-batch.ensures.begun at c.in_ok-fill.ensures.goes in
     let shows = rw c.transaction-batch.ensures.begun at c.in_ok-fill.ensures.filled in
     subst (λ h. MakesNew old (state g.S.Store h) c.commit.result) same (record {
@@ -155,7 +163,7 @@ returns-clause-spares g c =
     let first = c.fill.new.tx.conn.now in
     let mid = state g.S.Store first in
     let end = c.commit.new.batch.0 in
-    let same : end ≡ c.conn-2-1.given.0 = search rules in
+    let same = same_ended g c in
     let goes = rw c.transaction-batch.ensures.begun at c.in_ok-fill.ensures.goes in
     let refused = rw c.transaction-batch.ensures.begun at c.in_ok-fill.ensures.refused in
     let begun = state g.S.Store (record c.args.conn.now { in_transaction = true }) in
@@ -179,8 +187,31 @@ pub returns-clause-never : goal.returns-clause-never
 returns-clause-never g c clean =
     let first = c.fill.new.tx.conn.now in
     let end = c.commit.new.batch.0 in
-    let same : end ≡ c.conn-2-1.given.0 = search rules in
-    let late : HasCleanDisk (state g.S.Store end) = search rules in
+    let same = same_ended g c in
+    let late = subst (λ h. HasCleanDisk (state g.S.Store h)) (sym same) clean in
     let goes = rw c.transaction-batch.ensures.begun at c.in_ok-fill.ensures.goes in
     all_never c.commit.result (all_untold (state g.S.Store first) (state g.S.Store end) c.commit.result
     (c.commit.ensures.ends.caused late (goes.going (earlier (state g.S.Store first) (state g.S.Store end) c.commit.ensures.survives late) refl).1))
+
+-- ---- where a registry is
+
+pub returns-in_err-fill-clause-met : goal.returns-in_err-fill-clause-met
+returns-in_err-fill-clause-met g c clean v rest =
+    let old = state g.S.Store c.args.conn.now in
+    let first = c.fill.new.tx.conn.now in
+    let end = c.drop-batch.new.self.0 in
+    let same = same_undone g c in
+    let late = subst (λ h. HasCleanDisk (state g.S.Store h)) (sym same) clean in
+    let met = rw c.transaction-batch.ensures.begun at c.in_err-fill.ensures.met in
+    subst (λ h. MatchResult c.from_residual.result (λ _. ⊥) (IsFaultOfTaken old (state g.S.Store h))) same
+    (passed_on c.from_residual.result _ _ (IsFaultOfTaken old (state g.S.Store end)) c.from_residual.ensures.1
+    (met_first old (state g.S.Store first) (state g.S.Store end) _ c.drop-batch.ensures.survives.counts
+    (met (earlier (state g.S.Store first) (state g.S.Store end) c.drop-batch.ensures.survives late) refl (λ opened. (rest.shows opened).schema))))
+
+pub returns-clause-met : goal.returns-clause-met
+returns-clause-met g c clean v rest =
+    let first = c.fill.new.tx.conn.now in
+    let end = c.commit.new.batch.0 in
+    let late = subst (λ h. HasCleanDisk (state g.S.Store h)) (sym (same_ended g c)) clean in
+    let met = rw c.transaction-batch.ensures.begun at c.in_ok-fill.ensures.met in
+    absurd (met (earlier (state g.S.Store first) (state g.S.Store end) c.commit.ensures.survives late) refl (λ opened. (rest.shows opened).schema))

@@ -1,6 +1,6 @@
 use Rattle.std.proofs.Common.{rules}
 use Rattle.pid_tables_rows.proofs.OnlyReading.{reads_then}
-use Rattle.pid_tables.proofs.ThenReads.{fault_after, value_after}
+use Rattle.pid_tables.proofs.ThenReads.{fault_after, fault_first, value_after}
 use Rattle.pid_tables.proofs.gather.add_item.Goals as goal
 
 pub returns-in_err-facts-2 : goal.returns-in_err-facts-2
@@ -27,3 +27,6 @@ returns g c =
     let parent = c.in_ok-facts-2.ensures.told late v first in
     let children = c.in_ok-facts-3.ensures.told clean v (c.has_parent.ensures.rests.kept v first) all parents in
     search rules)
+
+pub returns-in_err-facts : goal.returns-in_err-facts
+returns-in_err-facts g c = fault_first g.S.Store c.args.conn.now c.items.new.conn c.in_err-facts.field-0.0 c.from_residual.result c.from_residual.ensures.1 c.in_err-facts.ensures

@@ -7,7 +7,7 @@ use Rattle.pid_moderation.specs.declared.facts.Named.{Named}
 use Rattle.pid_moderation.specs.FactsOfViews.{with_item_facts}
 use Rattle.pid_moderation.specs.Items.{name_at, holds_parent, has_children}
 use Rattle.pid_moderation.specs.Views.{Views}
-use Rattle.pid_tables.proofs.ThenReads.{answer_after}
+use Rattle.pid_tables.proofs.ThenReads.{answer_after, fault_first}
 use Rattle.pid_tables.proofs.gather.add_rows.Goals as goal
 
 none_added : (v : Views) (old new : Facts) (found : Option Named) → new ≡ record old { named = found } → new.named ≡ None → old.named ≡ None → new ≡ with_item_facts v found old
@@ -38,3 +38,6 @@ pub returns-in-Some : goal.returns-in-Some
 returns-in-Some g c = rw c.in-Item.is (answer_after g.S.Store c.args.conn.now c.add_named-in-Item.new.conn c.add_item.new.conn c.add_named-in-Item.ensures.rests c.add_item.result c.add_item.ensures
     (λ clean v rest x says bare all parents.
     some_added v c.args.facts.now c.add_named-in-Item.new.facts c.add_item.new.facts _ c.in-Some.named (c.in_ok-add_named-in-Item.ensures.told clean v rest) c.in-Some.is (says all parents)))
+
+pub returns-in_err-facts-in-Rank : goal.returns-in_err-facts-in-Rank
+returns-in_err-facts-in-Rank g c = fault_first g.S.Store c.args.conn.now c.rank.new.conn c.in_err-facts-in-Rank.field-0.0 c.from_residual.result c.from_residual.ensures.1 c.in_err-facts-in-Rank.ensures

@@ -1,4 +1,5 @@
 use Rattle.std.proofs.Common.{refl, sym, subst, ◌∙◌}
+use Rattle.std.proofs.lemmas.Bool.{true≢false, false≢true}
 use Rattle.sqlite.specs.Effect.{Database}
 use Rattle.pid_tables_rows.specs.Faults.{IsMemoryOrStore}
 use Rattle.pid_tables_rows.specs.Shows.{ShowsKeeping}
@@ -20,7 +21,7 @@ returns-else-branch-clause-shown g c clean version counts numbers v shows =
     let found = c.in_ok-has_some_table.ensures in
     let some = tables_some version _ (c.schemas_have_tables.ensures.tables version) in
     let on = (found.asked clean).1 (subst HasSomeTable (sym (shows (found.was_open clean)).schema) some) in
-    absurd (let both = sym on ∙ c.if-branch.false in cc)
+    absurd (true≢false (sym on ∙ c.if-branch.false))
 
 pub returns-then-branch-clause-bare : goal.returns-then-branch-clause-bare
 returns-then-branch-clause-bare g c clean none =
@@ -68,7 +69,7 @@ pub returns-else-branch-clause-bare : goal.returns-else-branch-clause-bare
 returns-else-branch-clause-bare g c clean none = refl
 
 pub returns-else-branch-clause-named : goal.returns-else-branch-clause-named
-returns-else-branch-clause-named g c clean = λ is. absurd (let no : ⊥ = cc in no)
+returns-else-branch-clause-named g c clean = λ is. absurd (false≢true is)
 
 pub returns-else-branch-clause-was_open : goal.returns-else-branch-clause-was_open
 returns-else-branch-clause-was_open g c clean = c.in_ok-has_some_table.ensures.was_open clean

@@ -1,4 +1,4 @@
-use Rattle.std.proofs.Common.{◌≡◌, true, Ok, OnOk, OnErr, refl, rules, arith, subst}
+use Rattle.std.proofs.Common.{◌≡◌, true, Ok, OnOk, OnErr, refl, rules, sym, subst}
 use Rattle.sqlite.specs.Held.{state}
 use Rattle.sqlite.specs.State.{HasCleanDisk}
 use Rattle.sqlite.proofs.StateLemmas.{clean_if_open}
@@ -15,21 +15,29 @@ use Rattle.pid_tables.proofs.AtOnceLemmas.{reads_at_once, reads_never, commit_at
 use Rattle.pid_tables.proofs.MoveLemmas.{failed_rests, all_never, all_untold, not_on_ok}
 use Rattle.pid_tables.specs.AtOnce.{WritesAtOnce}
 use Rattle.pid_tables.specs.Statements.{Carries, IsMadeBy, move_statements}
+use Rattle.pid_tables.proofs.migration.move_up.Given.{Over}
 use Rattle.pid_tables.proofs.migration.move_up.Goals as goal
+
+-- the connection is what the transaction leaves, which is dropped or committed
+same_undone : (g : Over) (c : goal.After-conn-1 g) → c.drop-batch.new.self.0 ≡ c.conn-1.given.0
+same_undone g c = search rules
+
+same_ended : (g : Over) (c : goal.After-conn-2-1 g) → c.commit.new.batch.0 ≡ c.conn-2-1.given.0
+same_ended g c = search rules
 
 pub returns-clause-moved : goal.returns-clause-moved
 returns-clause-moved g c v rest =
     let goes = rw c.transaction-batch.ensures.begun at c.in_ok-move_tables.ensures.goes in
     let shows = rw c.transaction-batch.ensures.begun at c.in_ok-move_tables.ensures.shows in
     let end = c.commit.new.batch.0 in
-    let same : end ≡ c.conn-2-1.given.0 = search rules in
+    let same = same_ended g c in
     subst (λ h. OnOk c.commit.result (AtRest (state g.S.Store h) v)) same
     (c.commit.ensures.stands v (λ clean. ((goes.going clean refl).0, shows clean refl (counts_of v) v rest.shows)))
 
 pub returns-in_err-move_tables-clause-kept : goal.returns-in_err-move_tables-clause-kept
 returns-in_err-move_tables-clause-kept g c v rest =
     let end = c.drop-batch.new.self.0 in
-    let same : end ≡ c.conn-1.given.0 = search rules in
+    let same = same_undone g c in
     let first = c.move_tables.new.tx.conn.now in
     let goes = rw c.transaction-batch.ensures.begun at c.move_tables.ensures.goes in
     on_err c.from_residual.result (subst (λ h. RestsIn One (state g.S.Store h) v) same
@@ -40,7 +48,7 @@ returns-in_err-move_tables-clause-kept g c v rest =
 pub returns-clause-kept : goal.returns-clause-kept
 returns-clause-kept g c v rest =
     let end = c.commit.new.batch.0 in
-    let same : end ≡ c.conn-2-1.given.0 = search rules in
+    let same = same_ended g c in
     let first = c.move_tables.new.tx.conn.now in
     let goes = rw c.transaction-batch.ensures.begun at c.in_ok-move_tables.ensures.goes in
     let shows = rw c.transaction-batch.ensures.begun at c.in_ok-move_tables.ensures.shows in
@@ -52,9 +60,9 @@ returns-clause-kept g c v rest =
 pub returns-in_err-move_tables-clause-untold : goal.returns-in_err-move_tables-clause-untold
 returns-in_err-move_tables-clause-untold g c clean v rest =
     let end = c.drop-batch.new.self.0 in
-    let same : end ≡ c.conn-1.given.0 = search rules in
-    let late : HasCleanDisk (state g.S.Store end) = search rules in
-    let mid : HasCleanDisk (state g.S.Store c.move_tables.new.tx.conn.now) = omega (arith, c.drop-batch.ensures.survives.clean) in
+    let same = same_undone g c in
+    let late = subst (λ h. HasCleanDisk (state g.S.Store h)) (sym same) clean in
+    let mid = earlier (state g.S.Store c.move_tables.new.tx.conn.now) (state g.S.Store end) c.drop-batch.ensures.survives late in
     let shows = rw c.transaction-batch.ensures.begun at c.in_err-move_tables.ensures.shows in
     passed_from c.from_residual.result _ IsMemoryOrStore c.from_residual.ensures.1 (shows mid refl (counts_of v) v rest.shows)
 
@@ -62,8 +70,8 @@ pub returns-clause-untold : goal.returns-clause-untold
 returns-clause-untold g c clean v rest =
     let first = c.move_tables.new.tx.conn.now in
     let end = c.commit.new.batch.0 in
-    let same : end ≡ c.conn-2-1.given.0 = search rules in
-    let late : HasCleanDisk (state g.S.Store end) = search rules in
+    let same = same_ended g c in
+    let late = subst (λ h. HasCleanDisk (state g.S.Store h)) (sym same) clean in
     let goes = rw c.transaction-batch.ensures.begun at c.in_ok-move_tables.ensures.goes in
     all_untold (state g.S.Store first) (state g.S.Store end) c.commit.result
     (c.commit.ensures.ends.caused late (goes.going (earlier (state g.S.Store first) (state g.S.Store end) c.commit.ensures.survives late) refl).1)
@@ -74,7 +82,7 @@ pub returns-in_err-move_tables-clause-at_once : goal.returns-in_err-move_tables-
 returns-in_err-move_tables-clause-at_once g c =
     let old = state g.S.Store c.args.conn.now in
     let end = c.drop-batch.new.self.0 in
-    let same : end ≡ c.conn-1.given.0 = search rules in
+    let same = same_undone g c in
     let first = c.move_tables.new.tx.conn.now in
     let goes = rw c.transaction-batch.ensures.begun at c.move_tables.ensures.goes in
     subst (λ h. WritesAtOnce old (state g.S.Store h) c.from_residual.result) same
@@ -86,7 +94,7 @@ pub returns-clause-at_once : goal.returns-clause-at_once
 returns-clause-at_once g c =
     let first = c.move_tables.new.tx.conn.now in
     let end = c.commit.new.batch.0 in
-    let same : end ≡ c.conn-2-1.given.0 = search rules in
+    let same = same_ended g c in
     let goes = rw c.transaction-batch.ensures.begun at c.in_ok-move_tables.ensures.goes in
     subst (λ h. WritesAtOnce (state g.S.Store c.args.conn.now) (state g.S.Store h) c.commit.result) same
     (commit_at_once g.S.Store c.args.conn.now first end (Ok c.in_ok-move_tables.field-0) goes c.commit.ensures.survives (clean_if_open (g.S.Store.view end.store) (g.met.S.Store.shut_if_dirty end.store)) c.commit.result c.commit.ensures.ended
@@ -100,8 +108,8 @@ pub returns-clause-never : goal.returns-clause-never
 returns-clause-never g c clean =
     let first = c.move_tables.new.tx.conn.now in
     let end = c.commit.new.batch.0 in
-    let same : end ≡ c.conn-2-1.given.0 = search rules in
-    let late : HasCleanDisk (state g.S.Store end) = search rules in
+    let same = same_ended g c in
+    let late = subst (λ h. HasCleanDisk (state g.S.Store h)) (sym same) clean in
     let goes = rw c.transaction-batch.ensures.begun at c.in_ok-move_tables.ensures.goes in
     all_never c.commit.result (all_untold (state g.S.Store first) (state g.S.Store end) c.commit.result
     (c.commit.ensures.ends.caused late (goes.going (earlier (state g.S.Store first) (state g.S.Store end) c.commit.ensures.survives late) refl).1))
@@ -112,7 +120,7 @@ pub returns-in_err-move_tables-clause-statements : goal.returns-in_err-move_tabl
 returns-in_err-move_tables-clause-statements g c =
     let old = state g.S.Store c.args.conn.now in
     let end = c.drop-batch.new.self.0 in
-    let same : end ≡ c.conn-1.given.0 = search rules in
+    let same = same_undone g c in
     let first = c.move_tables.new.tx.conn.now in
     let goes = rw c.transaction-batch.ensures.begun at c.move_tables.ensures.goes in
     let made = IsMadeBy g.S.Store move_statements c.args.conn.now in
@@ -127,7 +135,7 @@ returns-clause-statements g c =
     let old = c.args.conn.now in
     let first = c.move_tables.new.tx.conn.now in
     let end = c.commit.new.batch.0 in
-    let same : end ≡ c.conn-2-1.given.0 = search rules in
+    let same = same_ended g c in
     let goes = rw c.transaction-batch.ensures.begun at c.in_ok-move_tables.ensures.goes in
     let carried = rw c.transaction-batch.ensures.begun at c.in_ok-move_tables.ensures.carried in
     let made = IsMadeBy g.S.Store move_statements old in

@@ -1,4 +1,5 @@
 use Rattle.std.proofs.Common.{refl, sym, ap, ◌∙◌}
+use Rattle.std.proofs.lemmas.Bool.{true≢false, false≢true}
 use Rattle.std.specs.Prelude.{not}
 use Rattle.sqlite.specs.Held.{state}
 use Rattle.pid_moderation.specs.Views.{views_of}
@@ -42,10 +43,10 @@ returns-in_err-is_current-clause-shown g c = record {
 -- the labels name schema 2
 pub returns-then-branch-clause-shown : goal.returns-then-branch-clause-shown
 returns-then-branch-clause-shown g c = record {
-  shut = λ clean closed. absurd (let both = sym (c.in_ok-is_current.ensures.was_open clean) ∙ closed in cc);
-  bare = λ clean none. absurd (let both = sym c.if-branch.true ∙ c.in_ok-is_current.ensures.bare clean none in cc);
+  shut = λ clean closed. absurd (true≢false (sym (c.in_ok-is_current.ensures.was_open clean) ∙ closed));
+  bare = λ clean none. absurd (true≢false (sym c.if-branch.true ∙ c.in_ok-is_current.ensures.bare clean none));
   earlier = λ clean h sound rest.
-      absurd (let both = sym c.if-branch.true ∙ c.in_ok-is_current.ensures.shown clean One (counts_of (views_of h)) (numbers_in (views_of h)) (views_of h) rest.shows in cc);
+      absurd (true≢false (sym c.if-branch.true ∙ c.in_ok-is_current.ensures.shown clean One (counts_of (views_of h)) (numbers_in (views_of h)) (views_of h) rest.shows));
   latest = λ clean v rest. refl;
 }
 
@@ -56,12 +57,12 @@ returns-clause-shown g c =
     let mid = state g.S.Store c.is_current.new.conn in
     let still = seen_still old mid (c.is_autocommit-settled.ensures.settled (c.is_autocommit-settled.ensures.value ∙ ap not c.requires)) c.is_current.ensures.rests in
     record {
-      shut = λ clean closed. absurd (let both = sym (c.in_ok-is_current.ensures.was_open (c.check.ensures.rests.clean clean)) ∙ closed in cc);
+      shut = λ clean closed. absurd (true≢false (sym (c.in_ok-is_current.ensures.was_open (c.check.ensures.rests.clean clean)) ∙ closed));
       bare = λ clean none. none_found old.now c.check.result none (told_before old mid c.check.result still (c.check.ensures.shut clean) (c.check.ensures.told clean));
       earlier = λ clean h sound rest.
           good_found One mid (views_of h) c.check.result (rests_in_still old mid (views_of h) c.is_current.ensures.rests rest) (λ shows. c.sound_histories_are_registries.ensures h sound (none_within _ shows.sinces.0) One mid.now shows) (c.check.ensures.shut clean) (c.check.ensures.stored clean);
       latest = λ clean v rest.
-          absurd (let both = sym c.if-branch.false ∙ c.in_ok-is_current.ensures.shown (c.check.ensures.rests.clean clean) Two (counts_of v) (numbers_in v) v rest.shows in cc);
+          absurd (false≢true (sym c.if-branch.false ∙ c.in_ok-is_current.ensures.shown (c.check.ensures.rests.clean clean) Two (counts_of v) (numbers_in v) v rest.shows));
     }
 
 -- ---- any tables

@@ -11,38 +11,55 @@ use Rattle.pid_tables.specs.Files.{file_reading}
 use Rattle.pid_tables.specs.Steps.PutFiles.{PutsFile}
 use Rattle.pid_tables.proofs.PutInto.{puts, gives_up, shown, put_name, put_clean, put_limit, put_holds, put_within, put_tally}
 use Rattle.pid_tables.proofs.BringIn.{left_read, left_stops, stop_live, body_end, end_body, applied_stops, applied_read, err_is, end_is}
+use Rattle.pid_tables.proofs.put_file.bring_in.Given.{Over}
 use Rattle.pid_tables.proofs.put_file.bring_in.Goals as goal
 
+-- ---- the connection is what the transaction leaves, which is rolled back or committed
+
+same_unput : (g : Over) (c : goal.After-stop_of g) → c.roll_back.new.batch.0 ≡ c.conn-1.given.0
+same_unput g c =
+    let read = c.put_file.ensures.puts in
+    let name : c.put_file.new.batch.conn.ghost_name ≡ c.begin-batch.result.conn.ghost_name = put_name g.S.Store c.next_revision-revision.result c.put_file.result _ read.0 c.begin-batch.result c.put_file.new.batch read.2 in
+    search rules
+
+same_unapplied : (g : Over) (c : goal.After-conn-in-Err-apply_file-1 g) → c.roll_back-in-Err-apply_file.new.batch.0 ≡ c.conn-in-Err-apply_file-1.given.0
+same_unapplied g c =
+    let read = c.put_file.ensures.puts in
+    let name : c.put_file.new.batch.conn.ghost_name ≡ c.begin-batch.result.conn.ghost_name = put_name g.S.Store c.next_revision-revision.result c.put_file.result _ read.0 c.begin-batch.result c.put_file.new.batch read.2 in
+    let named : c.apply_file.new.batch.conn.ghost_name ≡ c.put_file.new.batch.conn.ghost_name = c.apply_file.ensures.same_reference in
+    search rules
+
+same_kept : (g : Over) (c : goal.In-Ok-commit g) → c.commit.new.batch.0 ≡ c.conn-in-Ok-apply_file-1.given.0
+same_kept g c =
+    let read = c.put_file.ensures.puts in
+    let name : c.put_file.new.batch.conn.ghost_name ≡ c.begin-batch.result.conn.ghost_name = put_name g.S.Store c.next_revision-revision.result c.put_file.result _ read.0 c.begin-batch.result c.put_file.new.batch read.2 in
+    let named : c.apply_file.new.batch.conn.ghost_name ≡ c.put_file.new.batch.conn.ghost_name = c.apply_file.ensures.same_reference in
+    search rules
+
+same_unkept : (g : Over) (c : goal.After-refusal_of g) → c.commit.new.batch.0 ≡ c.conn-in-Ok-apply_file-1.given.0
+same_unkept g c =
+    let read = c.put_file.ensures.puts in
+    let name : c.put_file.new.batch.conn.ghost_name ≡ c.begin-batch.result.conn.ghost_name = put_name g.S.Store c.next_revision-revision.result c.put_file.result _ read.0 c.begin-batch.result c.put_file.new.batch read.2 in
+    let named : c.apply_file.new.batch.conn.ghost_name ≡ c.put_file.new.batch.conn.ghost_name = c.apply_file.ensures.same_reference in
+    search rules
+
+-- ---- the file was not put, the import was not applied, or it was committed
+
 pub returns-in-Err-clause-ends : goal.returns-in-Err-clause-ends
-returns-in-Err-clause-ends g c = record {
-  settled =
-      let n = c.next_revision-revision.result in
-      let start = c.begin-batch.result in
-      let end = c.put_file.new.batch in
-      let read = c.put_file.ensures.puts in
-      let name : end.conn.ghost_name ≡ start.conn.ghost_name = put_name g.S.Store n c.put_file.result _ read.0 start end read.2 in
-      let same : c.roll_back.new.batch.0 ≡ c.conn-1.given.0 = search rules in
-      subst (λ h. h.in_transaction ≡ false) same c.roll_back.ensures.ended;
-  clean = λ clean.
-      let n = c.next_revision-revision.result in
-      let start = c.begin-batch.result in
-      let end = c.put_file.new.batch in
-      let read = c.put_file.ensures.puts in
-      let name : end.conn.ghost_name ≡ start.conn.ghost_name = put_name g.S.Store n c.put_file.result _ read.0 start end read.2 in
-      let began : HasCleanDisk (shown g.S.Store end) → HasCleanDisk (state g.S.Store c.args.conn.now) = λ clean. subst (λ h. HasCleanDisk (state g.S.Store h)) c.begin-batch.ensures.unchanged (put_clean g.S.Store n c.put_file.result _ read.0 start end read.2 clean) in
-      let same : c.roll_back.new.batch.0 ≡ c.conn-1.given.0 = search rules in
-      began (earlier (shown g.S.Store end) (state g.S.Store c.roll_back.new.batch.0) c.roll_back.ensures.survives (subst (λ h. HasCleanDisk (state g.S.Store h)) (sym same) clean));
-  limit =
-      let n = c.next_revision-revision.result in
-      let start = c.begin-batch.result in
-      let end = c.put_file.new.batch in
-      let read = c.put_file.ensures.puts in
-      let begun : start.conn.now.step_limit ≡ c.args.conn.now.step_limit = subst (λ h. h.step_limit ≡ c.args.conn.now.step_limit) (sym c.begin-batch.ensures.unchanged) refl in
-      let put : end.conn.now.step_limit ≡ start.conn.now.step_limit = put_limit g.S.Store n c.put_file.result _ read.0 start end read.2 in
-      let name : end.conn.ghost_name ≡ start.conn.ghost_name = put_name g.S.Store n c.put_file.result _ read.0 start end read.2 in
-      let same : c.roll_back.new.batch.0 ≡ c.conn-1.given.0 = search rules in
-      subst (λ h. h.step_limit ≡ c.args.conn.now.step_limit) same (c.roll_back.ensures.survives.limit ∙ put ∙ begun);
-}
+returns-in-Err-clause-ends g c =
+    let n = c.next_revision-revision.result in
+    let start = c.begin-batch.result in
+    let end = c.put_file.new.batch in
+    let read = c.put_file.ensures.puts in
+    let same = same_unput g c in
+    let began : HasCleanDisk (shown g.S.Store end) → HasCleanDisk (state g.S.Store c.args.conn.now) = λ clean. subst (λ h. HasCleanDisk (state g.S.Store h)) c.begin-batch.ensures.unchanged (put_clean g.S.Store n c.put_file.result _ read.0 start end read.2 clean) in
+    let begun : start.conn.now.step_limit ≡ c.args.conn.now.step_limit = subst (λ h. h.step_limit ≡ c.args.conn.now.step_limit) (sym c.begin-batch.ensures.unchanged) refl in
+    let put : end.conn.now.step_limit ≡ start.conn.now.step_limit = put_limit g.S.Store n c.put_file.result _ read.0 start end read.2 in
+    record {
+      settled = subst (λ h. h.in_transaction ≡ false) same c.roll_back.ensures.ended;
+      clean = λ clean. began (earlier (shown g.S.Store end) (state g.S.Store c.roll_back.new.batch.0) c.roll_back.ensures.survives (subst (λ h. HasCleanDisk (state g.S.Store h)) (sym same) clean));
+      limit = subst (λ h. h.step_limit ≡ c.args.conn.now.step_limit) same (c.roll_back.ensures.survives.limit ∙ put ∙ begun);
+    }
 
 pub returns-in-Err-clause-stops : goal.returns-in-Err-clause-stops
 returns-in-Err-clause-stops g c =
@@ -50,8 +67,7 @@ returns-in-Err-clause-stops g c =
     let start = c.begin-batch.result in
     let end = c.put_file.new.batch in
     let read = c.put_file.ensures.puts in
-    let name : end.conn.ghost_name ≡ start.conn.ghost_name = put_name g.S.Store n c.put_file.result _ read.0 start end read.2 in
-    let same : c.roll_back.new.batch.0 ≡ c.conn-1.given.0 = search rules in
+    let same = same_unput g c in
     let put : PutsFile (puts g.S.Store n) (gives_up g.S.Store) (Err c.in-Err.end) _ read.0 start end = rw c.in-Err.is at read.2 in (
       read.0,
       read.1,
@@ -71,41 +87,21 @@ returns-in-Err-clause-read_fault g c = record {
 }
 
 pub returns-in-Err-apply_file-clause-ends : goal.returns-in-Err-apply_file-clause-ends
-returns-in-Err-apply_file-clause-ends g c = record {
-  settled =
-      let n = c.next_revision-revision.result in
-      let start = c.begin-batch.result in
-      let end = c.put_file.new.batch in
-      let read = c.put_file.ensures.puts in
-      let name : end.conn.ghost_name ≡ start.conn.ghost_name = put_name g.S.Store n c.put_file.result _ read.0 start end read.2 in
-      let after = c.apply_file.new.batch in
-      let named : after.conn.ghost_name ≡ end.conn.ghost_name = c.apply_file.ensures.same_reference in
-      let same : c.roll_back-in-Err-apply_file.new.batch.0 ≡ c.conn-in-Err-apply_file-1.given.0 = search rules in
-      subst (λ h. h.in_transaction ≡ false) same c.roll_back-in-Err-apply_file.ensures.ended;
-  clean = λ clean.
-      let n = c.next_revision-revision.result in
-      let start = c.begin-batch.result in
-      let end = c.put_file.new.batch in
-      let read = c.put_file.ensures.puts in
-      let name : end.conn.ghost_name ≡ start.conn.ghost_name = put_name g.S.Store n c.put_file.result _ read.0 start end read.2 in
-      let began : HasCleanDisk (shown g.S.Store end) → HasCleanDisk (state g.S.Store c.args.conn.now) = λ clean. subst (λ h. HasCleanDisk (state g.S.Store h)) c.begin-batch.ensures.unchanged (put_clean g.S.Store n c.put_file.result _ read.0 start end read.2 clean) in
-      let after = c.apply_file.new.batch in
-      let named : after.conn.ghost_name ≡ end.conn.ghost_name = c.apply_file.ensures.same_reference in
-      let same : c.roll_back-in-Err-apply_file.new.batch.0 ≡ c.conn-in-Err-apply_file-1.given.0 = search rules in
-      began (c.apply_file.ensures.clean (earlier (shown g.S.Store after) (state g.S.Store c.roll_back-in-Err-apply_file.new.batch.0) c.roll_back-in-Err-apply_file.ensures.survives (subst (λ h. HasCleanDisk (state g.S.Store h)) (sym same) clean)));
-  limit =
-      let n = c.next_revision-revision.result in
-      let start = c.begin-batch.result in
-      let end = c.put_file.new.batch in
-      let read = c.put_file.ensures.puts in
-      let begun : start.conn.now.step_limit ≡ c.args.conn.now.step_limit = subst (λ h. h.step_limit ≡ c.args.conn.now.step_limit) (sym c.begin-batch.ensures.unchanged) refl in
-      let put : end.conn.now.step_limit ≡ start.conn.now.step_limit = put_limit g.S.Store n c.put_file.result _ read.0 start end read.2 in
-      let name : end.conn.ghost_name ≡ start.conn.ghost_name = put_name g.S.Store n c.put_file.result _ read.0 start end read.2 in
-      let after = c.apply_file.new.batch in
-      let named : after.conn.ghost_name ≡ end.conn.ghost_name = c.apply_file.ensures.same_reference in
-      let same : c.roll_back-in-Err-apply_file.new.batch.0 ≡ c.conn-in-Err-apply_file-1.given.0 = search rules in
-      subst (λ h. h.step_limit ≡ c.args.conn.now.step_limit) same (c.roll_back-in-Err-apply_file.ensures.survives.limit ∙ c.apply_file.ensures.limit ∙ put ∙ begun);
-}
+returns-in-Err-apply_file-clause-ends g c =
+    let n = c.next_revision-revision.result in
+    let start = c.begin-batch.result in
+    let end = c.put_file.new.batch in
+    let read = c.put_file.ensures.puts in
+    let after = c.apply_file.new.batch in
+    let same = same_unapplied g c in
+    let began : HasCleanDisk (shown g.S.Store end) → HasCleanDisk (state g.S.Store c.args.conn.now) = λ clean. subst (λ h. HasCleanDisk (state g.S.Store h)) c.begin-batch.ensures.unchanged (put_clean g.S.Store n c.put_file.result _ read.0 start end read.2 clean) in
+    let begun : start.conn.now.step_limit ≡ c.args.conn.now.step_limit = subst (λ h. h.step_limit ≡ c.args.conn.now.step_limit) (sym c.begin-batch.ensures.unchanged) refl in
+    let put : end.conn.now.step_limit ≡ start.conn.now.step_limit = put_limit g.S.Store n c.put_file.result _ read.0 start end read.2 in
+    record {
+      settled = subst (λ h. h.in_transaction ≡ false) same c.roll_back-in-Err-apply_file.ensures.ended;
+      clean = λ clean. began (c.apply_file.ensures.clean (earlier (shown g.S.Store after) (state g.S.Store c.roll_back-in-Err-apply_file.new.batch.0) c.roll_back-in-Err-apply_file.ensures.survives (subst (λ h. HasCleanDisk (state g.S.Store h)) (sym same) clean)));
+      limit = subst (λ h. h.step_limit ≡ c.args.conn.now.step_limit) same (c.roll_back-in-Err-apply_file.ensures.survives.limit ∙ c.apply_file.ensures.limit ∙ put ∙ begun);
+    }
 
 pub returns-in-Err-apply_file-clause-stops : goal.returns-in-Err-apply_file-clause-stops
 returns-in-Err-apply_file-clause-stops g c =
@@ -113,10 +109,8 @@ returns-in-Err-apply_file-clause-stops g c =
     let start = c.begin-batch.result in
     let end = c.put_file.new.batch in
     let read = c.put_file.ensures.puts in
-    let name : end.conn.ghost_name ≡ start.conn.ghost_name = put_name g.S.Store n c.put_file.result _ read.0 start end read.2 in
     let after = c.apply_file.new.batch in
-    let named : after.conn.ghost_name ≡ end.conn.ghost_name = c.apply_file.ensures.same_reference in
-    let same : c.roll_back-in-Err-apply_file.new.batch.0 ≡ c.conn-in-Err-apply_file-1.given.0 = search rules in
+    let same = same_unapplied g c in
     let put : PutsFile (puts g.S.Store n) (gives_up g.S.Store) (Ok c.in-Ok.tally) _ read.0 start end = rw c.in-Ok.is at read.2 in (
       read.0,
       read.1,
@@ -139,41 +133,21 @@ returns-in-Err-apply_file-clause-read_fault g c = record {
 }
 
 pub returns-in-Ok-commit-clause-ends : goal.returns-in-Ok-commit-clause-ends
-returns-in-Ok-commit-clause-ends g c = record {
-  settled =
-      let n = c.next_revision-revision.result in
-      let start = c.begin-batch.result in
-      let end = c.put_file.new.batch in
-      let read = c.put_file.ensures.puts in
-      let name : end.conn.ghost_name ≡ start.conn.ghost_name = put_name g.S.Store n c.put_file.result _ read.0 start end read.2 in
-      let after = c.apply_file.new.batch in
-      let named : after.conn.ghost_name ≡ end.conn.ghost_name = c.apply_file.ensures.same_reference in
-      let same : c.commit.new.batch.0 ≡ c.conn-in-Ok-apply_file-1.given.0 = search rules in
-      subst (λ h. h.in_transaction ≡ false) same c.commit.ensures.ended;
-  clean = λ clean.
-      let n = c.next_revision-revision.result in
-      let start = c.begin-batch.result in
-      let end = c.put_file.new.batch in
-      let read = c.put_file.ensures.puts in
-      let name : end.conn.ghost_name ≡ start.conn.ghost_name = put_name g.S.Store n c.put_file.result _ read.0 start end read.2 in
-      let began : HasCleanDisk (shown g.S.Store end) → HasCleanDisk (state g.S.Store c.args.conn.now) = λ clean. subst (λ h. HasCleanDisk (state g.S.Store h)) c.begin-batch.ensures.unchanged (put_clean g.S.Store n c.put_file.result _ read.0 start end read.2 clean) in
-      let after = c.apply_file.new.batch in
-      let named : after.conn.ghost_name ≡ end.conn.ghost_name = c.apply_file.ensures.same_reference in
-      let same : c.commit.new.batch.0 ≡ c.conn-in-Ok-apply_file-1.given.0 = search rules in
-      began (c.apply_file.ensures.clean (earlier (shown g.S.Store after) (state g.S.Store c.commit.new.batch.0) c.commit.ensures.survives (subst (λ h. HasCleanDisk (state g.S.Store h)) (sym same) clean)));
-  limit =
-      let n = c.next_revision-revision.result in
-      let start = c.begin-batch.result in
-      let end = c.put_file.new.batch in
-      let read = c.put_file.ensures.puts in
-      let begun : start.conn.now.step_limit ≡ c.args.conn.now.step_limit = subst (λ h. h.step_limit ≡ c.args.conn.now.step_limit) (sym c.begin-batch.ensures.unchanged) refl in
-      let put : end.conn.now.step_limit ≡ start.conn.now.step_limit = put_limit g.S.Store n c.put_file.result _ read.0 start end read.2 in
-      let name : end.conn.ghost_name ≡ start.conn.ghost_name = put_name g.S.Store n c.put_file.result _ read.0 start end read.2 in
-      let after = c.apply_file.new.batch in
-      let named : after.conn.ghost_name ≡ end.conn.ghost_name = c.apply_file.ensures.same_reference in
-      let same : c.commit.new.batch.0 ≡ c.conn-in-Ok-apply_file-1.given.0 = search rules in
-      subst (λ h. h.step_limit ≡ c.args.conn.now.step_limit) same (c.commit.ensures.survives.limit ∙ c.apply_file.ensures.limit ∙ put ∙ begun);
-}
+returns-in-Ok-commit-clause-ends g c =
+    let n = c.next_revision-revision.result in
+    let start = c.begin-batch.result in
+    let end = c.put_file.new.batch in
+    let read = c.put_file.ensures.puts in
+    let after = c.apply_file.new.batch in
+    let same = same_kept g c in
+    let began : HasCleanDisk (shown g.S.Store end) → HasCleanDisk (state g.S.Store c.args.conn.now) = λ clean. subst (λ h. HasCleanDisk (state g.S.Store h)) c.begin-batch.ensures.unchanged (put_clean g.S.Store n c.put_file.result _ read.0 start end read.2 clean) in
+    let begun : start.conn.now.step_limit ≡ c.args.conn.now.step_limit = subst (λ h. h.step_limit ≡ c.args.conn.now.step_limit) (sym c.begin-batch.ensures.unchanged) refl in
+    let put : end.conn.now.step_limit ≡ start.conn.now.step_limit = put_limit g.S.Store n c.put_file.result _ read.0 start end read.2 in
+    record {
+      settled = subst (λ h. h.in_transaction ≡ false) same c.commit.ensures.ended;
+      clean = λ clean. began (c.apply_file.ensures.clean (earlier (shown g.S.Store after) (state g.S.Store c.commit.new.batch.0) c.commit.ensures.survives (subst (λ h. HasCleanDisk (state g.S.Store h)) (sym same) clean)));
+      limit = subst (λ h. h.step_limit ≡ c.args.conn.now.step_limit) same (c.commit.ensures.survives.limit ∙ c.apply_file.ensures.limit ∙ put ∙ begun);
+    }
 
 pub returns-in-Ok-commit-clause-stops : goal.returns-in-Ok-commit-clause-stops
 returns-in-Ok-commit-clause-stops g c =
@@ -181,10 +155,8 @@ returns-in-Ok-commit-clause-stops g c =
     let start = c.begin-batch.result in
     let end = c.put_file.new.batch in
     let read = c.put_file.ensures.puts in
-    let name : end.conn.ghost_name ≡ start.conn.ghost_name = put_name g.S.Store n c.put_file.result _ read.0 start end read.2 in
     let after = c.apply_file.new.batch in
-    let named : after.conn.ghost_name ≡ end.conn.ghost_name = c.apply_file.ensures.same_reference in
-    let same : c.commit.new.batch.0 ≡ c.conn-in-Ok-apply_file-1.given.0 = search rules in
+    let same = same_kept g c in
     let put : PutsFile (puts g.S.Store n) (gives_up g.S.Store) (Ok c.in-Ok.tally) _ read.0 start end = rw c.in-Ok.is at read.2 in (
       read.0,
       read.1,
@@ -200,41 +172,21 @@ returns-in-Ok-commit-clause-stops g c =
     )
 
 pub returns-in-Err-commit-clause-ends : goal.returns-in-Err-commit-clause-ends
-returns-in-Err-commit-clause-ends g c = record {
-  settled =
-      let n = c.next_revision-revision.result in
-      let start = c.begin-batch.result in
-      let end = c.put_file.new.batch in
-      let read = c.put_file.ensures.puts in
-      let name : end.conn.ghost_name ≡ start.conn.ghost_name = put_name g.S.Store n c.put_file.result _ read.0 start end read.2 in
-      let after = c.apply_file.new.batch in
-      let named : after.conn.ghost_name ≡ end.conn.ghost_name = c.apply_file.ensures.same_reference in
-      let same : c.commit.new.batch.0 ≡ c.conn-in-Ok-apply_file-1.given.0 = search rules in
-      subst (λ h. h.in_transaction ≡ false) same c.commit.ensures.ended;
-  clean = λ clean.
-      let n = c.next_revision-revision.result in
-      let start = c.begin-batch.result in
-      let end = c.put_file.new.batch in
-      let read = c.put_file.ensures.puts in
-      let name : end.conn.ghost_name ≡ start.conn.ghost_name = put_name g.S.Store n c.put_file.result _ read.0 start end read.2 in
-      let began : HasCleanDisk (shown g.S.Store end) → HasCleanDisk (state g.S.Store c.args.conn.now) = λ clean. subst (λ h. HasCleanDisk (state g.S.Store h)) c.begin-batch.ensures.unchanged (put_clean g.S.Store n c.put_file.result _ read.0 start end read.2 clean) in
-      let after = c.apply_file.new.batch in
-      let named : after.conn.ghost_name ≡ end.conn.ghost_name = c.apply_file.ensures.same_reference in
-      let same : c.commit.new.batch.0 ≡ c.conn-in-Ok-apply_file-1.given.0 = search rules in
-      began (c.apply_file.ensures.clean (earlier (shown g.S.Store after) (state g.S.Store c.commit.new.batch.0) c.commit.ensures.survives (subst (λ h. HasCleanDisk (state g.S.Store h)) (sym same) clean)));
-  limit =
-      let n = c.next_revision-revision.result in
-      let start = c.begin-batch.result in
-      let end = c.put_file.new.batch in
-      let read = c.put_file.ensures.puts in
-      let begun : start.conn.now.step_limit ≡ c.args.conn.now.step_limit = subst (λ h. h.step_limit ≡ c.args.conn.now.step_limit) (sym c.begin-batch.ensures.unchanged) refl in
-      let put : end.conn.now.step_limit ≡ start.conn.now.step_limit = put_limit g.S.Store n c.put_file.result _ read.0 start end read.2 in
-      let name : end.conn.ghost_name ≡ start.conn.ghost_name = put_name g.S.Store n c.put_file.result _ read.0 start end read.2 in
-      let after = c.apply_file.new.batch in
-      let named : after.conn.ghost_name ≡ end.conn.ghost_name = c.apply_file.ensures.same_reference in
-      let same : c.commit.new.batch.0 ≡ c.conn-in-Ok-apply_file-1.given.0 = search rules in
-      subst (λ h. h.step_limit ≡ c.args.conn.now.step_limit) same (c.commit.ensures.survives.limit ∙ c.apply_file.ensures.limit ∙ put ∙ begun);
-}
+returns-in-Err-commit-clause-ends g c =
+    let n = c.next_revision-revision.result in
+    let start = c.begin-batch.result in
+    let end = c.put_file.new.batch in
+    let read = c.put_file.ensures.puts in
+    let after = c.apply_file.new.batch in
+    let same = same_unkept g c in
+    let began : HasCleanDisk (shown g.S.Store end) → HasCleanDisk (state g.S.Store c.args.conn.now) = λ clean. subst (λ h. HasCleanDisk (state g.S.Store h)) c.begin-batch.ensures.unchanged (put_clean g.S.Store n c.put_file.result _ read.0 start end read.2 clean) in
+    let begun : start.conn.now.step_limit ≡ c.args.conn.now.step_limit = subst (λ h. h.step_limit ≡ c.args.conn.now.step_limit) (sym c.begin-batch.ensures.unchanged) refl in
+    let put : end.conn.now.step_limit ≡ start.conn.now.step_limit = put_limit g.S.Store n c.put_file.result _ read.0 start end read.2 in
+    record {
+      settled = subst (λ h. h.in_transaction ≡ false) same c.commit.ensures.ended;
+      clean = λ clean. began (c.apply_file.ensures.clean (earlier (shown g.S.Store after) (state g.S.Store c.commit.new.batch.0) c.commit.ensures.survives (subst (λ h. HasCleanDisk (state g.S.Store h)) (sym same) clean)));
+      limit = subst (λ h. h.step_limit ≡ c.args.conn.now.step_limit) same (c.commit.ensures.survives.limit ∙ c.apply_file.ensures.limit ∙ put ∙ begun);
+    }
 
 pub returns-in-Err-commit-clause-stops : goal.returns-in-Err-commit-clause-stops
 returns-in-Err-commit-clause-stops g c =
@@ -242,10 +194,8 @@ returns-in-Err-commit-clause-stops g c =
     let start = c.begin-batch.result in
     let end = c.put_file.new.batch in
     let read = c.put_file.ensures.puts in
-    let name : end.conn.ghost_name ≡ start.conn.ghost_name = put_name g.S.Store n c.put_file.result _ read.0 start end read.2 in
     let after = c.apply_file.new.batch in
-    let named : after.conn.ghost_name ≡ end.conn.ghost_name = c.apply_file.ensures.same_reference in
-    let same : c.commit.new.batch.0 ≡ c.conn-in-Ok-apply_file-1.given.0 = search rules in
+    let same = same_unkept g c in
     let put : PutsFile (puts g.S.Store n) (gives_up g.S.Store) (Ok c.in-Ok.tally) _ read.0 start end = rw c.in-Ok.is at read.2 in (
       read.0,
       read.1,

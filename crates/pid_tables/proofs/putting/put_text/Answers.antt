@@ -1,8 +1,7 @@
-use Rattle.std.proofs.Common.{Ok, sym, ◌∙◌, arith}
+use Rattle.std.proofs.Common.{Ok, sym, ◌∙◌}
 use Rattle.sqlite.specs.Held.{state}
-use Rattle.sqlite.specs.State.{HasCleanDisk}
 use Rattle.pid_moderation.specs.Items.{name_at}
-use Rattle.pid_tables_rows.proofs.GoingLemmas.{goes_then}
+use Rattle.pid_tables_rows.proofs.GoingLemmas.{earlier, goes_then}
 use Rattle.pid_tables.proofs.MoveLemmas.{goes_fault, goes_fault_after, goes_value, not_ok}
 use Rattle.pid_tables.proofs.PutLemmas.{none_there, other_there, same_there, still_with}
 use Rattle.pid_tables_rows.specs.Faults.{IsMemoryOrStore}
@@ -11,26 +10,26 @@ use Rattle.pid_tables.proofs.putting.put_text.Goals as goal
 
 pub returns-in_ok-add_item-in-Added-clause-shows : goal.returns-in_ok-add_item-in-Added-clause-shows
 returns-in_ok-add_item-in-Added-clause-shows g c clean inside counts v shows _ =
-    let early : HasCleanDisk (state g.S.Store c.compare.new.batch.conn.now) = omega (arith, c.add_item.ensures.goes.survives.clean) in
+    let early = earlier (state g.S.Store c.compare.new.batch.conn.now) _ c.add_item.ensures.goes.survives clean in
     let first = c.in_ok-compare.ensures in
     c.in_ok-add_item-in-Added.ensures.shows clean (first.goes.going early inside).1 counts v (first.shows early inside counts v shows tt)
     (none_there c.args.name.now (name_at c.args.path.now v.items) (sym c.in-Added.is ∙ first.found early counts v shows))
 
 pub returns-in_ok-add_item-in-Added-clause-told : goal.returns-in_ok-add_item-in-Added-clause-told
 returns-in_ok-add_item-in-Added-clause-told g c clean counts v shows =
-    let early : HasCleanDisk (state g.S.Store c.compare.new.batch.conn.now) = omega (arith, c.add_item.ensures.goes.survives.clean) in
+    let early = earlier (state g.S.Store c.compare.new.batch.conn.now) _ c.add_item.ensures.goes.survives clean in
     sym c.in-Added.is ∙ c.in_ok-compare.ensures.found early counts v shows
 
 pub returns-in_ok-rename_item-in-Renamed-clause-shows : goal.returns-in_ok-rename_item-in-Renamed-clause-shows
 returns-in_ok-rename_item-in-Renamed-clause-shows g c clean inside counts v shows _ =
-    let early : HasCleanDisk (state g.S.Store c.compare.new.batch.conn.now) = omega (arith, c.rename_item.ensures.goes.survives.clean) in
+    let early = earlier (state g.S.Store c.compare.new.batch.conn.now) _ c.rename_item.ensures.goes.survives clean in
     let first = c.in_ok-compare.ensures in
     c.in_ok-rename_item-in-Renamed.ensures.shows clean (first.goes.going early inside).1 counts v (first.shows early inside counts v shows tt)
     (other_there c.args.name.now (name_at c.args.path.now v.items) (sym c.in-Renamed.is ∙ first.found early counts v shows))
 
 pub returns-in_ok-rename_item-in-Renamed-clause-told : goal.returns-in_ok-rename_item-in-Renamed-clause-told
 returns-in_ok-rename_item-in-Renamed-clause-told g c clean counts v shows =
-    let early : HasCleanDisk (state g.S.Store c.compare.new.batch.conn.now) = omega (arith, c.rename_item.ensures.goes.survives.clean) in
+    let early = earlier (state g.S.Store c.compare.new.batch.conn.now) _ c.rename_item.ensures.goes.survives clean in
     sym c.in-Renamed.is ∙ c.in_ok-compare.ensures.found early counts v shows
 
 pub returns-in-Same-clause-shows : goal.returns-in-Same-clause-shows
@@ -48,7 +47,7 @@ returns-in_err-compare-clause-shows g c clean inside counts v shows _ =
 
 pub returns-in_err-add_item-in-Added-clause-shows : goal.returns-in_err-add_item-in-Added-clause-shows
 returns-in_err-add_item-in-Added-clause-shows g c clean inside counts v shows _ =
-    let early : HasCleanDisk (state g.S.Store c.compare.new.batch.conn.now) = omega (arith, c.add_item.ensures.goes.survives.clean) in
+    let early = earlier (state g.S.Store c.compare.new.batch.conn.now) _ c.add_item.ensures.goes.survives clean in
     let first = c.in_ok-compare.ensures in
     passed_on c.from_residual-in_err-add_item-in-Added.result _ _ IsMemoryOrStore c.from_residual-in_err-add_item-in-Added.ensures.1
     (c.in_err-add_item-in-Added.ensures.shows clean (first.goes.going early inside).1 counts v (first.shows early inside counts v shows tt)
@@ -56,7 +55,7 @@ returns-in_err-add_item-in-Added-clause-shows g c clean inside counts v shows _ 
 
 pub returns-in_err-rename_item-in-Renamed-clause-shows : goal.returns-in_err-rename_item-in-Renamed-clause-shows
 returns-in_err-rename_item-in-Renamed-clause-shows g c clean inside counts v shows _ =
-    let early : HasCleanDisk (state g.S.Store c.compare.new.batch.conn.now) = omega (arith, c.rename_item.ensures.goes.survives.clean) in
+    let early = earlier (state g.S.Store c.compare.new.batch.conn.now) _ c.rename_item.ensures.goes.survives clean in
     let first = c.in_ok-compare.ensures in
     passed_on c.from_residual-in_err-rename_item-in-Renamed.result _ _ IsMemoryOrStore c.from_residual-in_err-rename_item-in-Renamed.ensures.1
     (c.in_err-rename_item-in-Renamed.ensures.shows clean (first.goes.going early inside).1 counts v (first.shows early inside counts v shows tt)

@@ -1,3 +1,4 @@
+use Rattle.std.proofs.lemmas.Bool.{false≢true}
 use Rattle.pid_tables_rows.specs.Faults.{IsMemoryOrStore}
 use Rattle.pid_tables_rows.proofs.CauseLemmas.{passed_on}
 use Rattle.pid_tables_check.specs.Conditions.{IsAccountRow}
@@ -11,5 +12,5 @@ returns-in_err-keep_rows-clause-keeps g c clean d is asked = passed_on c.from_re
 pub returns-clause-keeps : goal.returns-clause-keeps
 returns-clause-keeps g c clean d is asked =
     let it = c.in_ok-keep_rows.ensures.keeps clean d is asked in
-    let taken = it.0.2 (record { good = no_row IsAccountRow; administrator = (λ no. absurd cc, λ some. absurd some.1); names = no_names _ c.new.ensures.empty }) in
+    let taken = it.0.2 (record { good = no_row IsAccountRow; administrator = (λ no. absurd (false≢true no), λ some. absurd some.1); names = no_names _ c.new.ensures.empty }) in
     ((it.0.0, it.0.1, record { names = taken.names; good = c.are_accounts.ensures it.0.0 taken }), it.1)

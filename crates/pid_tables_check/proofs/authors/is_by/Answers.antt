@@ -1,4 +1,5 @@
 use Rattle.std.proofs.Common.{sym}
+use Rattle.std.proofs.lemmas.Bool.{false≢true}
 use Rattle.pid_tables_check.proofs.AuthorFacts.{by_place, by_none}
 use Rattle.pid_tables_check.proofs.authors.is_by.Goals as goal
 
@@ -8,4 +9,4 @@ returns-in-Some c rows are =
     (λ yes. it.0 (c.has_place.ensures.0 yes), λ by. c.has_place.ensures.1 (it.1 by))
 
 pub returns-in-None : goal.returns-in-None
-returns-in-None c rows are = (λ no. absurd cc, λ by. absurd (by_none c.args.authors.now rows are c.args.submission c.args.account.now c.utf8.account (sym c.in-None.ensures) by))
+returns-in-None c rows are = (λ no. absurd (false≢true no), λ by. absurd (by_none c.args.authors.now rows are c.args.submission c.args.account.now c.utf8.account (sym c.in-None.ensures) by))

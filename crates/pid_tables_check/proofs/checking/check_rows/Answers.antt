@@ -1,4 +1,5 @@
 use Rattle.std.proofs.Common.{refl}
+use Rattle.std.proofs.lemmas.Bool.{false≢true}
 use Rattle.pid_tables_rows.proofs.CauseLemmas.{passed_on}
 use Rattle.pid_tables_check.specs.Steps.Reading.{TellsDamage}
 use Rattle.pid_tables_check.proofs.Judged.{untold_damage, registry_shown, damage_shown, not_both, not_not}
@@ -23,7 +24,7 @@ returns-then-not-are_labels-clause-told g c clean d is has =
     damage_shown c.args.version c.revision_told-revision.result d c.in_ok-judged.judged meta.0 meta.1 it.0
     (λ items submissions m low good. c.revision_told-revision.ensures.told m low (revision_of items submissions m meta.0 c.args.labels meta.2 good)) (λ yes labels.
     let no = (c.if-not-are_labels.ensures meta.0 meta.2).1 labels in
-    absurd cc)
+    absurd (false≢true no))
 
 pub returns-clause-told : goal.returns-clause-told
 returns-clause-told g c clean d is has =

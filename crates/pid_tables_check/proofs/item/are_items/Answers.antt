@@ -1,13 +1,14 @@
 use Rattle.std.proofs.Common.{arith}
+use Rattle.std.proofs.lemmas.Bool.{false≢true}
 use Rattle.pid_tables_check.proofs.Telling.{off_on}
 use Rattle.pid_tables_check.proofs.ItemFacts.{items_made, items_alone, parents_of}
 use Rattle.pid_tables_check.proofs.item.are_items.Goals as goal
 
 pub returns-then-not-items : goal.returns-then-not-items
-returns-then-not-items c rows are = (λ no. absurd cc, λ good. absurd (off_on c.args.items.now.good c.if-not-items.true (are.good.1 (items_alone rows good))))
+returns-then-not-items c rows are = (λ no. absurd (false≢true no), λ good. absurd (off_on c.args.items.now.good c.if-not-items.true (are.good.1 (items_alone rows good))))
 
 pub returns-then-items : goal.returns-then-items
-returns-then-items c rows are = (λ no. absurd cc, λ good. absurd (grind (arith, c.if-items.true, are.count, good.limit)))
+returns-then-items c rows are = (λ no. absurd (false≢true no), λ good. absurd (grind (arith, c.if-items.true, are.count, good.limit)))
 
 pub returns : goal.returns
 returns c rows are =

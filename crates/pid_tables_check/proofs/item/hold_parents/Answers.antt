@@ -1,4 +1,5 @@
 use Rattle.std.proofs.Common.{refl, ◌∙◌}
+use Rattle.std.proofs.lemmas.Bool.{false≢true}
 use Rattle.pid_tables_check.proofs.KeyWalk.{walk_begun, walk_here, walk_on, walk_ended}
 use Rattle.pid_tables_check.proofs.ItemFacts.{path_itself, parent_kept}
 use Rattle.pid_tables_check.proofs.item.hold_parents.Goals as goal
@@ -11,7 +12,7 @@ loop-path-preserved c = walk_on _ _ _ _ _ c.in-Some.path.now c.loop-path.invaria
 
 pub returns-then-not-has_parent : goal.returns-then-not-has_parent
 returns-then-not-has_parent c = (
-  λ no. absurd cc,
+  λ no. absurd (false≢true no),
   λ all. c.if-not-has_parent.ensures.parent.1 (all c.in-Some.path.now (walk_here _ _ _ _ _ _ c.loop-path.invariant c.in-Some.ensures.steps (path_itself c.in-Some.path.now)) c.if-not-has_parent.ensures.in_range),
 )
 

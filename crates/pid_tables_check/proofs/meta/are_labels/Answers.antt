@@ -1,16 +1,17 @@
 use Rattle.std.proofs.Common.{refl}
+use Rattle.std.proofs.lemmas.Bool.{false≢true}
 use Rattle.pid_tables_check.proofs.Judged.{not_both, not_not}
 use Rattle.pid_tables_check.proofs.LabelFacts.{good_of, items_of, submissions_of, told_of_schema, labels_made}
 use Rattle.pid_tables_check.proofs.meta.are_labels.Goals as goal
 
 pub returns-then-not-labels : goal.returns-then-not-labels
-returns-then-not-labels c rows are = (λ no. absurd cc, λ good. absurd (not_both c.args.labels.good c.if-not-labels.true (good_of c.args.items c.args.submissions c.args.revision rows c.args.labels are c.args.version good)))
+returns-then-not-labels c rows are = (λ no. absurd (false≢true no), λ good. absurd (not_both c.args.labels.good c.if-not-labels.true (good_of c.args.items c.args.submissions c.args.revision rows c.args.labels are c.args.version good)))
 
 pub returns-then-not-is_once : goal.returns-then-not-is_once
-returns-then-not-is_once c rows are = (λ no. absurd cc, λ good. c.if-not-is_once.ensures.1 (items_of c.args.items c.args.submissions c.args.revision rows c.args.labels are c.args.version good))
+returns-then-not-is_once c rows are = (λ no. absurd (false≢true no), λ good. c.if-not-is_once.ensures.1 (items_of c.args.items c.args.submissions c.args.revision rows c.args.labels are c.args.version good))
 
 pub returns-then-not-is_once-2 : goal.returns-then-not-is_once-2
-returns-then-not-is_once-2 c rows are = (λ no. absurd cc, λ good. c.if-not-is_once-2.ensures.1 (submissions_of c.args.items c.args.submissions c.args.revision rows c.args.labels are c.args.version good))
+returns-then-not-is_once-2 c rows are = (λ no. absurd (false≢true no), λ good. c.if-not-is_once-2.ensures.1 (submissions_of c.args.items c.args.submissions c.args.revision rows c.args.labels are c.args.version good))
 
 pub returns : goal.returns
 returns c rows are =

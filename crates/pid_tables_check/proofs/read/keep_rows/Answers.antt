@@ -1,4 +1,4 @@
-use Rattle.std.proofs.Common.{[], refl, rules, ◌∙◌}
+use Rattle.std.proofs.Common.{◌≡◌, [], refl, rules, sym, ap, subst, ◌∙◌}
 use Rattle.std.proofs.lemmas.Result.{err_from_is_err_and}
 use Rattle.sqlite.specs.State.{HasCleanDisk}
 use Rattle.sqlite.specs.Held.{state}
@@ -7,7 +7,22 @@ use Rattle.pid_tables_rows.specs.Leaves.{OnlyReads}
 use Rattle.pid_tables_rows.proofs.OnlyReading.{keeps_same, keeps_either}
 use Rattle.pid_tables_check.specs.Queries.{query_of}
 use Rattle.pid_tables_check.proofs.Walking.{refused, refused_told, begun, walked_rests, walk_rests, one_more, all_kept, step_told, failed_so}
+use Rattle.pid_tables_check.proofs.read.keep_rows.Given.{Over}
 use Rattle.pid_tables_check.proofs.read.keep_rows.Goals as goal
+
+-- ---- the rows are given up, and the connection is what they leave
+
+same_at_fault : (g : Over) (c : goal.After-conn-in_err-row-1 g) → c.next.follows.lender-at-none.conn.now ≡ c.conn-in_err-row-1.given.0
+same_at_fault g c = search rules
+
+same_at_end : (g : Over) (c : goal.After-conn-in_default-1 g) → c.next.follows.lender-at-none.conn.now ≡ c.conn-in_default-1.given.0
+same_at_end g c = search rules
+
+same_unkept : (g : Over) (c : goal.After-conn-in_err-keep-1 g) → c.next.follows.lender-at-none.conn.now ≡ c.conn-in_err-keep-1.given.0
+same_unkept g c = search rules
+
+same_last : (g : Over) (c : goal.After-conn-2-1 g) → c.rows.rows.conn.now ≡ c.conn-2-1.given.0
+same_last g c = search rules
 
 pub returns-in_err-rows-clause-rests : goal.returns-in_err-rows-clause-rests
 returns-in_err-rows-clause-rests g c =
@@ -32,7 +47,7 @@ returns-in_err-row-clause-rests g c =
     let mid = c.rows.rows.conn.now in
     let w = c.rows.invariant.0 in
     let rests : OnlyReads (state g.S.Store c.args.conn.now) (state g.S.Store now) = walked_rests g.S.Store c.args.table (λ keeper rows. g.K.Keeper.keeps c.args.keeper.now rows keeper) c.args.conn.now c.args.keeper.now mid now c.rows.keeper w (clean_if_open (g.S.Store.view now.store) (g.met.S.Store.shut_if_dirty now.store)) moved.survives (moved.mode w.settled) (λ clean. keeps_either (state g.S.Store mid) (state g.S.Store now) c.in_err-row.field-0.0 (rw c.in_err-row.was at (moved.kept clean))) in
-    search rules
+    subst (λ h. OnlyReads (state g.S.Store c.args.conn.now) (state g.S.Store h)) (same_at_fault g c) rests
 
 pub returns-in_err-row-clause-keeps : goal.returns-in_err-row-clause-keeps
 returns-in_err-row-clause-keeps g c clean d is asked =
@@ -40,7 +55,7 @@ returns-in_err-row-clause-keeps g c clean d is asked =
     let now = c.next.follows.lender-at-none.conn.now in
     let mid = c.rows.rows.conn.now in
     let w = c.rows.invariant.0 in
-    let late : HasCleanDisk (state g.S.Store now) = search rules in
+    let late : HasCleanDisk (state g.S.Store now) = subst (λ h. HasCleanDisk (state g.S.Store h)) (sym (same_at_fault g c)) clean in
     let p = err_from_is_err_and c.from_residual-in_err-row.result c.from_residual-in_err-row.ensures.1 in
     failed_so _ c.from_residual-in_err-row.result _ _ p.1 p.2 (step_told g.S.Store c.args.table (λ keeper rows. g.K.Keeper.keeps c.args.keeper.now rows keeper) c.args.conn.now c.args.keeper.now mid now c.rows.keeper w moved.survives late d is asked c.in_err-row.field-0.0 (rw c.in_err-row.was at (moved.err late)))
 
@@ -51,7 +66,7 @@ returns-in_default-clause-rests g c =
     let mid = c.rows.rows.conn.now in
     let w = c.rows.invariant.0 in
     let rests : OnlyReads (state g.S.Store c.args.conn.now) (state g.S.Store now) = walked_rests g.S.Store c.args.table (λ keeper rows. g.K.Keeper.keeps c.args.keeper.now rows keeper) c.args.conn.now c.args.keeper.now mid now c.rows.keeper w (clean_if_open (g.S.Store.view now.store) (g.met.S.Store.shut_if_dirty now.store)) moved.survives (moved.mode w.settled) (λ clean. keeps_same (state g.S.Store mid) (state g.S.Store now) (rw c.in_ok-row.was at (moved.same clean))) in
-    search rules
+    subst (λ h. OnlyReads (state g.S.Store c.args.conn.now) (state g.S.Store h)) (same_at_end g c) rests
 
 pub returns-in_default-clause-keeps : goal.returns-in_default-clause-keeps
 returns-in_default-clause-keeps g c clean d is asked =
@@ -59,9 +74,9 @@ returns-in_default-clause-keeps g c clean d is asked =
     let now = c.next.follows.lender-at-none.conn.now in
     let mid = c.rows.rows.conn.now in
     let w = c.rows.invariant.0 in
-    let late : HasCleanDisk (state g.S.Store now) = search rules in
+    let late : HasCleanDisk (state g.S.Store now) = subst (λ h. HasCleanDisk (state g.S.Store h)) (sym (same_at_end g c)) clean in
     let told = all_kept g.S.Store c.args.table (λ keeper rows. g.K.Keeper.keeps c.args.keeper.now rows keeper) c.args.conn.now c.args.keeper.now mid now c.rows.keeper w moved.survives (λ late. rw c.in_ok-row.was at (moved.same late)) (λ late rows given. (rw (c.in_ok-row.was, c.in_default.is) at (moved.ok late)) (query_of c.args.table) [] rows given) late d is in
-    search rules
+    (told.0, ap (λ h. (state g.S.Store h).now) (sym (same_at_end g c)) ∙ told.1)
 
 pub returns-in_err-keep-clause-rests : goal.returns-in_err-keep-clause-rests
 returns-in_err-keep-clause-rests g c =
@@ -70,7 +85,7 @@ returns-in_err-keep-clause-rests g c =
     let mid = c.rows.rows.conn.now in
     let w = c.rows.invariant.0 in
     let rests : OnlyReads (state g.S.Store c.args.conn.now) (state g.S.Store now) = walked_rests g.S.Store c.args.table (λ keeper rows. g.K.Keeper.keeps c.args.keeper.now rows keeper) c.args.conn.now c.args.keeper.now mid now c.rows.keeper w (clean_if_open (g.S.Store.view now.store) (g.met.S.Store.shut_if_dirty now.store)) moved.survives (moved.mode w.settled) (λ clean. keeps_same (state g.S.Store mid) (state g.S.Store now) (rw c.in_ok-row.was at (moved.same clean))) in
-    search rules
+    subst (λ h. OnlyReads (state g.S.Store c.args.conn.now) (state g.S.Store h)) (same_unkept g c) rests
 
 pub rows-preserved : goal.rows-preserved
 rows-preserved g c =
@@ -87,4 +102,4 @@ pub returns-clause-rests : goal.returns-clause-rests
 returns-clause-rests g c =
     let mid = c.rows.rows.conn.now in
     let rests = walk_rests g.S.Store c.args.table (λ keeper rows. g.K.Keeper.keeps c.args.keeper.now rows keeper) c.args.conn.now c.args.keeper.now mid c.rows.keeper c.rows.invariant.0 (clean_if_open (g.S.Store.view mid.store) (g.met.S.Store.shut_if_dirty mid.store)) in
-    search rules
+    subst (λ h. OnlyReads (state g.S.Store c.args.conn.now) (state g.S.Store h)) (same_last g c) rests

@@ -1,4 +1,5 @@
 use Rattle.std.proofs.Common.{◌≡◌, Err, IfErr, sym, subst, ◌∙◌, []}
+use Rattle.std.proofs.lemmas.Bool.{false≢true}
 use Rattle.sqlite.specs.Held.{state}
 use Rattle.sqlite.specs.Order.{Row}
 use Rattle.sqlite.specs.State.{IsNotRun}
@@ -35,7 +36,7 @@ returns-in-Some-clause-asked g c clean =
     let why = subst (λ r. IfErr r (λ e. (params : Row) → IsNotRun old new c.args.sql.now params e)) is (c.prepare.ensures.err clean) in
     if_ok c.unasked.result (λ asked it.
     let no = (refused old new c.args.sql.now c.in-Some.error (why []) it.1).0 in
-    (λ yes. absurd (let both = sym it.0 ∙ yes in cc), λ has. absurd (unasked old.now.schema c.args.sql.now no.0 no.1 has))) c.unasked.ensures.refused
+    (λ yes. absurd (false≢true (sym it.0 ∙ yes)), λ has. absurd (unasked old.now.schema c.args.sql.now no.0 no.1 has))) c.unasked.ensures.refused
 
 pub returns-in-Some-clause-was_open : goal.returns-in-Some-clause-was_open
 returns-in-Some-clause-was_open g c clean =

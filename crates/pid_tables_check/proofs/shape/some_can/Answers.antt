@@ -1,9 +1,11 @@
-use Rattle.std.proofs.Common.{[], ◌↔◌, IsTrue, refl, arith, sym, subst}
+use Rattle.std.proofs.Common.{[], ◌↔◌, IsTrue, refl, arith, sym, subst, ◌∙◌}
+use Rattle.std.proofs.lemmas.Bool.{false≢true}
 use Rattle.sqlite.specs.Held.{state}
 use Rattle.pid_tables_rows.specs.Causes.{IsCaused}
 use Rattle.pid_tables_rows.specs.Queries.{IsQuery}
 use Rattle.pid_tables_rows.specs.Schema.{pid_schema}
 use Rattle.pid_tables_rows.proofs.CauseLemmas.{passed_from}
+use Rattle.pid_tables_rows.proofs.OnlyReading.{reads_then}
 use Rattle.pid_tables_check.proofs.AskedTexts.{is_query}
 use Rattle.pid_tables_check.specs.declared.shape.Table.{Table}
 use Rattle.pid_tables_check.specs.Queries.{query_of}
@@ -39,7 +41,7 @@ returns-in_err-can_ask-clause-caused g c clean v rest =
 
 pub returns-clause-asked : goal.returns-clause-asked
 returns-clause-asked g c clean = (
-  λ off. absurd cc,
+  λ off. absurd (false≢true off),
   λ any. absurd (c.loop-table.invariant.1 clean any.0 any.1 (omega (arith, any.2, c.loop-table-test.false)) (subst (λ (t : Table). IsTrue c.args.can ↔ CanBeAsked c.args.conn.now.schema (query_of t)) (sym any.3) any.4)),
 )
 
@@ -49,3 +51,20 @@ returns-then-branch-can-clause-asked g c clean =
     let b = state g.S.Store c.loop-table.conn in
     let d = state g.S.Store c.can_ask.new.conn in
     (λ yes. one_found a b d c.args.tables.now c.loop-table.table-index _ c.query.result.now c.query.ensures c.in_ok-can_ask.field-0 c.loop-table-test.true c.loop-table.invariant.0 c.in_ok-can_ask.ensures.rests c.in_ok-can_ask.ensures.asked c.args.can c.if-branch-can.true clean, λ any. refl)
+
+-- ---- what it leaves
+
+pub returns-in_err-can_ask-clause-rests : goal.returns-in_err-can_ask-clause-rests
+returns-in_err-can_ask-clause-rests g c = reads_then (state g.S.Store c.args.conn.now) (state g.S.Store c.loop-table.conn) (state g.S.Store c.can_ask.new.conn) c.loop-table.invariant.0.0 c.can_ask.ensures.rests
+
+pub returns-then-branch-can-clause-rests : goal.returns-then-branch-can-clause-rests
+returns-then-branch-can-clause-rests g c = reads_then (state g.S.Store c.args.conn.now) (state g.S.Store c.loop-table.conn) (state g.S.Store c.can_ask.new.conn) c.loop-table.invariant.0.0 c.can_ask.ensures.rests
+
+pub returns-then-branch-can-clause-same : goal.returns-then-branch-can-clause-same
+returns-then-branch-can-clause-same g c clean = c.in_ok-can_ask.ensures.same clean ∙ c.loop-table.invariant.0.1 (c.can_ask.ensures.rests.clean clean)
+
+pub returns-clause-rests : goal.returns-clause-rests
+returns-clause-rests g c = c.loop-table.invariant.0.0
+
+pub returns-clause-same : goal.returns-clause-same
+returns-clause-same g c clean = c.loop-table.invariant.0.1 clean

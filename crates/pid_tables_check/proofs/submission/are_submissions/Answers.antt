@@ -1,4 +1,5 @@
 use Rattle.std.proofs.Common.{arith}
+use Rattle.std.proofs.lemmas.Bool.{false≢true}
 use Rattle.pid_tables_check.proofs.Judged.{not_both, not_not}
 use Rattle.pid_tables_check.proofs.SubmissionFacts.{all_fit, fit_of, counted_of}
 use Rattle.pid_tables_check.proofs.submission.are_submissions.Goals as goal
@@ -6,12 +7,12 @@ use Rattle.pid_tables_check.proofs.submission.are_submissions.Goals as goal
 pub returns-then-not-fit : goal.returns-then-not-fit
 returns-then-not-fit c names rows is are numbers accounts listed good =
     let fit = c.args.fit in
-    (λ no. absurd cc, λ all. absurd (not_both fit.good c.if-not-fit.true (fit_of names rows fit c.args.count is are accounts listed good all).0))
+    (λ no. absurd (false≢true no), λ all. absurd (not_both fit.good c.if-not-fit.true (fit_of names rows fit c.args.count is are accounts listed good all).0))
 
 pub returns-then-fit-count : goal.returns-then-fit-count
 returns-then-fit-count c names rows is are numbers accounts listed good =
     let fit = c.args.fit in
-    (λ no. absurd cc, λ all. let it = fit_of names rows fit c.args.count is are accounts listed good all in absurd (omega (arith, c.if-fit-count.true, it.1)))
+    (λ no. absurd (false≢true no), λ all. let it = fit_of names rows fit c.args.count is are accounts listed good all in absurd (omega (arith, c.if-fit-count.true, it.1)))
 
 pub returns : goal.returns
 returns c names rows is are numbers accounts listed good =

@@ -1,4 +1,5 @@
 use Rattle.std.proofs.Common.{refl, arith}
+use Rattle.std.proofs.lemmas.Bool.{false≢true}
 use Rattle.pid_tables_check.proofs.SubmissionFacts.{misfit, fits, from_own, num_of, to_own}
 use Rattle.pid_tables_check.proofs.submission.fit_row.Goals as goal
 
@@ -13,7 +14,7 @@ returns-then-not-is_submission_row c rows are =
     let names = c.args.names.now in
     let r = c.args.row.now in
     let found = c.in-Some.ensures.found in
-    misfit names r rows c.args.fit are (λ count it. let no = (c.if-not-is_submission_row.ensures found).1 (to_own names r c.in-Some.num count found it) in absurd cc)
+    misfit names r rows c.args.fit are (λ count it. let no = (c.if-not-is_submission_row.ensures found).1 (to_own names r c.in-Some.num count found it) in absurd (false≢true no))
 
 pub returns : goal.returns
 returns c rows are =

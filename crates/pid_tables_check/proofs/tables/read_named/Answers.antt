@@ -4,6 +4,7 @@ use Rattle.sqlite.specs.State.{HasCleanDisk}
 use Rattle.pid_tables_rows.specs.Faults.{IsMemoryOrStore}
 use Rattle.pid_tables_rows.specs.declared.version.Version.{Version}
 use Rattle.pid_tables_rows.proofs.CauseLemmas.{passed_on}
+use Rattle.pid_tables_rows.proofs.OnlyReading.{reads_then}
 use Rattle.pid_tables_check.specs.Shapes.{HasTables}
 use Rattle.pid_tables_check.proofs.Complete.{tables_each}
 use Rattle.pid_tables_check.proofs.KeepingFacts.{first_named, second_named}
@@ -32,3 +33,15 @@ returns-clause-told g c clean d is has =
     let tables = subst (λ (v : Version). HasTables v d.schema) c.in-Two.is has in
     let two = c.in_ok-dated-in-Two.ensures.keeps clean d one.1 tables.2 in
     (second_named c.args.version c.args.revision d c.in_ok-items.items one.0 c.in-Two.is c.in_ok-dated-in-Two.dated two.0, two.1)
+
+pub returns-in_err-dated-in-Two-clause-rests : goal.returns-in_err-dated-in-Two-clause-rests
+returns-in_err-dated-in-Two-clause-rests g c = reads_then (state g.S.Store c.args.conn.now) (state g.S.Store c.read_items.new.conn) (state g.S.Store c.read_sinces.new.conn) c.read_items.ensures.rests c.read_sinces.ensures.rests
+
+pub returns-clause-rests : goal.returns-clause-rests
+returns-clause-rests g c = reads_then (state g.S.Store c.args.conn.now) (state g.S.Store c.read_items.new.conn) (state g.S.Store c.read_sinces.new.conn) c.read_items.ensures.rests c.read_sinces.ensures.rests
+
+pub returns-in_err-items-clause-rests : goal.returns-in_err-items-clause-rests
+returns-in_err-items-clause-rests g c = c.read_items.ensures.rests
+
+pub returns-in-One-clause-rests : goal.returns-in-One-clause-rests
+returns-in-One-clause-rests g c = c.read_items.ensures.rests

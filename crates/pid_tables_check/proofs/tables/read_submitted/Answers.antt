@@ -3,6 +3,7 @@ use Rattle.sqlite.specs.Held.{state}
 use Rattle.sqlite.specs.State.{HasCleanDisk}
 use Rattle.pid_tables_rows.specs.Faults.{IsMemoryOrStore}
 use Rattle.pid_tables_rows.proofs.CauseLemmas.{passed_on}
+use Rattle.pid_tables_rows.proofs.OnlyReading.{reads_then}
 use Rattle.pid_tables_check.proofs.KeepingFacts.{submitted}
 use Rattle.pid_tables_check.proofs.tables.read_submitted.Goals as goal
 
@@ -31,3 +32,24 @@ returns-clause-told g c clean d is has =
     let two = c.in_ok-submissions.ensures.keeps late d one.1 (has _ (inr (inr (inr (inl refl))))) in
     let three = c.in_ok-receipts.ensures.keeps clean d two.1 (has _ (inr (inr (inr (inr (inr (inl refl))))))) in
     (submitted d c.in_ok-accounts.accounts c.in_ok-submissions.submissions c.in_ok-receipts.receipts one.0 two.0 three.0, three.1)
+
+pub returns-in_err-submissions-clause-rests : goal.returns-in_err-submissions-clause-rests
+returns-in_err-submissions-clause-rests g c =
+    reads_then (state g.S.Store c.args.conn.now) (state g.S.Store c.read_accounts.new.conn) (state g.S.Store c.read_submissions.new.conn) c.read_accounts.ensures.rests c.read_submissions.ensures.rests
+
+pub returns-in_err-receipts-clause-rests : goal.returns-in_err-receipts-clause-rests
+returns-in_err-receipts-clause-rests g c =
+    let a = state g.S.Store c.args.conn.now in
+    let mid = state g.S.Store c.read_accounts.new.conn in
+    let late = state g.S.Store c.read_submissions.new.conn in
+    reads_then a late (state g.S.Store c.read_receipts.new.conn) (reads_then a mid late c.read_accounts.ensures.rests c.read_submissions.ensures.rests) c.read_receipts.ensures.rests
+
+pub returns-clause-rests : goal.returns-clause-rests
+returns-clause-rests g c =
+    let a = state g.S.Store c.args.conn.now in
+    let mid = state g.S.Store c.read_accounts.new.conn in
+    let late = state g.S.Store c.read_submissions.new.conn in
+    reads_then a late (state g.S.Store c.read_receipts.new.conn) (reads_then a mid late c.read_accounts.ensures.rests c.read_submissions.ensures.rests) c.read_receipts.ensures.rests
+
+pub returns-in_err-accounts-clause-rests : goal.returns-in_err-accounts-clause-rests
+returns-in_err-accounts-clause-rests g c = c.read_accounts.ensures.rests

@@ -3,6 +3,7 @@ use Rattle.sqlite.specs.Held.{state}
 use Rattle.sqlite.specs.State.{HasCleanDisk}
 use Rattle.pid_tables_rows.specs.Faults.{IsMemoryOrStore}
 use Rattle.pid_tables_rows.proofs.CauseLemmas.{passed_on}
+use Rattle.pid_tables_rows.proofs.OnlyReading.{reads_then}
 use Rattle.pid_tables_check.proofs.Complete.{tables_each}
 use Rattle.pid_tables_check.proofs.KeepingFacts.{judged}
 use Rattle.pid_tables_check.proofs.tables.read_tables.Goals as goal
@@ -29,3 +30,24 @@ returns-clause-told g c clean d is has =
     let two = c.in_ok-named.ensures.told late d one.1 has in
     let three = c.in_ok-remarks.ensures.keeps clean d two.1 (tables_each _ d.schema has _ (inr (inr (inr (inr (inl refl)))))) in
     (judged c.args.version c.args.revision d c.in_ok-submitted.submitted c.in_ok-named.named c.in_ok-remarks.remarks one.0 two.0 three.0, three.1)
+
+pub returns-in_err-named-clause-rests : goal.returns-in_err-named-clause-rests
+returns-in_err-named-clause-rests g c =
+    reads_then (state g.S.Store c.args.conn.now) (state g.S.Store c.read_submitted.new.conn) (state g.S.Store c.read_named.new.conn) c.read_submitted.ensures.rests c.read_named.ensures.rests
+
+pub returns-in_err-remarks-clause-rests : goal.returns-in_err-remarks-clause-rests
+returns-in_err-remarks-clause-rests g c =
+    let a = state g.S.Store c.args.conn.now in
+    let mid = state g.S.Store c.read_submitted.new.conn in
+    let late = state g.S.Store c.read_named.new.conn in
+    reads_then a late (state g.S.Store c.read_remarks.new.conn) (reads_then a mid late c.read_submitted.ensures.rests c.read_named.ensures.rests) c.read_remarks.ensures.rests
+
+pub returns-clause-rests : goal.returns-clause-rests
+returns-clause-rests g c =
+    let a = state g.S.Store c.args.conn.now in
+    let mid = state g.S.Store c.read_submitted.new.conn in
+    let late = state g.S.Store c.read_named.new.conn in
+    reads_then a late (state g.S.Store c.read_remarks.new.conn) (reads_then a mid late c.read_submitted.ensures.rests c.read_named.ensures.rests) c.read_remarks.ensures.rests
+
+pub returns-in_err-submitted-clause-rests : goal.returns-in_err-submitted-clause-rests
+returns-in_err-submitted-clause-rests g c = c.read_submitted.ensures.rests

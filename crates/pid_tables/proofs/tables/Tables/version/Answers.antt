@@ -1,4 +1,5 @@
 use Rattle.std.proofs.Common.{◌≡◌, codes, IfOk, IfErr, MatchResult, refl, sym, subst, ◌∙◌}
+use Rattle.std.proofs.lemmas.Bool.{true≢false}
 use Rattle.sqlite.specs.Effect.{Database}
 use Rattle.sqlite.specs.Held.{state}
 use Rattle.pid_tables_rows.specs.declared.version.Version.TheVariants.{One}
@@ -67,10 +68,10 @@ pub returns-else-branch-clause-shown : goal.returns-else-branch-clause-shown
 returns-else-branch-clause-shown g c =
     let found = c.in_ok-has_some_table.ensures in
     record {
-      earlier = λ clean v rest. let on = (found.asked clean).1 (each_some _ (complete One _ (rest.shows (found.was_open clean)).schema)) in absurd (let both = sym on ∙ c.if-branch.false in cc);
+      earlier = λ clean v rest. let on = (found.asked clean).1 (each_some _ (complete One _ (rest.shows (found.was_open clean)).schema)) in absurd (true≢false (sym on ∙ c.if-branch.false));
       none = λ clean none. refl;
-      shown = λ clean some. let on = (found.asked clean).1 some in absurd (let both = sym on ∙ c.if-branch.false in cc);
-      labelled = λ clean version first. let on = (found.asked clean).1 (each_some _ (complete_first version _ first)) in absurd (let both = sym on ∙ c.if-branch.false in cc);
+      shown = λ clean some. let on = (found.asked clean).1 some in absurd (true≢false (sym on ∙ c.if-branch.false));
+      labelled = λ clean version first. let on = (found.asked clean).1 (each_some _ (complete_first version _ first)) in absurd (true≢false (sym on ∙ c.if-branch.false));
       refused = λ clean version first. tt;
     }
 
@@ -102,7 +103,7 @@ pub returns-else-branch-clause-rests : goal.returns-else-branch-clause-rests
 returns-else-branch-clause-rests g c = c.has_some_table.ensures.reads.rests
 
 pub returns-else-branch-clause-told : goal.returns-else-branch-clause-told
-returns-else-branch-clause-told g c clean v rest = absurd (let both = sym (c.in_ok-has_some_table.ensures.reads.told clean v rest) ∙ c.if-branch.false in cc)
+returns-else-branch-clause-told g c clean v rest = absurd (true≢false (sym (c.in_ok-has_some_table.ensures.reads.told clean v rest) ∙ c.if-branch.false))
 
 pub returns-else-branch-clause-was_open : goal.returns-else-branch-clause-was_open
 returns-else-branch-clause-was_open g c clean = c.in_ok-has_some_table.ensures.was_open clean
