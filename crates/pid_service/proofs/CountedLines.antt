@@ -18,7 +18,8 @@ use Rattle.pid_tree.specs.Labels.{label}
 use Rattle.pid_tree.specs.Printing.{block_line, ended, header, item_line, label_of, opens_block, text_or_none}
 use Rattle.pid_tree.proofs.Labelled.{label_of_text}
 use Rattle.pid_service.specs.ItemTexts.{text_of_items}
-use Rattle.pid_service.specs.Steps.TextSinks.{Lengthens, text_in}
+use Rattle.pid_ident.specs.PathTexts.{path_text}
+use Rattle.pid_service.specs.Steps.TextSinks.{Lengthens, block_behind, text_in}
 use Rattle.pid_service.specs.TextSinks.{TakesItem, lines_of_entry}
 use Rattle.pid_service.specs.declared.items_text.TextBuffer.{TextBuffer}
 use Rattle.pid_service.specs.declared.items_text.TextSink.{TextSink}
@@ -112,6 +113,18 @@ first_four l = subst (λ n. n ≤ 4) (sym (length-take 4 l)) (min-le_left 4 (len
 
 opened : (front digits : List ℕ) → length front ≤ 2 → length digits ≤ 4 → length (front ++ digits) ≤ 6
 opened front digits two few = omega (arith, two, few, length-append {A = ℕ})
+
+ended_block : (block : List ℕ) (b : Bool) → length block ≤ 6 → length (ended (if b then block ∷ [] else [])) ≤ 7
+ended_block block true few = omega (arith, few, length-append {A = ℕ})
+ended_block block false few = omega arith
+
+-- so what comes before a name fits
+pub block_short : (n : ℕ) (before path : List ℕ) → n ≡ length (ended (block_behind before path)) → n ≤ 7
+block_short n before path is =
+    subst (λ k. k ≤ 7) (sym is) (ended_block (block_line path) (opens_block before path) (opened (codes "S ") (take 4 (drop 3 path)) (two_long (codes "S ") refl) (first_four (drop 3 path))))
+
+pub label_short : (n : ℕ) (p : Path) → n ≡ length (label_of (path_text p)) → n ≤ 11
+label_short n p is = subst (λ k. k ≤ 11) (sym is) (subst (λ (l : List ℕ). length l ≤ 11) (sym (label_of_text p)) (label_length p))
 
 ended_lines : (block line : List ℕ) (b : Bool) → length block ≤ 6 → length line ≤ 1013 → length (ended ((if b then block ∷ [] else []) ++ line ∷ [])) ≤ 1021
 ended_lines block line true few short = omega (arith, few, short, length-append {A = ℕ})

@@ -1,5 +1,5 @@
 -- What a registry exports, by what its tables did.
-use Rattle.std.proofs.Common.{◌≡◌, ℕ, List, Option, Some, IfSome, Result, Ok, Err, sym, subst, ◌∙◌}
+use Rattle.std.proofs.Common.{◌≡◌, ℕ, Bool, true, List, Option, Some, IfSome, Result, Ok, Err, sym, ap, subst, ◌∙◌}
 use Rattle.std.specs.Io.KnownBytes.{Appends}
 use Rattle.std.specs.Prelude.{Vec}
 use Rattle.std.specs.declared.alloc.Global.{Global}
@@ -15,14 +15,14 @@ use Rattle.pid_moderation.specs.Views.{items_of, views_of}
 use Rattle.pid_moderation.specs.Writes.{tree_of}
 use Rattle.pid_tree.specs.Printing.{print}
 use Rattle.pid_service.specs.declared.exporting.ExportFault.{ExportFault}
-use Rattle.pid_service.specs.declared.exporting.ExportFault.TheVariants.{Refused}
+use Rattle.pid_service.specs.declared.exporting.ExportFault.TheVariants.{Refused, Write}
 use Rattle.sqlite.specs.Held.{Held}
 use Rattle.sqlite_trees.specs.declared.store.Store.{Ghosts}
 use Rattle.pid_tables.specs.Faults.{refusal_for}
 use Rattle.pid_moderation.specs.declared.refusal.Refusal.{Refusal}
-use Rattle.pid_service.specs.Asking.{IsCausedAs}
+use Rattle.pid_service.specs.Asking.{IsCausedAs, MayGive}
 use Rattle.pid_service.specs.Exporting.{ExportsTree}
-use Rattle.pid_service.specs.Histories.{Shows}
+use Rattle.pid_service.specs.Histories.{IsMemoryOrStore, Shows}
 use Rattle.pid_service.specs.KeptViews.{HoldsWaiting, kept_by, kept_views}
 use Rattle.pid_service.specs.Registries.{HasCleanDisk, OnlyReads, is_live}
 use Rattle.pid_lookup.specs.CacheAgreement.{Agrees}
@@ -31,6 +31,7 @@ use Rattle.pid_moderation.specs.Items.{name_at}
 use Rattle.pid_service.specs.declared.registry.Registry.{Registry}
 use Rattle.pid_service.specs.Steps.Exporting.{IsToldAs}
 use Rattle.pid_service.proofs.Causes.{caused_as}
+use Rattle.pid_service.proofs.Keeping.{true_not}
 
 pub whole_tree : (old new : Option (List ℕ)) (h : History) → text_of_items (items_of h) ≡ print (tree_of h) → WritesItems {X = Unit {0}} (Ok tt) old new (items_of h) → ExportsTree {X = Unit {0}} (Ok tt) old new h
 whole_tree old new h same all = subst (λ (text : List ℕ). Appends old new text) same all
@@ -43,6 +44,12 @@ told_tree (ends.Fault fault) told old new h same is front = subst (λ (x : Expor
 refuses : (e f : Refusal) → Refused e ≡ Refused f → e ≡ f
 refuses e f is = cc
 
+pub write_not : {Z : Type 0} (f : WriteFault) (e : Refusal) → ◌≡◌ {A = Result (Unit {0}) ExportFault} (Err (Write f)) (Err (Refused e)) → Z
+write_not f e is = absurd (let no : ⊥ = cc in no)
+
+pub same_write : (f told : WriteFault) → ◌≡◌ {A = Result (Unit {0}) ExportFault} (Err (Write f)) (Err (Write told)) → f ≡ told
+same_write f told is = cc
+
 -- a fault of the tables has its cause
 pub told_cause : {S : Type 0} (store : Ghosts S) (old new : Held S) (end : EachEnd WriteFault) (told : ExportFault) (e : Refusal) → IsToldAs end told → told ≡ Refused e
     → IsCausedEnd store old new end → IsCausedAs store old new e
@@ -50,6 +57,18 @@ told_cause store old new (ends.Tables fault) told e (x, is, bad, of) asked cause
     let same : e ≡ refusal_for fault = refuses e x (sym asked ∙ is) ∙ of in
     subst (λ (y : Refusal). IsCausedAs store old new y) (sym same) (caused_as store old new fault caused)
 told_cause store old new (ends.Fault fault) told e is asked caused = absurd (let other = sym asked ∙ is in let no : ⊥ = cc in no)
+
+-- what a live registry may give
+pub told_gives : (end : EachEnd WriteFault) (told : ExportFault) (e : Refusal) (live : Bool) → live ≡ true → IsToldAs end told → told ≡ Refused e → MayGive live e
+told_gives (ends.Tables fault) told e live on (x, is, bad, of) asked =
+    let same : x ≡ e = refuses x e (sym is ∙ asked) in
+    record { alive = λ still. subst IsMemoryOrStore same bad; failed = true_not live on }
+told_gives (ends.Fault fault) told e live on is asked = absurd (let other = sym asked ∙ is in let no : ⊥ = cc in no)
+
+-- a fault of the writer is the one that the walk met
+pub told_writes : {X : Type 0} (r : Result X ExportFault) (end : EachEnd WriteFault) (told : ExportFault) (f : WriteFault) → r ≡ Err told → r ≡ Err (Write f) → IsToldAs end told → end ≡ ends.Fault f
+told_writes r (ends.Tables fault) told f is asked (e, was, bad, of) = absurd (let both = sym is ∙ asked in let no : ⊥ = cc in no)
+told_writes r (ends.Fault fault) told f is asked was = let both = sym is ∙ asked in let same : fault ≡ f = cc in ap ends.Fault same
 
 pub told_by : {X : Type 0} (r : Result X ExportFault) (told : ExportFault) (e : Refusal) → r ≡ Err told → r ≡ Err (Refused e) → told ≡ Refused e
 told_by r told e is asked = let same = sym is ∙ asked in cc

@@ -7,7 +7,7 @@ use Rattle.pid_moderation.specs.declared.command.Act.TheVariants.{Account, Submi
 use Rattle.pid_moderation.specs.declared.command.Command.{Command}
 use Rattle.pid_moderation.specs.declared.command.Reply.{Reply}
 use Rattle.pid_moderation.specs.declared.refusal.Refusal.{Refusal}
-use Rattle.pid_moderation.specs.declared.refusal.Refusal.TheVariants.{BadText}
+use Rattle.pid_moderation.specs.declared.refusal.Refusal.TheVariants.{BadText, Failed}
 use Rattle.pid_moderation.specs.BeforeFile.{SettlesImport, import_of}
 use Rattle.pid_moderation.specs.CheckTables.{is_broken, most_file_bytes}
 use Rattle.pid_moderation.specs.History.{Asked, Deed, History, Imports, Reading, TooLong, asked, deed_of, is_import}
@@ -18,7 +18,7 @@ use Rattle.pid_tables.specs.declared.put_file.Stop.{Stop}
 use Rattle.pid_tables.specs.declared.put_file.Stop.TheVariants as stops
 use Rattle.pid_tables.specs.ImportClauses.{EndsImport}
 use Rattle.pid_tables.specs.Files.{asks, file_reading, reading_of}
-use Rattle.pid_tables.specs.Importing.{ReadsFile, RefusesImport}
+use Rattle.pid_tables.specs.Importing.{ReadsFile, RefusesImport, StopIsNotFailed}
 use Rattle.pid_tables.specs.Judging.{HasOneOutcome}
 use Rattle.pid_service.specs.declared.importing.ImportEnd.{ImportEnd}
 use Rattle.pid_service.specs.declared.importing.ImportEnd.TheVariants as imports
@@ -61,6 +61,18 @@ failed_read stop refusal told rest text is read = let so : ReadsFile (Err (stops
 
 pub body_read : (stop : Stop) (rest : Option (List ℕ)) (text : List ℕ) → stop ≡ stops.Body → ReadsFile (Err stop) rest text → ReadsImport (Err imports.Body) rest text
 body_read stop rest text is read = subst (λ (s : Stop). ReadsFile (Err s) rest text) is read
+
+pub stop_not : {Z : Type 0} (stop : Stop) (e : Refusal) → stop ≡ stops.Refused e → ◌≡◌ {A = Result Reply Stop} (Err stop) (Err stops.Body) → Z
+stop_not stop e is body = absurd (let no : ⊥ = cc in no)
+
+pub failure_not : {Z : Type 0} (stop : Stop) (e : Refusal) → stop ≡ stops.Failed e → ◌≡◌ {A = Result Reply Stop} (Err stop) (Err stops.Body) → Z
+failure_not stop e is body = absurd (let no : ⊥ = cc in no)
+
+pub refusal_not : {Z : Type 0} (e : Refusal) → ◌≡◌ {A = Result Reply ImportEnd} (Err (imports.Refused e)) (Err imports.Body) → Z
+refusal_not e body = absurd (let no : ⊥ = cc in no)
+
+pub refused_alive : (stop : Stop) (e : Refusal) → stop ≡ stops.Refused e → StopIsNotFailed stop → e ≢ Failed
+refused_alive stop e is alive = subst StopIsNotFailed is alive
 
 whole_or_bad : (e : Refusal) (rest : Option (List ℕ)) (text : List ℕ) → ReadsFile (Err (stops.Refused e)) rest text → ReadsImport (Err (imports.Refused e)) rest text
 whole_or_bad e rest text (inl whole) = inl whole
@@ -156,13 +168,6 @@ module _ {S : Type 0} (store : Ghosts S) where
 
   not_broken : (file : List ℕ) → is_broken (Import file) ≡ false → length file ≤ most_file_bytes
   not_broken file off = grind (arith, nat_tests)
-
-  pub file_obeyed : (result : Result Reply Refusal) (r : Registry S store) (h : History) (command : Command) (file bytes : List ℕ) → command.act ≡ Import file → bytes ≡ file → is_broken command.act ≡ false
-      → (is_import command.act ≡ true → length bytes ≤ most_file_bytes → Obeys store result r h (asked command (file_reading bytes))) → Obeys store result r h (asks command)
-  file_obeyed result r h command file bytes is same sound obeyed =
-      let short : length file ≤ most_file_bytes = not_broken file (sym (ap is_broken is) ∙ sound) in
-      let full = obeyed (ap is_import is) (subst (λ (b : List ℕ). length b ≤ most_file_bytes) (sym same) short) in
-      subst (λ (x : Reading). Obeys store result r h (asked command x)) (ap file_reading same ∙ sym (ap reading_of is)) full
 
 -- what an import leaves that was answered before its file was read
 

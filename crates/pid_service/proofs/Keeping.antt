@@ -1,6 +1,6 @@
 -- What is kept in memory, beside the views that it is right about.
-use Rattle.std.proofs.Common.{◌≡◌, ℕ, Option, None, IfSome, rules, refl, sym, subst}
-use Rattle.std.specs.Prelude.{Vec}
+use Rattle.std.proofs.Common.{◌≡◌, ℕ, Bool, true, false, Option, None, IfSome, Result, Ok, Err, rules, refl, sym, subst, ◌∙◌}
+use Rattle.std.specs.Prelude.{Vec, not}
 use Rattle.std.specs.declared.alloc.Global.{Global}
 use Rattle.pid_lookup.specs.CacheAgreement.{Agrees}
 use Rattle.pid_moderation.specs.Items.{Items, name_at}
@@ -9,6 +9,21 @@ use Rattle.pid_service.specs.ItemTexts.{text_of_items}
 use Rattle.pid_service.specs.KeptViews.{HoldsWaiting, IsRightFor, KeepsNothing, LeavesKept, nothing}
 use Rattle.pid_service.specs.declared.kept_views.KeptItems.{KeptItems}
 use Rattle.pid_service.specs.declared.kept_views.KeptViews.{KeptViews}
+
+-- what is true is not false
+pub true_not : {X : Type 0} (b : Bool) → b ≡ true → b ≡ false → X
+true_not b on off = absurd (let both : true ≡ false = sym on ∙ off in let no : ⊥ = cc in no)
+
+pub ok_not : {X E Z : Type 0} (x : X) (e : E) → ◌≡◌ {A = Result X E} (Ok x) (Err e) → Z
+ok_not x e is = absurd (let no : ⊥ = cc in no)
+
+pub not_true : (b : Bool) → not b ≡ true → b ≡ false
+not_true true off = absurd (let bad : ⊥ = cc in bad)
+not_true false off = refl
+
+pub not_false : (b : Bool) → not b ≡ false → b ≡ true
+not_false true on = refl
+not_false false on = absurd (let bad : ⊥ = cc in bad)
 
 -- what is kept of the items is right about them
 abbrev pub ItemsRight : KeptItems → Items → Type 0

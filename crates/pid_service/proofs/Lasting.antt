@@ -66,7 +66,7 @@ still_live (Err (Refused e)) alive live = (alive, inr refl)
 still_live (Err Body) alive live = refl
 
 -- a fault is not that a registry had failed
-fault_alive : (e : Refusal) → IsMemoryOrStore e → e ≢ Failed
+pub fault_alive : (e : Refusal) → IsMemoryOrStore e → e ≢ Failed
 fault_alive e (inl is) = λ failed. let no : Memory ≡ Failed = sym is ∙ failed in let bad : ⊥ = cc in bad
 fault_alive e (inr is) = λ failed. let no : Store ≡ Failed = sym is ∙ failed in let bad : ⊥ = cc in bad
 

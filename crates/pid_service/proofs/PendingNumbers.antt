@@ -259,3 +259,11 @@ page_full most after numbers i d page low is full =
     let few = take_few most so_far in
     let many : length page ≡ length (take most so_far) = ap length is in
     is ∙ sym (take-append-le most so_far (cond (nat_lt after x) (x ∷ []) []) (omega (arith, few, many, full))) ∙ ap (take most) (sym (one_farther after numbers i d low))
+
+-- one number more of a page
+pub one_added : (old : List ℕ) (page : List Pending) (i : ℕ) (p : Pending) (numbers now : List ℕ) → i < length page → get_or page i p ≡ p → numbers ≡ old ++ map its_number (take i page) → now ≡ numbers ++ p.number ∷ []
+    → now ≡ old ++ map its_number (take (i + 1) page)
+one_added old page i p numbers now low is so more =
+    let taken : take (i + 1) page ≡ take i page ++ p ∷ [] = take_more page i p low ∙ ap (λ (q : Pending). take i page ++ q ∷ []) is in
+    more ∙ ap (λ (l : List ℕ). l ++ p.number ∷ []) so ∙ append_assoc old (map its_number (take i page)) (p.number ∷ [])
+    ∙ ap (λ (l : List ℕ). old ++ l) (sym (ap (map its_number) taken ∙ map-append its_number (take i page) (p ∷ [])))

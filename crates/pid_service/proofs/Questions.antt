@@ -15,6 +15,7 @@ use Rattle.pid_moderation.specs.Views.{Views, views_of}
 use Rattle.pid_moderation.specs.declared.refusal.Refusal.{Refusal}
 use Rattle.pid_moderation.specs.declared.refusal.Refusal.TheVariants.{Failed, Memory, Store}
 use Rattle.pid_tables.specs.Faults.{refusal_for}
+use Rattle.pid_tables_check.proofs.Asking.{nothing_read}
 use Rattle.pid_tables_rows.proofs.CauseLemmas.{caused_later, passed_on}
 use Rattle.pid_tables_rows.proofs.OnlyReading.{reads_then}
 use Rattle.pid_tables_rows.specs.Causes.{IsReadable}
@@ -27,8 +28,8 @@ use Rattle.pid_service.specs.Histories.{IsMemoryOrStore, IsReached, Shows}
 use Rattle.pid_service.specs.KeptViews.{LeavesKept, kept_views}
 use Rattle.pid_service.specs.Registries.{HasCleanDisk, OnlyAsked, OnlyReads, SparesKept, connection, is_live}
 use Rattle.pid_service.specs.Steps.Asking.{answered_as}
-use Rattle.pid_service.proofs.Causes.{caused_as}
-use Rattle.pid_service.proofs.Keeping.{left_same}
+use Rattle.pid_service.proofs.Causes.{caused_as, caused_by}
+use Rattle.pid_service.proofs.Keeping.{left_same, true_not}
 use Rattle.pid_service.proofs.Obeyed.{only_read}
 
 -- ---- what the tables answer, as a question answers it
@@ -123,6 +124,56 @@ module _ {S : Type 0} (store : Ghosts S) where
       → Answers store old new r Says
   answers_read {X = X} old new found r Told Says on same kept read is readable means =
       subst (λ (e : Result X Refusal). Answers store old new e Says) (sym is) (answers_found old new found Told Says on same kept read readable means)
+
+  -- a question that is answered without the tables
+  pub answered_here : {X : Type 0} (r : Registry S store) (x : X) (Says : History → X → Type 0) → is_live r ≡ true → (connection r).in_transaction ≡ false → (HasCleanDisk store r → (h : History) → Shows store r h → Says h x) → Answers store r r (Ok x) Says
+  answered_here r x Says on settled says = record {
+    failed = true_not (is_live r) on;
+    fault = tt;
+    lives = refl;
+    rests = nothing_read (state store (connection r)) settled;
+    leaves = left_same (kept_views r);
+    told = λ clean h shows. (says clean h shows, shows);
+    caused = λ clean h shows. tt;
+  }
+
+  -- and one that a registry is asked which has failed
+  pub failed_here : {X : Type 0} (r : Registry S store) (Says : History → X → Type 0) → is_live r ≡ false → (connection r).in_transaction ≡ false → Answers store r r (Err Failed) Says
+  failed_here r Says off settled = record {
+    failed = λ still. (refl, refl);
+    fault = record { alive = λ on. true_not (is_live r) on off; failed = λ still. refl };
+    lives = refl;
+    rests = nothing_read (state store (connection r)) settled;
+    leaves = left_same (kept_views r);
+    told = λ clean h shows. true_not (is_live r) shows.lives off;
+    caused = λ clean h shows. true_not (is_live r) shows.lives off;
+  }
+
+  -- one that they answer
+  pub answers_ok : {X : Type 0} (old new : Registry S store) (x : X) (Says : History → X → Type 0) → is_live old ≡ true → is_live new ≡ is_live old → kept_views new ≡ kept_views old → OnlyReads store old new
+      → (HasCleanDisk store new → (h : History) → Shows store old h → Says h x) → Answers store old new (Ok x) Says
+  answers_ok old new x Says on same kept reads says = record {
+    failed = true_not (is_live old) on;
+    fault = tt;
+    lives = same;
+    rests = reads;
+    leaves = subst (λ k. LeavesKept (kept_views old) k) (sym kept) (left_same (kept_views old));
+    told = λ clean h shows. (says clean h shows, only_read store old new h same reads kept shows);
+    caused = λ clean h shows. tt;
+  }
+
+  -- and one at which the tables fail
+  pub answers_fault : {X : Type 0} (old new : Registry S store) (fault : TableFault) (e : Refusal) (Says : History → X → Type 0) → is_live old ≡ true → is_live new ≡ is_live old → kept_views new ≡ kept_views old → OnlyReads store old new → e ≡ refusal_for fault → IsMemoryOrStore e
+      → (HasCleanDisk store new → (h : History) → Shows store old h → clauses.IsCaused store (connection old) (connection new) fault) → Answers store old new (Err e) Says
+  answers_fault old new fault e Says on same kept reads is bad cause = record {
+    failed = true_not (is_live old) on;
+    fault = record { alive = λ still. bad; failed = true_not (is_live old) on };
+    lives = same;
+    rests = reads;
+    leaves = subst (λ k. LeavesKept (kept_views old) k) (sym kept) (left_same (kept_views old));
+    told = λ clean h shows. (bad, only_read store old new h same reads kept shows);
+    caused = λ clean h shows. caused_by store (connection old) (connection new) fault e is (cause clean h shows);
+  }
 
   -- what has its cause in a call has it in that and those before
   caused_since : (old mid new : Held S) (e : Refusal) → clauses.OnlyReads store old mid → clauses.OnlyReads store mid new → clauses.HasCleanDisk store new → IsCausedAs store mid new e → IsCausedAs store old new e

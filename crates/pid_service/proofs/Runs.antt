@@ -1,5 +1,5 @@
 -- Commands of a list, obeyed one after another.
-use Rattle.std.proofs.Common.{◌≡◌, ◌⊎◌, inl, inr, ℕ, zero, suc, ◌+◌, ◌<◌, List, [], ◌∷◌, ◌++◌, length, take, drop, map, get_or, add-one, Option, Some, None, Result, Ok, Err, IsErrAnd, is_some, true, false, refl, sym, subst, ap, ◌∙◌, arith}
+use Rattle.std.proofs.Common.{◌≡◌, ◌⊎◌, inl, inr, ℕ, zero, suc, ◌+◌, ◌<◌, ◌≤◌, List, [], ◌∷◌, ◌++◌, length, take, drop, map, get_or, add-one, Option, Some, None, Result, Ok, Err, IfErr, IsErrAnd, is_ok, is_some, true, false, refl, sym, subst, ap, ◌∙◌, arith}
 use Rattle.sqlite_trees.specs.declared.store.Store.{Ghosts}
 use Rattle.pid_moderation.specs.declared.command.Command.{Command}
 use Rattle.pid_moderation.specs.declared.command.Reply.{Reply}
@@ -45,8 +45,20 @@ module _ {X : Type 0} (f : X → Asked) where
   pub next_is : (cs : List X) (i : ℕ) (x : X) → i < length cs → get_or cs i x ≡ x → drop i (map f cs) ≡ f x ∷ drop (suc i) (map f cs)
   next_is cs i x low is = (placed cs i x low is).1
 
+  pub none_next : (cs : List X) (i : ℕ) → length cs ≤ i → drop i (map f cs) ≡ []
+  none_next [] zero past = refl
+  none_next [] (suc i) past = refl
+  none_next (y ∷ cs) zero past = absurd (omega (arith, past))
+  none_next (y ∷ cs) (suc i) past = none_next cs i (omega (arith, past))
+
   pub so_many : (cs : List X) (i : ℕ) (x : X) (h : History) → i < length cs → get_or cs i x ≡ x → length (answers h (take i (map f cs))) ≡ i
   so_many cs i x h low is = answers_length (take i (map f cs)) h ∙ (placed cs i x low is).2
+
+-- a push that failed had no room
+
+pub no_room : {X E : Type 0} (r : Result X E) (Says : Type 0) → is_ok r ≡ false → IfErr r (λ _. Says) → Says
+no_room (Ok x) Says bad full = absurd (let no : ⊥ = cc in no)
+no_room (Err e) Says bad full = full
 
 -- an answer is a fault
 
@@ -70,6 +82,10 @@ told_fault (Err (FileFault f)) e is = absurd (let no : ⊥ = cc in no)
 told_fault (Err Full) e is = absurd (let no : ⊥ = cc in no)
 told_fault (Err Failed) e is = absurd (let no : ⊥ = cc in no)
 told_fault (Err Changed) e is = absurd (let no : ⊥ = cc in no)
+
+pub some_not : {X : Type 0} (o : Option X) → is_some o ≡ true → o ≡ None → ⊥
+some_not None some none = let no : ⊥ = cc in no
+some_not (Some x) some none = let no : ⊥ = cc in no
 
 pub none_of : {X : Type 0} (o : Option X) → is_some o ≡ false → o ≡ None
 none_of None off = refl
@@ -118,6 +134,15 @@ module _ {S : Type 0} (store : Ghosts S) where
         ends = subst (λ n. EndsRun store report.fault (drop n all) new (after_all h (take n all))) (sym count)
             (subst (λ l. EndsRun store report.fault l new (after_all h (take i all))) (sym is) (by_fault r report.fault new (after_all h (take i all)) c rest (obeys so.1) same some));
       }
+
+  -- all were obeyed
+  pub runs_all : (report : RunReport) (r : Registry S store) (h : History) (i : ℕ) (all : List Asked) → drop i all ≡ [] → length report.replies.items ≡ i → report.fault ≡ None
+      → (report.replies.items ≡ answers h (take i all)) × Shows store r (after_all h (take i all)) → Runs store report r h all
+  runs_all report r h i all is count none so = record {
+    replied = so.0 ∙ ap (λ n. answers h (take n all)) (sym count);
+    ends = subst (λ n. EndsRun store report.fault (drop n all) r (after_all h (take n all))) (sym count)
+        (subst (λ l. EndsRun store report.fault l r (after_all h (take i all))) (sym is) (subst (λ (f : Option Refusal). EndsRun store f [] r (after_all h (take i all))) (sym none) so.1));
+  }
 
 -- none was obeyed, for want of memory or of the store
 module _ {S : Type 0} (store : Ghosts S) {X : Type 0} (f : X → Asked) where

@@ -179,7 +179,11 @@ impl<S: Alter + Drop> Registry<S> {
         pid_service_laws::judgements_are_outcomes(); // proof only
         match judge_import(&mut self.tables, self.alloc, command) {
             Early::Answered(answer) => answer_past(answer, input),
-            Early::Open { mut facts, items } => self.carry_in(&mut facts, items, command, input),
+            Early::Open { mut facts, items } => {
+                let end = self.carry_in(&mut facts, items, command, input);
+                drop(facts);
+                end
+            }
         }
     }
 
@@ -230,7 +234,9 @@ impl<S: Alter + Drop> Registry<S> {
             };
         }
         let command = import_command(self.alloc, account, key);
-        self.import_act(&command, input)
+        let end = self.import_act(&command, input);
+        drop(command);
+        end
     }
 
     /// Obeys an import of these bytes, as `obey` obeys one that has them.
@@ -250,6 +256,8 @@ impl<S: Alter + Drop> Registry<S> {
             return Err(Refusal::BadText);
         }
         let command = import_command(self.alloc, account, key);
-        self.import_bytes(&command, file)
+        let answer = self.import_bytes(&command, file);
+        drop(command);
+        answer
     }
 }

@@ -37,6 +37,7 @@ fn judged_by(facts: &Facts, command: &Command) -> Result<Judged, Refusal>
         Err(refusal) => Err(refusal),
         Ok((change, reply)) => {
             if facts.kept.is_some() {
+                drop(change);
                 Ok(Judged::Kept(reply))
             } else {
                 Ok(Judged::Accepted { change, reply })
@@ -61,7 +62,11 @@ pub(crate) fn judge<S: Alter + Drop>(
 {
     laws::reached_histories_are_kept(); // proof only
     match tables.gather(alloc, &command.account, &command.key, needs(command)) {
-        Ok(facts) => judged_by(&facts, command),
+        Ok(facts) => {
+            let judged = judged_by(&facts, command);
+            drop(facts);
+            judged
+        }
         Err(fault) => Err(refusal_of(fault)),
     }
 }

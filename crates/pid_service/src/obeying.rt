@@ -70,7 +70,11 @@ impl<S: Alter + Drop> Registry<S> {
         }
         match judge(&mut self.tables, self.alloc, command) {
             Err(refusal) => Err(refusal),
-            Ok(judged) => self.carry_out(&judged),
+            Ok(judged) => {
+                let answer = self.carry_out(&judged);
+                drop(judged);
+                answer
+            }
         }
     }
 
@@ -83,6 +87,8 @@ impl<S: Alter + Drop> Registry<S> {
     pub fn obey(&mut self, command: Command) -> Result<Reply, Refusal>
         ensures { IsObeyed S.Store self.old self.new command result }
     {
-        self.obey_lent(&command)
+        let answer = self.obey_lent(&command);
+        drop(command);
+        answer
     }
 }

@@ -40,26 +40,6 @@ fn pending_count<S: Alter + Drop>(
     }
 }
 
-// The status where so many submissions are pending.
-fn status_with<S: Alter + Drop>(tables: &mut Tables<S>, pending: u32) -> Result<Status, TableFault>
-    requires { tables.old.conn.in_transaction ≡ false }
-    ensures { Reads S.Store tables.old.conn tables.new.conn result
-        (λ v status. pending ≡ length (waiting_above 0 v)
-        → IsStatusIn v (registry_status_of status)) }
-{
-    let accounts = accounts(&mut tables.conn)?;
-    let items = tables.items()?;
-    let revision = revision(&mut tables.conn)?;
-    let submissions = submissions(&mut tables.conn)?;
-    Ok(Status {
-        accounts,
-        items,
-        pending,
-        revision,
-        submissions,
-    })
-}
-
 // The status, by the numbers of what is pending, if they are kept.
 fn status_by<S: Alter + Drop>(
     tables: &mut Tables<S>,
@@ -71,7 +51,17 @@ fn status_by<S: Alter + Drop>(
         (λ v status. HoldsWaiting numbers.now v → IsStatusIn v (registry_status_of status)) }
 {
     let pending = pending_count(tables, alloc, numbers)?;
-    status_with(tables, pending)
+    let accounts = accounts(&mut tables.conn)?;
+    let items = tables.items()?;
+    let revision = revision(&mut tables.conn)?;
+    let submissions = submissions(&mut tables.conn)?;
+    Ok(Status {
+        accounts,
+        items,
+        pending,
+        revision,
+        submissions,
+    })
 }
 
 impl<S: Alter + Drop> Registry<S> {

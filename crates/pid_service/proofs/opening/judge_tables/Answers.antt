@@ -1,7 +1,10 @@
-use Rattle.std.proofs.Common.{ap, ◌∙◌}
+use Rattle.std.proofs.Common.{Option, ap, subst, ◌∙◌}
 use Rattle.std.specs.Prelude.{not}
 use Rattle.sqlite.specs.Held.{state}
 use Rattle.pid_moderation.specs.Views.{views_of}
+use Rattle.pid_tables_check.specs.Checking.{FindsVersion}
+use Rattle.pid_tables_rows.specs.Clauses.{seen}
+use Rattle.pid_tables_rows.specs.declared.version.Version.{Version}
 use Rattle.pid_tables_rows.specs.declared.version.Version.TheVariants.{Two}
 use Rattle.pid_tables_rows.proofs.LeaveLemmas.{rests_in_two}
 use Rattle.pid_service.proofs.Opened.{seen_still}
@@ -23,3 +26,39 @@ returns-then-is_today-clause-same g c =
 pub returns-else-is_today-clause-same : goal.returns-else-is_today-clause-same
 returns-else-is_today-clause-same g c =
     seen_still (state g.S.Store c.args.tables.now.conn) (state g.S.Store c.check.new.self.conn) (c.is_autocommit-settled.ensures.settled (c.is_autocommit-settled.ensures.value ∙ ap not c.requires)) c.check.ensures.rests
+
+-- ---- what was found
+
+pub returns-in-Err-clause-rests : goal.returns-in-Err-clause-rests
+returns-in-Err-clause-rests g c = c.check.ensures.rests
+
+pub returns-in-Err-clause-shut : goal.returns-in-Err-clause-shut
+returns-in-Err-clause-shut g c clean off = c.in-Err.ensures.shut clean off
+
+pub returns-in-Err-clause-told : goal.returns-in-Err-clause-told
+returns-in-Err-clause-told g c clean = c.in-Err.ensures.told clean
+
+pub returns-then-is_today-clause-rests : goal.returns-then-is_today-clause-rests
+returns-then-is_today-clause-rests g c = c.check.ensures.rests
+
+pub returns-then-is_today-clause-good : goal.returns-then-is_today-clause-good
+returns-then-is_today-clause-good g c clean h reached rest = tt
+
+pub returns-then-is_today-clause-shut : goal.returns-then-is_today-clause-shut
+returns-then-is_today-clause-shut g c clean off = c.in-Ok.ensures.shut clean off
+
+pub returns-then-is_today-clause-told : goal.returns-then-is_today-clause-told
+returns-then-is_today-clause-told g c clean =
+    subst (λ (found : Option Version). FindsVersion (seen g.S.Store c.args.tables.now.conn) found) (c.is_today.ensures.0 c.if-is_today.true) (c.in-Ok.ensures.told clean)
+
+pub returns-else-is_today-clause-rests : goal.returns-else-is_today-clause-rests
+returns-else-is_today-clause-rests g c = c.check.ensures.rests
+
+pub returns-else-is_today-clause-good : goal.returns-else-is_today-clause-good
+returns-else-is_today-clause-good g c clean h reached rest = tt
+
+pub returns-else-is_today-clause-shut : goal.returns-else-is_today-clause-shut
+returns-else-is_today-clause-shut g c clean off = absurd (c.in-Ok.ensures.shut clean off)
+
+pub returns-else-is_today-clause-told : goal.returns-else-is_today-clause-told
+returns-else-is_today-clause-told g c clean = tt

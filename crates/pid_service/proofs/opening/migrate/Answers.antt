@@ -1,11 +1,32 @@
-use Rattle.std.proofs.Common.{inl, inr, refl, ap, ◌∙◌}
+use Rattle.std.proofs.Common.{inl, inr, refl, sym, ap, ◌∙◌}
 use Rattle.std.specs.Prelude.{not}
 use Rattle.sqlite.specs.Held.{state}
 use Rattle.pid_moderation.specs.Views.{views_of}
 use Rattle.pid_tables_rows.proofs.LeaveLemmas.{rests_in_two}
 use Rattle.pid_tables.proofs.AtOnceLemmas.{reads_back}
+use Rattle.pid_service.proofs.Keeping.{not_false, not_true, true_not}
 use Rattle.pid_service.proofs.Opened.{seen_back}
 use Rattle.pid_service.proofs.opening.migrate.Goals as goal
+
+-- ---- within a transaction
+
+pub returns-then-not-is_autocommit-clause-busy : goal.returns-then-not-is_autocommit-clause-busy
+returns-then-not-is_autocommit-clause-busy g c on = refl
+
+pub returns-then-not-is_autocommit-clause-at_once : goal.returns-then-not-is_autocommit-clause-at_once
+returns-then-not-is_autocommit-clause-at_once g c = true_not c.args.conn.in_transaction (not_false c.args.conn.in_transaction (sym c.is_autocommit.ensures.value ∙ c.if-not-is_autocommit.true))
+
+pub returns-then-not-is_autocommit-clause-shown : goal.returns-then-not-is_autocommit-clause-shown
+returns-then-not-is_autocommit-clause-shown g c = true_not c.args.conn.in_transaction (not_false c.args.conn.in_transaction (sym c.is_autocommit.ensures.value ∙ c.if-not-is_autocommit.true))
+
+pub returns-then-not-is_autocommit-clause-judged : goal.returns-then-not-is_autocommit-clause-judged
+returns-then-not-is_autocommit-clause-judged g c = true_not c.args.conn.in_transaction (not_false c.args.conn.in_transaction (sym c.is_autocommit.ensures.value ∙ c.if-not-is_autocommit.true))
+
+pub returns-in-Ok-clause-busy : goal.returns-in-Ok-clause-busy
+returns-in-Ok-clause-busy g c on = true_not c.args.conn.in_transaction on (not_true c.args.conn.in_transaction (sym c.is_autocommit.ensures.value ∙ c.if-not-is_autocommit.false))
+
+pub returns-in-Err-clause-busy : goal.returns-in-Err-clause-busy
+returns-in-Err-clause-busy g c on = true_not c.args.conn.in_transaction on (not_true c.args.conn.in_transaction (sym c.is_autocommit.ensures.value ∙ c.if-not-is_autocommit.false))
 
 -- ---- a step
 

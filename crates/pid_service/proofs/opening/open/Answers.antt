@@ -1,4 +1,4 @@
-use Rattle.std.proofs.Common.{inl, refl, sym, subst}
+use Rattle.std.proofs.Common.{inl, refl, sym, subst, ◌∙◌}
 use Rattle.sqlite.specs.Held.{state}
 use Rattle.pid_moderation.specs.Views.{views_of}
 use Rattle.pid_tables_rows.specs.Clauses.{HasCleanDisk}
@@ -8,8 +8,30 @@ use Rattle.pid_tables.specs.Clauses.{ShowsOrBlank}
 use Rattle.pid_tables.proofs.AtOnceLemmas.{reads_back, reads_once}
 use Rattle.pid_tables_check.proofs.Asking.{nothing_read}
 use Rattle.pid_service.proofs.Opened.{at_once_of, explains_of, kept_of, made_by_reads, moved}
-use Rattle.pid_service.proofs.Keeping.{nothing_kept}
+use Rattle.pid_service.proofs.Keeping.{not_false, not_true, nothing_kept, true_not}
 use Rattle.pid_service.proofs.opening.open.Goals as goal
+
+-- ---- within a transaction
+
+pub returns-then-not-is_autocommit : goal.returns-then-not-is_autocommit
+returns-then-not-is_autocommit g c =
+    let within = not_false c.args.conn.in_transaction (sym c.is_autocommit.ensures.value ∙ c.if-not-is_autocommit.true) in
+    record {
+      busy = λ on. refl;
+      history = record { clean = λ clean. clean; opened = λ h reached shown clean. (tt, shown) };
+      registry = true_not c.args.conn.in_transaction within;
+      at_once = true_not c.args.conn.in_transaction within;
+      explains = true_not c.args.conn.in_transaction within;
+    }
+
+pub returns-in_default-clause-busy : goal.returns-in_default-clause-busy
+returns-in_default-clause-busy g c on = true_not c.args.conn.in_transaction on (not_true c.args.conn.in_transaction (sym c.is_autocommit.ensures.value ∙ c.if-not-is_autocommit.false))
+
+pub returns-in-Ok-make_ready-clause-busy : goal.returns-in-Ok-make_ready-clause-busy
+returns-in-Ok-make_ready-clause-busy g c on = true_not c.args.conn.in_transaction on (not_true c.args.conn.in_transaction (sym c.is_autocommit.ensures.value ∙ c.if-not-is_autocommit.false))
+
+pub returns-in-Err-clause-busy : goal.returns-in-Err-clause-busy
+returns-in-Err-clause-busy g c on = true_not c.args.conn.in_transaction on (not_true c.args.conn.in_transaction (sym c.is_autocommit.ensures.value ∙ c.if-not-is_autocommit.false))
 
 -- ---- no memory for the names
 

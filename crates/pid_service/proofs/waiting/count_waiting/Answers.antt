@@ -23,6 +23,13 @@ returns-in_err-page g c =
           (λ readable. caused_later old mid new (λ _. ⊥) c.in_err-page.field-0.0 before.0.survives one.rests.survives.counts (one.rests.clean clean) (one.told clean v (before.0.kept v rest) readable));
     }
 
+-- too many
+pub returns-in_default : goal.returns-in_default
+returns-in_default g c = record { rests = reads_then _ _ _ c.loop.invariant.0 c.in_ok-page.ensures.rests; told = λ clean v rest readable. tt }
+
+pub returns : goal.returns
+returns g c = record { rests = c.loop.invariant.0; told = λ clean v rest readable. tt }
+
 pub returns-then-len-lt-PAGE : goal.returns-then-len-lt-PAGE
 returns-then-len-lt-PAGE g c =
     let one = c.in_ok-page.ensures in

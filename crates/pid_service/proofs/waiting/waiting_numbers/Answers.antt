@@ -23,12 +23,19 @@ returns-in_err-page g c =
           (λ readable. caused_later old mid new (λ _. ⊥) c.in_err-page.field-0.0 before.0.survives one.rests.survives.counts (one.rests.clean clean) (one.told clean v (before.0.kept v rest) readable));
     }
 
+-- too many, or no memory for them
+pub returns-then-not-add_numbers : goal.returns-then-not-add_numbers
+returns-then-not-add_numbers g c = record { rests = reads_then _ _ _ c.loop.invariant.0 c.in_ok-page.ensures.rests; told = λ clean v rest. tt }
+
+pub returns : goal.returns
+returns g c = record { rests = c.loop.invariant.0; told = λ clean v rest. tt }
+
 -- a page that is not full is the last
 pub returns-then-len-lt-PAGE : goal.returns-then-len-lt-PAGE
 returns-then-len-lt-PAGE g c =
     let one = c.in_ok-page.ensures in
     let before = c.loop.invariant in
-    let on : c.add_numbers.result ≡ true = search rules in
+    let on : c.add_numbers.result ≡ true = c.if-not-add_numbers.false in
     let short : length c.as_slice.result.now < 100 = search rules in
     record {
       rests = reads_then _ _ _ before.0 one.rests;
@@ -42,7 +49,7 @@ pub loop-preserved : goal.loop-preserved
 loop-preserved g c =
     let one = c.in_ok-page.ensures in
     let before = c.loop.invariant in
-    let on : c.add_numbers.result ≡ true = search rules in
+    let on : c.add_numbers.result ≡ true = c.if-not-add_numbers.false in
     let added = c.add_numbers.ensures on in
     let same = c.as_slice-in-loop.ensures.value ∙ sym c.as_slice.ensures.value in
     let last : c.last_number-after.result ≡ last_of pending_number c.loop.after (map told_of c.as_slice.result.now) = c.last_number-after.ensures ∙ ap (λ p. last_of pending_number c.loop.after (map told_of p)) same in (

@@ -58,3 +58,38 @@ returns-in-Err-clause-kept g c = record {
   read = tt;
   carried = λ h asks to. tt;
 }
+
+-- ---- whether it is live, and what it keeps otherwise
+
+pub returns-in-Kept-clause-clean : goal.returns-in-Kept-clause-clean
+returns-in-Kept-clause-clean g c clean = clean
+
+pub returns-in-Kept-clause-none : goal.returns-in-Kept-clause-none
+returns-in-Kept-clause-none g c none = none
+
+pub returns-in-Kept-clause-held : goal.returns-in-Kept-clause-held
+returns-in-Kept-clause-held g c = refl
+
+pub returns-in-Ok-clause-clean : goal.returns-in-Ok-clause-clean
+returns-in-Ok-clause-clean g c = c.write.ensures.clean
+
+pub returns-in-Ok-clause-none : goal.returns-in-Ok-clause-none
+returns-in-Ok-clause-none g c = c.follow.ensures.none
+
+pub returns-in-Ok-clause-held : goal.returns-in-Ok-clause-held
+returns-in-Ok-clause-held g c = refl
+
+pub returns-in-Ok-clause-limit : goal.returns-in-Ok-clause-limit
+returns-in-Ok-clause-limit g c = c.write.ensures.limit
+
+pub returns-in-Err-clause-clean : goal.returns-in-Err-clause-clean
+returns-in-Err-clause-clean g c = c.write.ensures.clean
+
+pub returns-in-Err-clause-none : goal.returns-in-Err-clause-none
+returns-in-Err-clause-none g c none = c.clear.ensures.items
+
+pub returns-in-Err-clause-held : goal.returns-in-Err-clause-held
+returns-in-Err-clause-held g c = (c.refusal_of.ensures.fault, refl)
+
+pub returns-in-Err-clause-limit : goal.returns-in-Err-clause-limit
+returns-in-Err-clause-limit g c = c.write.ensures.limit

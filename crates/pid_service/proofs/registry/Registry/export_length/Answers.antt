@@ -1,16 +1,21 @@
 use Rattle.std.proofs.Common.{◌≡◌, length, rules, refl, ap, ◌∙◌}
+use Rattle.sqlite.specs.Held.{state}
 use Rattle.pid_moderation.specs.Views.{views_of}
-use Rattle.pid_service.proofs.Causes.{caused_by}
+use Rattle.pid_tables_check.proofs.Asking.{nothing_read}
 use Rattle.pid_service.proofs.Exported.{text_kept, text_told}
-use Rattle.pid_service.proofs.Keeping.{left_same}
+use Rattle.pid_service.proofs.Keeping.{left_same, true_not}
+use Rattle.pid_service.proofs.Questions.{answers_fault, failed_here}
 use Rattle.pid_service.proofs.registry.Registry.export_length.Goals as goal
+
+pub returns-then-not-self-clause-answers : goal.returns-then-not-self-clause-answers
+returns-then-not-self-clause-answers g c = failed_here g.S.Store c.args.self.now _ c.if-not-self.true c.args.self.now.settled
 
 pub returns-in-Some-clause-answers : goal.returns-in-Some-clause-answers
 returns-in-Some-clause-answers g c = record {
-  failed = search rules;
+  failed = true_not c.args.self.now.live c.if-not-self.false;
   fault = tt;
   lives = refl;
-  rests = search rules;
+  rests = nothing_read (state g.S.Store c.args.self.now.tables.conn) c.args.self.now.settled;
   leaves = left_same _;
   told = λ clean h shows.
       let many : c.len.result ≡ length c.in-Some.text.items = search rules in
@@ -20,7 +25,7 @@ returns-in-Some-clause-answers g c = record {
 
 pub returns-in-Ok-clause-answers : goal.returns-in-Ok-clause-answers
 returns-in-Ok-clause-answers g c = record {
-  failed = search rules;
+  failed = true_not c.args.self.now.live c.if-not-self.false;
   fault = tt;
   lives = refl;
   rests = c.items_text.ensures.rests;
@@ -32,13 +37,6 @@ returns-in-Ok-clause-answers g c = record {
 }
 
 pub returns-in-Err-clause-answers : goal.returns-in-Err-clause-answers
-returns-in-Err-clause-answers g c = record {
-  failed = search rules;
-  fault = search rules;
-  lives = search rules;
-  rests = search rules;
-  leaves = left_same _;
-  told = search rules;
-  caused = λ clean h shows.
-      caused_by g.S.Store c.args.self.now.tables.conn c.items_text.new.tables.conn c.in-Err.fault c.refusal_of.result c.refusal_of.ensures.same (c.in-Err.ensures.told clean (views_of h) shows.tables (c.reached_histories_are_kept.ensures.readable h shows.history));
-}
+returns-in-Err-clause-answers g c =
+    answers_fault g.S.Store c.args.self.now _ c.in-Err.fault c.refusal_of.result _ c.if-not-self.false refl refl c.items_text.ensures.rests c.refusal_of.ensures.same c.refusal_of.ensures.fault
+    (λ clean h shows. c.in-Err.ensures.told clean (views_of h) shows.tables (c.reached_histories_are_kept.ensures.readable h shows.history))

@@ -25,14 +25,14 @@ returns-in-Answered-clause-taken g c = let r = c.answer_past.ensures.past in
     }
 
 pub returns-in-Open-clause-taken : goal.returns-in-Open-clause-taken
-returns-in-Open-clause-taken g c = let r = c.carry_in.ensures.obeyed in
+returns-in-Open-clause-taken g c = let r = c.carry_in-end.ensures.obeyed in
     record {
       text = r.text;
       consumed = r.consumed;
       read = r.read;
       holds = record {
         obeyed = λ clean h shows import.
-            let early = c.in-Open.ensures.judged (c.carry_in.ensures.clean clean) h (c.reached_histories_are_kept.ensures.sound h shows.history) shows.tables in
+            let early = c.in-Open.ensures.judged (c.carry_in-end.ensures.clean clean) h (c.reached_histories_are_kept.ensures.sound h shows.history) shows.tables in
             r.holds clean h
             (record {
               shows = only_read g.S.Store c.args.self.now _ h refl c.judge_import.ensures.rests refl shows;
@@ -41,7 +41,7 @@ returns-in-Open-clause-taken g c = let r = c.carry_in.ensures.obeyed in
               many = early.1;
               reached = c.commands_lead_on.ensures h (asked c.args.command.now (file_reading r.text)) shows.history (c.command_is_well_made.ensures (file_reading r.text) (c.texts_read_to_files.ensures.readings r.text));
             });
-        spares = λ clean h shows import. inl c.carry_in.ensures.forgets;
+        spares = λ clean h shows import. inl c.carry_in-end.ensures.forgets;
       };
     }
 
@@ -49,7 +49,7 @@ pub returns-in-Answered-clause-forgets : goal.returns-in-Answered-clause-forgets
 returns-in-Answered-clause-forgets g c h shows = inr (only_read g.S.Store c.args.self.now _ h refl c.judge_import.ensures.rests refl shows)
 
 pub returns-in-Open-clause-forgets : goal.returns-in-Open-clause-forgets
-returns-in-Open-clause-forgets g c h shows = inl c.carry_in.ensures.forgets
+returns-in-Open-clause-forgets g c h shows = inl c.carry_in-end.ensures.forgets
 
 pub returns-in-Answered-clause-lasts : goal.returns-in-Answered-clause-lasts
 returns-in-Answered-clause-lasts g c = record {
@@ -59,8 +59,8 @@ returns-in-Answered-clause-lasts g c = record {
 
 pub returns-in-Open-clause-lasts : goal.returns-in-Open-clause-lasts
 returns-in-Open-clause-lasts g c = record {
-  live = c.carry_in.ensures.held;
-  limit = c.carry_in.ensures.limit ∙ c.judge_import.ensures.rests.survives.limit;
+  live = c.carry_in-end.ensures.held;
+  limit = c.carry_in-end.ensures.limit ∙ c.judge_import.ensures.rests.survives.limit;
 }
 
 pub returns-in-Answered-clause-caused : goal.returns-in-Answered-clause-caused
@@ -75,6 +75,6 @@ returns-in-Answered-clause-caused g c clean h shows reading import =
 
 pub returns-in-Open-clause-caused : goal.returns-in-Open-clause-caused
 returns-in-Open-clause-caused g c clean h shows reading import =
-    let early = c.in-Open.ensures.judged (c.carry_in.ensures.clean clean) h (c.reached_histories_are_kept.ensures.sound h shows.history) shows.tables in
-    open_faults g.S.Store c.args.self.now.tables.conn c.carry_in.new.self.tables.conn c.carry_in.new.self.live h c.args.command.now reading _ c.carry_in.result early.0
-    (c.carry_in.ensures.caused clean h (only_read g.S.Store c.args.self.now _ h refl c.judge_import.ensures.rests refl shows) shows.history.marked import early.0 early.1)
+    let early = c.in-Open.ensures.judged (c.carry_in-end.ensures.clean clean) h (c.reached_histories_are_kept.ensures.sound h shows.history) shows.tables in
+    open_faults g.S.Store c.args.self.now.tables.conn c.carry_in-end.new.self.tables.conn c.carry_in-end.new.self.live h c.args.command.now reading _ c.carry_in-end.result early.0
+    (c.carry_in-end.ensures.caused clean h (only_read g.S.Store c.args.self.now _ h refl c.judge_import.ensures.rests refl shows) shows.history.marked import early.0 early.1)

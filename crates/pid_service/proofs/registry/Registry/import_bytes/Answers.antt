@@ -1,4 +1,5 @@
 use Rattle.std.proofs.Common.{sym, ◌∙◌}
+use Rattle.std.proofs.lemmas.Bool.{false≢true}
 use Rattle.pid_moderation.specs.History.{asked}
 use Rattle.pid_service.proofs.ImportCauses.{Faults, plain_faults}
 use Rattle.pid_service.proofs.Imported.{bytes_obeyed, bytes_spare}
@@ -7,12 +8,12 @@ use Rattle.pid_service.proofs.registry.Registry.import_bytes.Goals as goal
 pub returns-clause-obeyed : goal.returns-clause-obeyed
 returns-clause-obeyed g c clean h shows import short = let r = c.import_act-end.ensures.taken in
     bytes_obeyed g.S.Store c.import_act-end.result c.plain.result c.import_act-end.new.self h c.args.command.now c.args.file.now r.text c.import_act-end.new.input.rest.now c.plain.ensures.same
-    (λ e. absurd (let none = c.import_act-end.ensures.reads.fault e in let no : ⊥ = cc in no)) (sym c.new-input.ensures.rest ∙ r.consumed) r.read short (r.holds.obeyed clean h shows import)
+    (λ e. absurd (false≢true (c.import_act-end.ensures.reads.fault e))) (sym c.new-input.ensures.rest ∙ r.consumed) r.read short (r.holds.obeyed clean h shows import)
 
 pub returns-clause-spares : goal.returns-clause-spares
 returns-clause-spares g c clean h shows import short = let r = c.import_act-end.ensures.taken in
     bytes_spare g.S.Store c.import_act-end.result c.plain.result _ h c.args.command.now c.args.file.now r.text c.import_act-end.new.input.rest.now c.plain.ensures.same
-    (λ e. absurd (let none = c.import_act-end.ensures.reads.fault e in let no : ⊥ = cc in no)) (sym c.new-input.ensures.rest ∙ r.consumed) r.read short (r.holds.spares clean h shows import)
+    (λ e. absurd (false≢true (c.import_act-end.ensures.reads.fault e))) (sym c.new-input.ensures.rest ∙ r.consumed) r.read short (r.holds.spares clean h shows import)
 
 pub returns-clause-lasts : goal.returns-clause-lasts
 returns-clause-lasts g c = record {
@@ -23,4 +24,4 @@ returns-clause-lasts g c = record {
 pub returns-clause-caused : goal.returns-clause-caused
 returns-clause-caused g c clean h shows reading import =
     plain_faults (Faults g.S.Store c.args.self.now.tables.conn c.import_act-end.new.self.tables.conn c.import_act-end.new.self.live h (asked c.args.command.now reading)) c.import_act-end.result c.plain.result c.plain.ensures.same
-    (λ e. absurd (let none = c.import_act-end.ensures.reads.fault e in let no : ⊥ = cc in no)) (c.import_act-end.ensures.caused clean h shows reading import)
+    (λ e. absurd (false≢true (c.import_act-end.ensures.reads.fault e))) (c.import_act-end.ensures.caused clean h shows reading import)

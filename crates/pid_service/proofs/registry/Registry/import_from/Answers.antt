@@ -9,20 +9,20 @@ use Rattle.pid_service.proofs.Lasting.{end_lasting}
 use Rattle.pid_service.proofs.registry.Registry.import_from.Goals as goal
 
 pub returns-clause-obeyed : goal.returns-clause-obeyed
-returns-clause-obeyed g c = let r = c.import_act.ensures.taken in
+returns-clause-obeyed g c = let r = c.import_act-end.ensures.taken in
     let import : is_import c.import_command-command.result.act ≡ true = rw c.import_command-command.ensures refl in
     record {
       text = r.text;
       consumed = r.consumed;
       read = r.read;
       holds = λ clean h shows.
-          subst (λ (k : Command). ObeysImport g.S.Store c.import_act.result c.import_act.new.self h (asked k (file_reading r.text))) c.import_command-command.ensures (r.holds.obeyed clean h shows import);
+          subst (λ (k : Command). ObeysImport g.S.Store c.import_act-end.result c.import_act-end.new.self h (asked k (file_reading r.text))) c.import_command-command.ensures (r.holds.obeyed clean h shows import);
     }
 
 pub returns-clause-lasts : goal.returns-clause-lasts
 returns-clause-lasts g c =
     let import : is_import c.import_command-command.result.act ≡ true = rw c.import_command-command.ensures refl in
-    end_lasting g.S.Store c.args.self.now c.import_act.new.self (import_of c.args.account c.args.key) c.import_act.result c.import_act.ensures.forgets c.import_act.ensures.lasts.live c.import_act.ensures.lasts.limit
+    end_lasting g.S.Store c.args.self.now c.import_act-end.new.self (import_of c.args.account c.args.key) c.import_act-end.result c.import_act-end.ensures.forgets c.import_act-end.ensures.lasts.live c.import_act-end.ensures.lasts.limit
     (λ clean h shows reading.
-    subst (λ (k : Command). IfErr c.import_act.result (OfRefusal (Faults g.S.Store c.args.self.now.tables.conn c.import_act.new.self.tables.conn c.import_act.new.self.live h (asked k reading)))) c.import_command-command.ensures
-    (c.import_act.ensures.caused clean h shows reading import))
+    subst (λ (k : Command). IfErr c.import_act-end.result (OfRefusal (Faults g.S.Store c.args.self.now.tables.conn c.import_act-end.new.self.tables.conn c.import_act-end.new.self.live h (asked k reading)))) c.import_command-command.ensures
+    (c.import_act-end.ensures.caused clean h shows reading import))

@@ -1,17 +1,20 @@
 use Rattle.std.proofs.Common.{rules, refl}
+use Rattle.sqlite.specs.Held.{state}
+use Rattle.pid_tables_check.proofs.Asking.{nothing_read}
 use Rattle.pid_service.specs.Registries.{OnlyAsked}
+use Rattle.pid_service.proofs.Keeping.{true_not}
 use Rattle.pid_service.proofs.registry.Registry.lookup.Goals as goal
 
 pub returns : goal.returns
 returns g c =
-    let start : OnlyAsked g.S.Store c.args.self.now c.args.self.now = record { lives = refl; rests = search rules; failed = λ off. refl; spares = record { text = refl; pending = refl; read = refl } } in
+    let start : OnlyAsked g.S.Store c.args.self.now c.args.self.now = record { lives = refl; rests = nothing_read (state g.S.Store c.args.self.now.tables.conn) c.args.self.now.settled; failed = λ off. refl; spares = record { text = refl; pending = refl; read = refl } } in
     let asked = c.lookup.ensures.kept.asked c.args.self.now start in
     record {
-      failed = search rules;
+      failed = true_not c.args.self.now.live c.if-not-self.false;
       lives = asked.lives;
       rests = asked.rests;
       spares = asked.spares;
-      clean = search rules;
+      clean = asked.rests.clean;
       answer = λ clean h shows. c.lookup.ensures.answer clean h shows;
       shown = search rules;
       bad_flags = λ on. c.lookup.ensures.bad_flags;

@@ -1,11 +1,11 @@
-use Rattle.std.proofs.Common.{◌≡◌, ℕ, ◌+◌, List, [], ◌∷◌, length, length-append, take, drop, map, suc, not, true, is_ok, inr, refl, sym, ap, subst, ◌∙◌, arith}
+use Rattle.std.proofs.Common.{◌≡◌, ℕ, ◌+◌, ◌≤◌, List, [], ◌∷◌, length, vec_capacity, vec_len, length-append, take, drop, map, suc, not, true, false, is_ok, inl, inr, refl, sym, ap, subst, ◌∙◌, arith}
 use Rattle.pid_moderation.specs.History.{Asked}
 use Rattle.pid_moderation.specs.Judgement.{after_all}
 use Rattle.pid_tables.specs.Files.{asks}
 use Rattle.std.specs.List.{AllByRecursion}
 use Rattle.pid_service.specs.Running.{ObeysInTurn, ReplyIsNotFailed}
 use Rattle.pid_service.proofs.Lasting.{all_more, on_after, some_fault}
-use Rattle.pid_service.proofs.Runs.{ends_at, forgets_at, forgets_more, next_is, none_of, none_then, obeyed_more, one_more, so_many, turn_ends, turn_more, turn_stops}
+use Rattle.pid_service.proofs.Runs.{ends_at, forgets_all, forgets_at, forgets_more, next_is, no_room, none_next, none_of, none_then, obeyed_more, one_more, runs_all, so_many, some_not, turn_ends, turn_more, turn_none, turn_stops}
 use Rattle.pid_service.proofs.registry.Registry.run_into.Goals as goal
 
 pub returns-then-is_some-clause-ran : goal.returns-then-is_some-clause-ran
@@ -20,6 +20,46 @@ returns-then-is_some-clause-ran g c clean h shows =
     (λ so. c.obey_lent-outcome.ensures.does.obeyed clean (after_all h (take i all)) so)
     c.fault_of-fault.ensures.told
     (sym c.is_some.ensures ∙ c.if-is_some.true)
+
+pub returns-then-is_some-clause-clean : goal.returns-then-is_some-clause-clean
+returns-then-is_some-clause-clean g c clean = c.loop-command.invariant.3 (c.obey_lent-outcome.ensures.does.clean clean)
+
+pub returns-then-is_some-clause-fault : goal.returns-then-is_some-clause-fault
+returns-then-is_some-clause-fault g c = c.fault_of-fault.ensures.fault
+
+pub returns-then-is_some-clause-counts : goal.returns-then-is_some-clause-counts
+returns-then-is_some-clause-counts g c = record {
+  complete = λ none. absurd (some_not c.fault_of-fault.result (sym c.is_some.ensures ∙ c.if-is_some.true) none);
+  cut = λ some. omega (arith, c.loop-command.invariant.1, c.loop-command-test.true);
+}
+
+pub returns-then-is_some-clause-alive : goal.returns-then-is_some-clause-alive
+returns-then-is_some-clause-alive g c = c.loop-command.invariant.6
+
+pub returns-then-is_some-clause-limit : goal.returns-then-is_some-clause-limit
+returns-then-is_some-clause-limit g c = c.obey_lent-outcome.ensures.does.lasts.limit ∙ c.loop-command.invariant.8
+
+-- there is room for each reply
+
+pub returns-then-is_err : goal.returns-then-is_err
+returns-then-is_err g c =
+    let bad : is_ok c.push.result ≡ false = c.is_err.ensures.negation ∙ ap not c.if-is_err.true in
+    let full : vec_capacity c.loop-command.replies ≤ vec_len c.loop-command.replies = no_room c.push.result _ bad c.push.ensures.full in
+    absurd (omega (arith, full, c.loop-command.invariant.0, c.loop-command.invariant.2, c.loop-command-test.true))
+
+pub loop-command-init : goal.loop-command-init
+loop-command-init g c = (
+  c.requires.len,
+  ap length c.requires.none,
+  c.requires.room,
+  λ clean. clean,
+  λ clean h shows. (c.requires.none, shows),
+  λ on. on,
+  λ on. subst (AllByRecursion ReplyIsNotFailed) (sym c.requires.none) tt,
+  λ clean h shows. inr tt,
+  refl,
+  turn_none g.S.Store _ _ c.requires.none,
+)
 
 pub loop-command-preserved : goal.loop-command-preserved
 loop-command-preserved g c =
@@ -72,6 +112,39 @@ returns-then-is_some-clause-in_turn g c =
     turn_stops g.S.Store _ c.args.commands.now c.loop-command.command-index c.args.self.now c.loop-command.self c.obey_lent-outcome.new.self c.command-item.result c.obey_lent-outcome.result
     (omega (arith, c.loop-command-test.true)) (sym c.command-item.is) c.loop-command.invariant.1 c.loop-command.invariant.9 c.obey_lent-outcome.ensures.does
     c.fault_of-fault.ensures.told (sym c.is_some.ensures ∙ c.if-is_some.true)
+
+-- all were obeyed
+
+pub returns-clause-clean : goal.returns-clause-clean
+returns-clause-clean g c = c.loop-command.invariant.3
+
+pub returns-clause-fault : goal.returns-clause-fault
+returns-clause-fault g c = tt
+
+pub returns-clause-counts : goal.returns-clause-counts
+returns-clause-counts g c = record {
+  complete = λ none. omega arith;
+  cut = λ some. absurd (let no : ⊥ = cc in no);
+}
+
+pub returns-clause-ran : goal.returns-clause-ran
+returns-clause-ran g c clean h shows =
+    runs_all g.S.Store _ c.loop-command.self h c.loop-command.command-index (map asks c.args.commands.now) (none_next asks c.args.commands.now c.loop-command.command-index c.loop-command-test.false) c.loop-command.invariant.1 refl
+    (c.loop-command.invariant.4 clean h shows)
+
+pub returns-clause-forgets : goal.returns-clause-forgets
+returns-clause-forgets g c clean h shows =
+    forgets_all g.S.Store _ c.loop-command.self h c.loop-command.command-index (map asks c.args.commands.now) (none_next asks c.args.commands.now c.loop-command.command-index c.loop-command-test.false) c.loop-command.invariant.1
+    (c.loop-command.invariant.7 clean h shows)
+
+pub returns-clause-held : goal.returns-clause-held
+returns-clause-held g c on = inl (c.loop-command.invariant.5 on)
+
+pub returns-clause-alive : goal.returns-clause-alive
+returns-clause-alive g c = c.loop-command.invariant.6
+
+pub returns-clause-limit : goal.returns-clause-limit
+returns-clause-limit g c = c.loop-command.invariant.8
 
 pub returns-clause-in_turn : goal.returns-clause-in_turn
 returns-clause-in_turn g c = turn_ends g.S.Store _ c.args.commands.now c.loop-command.command-index c.args.self.now c.loop-command.self c.loop-command.invariant.1 c.loop-command.invariant.9 refl

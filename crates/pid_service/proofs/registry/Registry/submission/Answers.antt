@@ -1,17 +1,53 @@
-use Rattle.std.proofs.Common.{inr, rules}
+use Rattle.std.proofs.Common.{inl, inr, refl, rules}
+use Rattle.sqlite.specs.Held.{state}
+use Rattle.pid_tables_check.proofs.Asking.{nothing_read}
 use Rattle.pid_moderation.specs.Views.{views_of}
 use Rattle.pid_service.proofs.Causes.{caused_by}
-use Rattle.pid_service.proofs.Keeping.{left_same}
+use Rattle.pid_service.proofs.Keeping.{left_same, true_not}
+use Rattle.pid_service.proofs.Obeyed.{only_read}
 use Rattle.pid_service.proofs.registry.Registry.submission.Goals as goal
+
+pub returns-then-not-self-clause-answers : goal.returns-then-not-self-clause-answers
+returns-then-not-self-clause-answers g c = record {
+  failed = λ still. (refl, refl);
+  fault = inr (record { alive = λ on. true_not c.args.self.now.live on c.if-not-self.true; failed = λ still. refl });
+  lives = refl;
+  rests = nothing_read (state g.S.Store c.args.self.now.tables.conn) c.args.self.now.settled;
+  leaves = left_same _;
+  told = λ clean h shows. true_not c.args.self.now.live shows.lives c.if-not-self.true;
+  caused = λ clean h shows. true_not c.args.self.now.live shows.lives c.if-not-self.true;
+}
+
+pub returns-in-Ok-Some-clause-answers : goal.returns-in-Ok-Some-clause-answers
+returns-in-Ok-Some-clause-answers g c = record {
+  failed = true_not c.args.self.now.live c.if-not-self.false;
+  fault = tt;
+  lives = refl;
+  rests = c.submission.ensures.rests;
+  leaves = left_same _;
+  told = λ clean h shows. (search rules, only_read g.S.Store c.args.self.now _ h refl c.submission.ensures.rests refl shows);
+  caused = λ clean h shows. tt;
+}
+
+pub returns-in-Ok-None-clause-answers : goal.returns-in-Ok-None-clause-answers
+returns-in-Ok-None-clause-answers g c = record {
+  failed = true_not c.args.self.now.live c.if-not-self.false;
+  fault = inl refl;
+  lives = refl;
+  rests = c.submission.ensures.rests;
+  leaves = left_same _;
+  told = λ clean h shows. (inl (refl, search rules), only_read g.S.Store c.args.self.now _ h refl c.submission.ensures.rests refl shows);
+  caused = λ clean h shows. inl refl;
+}
 
 pub returns-in-Err-clause-answers : goal.returns-in-Err-clause-answers
 returns-in-Err-clause-answers g c = record {
-  failed = search rules;
-  fault = search rules;
-  lives = search rules;
-  rests = search rules;
+  failed = true_not c.args.self.now.live c.if-not-self.false;
+  fault = inr (record { alive = λ on. c.refusal_of.ensures.fault; failed = true_not c.args.self.now.live c.if-not-self.false });
+  lives = refl;
+  rests = c.submission.ensures.rests;
   leaves = left_same _;
-  told = search rules;
+  told = λ clean h shows. (inr c.refusal_of.ensures.fault, only_read g.S.Store c.args.self.now _ h refl c.submission.ensures.rests refl shows);
   caused = λ clean h shows.
       inr (caused_by g.S.Store c.args.self.now.tables.conn c.submission.new.self.conn c.in-Err.fault c.refusal_of.result c.refusal_of.ensures.same (c.in-Err.ensures.told clean (views_of h) shows.tables (c.reached_histories_are_kept.ensures.readable h shows.history)));
 }

@@ -1,8 +1,10 @@
-use Rattle.std.proofs.Common.{◌≡◌, true, refl, rules}
-use Rattle.pid_service.proofs.Questions.{answers_read}
+use Rattle.std.proofs.Common.{refl}
+use Rattle.pid_service.proofs.Questions.{answers_read, failed_here}
 use Rattle.pid_service.proofs.registry.Registry.submissions.Goals as goal
+
+pub returns-then-not-self-clause-answers : goal.returns-then-not-self-clause-answers
+returns-then-not-self-clause-answers g c = failed_here g.S.Store c.args.self.now _ c.if-not-self.true c.args.self.now.settled
 
 pub returns-clause-answers : goal.returns-clause-answers
 returns-clause-answers g c =
-    let on : c.args.self.now.live ≡ true = search rules in
-    answers_read g.S.Store c.args.self.now _ c.submissions_page.result c.or_refusal.result _ _ on refl refl c.submissions_page.ensures c.or_refusal.ensures c.reached_histories_are_kept.ensures.readable (λ h page shows clean told. told)
+    answers_read g.S.Store c.args.self.now _ c.submissions_page.result c.or_refusal.result _ _ c.if-not-self.false refl refl c.submissions_page.ensures c.or_refusal.ensures c.reached_histories_are_kept.ensures.readable (λ h page shows clean told. told)
