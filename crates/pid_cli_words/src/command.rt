@@ -103,7 +103,11 @@ pub(crate) fn with_subcommands<'a>(
 {
     let mut command = command;
     for subcommand in subcommands {
-        command = command.subcommand(command_of(alloc, subcommand)?)?;
+        let Ok(below) = command_of(alloc, subcommand) else {
+            drop(command);
+            return Err(AllocError);
+        };
+        command = command.subcommand(below)?;
     }
     Ok(command)
 }

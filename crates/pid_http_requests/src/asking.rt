@@ -21,7 +21,7 @@ ghost use Rattle.pid_http_requests.specs.Questions.{
 };
 
 use crate::format::Format;
-use crate::lookup::query_of;
+use crate::lookup::LookupQuery;
 use crate::query::{
     above_named, account_named, after_named, author_named, format_beside, format_beside_three,
     format_beside_two, format_of, since_named, sought_named, start_named,
@@ -32,6 +32,7 @@ use http::Method;
 use pid_form::{text_at, value};
 use pid_http_stream::Wanted;
 use pid_ident::{Path, PathText};
+use pid_lookup::args_of;
 use pid_moderation::{Verb, submission_number};
 use std::alloc::{AllocError, Global};
 
@@ -70,7 +71,10 @@ fn children_of(fields: &[(String, String)]) -> Option<Question>
 fn lookup_of(fields: &[(String, String)]) -> Option<Question>
     ensures { result ≡ option_map Question.Lookup (lookup_asked (texts_of fields.now)) }
 {
-    Some(Question::Lookup(query_of(fields)?))
+    match args_of(fields) {
+        Ok((flags, args, size)) => Some(Question::Lookup(LookupQuery { flags, args, size })),
+        Err(_) => None,
+    }
 }
 
 fn submission_of(path: &str, fields: &[(String, String)]) -> Option<Question>

@@ -5,13 +5,13 @@ ghost use Rattle.pid_http_requests.specs.Methods.{method_in};
 use http::Method;
 
 // The method with this name, in its own case, if a route may take it. No method is made of what
-// a client sent: the name of a constant is compared.
+// a client sent.
 pub(crate) fn method_named(name: &[u8]) -> Option<Method>
     ensures { result ≡ method_in name.now }
 {
-    if name == Method::GET.as_str().as_bytes() {
+    if name == b"GET".as_slice() {
         Some(Method::GET)
-    } else if name == Method::POST.as_str().as_bytes() {
+    } else if name == b"POST".as_slice() {
         Some(Method::POST)
     } else {
         None

@@ -5,7 +5,7 @@ use Rattle.clap.specs.Words.{App, found_of, is_simple, rows_of, subcommand_of, t
 use Rattle.clap.specs.declared.parser.matches.ArgMatches.TheViews.{out-ArgMatches, out-SubCommand}
 use Rattle.pid_cli_words.specs.Commands.{commands}
 use Rattle.pid_cli_words.specs.Jobs.{are_taken, faults_of, task_given}
-use Rattle.pid_cli_words.proofs.Values.{pairs}
+use Rattle.pid_cli_words.proofs.Values.{no_pair, pairs}
 use Rattle.pid_cli_words.proofs.Wording.{fault_of_words}
 use Rattle.pid_cli_words.proofs.words.job_of.Goals as goal
 
@@ -41,3 +41,9 @@ returns-in-Some-clause-job c =
     c.in-Some.name.now (rows_of (found_of c.in-Some.given.now)) said.name said.rows in
     let meant = (c.in_ok-matches.ensures.matches (ap is_simple c.in_ok-commands.ensures ∙ all_simple)).1 in
     c.job_named.ensures ∙ ap task_given (sym found ∙ meant ∙ ap (λ (a : App). subcommand_of a (map string_bytes c.args.words.now)) c.in_ok-commands.ensures)
+
+pub returns-clause-job : goal.returns-clause-job
+returns-clause-job c =
+    let none = no_pair (λ b. (out-SubCommand (box_value b)).name.now) (λ b. rows_of (found_of (out-SubCommand (box_value b)).matches)) (out-ArgMatches c.in_ok-matches.matches).subcommand c.in-None.ensures.name in
+    let meant = (c.in_ok-matches.ensures.matches (ap is_simple c.in_ok-commands.ensures ∙ all_simple)).1 in
+    ap task_given (sym none ∙ meant ∙ ap (λ (a : App). subcommand_of a (map string_bytes c.args.words.now)) c.in_ok-commands.ensures)
