@@ -1,5 +1,5 @@
 -- Ends of jobs, by what they came to.
-use Rattle.std.specs.Prelude.{◌≡◌, ◌⊎◌, Result, IsSome}
+use Rattle.std.specs.Prelude.{◌≡◌, ◌⊎◌, ℕ, Result, IsSome}
 use Rattle.std.proofs.Common.{Ok, Err, refl, sym, ap, inl, inr, subst, ◌∙◌}
 use Rattle.pid_file.specs.TextEnds.{status_of}
 use Rattle.pid_file.specs.declared.text_end.TextEnd.{TextEnd}
@@ -34,6 +34,10 @@ unread_told texts.TooLarge read write = refl
 unread_told texts.Memory read write = refl
 unread_told texts.ReadFault read write = absurd (read refl)
 unread_told texts.WriteFault read write = absurd (write refl)
+
+-- a file that failed is no status
+pub not_told : (status : ℕ) → FileFailed ≡ Told status → ⊥
+not_told status same = let no : ⊥ = cc same in no
 
 -- nothing is printed of an end without a reply
 pub not_printed : (done : JobEnd) (w : WriterUse) → w.after ≡ w.before

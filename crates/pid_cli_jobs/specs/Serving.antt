@@ -1,6 +1,7 @@
 -- What serving a registry prints, and how it ends by that. Choices of this project.
-use Rattle.std.specs.Prelude.{◌≡◌, ℕ, Bool, true, false, List, codes, Option}
+use Rattle.std.specs.Prelude.{◌≡◌, ℕ, Bool, true, false, List, codes, Option, ⊤}
 use Rattle.std.specs.Io.KnownBytes.{Appends}
+use Rattle.sqlite_trees.specs.declared.store.Store.{Ghosts}
 use Rattle.pid_file.specs.declared.io.Output as outputs
 use Rattle.pid_file.specs.Writing.{FailsWithin, TriesLine, use_of}
 use Rattle.pid_http_listener.specs.declared.serving.Serving.{Serving}
@@ -8,6 +9,12 @@ use Rattle.pid_http_listener.specs.declared.serving.ServingEnd.{ServingEnd}
 use Rattle.pid_http_listener.specs.declared.serving.ServingEnd.TheVariants.{All, NotLive}
 use Rattle.pid_http_listener.specs.declared.serving.ServingEnd.TheVariants.{AcceptFault}
 use Rattle.pid_http_listener.specs.Servings.{CountsStreams, IsLiveAt}
+use Rattle.pid_http_listener.specs.Streams.{Exchange}
+use Rattle.pid_http.specs.Serving.{serving}
+use Rattle.pid_http.specs.Streams.{OverStream}
+use Rattle.pid_http_stream.specs.Causes.{EndsFor}
+use Rattle.pid_http_stream.specs.Serving.{IsServed, outside}
+use Rattle.pid_service.specs.declared.registry.Registry.{Registry}
 use Rattle.pid_cli_jobs.specs.declared.job_end.JobEnd.{JobEnd}
 use Rattle.pid_cli_jobs.specs.declared.job_end.JobEnd.TheVariants.{Told, FileFailed}
 use Rattle.pid_cli_jobs.specs.declared.serving.Port.{Port}
@@ -51,6 +58,24 @@ pub record HasServed (port : Port) (live : Bool) (w : Streams) (end : JobEnd) : 
   pub listens : Appends w.output.before between (listening_line port.number)
   pub streams : ReportsStreams port.connections live
       (record w { output = record w.output { before = between } }) end
+
+-- A stream was answered over a registry, before it and after it: what `served` and `ended` of
+-- `serve_stream` of `pid_http` say, of the reader and the writer of this exchange. So if the bytes
+-- of the stream are known, such calls led on as its requests make.
+pub record AnswersStream {S : Type 0} (store : Ghosts S) (old new : Registry S store)
+    (x : Exchange) : Type 0 where
+  pub served : OverStream store old new x.input.to_come (λ t u stream. IsServed (serving store)
+      (outside t u x.output.before x.output.after)
+      stream x.input.left x.served.end x.served.answered)
+  pub ended : EndsFor x.served.end (record {
+    fault_before = x.input.fault_before;
+    read_fault = x.input.fault;
+    write_fault = x.output.fault;
+    stuck = ⊤;
+    turns = x.turns;
+    reads = x.input.reads;
+    reads_after = x.input.reads_after;
+  })
 
 module _ {R W : Type 0} (writer : outputs.Ghosts W) where
   -- Serving on a port, after which the registry is live or not.

@@ -56,24 +56,21 @@ pub fn run_words<S: Start, I: Read + Drop, O: Write + Drop, F: Write + Drop>(
         Ok(job) => job,
         Err(fault) => return tell_no_job(&fault, words, output, faults),
     };
-    match job {
-        Job::Tidy => run_tidy(rt.alloc(), input, output, faults).0,
-        Job::Check => run_check(rt.alloc(), input, output, faults).0,
-        Job::Export { db } => run_export(rt, start, db, output, faults),
-        Job::Lookup(words) => run_plain(rt, start, PlainJob::Lookup(words), input, output, faults),
-        Job::Script { db } => run_plain(rt, start, PlainJob::Script(db), input, output, faults),
+    let job = match job {
+        Job::Tidy => return run_tidy(rt.alloc(), input, output, faults).0,
+        Job::Check => return run_check(rt.alloc(), input, output, faults).0,
+        Job::Export { db } => return run_export(rt, start, db, output, faults),
+        Job::Lookup(words) => PlainJob::Lookup(words),
+        Job::Script { db } => PlainJob::Script(db),
         Job::Import {
             db,
             account,
             key,
             ids,
-        } => {
-            let job = PlainJob::Import {
-                files: (db, ids),
-                sender: (account, key),
-            };
-            run_plain(rt, start, job, input, output, faults)
-        }
+        } => PlainJob::Import {
+            files: (db, ids),
+            sender: (account, key),
+        },
         Job::Serve {
             db,
             port,
@@ -83,10 +80,11 @@ pub fn run_words<S: Start, I: Read + Drop, O: Write + Drop, F: Write + Drop>(
                 number: port,
                 connections,
             };
-            run_plain(rt, start, PlainJob::Serve(db, port), input, output, faults)
+            PlainJob::Serve(db, port)
         }
-        Job::Migrate { db } => run_plain(rt, start, PlainJob::Migrate(db), input, output, faults),
-    }
+        Job::Migrate { db } => PlainJob::Migrate(db),
+    };
+    run_plain(rt, start, job, input, output, faults)
 }
 
 /// A job whose output is not buffered. `files` are the registry file and the pci.ids file; `sender`
@@ -212,16 +210,26 @@ fn run_export<S: Start, O: Write + Drop, F: Write + Drop>(
     let mut progress = Progress::new(rt, "exporting", is_told);
     let mut faults = Plain::new(faults);
     let output = Watched::new(Counted::new(output, &mut progress));
-    let (end, is_unread) = match BufWriter::with_capacity(rt.alloc(), BUFFER, output) {
-        Ok(buffer) => {
-            let mut machine = Host(rt);
-            let (end, output) = export_through(&mut machine, start, db, buffer, &mut faults);
-            (end, output.is_unread())
-        }
-        Err(_) => (JobEnd::Told(tell_end(TextEnd::Memory, &mut faults)), false),
-    };
+    let (end, is_unread) = export_watched(&mut Host(rt), start, db, output, &mut faults);
     progress.clear();
     report_end(end, is_unread, &mut faults)
+}
+
+// Exports through a buffer, and says whether the reader of the output has gone away.
+fn export_watched<M: Machine, S: Start, O: Write + Drop, F: Output>(
+    machine: &mut M,
+    start: S,
+    db: &str,
+    output: Watched<O>,
+    faults: &mut F,
+) -> (JobEnd, bool) {
+    match BufWriter::with_capacity(machine.alloc(), BUFFER, output) {
+        Ok(buffer) => {
+            let (end, output) = export_through(machine, start, db, buffer, faults);
+            (end, output.is_unread())
+        }
+        Err(_) => (JobEnd::Told(tell_end(TextEnd::Memory, faults)), false),
+    }
 }
 
 /// Prints the registry of a file through a buffer, and hands back the writer that this is over: if

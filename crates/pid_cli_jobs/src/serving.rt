@@ -3,7 +3,7 @@ ghost use Rattle.std.specs.Prelude.{◌≡◌};
 ghost use Rattle.pid_file.specs.Writing.{TriesLine, use_of};
 ghost use Rattle.pid_http.specs.Known.{LivesOn};
 ghost use Rattle.pid_service.specs.Registries.{is_live};
-ghost use Rattle.pid_cli_jobs.specs.Serving.{ReportsServing, ReportsStreams, Serves, socket_line};
+ghost use Rattle.pid_cli_jobs.specs.Serving.{ReportsServing, Serves, socket_line};
 ghost use Rattle.pid_cli_jobs.specs.Sessions.{IsPartOfSession};
 ghost use Rattle.pid_cli_jobs.specs.Steps.Serving.{GivesStreams};
 ghost use Rattle.pid_cli_jobs.specs.Wrote.{job_wrote};
@@ -28,7 +28,8 @@ pub struct Port {
     pub connections: u32,
 }
 
-// A registry that answers the requests of one stream after the other.
+// A registry that answers the requests of one stream after the other, and does nothing else: it is
+// handed to functions that are generic over their server.
 #[derive(Drop)]
 struct Server<'r, 't, S: Alter + Drop> {
     alloc: Global,
@@ -42,11 +43,14 @@ impl<S: Alter + Drop> StreamServer for Server<'_, '_, S> {
     ghost use Rattle.pid_http.specs.Steps.Going.{lives_further, lives_still};
     ghost use Rattle.pid_http.specs.Steps.Handling.{same_on};
     ghost use Rattle.pid_service.specs.Registries.{is_live};
+    ghost use Rattle.pid_cli_jobs.specs.Serving.{AnswersStream};
 
     ghost live = { λ server. is_live server.registry.now };
 
     ghost goes = { λ a b. (b.registry.ghost_name ≡ a.registry.ghost_name)
         × LivesOn S.Store a.registry.now b.registry.now };
+
+    ghost answers = { λ a b x. AnswersStream S.Store a.registry.now b.registry.now x };
 
     ghost stays = { λ a. (refl, lives_still a.registry.now) };
 
@@ -88,48 +92,31 @@ fn report<O: Output, F: Output>(serving: Serving, output: &mut O, faults: &mut F
     }
 }
 
-// Gives the streams of so many connections to a server, one after the other, and reports how many
-// it was given. It knows nothing of the server, so it can't give it none and count some.
+// Prints where it listens, gives the streams of so many connections to a server, one after the
+// other, and reports how many it was given. It knows nothing of the server, so it can't give it
+// none and count some, nor do anything with it but that.
 fn give_streams<S: StreamServer, O: Output, F: Output>(
     alloc: Global,
     listener: &TcpListener,
     server: &mut S,
-    connections: u32,
+    port: Port,
     output: &mut O,
     faults: &mut F,
 ) -> JobEnd
     ensures goes { S.goes server.old server.new }
-    ensures gives { GivesStreams S.StreamServer server.old server.new connections (record {
+    ensures gives { GivesStreams S.StreamServer (server.old, server.new) port (record {
       output = use_of O.Output output.old output.new;
       faults = use_of F.Output faults.old faults.new;
     }) result }
 {
-    let serving = serve_on(alloc, listener, server, connections);
-    report(serving, output, faults)
-}
-
-// Serves a registry to so many connections of a listener.
-fn serve_listener<S: Alter + Drop, O: Output, F: Output>(
-    alloc: Global,
-    registry: &mut Registry<S>,
-    listener: (&TcpListener, u32),
-    routes: &Routes,
-    output: &mut O,
-    faults: &mut F,
-) -> JobEnd
-    ensures lives { LivesOn S.Store registry.old registry.new }
-    ensures streams { ReportsStreams listener.entry.1 (is_live registry.new) (record {
-      output = use_of O.Output output.old output.new;
-      faults = use_of F.Output faults.old faults.new;
-    }) result }
-{
-    let (listener, connections) = listener;
-    let mut server = Server {
-        alloc,
-        registry,
-        routes,
-    };
-    give_streams(alloc, listener, &mut server, connections, output, faults)
+    let number = u64::from(port.number);
+    match write_count("listening on 127.0.0.1:", number, output) {
+        Ok(()) => {
+            let serving = serve_on(alloc, listener, server, port.connections);
+            report(serving, output, faults)
+        }
+        Err(_) => JobEnd::FileFailed,
+    }
 }
 
 /// Listens on a port of this machine and serves a registry to so many connections, one at a time.
@@ -156,12 +143,10 @@ pub fn serve_registry<M: Machine, S: Alter + Drop, O: Output, F: Output>(
     let Ok(routes) = Routes::new(alloc) else {
         return JobEnd::Told(tell_end(TextEnd::Memory, faults));
     };
-    let number = u64::from(port.number);
-    match write_count("listening on 127.0.0.1:", number, output) {
-        Ok(()) => {
-            let listener = (&listener, port.connections);
-            serve_listener(alloc, registry, listener, &routes, output, faults)
-        }
-        Err(_) => JobEnd::FileFailed,
-    }
+    let mut server = Server {
+        alloc,
+        registry,
+        routes: &routes,
+    };
+    give_streams(alloc, &listener, &mut server, port, output, faults)
 }

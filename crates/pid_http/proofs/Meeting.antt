@@ -19,7 +19,6 @@ use Rattle.pid_service.specs.declared.registry.Registry.{Registry}
 use Rattle.pid_http_stream.specs.Leading.{Leads}
 use Rattle.pid_http_stream.specs.Replies.{Answer}
 use Rattle.pid_http_stream.specs.declared.handler.Reply.{Reply}
-use Rattle.pid_http_stream.specs.declared.head.Head.{Head}
 use Rattle.pid_http_stream.specs.declared.handler.ReplyBody.{ReplyBody}
 use Rattle.pid_http_stream.specs.declared.handler.ReplyBody.TheVariants.{Bytes, Written}
 use Rattle.pid_http_stream.specs.declared.reply_head.ReplyHead.{ReplyHead}
@@ -31,7 +30,7 @@ use Rattle.pid_http.specs.Answering.{answer_over, history_behind, IsErrandRefuse
 use Rattle.pid_http.specs.Errands.{Errand, Answered, Denied, Obeys, command_sent, command_errand, import_errand}
 use Rattle.pid_http.specs.Known.{Known, Live, Between, Down, IsKnownOf, LivesOn, IsToldOf, ByCalls}
 use Rattle.pid_http.specs.Steps.Going.{Goes, calls_join}
-use Rattle.pid_http.specs.Steps.Replying.{IsCommandMet, IsBodyMet, IsMetBy, Replies, RepliesTo, answer_or}
+use Rattle.pid_http.specs.Steps.Replying.{IsCommandMet, IsBodyMet, IsMetBy, answer_or}
 use Rattle.pid_http.specs.Serving.{IsErrandMet, IsMetOver, AnsweredOver, NotAsked, NotDone, InDoubt, AreCallsOver, AreUndone}
 
 -- what only asks: its answer by what is found
@@ -58,6 +57,10 @@ body_met k now errand head (Written told) given calls e m = absurd e
 is_met_by : {E : Type 0} (k now : Known) (errand : Errand) (result : Result Reply E) (given : Answer) (calls : List Call) → IfOk result (λ reply. IsReplyOf reply given) → IsErrandMet k errand given calls now → IsMetBy k errand result calls now
 is_met_by k now errand (Ok reply) given calls is m = body_met k now errand reply.head reply.body given calls is m
 is_met_by k now errand (Err e) given calls is m = (given, m)
+
+-- what was found is no refusal
+pub found_is_none : {X P : Type 0} (x : X) (e : Refusal) → Ok x ≡ Err e → P
+found_is_none x e is = cc
 
 -- an answer for which the registry is not asked
 pub answered : (given : Answer) (k : Known) → IsErrandMet k (Answered given) given [] k
@@ -205,6 +208,11 @@ module _ {S : Type 0} (store : Ghosts S) where
     served = record { good = a.rests.clean; leads = λ good k known. met old new result Says format found errand (nothing_sent ∷ []) (refl, tt) q a good k known };
   }
 
+  -- the same, where what was found came by one of several calls
+  pub question_came : CallsLook → {X : Type 0} (old new : Registry S store) (found given : Result X Refusal) (Says : History → X → Type 0) (format : Format) (is : X → Answer) (errand : Errand) → given ≡ found
+      → IsQuestion format is Says errand → Answers store old new found Says → Goes store old new (λ k calls now. IsErrandMet k errand (answer_or format is given) calls now)
+  question_came look old new found given Says format is errand e q a = question_met look old new given Says format is errand q (subst (λ r. Answers store old new r Says) (sym e) a)
+
   -- a call of its own kind, which sends nothing: what it comes to over a history, and where the registry had failed
   pub from_call : (old new : Registry S store) (errand : Errand) (given : Answer) (lives : LivesOn store old new) → AreNothing lives.calls → (HasCleanDisk store new → HasCleanDisk store old)
       → (HasCleanDisk store new → (h : History) → Shows store old h → (now : Known) × IsKnownOf store new now × IsMetOver h errand given lives.calls now)
@@ -231,9 +239,13 @@ module _ {S : Type 0} (store : Ghosts S) where
       → Goes store old new (λ k calls now. IsMetBy k errand result calls now)
   replied old new errand result given is goes = turned old new (λ k calls now m. is_met_by k now errand result given calls is m) goes
 
-  -- whoever sent it
-  pub whoever : {E : Type 0} (old new : Registry S store) (head : Head) (errand : Errand) (result : Result Reply E) → Replies store old new errand result → RepliesTo store old new head (λ _. errand) result
-  whoever old new head errand result g = turned old new (λ k calls now m request at. m) g
+  -- a text that is no path is refused, and nothing is asked
+  pub no_path : {X E : Type 0} (r : Registry S store) (format : Format) (refusal : Refusal) (result : Result Reply E) (found : Result X Refusal) → found ≡ Err refusal → found ≡ Err refusals.BadPath → IfOk result (λ reply. IsReplyOf reply (outcome_answer format (Err refusal)))
+      → Goes store r r (λ k calls now. IsMetBy k (Answered (outcome_answer format (Err refusals.BadPath))) result calls now)
+  no_path r format refusal result found was e is =
+      let same : refusal ≡ refusals.BadPath = cc in
+      let given = outcome_answer format (Err refusals.BadPath) in
+      replied r r (Answered given) result given (subst (λ x. IfOk result (λ reply. IsReplyOf reply (outcome_answer format (Err x)))) same is) (no_call r (λ k calls now. IsErrandMet k (Answered given) given calls now) (answered given))
 
   -- a question of its own kind that is refused
   pub refused_call : CallsLook → {X : Type 0} (old new : Registry S store) (e : Refusal) (Says : History → X → Type 0) (format : Format) (errand : Errand)

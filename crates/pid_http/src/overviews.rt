@@ -1,12 +1,14 @@
 //! Questions about submissions in general and about the registry, each with its reply.
 ghost use Rattle.std.specs.Prelude.{◌≡◌, option_copied};
 ghost use Rattle.pid_http.specs.Errands as errands;
+ghost use Rattle.pid_http.specs.Errands.{submissions_for};
 ghost use Rattle.pid_http.specs.Steps.Replying.{Replies};
 
 use pid_http_replies::{queue_reply, refusal_reply, status_reply, submissions_reply};
-use pid_http_requests::Format;
+use pid_http_requests::{Format, Sought};
 use pid_http_stream::Reply;
-use pid_ident::{Account, Path};
+use pid_ident::Account;
+use pid_moderation::Refusal;
 use pid_service::Registry;
 use sqlite::Alter;
 use std::alloc::{AllocError, Global};
@@ -27,23 +29,26 @@ pub(crate) fn queue<S: Alter + Drop>(
     }
 }
 
-/// The submissions for a path and of an author, where one is named, below a number.
+/// The submissions for a path and of an author, where one is named, below a number; or a refusal,
+/// if the text was no path.
 pub(crate) fn submissions<S: Alter + Drop>(
     alloc: Global,
     registry: &mut Registry<S>,
-    path: Option<&Path>,
+    sought: Sought,
     author: Option<&Account>,
     before: u32,
     format: Format,
 ) -> Result<Reply, AllocError>
-    ensures { Replies S.Store registry.old registry.new (errands.Submissions (record {
-      path = option_copied path.entry;
-      author = option_copied author.entry;
-      before = before;
-    }) format) result }
+    ensures { Replies S.Store registry.old registry.new
+        (submissions_for format sought (option_copied author.entry) before) result }
 {
     pid_service::laws::clauses_meet_lives::<S>(); // proof only
-    match registry.submissions(path, author, before) {
+    let found = match sought {
+        Sought::Anywhere => registry.submissions(None, author, before),
+        Sought::At(path) => registry.submissions(Some(&path), author, before),
+        Sought::BadPath => Err(Refusal::BadPath),
+    };
+    match found {
         Ok(page) => submissions_reply(alloc, format, &page),
         Err(refusal) => refusal_reply(alloc, format, refusal),
     }

@@ -1,17 +1,17 @@
 //! Questions to the registry, each with its reply.
-ghost use Rattle.std.specs.Prelude.{◌≡◌, Some, option_copied};
+ghost use Rattle.std.specs.Prelude.{◌≡◌, None, Some};
 ghost use Rattle.pid_moderation.specs.Views.{items_of};
 ghost use Rattle.pid_service.specs.Asking.{Answers};
 ghost use Rattle.pid_http.specs.Answering.{children_below as children_shown};
 ghost use Rattle.pid_http.specs.Errands as errands;
-ghost use Rattle.pid_http.specs.Errands.{read_for, submission_for};
+ghost use Rattle.pid_http.specs.Errands.{changes_for, children_for, read_for, submission_for};
 ghost use Rattle.pid_http.specs.Steps.Replying.{Replies, pairs_found};
 
 use pid_http_replies::{
     changes_reply, children_reply, item_reply, lookup_reply, missing_reply, pending_reply,
     rank_reply, refusal_reply, submission_reply,
 };
-use pid_http_requests::{Format, LookupQuery};
+use pid_http_requests::{Above, Format, LookupQuery, Start};
 use pid_http_stream::Reply;
 use pid_ident::{Account, Path};
 use pid_moderation::{Item, Refusal};
@@ -57,34 +57,33 @@ fn children_under<S: Alter + Drop>(
     }
 }
 
-// The items below a path, if one is at that; without a path those at the top.
-fn children_below<S: Alter + Drop>(
-    registry: &mut Registry<S>,
-    above: Option<Path>,
-) -> Result<Option<Vec<Item>>, Refusal>
+// The items at the top.
+fn children_top<S: Alter + Drop>(registry: &mut Registry<S>) -> Result<Option<Vec<Item>>, Refusal>
     ensures { Answers S.Store registry.old registry.new result
-        (λ h found. pairs_found found ≡ children_shown above (items_of h)) }
+        (λ h found. pairs_found found ≡ children_shown None (items_of h)) }
 {
-    match above {
-        Some(path) => children_under(registry, path),
-        None => match registry.children(None) {
-            Ok(items) => Ok(Some(items)),
-            Err(refusal) => Err(refusal),
-        },
+    match registry.children(None) {
+        Ok(items) => Ok(Some(items)),
+        Err(refusal) => Err(refusal),
     }
 }
 
-/// The items below a path, or at the top.
+/// The items below a path, or at the top; or a refusal, if the text was no path.
 pub(crate) fn children<S: Alter + Drop>(
     alloc: Global,
     registry: &mut Registry<S>,
-    above: Option<Path>,
+    above: Above,
     format: Format,
 ) -> Result<Reply, AllocError>
-    ensures { Replies S.Store registry.old registry.new (errands.Children above format) result }
+    ensures { Replies S.Store registry.old registry.new (children_for format above) result }
 {
     pid_service::laws::clauses_meet_lives::<S>(); // proof only
-    match children_below(registry, above) {
+    let found = match above {
+        Above::Top => children_top(registry),
+        Above::Below(path) => children_under(registry, path),
+        Above::BadPath => Err(Refusal::BadPath),
+    };
+    match found {
         Ok(Some(items)) => children_reply(alloc, format, &items),
         Ok(None) => missing_reply(alloc, format),
         Err(refusal) => refusal_reply(alloc, format, refusal),
@@ -139,19 +138,24 @@ pub(crate) fn pending<S: Alter + Drop>(
     }
 }
 
-/// The items that later commands added or renamed, after a path or from the first one on.
+/// The items that later commands added or renamed, after a path or from the first one on; or a
+/// refusal, if the text was no path.
 pub(crate) fn changes<S: Alter + Drop>(
     alloc: Global,
     registry: &mut Registry<S>,
     since: u64,
-    after: Option<&Path>,
+    start: Start,
     format: Format,
 ) -> Result<Reply, AllocError>
-    ensures { Replies S.Store registry.old registry.new
-        (errands.Changes since (option_copied after.entry) format) result }
+    ensures { Replies S.Store registry.old registry.new (changes_for since format start) result }
 {
     pid_service::laws::clauses_meet_lives::<S>(); // proof only
-    match registry.changes(since, after) {
+    let found = match start {
+        Start::First => registry.changes(since, None),
+        Start::Behind(path) => registry.changes(since, Some(&path)),
+        Start::BadPath => Err(Refusal::BadPath),
+    };
+    match found {
         Ok(changes) => changes_reply(alloc, format, &changes),
         Err(refusal) => refusal_reply(alloc, format, refusal),
     }

@@ -1,6 +1,7 @@
 //! What serves the streams of connections.
 ghost use Rattle.std.specs.Prelude.{◌≡◌, ◌+◌, ◌≤◌};
-ghost use Rattle.pid_http_listener.specs.Streams.{IsGivenMore};
+ghost use Rattle.pid_file.specs.Writing.{use_of};
+ghost use Rattle.pid_http_listener.specs.Streams.{IsGivenMore, exchange, use_of_reader};
 
 use pid_http_stream::Served;
 use pid_ident::{Input, Output};
@@ -8,12 +9,18 @@ use pid_ident::{Input, Output};
 /// What serves the streams of connections, one after another.
 pub trait StreamServer {
     ghost use Rattle.std.specs.Prelude.{Bool, ℕ, Option, None};
+    ghost use Rattle.pid_http_listener.specs.Streams.{Exchange};
 
     /// Whether it can go on with another stream.
     ghost live: { Self → Bool };
 
     /// What the serving of streams, however many, may make of it: before it and after.
     ghost goes: { Self → Self → Type 0 };
+
+    /// What serving one stream is: the server before it and after, and what became of the stream's
+    /// reader and writer. It holds of each stream, whatever reader and writer these are; so what it
+    /// says of bytes binds the server at sockets too, of which none are known.
+    ghost answers: { Self → Self → Exchange → Type 0 };
 
     /// How many streams it was given, if it counts them: exact below the greatest count.
     ghost given: { Self → Option ℕ } = { λ _. None };
@@ -24,6 +31,9 @@ pub trait StreamServer {
     /// Serves the stream of one connection, in at most so many reads.
     fn serve<I: Input, O: Output>(&mut self, input: &mut I, output: &mut O, turns: u64) -> Served
         ensures goes { goes self.old self.new }
+        ensures answers { answers self.old self.new
+            (exchange (use_of_reader I.Input input.old input.new)
+            (use_of O.Output output.old output.new) turns result) }
         ensures counted { IsGivenMore 1 (given self.old) (given self.new) }
         ensures reads { I.reads input.new ≤ I.reads input.old + turns };
 

@@ -7,12 +7,13 @@ use Rattle.std.proofs.lemmas.List.{take_all, drop_all, take-append-drop, append-
 use Rattle.httparse.specs.Spans.{IsRequestAt}
 use Rattle.httparse.specs.declared.spans.HeaderSpan.{HeaderSpan}
 use Rattle.httparse.specs.declared.spans.RequestSpans.{RequestSpans}
+use Rattle.pid_file.specs.declared.io.ReadFault.{ReadFault}
 use Rattle.pid_http_stream.specs.Bodies.{padded, BodyState, HasBrokenOff, IsWithinBody, HasReadBody}
 use Rattle.pid_http_stream.specs.BodyLengths.{longest_body}
 use Rattle.pid_http_stream.specs.Conducts.{Conduct, StandsStill}
 use Rattle.pid_http_stream.specs.Endings.{IsShort}
 use Rattle.pid_http_stream.specs.Handling.{MayReply, IsHandled}
-use Rattle.pid_http_stream.specs.Steps.Intakes.{WaitsForRequest, StandsAt}
+use Rattle.pid_http_stream.specs.Steps.Intakes.{AskStops, WaitsForRequest, StandsAt}
 use Rattle.pid_http_stream.specs.MomentLaws.{since_so}
 use Rattle.pid_http_stream.specs.Moments.{AllSince}
 use Rattle.pid_http_stream.specs.Requests.{Request, IsRequest}
@@ -266,30 +267,34 @@ asked_is {H} {E} conduct a b held headers spans w A B r result told whole = by_t
     by_test true e = asked_whole conduct a b held headers spans w A B r result (eqb-true B.wanted 0 e) told
     by_test false e = asked_broken conduct a b held headers spans w A B r result B.fault refl (some_left B.wanted e) told whole
 
-from_broken : {E : Type 0} (t : Bool) (result : Result Reply E) (f : Option BodyFault) (fault : BodyFault) → (if t then whole_so result else broken_so f) ≡ asked.Broken fault → f ≡ Some fault
-from_broken true (Ok reply) f fault e = cc
-from_broken true (Err x) f fault e = cc
-from_broken false result None fault e = cc
-from_broken false result (Some g) fault e = cc
+-- ---- why it stops
 
--- why it broke off
-pub broken_cause : {E : Type 0} (held : List ℕ) (headers : List HeaderSpan) (spans : RequestSpans) (w : ℕ) (A B : BodyState) → Reading held headers spans w A B → (result : Result Reply E) (fault : BodyFault) → asked_so result B.wanted B.fault ≡ asked.Broken fault → HasBrokenOff B fault
-broken_cause held headers spans w A B r result fault e = broken_told held headers spans w A B r fault (from_broken (B.wanted == 0) result B.fault fault e)
+-- the reader failed meanwhile only if that is the fault
+unfailed : (P : Type 0) (f : Option BodyFault) → P ⊎ (f ≡ Some faults.ReadFault) → ¬ (f ≡ Some faults.ReadFault) → P
+unfailed P f (inl p) other = p
+unfailed P f (inr e) other = absurd (other e)
 
-broken_at : {E : Type 0} (result : Result Reply E) (n : ℕ) (f : Option BodyFault) (fault : BodyFault) → 0 < n → f ≡ Some fault → asked_so result n f ≡ asked.Broken fault
-broken_at result n f fault some is = by_test (n == 0) refl
+whole_stops : {E : Type 0} (result : Result Reply E) (before now : Option ReadFault) (left : ℕ) → now ≡ before → AskStops (whole_so result) before now left
+whole_stops (Ok reply) before now left same = same
+whole_stops (Err x) before now left same = same
+
+broken_stops : (before : Option ReadFault) (B : BodyState) (fault : BodyFault) → HasBrokenOff B fault → (B.kept ≡ before) ⊎ (Some fault ≡ Some faults.ReadFault) → AskStops (asked.Broken fault) before B.kept B.turns.left
+broken_stops before B faults.Short off kept = unfailed _ (Some faults.Short) kept (λ e. cc)
+broken_stops before B faults.ReadFault off kept = off.cause
+broken_stops before B faults.TurnsSpent off kept = (off.cause, unfailed _ (Some faults.TurnsSpent) kept (λ e. cc))
+
+pub asked_stops : {E : Type 0} (held : List ℕ) (headers : List HeaderSpan) (spans : RequestSpans) (w : ℕ) (A B : BodyState) → Reading held headers spans w A B → (result : Result Reply E) → AskStops (asked_so result B.wanted B.fault) A.kept B.kept B.turns.left
+asked_stops held headers spans w A B r result = by_test (B.wanted == 0) refl
   where
-    by_test : (t : Bool) → (n == 0) ≡ t → (if t then whole_so result else broken_so f) ≡ asked.Broken fault
-    by_test true e = let none : n ≡ 0 = eqb-true n 0 e in absurd (omega arith)
-    by_test false e = ap broken_so is
+    by_fault : (f : Option BodyFault) → B.fault ≡ f → (B.kept ≡ A.kept) ⊎ (f ≡ Some faults.ReadFault) → AskStops (broken_so f) A.kept B.kept B.turns.left
+    by_fault None e kept = unfailed _ None kept (λ x. cc)
+    by_fault (Some fault) e kept = broken_stops A.kept B fault (broken_told held headers spans w A B r fault e) kept
 
--- a reader that failed meanwhile is why it broke off
-pub failed_so : {E : Type 0} (held : List ℕ) (headers : List HeaderSpan) (spans : RequestSpans) (w : ℕ) (A B : BodyState) → Reading held headers spans w A B → (result : Result Reply E) → (B.kept ≡ A.kept) ⊎ (asked_so result B.wanted B.fault ≡ asked.Broken faults.ReadFault)
-failed_so held headers spans w A B r result = by_case r.read.failed
-  where
-    by_case : (B.kept ≡ A.kept) ⊎ (B.fault ≡ Some faults.ReadFault) → (B.kept ≡ A.kept) ⊎ (asked_so result B.wanted B.fault ≡ asked.Broken faults.ReadFault)
-    by_case (inl e) = inl e
-    by_case (inr e) = inr (broken_at result B.wanted B.fault faults.ReadFault (broken_told held headers spans w A B r faults.ReadFault e).wants e)
+    by_test : (t : Bool) → (B.wanted == 0) ≡ t → AskStops (if t then whole_so result else broken_so B.fault) A.kept B.kept B.turns.left
+    by_test true e = whole_stops result A.kept B.kept B.turns.left (unfailed _ B.fault r.read.failed (λ f.
+        let wants = (broken_told held headers spans w A B r faults.ReadFault f).wants in
+        let none : B.wanted ≡ 0 = eqb-true B.wanted 0 e in absurd (omega arith)))
+    by_test false e = by_fault B.fault refl r.read.failed
 
 still_short : (held : List ℕ) (headers : List HeaderSpan) (spans : RequestSpans) (w : ℕ) (A B : BodyState) (r : Reading held headers spans w A B) (came : List ℕ) → length A.held + length came < A.wanted → length (drop spans.len held ++ came) < w
 still_short held headers spans w A B r came wants =

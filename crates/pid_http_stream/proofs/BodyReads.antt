@@ -138,6 +138,10 @@ gave_held f known kept turns ms u wanted n held behind piece none e l h = record
   moments = since_none (IsWithinBody (record { held = held; wanted = wanted; fault = f; to_come = known; kept = kept; turns = turns; moments = ms; taken = u })) ms;
 }
 
+pub some_of : (n : ℕ) → ¬ (n ≡ 0) → 0 < n
+some_of zero e = absurd (e refl)
+some_of (suc n) e = omega arith
+
 -- a turn was spent
 pub one_turn : (reads left reads_after : ℕ) → 0 < left → reads_after ≡ min (reads + 1) (2 ^ 64 - 1) → SpendsTurns (record { reads = reads; left = left }) (record { reads = reads_after; left = left - 1 })
 one_turn reads left reads_after some count = record { spent = omega arith; exact = λ h. omega arith; fewer = omega arith }

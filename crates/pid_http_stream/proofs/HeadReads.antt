@@ -11,6 +11,7 @@ use Rattle.httparse.specs.Grammar.{HasNoRequest as HasNoRequestHead, MayBecomeRe
 use Rattle.pid_http_stream.specs.Endings.{HasFault, IsNoHead}
 use Rattle.pid_file.specs.declared.io.ReadFault.{ReadFault}
 use Rattle.pid_http_stream.specs.Steps.Intakes.{ComesIn, HeadStops, StopsFor, WaitsForRequest}
+use Rattle.pid_http_stream.specs.declared.intake.Filled.TheVariants as filled
 use Rattle.pid_http_stream.specs.declared.intake.HeadRead.{HeadRead}
 use Rattle.pid_http_stream.specs.declared.intake.Stop.{Stop}
 use Rattle.pid_http_stream.specs.Leftovers.{AreLineEnds}
@@ -64,6 +65,13 @@ begins_whole held may = record { front = held; line = []; is = sym (append-nil h
 
 pub not_line_ends : (b : Bool) (held : List ℕ) → IsTrue b ↔ AreLineEnds held → b ≡ false → ¬ (AreLineEnds held)
 not_line_ends b held both no_end x = iff_false both no_end x
+
+-- only a piece is one
+pub stopped_is_none : {P : Type 0} (stop : Stop) → filled.Stopped stop ≡ filled.Piece → P
+stopped_is_none stop e = cc
+
+pub end_is_none : {P : Type 0} → filled.End ≡ filled.Piece → P
+end_is_none e = cc
 
 -- the reader had not failed before
 pub stops_since : (stop : Stop) (first before now : Option ReadFault) (left : ℕ) → before ≡ first → StopsFor stop before now left → StopsFor stop first now left

@@ -1,5 +1,5 @@
 -- The serving loop as it runs: what was served so far, what came for a head, and then the step or the end.
-use Rattle.std.proofs.Common.{◌≡◌, ℕ, ◌+◌, List, ◌++◌, Option, Some, None, drop, sym, ap, subst, ◌∙◌}
+use Rattle.std.proofs.Common.{◌≡◌, ℕ, ◌+◌, ◌*◌, ◌<◌, ◌≤◌, List, ◌++◌, Option, Some, None, length, length-drop, drop, sym, ap, subst, ◌∙◌, arith}
 use Rattle.std.specs.Prelude.{IfSome}
 use Rattle.std.specs.Io.KnownBytes.{Consumes, IsAtEnd}
 use Rattle.pid_http_stream.specs.Conducts.{Conduct}
@@ -13,6 +13,7 @@ use Rattle.pid_http_stream.specs.Steps.Loop.{count_with, WritesRefusal, Steps, s
 use Rattle.pid_http_stream.specs.Unfinished.{IsUnfinished}
 use Rattle.pid_http_stream.specs.declared.intake.Stop.{Stop}
 use Rattle.pid_http_stream.specs.declared.judging.StreamFault.{StreamFault}
+use Rattle.pid_http_stream.specs.declared.limits.TheConstants.{READ_SIZE}
 use Rattle.pid_http_stream.specs.declared.stream.Answered.TheVariants as answered
 use Rattle.pid_http_stream.specs.declared.stream.StreamEnd.{StreamEnd}
 use Rattle.pid_http_stream.specs.declared.stream.StreamEnd.TheVariants.{Clean, Closed}
@@ -111,3 +112,10 @@ loop_waits_within conduct a b t u input mid read held after lent count xs ys zs 
     (if_some input _ _ (λ s x. comes conduct (record { handler = a; handler_after = b; taken = t; taken_after = u }) s mid read held after count x came) serving)
     (loop_waits conduct a b t u input mid held count xs ys zs serving past now)
     (subst (λ (l : List ℕ). AllSince (WaitsForRequest l read u) zs ws) same then)
+
+-- a request takes some of the bytes held, so that less can follow
+pub less_left : (left read now n more : ℕ) (held after kept : List ℕ) → read * READ_SIZE + length after ≤ left * READ_SIZE + length held → now ≤ read → 0 < n → n ≤ length after → kept ≡ drop (n + more) after
+    → now * READ_SIZE + length kept < left * READ_SIZE + length held
+less_left left read now n more held after kept pace fewer some fits rest =
+    let sized : length kept ≡ length (drop (n + more) after) = ap length rest in
+    omega (arith, pace, fewer, some, fits, sized, length-drop (n + more) after)

@@ -16,8 +16,8 @@ use Rattle.pid_http_stream.specs.Endings.{IsShort}
 use Rattle.pid_http_stream.specs.Handling.{MayReply}
 use Rattle.pid_http_stream.specs.Replies.{reply_head, reply_bytes, fault_answer}
 use Rattle.pid_http_stream.specs.Requests.{Request, IsRequest, fields_of}
-use Rattle.pid_http_stream.specs.Steps.Intakes.{StopsFor}
-use Rattle.pid_http_stream.specs.Steps.Loop.{AsksHandler, IsSent, WritesRefusal, IsStep, EndsSo, EndsWithin, Steps, EndsBroken, answered_so, stop_end}
+use Rattle.pid_http_stream.specs.Steps.Intakes.{AskStops, StopsFor}
+use Rattle.pid_http_stream.specs.Steps.Loop.{AsksHandler, IsSent, SendsText, WritesRefusal, IsStep, EndsSo, EndsWithin, Steps, EndsBroken, answered_so, stop_end}
 use Rattle.pid_http_stream.specs.Streams.{closes}
 use Rattle.pid_http_stream.specs.Bodies.{Turns, SpendsTurns}
 use Rattle.pid_http_stream.specs.declared.one_request.Asked.TheVariants as asked
@@ -118,19 +118,6 @@ broken_step conduct a b input left u v held headers spans told faults.TurnsSpent
 
 -- ---- why the stream ends
 
--- a reply was made, or memory was refused: then the reader has not failed
-pub unfailed_reply : (P : Type 0) (reply : Reply) → P ⊎ (asked.Reply reply ≡ asked.Broken faults.ReadFault) → P
-unfailed_reply P reply (inl p) = p
-unfailed_reply P reply (inr e) = cc
-
-pub unfailed_still : (P : Type 0) → P ⊎ (asked.NoMemory ≡ asked.Broken faults.ReadFault) → P
-unfailed_still P (inl p) = p
-unfailed_still P (inr e) = cc
-
-unfailed_broken : (P : Type 0) (fault : BodyFault) → ¬ (fault ≡ faults.ReadFault) → P ⊎ (asked.Broken fault ≡ asked.Broken faults.ReadFault) → P
-unfailed_broken P fault other (inl p) = p
-unfailed_broken P fault other (inr e) = let same : fault ≡ faults.ReadFault = cc in absurd (other same)
-
 -- where the reply was sent so far
 pub sent_ends : (x : LastState) (s : Sent) (closing : Bool) → x.reads_after ≤ x.reads + x.turns → x.read_fault ≡ x.fault_before → (s ≡ sent.WriteFault → IsSome x.write_fault) → (s ≡ sent.StoreFault → x.write_fault ≡ None) → (s ≡ sent.StoreFault → x.stuck)
     → EndsSo (answered_so s closing) x
@@ -138,6 +125,12 @@ sent_ends x sent.Whole true few same failed good stuck = same
 sent_ends x sent.Whole false few same failed good stuck = same
 sent_ends x sent.WriteFault closing few same failed good stuck = record { within = few; cause = failed refl; failed = inl same }
 sent_ends x sent.StoreFault closing few same failed good stuck = record { within = few; cause = (good refl, stuck refl); failed = inl same }
+
+-- bytes that are there are no body of the handler's own
+pub never_stuck : (s : Sent) (u v : Option (List ℕ)) (bytes : List ℕ) → SendsText s u v bytes → ¬ (s ≡ sent.StoreFault)
+never_stuck sent.Whole u v bytes p e = cc
+never_stuck sent.WriteFault u v bytes p e = cc
+never_stuck sent.StoreFault u v bytes p e = p
 
 -- where a refusal was written
 pub refused_ends : (x : LastState) (fault : StreamFault) (u v : Option (List ℕ)) (end : StreamEnd) → x.reads_after ≤ x.reads + x.turns → x.read_fault ≡ x.fault_before → WritesRefusal fault u v end → (end ≡ ends.WriteFault → IsSome x.write_fault) → EndsFor end x
@@ -152,12 +145,11 @@ refused_ends x fault u v ends.Memory few same r failed = absurd r
 refused_ends x fault u v ends.TurnsSpent few same r failed = absurd r
 
 -- where a body broke off
-pub broken_ends : (x : LastState) (fault : BodyFault) (u v : Option (List ℕ)) (end : StreamEnd) → x.reads_after ≤ x.reads + x.turns → EndsBroken fault u v end → (x.read_fault ≡ x.fault_before) ⊎ (asked.Broken fault ≡ asked.Broken faults.ReadFault)
-    → (asked.Broken fault ≡ asked.Broken faults.ReadFault → IsSome x.read_fault) → (asked.Broken fault ≡ asked.Broken faults.TurnsSpent → HasEndCause ends.TurnsSpent x) → (end ≡ ends.WriteFault → IsSome x.write_fault) → EndsFor end x
-broken_ends x faults.Short u v end few r kept read spent failed = refused_ends x BodyShort u v end few (unfailed_broken _ faults.Short (λ e. cc) kept) r failed
-broken_ends x faults.ReadFault u v end few (e, same) kept read spent failed = subst (λ k. EndsFor k x) (sym e) (record { within = few; cause = read refl; failed = inr refl })
-broken_ends x faults.TurnsSpent u v end few (e, same) kept read spent failed =
-    subst (λ k. EndsFor k x) (sym e) (record { within = few; cause = spent refl; failed = inl (unfailed_broken _ faults.TurnsSpent (λ e. cc) kept) })
+pub broken_ends : (x : LastState) (fault : BodyFault) (left : ℕ) (u v : Option (List ℕ)) (end : StreamEnd) → x.reads_after ≤ x.reads + x.turns → EndsBroken fault u v end → AskStops (asked.Broken fault) x.fault_before x.read_fault left → (left ≡ 0 → HasEndCause ends.TurnsSpent x)
+    → (end ≡ ends.WriteFault → IsSome x.write_fault) → EndsFor end x
+broken_ends x faults.Short left u v end few r why spent failed = refused_ends x BodyShort u v end few why r failed
+broken_ends x faults.ReadFault left u v end few (e, same) why spent failed = subst (λ k. EndsFor k x) (sym e) (record { within = few; cause = why; failed = inr refl })
+broken_ends x faults.TurnsSpent left u v end few (e, same) why spent failed = subst (λ k. EndsFor k x) (sym e) (record { within = few; cause = spent why.0; failed = inl why.1 })
 
 -- where reading stopped
 pub stopped_ends : (x : LastState) (stop : Stop) (left : ℕ) → x.reads_after ≤ x.reads + x.turns → StopsFor stop x.fault_before x.read_fault left → (left ≡ 0 → HasEndCause ends.TurnsSpent x) → EndsFor (stop_end stop) x

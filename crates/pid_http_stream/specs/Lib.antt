@@ -12,8 +12,8 @@ pub mod Statuses
 pub mod RequestRefusals
 pub mod Replies
 pub mod Leading
-pub mod Moments
-pub mod MomentLaws
+pub use Rattle.pid_ident.specs.Moments
+pub use Rattle.pid_ident.specs.MomentLaws
 pub mod Conducts
 pub mod Serving
 pub mod Causes

@@ -1,8 +1,7 @@
 //! The body of a request as a reader of its own.
 ghost use Rattle.std.specs.Prelude.{◌≡◌, ◌≤◌, length};
 
-use crate::incoming::Incoming;
-use pid_ident::{Input, Output, ReadFault};
+use pid_ident::{Incoming, Input, Output, ReadFault};
 
 /// Why a body was not read to its end.
 #[derive(Clone, Copy)]

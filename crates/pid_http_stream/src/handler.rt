@@ -15,7 +15,7 @@ use pid_ident::{Input, Output};
 use thiserror::Error;
 
 /// What a head asks for, as a handler understands it, by how it wants the body after the head.
-#[derive(Clone, Copy)]
+#[derive(Drop)]
 pub enum Wanted<Q, U> {
     /// Whole, in memory.
     Buffered(Q),

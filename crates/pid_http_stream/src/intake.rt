@@ -31,11 +31,10 @@ ghost use Rattle.pid_http_stream.specs.Steps.Intakes.{
 ghost use Rattle.pid_http_stream.specs.Moments.{AllSince, IsMoment};
 ghost use Rattle.pid_http_stream.specs.Unfinished.{HasNoLineEnd, IsHeadUnfinished, IsUnfinished};
 
-use crate::incoming::Incoming;
 use crate::judging::{Judged, StreamFault, are_line_ends, judge, judge_unended};
 use crate::limits::{LONGEST_HEAD, MOST_FIELDS, READ_SIZE};
 use httparse::spans::{HeaderSpan, RequestSpans};
-use pid_ident::Output;
+use pid_ident::{Incoming, Output};
 
 /// Why reading stops.
 #[derive(Clone, Copy)]

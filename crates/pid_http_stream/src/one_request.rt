@@ -4,7 +4,6 @@ ghost use Rattle.std.specs.Prelude.{
   ℕ,
   ◌+◌,
   ◌≤◌,
-  ◌⊎◌,
   List,
   [],
   length,
@@ -14,14 +13,13 @@ ghost use Rattle.std.specs.Prelude.{
   Some,
   IfOk,
   IfSome,
-  IsSome,
 };
 ghost use Rattle.std.specs.Io.KnownBytes.{Consumes, IsAtEnd};
 ghost use Rattle.httparse.specs.Grammar.{RequestHead};
 ghost use Rattle.pid_http_stream.specs.Bodies.{SpendsTurns, turns_at};
 ghost use Rattle.pid_http_stream.specs.BodyLengths.{longest_body};
 ghost use Rattle.pid_http_stream.specs.Handling.{IsHandled};
-ghost use Rattle.pid_http_stream.specs.Steps.Intakes.{WaitsForRequest, StandsAt};
+ghost use Rattle.pid_http_stream.specs.Steps.Intakes.{AskStops, WaitsForRequest, StandsAt};
 ghost use Rattle.pid_http_stream.specs.HeadParts.{IsHeadOf};
 ghost use Rattle.pid_http_stream.specs.Leading.{Leads};
 ghost use Rattle.pid_http_stream.specs.Moments.{AllSince};
@@ -36,9 +34,8 @@ ghost use Rattle.pid_http_stream.specs.Steps.Loop.{
 use crate::body_input::{BodyFault, BodyInput};
 use crate::handler::{Handler, NoReply, Reply, Wanted};
 use crate::head::Head;
-use crate::incoming::Incoming;
 use crate::limits::READ_SIZE;
-use pid_ident::{Input, Output};
+use pid_ident::{Incoming, Input, Output};
 use std::alloc::Global;
 
 /// What came of asking the handler.
@@ -96,31 +93,6 @@ fn read_whole<B: Input>(
     }
 }
 
-// Has a request answered whose body is in memory.
-fn ask_buffered<H: Handler, B: Input>(
-    alloc: Global,
-    handler: &mut H,
-    question: H::Question,
-    head: &Head<'_>,
-    content_length: usize,
-    body: &mut B,
-) -> Result<Reply, NoReply>
-    requires asks { (h : RequestHead) → IsHeadOf head.now h
-        → H.means (Wanted.Buffered question) h }
-    ensures goes { B.goes body.old body.new }
-    ensures whole { IfOk result (λ _. IsAtEnd (B.to_come body.new)) }
-    ensures becomes { H.becomes handler.old handler.new }
-    ensures answered { Leads H.is_good H.stands handler.old handler.new
-        (λ v w. (request : Request) → IsHeadOf head.now request.head
-        → B.to_come body.old ≡ Some request.body → length request.body ≤ longest_body
-        → IsHandled H.conduct v request result (B.to_come body.new) w) }
-{
-    match read_whole(alloc, content_length, body) {
-        Err(end) => Err(end),
-        Ok(bytes) => handler.answer(question, head, &bytes),
-    }
-}
-
 // Has a request answered, its body as the handler wants it.
 fn ask<H: Handler, B: Input>(
     alloc: Global,
@@ -139,14 +111,10 @@ fn ask<H: Handler, B: Input>(
 {
     match handler.question(head) {
         Err(end) => Err(end),
-        Ok(Wanted::Buffered(question)) => ask_buffered(
-            alloc,
-            handler,
-            question,
-            head,
-            content_length,
-            body,
-        ),
+        Ok(Wanted::Buffered(question)) => match read_whole(alloc, content_length, body) {
+            Err(end) => Err(end),
+            Ok(bytes) => handler.answer(question, head, &bytes),
+        },
         Ok(Wanted::Streamed(upload)) => handler.answer_streamed(upload, head, body),
     }
 }
@@ -200,10 +168,8 @@ pub(crate) fn ask_over<H: Handler, I: Incoming<W>, W: Output>(
         (turns_at (I.reads input.new) turns_left.new) }
     ensures waits { AllSince (WaitsForRequest head.now.bytes.now (I.to_come input.old)
         (W.taken output.now)) (I.moments input.old) (I.moments input.new) }
-    ensures fault { result ≡ Asked.Broken BodyFault.ReadFault → IsSome (I.read_fault input.new) }
-    ensures failed { (I.read_fault input.new ≡ I.read_fault input.old)
-        ⊎ (result ≡ Asked.Broken BodyFault.ReadFault) }
-    ensures spent { result ≡ Asked.Broken BodyFault.TurnsSpent → turns_left.new ≡ 0 }
+    ensures stopped { AskStops result (I.read_fault input.old) (I.read_fault input.new)
+        turns_left.new }
     ensures goes { I.goes input.old input.new }
 {
     let mut body = BodyInput {

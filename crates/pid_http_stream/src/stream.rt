@@ -36,7 +36,6 @@ ghost use Rattle.pid_http_stream.specs.Steps.Loop.{
 use crate::body_input::BodyFault;
 use crate::handler::Handler;
 use crate::head::Head;
-use crate::incoming::Incoming;
 use crate::intake::{HeadRead, Stop, read_head};
 use crate::judging::StreamFault;
 use crate::limits::MOST_FIELDS;
@@ -44,7 +43,7 @@ use crate::one_request::{Asked, ask_over};
 use crate::reply::write_fault;
 use crate::sending::{Sent, send};
 use httparse::spans::EMPTY_HEADER_SPAN;
-use pid_ident::Output;
+use pid_ident::{Incoming, Output};
 use std::alloc::Global;
 
 /// How the serving of a stream ended.

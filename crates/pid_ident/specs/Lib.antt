@@ -11,3 +11,5 @@ pub use Rattle.pid_file.specs.InputCalls
 pub use Rattle.pid_file.specs.ReadingLaws
 pub mod Doubles
 pub use Rattle.pid_file.specs.Wrapping
+pub mod Moments
+pub mod MomentLaws

@@ -4,6 +4,7 @@
 
 mod account;
 mod faulty;
+mod incoming;
 mod key;
 pub mod laws;
 mod path_text;
@@ -11,6 +12,7 @@ mod text;
 
 pub use account::{Account, is_account};
 pub use faulty::{FaultyInput, FaultyOutput};
+pub use incoming::Incoming;
 pub use key::{Key, is_key};
 pub use laws::{parents_have_texts, texts_have_one_path};
 pub use path_text::PathText;

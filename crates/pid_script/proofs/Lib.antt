@@ -3,6 +3,7 @@ mod Answered
 mod Asked
 mod Calling
 mod Cases
+mod CatchingUp
 mod Causes
 mod Exported
 mod KeyFields
@@ -12,6 +13,7 @@ mod NoStopLines
 mod NoStops
 mod Obeyed
 mod OtherLines
+mod PathFields
 mod Pieces
 mod ReadLemmas
 mod RegistryWords

@@ -1,17 +1,20 @@
 -- The reads of a script.
 use Rattle.std.proofs.Common.{◌≡◌, ℕ, ◌+◌, ◌*◌, ◌-◌, ◌^◌, ◌<◌, ◌≤◌, min, length, List, [], ◌∷◌, ◌++◌, take, Option, Some, None, Result, Ok, Err, refl, sym, ap, subst, ◌∙◌, append_assoc, arith}
 use Rattle.std.proofs.lemmas.List.{append-nil, length-append, length-take}
-use Rattle.std.specs.Prelude.{IfSome}
+use Rattle.std.specs.Prelude.{IfSome, IsSome}
 use Rattle.std.specs.Io.KnownBytes.{Consumes, Keeps, IsAtEnd}
+use Rattle.pid_file.specs.declared.io.ReadFault.{ReadFault}
+use Rattle.pid_file.specs.declared.io.WriteFault.{WriteFault}
 use Rattle.pid_reader.specs.Lines.{lines_of}
 use Rattle.pid_moderation.specs.History.{History}
 use Rattle.pid_script.specs.declared.line_end.LineEnd.{LineEnd}
 use Rattle.pid_script.specs.declared.line_end.LineEnd.TheVariants as line_ends
 use Rattle.pid_script.specs.declared.moderated.Moderated.{Ghosts}
+use Rattle.pid_script.specs.declared.script_end.ScriptEnd.{ScriptEnd}
 use Rattle.pid_script.specs.declared.script_end.ScriptEnd.TheVariants.{TurnsSpent}
 use Rattle.pid_script.specs.Steps.Progress.{HasAnswered, Ended, EndsText, script_end}
 use Rattle.pid_script.specs.Steps.Output.{Out, out}
-use Rattle.pid_script.specs.Scripts.{passage, IsCutOff, IsScript, BUFFER_ROOM, TakesAtMost}
+use Rattle.pid_script.specs.Scripts.{passage, IsCutOff, IsScript, KeepsFaults, BUFFER_ROOM, TakesAtMost}
 use Rattle.pid_script.specs.RegistryStates.{ShowsOrHasFailed}
 use Rattle.pid_script.proofs.Answered.{answers_out}
 use Rattle.pid_script.proofs.Calling.{send_still, go_still, go_then}
@@ -70,6 +73,17 @@ not_spent (Ok x) e = absurd cc
 not_spent (Err line_ends.Stopped) e = absurd cc
 not_spent (Err line_ends.WriteFault) e = absurd cc
 not_spent (Err line_ends.TooLong) e = absurd cc
+
+-- the faults of an end that is no fault of the reader
+pub ended_by : (r : Result (Unit {0}) LineEnd) (end : ScriptEnd) (read : Option ReadFault) (write : Option WriteFault) → end ≡ script_end r → (r ≡ Err line_ends.WriteFault → IsSome write) → KeepsFaults end read write
+ended_by (Ok x) end read write is kept = (λ e. absurd cc, λ e. absurd cc)
+ended_by (Err line_ends.Stopped) end read write is kept = (λ e. absurd cc, λ e. absurd cc)
+ended_by (Err line_ends.WriteFault) end read write is kept = (λ e. absurd cc, λ e. kept refl)
+ended_by (Err line_ends.TooLong) end read write is kept = (λ e. absurd cc, λ e. absurd cc)
+
+pub some_told : {A : Type 0} (o : Option A) (x : A) → o ≡ Some x → IsSome o
+some_told None x e = cc
+some_told (Some y) x e = refl
 
 pub none_read : {R : Type 0} (m : Ghosts R) (old : R) (taken come : Option (List ℕ)) (reads : ℕ) (held kept : List ℕ) → held ≡ [] → kept ≡ [] → HasRead m old old taken (out taken held) come come kept reads reads 0
 none_read m old taken come reads held kept nothing none = record {

@@ -1,12 +1,13 @@
 -- What a script comes to: the replies to its lines, and how it ends. All are choices of this
 -- project.
 use Rattle.std.specs.Prelude.{◌≡◌, ◌≤◌, ◌<◌, ◌+◌, ◌-◌, ◌*◌, ◌^◌, min, length, ℕ, false}
-use Rattle.std.specs.Prelude.{List, [], ◌∷◌, ◌++◌, Some, IsSome, Option}
+use Rattle.std.specs.Prelude.{List, [], ◌∷◌, ◌++◌, Some, IfSome, IsSome, Option}
 use Rattle.pid_file.specs.declared.io.ReadFault.{ReadFault as InputFault}
 use Rattle.pid_file.specs.declared.io.WriteFault.{WriteFault as OutputFault}
 use Rattle.std.specs.Io.KnownBytes.{Appends, Consumes}
 use Rattle.std.specs.List.{AllByRecursion}
 use Rattle.pid_ident.specs.Sending.{SendsFront}
+use Rattle.pid_ident.specs.Moments.{Moment}
 use Rattle.pid_reader.specs.Lines.{lines_of}
 use Rattle.pid_reader.specs.WholeLines.{whole_lines}
 use Rattle.pid_moderation.specs.History.{History}
@@ -17,9 +18,9 @@ use Rattle.pid_script.specs.declared.script_end.ScriptEnd.TheVariants.{TooLong, 
 use Rattle.pid_script.specs.declared.script_end.ScriptEnd.TheVariants.{TurnsSpent}
 use Rattle.pid_script.specs.ScriptLines as asks
 use Rattle.pid_script.specs.ScriptLines.{ask_of}
-use Rattle.pid_script.specs.Calling.{CallsSend, CallsSendEither}
+use Rattle.pid_script.specs.Calling.{CallsGo, CallsSend, CallsSendEither}
 use Rattle.pid_script.specs.Replies.{replies, command_of, commands_of_lines, history_after, is_call}
-use Rattle.pid_script.specs.RegistryStates.{Becomes, BecomesEither, StopsBehind}
+use Rattle.pid_script.specs.RegistryStates.{Becomes, BecomesEither, OverStanding, StopsBehind}
 use Rattle.pid_script.specs.StopLines.{IsStopInPlace}
 
 -- the room of one read, in bytes
@@ -103,6 +104,12 @@ passage old new taken taken_now = record {
 }
 
 module _ {R : Type 0} (registry : Ghosts R) where
+  -- while the disk returns what was written, this holds of the history that the registry showed, of
+  -- the passage and of the text, if that is known
+  abbrev pub OverText : Passage R → Option (List ℕ) → (History → Passage R → List ℕ → Type 0)
+      → Type 0
+  OverText p known Holds = OverStanding registry p.old p.new (λ h. IfSome known (Holds h p))
+
   -- Each of the lines got its reply, and the registry shows the history after them; one that had
   -- failed was asked nothing. The commands of the lines are those that calls sent.
   pub record AnswersLines (h : History) (p : Passage R) (lines : List (List ℕ)) : Type 0 where
@@ -182,6 +189,15 @@ module _ {R : Type 0} (registry : Ghosts R) where
     pub front : List ℕ
     pub read : Consumes (Some text) rest front
     pub answers : AnswersLines h p (whole_lines front)
+
+  -- The text was read at this moment: the lines that had come whole had got their replies, and the
+  -- writer had taken these and nothing more. Calls lead on from a registry with the history after
+  -- these lines.
+  pub record IsUpToDate (h : History) (p : Passage R) (text : List ℕ)
+      (m : Moment) : Type 0 where
+    pub between : R
+    pub answers : IsCutOff h (passage p.old between p.taken m.taken) text m.to_come
+    pub goes_on : CallsGo registry.showing between p.new
 
   -- a script with this text, of which this rest was not read
   abbrev pub IsScript : ScriptEnd → History → Passage R → List ℕ → Option (List ℕ) → Type 0

@@ -68,7 +68,7 @@ fn read<R: Moderated, O: Output>(
     match read_path(alloc, form) {
         Ok(path) => {
             let name = registry.read(&path);
-            send_name(output, held, name)
+            send_name(output, held, &name)
         }
         Err(refusal) => send_answer(output, held, Err(refusal)),
     }
@@ -93,7 +93,7 @@ fn lookup<R: Moderated, O: Output>(
     match read_lookup(alloc, form) {
         Ok(Some((flags, args, size))) => {
             let found = registry.lookup(flags, &args, size);
-            send_found(output, held, found)
+            send_found(output, held, &found)
         }
         Ok(None) => send_bad_text(output, held),
         Err(_) => Err(stop_for_memory(output, held)),

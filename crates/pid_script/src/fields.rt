@@ -33,7 +33,6 @@ ghost use Rattle.pid_moderation.specs.Fields.{
   value as value_in,
   is_once as once_in,
 };
-ghost use Rattle.pid_ident.specs.PathReading.{path_of};
 ghost use Rattle.pid_script.specs.Asking.{
   command_of_fields,
   command_in_form,
@@ -42,7 +41,7 @@ ghost use Rattle.pid_script.specs.Asking.{
   path_asked,
 };
 
-use pid_form::{fields_of, is_once, value};
+use pid_form::{fields_of, is_once, text_at};
 use pid_ident::{Path, PathText};
 use pid_moderation::{Command, Refusal, Verb, command_of};
 use std::alloc::Global;
@@ -107,19 +106,13 @@ fn is_path_alone(fields: &[(String, String)]) -> bool
     is_once(fields, "path") && fields.len() == 1
 }
 
-fn path_of_text(text: &str) -> Option<Path>
-    ensures { result ≡ path_of text.now }
-{
-    Path::parse(text)
-}
-
 fn path_in(fields: &[(String, String)]) -> Result<Path, Refusal>
     ensures { result ≡ path_said (texts_of fields.now) }
 {
     if !is_path_alone(fields) {
         return Err(Refusal::BadText);
     }
-    match path_of_text(value(fields, "path").unwrap_or("")) {
+    match Path::parse(text_at(fields, "path")) {
         Some(path) => Ok(path),
         None => Err(Refusal::BadPath),
     }

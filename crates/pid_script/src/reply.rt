@@ -26,6 +26,7 @@ ghost use Rattle.pid_script.specs.Steps.Output.{
   out,
   TellsFound,
   TellsLine,
+  TellsName,
   SaysText,
   IsGivenStop,
   IsReplyOrStop,
@@ -33,7 +34,6 @@ ghost use Rattle.pid_script.specs.Steps.Output.{
   refusal_given,
   refusal_of_names,
 };
-ghost use Rattle.pid_script.specs.Replies.{name_line};
 
 use crate::line_end::LineEnd;
 use crate::output::{flush, say, say_all};
@@ -174,20 +174,18 @@ pub fn send_bad_text<O: Output>(output: &mut O, held: &mut Vec<u8>) -> Result<()
 pub fn send_name<O: Output>(
     output: &mut O,
     held: &mut Vec<u8>,
-    name: Result<Option<Name>, Refusal>,
+    name: &Result<Option<Name>, Refusal>,
 ) -> Result<(), LineEnd>
-    ensures told { (good : Option (List ℕ)) → IfOk name (λ name. name ≡ good)
-        → IfErr name (λ e. is_stopping e ≡ true) →
-        TellsLine result (name_line good) (IsGivenStop (refusal_given name))
-        (out (O.taken output.old) held.old.items) (out (O.taken output.new) held.new.items) }
-    ensures goes_on { GoesOnAfter result (refusal_given name) }
+    ensures told { TellsName result name.now (out (O.taken output.old) held.old.items)
+        (out (O.taken output.new) held.new.items) }
+    ensures goes_on { GoesOnAfter result (refusal_given name.now) }
     ensures fault { result ≡ Err LineEnd.WriteFault → IsSome (O.write_fault output.new) }
     ensures fits { result ≡ Err LineEnd.TooLong → ⊥ }
 {
     match name {
         Ok(Some(name)) => say_line(output, held, b"name ", name.as_str().as_bytes()),
         Ok(None) => say(output, held, Unanswered::NoItem.line().as_bytes()),
-        Err(refusal) => send_answer(output, held, Err(refusal)),
+        Err(refusal) => send_answer(output, held, Err(*refusal)),
     }
 }
 
@@ -195,11 +193,11 @@ pub fn send_name<O: Output>(
 pub fn send_found<O: Output>(
     output: &mut O,
     held: &mut Vec<u8>,
-    found: Result<Answer, LookupRefusal<Refusal>>,
+    found: &Result<Answer, LookupRefusal<Refusal>>,
 ) -> Result<(), LineEnd>
-    ensures told { TellsFound result found (out (O.taken output.old) held.old.items)
+    ensures told { TellsFound result found.now (out (O.taken output.old) held.old.items)
         (out (O.taken output.new) held.new.items) }
-    ensures goes_on { GoesOnAfter result (refusal_of_names found) }
+    ensures goes_on { GoesOnAfter result (refusal_of_names found.now) }
     ensures fault { result ≡ Err LineEnd.WriteFault → IsSome (O.write_fault output.new) }
     ensures fits { result ≡ Err LineEnd.TooLong → ⊥ }
 {
@@ -207,7 +205,7 @@ pub fn send_found<O: Output>(
         Ok(Answer::Text(text)) => say_line(output, held, b"text ", text.as_bytes()),
         Ok(Answer::NoAnswer) => say(output, held, Unanswered::NoAnswer.line().as_bytes()),
         Err(LookupRefusal::BadFlags) => say(output, held, Unanswered::BadFlags.line().as_bytes()),
-        Err(LookupRefusal::Names(refusal)) => send_answer(output, held, Err(refusal)),
+        Err(LookupRefusal::Names(refusal)) => send_answer(output, held, Err(*refusal)),
         Err(LookupRefusal::Memory) => Err(stop_for_memory(output, held)),
     }
 }

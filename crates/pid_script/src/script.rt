@@ -14,11 +14,11 @@ ghost use Rattle.std.specs.Prelude.{
   [],
   length,
   IsSome,
-  IfSome,
   IfErr,
   OnOk,
   Err,
 };
+ghost use Rattle.pid_ident.specs.Moments.{AllSince};
 ghost use Rattle.pid_reader.specs.Lines.{drop_cr};
 ghost use Rattle.pid_script.specs.ScriptLines.{ask_of};
 ghost use Rattle.pid_script.specs.Steps.Progress.{
@@ -31,7 +31,14 @@ ghost use Rattle.pid_script.specs.Steps.Progress.{
 ghost use Rattle.pid_script.specs.Steps.Progress.{script_end};
 ghost use Rattle.pid_script.specs.Calling.{CallsGo};
 ghost use Rattle.pid_script.specs.Steps.Output.{out, AnswersLine, Unfit};
-ghost use Rattle.pid_script.specs.Scripts.{passage, IsScript, KeepsFaults, MakesReads};
+ghost use Rattle.pid_script.specs.Scripts.{
+  passage,
+  IsScript,
+  IsUpToDate,
+  KeepsFaults,
+  MakesReads,
+  OverText,
+};
 ghost use Rattle.pid_service_laws.specs.CallLaws.{StaysClean};
 ghost use Rattle.pid_script.specs.RegistryStates.{OverStanding};
 
@@ -42,7 +49,7 @@ use crate::moderated::Moderated;
 use crate::output::flush;
 use crate::reply::{refuse_long, stop_for_memory};
 use crate::script_end::ScriptEnd;
-use pid_ident::{Input, Output};
+use pid_ident::{Incoming, Output};
 use pid_reader::{split_line, without_cr};
 use std::alloc::Global;
 
@@ -230,9 +237,10 @@ fn end_of(answered: Result<(), LineEnd>) -> ScriptEnd
 /// refusal as 16, 17 or 18, nor after a line of more than 16,777,216 bytes. If the script itself is
 /// out of memory, the reply is the refusal 16, which takes none.
 ///
-/// At most `turns` reads are made, each of at most 65,536 bytes. Replies are written at the latest
-/// when a command was answered and when a read is answered whole. A line costs memory only while it
-/// is open. The reply to a command takes no memory.
+/// At most `turns` reads are made, each of at most 65,536 bytes. Whenever it reads, the lines that
+/// came whole are answered, and the writer has taken their replies and nothing more. The reply to a
+/// command is written before the next line is answered. A line costs memory only while it is open.
+/// The reply to a command takes no memory.
 ///
 /// Over a `Registry` of `pid_service` the clauses read so, while the disk returns what was written.
 /// Let it show a history as the script begins. At `Done` it shows the history with the commands of
@@ -241,7 +249,7 @@ fn end_of(answered: Result<(), LineEnd>) -> ScriptEnd
 /// leaves the one or the other. So a later opening finds each command whose reply went out whole. A
 /// registry that has failed before refuses the first line that asks something of it as 18, or as 16
 /// if memory runs out for the line, and stays as it is.
-pub fn run_script<R: Moderated, I: Input, O: Output>(
+pub fn run_script<R: Moderated, I: Incoming<O>, O: Output>(
     alloc: Global,
     registry: &mut R,
     input: &mut I,
@@ -253,12 +261,15 @@ pub fn run_script<R: Moderated, I: Input, O: Output>(
     ensures calls { CallsGo R.showing registry.old registry.new }
     // The replies are those of the lines of the text, and the registry shows the history after
     // them.
-    ensures script { OverStanding R.Moderated registry.old registry.new (λ h.
-        IfSome (I.to_come input.old) (λ text.
-        IsScript R.Moderated result h (passage registry.old registry.new (O.taken output.old)
-        (O.taken output.new)) text (I.to_come input.new))) }
-    ensures faults { KeepsFaults result (I.read_fault input.new) (O.write_fault output.new) }
-    ensures reads { MakesReads result turns (I.reads input.old) (I.reads input.new)
+    ensures script { OverText R.Moderated (passage registry.old registry.new
+        (O.taken output.old) (O.taken output.new)) (I.to_come input.old) (λ h p text.
+        IsScript R.Moderated result h p text (I.to_come input.new)) }
+    // Whenever the text was read, the lines that had come whole had got their replies.
+    ensures caught_up { OverText R.Moderated (passage registry.old registry.new
+        (O.taken output.old) (O.taken output.new)) (I.to_come input.old) (λ h p text.
+        AllSince (IsUpToDate R.Moderated h p text) (I.moments input.old) (I.moments input.new)) }
+    ensures ended { KeepsFaults result (I.read_fault input.new) (O.write_fault output.new)
+        × MakesReads result turns (I.reads input.old) (I.reads input.new)
         (I.to_come input.old) (I.to_come input.new) }
     ensures goes { I.goes input.old input.new }
 {
@@ -266,7 +277,7 @@ pub fn run_script<R: Moderated, I: Input, O: Output>(
     let mut held = Vec::new(alloc);
     let mut kept = Vec::new(alloc);
     for _turn in 0..turns {
-        let Ok(count) = input.read(&mut buffer) else {
+        let Ok(count) = input.read_behind(output, &mut buffer) else {
             return ScriptEnd::ReadFault;
         };
         if count == 0 {

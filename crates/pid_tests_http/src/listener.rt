@@ -47,6 +47,8 @@ impl StreamServer for Echo {
 
     ghost goes = { λ a b. ⊤ };
 
+    ghost answers = { λ a b x. ⊤ };
+
     ghost given = { λ echo. Some echo.given };
 
     ghost stays = { λ a. tt };

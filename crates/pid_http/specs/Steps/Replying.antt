@@ -4,7 +4,6 @@ use Rattle.std.specs.Prelude.{Option, Some, None, Result}
 use Rattle.std.specs.Prelude.{Ok, Err, IsErrAnd, MatchResult, Vec, map, option_map, option_copied}
 use Rattle.std.specs.declared.alloc.Global.{Global}
 use Rattle.std.specs.Io.KnownBytes.{IsAtEnd}
-use Rattle.httparse.specs.Grammar.{RequestHead}
 use Rattle.sqlite_trees.specs.declared.store.Store.{Ghosts}
 use Rattle.pid_service_laws.specs.Calls.{AreNothing, Call, obeyed}
 use Rattle.pid_moderation.specs.History.{Asked}
@@ -18,15 +17,12 @@ use Rattle.pid_moderation.specs.declared.refusal.Refusal.TheVariants as refusals
 use Rattle.pid_service.specs.Histories.{IsMemoryOrStore}
 use Rattle.pid_service.specs.declared.registry.Registry.{Registry}
 use Rattle.pid_http_stream.specs.BodyLengths.{longest_body}
-use Rattle.pid_http_stream.specs.HeadParts.{IsHeadOf}
 use Rattle.pid_http_stream.specs.Replies.{Answer, answer_with}
-use Rattle.pid_http_stream.specs.Requests.{fields_of}
 use Rattle.pid_http_stream.specs.declared.handler.Reply.{Reply}
 use Rattle.pid_http_stream.specs.declared.handler.ReplyBody.{ReplyBody}
 use Rattle.pid_http_stream.specs.declared.handler.ReplyBody.TheVariants.{Bytes, Written}
-use Rattle.pid_http_stream.specs.declared.head.Head.{Head}
 use Rattle.pid_http_stream.specs.declared.reply_head.ReplyHead.{ReplyHead}
-use Rattle.pid_http_requests.specs.Senders.{Sending, sender}
+use Rattle.pid_http_requests.specs.Senders.{Sending}
 use Rattle.pid_http_requests.specs.declared.format.Format.{Format}
 use Rattle.pid_http_requests.specs.declared.sender.Sender.{Sender}
 use Rattle.pid_http_replies.specs.Outcomes.{outcome_answer}
@@ -90,13 +86,6 @@ abbrev pub Replies : {S E : Type 0} → (store : Ghosts S) → Registry S store 
     → Errand → Result Reply E → Type 0
 Replies store old new errand result = Goes store old new
     (λ k calls now. IsMetBy k errand result calls now)
-
--- the same, if the sender is the one that the head names
-abbrev pub RepliesTo : {S E : Type 0} → (store : Ghosts S) → Registry S store → Registry S store
-    → Head → (Option Sending → Errand) → Result Reply E → Type 0
-RepliesTo store old new head errand result = Goes store old new
-    (λ k calls now. (request : RequestHead) → IsHeadOf head request
-    → IsMetBy k (errand (sender (fields_of request))) result calls now)
 
 -- the same, if the body is a file that is read as it comes, known and not too long
 abbrev pub RepliesToFile : {S E : Type 0} → (store : Ghosts S) → Registry S store

@@ -11,6 +11,7 @@ use Rattle.pid_http_stream.specs.Heads.{longest_head, most_fields}
 use Rattle.pid_http_stream.specs.Leftovers.{IsLeftover}
 use Rattle.pid_http_stream.specs.Moments.{Moment}
 use Rattle.pid_http_stream.specs.Unfinished.{IsHeadUnfinished, IsUnfinished}
+use Rattle.pid_http_stream.specs.declared.body_input.BodyFault.TheVariants as faults
 use Rattle.pid_http_stream.specs.declared.body_length.BodyLength.TheVariants.{Bytes}
 use Rattle.pid_http_stream.specs.declared.judging.Judged.{Judged}
 use Rattle.pid_http_stream.specs.declared.judging.Judged.TheVariants as judged
@@ -20,6 +21,8 @@ use Rattle.pid_http_stream.specs.declared.intake.Stop.{Stop}
 use Rattle.pid_http_stream.specs.declared.intake.Stop.TheVariants as stops
 use Rattle.pid_http_stream.specs.declared.intake.HeadRead.{HeadRead}
 use Rattle.pid_http_stream.specs.declared.intake.HeadRead.TheVariants as heads
+use Rattle.pid_http_stream.specs.declared.one_request.Asked.{Asked}
+use Rattle.pid_http_stream.specs.declared.one_request.Asked.TheVariants as asked
 
 -- what came from the reader follows what was held
 pub record ComesIn (held held_after : List ℕ) (input input_after : Option (List ℕ)) : Type 0 where
@@ -61,6 +64,14 @@ HeadStops (heads.Head spans body) before now left = now ≡ before
 HeadStops heads.Nothing before now left = now ≡ before
 HeadStops (heads.Faulty why) before now left = now ≡ before
 HeadStops (heads.Stopped stop) before now left = StopsFor stop before now left
+
+-- the same when a handler was asked: only a body that breaks off by it changes the reader's fault
+abbrev pub AskStops : Asked → Option ReadFault → Option ReadFault → ℕ → Type 0
+AskStops (asked.Reply reply) before now left = now ≡ before
+AskStops asked.NoMemory before now left = now ≡ before
+AskStops (asked.Broken faults.Short) before now left = now ≡ before
+AskStops (asked.Broken faults.ReadFault) before now left = IsSome now
+AskStops (asked.Broken faults.TurnsSpent) before now left = (left ≡ 0) × (now ≡ before)
 
 -- the spans are those of a head that begins the bytes, which says that its body has so many bytes
 pub record StandsAt (held : List ℕ) (headers : List HeaderSpan) (spans : RequestSpans)

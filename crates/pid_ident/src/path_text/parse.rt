@@ -150,9 +150,9 @@ fn number4(digits: [u8; 4]) -> Option<Id16>
     ensures none { IfNone result ((n : ℕ) → n < 2 ^ 16 → digits ≡ four_digits n → ⊥) }
 {
     let [a, b, c, d] = digits;
-    let high = lower_value(a)? as u16 * 16 + lower_value(b)? as u16;
-    let low = lower_value(c)? as u16 * 16 + lower_value(d)? as u16;
-    Some(high * 256 + low)
+    let high = number2([a, b])?;
+    let low = number2([c, d])?;
+    Some(high as u16 * 256 + low as u16)
 }
 
 // The number of two lower-case digits.

@@ -1,7 +1,7 @@
 -- What the functions that answer one line leave of the writer, of what is held for it, and of the
 -- registry.
 use Rattle.std.specs.Prelude.{◌≡◌, ◌⊎◌, ℕ, ◌+◌, ◌<◌, true, false, List, [], ◌++◌, length, Option}
-use Rattle.std.specs.Prelude.{Some, None, Result, Ok, Err, MatchResult, IfOk, IsErrOf}
+use Rattle.std.specs.Prelude.{Some, None, Result, Ok, Err, MatchResult, IfOk, IfErr, IsErrOf}
 use Rattle.std.specs.Prelude.{if◌then◌else◌}
 use Rattle.std.specs.Io.KnownBytes.{Appends}
 use Rattle.pid_ident.specs.Sending.{SendsFront}
@@ -21,7 +21,8 @@ use Rattle.pid_script.specs.declared.moderated.Moderated.{Ghosts}
 use Rattle.pid_script.specs.Calling.{CallsSend, CallsSendEither}
 use Rattle.pid_script.specs.ScriptLines as lines
 use Rattle.pid_script.specs.ScriptLines.{Ask}
-use Rattle.pid_script.specs.Replies.{BAD_FLAGS, answer_line, line_reply, command_of, is_call}
+use Rattle.pid_script.specs.Replies.{BAD_FLAGS, answer_line, name_line, line_reply, command_of}
+use Rattle.pid_script.specs.Replies.{is_call}
 use Rattle.pid_script.specs.RegistryStates.{Becomes, BecomesEither, StopsBehind}
 use Rattle.pid_script.specs.StopLines.{is_stop, IsStopInPlace, IsStopText}
 
@@ -105,6 +106,14 @@ TellsFound result found old new = (flags : ℕ) (good : Answer)
     → ((e : Refusal) → IsErrOf found (lookups.Names e) → is_stop e ≡ true)
     → TellsLine result (if is_bad flags then BAD_FLAGS else answer_line good)
     (IsGivenStop (refusal_of_names found)) old new
+
+-- What was said of the name at a path, or that it has none, if that is right; a refusal is one that
+-- stops a script.
+abbrev pub TellsName : Result (Unit {0}) LineEnd → Result (Option (List ℕ)) Refusal
+    → (old new : Out) → Type 0
+TellsName result name old new = (good : Option (List ℕ)) → IfOk name (λ n. n ≡ good)
+    → IfErr name (λ e. is_stop e ≡ true)
+    → TellsLine result (name_line good) (IsGivenStop (refusal_given name)) old new
 
 -- the line of an answer is a reply; or the answer is a stop
 abbrev pub IsReplyOrStop : List ℕ → Result Reply Refusal → Type 0

@@ -2,6 +2,7 @@ use Rattle.std.proofs.Common.{ap, refl, sym, inl, inr, ◌∙◌}
 use Rattle.std.specs.Io.Buffered.{writer_contents}
 use Rattle.pid_file.specs.Writing.{use_of}
 use Rattle.pid_cli_jobs.specs.Ends.{exit_status}
+use Rattle.pid_cli_jobs.proofs.Ends.{not_told}
 use Rattle.pid_cli_jobs.proofs.Exports.{kept_through}
 use Rattle.pid_cli_jobs.proofs.running.export_through.Goals as goal
 use Rattle.pid_cli_jobs.proofs.running.export_through.Goals.{in-Told-eq0-Err, in_default, in_default-2, in_default-3}
@@ -20,7 +21,13 @@ returns g c = record {
   };
   exports = c.do_in_files-end.ensures;
   begins = ap (writer_contents g.O.Write.contents) c.new-output.ensures.wraps;
-  reports = (refl, refl);
+  reports = (
+    refl {a = use_of g.F.Output c.args.faults.now c.do_in_files-end.new.faults},
+    refl {a = record {
+      before = g.M.Machine.asked c.args.machine.now;
+      after = g.M.Machine.asked c.do_in_files-end.new.machine;
+    }},
+  );
   ends = elim c.match-end.branch [
     | in-Told-eq0-Err w ↦ inr w.end-is
     | in_default w ↦ inl w.end-is
@@ -28,7 +35,7 @@ returns g c = record {
     | in_default-3 w ↦ inl w.end-is
   ];
   sent = λ done. elim c.match-end.branch [
-    | in-Told-eq0-Err w ↦ let failed = w.end-is in absurd cc
+    | in-Told-eq0-Err w ↦ absurd (not_told 0 (sym w.end-is ∙ done))
     | in_default w ↦ kept_through g.O.Write.contents c.do_in_files-end.new.output.inner c.into_inner-buffer.result
         c.flush.new.self c.into_parts-output.result.0 c.into_inner-buffer.ensures w.in_default.ensures.ok
         c.into_parts-output.ensures.inner w.in_default.ensures.bytes

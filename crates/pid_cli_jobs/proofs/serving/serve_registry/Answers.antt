@@ -1,12 +1,23 @@
-use Rattle.std.specs.Prelude.{codes}
-use Rattle.std.specs.Io.KnownBytes.{Appends}
-use Rattle.std.proofs.Common.{ap, refl, subst}
-use Rattle.pid_file.specs.Writing.{FailsWithin, use_of}
-use Rattle.pid_cli_jobs.specs.declared.job_end.JobEnd.TheVariants.{Told, FileFailed}
-use Rattle.pid_cli_jobs.specs.Lines.{count_line}
-use Rattle.pid_cli_jobs.specs.Serving.{Served, Unbound, Unheard, Unrouted}
-use Rattle.pid_cli_jobs.proofs.Lines.{taken_in_part, taken_whole}
+use Rattle.std.specs.Prelude.{◌≡◌, true, Bool}
+use Rattle.std.proofs.Common.{ap, refl, rules, subst}
+use Rattle.pid_file.specs.declared.io.Output as outputs
+use Rattle.pid_http_listener.specs.declared.server.StreamServer as servers
+use Rattle.pid_cli_jobs.specs.declared.job_end.JobEnd.TheVariants.{Told}
+use Rattle.pid_cli_jobs.specs.declared.serving.Port.{Port}
+use Rattle.pid_cli_jobs.specs.Machines.{PortAt}
+use Rattle.pid_cli_jobs.specs.Serving.{HasServed, Served, Serves, Unbound, Unheard, Unrouted}
+use Rattle.pid_cli_jobs.specs.Steps.Serving.{Gave, GaveNone, GivesStreams}
+use Rattle.pid_cli_jobs.specs.Wrote.{AsksOnce, Wrote, streams_of}
 use Rattle.pid_cli_jobs.proofs.serving.serve_registry.Goals as goal
+
+-- what was given to a server on a port is what is served there
+served : {S R W : Type 0} (server : servers.Ghosts S) (change : S × S) (writer : outputs.Ghosts W)
+    (port : Port) (w : Wrote R W) (live : Bool) → AsksOnce w (PortAt port.number true)
+    → server.live change.1 ≡ live → GivesStreams server change port (streams_of writer w) w.end
+    → Serves writer port live w
+served server change writer port w live asks same (GaveNone fails silent ends still) = Unheard asks fails silent ends
+served server change writer port w live asks same (Gave given) = Served asks
+    (subst (λ l. HasServed port l (streams_of writer w) w.end) same given.served)
 
 pub returns-in_default-clause-serves : goal.returns-in_default-clause-serves
 returns-in_default-clause-serves g c = Unbound c.in_default.ensures refl
@@ -19,24 +30,7 @@ returns-in_default-new-clause-serves g c = Unrouted c.in-Some.ensures (record {
   ends = ap Told c.tell_end.ensures.status;
 })
 
-pub returns-in-Ok-write_count-clause-serves : goal.returns-in-Ok-write_count-clause-serves
-returns-in-Ok-write_count-clause-serves g c =
-    let w = use_of g.O.Output c.args.output.now c.write_count.new.output in
-    let word = codes "listening on 127.0.0.1:" in
-    Served c.in-Some.ensures (record {
-      between = w.after;
-      listens = subst (λ n. Appends w.before w.after (count_line word n)) c.from-number.ensures
-          (taken_whole w (count_line word c.from-number.result) c.write_count.result
-          c.in-Ok-write_count.field-0 c.in-Ok-write_count.is c.write_count.ensures.sent);
-      streams = c.serve_listener.ensures.streams;
-    })
-
 pub returns-clause-serves : goal.returns-clause-serves
 returns-clause-serves g c =
-    let w = use_of g.O.Output c.args.output.now c.write_count.new.output in
-    let word = codes "listening on 127.0.0.1:" in
-    Unheard c.in-Some.ensures
-    (subst (λ n. FailsWithin w (count_line word n)) c.from-number.ensures
-    (taken_in_part w (count_line word c.from-number.result) c.write_count.result
-    c.in-Err.field-0 c.in-Err.is c.write_count.ensures.sent c.write_count.ensures.fault))
-    (refl {a = g.F.Output.taken c.args.faults.now}) (refl {a = FileFailed})
+    let name = c.give_streams.ensures.goes.0 in
+    served _ _ g.O.Output c.args.port _ _ c.in-Some.ensures (search rules) c.give_streams.ensures.gives

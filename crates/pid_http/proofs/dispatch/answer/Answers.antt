@@ -41,7 +41,7 @@ pub returns-in-Read : goal.returns-in-Read
 returns-in-Read g c = rw c.in-Read.is c.read.ensures
 
 pub returns-in-Children : goal.returns-in-Children
-returns-in-Children g c = rw c.in-Children.is c.answer_children.ensures
+returns-in-Children g c = rw c.in-Children.is c.children.ensures
 
 pub returns-in-Lookup : goal.returns-in-Lookup
 returns-in-Lookup g c = rw c.in-Lookup.is c.lookup.ensures
@@ -53,7 +53,7 @@ pub returns-in-Pending : goal.returns-in-Pending
 returns-in-Pending g c = rw c.in-Pending.is c.pending.ensures
 
 pub returns-in-Changes : goal.returns-in-Changes
-returns-in-Changes g c = rw c.in-Changes.is c.answer_changes.ensures
+returns-in-Changes g c = rw c.in-Changes.is c.changes.ensures
 
 pub returns-in-Queue : goal.returns-in-Queue
 returns-in-Queue g c = rw c.in-Queue.is c.queue.ensures
@@ -68,4 +68,4 @@ pub returns-in-Command : goal.returns-in-Command
 returns-in-Command g c = rw c.in-Command.is c.command.ensures
 
 pub returns-in-Submissions : goal.returns-in-Submissions
-returns-in-Submissions g c = rw (c.in-Submissions.is, ← c.as_ref.ensures.value) c.answer_submissions.ensures
+returns-in-Submissions g c = rw (c.in-Submissions.is, ← c.as_ref.ensures.value) c.submissions.ensures

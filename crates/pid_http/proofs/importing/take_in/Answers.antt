@@ -18,3 +18,15 @@ pub returns-in-Err-Body-clause-replied : goal.returns-in-Err-Body-clause-replied
 returns-in-Err-Body-clause-replied g c =
     let e = c.in-Err-Body.ensures in
     gave_up _ _ _ c.in-Err-Body.field-0 c.args.account c.args.key _ _ (λ file. Obeys (import_of c.args.account c.args.key (file_reading file)) c.args.format) c.in-Err-Body.field-0-is c.clauses_meet_lives.ensures.imports e.clean e.failed e.obeyed
+
+pub returns-in-Ok-clause-goes : goal.returns-in-Ok-clause-goes
+returns-in-Ok-clause-goes g c = c.in-Ok.ensures.reads.goes
+
+pub returns-in-Err-Refused-clause-goes : goal.returns-in-Err-Refused-clause-goes
+returns-in-Err-Refused-clause-goes g c = g.met.B.Input.joins _ _ _ c.in-Err-Refused.ensures.reads.goes c.refuse.ensures.goes
+
+pub returns-in-Err-Body-clause-goes : goal.returns-in-Err-Body-clause-goes
+returns-in-Err-Body-clause-goes g c = c.in-Err-Body.ensures.reads.goes
+
+pub returns-in-Err-Refused-clause-whole : goal.returns-in-Err-Refused-clause-whole
+returns-in-Err-Refused-clause-whole g c = c.refuse.ensures.whole

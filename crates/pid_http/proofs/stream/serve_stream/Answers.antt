@@ -13,3 +13,21 @@ returns-in_default-clause-lives g c = lives_still _
 
 pub returns-in_default-clause-ended : goal.returns-in_default-clause-ended
 returns-in_default-clause-ended g c = memory_ends (g.I.Incoming.reads c.args.reader.now) c.args.turns _ _
+
+pub returns-clause-served : goal.returns-clause-served
+returns-clause-served g c = c.serve_with.ensures.served
+
+pub returns-clause-caught_up : goal.returns-clause-caught_up
+returns-clause-caught_up g c = c.serve_with.ensures.caught_up
+
+pub returns-clause-lives : goal.returns-clause-lives
+returns-clause-lives g c = c.serve_with.ensures.lives
+
+pub returns-clause-ended : goal.returns-clause-ended
+returns-clause-ended g c = c.serve_with.ensures.ended
+
+pub returns-clause-goes : goal.returns-clause-goes
+returns-clause-goes g c = c.serve_with.ensures.goes
+
+pub returns-in_default-clause-goes : goal.returns-in_default-clause-goes
+returns-in_default-clause-goes g c = g.met.I.Incoming.stays _

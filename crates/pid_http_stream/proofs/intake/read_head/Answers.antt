@@ -1,8 +1,9 @@
-use Rattle.std.proofs.Common.{rules, refl, sym, subst, ◌∙◌, arith, inl}
+use Rattle.std.proofs.Common.{rules, length, refl, sym, ap, subst, ◌∙◌, arith, inl}
+use Rattle.httparse.specs.Grammar.{HasNoRequest as HasNoHeadYet}
 use Rattle.pid_http_stream.specs.BodyLaws.{no_turns, more_turns}
 use Rattle.pid_http_stream.specs.MomentLaws.{since_none}
 use Rattle.pid_http_stream.specs.Steps.Intakes.{IsHeadRead, WaitsForRequest}
-use Rattle.pid_http_stream.specs.Unfinished.{IsUnfinished}
+use Rattle.pid_http_stream.specs.Unfinished.{IsHeadUnfinished, IsUnfinished}
 use Rattle.pid_http_stream.proofs.HeadReads.{nothing_came, comes_then, any_faulty, stops_never, stops_since, waits_on}
 use Rattle.pid_http_stream.proofs.intake.read_head.Goals as goal
 
@@ -68,3 +69,22 @@ returns-in-Stopped-clause-goes g c = g.met.I.Incoming.joins _ _ _ c.reading.inva
 
 pub returns-in-End-clause-goes : goal.returns-in-End-clause-goes
 returns-in-End-clause-goes g c = g.met.I.Incoming.joins _ _ _ c.reading.invariant.goes c.in-End.ensures.goes
+
+pub returns-in-Stopped-clause-pace : goal.returns-in-Stopped-clause-pace
+returns-in-Stopped-clause-pace g c = omega (arith, c.reading.invariant.pace, c.in-Stopped.ensures.turns.fewer, ap length c.in-Stopped.ensures.stays)
+
+pub returns-in-End-clause-pace : goal.returns-in-End-clause-pace
+returns-in-End-clause-pace g c = omega (arith, c.reading.invariant.pace, c.in-End.ensures.turns.fewer, ap length c.in-End.ensures.stays.0)
+
+pub reading-smaller : goal.reading-smaller
+reading-smaller g c = let p = c.in-Piece.ensures.piece refl in omega (arith, p.0)
+
+pub judge_end-requires-clause-none : goal.judge_end-requires-clause-none
+judge_end-requires-clause-none g c =
+    let u : IsHeadUnfinished c.reading.held.items = rw c.in-More.is at c.reading.invariant.judged in
+    subst HasNoHeadYet (sym (c.deref-in-End.ensures.value ∙ c.in-End.ensures.stays.0)) u.none
+
+pub judge_end-requires-clause-short : goal.judge_end-requires-clause-short
+judge_end-requires-clause-short g c =
+    let u : IsHeadUnfinished c.reading.held.items = rw c.in-More.is at c.reading.invariant.judged in
+    let e = ap length (c.deref-in-End.ensures.value ∙ c.in-End.ensures.stays.0) in omega (arith, e, u.short)

@@ -1,5 +1,6 @@
-use Rattle.std.proofs.Common.{refl, inl}
-use Rattle.pid_http_stream.proofs.Leading.{stays, turned}
+use Rattle.std.proofs.Common.{refl, sym, ◌∙◌, inl}
+use Rattle.pid_http_stream.proofs.BodyReads.{all_of_it}
+use Rattle.pid_http_stream.proofs.Leading.{stays, turned, asked_left}
 use Rattle.pid_http_stream.proofs.one_request.ask.Goals as goal
 
 pub returns-in-Err-clause-goes : goal.returns-in-Err-clause-goes
@@ -13,3 +14,16 @@ returns-in-Err-clause-answered g c = stays _ _ (λ v request is came few. inl (i
 
 pub returns-in-Ok-Streamed-clause-answered : goal.returns-in-Ok-Streamed-clause-answered
 returns-in-Ok-Streamed-clause-answered g c = turned _ _ _ _ (λ v w answered request is came few. answered request is ((rw c.in-Ok-Streamed.field-0-is at c.in-Ok-Streamed.ensures) request.head is) came few) c.answer_streamed.ensures.answered
+
+pub returns-in-Err-read_whole-clause-becomes : goal.returns-in-Err-read_whole-clause-becomes
+returns-in-Err-read_whole-clause-becomes g c = g.met.H.Handler.stays _
+
+pub returns-in-Err-read_whole-clause-answered : goal.returns-in-Err-read_whole-clause-answered
+returns-in-Err-read_whole-clause-answered g c = stays _ _ (λ v request is came few. inl (inl refl))
+
+pub returns-in-Ok-clause-answered : goal.returns-in-Ok-clause-answered
+returns-in-Ok-clause-answered g c = turned _ _ _ _
+    (λ v w answered request is came few.
+    asked_left g.H.Handler.conduct v w request c.answer.result _ c.in-Ok.ensures.whole.1
+    (answered request is ((rw c.in-Ok-Buffered.field-0-is at c.in-Ok-Buffered.ensures) request.head is) (all_of_it _ _ _ request.body c.in-Ok.ensures.whole.0 c.in-Ok.ensures.whole.1 came ∙ sym c.deref.ensures.value)))
+    c.answer.ensures.answered

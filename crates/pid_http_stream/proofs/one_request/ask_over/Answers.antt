@@ -1,12 +1,10 @@
 use Rattle.std.proofs.Common.{rules, ◌≡◌, refl, None, subst}
-use Rattle.std.specs.Prelude.{◌⊎◌, IfSome, IsSome}
+use Rattle.std.specs.Prelude.{IfSome}
 use Rattle.pid_http_stream.specs.Bodies.{BodyState}
-use Rattle.pid_http_stream.specs.declared.body_input.BodyFault.TheVariants.{ReadFault}
-use Rattle.pid_http_stream.specs.declared.one_request.Asked.TheVariants.{Broken}
-use Rattle.pid_http_stream.specs.Steps.Intakes.{WaitsForRequest}
+use Rattle.pid_http_stream.specs.Steps.Intakes.{AskStops, WaitsForRequest}
 use Rattle.pid_http_stream.specs.Moments.{AllSince}
 use Rattle.pid_http_stream.specs.Steps.Loop.{AsksHandler, asked_so}
-use Rattle.pid_http_stream.proofs.Asked.{Reading, asked_is, body_waits, broken_cause, failed_so}
+use Rattle.pid_http_stream.proofs.Asked.{Reading, asked_is, asked_stops, body_waits}
 use Rattle.pid_http_stream.proofs.Leading.{turned}
 use Rattle.pid_http_stream.proofs.one_request.ask_over.Goals as goal
 
@@ -21,35 +19,16 @@ returns-clause-asked g c =
     turned _ _ _ _ (λ v w told. rw c.asked_of.ensures (subst (λ i. IfSome (g.I.Incoming.to_come c.args.input.now) (λ _. AsksHandler g.H.Handler.conduct (record { a = v; b = w; input = g.I.Incoming.to_come c.args.input.now; input_after = g.I.Incoming.to_come i }) (record { held = c.args.head.now.bytes.now; headers = c.args.head.now.fields.now; spans = c.args.head.now.spans; content_length = c.args.content_length }) (asked_so c.ask-reply.result c.ask-reply.new.body.wanted c.ask-reply.new.body.fault))) same
     (asked_is g.H.Handler.conduct v w c.args.head.now.bytes.now c.args.head.now.fields.now c.args.head.now.spans c.args.content_length old new reading c.ask-reply.result told c.ask-reply.ensures.whole))) c.ask-reply.ensures.answered
 
-pub returns-clause-fault : goal.returns-clause-fault
-returns-clause-fault g c = λ e.
+pub returns-clause-stopped : goal.returns-clause-stopped
+returns-clause-stopped g c =
     let old : BodyState = record { held = c.came_with.result.now; wanted = c.args.content_length; fault = None; to_come = g.I.Incoming.to_come c.args.input.now; kept = g.I.Incoming.read_fault c.args.input.now; turns = record { reads = g.I.Incoming.reads c.args.input.now; left = c.args.turns_left.now }; moments = g.I.Incoming.moments c.args.input.now; taken = g.W.Output.taken c.args.output.now } in
     let body = c.ask-reply.new.body in
     let new : BodyState = record { held = body.held.now; wanted = body.wanted; fault = body.fault; to_come = g.I.Incoming.to_come body.input.now; kept = g.I.Incoming.read_fault body.input.now; turns = record { reads = g.I.Incoming.reads body.input.now; left = body.left }; moments = g.I.Incoming.moments body.input.now; taken = g.W.Output.taken body.output.now } in
     let reading : Reading c.args.head.now.bytes.now c.args.head.now.fields.now c.args.head.now.spans c.args.content_length old new =
     record { stands = c.requires; n = _; n_is = refl; held_is = c.came_with.ensures.front; wanted_is = refl; no_fault = refl; read = c.ask-reply.ensures.goes.2; fits = body.fits } in
     let same : c.ask-reply.new.body.input.now ≡ c.input-1.given.0 = search rules in
-    subst (λ i. IsSome (g.I.Incoming.read_fault i)) same (broken_cause c.args.head.now.bytes.now c.args.head.now.fields.now c.args.head.now.spans c.args.content_length old new reading c.ask-reply.result _ (rw c.asked_of.ensures at e)).cause
-
-pub returns-clause-spent : goal.returns-clause-spent
-returns-clause-spent g c = λ e.
-    let old : BodyState = record { held = c.came_with.result.now; wanted = c.args.content_length; fault = None; to_come = g.I.Incoming.to_come c.args.input.now; kept = g.I.Incoming.read_fault c.args.input.now; turns = record { reads = g.I.Incoming.reads c.args.input.now; left = c.args.turns_left.now }; moments = g.I.Incoming.moments c.args.input.now; taken = g.W.Output.taken c.args.output.now } in
-    let body = c.ask-reply.new.body in
-    let new : BodyState = record { held = body.held.now; wanted = body.wanted; fault = body.fault; to_come = g.I.Incoming.to_come body.input.now; kept = g.I.Incoming.read_fault body.input.now; turns = record { reads = g.I.Incoming.reads body.input.now; left = body.left }; moments = g.I.Incoming.moments body.input.now; taken = g.W.Output.taken body.output.now } in
-    let reading : Reading c.args.head.now.bytes.now c.args.head.now.fields.now c.args.head.now.spans c.args.content_length old new =
-    record { stands = c.requires; n = _; n_is = refl; held_is = c.came_with.ensures.front; wanted_is = refl; no_fault = refl; read = c.ask-reply.ensures.goes.2; fits = body.fits } in
-    (broken_cause c.args.head.now.bytes.now c.args.head.now.fields.now c.args.head.now.spans c.args.content_length old new reading c.ask-reply.result _ (rw c.asked_of.ensures at e)).cause
-
-pub returns-clause-failed : goal.returns-clause-failed
-returns-clause-failed g c =
-    let old : BodyState = record { held = c.came_with.result.now; wanted = c.args.content_length; fault = None; to_come = g.I.Incoming.to_come c.args.input.now; kept = g.I.Incoming.read_fault c.args.input.now; turns = record { reads = g.I.Incoming.reads c.args.input.now; left = c.args.turns_left.now }; moments = g.I.Incoming.moments c.args.input.now; taken = g.W.Output.taken c.args.output.now } in
-    let body = c.ask-reply.new.body in
-    let new : BodyState = record { held = body.held.now; wanted = body.wanted; fault = body.fault; to_come = g.I.Incoming.to_come body.input.now; kept = g.I.Incoming.read_fault body.input.now; turns = record { reads = g.I.Incoming.reads body.input.now; left = body.left }; moments = g.I.Incoming.moments body.input.now; taken = g.W.Output.taken body.output.now } in
-    let reading : Reading c.args.head.now.bytes.now c.args.head.now.fields.now c.args.head.now.spans c.args.content_length old new =
-    record { stands = c.requires; n = _; n_is = refl; held_is = c.came_with.ensures.front; wanted_is = refl; no_fault = refl; read = c.ask-reply.ensures.goes.2; fits = body.fits } in
-    let same : c.ask-reply.new.body.input.now ≡ c.input-1.given.0 = search rules in
-    rw c.asked_of.ensures (subst (λ i. (g.I.Incoming.read_fault i ≡ g.I.Incoming.read_fault c.args.input.now) ⊎ (asked_so c.ask-reply.result c.ask-reply.new.body.wanted c.ask-reply.new.body.fault ≡ Broken ReadFault)) same
-    (failed_so c.args.head.now.bytes.now c.args.head.now.fields.now c.args.head.now.spans c.args.content_length old new reading c.ask-reply.result))
+    rw c.asked_of.ensures (subst (λ i. AskStops (asked_so c.ask-reply.result c.ask-reply.new.body.wanted c.ask-reply.new.body.fault) (g.I.Incoming.read_fault c.args.input.now) (g.I.Incoming.read_fault i) c.ask-reply.new.body.left) same
+    (asked_stops c.args.head.now.bytes.now c.args.head.now.fields.now c.args.head.now.spans c.args.content_length old new reading c.ask-reply.result))
 
 pub returns-clause-waits : goal.returns-clause-waits
 returns-clause-waits g c =

@@ -3,7 +3,7 @@ use Rattle.std.specs.Prelude.{IfSome}
 use Rattle.pid_http_stream.specs.BodyLaws.{no_turns, more_turns}
 use Rattle.pid_http_stream.proofs.HeadReads.{stops_since}
 use Rattle.pid_http_stream.proofs.Leading.{stays, turned, joined, beside}
-use Rattle.pid_http_stream.proofs.Looping.{loop_unread, loop_nothing, loop_faulty, loop_stopped, loop_open, loop_closed, loop_ended, loop_waits, loop_waits_within}
+use Rattle.pid_http_stream.proofs.Looping.{loop_unread, loop_nothing, loop_faulty, loop_stopped, loop_open, loop_closed, loop_ended, loop_waits, loop_waits_within, less_left}
 use Rattle.pid_http_stream.proofs.Serving.{IsServing, begins}
 use Rattle.pid_http_stream.proofs.Stepping.{refused_ends, stopped_ends, ends_later, spent_exactly, turns_within}
 use Rattle.pid_http_stream.proofs.stream.serve_held.Goals as goal
@@ -94,11 +94,24 @@ returns-in-Faulty-clause-ended g c = refused_ends _ _ _ _ _ (turns_within _ _ (m
 
 pub returns-in-Stopped-clause-ended : goal.returns-in-Stopped-clause-ended
 returns-in-Stopped-clause-ended g c =
-    let turns = more_turns _ _ _ c.serving.invariant.turns c.in-Stopped.ensures.turns in
-    rw c.end_of-end.ensures (stopped_ends _ c.in-Stopped.stop _ (turns_within _ _ turns) (stops_since c.in-Stopped.stop _ _ _ _ c.serving.invariant.failed c.in-Stopped.ensures.stopped) (λ none few. spent_exactly _ _ turns none few))
+    rw c.end_of-end.ensures (stopped_ends _ c.in-Stopped.stop _ (turns_within _ _ (more_turns _ _ _ c.serving.invariant.turns c.in-Stopped.ensures.turns)) (stops_since c.in-Stopped.stop _ _ _ _ c.serving.invariant.failed c.in-Stopped.ensures.stopped) (spent_exactly _ _ (more_turns _ _ _ c.serving.invariant.turns c.in-Stopped.ensures.turns)))
 
 pub returns-in-Closed-clause-ended : goal.returns-in-Closed-clause-ended
 returns-in-Closed-clause-ended g c = record { within = turns_within _ _ (more_turns _ _ _ c.serving.invariant.turns (more_turns _ _ _ c.read_head.ensures.turns c.serve_request.ensures.turns)); cause = tt; failed = inl (c.in-Closed.ensures.ended ∙ c.in-Head.ensures.stopped ∙ c.serving.invariant.failed) }
 
 pub returns-in-Ended-clause-ended : goal.returns-in-Ended-clause-ended
 returns-in-Ended-clause-ended g c = ends_later _ _ _ _ _ _ _ _ (c.in-Head.ensures.stopped ∙ c.serving.invariant.failed) (more_turns _ _ _ c.serving.invariant.turns c.read_head.ensures.turns) _ c.in-Ended.ensures.ended
+
+pub returns-in-Nothing-clause-becomes : goal.returns-in-Nothing-clause-becomes
+returns-in-Nothing-clause-becomes g c = c.serving.invariant.becomes
+
+pub returns-in-Faulty-clause-becomes : goal.returns-in-Faulty-clause-becomes
+returns-in-Faulty-clause-becomes g c = c.serving.invariant.becomes
+
+pub returns-in-Stopped-clause-becomes : goal.returns-in-Stopped-clause-becomes
+returns-in-Stopped-clause-becomes g c = c.serving.invariant.becomes
+
+pub serving-smaller : goal.serving-smaller
+serving-smaller g c =
+    let stands = c.in-Head.ensures.head in
+    less_left _ _ c.serve_request.new.turns_left _ _ _ _ _ c.read_head.ensures.pace c.serve_request.ensures.turns.fewer stands.some stands.within.section.len_fits c.drop_front.ensures

@@ -6,7 +6,7 @@ use Rattle.pid_http_stream.specs.BodyLaws.{no_body_reads, no_turns}
 use Rattle.pid_http_stream.specs.MomentLaws.{since_none}
 use Rattle.pid_http_stream.specs.Moments.{IsMoment}
 use Rattle.pid_http_stream.specs.declared.body_input.BodyFault.TheVariants.{Short, ReadFault, TurnsSpent}
-use Rattle.pid_http_stream.proofs.BodyReads.{held_given, read_given, whole_front, nothing, keeps_same, keeps_padded, keeps_nil, none_of, told_some, told_none, kept_told, none_kept, some_told, still_good, gave_held, gave_read, broke_off, one_turn}
+use Rattle.pid_http_stream.proofs.BodyReads.{held_given, read_given, whole_front, nothing, keeps_same, keeps_padded, keeps_nil, none_of, told_some, told_none, kept_told, none_kept, some_told, still_good, gave_held, gave_read, broke_off, one_turn, some_of}
 use Rattle.pid_http_stream.proofs.body_input.BodyInputInput.read.Goals as goal
 use Rattle.pid_http_stream.proofs.body_input.BodyInputInput.read.Goals.{then-self-eq0-via-then-self-eq0, then-self-eq0-via-else-self-eq0+then-is_empty}
 
@@ -34,7 +34,7 @@ returns-then-not-is_empty-clause-goes g c =
       refl,
       g.met.I.Incoming.stays c.args.self.now.input.now,
       gave_held c.args.self.now.fault (g.I.Incoming.to_come c.args.self.now.input.now) (g.I.Incoming.read_fault c.args.self.now.input.now) _ _ _ c.args.self.now.wanted c.min-count.result c.args.self.now.held.now c.split_at.result.1.now c.split_at.result.0.now
-          (none_of c.args.self.now.fault (search rules)) (sym (take-append-drop c.min-count.result c.args.self.now.held.now) ∙ (λ i. sym s.front i ++ sym s.back i)) s.front_len (search rules),
+          (none_of c.args.self.now.fault (sym c.is_some.ensures ∙ c.if-is_some.false)) (sym (take-append-drop c.min-count.result c.args.self.now.held.now) ∙ (λ i. sym s.front i ++ sym s.back i)) s.front_len (search rules),
     )
 
 pub returns-then-self-eq0-2-clause-goes : goal.returns-then-self-eq0-2-clause-goes
@@ -42,7 +42,7 @@ returns-then-self-eq0-2-clause-goes g c = (
   refl,
   g.met.I.Incoming.stays c.args.self.now.input.now,
   broke_off c.args.self.now.fault (g.I.Incoming.to_come c.args.self.now.input.now) (g.I.Incoming.to_come c.args.self.now.input.now) _ _ _ _ _ _ _ c.args.self.now.wanted c.args.self.now.held.now TurnsSpent
-      (none_of c.args.self.now.fault (search rules)) (Consumes-nil _) (no_turns _) (search rules) (nothing c.args.self.now.held.now (search rules)) (since_none (IsMoment _ _) _) c.if-self-eq0-2.true (inl refl),
+      (none_of c.args.self.now.fault (sym c.is_some.ensures ∙ c.if-is_some.false)) (Consumes-nil _) (no_turns _) (some_of _ c.if-self-eq0.false) (nothing c.args.self.now.held.now (search rules)) (since_none (IsMoment _ _) _) c.if-self-eq0-2.true (inl refl),
 )
 
 pub returns-in-Err-clause-goes : goal.returns-in-Err-clause-goes
@@ -50,7 +50,7 @@ returns-in-Err-clause-goes g c = (
   refl,
   c.read_behind.ensures.goes,
   broke_off c.args.self.now.fault (g.I.Incoming.to_come c.args.self.now.input.now) (g.I.Incoming.to_come c.read_behind.new.self) _ _ _ _ _ _ _ c.args.self.now.wanted c.args.self.now.held.now ReadFault
-      (none_of c.args.self.now.fault (search rules)) (keeps_nil _ _ c.in-Err.ensures.bytes) (one_turn _ c.args.self.now.left _ (search rules) c.read_behind.ensures.count) (search rules) (nothing c.args.self.now.held.now (search rules)) c.in-Err.ensures.noted (some_told _ _ c.in-Err.ensures.fault) (inr refl),
+      (none_of c.args.self.now.fault (sym c.is_some.ensures ∙ c.if-is_some.false)) (keeps_nil _ _ c.in-Err.ensures.bytes) (one_turn _ c.args.self.now.left _ (some_of _ c.if-self-eq0-2.false) c.read_behind.ensures.count) (some_of _ c.if-self-eq0.false) (nothing c.args.self.now.held.now (search rules)) c.in-Err.ensures.noted (some_told _ _ c.in-Err.ensures.fault) (inr refl),
 )
 
 pub returns-else-count-eq0-clause-bytes : goal.returns-else-count-eq0-clause-bytes
@@ -65,7 +65,7 @@ returns-else-count-eq0-clause-goes g c = (
   refl,
   c.read_behind.ensures.goes,
   gave_read c.args.self.now.fault (g.I.Incoming.to_come c.args.self.now.input.now) (g.I.Incoming.to_come c.read_behind.new.self) _ _ _ _ _ _ _ c.args.self.now.wanted c.in-Ok.count c.args.self.now.held.now (take c.in-Ok.count c.read_behind.new.buffer)
-      (none_of c.args.self.now.fault (search rules)) (nothing _ (search rules)) c.in-Ok.ensures.bytes.0 (length-take-le c.in-Ok.count c.read_behind.new.buffer c.in-Ok.ensures.room) (search rules) (one_turn _ c.args.self.now.left _ (search rules) c.read_behind.ensures.count) (search rules) c.in-Ok.ensures.noted (still_good _ _ _ c.in-Ok.ensures.kept c.in-Ok.ensures.fault),
+      (none_of c.args.self.now.fault (sym c.is_some.ensures ∙ c.if-is_some.false)) (nothing _ (search rules)) c.in-Ok.ensures.bytes.0 (length-take-le c.in-Ok.count c.read_behind.new.buffer c.in-Ok.ensures.room) (search rules) (one_turn _ c.args.self.now.left _ (some_of _ c.if-self-eq0-2.false) c.read_behind.ensures.count) (some_of _ c.if-self-eq0.false) c.in-Ok.ensures.noted (still_good _ _ _ c.in-Ok.ensures.kept c.in-Ok.ensures.fault),
 )
 
 pub returns-then-count-eq0-clause-goes : goal.returns-then-count-eq0-clause-goes
@@ -73,7 +73,7 @@ returns-then-count-eq0-clause-goes g c = (
   refl,
   c.read_behind.ensures.goes,
   broke_off c.args.self.now.fault (g.I.Incoming.to_come c.args.self.now.input.now) (g.I.Incoming.to_come c.read_behind.new.self) _ _ _ _ _ _ _ c.args.self.now.wanted c.args.self.now.held.now Short
-      (none_of c.args.self.now.fault (search rules)) (subst (Consumes _ _) (ap (λ (n : ℕ). take n c.read_behind.new.buffer) c.if-count-eq0.true) c.in-Ok.ensures.bytes.0) (one_turn _ c.args.self.now.left _ (search rules) c.read_behind.ensures.count) (search rules) (nothing c.args.self.now.held.now (search rules)) c.in-Ok.ensures.noted
+      (none_of c.args.self.now.fault (sym c.is_some.ensures ∙ c.if-is_some.false)) (subst (Consumes _ _) (ap (λ (n : ℕ). take n c.read_behind.new.buffer) c.if-count-eq0.true) c.in-Ok.ensures.bytes.0) (one_turn _ c.args.self.now.left _ (some_of _ c.if-self-eq0-2.false) c.read_behind.ensures.count) (some_of _ c.if-self-eq0.false) (nothing c.args.self.now.held.now (search rules)) c.in-Ok.ensures.noted
       (c.in-Ok.ensures.bytes.1 c.if-count-eq0.true (search rules)) (inl (still_good _ _ _ c.in-Ok.ensures.kept c.in-Ok.ensures.fault)),
 )
 
@@ -81,16 +81,16 @@ pub returns-then-is_some-clause-bytes : goal.returns-then-is_some-clause-bytes
 returns-then-is_some-clause-bytes g c = keeps_same _
 
 pub returns-then-is_some-clause-fault : goal.returns-then-is_some-clause-fault
-returns-then-is_some-clause-fault g c = told_some c.args.self.now.fault (search rules)
+returns-then-is_some-clause-fault g c = told_some c.args.self.now.fault (sym c.is_some.ensures ∙ c.if-is_some.true)
 
 pub returns-then-is_some-clause-kept : goal.returns-then-is_some-clause-kept
 returns-then-is_some-clause-kept g c = kept_told _ c.args.self.now.fault refl
 
 pub returns-then-not-is_empty-clause-fault : goal.returns-then-not-is_empty-clause-fault
-returns-then-not-is_empty-clause-fault g c = told_none c.args.self.now.fault (search rules)
+returns-then-not-is_empty-clause-fault g c = told_none c.args.self.now.fault (sym c.is_some.ensures ∙ c.if-is_some.false)
 
 pub returns-then-not-is_empty-clause-kept : goal.returns-then-not-is_empty-clause-kept
-returns-then-not-is_empty-clause-kept g c = none_kept c.args.self.now.fault _ (search rules)
+returns-then-not-is_empty-clause-kept g c = none_kept c.args.self.now.fault _ (sym c.is_some.ensures ∙ c.if-is_some.false)
 
 pub returns-then-self-eq0-2-clause-bytes : goal.returns-then-self-eq0-2-clause-bytes
 returns-then-self-eq0-2-clause-bytes g c = keeps_same _
@@ -111,7 +111,7 @@ pub returns-then-count-eq0-clause-kept : goal.returns-then-count-eq0-clause-kept
 returns-then-count-eq0-clause-kept g c = kept_told _ c.args.self.now.fault refl
 
 pub returns-else-count-eq0-clause-fault : goal.returns-else-count-eq0-clause-fault
-returns-else-count-eq0-clause-fault g c = told_none c.args.self.now.fault (search rules)
+returns-else-count-eq0-clause-fault g c = told_none c.args.self.now.fault (sym c.is_some.ensures ∙ c.if-is_some.false)
 
 pub returns-else-count-eq0-clause-kept : goal.returns-else-count-eq0-clause-kept
-returns-else-count-eq0-clause-kept g c = none_kept c.args.self.now.fault _ (search rules)
+returns-else-count-eq0-clause-kept g c = none_kept c.args.self.now.fault _ (sym c.is_some.ensures ∙ c.if-is_some.false)

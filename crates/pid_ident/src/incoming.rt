@@ -1,4 +1,4 @@
-//! What comes in from a client, over the writer of what goes out to it.
+//! What is read, over the writer of the replies to it.
 ghost use Rattle.std.specs.Prelude.{
   ◌≡◌,
   ◌+◌,
@@ -14,19 +14,18 @@ ghost use Rattle.std.specs.Prelude.{
   MatchResult,
 };
 ghost use Rattle.std.specs.Io.KnownBytes.{ReadConsumes};
-ghost use Rattle.pid_http_stream.specs.Moments.{AllSince, IsMoment};
+ghost use Rattle.pid_ident.specs.Moments.{AllSince, IsMoment};
 
-use pid_ident::{Input, Output, ReadFault};
+use pid_file::{Input, Output, ReadFault};
 
-/// A reader of what a client sends, which is shown the writer of the replies to it each time that
-/// it is read.
+/// A reader that is shown the writer of the replies to what it gives, each time that it is read.
 ///
 /// So one that keeps account of these moments records when replies go out. Each `Input` is one that
 /// keeps none.
 pub trait Incoming<W: Output> {
     ghost use Rattle.std.specs.Prelude.{ℕ, List, Option, None};
     ghost use Rattle.pid_file.specs.declared.io.ReadFault.{ReadFault};
-    ghost use Rattle.pid_http_stream.specs.Moments.{Moment};
+    ghost use Rattle.pid_ident.specs.Moments.{Moment};
 
     /// The bytes to come, if they are known.
     ghost to_come: { Self → Option (List ℕ) };

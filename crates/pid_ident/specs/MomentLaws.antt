@@ -3,7 +3,7 @@
 use Rattle.std.proofs.Common.{List, [], ◌++◌, Option, Some, None, sym, ap, ◌∙◌, append_assoc}
 use Rattle.std.proofs.lemmas.List.{append-nil}
 use Rattle.std.proofs.lemmas.List.Elements.{All-nil, All-append}
-use Rattle.pid_http_stream.specs.Moments.{Moment, AllSince}
+use Rattle.pid_ident.specs.Moments.{Moment, AllSince}
 
 -- nothing was read
 pub since_none : (P : Moment → Type 0) (a : Option (List Moment)) → AllSince P a a
