@@ -349,22 +349,27 @@ setTimeout(() => done(last), 300);
 
 
 def first_view(cases, browser):
-    """Loads the start page and a bare one in turn, until the fastest quarter is below the limit, at
-    most 24 times. What is painted first is the whole page."""
+    """Loads the start page and a bare one in turn, until the fastest quarter is below the limit and
+    the largest text was there with the first paint, at most 24 times."""
     first, bare, largest = [], [], []
-    while len(first) < 24 and (len(first) < 8 or quick(first) >= FIRST_VIEW):
+
+    def late():
+        return min(there - began for there, began in zip(largest, first))
+
+    while len(first) < 24 and (len(first) < 8 or quick(largest) >= FIRST_VIEW or late() >= 1):
         browser.driver.get(BARE)
         bare.append(painted(browser))
         browser.go("/")
         first.append(painted(browser))
         largest.append(browser.driver.execute_async_script(LARGEST))
-    told = f"{quick(first):.0f} ms beside {quick(bare):.0f} ms of a bare page"
+    told = f"{quick(largest):.0f} ms beside {quick(bare):.0f} ms of a bare page"
     print(f"site_access: first view {told} (fastest quarter of {len(first)}; medians"
-          f" {statistics.median(first):.0f} and {statistics.median(bare):.0f})")
-    is_soon = quick(first) < max(FIRST_VIEW, TIMES * quick(bare))
-    cases.equal(f"access: the first view, {told}", is_soon, True)
-    late = statistics.median(largest) - statistics.median(first)
-    cases.equal("access: the first view is the whole page", late < 1, True)
+          f" {statistics.median(largest):.0f} and {statistics.median(bare):.0f})")
+    is_soon = quick(largest) < max(FIRST_VIEW, TIMES * quick(bare))
+    cases.equal(f"access: the first view, whole, {told}", is_soon, True)
+    # A page that is filled in after its first paint never has its largest text there; a whole one
+    # has it there unless the browser is interrupted while it reads the page.
+    cases.equal("access: the first view is the whole page", late() < 1, True)
 
 
 def key_press(cases, browser):
