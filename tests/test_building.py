@@ -41,7 +41,8 @@ print(os.getpid(), file=open(os.environ["NOTES"] + ".pids", "a"))
 kind = ["statements"] if "--statements" in words else []
 names = sorted(name for name, _ in given)
 print("begin", crate, "jobs", value("--jobs"), *kind, "over", *names, file=note, flush=True)
-time.sleep(0.1 if crate == "low" else float(os.environ.get("PAUSE", "0.5")))
+pause = float(os.environ.get("PAUSE", "0.5"))
+time.sleep({"low": 0.1, "aside": pause / 2}.get(crate, pause))
 if os.environ.get("BROKEN") == crate:
     sys.exit("src/lib.rt:1: error: not proved")
 if kind:
@@ -137,13 +138,13 @@ def test_builds(cases):
         wanted = [f"crate {it}: proved, N s" for it in sorted(ALL)]
         cases.equal("each crate is reported", build(folder, PAUSE="2"), (wanted, "", 0))
         noted = notes(folder)
-        low = "begin low jobs 2 statements over std std_thing"
+        low = "begin low jobs 4 statements over std std_thing"
         cases.equal("the lowest crate is alone", noted[0], low)
         jobs = {"aside": 1, "left": 2, "right": 2}
         wanted = [f"begin {it} jobs {jobs[it]} statements over low std" for it in jobs]
         cases.equal("three are built at the same time", sorted(noted[2:5]), wanted)
         top = [it for it in noted if it.startswith("begin top")]
-        cases.equal("the last library", top, ["begin top jobs 2 statements over left right std"])
+        cases.equal("the last library", top, ["begin top jobs 4 statements over left right std"])
         last = "begin program jobs 1 over aside std top"
         cases.equal("the program comes last", noted[-2:], [last, "end program"])
         linked = os.path.join(folder, "crates", "program", "out", "program")

@@ -14,8 +14,8 @@ import pytest
 
 from http_examples import try_examples
 from http_server import BYTES, JSON, OK, TEXT, Server, posted, read_reply, refusal, reply, to_end
-from program import HEADER, PROGRAM, REAL_FILE, entries_of, tidy
-from registry import script
+from program import HEADER, PROGRAM, REAL_FILE, WHOLE, entries_of, tidy
+from registry import asked, script, work
 
 pytestmark = pytest.mark.needs("curl")
 
@@ -250,6 +250,66 @@ def test_questions(cases, folder):
         )
         cases.equal("http: one connection for two requests", kept.stdout, b"1\n0\n")
         discussed(cases, server)
+
+
+# Commands of a registry, and those that a server gets after them: of each the line of a script, and
+# the request.
+BEFORE = (
+    "account root who=alice&rank=0",
+    "submit alice path=PC/8086&name=Intel+Corporation&key=a1",
+    "approve root num=1&key=r1",
+)
+LATER = (
+    (
+        "submit alice path=PC/8087&name=Other&key=a2",
+        posted("/submit", "alice", b"path=PC/8087&name=Other", "X-Key: a2"),
+    ),
+    ("comment root num=2&text=seen", posted("/comment", "root", b"num=2&text=seen")),
+    ("approve root num=2", posted("/approve", "root", b"num=2")),
+)
+
+
+def rows_of(path):
+    """Each row of each table of a registry's file, and its export."""
+    return asked(path, ".dump"), work(b"", "export", "--db", path)
+
+
+def counts_of(path):
+    """The revision and the number of receipts."""
+    return asked(
+        path, "SELECT value FROM meta WHERE label = 'revision'; SELECT count(*) FROM receipt"
+    )
+
+
+@pytest.mark.needs("sqlite3")
+def test_commands_of_its_own(cases, folder):
+    """A server sends its registry the commands of its requests and none of its own: neither before
+    a stream nor after it. What it does not have to send leaves each row as it was, receipts and the
+    revision too, and what it has to send leaves what a script of the same commands leaves."""
+    path, twin = os.path.join(folder, "served"), os.path.join(folder, "by a script")
+    script(path, *BEFORE)
+    before = rows_of(path)
+    cases.equal("http: three commands: revision, receipts", counts_of(path), "3\n2\n")
+    streams = {
+        "no bytes": b"",
+        "questions": b"".join(b"GET %s HTTP/1.1\r\n\r\n" % it.encode() for it in QUESTIONS),
+        "a refused command": posted("/approve", "alice", b"num=1"),
+        "a repeated command": posted("/approve", "root", b"num=1", "X-Key: r1"),
+        **{name: sent for name, (sent, _) in HOSTILE.items()},
+    }
+    for name, stream in streams.items():
+        with Server(path, 1, program=WHOLE) as server:
+            server.raw(stream)
+            cases.equal(f"http: {name}: the end", server.ended(), (b"served 1\n", b"", 0))
+        cases.equal(f"http: {name}: the rows that it leaves", rows_of(path), before)
+    with Server(path, len(LATER) + 1, program=WHOLE) as server:
+        for _, request in LATER:
+            server.raw(request)
+        server.raw(streams["questions"])
+        cases.equal("http: commands: the end", server.ended(), (b"served 4\n", b"", 0))
+    cases.equal("http: three more commands: revision, receipts", counts_of(path), "6\n3\n")
+    script(twin, *BEFORE, *(line for line, _ in LATER))
+    cases.equal("http: commands: the rows that they leave", rows_of(path), rows_of(twin))
 
 
 def test_pages(cases, folder):

@@ -7,8 +7,9 @@ Each crate is proved from nothing. Of a library, `rattle build --statements` the
 crates above it can cite, without the proofs, so that they have less to load than of a library that
 `rt lib` builds. A prover with N jobs is N copies of one process, of which each costs some seconds
 of a processor. So a crate has one job, those for which the longest chain of crates waits half as
-many as there are processors, and all of them where no crate can be built beside another; the first
-kind gives way to the others. A program has one job too, since it has few functions of its own.
+many as there are processors, and all of them where no crate can be built beside it; the first kind
+gives way to the others. A program has one job too, since it has few functions of its own, unless
+its crates are built in turn.
 Prints `crate NAME: proved, N s` when a crate is built; what `rattle` prints goes to standard error
 if it fails.
 """
@@ -169,7 +170,8 @@ class Build:
                             continue
                         self.beside.add(crate)
                     self.begun.add(crate)
-                    threads.append(threading.Thread(target=self.build, args=(crate,)))
+                    parts = (crate, self.jobs(crate))
+                    threads.append(threading.Thread(target=self.build, args=parts))
                     threads[-1].start()
                 self.changed.wait(timeout=1)
         for thread in threads:
@@ -182,18 +184,21 @@ class Build:
         return self.above[crate] == self.above[first]
 
     def jobs(self, crate):
-        """Returns how many jobs a crate has."""
+        """Returns how many jobs a crate has that begins now."""
         if self.in_turn:
             return self.processors
         if crate in self.beside or self.toolchain.is_program(crate):
             return 1
+        # Nothing is built beside it if all that is not built yet waits for it.
+        if self.begun == self.built | {crate} and not self.ready():
+            return self.processors
         return max(1, self.processors // 2)
 
-    def build(self, crate):
+    def build(self, crate, jobs):
         """Builds one crate, and lets those above it begin."""
         succeeded, began = False, time.monotonic()
         try:
-            succeeded = self.is_built(crate) or self.prove(crate)
+            succeeded = self.is_built(crate) or self.prove(crate, jobs)
         finally:
             with self.changed:
                 self.beside.discard(crate)
@@ -216,10 +221,10 @@ class Build:
             return False
         return is_same and ages[0] == max(ages)
 
-    def prove(self, crate):
+    def prove(self, crate, jobs):
         """Proves and builds a crate. Returns whether that succeeded."""
         place, toolchain = Toolchain.place(crate), self.toolchain
-        command = toolchain.build(crate, self.jobs(crate))
+        command = toolchain.build(crate, jobs)
         if toolchain.is_program(crate):
             os.makedirs(os.path.dirname(place), exist_ok=True)
             return self.call(crate, command) and self.call(crate, toolchain.link(crate))
