@@ -6,10 +6,10 @@
 Each crate is proved from nothing. Of a library, `rattle build --statements` then writes what the
 crates above it can cite, without the proofs, so that they have less to load than of a library that
 `rt lib` builds. A prover with N jobs is N copies of one process, of which each costs some seconds
-of a processor. So a crate has one job, those for which the longest chain of crates waits half as
-many as there are processors, and all of them where no crate can be built beside it; the first kind
-gives way to the others. A program has one job too, since it has few functions of its own, unless
-its crates are built in turn.
+of a processor. So as many crates as there are processors are built side by side with one job each.
+Those for which the longest chain of crates waits begin first, and the others give way to them. One
+of these has half of the processors if they would be idle otherwise. A program has one job, since it
+has few functions of its own, unless its crates are built in turn: then each has all processors.
 Prints `crate NAME: proved, N s` when a crate is built; what `rattle` prints goes to standard error
 if it fails.
 """
@@ -164,10 +164,9 @@ class Build:
         threads = []
         with self.changed:
             while not self.failed and len(self.built) < len(self.crates):
-                for crate in self.ready():
+                free = self.processors - len(self.begun - self.built)
+                for crate in self.ready()[:free]:
                     if not self.leads(crate):
-                        if len(self.beside) >= max(1, self.processors // 2):
-                            continue
                         self.beside.add(crate)
                     self.begun.add(crate)
                     parts = (crate, self.jobs(crate))
@@ -187,12 +186,11 @@ class Build:
         """Returns how many jobs a crate has that begins now."""
         if self.in_turn:
             return self.processors
-        if crate in self.beside or self.toolchain.is_program(crate):
-            return 1
-        # Nothing is built beside it if all that is not built yet waits for it.
-        if self.begun == self.built | {crate} and not self.ready():
-            return self.processors
-        return max(1, self.processors // 2)
+        half = max(1, self.processors // 2)
+        are_idle = not self.ready() and len(self.begun - self.built) <= half
+        if are_idle and self.leads(crate) and not self.toolchain.is_program(crate):
+            return half
+        return 1
 
     def build(self, crate, jobs):
         """Builds one crate, and lets those above it begin."""
