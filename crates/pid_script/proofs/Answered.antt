@@ -1,5 +1,5 @@
 -- Lines that were answered, and one more behind them.
-use Rattle.std.proofs.Common.{◌≡◌, ℕ, List, [], ◌∷◌, ◌++◌, Option, Ok, Err, refl, sym, ap, ◌∙◌, subst, inl, inr, append_assoc}
+use Rattle.std.proofs.Common.{◌≡◌, ◌+◌, ℕ, List, [], ◌∷◌, ◌++◌, Option, Ok, Err, refl, sym, ap, ◌∙◌, subst, inl, inr, append_assoc}
 use Rattle.std.proofs.lemmas.List.{append-nil}
 use Rattle.std.specs.Io.KnownBytes.{Appends}
 use Rattle.std.specs.Prelude.{◌⊎◌}
@@ -11,16 +11,16 @@ use Rattle.pid_script.specs.declared.line_end.LineEnd.{LineEnd}
 use Rattle.pid_script.specs.declared.line_end.LineEnd.TheVariants.{Stopped, WriteFault, TooLong}
 use Rattle.pid_script.specs.declared.moderated.Moderated.{Ghosts}
 use Rattle.pid_script.specs.Calling.{CallsSend, CallsSendEither}
-use Rattle.pid_script.specs.Replies.{line_reply, command_of, commands_of_lines, history_after, replies}
+use Rattle.pid_script.specs.Replies.{line_reply, calls_for, calls_for_lines, command_of, commands_of_lines, history_after, replies}
 use Rattle.pid_script.specs.Steps.Output.{Out, out, HasSaid, AnswersLine}
 use Rattle.pid_script.specs.ScriptLines.{Ask, ask_of}
 use Rattle.pid_script.specs.RegistryStates.{ShowsOrHasFailed, Becomes, BecomesEither, StopsBehind}
 use Rattle.pid_script.specs.StopLines.{IsBegun, StoppedBy, IsStopText}
 use Rattle.pid_script.specs.Steps.Progress.{Answered, Ended}
 use Rattle.pid_script.specs.Scripts.{NoneTooLong, NoneCalls, AllButLast, IsNotTooLong, CallsNot, passage, AnswersLines, IsTextFor, Replied, StoppedLast, FailsToWrite}
-use Rattle.pid_script.proofs.SayLemmas.{Appends-nil, Appends-then, front-then}
+use Rattle.pid_script.proofs.SayLemmas.{none_fits, Appends-nil, Appends-then, front-then}
 use Rattle.pid_script.proofs.Calling.{send_then, send_either}
-use Rattle.pid_script.proofs.LineReplies.{commands_more, commands_one, commands_then, history_on, history_more, replies_on, replies_one, fits_more, calls_more, quiet_lines, quiet_before, all_but_last, but_one, history_waits, reply_more}
+use Rattle.pid_script.proofs.LineReplies.{counts_then, commands_more, commands_one, commands_then, history_on, history_more, replies_on, replies_one, fits_more, calls_more, quiet_lines, quiet_before, all_but_last, but_one, history_waits, reply_more}
 
 becomes_then : {R : Type 0} (m : Ghosts R) (a b c : R) (h k l : History) → Becomes m a h b k → Becomes m b k c l → Becomes m a h c l
 becomes_then m a b c h k l p q = record { shows = λ s. q.shows (p.shows s); failed = λ f. q.failed (subst m.has_failed (sym (p.failed f)) f) ∙ p.failed f }
@@ -68,6 +68,7 @@ answered_out m h start first r taken held lines a none = record {
   sent = [];
   went = Appends-nil taken;
   rest = none;
+  room = none_fits held none;
   fits = a.fits;
   leaves = a.leaves;
   lives = a.lives;
@@ -86,6 +87,7 @@ flushed m h start first r old new lines a went = answers_out m h start first r (
   sent = a.sent ++ old.held;
   went = Appends-then a.between old.taken new a.sent old.held a.went went;
   rest = append-nil (a.sent ++ old.held) ∙ a.rest;
+  room = none_fits [] refl;
   fits = a.fits;
   leaves = a.leaves;
   lives = a.lives;
@@ -112,14 +114,14 @@ broken m h start first r old new all lines behind parts a front = record {
   fits = subst (AllButLast IsNotTooLong) a.parts (all_but_last IsNotTooLong lines a.fits);
   lives = λ f. subst (AllButLast CallsNot) a.parts (all_but_last CallsNot lines (a.lives f));
   leaves = record { shows = λ s. inr (inl (subst (λ l. m.showing.shows r (history_after h l)) a.parts (a.leaves.shows s))); failed = a.leaves.failed };
-  calls = inr (subst (λ l. CallsSend m.showing first (commands_of_lines l) r) a.parts a.calls);
+  calls = inr (subst (λ l. CallsSend m.showing first (commands_of_lines l) (calls_for_lines l) r) a.parts a.calls);
 }
 
 -- one more line was answered, and is held
 more_held : {R : Type 0} (m : Ghosts R) (h : History) (start : Option (List ℕ)) (first r new : R) (old left : Out) (lines : List (List ℕ)) (line : List ℕ)
     → Answered m h start first r old lines → HasSaid old left (line_reply (ask_of line) (history_after h lines)) → command_of (ask_of line) ≡ []
     → NoneTooLong (lines ++ line ∷ []) → Becomes m first h new (history_after h (lines ++ line ∷ [])) → (m.has_failed first → NoneCalls (lines ++ line ∷ []))
-    → CallsSend m.showing first (commands_of_lines (lines ++ line ∷ [])) new
+    → CallsSend m.showing first (commands_of_lines (lines ++ line ∷ [])) (calls_for_lines (lines ++ line ∷ [])) new
     → Answered m h start first new left (lines ++ line ∷ [])
 more_held m h start first r new old left lines line a said none fits leaves lives calls = record {
   before = a.before;
@@ -133,6 +135,7 @@ more_held m h start first r new old left lines line a said none fits leaves live
   rest = append_assoc a.sent said.sent left.held ∙ ap (λ (l : List ℕ). a.sent ++ l) (sym said.rest) ∙ gone_on a.sent old.held (replies (history_after h a.before) a.waiting) (line_reply (ask_of line) (history_after h lines)) a.rest
       ∙ ap (λ (l : List ℕ). replies (history_after h a.before) a.waiting ++ l) (ap (line_reply (ask_of line)) (ap (history_after h) a.parts ∙ history_on h a.before a.waiting) ∙ sym (replies_one line (history_after (history_after h a.before) a.waiting)))
       ∙ sym (replies_on a.waiting (line ∷ []) (history_after h a.before));
+  room = said.room a.room;
   fits = fits;
   leaves = leaves;
   lives = lives;
@@ -149,6 +152,10 @@ all_told m h start first r old new lines text a went =
 said_all : (a b : Out) (x : List ℕ) → HasSaid a b x → b.held ≡ [] → Appends a.taken b.taken (a.held ++ x)
 said_all a b x p none = subst (Appends a.taken b.taken) (sym (p.rest ∙ ap (λ (l : List ℕ). p.sent ++ l) none ∙ append-nil p.sent)) p.told
 
+-- as many calls as lines and one more ask for
+sent_for : {R : Type 0} (m : Ghosts R) (first new : R) (lines : List (List ℕ)) (line : List ℕ) (cs : List Asked) → CallsSend m.showing first cs (calls_for_lines lines + calls_for (ask_of line)) new → CallsSend m.showing first cs (calls_for_lines (lines ++ line ∷ [])) new
+sent_for m first new lines line cs p = subst (λ n. CallsSend m.showing first cs n new) (sym (counts_then lines line)) p
+
 -- one more line was answered
 pub more_answered : {R : Type 0} (m : Ghosts R) (x : Unit {0}) (h : History) (start : Option (List ℕ)) (first r new : R) (old left : Out) (lines : List (List ℕ)) (line : List ℕ)
     → Answered m h start first r old lines → AnswersLine m (Ok x) (ask_of line) (history_after h lines) r old new left → Answered m h start first new left (lines ++ line ∷ [])
@@ -163,8 +170,8 @@ more_answered m x h start first r new old left lines line a e = by e.leaves.flus
     lives : m.has_failed first → NoneCalls (lines ++ line ∷ [])
     lives = λ f. calls_more lines line (a.lives f) (e.leaves.lives (subst m.has_failed (sym (a.leaves.failed f)) f))
 
-    calls : CallsSend m.showing first (commands_of_lines (lines ++ line ∷ [])) new
-    calls = subst (λ cs. CallsSend m.showing first cs new) (sym (commands_then lines line)) (send_then m.showing first r new (commands_of_lines lines) (command_of (ask_of line)) a.calls e.sends)
+    calls : CallsSend m.showing first (commands_of_lines (lines ++ line ∷ [])) (calls_for_lines (lines ++ line ∷ [])) new
+    calls = subst (λ cs. CallsSend m.showing first cs (calls_for_lines (lines ++ line ∷ [])) new) (sym (commands_then lines line)) (sent_for m first new lines line _ (send_then m.showing first r new (commands_of_lines lines) (command_of (ask_of line)) _ _ a.calls e.sends))
 
     by : (command_of (ask_of line) ≡ []) ⊎ (left.held ≡ []) → Answered m h start first new left (lines ++ line ∷ [])
     by (inl none) = more_held m h start first r new old left lines line a e.tells none fits leaves lives calls
@@ -186,15 +193,17 @@ told_for m first r h at k waiting line text same becomes (inr stop) =
     StoppedLast waiting line text refl (subst (λ g. IsStopText (StoppedBy m first h (ask_of line)) (IsBegun (ask_of line) g) text) same (stop_then m first r h k (ask_of line) (IsBegun (ask_of line) k) text becomes stop)) refl
 
 -- what calls sent for the lines before one, and none for that one
-none_sent : {R : Type 0} (m : Ghosts R) (first r new : R) (lines : List (List ℕ)) → CallsSend m.showing first (commands_of_lines lines) r → CallsSend m.showing r [] new → CallsSend m.showing first (commands_of_lines lines) new
-none_sent m first r new lines p q = subst (λ cs. CallsSend m.showing first cs new) (append-nil (commands_of_lines lines)) (send_then m.showing first r new (commands_of_lines lines) [] p q)
+none_sent : {R : Type 0} (m : Ghosts R) (first r new : R) (lines : List (List ℕ)) (line : List ℕ) → CallsSend m.showing first (commands_of_lines lines) (calls_for_lines lines) r → CallsSend m.showing r [] (calls_for (ask_of line)) new → CallsSend m.showing first (commands_of_lines lines) (calls_for_lines (lines ++ line ∷ [])) new
+none_sent m first r new lines line p q = sent_for m first new lines line _ (subst (λ cs. CallsSend m.showing first cs (calls_for_lines lines + calls_for (ask_of line)) new) (append-nil (commands_of_lines lines)) (send_then m.showing first r new (commands_of_lines lines) [] _ _ p q))
 
 -- or maybe for that one
-either_sent : {R : Type 0} (m : Ghosts R) (first r new : R) (lines : List (List ℕ)) (line : List ℕ) → CallsSend m.showing first (commands_of_lines lines) r → CallsSendEither m.showing r [] (command_of (ask_of line)) new
-    → CallsSendEither m.showing first (commands_of_lines lines) (commands_of_lines (lines ++ line ∷ [])) new
+either_sent : {R : Type 0} (m : Ghosts R) (first r new : R) (lines : List (List ℕ)) (line : List ℕ) → CallsSend m.showing first (commands_of_lines lines) (calls_for_lines lines) r → CallsSendEither m.showing r [] (command_of (ask_of line)) (calls_for (ask_of line)) new
+    → CallsSendEither m.showing first (commands_of_lines lines) (commands_of_lines (lines ++ line ∷ [])) (calls_for_lines (lines ++ line ∷ [])) new
 either_sent m first r new lines line p q =
-    subst (λ cs. CallsSendEither m.showing first cs (commands_of_lines (lines ++ line ∷ [])) new) (append-nil (commands_of_lines lines))
-    (subst (λ cs. CallsSendEither m.showing first (commands_of_lines lines ++ []) cs new) (sym (commands_then lines line)) (send_either m.showing first r new (commands_of_lines lines) [] (command_of (ask_of line)) p q))
+    let both = calls_for_lines lines + calls_for (ask_of line) in
+    subst (λ n. CallsSendEither m.showing first (commands_of_lines lines) (commands_of_lines (lines ++ line ∷ [])) n new) (sym (counts_then lines line))
+    (subst (λ cs. CallsSendEither m.showing first cs (commands_of_lines (lines ++ line ∷ [])) both new) (append-nil (commands_of_lines lines))
+    (subst (λ cs. CallsSendEither m.showing first (commands_of_lines lines ++ []) cs both new) (sym (commands_then lines line)) (send_either m.showing first r new (commands_of_lines lines) [] (command_of (ask_of line)) _ _ p q)))
 
 -- a line ended it
 pub ends_at : {R : Type 0} (m : Ghosts R) (end : LineEnd) (h : History) (start : Option (List ℕ)) (first r new : R) (old left : Out) (all lines : List (List ℕ)) (line : List ℕ) (behind : List (List ℕ))
@@ -211,7 +220,7 @@ ends_at m Stopped h start first r new old left all lines line behind parts a e =
   stop = stop_then m first r h (history_after h lines) (ask_of line) (IsBegun (ask_of line) (history_after h lines)) e.tells.text a.leaves e.tells.stop;
   told = all_told m h start first r old left.taken lines e.tells.text a e.tells.told;
   leaves = stops_then m first r new h (history_after h lines) (command_of (ask_of line)) a.leaves e.leaves;
-  calls = none_sent m first r new lines a.calls e.sends;
+  calls = none_sent m first r new lines line a.calls e.sends;
 }
 ends_at m TooLong h start first r new old left all lines line behind parts a e = record {
   before = lines;
@@ -223,7 +232,7 @@ ends_at m TooLong h start first r new old left all lines line behind parts a e =
   lives = a.lives;
   told = subst (Appends start left.taken) (sym (reply_more h lines line)) (all_told m h start first r old left.taken lines (line_reply (ask_of line) (history_after h lines)) a e.tells);
   leaves = becomes_then m first r new h (history_after h lines) (history_after h lines) a.leaves e.leaves.becomes;
-  calls = none_sent m first r new lines a.calls e.sends;
+  calls = none_sent m first r new lines line a.calls e.sends;
 }
 ends_at m WriteFault h start first r new old left all lines line behind parts a e =
     let at = history_after h a.before in
@@ -249,7 +258,7 @@ ends_at m WriteFault h start first r new old left all lines line behind parts a 
       fits = subst (AllButLast IsNotTooLong) whole (but_one IsNotTooLong lines line a.fits);
       lives = λ f. subst (AllButLast CallsNot) whole (but_one CallsNot lines line (a.lives f));
       leaves = subst (λ g. BecomesEither m first h new at g) next (subst (λ g. BecomesEither m first h new g (after_all (history_after h lines) (command_of (ask_of line)))) stays (either_then m first r new h (history_after h lines) (history_after h lines) (after_all (history_after h lines) (command_of (ask_of line))) a.leaves e.leaves));
-      calls = subst (λ cs. CallsSendEither m.showing first cs (commands_of_lines (a.before ++ (a.waiting ++ line ∷ []))) new)
+      calls = subst (λ cs. CallsSendEither m.showing first cs (commands_of_lines (a.before ++ (a.waiting ++ line ∷ []))) (calls_for_lines (a.before ++ (a.waiting ++ line ∷ []))) new)
           (ap commands_of_lines a.parts ∙ commands_more a.before a.waiting ∙ ap (λ (l : List Asked). commands_of_lines a.before ++ l) a.asked ∙ append-nil (commands_of_lines a.before))
-          (subst (λ ls. CallsSendEither m.showing first (commands_of_lines lines) (commands_of_lines ls) new) whole (either_sent m first r new lines line a.calls e.sends));
+          (subst (λ ls. CallsSendEither m.showing first (commands_of_lines lines) (commands_of_lines ls) (calls_for_lines ls) new) whole (either_sent m first r new lines line a.calls e.sends));
     }

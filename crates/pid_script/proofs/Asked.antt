@@ -28,13 +28,14 @@ use Rattle.pid_script.specs.Asking.{path_asked, lookup_in_form}
 use Rattle.pid_lookup.specs.Fields.{as_lookup as lookup_told}
 use Rattle.pid_script.specs.LookingUp.{LooksUp}
 use Rattle.pid_script.specs.Calling.{CallsSend}
-use Rattle.pid_script.specs.Replies.{line_reply, command_of, name_reply, name_line, is_call, looked_up, answer_line, BAD_FLAGS}
+use Rattle.pid_script.specs.Replies.{line_reply, calls_for, command_of, name_reply, name_line, is_call, looked_up, answer_line, BAD_FLAGS}
 use Rattle.pid_script.specs.Steps.Output.{Out, IsGivenRefusal, IsGivenStop, IsNothing, TellsLine, IsReplyOrStop, refusal_given, refusal_of_names, GoesOnAfter, LeavesAfter, SendsFor, AnswersLine}
 use Rattle.pid_script.specs.ScriptLines as lines
 use Rattle.pid_script.specs.ScriptLines.{Ask}
 use Rattle.pid_script.specs.RegistryStates.{ShowsOrHasFailed, Becomes}
 use Rattle.pid_script.specs.StopLines.{is_stop, IsBegun, StoppedBy}
 use Rattle.pid_script.proofs.Calling.{send_still, send_none}
+use Rattle.pid_script.proofs.LineReplies.{one_call}
 use Rattle.pid_script.proofs.Causes.{recast, none_begun, faults_stop, no_memory, failed_goes, no_cause, own_cause, is_memory, form_cause, fault_cause, names_cause}
 
 -- the registry is as before
@@ -58,8 +59,8 @@ question_leaves m (Err Stopped) ask h r new left given none short becomes called
 question_leaves m (Err WriteFault) ask h r new left given none short becomes called goes fits = record { shows = λ s. inl (becomes.shows s); failed = becomes.failed }
 question_leaves m (Err TooLong) ask h r new left given none short becomes called goes fits = absurd (fits refl)
 
-question_sends : {R : Type 0} (m : Ghosts R) (result : Result (Unit {0}) LineEnd) (ask : Ask) (r new : R) → command_of ask ≡ [] → CallsSend m.showing r [] new → SendsFor m result r new ask
-question_sends m (Ok x) ask r new none sends = subst (λ cs. CallsSend m.showing r cs new) (sym none) sends
+question_sends : {R : Type 0} (m : Ghosts R) (result : Result (Unit {0}) LineEnd) (ask : Ask) (r new : R) → command_of ask ≡ [] → CallsSend m.showing r [] (calls_for ask) new → SendsFor m result r new ask
+question_sends m (Ok x) ask r new none sends = subst (λ cs. CallsSend m.showing r cs (calls_for ask) new) (sym none) sends
 question_sends m (Err Stopped) ask r new none sends = sends
 question_sends m (Err WriteFault) ask r new none sends = inl sends
 question_sends m (Err TooLong) ask r new none sends = sends
@@ -67,7 +68,7 @@ question_sends m (Err TooLong) ask r new none sends = sends
 -- a line was answered that holds no command
 pub asked : {R : Type 0} (m : Ghosts R) (result : Result (Unit {0}) LineEnd) (ask : Ask) (h : History) (r new : R) (old left : Out) (given : Option Refusal)
     → command_of ask ≡ [] → (ask ≡ lines.TooLong → ⊥) → Becomes m r h new h → ((e : Refusal) → IsGivenRefusal given e → StoppedBy m r h ask e) → OnOk result (m.has_failed r → (is_call ask ≡ false) ⊎ (given ≡ Some Failed))
-    → GoesOnAfter result given → (result ≡ Err TooLong → ⊥) → CallsSend m.showing r [] new → TellsLine result (line_reply ask h) (IsGivenStop given) old left
+    → GoesOnAfter result given → (result ≡ Err TooLong → ⊥) → CallsSend m.showing r [] (calls_for ask) new → TellsLine result (line_reply ask h) (IsGivenStop given) old left
     → AnswersLine m result ask h r old new left
 asked m result ask h r new old left given none short becomes cause called goes fits sends told = record {
   tells = recast (IsGivenRefusal given) (StoppedBy m r h ask) IsNothing (IsBegun ask h) result (line_reply ask h) old left cause (none_begun ask h) told;
@@ -100,10 +101,10 @@ form_refused m result ask said h r old left e told none reply command call short
     leaves (Err TooLong) g f = absurd (f refl)
 
     sent : (r' : Result (Unit {0}) LineEnd) → GoesOnAfter r' (Some e) → SendsFor m r' r r ask
-    sent (Ok x) g = subst (λ cs. CallsSend m.showing r cs r) (sym (command (told (no_memory e g)))) (send_still m.showing r)
-    sent (Err Stopped) g = send_still m.showing r
-    sent (Err WriteFault) g = inl (send_still m.showing r)
-    sent (Err TooLong) g = send_still m.showing r
+    sent (Ok x) g = subst (λ cs. CallsSend m.showing r cs (calls_for ask) r) (sym (command (told (no_memory e g)))) (send_still m.showing r _)
+    sent (Err Stopped) g = send_still m.showing r _
+    sent (Err WriteFault) g = inl (send_still m.showing r _)
+    sent (Err TooLong) g = send_still m.showing r _
 
 pub always : (r : Result (Unit {0}) LineEnd) (P : Type 0) → P → OnOk r P
 always (Ok x) P p = p
@@ -159,19 +160,19 @@ looked_for m result found form l h r new old left is told kept failed sends goes
     asked m result (lines.AsksLookup form) h r new old left (refusal_of_names found) refl (λ e. cc) (record { shows = kept; failed = λ f. (failed f).1 })
     (names_cause m found r h (lines.AsksLookup form) (ap is_some is) (λ s. faults_named found (tree_of h) l.0 l.2 l.1 (told s)) (λ f. (failed f).0))
     (always result (m.has_failed r → (is_call (lines.AsksLookup form) ≡ false) ⊎ (refusal_of_names found ≡ Some Failed)) (λ f. inr (ap refusal_of_names (failed f).0)))
-    goes fits (send_none m.showing r new does)
+    goes fits (send_none m.showing r new _ (one_call (lines.AsksLookup form) (ap is_some is)) does)
     (subst (λ o. TellsLine result (looked_up o h) (IsGivenStop (refusal_of_names found)) old left) (sym is) (sends l.0 (answer_of (tree_of h) l.0 l.1 l.2) facts.0 facts.1 facts.2))
 
 -- a look-up whose fields are bad
 pub bad_lookup : {R : Type 0} (m : Ghosts R) (result : Result (Unit {0}) LineEnd) (form : List ℕ) (h : History) (r : R) (old left : Out) → lookup_in_form form ≡ None → ((given : Option Refusal) → TellsLine result (refused_line BadText) (IsGivenStop given) old left) → IfErr result (λ e. e ≡ WriteFault) → AnswersLine m result (lines.AsksLookup form) h r old r left
 bad_lookup m result form h r old left is told end =
-    asked m result (lines.AsksLookup form) h r r old left None refl (λ e. cc) (same m r h) (no_cause m r h (lines.AsksLookup form)) (always result (m.has_failed r → (is_call (lines.AsksLookup form) ≡ false) ⊎ (None ≡ Some Failed)) (λ _. inl (ap is_some is))) (none_goes result) (only_fault result end) (send_still m.showing r)
+    asked m result (lines.AsksLookup form) h r r old left None refl (λ e. cc) (same m r h) (no_cause m r h (lines.AsksLookup form)) (always result (m.has_failed r → (is_call (lines.AsksLookup form) ≡ false) ⊎ (None ≡ Some Failed)) (λ _. inl (ap is_some is))) (none_goes result) (only_fault result end) (send_still m.showing r _)
     (subst (λ o. TellsLine result (looked_up o h) (IsGivenStop None) old left) (sym is) (told None))
 
 -- memory is short for a look-up
 pub no_lookup : {R : Type 0} (m : Ghosts R) (e : LineEnd) (form : List ℕ) (h : History) (r : R) (old left : Out) → ((reply : List ℕ) → TellsLine (Err e) reply (IsGivenStop (Some Memory)) old left) → (e ≡ TooLong → ⊥) → AnswersLine m (Err e) (lines.AsksLookup form) h r old r left
 no_lookup m e form h r old left told fits =
-    asked m (Err e) (lines.AsksLookup form) h r r old left (Some Memory) refl (λ e. cc) (same m r h) (own_cause m r h (lines.AsksLookup form)) tt tt (λ is. fits (cc is)) (send_still m.showing r) (told (line_reply (lines.AsksLookup form) h))
+    asked m (Err e) (lines.AsksLookup form) h r r old left (Some Memory) refl (λ e. cc) (same m r h) (own_cause m r h (lines.AsksLookup form)) tt tt (λ is. fits (cc is)) (send_still m.showing r _) (told (line_reply (lines.AsksLookup form) h))
 
 -- the name of a path was asked
 name_facts : {R X : Type 0} (m : Ghosts R) (answer : Result X Refusal) (h : History) (r : R) (P : X → Type 0) → (m.showing.shows r h → MatchResult answer P IsMemoryOrStore) → (m.has_failed r → answer ≡ Err Failed) → ShowsOrHasFailed m r h → IfOk answer P × IfErr answer (λ e. is_stop e ≡ true)
@@ -187,5 +188,5 @@ named m result answer form path h r new old left P is told kept failed sends goe
     asked m result (lines.AsksName form) h r new old left (refusal_given answer) refl (λ e. cc) (record { shows = kept; failed = λ f. (failed f).1 })
     (fault_cause m answer r h (lines.AsksName form) (ap is_ok is) (λ s. if_err answer P IsMemoryOrStore (told s)) (λ f. (failed f).0))
     (always result (m.has_failed r → (is_call (lines.AsksName form) ≡ false) ⊎ (refusal_given answer ≡ Some Failed)) (λ f. inr (ap refusal_given (failed f).0)))
-    goes fits (send_none m.showing r new does)
+    goes fits (send_none m.showing r new _ (one_call (lines.AsksName form) (ap is_ok is)) does)
     (subst (λ a. TellsLine result (name_reply a h) (IsGivenStop (refusal_given answer)) old left) (sym is) (sends facts.0 facts.1))

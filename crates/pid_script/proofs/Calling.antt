@@ -1,6 +1,6 @@
 -- Calls in turn, and the commands that they send.
-use Rattle.std.proofs.Common.{◌≡◌, Bool, true, false, cond, List, [], ◌∷◌, ◌++◌, Result, refl, sym, ap, subst, ◌∙◌, append_assoc, inl, inr}
-use Rattle.std.proofs.lemmas.List.{append-nil}
+use Rattle.std.proofs.Common.{◌≡◌, ◌≤◌, ◌+◌, ℕ, Bool, true, false, cond, List, [], ◌∷◌, ◌++◌, length, Result, refl, sym, ap, subst, ◌∙◌, append_assoc, inl, inr, arith}
+use Rattle.std.proofs.lemmas.List.{append-nil, length-append}
 use Rattle.pid_moderation.specs.declared.command.Reply.{Reply}
 use Rattle.pid_moderation.specs.declared.refusal.Refusal.{Refusal}
 use Rattle.pid_moderation.specs.History.{Asked}
@@ -35,42 +35,43 @@ go_then w a b c p q = record { clean = λ clean. p.clean (q.clean clean); calls 
 
 -- WITH THEIR COMMANDS
 
-pub send_still : {R : Type 0} (w : Showing R) (a : R) → CallsSend w a [] a
-send_still w a = record { calls = []; lead = refl; sent = refl }
+pub send_still : {R : Type 0} (w : Showing R) (a : R) (n : ℕ) → CallsSend w a [] n a
+send_still w a n = record { calls = []; lead = refl; few = omega arith; sent = refl }
 
-pub send_then : {R : Type 0} (w : Showing R) (a b c : R) (cs ds : List Asked) → CallsSend w a cs b → CallsSend w b ds c → CallsSend w a (cs ++ ds) c
-send_then w a b c cs ds p q = record {
+pub send_then : {R : Type 0} (w : Showing R) (a b c : R) (cs ds : List Asked) (k n : ℕ) → CallsSend w a cs k b → CallsSend w b ds n c → CallsSend w a (cs ++ ds) (k + n) c
+send_then w a b c cs ds k n p q = record {
   calls = p.calls ++ q.calls;
   lead = lead_on w a b c p.calls q.calls p.lead q.lead;
+  few = omega (arith, length-append p.calls q.calls, p.few, q.few);
   sent = ap (λ (l : List Asked). l ++ ds) p.sent ∙ ap (λ (l : List Asked). commands_in (sent_in p.calls) ++ l) q.sent ∙ sym (commands_on (sent_in p.calls) (sent_in q.calls)) ∙ ap commands_in (sym (sent_on p.calls q.calls));
 }
 
-pub send_either : {R : Type 0} (w : Showing R) (a b c : R) (cs ds es : List Asked) → CallsSend w a cs b → CallsSendEither w b ds es c → CallsSendEither w a (cs ++ ds) (cs ++ es) c
-send_either w a b c cs ds es p (inl q) = inl (send_then w a b c cs ds p q)
-send_either w a b c cs ds es p (inr q) = inr (send_then w a b c cs es p q)
+pub send_either : {R : Type 0} (w : Showing R) (a b c : R) (cs ds es : List Asked) (k n : ℕ) → CallsSend w a cs k b → CallsSendEither w b ds es n c → CallsSendEither w a (cs ++ ds) (cs ++ es) (k + n) c
+send_either w a b c cs ds es k n p (inl q) = inl (send_then w a b c cs ds k n p q)
+send_either w a b c cs ds es k n p (inr q) = inr (send_then w a b c cs es k n p q)
 
-send_one : {R : Type 0} (w : Showing R) (a b : R) (call : Call) (cs : List Asked) → Does w a call b → cs ≡ commands_in call.sent → CallsSend w a cs b
-send_one w a b call cs does is = record { calls = call ∷ []; lead = (b, does, refl); sent = is ∙ ap commands_in (sym (append-nil call.sent)) }
+send_one : {R : Type 0} (w : Showing R) (a b : R) (call : Call) (cs : List Asked) (n : ℕ) → 1 ≤ n → Does w a call b → cs ≡ commands_in call.sent → CallsSend w a cs n b
+send_one w a b call cs n one does is = record { calls = call ∷ []; lead = (b, does, refl); few = one; sent = is ∙ ap commands_in (sym (append-nil call.sent)) }
 
-pub send_none : {R : Type 0} (w : Showing R) (a b : R) → Does w a nothing_sent b → CallsSend w a [] b
-send_none w a b does = send_one w a b nothing_sent [] does refl
+pub send_none : {R : Type 0} (w : Showing R) (a b : R) (n : ℕ) → 1 ≤ n → Does w a nothing_sent b → CallsSend w a [] n b
+send_none w a b n one does = send_one w a b nothing_sent [] n one does refl
 
 one_sent : (s : Sent) (outcome : Bool) → outcome ≡ true → s.command ∷ [] ≡ commands_in (cond outcome (s ∷ []) [])
 one_sent s true is = refl
 one_sent s false is = absurd cc
 
 -- a command that was answered by an outcome
-pub send_obeyed : {R : Type 0} (w : Showing R) (a b : R) (c : Asked) (answer : Result Reply Refusal) (live : Bool) → is_outcome answer ≡ true → Does w a (obeyed c answer live) b → CallsSend w a (c ∷ []) b
-send_obeyed w a b c answer live outcome does = send_one w a b (obeyed c answer live) (c ∷ []) does (one_sent (record { command = c; outcome = answer }) (is_outcome answer) outcome)
+pub send_obeyed : {R : Type 0} (w : Showing R) (a b : R) (c : Asked) (answer : Result Reply Refusal) (live : Bool) (n : ℕ) → 1 ≤ n → is_outcome answer ≡ true → Does w a (obeyed c answer live) b → CallsSend w a (c ∷ []) n b
+send_obeyed w a b c answer live n one outcome does = send_one w a b (obeyed c answer live) (c ∷ []) n one does (one_sent (record { command = c; outcome = answer }) (is_outcome answer) outcome)
 
-send_by : {R : Type 0} (w : Showing R) (a b : R) (s : Sent) (outcome : Bool) (call : Call) → call.sent ≡ cond outcome (s ∷ []) [] → Does w a call b → CallsSendEither w a [] (s.command ∷ []) b
-send_by w a b s true call is does = inr (send_one w a b call (s.command ∷ []) does (ap commands_in (sym is)))
-send_by w a b s false call is does = inl (send_one w a b call [] does (ap commands_in (sym is)))
+send_by : {R : Type 0} (w : Showing R) (a b : R) (s : Sent) (outcome : Bool) (call : Call) (n : ℕ) → 1 ≤ n → call.sent ≡ cond outcome (s ∷ []) [] → Does w a call b → CallsSendEither w a [] (s.command ∷ []) n b
+send_by w a b s true call n one is does = inr (send_one w a b call (s.command ∷ []) n one does (ap commands_in (sym is)))
+send_by w a b s false call n one is does = inl (send_one w a b call [] n one does (ap commands_in (sym is)))
 
 -- a command that was answered by none
-pub send_refused : {R : Type 0} (w : Showing R) (a b : R) (c : Asked) (answer : Result Reply Refusal) (live : Bool) → is_outcome answer ≡ false → Does w a (obeyed c answer live) b → CallsSend w a [] b
-send_refused w a b c answer live none does = send_one w a b (obeyed c answer live) [] does (ap (λ o. commands_in (cond o (record { command = c; outcome = answer } ∷ []) [])) (sym none))
+pub send_refused : {R : Type 0} (w : Showing R) (a b : R) (c : Asked) (answer : Result Reply Refusal) (live : Bool) (n : ℕ) → 1 ≤ n → is_outcome answer ≡ false → Does w a (obeyed c answer live) b → CallsSend w a [] n b
+send_refused w a b c answer live n one none does = send_one w a b (obeyed c answer live) [] n one does (ap (λ o. commands_in (cond o (record { command = c; outcome = answer } ∷ []) [])) (sym none))
 
 -- or in any way
-pub send_asked : {R : Type 0} (w : Showing R) (a b : R) (c : Asked) (answer : Result Reply Refusal) (live : Bool) → Does w a (obeyed c answer live) b → CallsSendEither w a [] (c ∷ []) b
-send_asked w a b c answer live does = send_by w a b (record { command = c; outcome = answer }) (is_outcome answer) (obeyed c answer live) refl does
+pub send_asked : {R : Type 0} (w : Showing R) (a b : R) (c : Asked) (answer : Result Reply Refusal) (live : Bool) (n : ℕ) → 1 ≤ n → Does w a (obeyed c answer live) b → CallsSendEither w a [] (c ∷ []) n b
+send_asked w a b c answer live n one does = send_by w a b (record { command = c; outcome = answer }) (is_outcome answer) (obeyed c answer live) n one refl does

@@ -1,6 +1,6 @@
 -- The answer to an export.
 use mathlib.Core.Bool.{true≢false}
-use Rattle.std.proofs.Common.{◌≡◌, ℕ, true, List, [], ◌++◌, Option, Some, Result, Ok, Err, refl, sym, ap, ◌∙◌, subst, inl, inr}
+use Rattle.std.proofs.Common.{◌≡◌, ℕ, true, List, [], ◌++◌, Option, Some, Result, Ok, Err, refl, sym, ap, ◌∙◌, subst, inl, inr, arith}
 use Rattle.std.specs.Io.KnownBytes.{Appends}
 use Rattle.std.specs.Prelude.{◌⊎◌, IsErrOf}
 use Rattle.pid_ident.specs.Sending.{SendsFront}
@@ -34,7 +34,7 @@ pub export_unheld : {R : Type 0} (m : Ghosts R) (e : LineEnd) (h : History) (r :
 export_unheld m e h r a b was left is front = subst (λ x. AnswersLine m (Err x) lines.AsksExport h r (out a was) r (out b left)) (sym is) (record {
   tells = record { text = print (tree_of h); is = inl refl; front = front-before a b was (print (tree_of h)) front };
   leaves = record { shows = λ s. inl s; failed = λ _. refl };
-  sends = inl (send_still m.showing r);
+  sends = inl (send_still m.showing r 1);
 })
 
 -- the whole text went out
@@ -43,7 +43,7 @@ pub export_whole : {R : Type 0} (m : Ghosts R) (x : Unit {0}) (h : History) (r n
 export_whole m x h r new a b c was left went none told kept failed does stands = record {
   tells = out_then a b c was left (print (tree_of h)) none went (by stands);
   leaves = record { becomes = record { shows = kept; failed = λ f. absurd (failed f) }; lives = λ f. absurd (failed f); flushed = inr none; fits = λ e. cc };
-  sends = send_none m.showing r new does;
+  sends = send_none m.showing r new 1 (omega arith) does;
 }
   where
     by : ShowsOrHasFailed m r h → Appends b c (print (tree_of h))
@@ -56,7 +56,7 @@ pub export_broken : {R : Type 0} (m : Ghosts R) (h : History) (r new : R) (a b c
 export_broken m h r new a b c was left went told kept failed does stands = record {
   tells = record { text = print (tree_of h); is = inl refl; front = front-then a b c was (print (tree_of h)) went (by stands) };
   leaves = record { shows = λ s. inl (kept s); failed = λ f. absurd (failed f) };
-  sends = inl (send_none m.showing r new does);
+  sends = inl (send_none m.showing r new 1 (omega arith) does);
 }
   where
     by : ShowsOrHasFailed m r h → SendsFront b c (print (tree_of h))
@@ -108,7 +108,7 @@ behind_begun m (Err Stopped) e h r new a b c d was now left went none begun caus
     told = Appends-then a b d was (begun.front ++ t.text) went (Appends-then b c d begun.front t.text begun.told (subst (λ (l : List ℕ). Appends c d (l ++ t.text)) none t.told));
   };
   leaves = record { shows = λ s. inl (kept s); failed = failed };
-  sends = send_none m.showing r new does;
+  sends = send_none m.showing r new 1 (omega arith) does;
 }
 behind_begun m (Err WriteFault) e h r new a b c d was now left went none begun cause stop kept failed t goes fits does = record {
   tells = record {
@@ -117,7 +117,7 @@ behind_begun m (Err WriteFault) e h r new a b c d was now left went none begun c
     front = front-then a b d was (begun.front ++ t.text) went (front-then b c d begun.front t.text begun.told (subst (λ (l : List ℕ). SendsFront c d (l ++ t.text)) none t.front));
   };
   leaves = record { shows = λ s. inl (kept s); failed = failed };
-  sends = inl (send_none m.showing r new does);
+  sends = inl (send_none m.showing r new 1 (omega arith) does);
 }
   where
     by : (t.text ≡ refused_line e) ⊎ IsStopText (IsGivenRefusal (Some e)) IsNothing t.text → IsStopText (StoppedBy m r h lines.AsksExport) (λ b. IsWholeFront (print (tree_of h)) b) (begun.front ++ t.text)

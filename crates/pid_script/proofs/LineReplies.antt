@@ -1,11 +1,11 @@
 -- The commands of lines, their replies and the history behind them.
-use Rattle.std.proofs.Common.{◌≡◌, ℕ, false, List, [], ◌∷◌, ◌++◌, refl, sym, ap, ◌∙◌, append_assoc}
+use Rattle.std.proofs.Common.{◌≡◌, ◌≤◌, ◌+◌, ℕ, true, false, cond, List, [], ◌∷◌, ◌++◌, refl, sym, ap, subst, ◌∙◌, append_assoc, arith}
 use Rattle.std.proofs.lemmas.List.{append-nil}
 use Rattle.std.specs.List.{AllByRecursion}
 use Rattle.pid_moderation.specs.History.{History, Asked}
 use Rattle.pid_moderation.specs.Judgement.{after, after_all}
-use Rattle.pid_script.specs.Replies.{line_reply, command_of, is_call, commands_of_lines, history_after, replies}
-use Rattle.pid_script.specs.ScriptLines.{ask_of}
+use Rattle.pid_script.specs.Replies.{line_reply, command_of, is_call, calls_for, calls_for_lines, commands_of_lines, history_after, replies}
+use Rattle.pid_script.specs.ScriptLines.{Ask, ask_of}
 use Rattle.pid_script.specs.ScriptLines as asks
 use Rattle.pid_script.specs.Scripts.{NoneTooLong, NoneCalls, AllButLast, CommandsNot}
 
@@ -46,6 +46,19 @@ fits_more (x ∷ xs) line f g = (f.0, fits_more xs line f.1 g)
 pub calls_more : (xs : List (List ℕ)) (line : List ℕ) → NoneCalls xs → is_call (ask_of line) ≡ false → NoneCalls (xs ++ line ∷ [])
 calls_more [] line f g = (g, tt)
 calls_more (x ∷ xs) line f g = (f.0, calls_more xs line f.1 g)
+
+none_more : (n : ℕ) → n + 0 ≡ 0 + n
+none_more n = omega arith
+
+in_turn : (k m n : ℕ) → k + (m + n) ≡ (k + m) + n
+in_turn k m n = omega arith
+
+pub counts_then : (xs : List (List ℕ)) (line : List ℕ) → calls_for_lines (xs ++ line ∷ []) ≡ calls_for_lines xs + calls_for (ask_of line)
+counts_then [] line = none_more (calls_for (ask_of line))
+counts_then (x ∷ xs) line = ap (λ n. calls_for (ask_of x) + n) (counts_then xs line) ∙ in_turn (calls_for (ask_of x)) (calls_for_lines xs) (calls_for (ask_of line))
+
+pub one_call : (ask : Ask) → is_call ask ≡ true → 1 ≤ calls_for ask
+one_call ask is = subst (λ b. 1 ≤ cond b 1 0) (sym is) (omega arith)
 
 none_first : (xs ys : List Asked) → xs ++ ys ≡ [] → xs ≡ []
 none_first [] ys is = refl

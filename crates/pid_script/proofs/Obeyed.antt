@@ -22,13 +22,14 @@ use Rattle.pid_script.specs.declared.line_end.LineEnd.TheVariants.{Stopped, Writ
 use Rattle.pid_script.specs.declared.moderated.Moderated.{Ghosts}
 use Rattle.pid_script.specs.Asking.{command_in_form}
 use Rattle.pid_script.specs.Calling.{CallsSend, CallsSendEither}
-use Rattle.pid_script.specs.Replies.{those_sent, outcome_of, is_call}
+use Rattle.pid_script.specs.Replies.{calls_for, those_sent, outcome_of, is_call}
 use Rattle.pid_script.specs.Steps.Output.{Out, IsGivenRefusal, IsGivenStop, IsNothing, TellsLine, IsReplyOrStop, refusal_given, GoesOnAfter, LeavesAfter, SendsFor, AnswersLine}
 use Rattle.pid_script.specs.ScriptLines as lines
 use Rattle.pid_script.specs.ScriptLines.{Ask}
 use Rattle.pid_script.specs.RegistryStates.{ShowsOrHasFailed, FailsAt}
 use Rattle.pid_script.specs.StopLines.{is_stop, IsBegun, StoppedBy}
 use Rattle.pid_script.proofs.Calling.{send_obeyed, send_asked, send_refused}
+use Rattle.pid_script.proofs.LineReplies.{one_call}
 use Rattle.pid_script.proofs.NoStops.{judged_no_stop}
 use Rattle.pid_script.proofs.Causes.{recast, faults_stop, fault_in, err_in, failed_goes}
 
@@ -130,9 +131,9 @@ obey_sends : {R : Type 0} (m : Ghosts R) (result : Result (Unit {0}) LineEnd) (a
     → command_in_form verb account form ≡ Ok c → (live : Bool) × Does m.showing r (lives.obeyed (asks c) answer live) new
     → GoesOnAfter result (refusal_given answer) → (result ≡ Err Stopped → StopsBy answer) → (result ≡ Err TooLong → ⊥) → SendsFor m result r new (lines.AsksCommand verb account form)
 unfolding StopsBy
-obey_sends m (Ok x) answer c verb account form r new is call goes stop fits = subst (λ a. CallsSend m.showing r (those_sent a) new) (sym is) (send_obeyed m.showing r new (asks c) answer call.0 (goes_outcome x answer goes) call.1)
-obey_sends m (Err Stopped) answer c verb account form r new is call goes stop fits = let s = stop refl in send_refused m.showing r new (asks c) answer call.0 (ap is_outcome s.1 ∙ stop_unjudged s.0 s.2) call.1
-obey_sends m (Err WriteFault) answer c verb account form r new is call goes stop fits = subst (λ a. CallsSendEither m.showing r [] (those_sent a) new) (sym is) (send_asked m.showing r new (asks c) answer call.0 call.1)
+obey_sends m (Ok x) answer c verb account form r new is call goes stop fits = subst (λ a. CallsSend m.showing r (those_sent a) (calls_for (lines.AsksCommand verb account form)) new) (sym is) (send_obeyed m.showing r new (asks c) answer call.0 _ (one_call (lines.AsksCommand verb account form) (ap is_ok is)) (goes_outcome x answer goes) call.1)
+obey_sends m (Err Stopped) answer c verb account form r new is call goes stop fits = let s = stop refl in send_refused m.showing r new (asks c) answer call.0 _ (one_call (lines.AsksCommand verb account form) (ap is_ok is)) (ap is_outcome s.1 ∙ stop_unjudged s.0 s.2) call.1
+obey_sends m (Err WriteFault) answer c verb account form r new is call goes stop fits = subst (λ a. CallsSendEither m.showing r [] (those_sent a) (calls_for (lines.AsksCommand verb account form)) new) (sym is) (send_asked m.showing r new (asks c) answer call.0 _ (one_call (lines.AsksCommand verb account form) (ap is_ok is)) call.1)
 obey_sends m (Err TooLong) answer c verb account form r new is call goes stop fits = absurd (fits refl)
 
 obey_leaves : {R : Type 0} (m : Ghosts R) (result : Result (Unit {0}) LineEnd) (answer : Result Reply Refusal) (c : Command) (asked : Result Command Refusal) (verb : Verb) (account form : List ℕ) (h : History) (r new : R) (left : Out)

@@ -25,14 +25,14 @@ use Rattle.pid_script.proofs.Asked.{same, asked, always, none_goes, only_fault}
 -- a line that holds no question
 pub idle : {R : Type 0} (m : Ghosts R) (h : History) (r : R) (taken : Option (List ℕ)) (held : List ℕ) → AnswersLine m (Ok tt) lines.AsksNothing h r (out taken held) r (out taken held)
 idle m h r taken held = record {
-  tells = record { sent = []; told = Appends-nil taken; rest = append-nil held };
+  tells = record { sent = []; told = Appends-nil taken; rest = append-nil held; room = λ less. less };
   leaves = record { becomes = same m r h; lives = λ _. refl; flushed = inl refl; fits = λ e. cc };
-  sends = send_still m.showing r;
+  sends = send_still m.showing r _;
 }
 
 -- a line that is no line of a script
 pub unclear : {R : Type 0} (m : Ghosts R) (result : Result (Unit {0}) LineEnd) (h : History) (r : R) (old left : Out) → ((given : Option Refusal) → TellsLine result (refused_line BadText) (IsGivenStop given) old left) → IfErr result (λ e. e ≡ WriteFault) → AnswersLine m result lines.Unclear h r old r left
-unclear m result h r old left told end = asked m result lines.Unclear h r r old left None refl (λ e. cc) (same m r h) (no_cause m r h lines.Unclear) (always result (m.has_failed r → (false ≡ false) ⊎ (None ≡ Some Failed)) (λ _. inl refl)) (none_goes result) (only_fault result end) (send_still m.showing r) (told None)
+unclear m result h r old left told end = asked m result lines.Unclear h r r old left None refl (λ e. cc) (same m r h) (no_cause m r h lines.Unclear) (always result (m.has_failed r → (false ≡ false) ⊎ (None ≡ Some Failed)) (λ _. inl refl)) (none_goes result) (only_fault result end) (send_still m.showing r _) (told None)
 
 -- a line that is too long
 pub long : {R : Type 0} (m : Ghosts R) (e : LineEnd) (h : History) (r : R) (old left : Out) → ((given : Option Refusal) → TellsLine (Err e) (refused_line BadText) (IsGivenStop given) old left) → (e ≡ Stopped → ⊥) → AnswersLine m (Err e) lines.TooLong h r old r left
@@ -40,9 +40,9 @@ long m Stopped h r old left told goes = absurd (goes refl)
 long m WriteFault h r old left told goes = record {
   tells = recast (IsGivenRefusal None) (StoppedBy m r h lines.TooLong) IsNothing (IsBegun lines.TooLong h) (Err WriteFault) (refused_line BadText) old left (no_cause m r h lines.TooLong) (none_begun lines.TooLong h) (told None);
   leaves = record { shows = λ s. inl s; failed = λ _. refl };
-  sends = inl (send_still m.showing r);
+  sends = inl (send_still m.showing r _);
 }
-long m TooLong h r old left told goes = record { tells = told None; leaves = record { becomes = same m r h; long = refl }; sends = send_still m.showing r }
+long m TooLong h r old left told goes = record { tells = told None; leaves = record { becomes = same m r h; long = refl }; sends = send_still m.showing r _ }
 
 -- dropping the CR takes one byte at most
 dropped : (line : List ℕ) → length line ≤ length (drop_cr line) + 1
@@ -65,17 +65,17 @@ pub unfit_ends : {R : Type 0} (m : Ghosts R) (e : LineEnd) (bytes tail : List �
 unfit_ends m Stopped bytes tail h r old left u = record {
   tells = record { text = refused_line Memory; stop = own_stop m r (ask_of (drop_cr (bytes ++ tail))) h (refused_line Memory) refl; told = u };
   leaves = record { shows = λ s. inl s; failed = λ f. refl };
-  sends = send_still m.showing r;
+  sends = send_still m.showing r _;
 }
 unfit_ends m WriteFault bytes tail h r old left u = record {
   tells = record { text = u.text; is = unfit_reply m r bytes tail h u.text u.is; front = u.front };
   leaves = record { shows = λ s. inl s; failed = λ f. refl };
-  sends = inl (send_still m.showing r);
+  sends = inl (send_still m.showing r _);
 }
 unfit_ends m TooLong bytes tail h r old left u = record {
   tells = subst (λ a. Appends old.taken left.taken (old.held ++ line_reply a h)) (sym (long_line bytes tail u.1)) u.0;
   leaves = record { becomes = same m r h; long = long_line bytes tail u.1 };
-  sends = send_still m.showing r;
+  sends = send_still m.showing r _;
 }
 
 -- the line is whole

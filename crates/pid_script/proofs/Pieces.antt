@@ -1,5 +1,5 @@
 -- The lines of a piece of the text, and the open line behind them.
-use Rattle.std.proofs.Common.{◌≡◌, ℕ, List, [], ◌∷◌, ◌++◌, Option, Result, Ok, Err, refl, sym, ap, ◌∙◌, subst, append_assoc}
+use Rattle.std.proofs.Common.{◌≡◌, ◌≤◌, ℕ, ◌+◌, List, [], ◌∷◌, ◌++◌, length, Option, Result, Ok, Err, refl, sym, ap, ◌∙◌, subst, append_assoc, arith}
 use Rattle.std.proofs.lemmas.List.{append-nil}
 use Rattle.std.specs.Io.KnownBytes.{Appends}
 use Rattle.std.specs.Prelude.{OnOk, IfErr, OnErr}
@@ -12,7 +12,7 @@ use Rattle.pid_script.specs.declared.line_end.LineEnd.{LineEnd}
 use Rattle.pid_script.specs.declared.line_end.LineEnd.TheVariants.{WriteFault}
 use Rattle.pid_script.specs.declared.moderated.Moderated.{Ghosts}
 use Rattle.pid_script.specs.Steps.Output.{Out, out, Unfit, AnswersLine}
-use Rattle.pid_script.specs.ScriptLines.{ask_of}
+use Rattle.pid_script.specs.ScriptLines.{LONGEST, ask_of}
 use Rattle.pid_script.specs.RegistryStates.{ShowsOrHasFailed}
 use Rattle.pid_script.specs.Steps.Progress.{Answered, HasAnswered, Ended, EndsText}
 use Rattle.pid_script.specs.Replies.{history_after}
@@ -40,12 +40,17 @@ half_start m piece old was kept = record {
   answered = λ _ h start first text stands a. subst (HasAnswered m h start first old was kept) (sym (append-nil text)) a;
 }
 
+-- no open line is short enough
+pub no_line : (kept : List ℕ) → kept ≡ [] → length kept ≤ LONGEST + 1
+no_line kept none = subst (λ (l : List ℕ). length l ≤ LONGEST + 1) (sym none) (omega arith)
+
 line_answered : {R : Type 0} (m : Ghosts R) (x : Unit {0}) (h : History) (start : Option (List ℕ)) (first r new : R) (old left : Out) (text front kept kept_next : List ℕ)
     → HasAnswered m h start first r old kept text → ended_pieces front ≡ [] → kept_next ≡ []
     → AnswersLine m (Ok x) (ask_of (drop_cr (kept ++ front))) (history_after h (whole_lines text)) r old new left
     → HasAnswered m h start first new left kept_next (text ++ (front ++ 10 ∷ []))
 line_answered m x h start first r new old left text front kept kept_next a no_lf none ends = record {
   open_line = none ∙ sym (open_behind text front no_lf);
+  short = no_line kept_next none;
   answered = subst (Answered m h start first new left) (sym (whole_line text front [] no_lf ∙ ap (λ (l : List ℕ). whole_lines text ++ drop_cr (l ++ front) ∷ []) (sym a.open_line)))
       (more_answered m x h start first r new old left (whole_lines text) (drop_cr (kept ++ front)) a.answered ends);
 }
@@ -84,13 +89,14 @@ half_stop m e piece rest front behind old now next was left left_next kept kept_
 
 -- what is left of the piece has no LF, and is kept
 half_kept : {R : Type 0} (m : Ghosts R) (piece rest : List ℕ) (old now : R) (was left : Out) (kept kept_now kept_next : List ℕ)
-    → IsHalfway m piece rest old now was left kept kept_now → ended_pieces rest ≡ [] → kept_next ≡ kept_now ++ rest
+    → IsHalfway m piece rest old now was left kept kept_now → ended_pieces rest ≡ [] → kept_next ≡ kept_now ++ rest → (length kept_now ≤ LONGEST + 1 → length kept_next ≤ LONGEST + 1)
     → m.showing.is_clean now → (h : History) (start : Option (List ℕ)) (first : R) (text : List ℕ) → ShowsOrHasFailed m first h → HasAnswered m h start first old was kept text
     → HasAnswered m h start first now left kept_next (text ++ piece)
-half_kept m piece rest old now was left kept kept_now kept_next half no_lf is t h start first text stands a =
+half_kept m piece rest old now was left kept kept_now kept_next half no_lf is short t h start first text stands a =
     let b = half.answered t h start first text stands a in
     let whole : text ++ piece ≡ (text ++ half.gone) ++ rest = ap (λ (l : List ℕ). text ++ l) half.parts ∙ sym (append_assoc text half.gone rest) in
     record {
+      short = short b.short;
       open_line = is ∙ ap (λ (l : List ℕ). l ++ rest) b.open_line ∙ sym (open_longer (text ++ half.gone) rest no_lf) ∙ ap open_part (sym whole);
       answered = subst (Answered m h start first now left) (sym (ap whole_lines whole ∙ whole_same (text ++ half.gone) rest no_lf)) b.answered;
     }
@@ -113,16 +119,16 @@ pub half_whole : {R : Type 0} (m : Ghosts R) (piece rest : List ℕ) (old now : 
     → IsHalfway m piece rest old now was left kept kept_now → rest ≡ []
     → m.showing.is_clean now → (h : History) (start : Option (List ℕ)) (first : R) (text : List ℕ) → ShowsOrHasFailed m first h → HasAnswered m h start first old was kept text
     → HasAnswered m h start first now left kept_now (text ++ piece)
-half_whole m piece rest old now was left kept kept_now half none = half_kept m piece rest old now was left kept kept_now kept_now half (ap ended_pieces none) (sym (ap (λ (l : List ℕ). kept_now ++ l) none ∙ append-nil kept_now))
+half_whole m piece rest old now was left kept kept_now half none = half_kept m piece rest old now was left kept kept_now kept_now half (ap ended_pieces none) (sym (ap (λ (l : List ℕ). kept_now ++ l) none ∙ append-nil kept_now)) (λ short. short)
 
 pub half_kept_on : {R O : Type 0} (m : Ghosts R) (took : O → Option (List ℕ)) (r : Result (Unit {0}) LineEnd) (piece rest : List ℕ) (old now : R) (was : Out) (out_now out_next : O) (held held_next kept kept_now kept_next : List ℕ)
-    → IsHalfway m piece rest old now was (out (took out_now) held) kept kept_now → ended_pieces rest ≡ [] → OnOk r (kept_next ≡ kept_now ++ rest) → OnOk r (out_next ≡ out_now) → OnOk r (held_next ≡ held)
+    → IsHalfway m piece rest old now was (out (took out_now) held) kept kept_now → ended_pieces rest ≡ [] → OnOk r (kept_next ≡ kept_now ++ rest) → (length kept_now ≤ LONGEST + 1 → OnOk r (length kept_next ≤ LONGEST + 1)) → OnOk r (out_next ≡ out_now) → OnOk r (held_next ≡ held)
     → m.showing.is_clean now → (h : History) (start : Option (List ℕ)) (first : R) (text : List ℕ) → ShowsOrHasFailed m first h → HasAnswered m h start first old was kept text
     → OnOk r (HasAnswered m h start first now (out (took out_next) held_next) kept_next (text ++ piece))
-half_kept_on m took (Ok x) piece rest old now was out_now out_next held held_next kept kept_now kept_next half no_lf is silent still t h start first text stands a =
+half_kept_on m took (Ok x) piece rest old now was out_now out_next held held_next kept kept_now kept_next half no_lf is short silent still t h start first text stands a =
     subst (λ o. HasAnswered m h start first now (out (took o) held_next) kept_next (text ++ piece)) (sym silent) (subst (λ l. HasAnswered m h start first now (out (took out_now) l) kept_next (text ++ piece)) (sym still)
-    (half_kept m piece rest old now was (out (took out_now) held) kept kept_now kept_next half no_lf is t h start first text stands a))
-half_kept_on m took (Err e) piece rest old now was out_now out_next held held_next kept kept_now kept_next half no_lf is silent still t h start first text stands a = tt
+    (half_kept m piece rest old now was (out (took out_now) held) kept kept_now kept_next half no_lf is short t h start first text stands a))
+half_kept_on m took (Err e) piece rest old now was out_now out_next held held_next kept kept_now kept_next half no_lf is short silent still t h start first text stands a = tt
 
 pub half_unfit_on : {R : Type 0} (m : Ghosts R) (r : Result (Unit {0}) LineEnd) (piece rest : List ℕ) (old now : R) (was left left_next : Out) (kept kept_now : List ℕ)
     → IsHalfway m piece rest old now was left kept kept_now → ended_pieces rest ≡ [] → (rest ≡ [] → ⊥) → IfErr r (λ e. Unfit e (kept_now ++ rest) left left_next)
@@ -134,7 +140,7 @@ half_unfit_on m (Err e) piece rest old now was left left_next kept kept_now half
 
 -- the lines of a piece were answered, and what is held goes out
 piece_flushed : {R : Type 0} (m : Ghosts R) (h : History) (start : Option (List ℕ)) (first r : R) (old : Out) (new : Option (List ℕ)) (held kept text : List ℕ) → HasAnswered m h start first r old kept text → Appends old.taken new old.held → held ≡ [] → HasAnswered m h start first r (out new held) kept text
-piece_flushed m h start first r old new held kept text a went none = record { open_line = a.open_line; answered = answered_out m h start first r new held (whole_lines text) (flushed m h start first r old new (whole_lines text) a.answered went) none }
+piece_flushed m h start first r old new held kept text a went none = record { open_line = a.open_line; short = a.short; answered = answered_out m h start first r new held (whole_lines text) (flushed m h start first r old new (whole_lines text) a.answered went) none }
 
 -- or not
 piece_broken : {R : Type 0} (m : Ghosts R) (h : History) (start : Option (List ℕ)) (first r : R) (old left : Out) (kept text more : List ℕ) → HasAnswered m h start first r old kept text → SendsFront old.taken left.taken old.held → Ended m WriteFault h start first r left (lines_of (text ++ more))

@@ -3,23 +3,22 @@ use Rattle.std.proofs.Common.{◌≡◌, ℕ, ◌+◌, ◌*◌, ◌-◌, ◌^◌
 use Rattle.std.proofs.lemmas.List.{append-nil, length-append, length-take}
 use Rattle.std.specs.Prelude.{IfSome, IsSome}
 use Rattle.std.specs.Io.KnownBytes.{Consumes, Keeps, IsAtEnd}
-use Rattle.pid_file.specs.declared.io.ReadFault.{ReadFault}
-use Rattle.pid_file.specs.declared.io.WriteFault.{WriteFault}
 use Rattle.pid_reader.specs.Lines.{lines_of}
 use Rattle.pid_moderation.specs.History.{History}
 use Rattle.pid_script.specs.declared.line_end.LineEnd.{LineEnd}
 use Rattle.pid_script.specs.declared.line_end.LineEnd.TheVariants as line_ends
 use Rattle.pid_script.specs.declared.moderated.Moderated.{Ghosts}
 use Rattle.pid_script.specs.declared.script_end.ScriptEnd.{ScriptEnd}
-use Rattle.pid_script.specs.declared.script_end.ScriptEnd.TheVariants.{TurnsSpent}
+use Rattle.pid_script.specs.declared.script_end.ScriptEnd.TheVariants.{ReadFault as ReadEnd, WriteFault as WriteEnd, TurnsSpent}
 use Rattle.pid_script.specs.Steps.Progress.{HasAnswered, Ended, EndsText, script_end}
 use Rattle.pid_script.specs.Steps.Output.{Out, out}
-use Rattle.pid_script.specs.Scripts.{passage, IsCutOff, IsScript, KeepsFaults, BUFFER_ROOM, TakesAtMost}
+use Rattle.pid_script.specs.Scripts.{passage, IsCutOff, IsScript, ReaderAndWriter, MakesReads, EndsWith, BUFFER_ROOM}
 use Rattle.pid_script.specs.RegistryStates.{ShowsOrHasFailed}
 use Rattle.pid_script.proofs.Answered.{answers_out}
+use Rattle.pid_script.proofs.Pieces.{no_line}
 use Rattle.pid_script.proofs.Calling.{send_still, go_still, go_then}
 use Rattle.pid_script.specs.Calling.{CallsGo}
-use Rattle.pid_script.proofs.SayLemmas.{Appends-nil}
+use Rattle.pid_script.proofs.SayLemmas.{Appends-nil, none_fits}
 
 Consumes-then : (a b c : Option (List ℕ)) (x y : List ℕ) → Consumes a b x → Consumes b c y → Consumes a c (x ++ y)
 Consumes-then None b c x y p q = tt
@@ -44,6 +43,7 @@ pub record HasRead {R : Type 0} (m : Ghosts R) (old now : R) (taken : Option (Li
   pub front : List ℕ
   pub consumed : Consumes come come_now front
   pub bounded : length front ≤ turn * BUFFER_ROOM
+  pub some : turn ≤ length front
   pub answered : m.showing.is_clean now → (h : History) → ShowsOrHasFailed m old h → HasAnswered m h taken old now left kept front
   pub empty : left.held ≡ []
   pub counted : reads < 2 ^ 64 → reads_now ≡ min (reads + turn) (2 ^ 64 - 1)
@@ -74,12 +74,25 @@ not_spent (Err line_ends.Stopped) e = absurd cc
 not_spent (Err line_ends.WriteFault) e = absurd cc
 not_spent (Err line_ends.TooLong) e = absurd cc
 
--- the faults of an end that is no fault of the reader
-pub ended_by : (r : Result (Unit {0}) LineEnd) (end : ScriptEnd) (read : Option ReadFault) (write : Option WriteFault) → end ≡ script_end r → (r ≡ Err line_ends.WriteFault → IsSome write) → KeepsFaults end read write
-ended_by (Ok x) end read write is kept = (λ e. absurd cc, λ e. absurd cc)
-ended_by (Err line_ends.Stopped) end read write is kept = (λ e. absurd cc, λ e. absurd cc)
-ended_by (Err line_ends.WriteFault) end read write is kept = (λ e. absurd cc, λ e. kept refl)
-ended_by (Err line_ends.TooLong) end read write is kept = (λ e. absurd cc, λ e. absurd cc)
+pub not_some : {A : Type 0} (o : Option A) → o ≡ None → IsSome o → ⊥
+not_some None e is = absurd cc
+not_some (Some x) e is = absurd cc
+
+-- an end that is no fault of the reader
+pub ended_by : (r : Result (Unit {0}) LineEnd) (end : ScriptEnd) (s : ReaderAndWriter) → end ≡ script_end r → s.read_fault ≡ None → (r ≡ Err line_ends.WriteFault → IsSome s.write_fault) → MakesReads end s → EndsWith end s
+ended_by r end s is none kept made = record { read_fault = by_reader r is; write_fault = by_writer r is kept; failed = λ some fault. absurd (not_some s.read_fault none fault); reads = made }
+  where
+    by_reader : (r : Result (Unit {0}) LineEnd) → end ≡ script_end r → end ≡ ReadEnd → IsSome s.read_fault
+    by_reader (Ok x) is e = absurd cc
+    by_reader (Err line_ends.Stopped) is e = absurd cc
+    by_reader (Err line_ends.WriteFault) is e = absurd cc
+    by_reader (Err line_ends.TooLong) is e = absurd cc
+
+    by_writer : (r : Result (Unit {0}) LineEnd) → end ≡ script_end r → (r ≡ Err line_ends.WriteFault → IsSome s.write_fault) → end ≡ WriteEnd → IsSome s.write_fault
+    by_writer (Ok x) is kept e = absurd cc
+    by_writer (Err line_ends.Stopped) is kept e = absurd cc
+    by_writer (Err line_ends.WriteFault) is kept e = kept refl
+    by_writer (Err line_ends.TooLong) is kept e = absurd cc
 
 pub some_told : {A : Type 0} (o : Option A) (x : A) → o ≡ Some x → IsSome o
 some_told None x e = cc
@@ -92,8 +105,10 @@ none_read m old taken come reads held kept nothing none = record {
   front = [];
   consumed = Consumes-nil come;
   bounded = omega arith;
+  some = omega arith;
   answered = λ _ h stands. record {
     open_line = none;
+    short = no_line kept none;
     answered = record {
       before = [];
       waiting = [];
@@ -104,10 +119,11 @@ none_read m old taken come reads held kept nothing none = record {
       sent = [];
       went = Appends-nil taken;
       rest = nothing;
+      room = none_fits held nothing;
       fits = tt;
       leaves = record { shows = λ s. s; failed = λ f. refl };
       lives = λ f. tt;
-      calls = send_still m.showing old;
+      calls = send_still m.showing old 0;
     };
   };
   empty = nothing;
@@ -121,25 +137,64 @@ more_bounded front piece turn p q = omega (arith, length-append front piece)
 pub piece_fits : (count : ℕ) (buffer : List ℕ) → length buffer ≡ BUFFER_ROOM → length (take count buffer) ≤ BUFFER_ROOM
 piece_fits count buffer whole = omega (arith, length-take count buffer)
 
--- one more read took so much at most
-pub took_more : (front piece : List ℕ) (turn : ℕ) (come now next : Option (List ℕ)) → Consumes come now front → length front ≤ turn * BUFFER_ROOM → Consumes now next piece → length piece ≤ BUFFER_ROOM → TakesAtMost come next ((turn + 1) * BUFFER_ROOM)
-took_more front piece turn come now next p less q fits = record { front = front ++ piece; taken = Consumes-then come now next front piece p q; bounded = more_bounded front piece turn less fits }
+-- a read that is not at the end takes some
+pub piece_some : (count : ℕ) (buffer : List ℕ) → (count ≡ 0 → ⊥) → count ≤ length buffer → 0 < length (take count buffer)
+piece_some count buffer not fits = omega (arith, length-take count buffer, not, fits)
 
--- or nothing
-pub took_none : (front : List ℕ) (turn : ℕ) (come now next : Option (List ℕ)) → Consumes come now front → length front ≤ turn * BUFFER_ROOM → Keeps now next → TakesAtMost come next ((turn + 1) * BUFFER_ROOM)
-took_none front turn come now next p less kept = record { front = front; taken = Consumes-kept come now next front p kept; bounded = omega arith }
+pub keeps_none : (now next : Option (List ℕ)) → Keeps now next → Consumes now next []
+keeps_none None next p = tt
+keeps_none (Some x) None p = absurd p
+keeps_none (Some x) (Some y) p = sym p
+
+-- one more read, which is the last one, whatever it took
+pub last_read : (end : ScriptEnd) (s : ReaderAndWriter) (turn reads_now : ℕ) (now : Option (List ℕ)) (front piece : List ℕ)
+    → turn < s.turns → (s.reads < 2 ^ 64 → reads_now ≡ min (s.reads + turn) (2 ^ 64 - 1)) → s.reads_now ≡ min (reads_now + 1) (2 ^ 64 - 1)
+    → Consumes s.come now front → length front ≤ turn * BUFFER_ROOM → turn ≤ length front → Consumes now s.come_now piece → length piece ≤ BUFFER_ROOM
+    → (end ≡ TurnsSpent → ⊥) → MakesReads end s
+last_read end s turn reads_now now front piece less counted more read bounded some took fits other = record {
+  made = turn + 1;
+  within = omega (arith, less);
+  counted = λ small. one_more s.reads turn reads_now s.reads_now (counted small) more;
+  taken = front ++ piece;
+  consumed = Consumes-then s.come now s.come_now front piece read took;
+  room = more_bounded front piece turn bounded fits;
+  some = omega (arith, length-append front piece, some);
+  spent = λ e. absurd (other e);
+}
+
+-- all reads were made
+pub all_made : (s : ReaderAndWriter) (turn : ℕ) (front : List ℕ)
+    → turn ≡ s.turns → (s.reads < 2 ^ 64 → s.reads_now ≡ min (s.reads + turn) (2 ^ 64 - 1))
+    → Consumes s.come s.come_now front → length front ≤ turn * BUFFER_ROOM → turn ≤ length front
+    → (0 < turn → s.read_fault ≡ None) → EndsWith TurnsSpent s
+all_made s turn front all counted read bounded some none = record {
+  read_fault = λ e. absurd cc;
+  write_fault = λ e. absurd cc;
+  failed = λ few fault. absurd (not_some s.read_fault (none (omega (arith, few, all))) fault);
+  reads = record {
+    made = turn;
+    within = omega (arith, all);
+    counted = counted;
+    taken = front;
+    consumed = read;
+    room = bounded;
+    some = omega (arith, some);
+    spent = λ e. (all, some);
+  };
+}
 
 -- one more piece was read and answered
 pub read_more : {R : Type 0} (m : Ghosts R) (old now next : R) (taken : Option (List ℕ)) (left left_next : Out) (come come_now come_next : Option (List ℕ)) (kept kept_next piece : List ℕ) (reads reads_now reads_next turn : ℕ)
-    → HasRead m old now taken left come come_now kept reads reads_now turn → Consumes come_now come_next piece → length piece ≤ BUFFER_ROOM → reads_next ≡ min (reads_now + 1) (2 ^ 64 - 1) → (m.showing.is_clean next → m.showing.is_clean now) → CallsGo m.showing now next → left_next.held ≡ []
+    → HasRead m old now taken left come come_now kept reads reads_now turn → Consumes come_now come_next piece → length piece ≤ BUFFER_ROOM → 0 < length piece → reads_next ≡ min (reads_now + 1) (2 ^ 64 - 1) → (m.showing.is_clean next → m.showing.is_clean now) → CallsGo m.showing now next → left_next.held ≡ []
     → (m.showing.is_clean next → (h : History) (start : Option (List ℕ)) (first : R) (text : List ℕ) → ShowsOrHasFailed m first h → HasAnswered m h start first now left kept text → HasAnswered m h start first next left_next kept_next (text ++ piece))
     → HasRead m old next taken left_next come come_next kept_next reads reads_next (turn + 1)
-read_more m old now next taken left left_next come come_now come_next kept kept_next piece reads reads_now reads_next turn r consumed fits counted was calls none answered = record {
+read_more m old now next taken left left_next come come_now come_next kept kept_next piece reads reads_now reads_next turn r consumed fits more counted was calls none answered = record {
   was_honest = λ t. r.was_honest (was t);
   calls = go_then m.showing old now next r.calls calls;
   front = r.front ++ piece;
   consumed = Consumes-then come come_now come_next r.front piece r.consumed consumed;
   bounded = more_bounded r.front piece turn r.bounded fits;
+  some = omega (arith, length-append r.front piece, r.some, more);
   answered = λ t h stands. answered t h taken old r.front stands (r.answered (was t) h stands);
   empty = none;
   counted = λ small. one_more reads turn reads_now reads_next (r.counted small) counted;

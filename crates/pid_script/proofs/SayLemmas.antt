@@ -1,5 +1,5 @@
 -- One text said behind another.
-use Rattle.std.proofs.Common.{◌≡◌, ℕ, ◌+◌, List, [], ◌++◌, length, take, Option, Some, None, Result, Ok, Err, refl, inl, sym, ap, subst, ◌∙◌, append_assoc, arith}
+use Rattle.std.proofs.Common.{◌≡◌, ◌≤◌, ℕ, ◌+◌, List, [], ◌++◌, length, take, Option, Some, None, Result, Ok, Err, refl, inl, sym, ap, subst, ◌∙◌, append_assoc, arith}
 use Rattle.std.proofs.lemmas.List.{append-nil, length-append, take-append-le}
 use Rattle.std.proofs.Math.Seq.{take-append-add}
 use Rattle.std.specs.Io.KnownBytes.{Appends}
@@ -8,7 +8,7 @@ use Rattle.pid_ident.specs.Sending.{SendsFront}
 use Rattle.pid_moderation.specs.declared.refusal.Refusal.{Refusal}
 use Rattle.pid_script.specs.declared.line_end.LineEnd.{LineEnd}
 use Rattle.pid_script.specs.declared.line_end.LineEnd.TheVariants.{Stopped, WriteFault, TooLong}
-use Rattle.pid_script.specs.Steps.Output.{Out, out, HasSaid, SaysFront, TellsLine, IsGivenStop}
+use Rattle.pid_script.specs.Steps.Output.{MOST_HELD, Out, out, HasSaid, SaysFront, TellsLine, IsGivenStop}
 
 pub Appends-nil : (a : Option (List ℕ)) → Appends a a []
 Appends-nil None = tt
@@ -29,12 +29,15 @@ pub front-before : (a c : Option (List ℕ)) (y z : List ℕ) → SendsFront a c
 front-before a c y z (n, less, q) = (n, omega (arith, length-append y z, less), subst (Appends a c) (sym (take-append-le n y z (omega (arith, less)))) q)
 
 -- nothing goes out, and the text is held
-pub held : (taken : Option (List ℕ)) (was now text : List ℕ) → now ≡ was ++ text → HasSaid (out taken was) (out taken now) text
-held taken was now text is = record { sent = []; told = Appends-nil taken; rest = sym is }
+pub held : (taken : Option (List ℕ)) (was now text : List ℕ) → now ≡ was ++ text → (length was ≤ MOST_HELD → length now ≤ MOST_HELD) → HasSaid (out taken was) (out taken now) text
+held taken was now text is room = record { sent = []; told = Appends-nil taken; rest = sym is; room = room }
+
+pub none_fits : (now : List ℕ) → now ≡ [] → length now ≤ MOST_HELD
+none_fits now none = subst (λ (l : List ℕ). length l ≤ MOST_HELD) (sym none) (omega arith)
 
 -- all goes out, so that nothing is held
 pub all_out : (old new : Option (List ℕ)) (was now text : List ℕ) → now ≡ [] → Appends old new (was ++ text) → HasSaid (out old was) (out new now) text
-all_out old new was now text none told = record { sent = was ++ text; told = told; rest = sym (ap (λ (l : List ℕ). (was ++ text) ++ l) none ∙ append-nil (was ++ text)) }
+all_out old new was now text none told = record { sent = was ++ text; told = told; rest = sym (ap (λ (l : List ℕ). (was ++ text) ++ l) none ∙ append-nil (was ++ text)); room = λ _. none_fits now none }
 
 -- what was held goes out, and then the text
 pub out_then : (old mid new : Option (List ℕ)) (was now text : List ℕ) → now ≡ [] → Appends old mid was → Appends mid new text → HasSaid (out old was) (out new now) text
@@ -46,6 +49,7 @@ says_then a b c x y p q = record {
   sent = p.sent ++ q.sent;
   told = Appends-then a.taken b.taken c.taken p.sent q.sent p.told q.told;
   rest = sym (append_assoc a.held x y) ∙ ap (λ (l : List ℕ). l ++ y) p.rest ∙ append_assoc p.sent b.held y ∙ ap (λ (l : List ℕ). p.sent ++ l) q.rest ∙ sym (append_assoc p.sent q.sent c.held);
+  room = λ less. q.room (p.room less);
 }
 
 -- one text, and a front of another

@@ -1,5 +1,5 @@
 -- The replies to the lines of a script, and the history after them: choices of this project.
-use Rattle.std.specs.Prelude.{ℕ, Bool, true, false, if◌then◌else◌, List, [], ◌∷◌, ◌++◌, Option}
+use Rattle.std.specs.Prelude.{ℕ, ◌+◌, Bool, true, false, if◌then◌else◌, List, [], ◌∷◌, ◌++◌, Option}
 use Rattle.std.specs.Prelude.{Some, None, is_some, codes, Result, Ok, Err, is_ok}
 use Rattle.pid_file.specs.declared.path.Path.{Path}
 use Rattle.pid_ident.specs.PathTexts.{path_text}
@@ -93,6 +93,14 @@ command_of (AsksName fields) = []
 command_of (AsksLookup fields) = []
 command_of Unclear = []
 command_of TooLong = []
+
+-- how often the registry is asked for lines
+abbrev pub calls_for : Ask → ℕ
+calls_for ask = if is_call ask then 1 else 0
+
+abbrev pub calls_for_lines : List (List ℕ) → ℕ
+calls_for_lines [] = 0
+calls_for_lines (line ∷ lines) = calls_for (ask_of line) + calls_for_lines lines
 
 -- the commands of lines, in turn
 abbrev pub commands_of_lines : List (List ℕ) → List Asked

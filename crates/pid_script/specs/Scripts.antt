@@ -19,7 +19,8 @@ use Rattle.pid_script.specs.declared.script_end.ScriptEnd.TheVariants.{TurnsSpen
 use Rattle.pid_script.specs.ScriptLines as asks
 use Rattle.pid_script.specs.ScriptLines.{ask_of}
 use Rattle.pid_script.specs.Calling.{CallsGo, CallsSend, CallsSendEither}
-use Rattle.pid_script.specs.Replies.{replies, command_of, commands_of_lines, history_after, is_call}
+use Rattle.pid_script.specs.Replies.{replies, command_of, calls_for_lines, commands_of_lines}
+use Rattle.pid_script.specs.Replies.{history_after, is_call}
 use Rattle.pid_script.specs.RegistryStates.{Becomes, BecomesEither, OverStanding, StopsBehind}
 use Rattle.pid_script.specs.StopLines.{IsStopInPlace}
 
@@ -27,25 +28,42 @@ use Rattle.pid_script.specs.StopLines.{IsStopInPlace}
 abbrev pub BUFFER_ROOM : ℕ
 BUFFER_ROOM = 65536
 
--- at most so many bytes were taken off what is to come
-pub record TakesAtMost (come come_now : Option (List ℕ)) (most : ℕ) : Type 0 where
-  pub front : List ℕ
-  pub taken : Consumes come come_now front
-  pub bounded : length front ≤ most
+-- what is known of the reader and the writer when a script has ended
+pub record ReaderAndWriter : Type 0 where
+  -- the faults that they keep
+  pub read_fault : Option InputFault
+  pub write_fault : Option OutputFault
+  -- how many reads might be made
+  pub turns : ℕ
+  -- the reader's count of reads before the script, and after it
+  pub reads : ℕ
+  pub reads_now : ℕ
+  -- the bytes to come before the script, and after it
+  pub come : Option (List ℕ)
+  pub come_now : Option (List ℕ)
 
--- How many reads a script made: at most so many, each of at most 65,536 bytes, and all of them if
--- they are what it ended by. The reader counts them, up to its greatest number.
-pub record MakesReads (end : ScriptEnd) (turns : ℕ) (reads reads_now : ℕ)
-    (come come_now : Option (List ℕ)) : Type 0 where
+-- how many reads a script made, and what they took
+pub record MakesReads (end : ScriptEnd) (s : ReaderAndWriter) : Type 0 where
+  -- they are no more than might be, and the reader counts them, up to its greatest number
   pub made : ℕ
-  pub within : made ≤ turns
-  pub counted : reads < 2 ^ 64 → reads_now ≡ min (reads + made) (2 ^ 64 - 1)
-  pub spent : end ≡ TurnsSpent → made ≡ turns
-  pub room : TakesAtMost come come_now (made * BUFFER_ROOM)
+  pub within : made ≤ s.turns
+  pub counted : s.reads < 2 ^ 64 → s.reads_now ≡ min (s.reads + made) (2 ^ 64 - 1)
+  -- each took at most 65,536 bytes, and each but the last one took some
+  pub taken : List ℕ
+  pub consumed : Consumes s.come s.come_now taken
+  pub room : length taken ≤ made * BUFFER_ROOM
+  pub some : made ≤ length taken + 1
+  -- if they are what the script ended by, all were made, and each took some
+  pub spent : end ≡ TurnsSpent → (made ≡ s.turns) × (made ≤ length taken)
 
--- the reader and the writer keep the faults that a script ended by
-abbrev pub KeepsFaults : ScriptEnd → Option InputFault → Option OutputFault → Type 0
-KeepsFaults end read write = (end ≡ ReadFault → IsSome read) × (end ≡ WriteFault → IsSome write)
+-- a script ended so
+pub record EndsWith (end : ScriptEnd) (s : ReaderAndWriter) : Type 0 where
+  -- a fault that it ended by is kept
+  pub read_fault : end ≡ ReadFault → IsSome s.read_fault
+  pub write_fault : end ≡ WriteFault → IsSome s.write_fault
+  -- a read that fails ends it
+  pub failed : 0 < s.turns → IsSome s.read_fault → end ≡ ReadFault
+  pub reads : MakesReads end s
 
 -- a line is not too long
 abbrev pub IsNotTooLong : List ℕ → Type 0
@@ -111,13 +129,15 @@ module _ {R : Type 0} (registry : Ghosts R) where
   OverText p known Holds = OverStanding registry p.old p.new (λ h. IfSome known (Holds h p))
 
   -- Each of the lines got its reply, and the registry shows the history after them; one that had
-  -- failed was asked nothing. The commands of the lines are those that calls sent.
+  -- failed was asked nothing. The commands of the lines are those that calls sent, and no more calls
+  -- were made than the lines ask for.
   pub record AnswersLines (h : History) (p : Passage R) (lines : List (List ℕ)) : Type 0 where
     pub fits : NoneTooLong lines
     pub told : Appends p.taken p.taken_now (replies h lines)
     pub leaves : Becomes registry p.old h p.new (history_after h lines)
     pub lives : registry.has_failed p.old → NoneCalls lines
-    pub calls : CallsSend registry.showing p.old (commands_of_lines lines) p.new
+    pub calls : CallsSend registry.showing p.old (commands_of_lines lines)
+        (calls_for_lines lines) p.new
 
   -- The lines before one got their replies. In place of its reply, or after what was begun of it,
   -- the line of a refusal comes last; and the registry shows the history before the line, or has
@@ -135,7 +155,8 @@ module _ {R : Type 0} (registry : Ghosts R) where
     pub told : Appends p.taken p.taken_now (replies h before ++ text)
     pub leaves : StopsBehind registry p.old h p.new (history_after h before)
         (command_of (ask_of line))
-    pub calls : CallsSend registry.showing p.old (commands_of_lines before) p.new
+    pub calls : CallsSend registry.showing p.old (commands_of_lines before)
+        (calls_for_lines (before ++ line ∷ [])) p.new
 
   -- the lines before one got their replies, and that one is too long, and was refused as such
   pub record EndsTooLong (h : History) (p : Passage R) (lines : List (List ℕ)) : Type 0 where
@@ -148,7 +169,8 @@ module _ {R : Type 0} (registry : Ghosts R) where
     pub lives : registry.has_failed p.old → NoneCalls before
     pub told : Appends p.taken p.taken_now (replies h (before ++ line ∷ []))
     pub leaves : Becomes registry p.old h p.new (history_after h before)
-    pub calls : CallsSend registry.showing p.old (commands_of_lines before) p.new
+    pub calls : CallsSend registry.showing p.old (commands_of_lines before)
+        (calls_for_lines (before ++ line ∷ [])) p.new
 
   -- the text for lines: the reply to each, or the text of a stop in place of the last one
   pub data IsTextFor (r : R) (first at : History) (lines : List (List ℕ))
@@ -181,7 +203,7 @@ module _ {R : Type 0} (registry : Ghosts R) where
     pub leaves : BecomesEither registry p.old h p.new (history_after h cut.before)
         (history_after h (lines_read cut))
     pub calls : CallsSendEither registry.showing p.old (commands_of_lines cut.before)
-        (commands_of_lines (lines_read cut)) p.new
+        (commands_of_lines (lines_read cut)) (calls_for_lines (lines_read cut)) p.new
 
   -- part of the text was read, and its whole lines got their replies
   pub record IsCutOff (h : History) (p : Passage R) (text : List ℕ)

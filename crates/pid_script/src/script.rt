@@ -33,10 +33,9 @@ ghost use Rattle.pid_script.specs.Calling.{CallsGo};
 ghost use Rattle.pid_script.specs.Steps.Output.{out, AnswersLine, Unfit};
 ghost use Rattle.pid_script.specs.Scripts.{
   passage,
+  EndsWith,
   IsScript,
   IsUpToDate,
-  KeepsFaults,
-  MakesReads,
   OverText,
 };
 ghost use Rattle.pid_service_laws.specs.CallLaws.{StaysClean};
@@ -237,10 +236,10 @@ fn end_of(answered: Result<(), LineEnd>) -> ScriptEnd
 /// refusal as 16, 17 or 18, nor after a line of more than 16,777,216 bytes. If the script itself is
 /// out of memory, the reply is the refusal 16, which takes none.
 ///
-/// At most `turns` reads are made, each of at most 65,536 bytes. Whenever it reads, the lines that
-/// came whole are answered, and the writer has taken their replies and nothing more. The reply to a
-/// command is written before the next line is answered. A line costs memory only while it is open.
-/// The reply to a command takes no memory.
+/// At most `turns` reads are made, each of at most 65,536 bytes; a read that fails or finds nothing
+/// is the last one. Whenever it reads, the lines that came whole are answered, and the writer has
+/// taken their replies and nothing more. The reply to a command is written before the next line is
+/// answered. A line costs memory only while it is open. The reply to a command takes no memory.
 ///
 /// Over a `Registry` of `pid_service` the clauses read so, while the disk returns what was written.
 /// Let it show a history as the script begins. At `Done` it shows the history with the commands of
@@ -268,9 +267,15 @@ pub fn run_script<R: Moderated, I: Incoming<O>, O: Output>(
     ensures caught_up { OverText R.Moderated (passage registry.old registry.new
         (O.taken output.old) (O.taken output.new)) (I.to_come input.old) (λ h p text.
         AllSince (IsUpToDate R.Moderated h p text) (I.moments input.old) (I.moments input.new)) }
-    ensures ended { KeepsFaults result (I.read_fault input.new) (O.write_fault output.new)
-        × MakesReads result turns (I.reads input.old) (I.reads input.new)
-        (I.to_come input.old) (I.to_come input.new) }
+    ensures ended { EndsWith result (record {
+      read_fault = I.read_fault input.new;
+      write_fault = O.write_fault output.new;
+      turns = turns;
+      reads = I.reads input.old;
+      reads_now = I.reads input.new;
+      come = I.to_come input.old;
+      come_now = I.to_come input.new;
+    }) }
     ensures goes { I.goes input.old input.new }
 {
     let mut buffer = [0u8; BUFFER];

@@ -1,8 +1,8 @@
 -- What the functions that answer one line leave of the writer, of what is held for it, and of the
 -- registry.
-use Rattle.std.specs.Prelude.{◌≡◌, ◌⊎◌, ℕ, ◌+◌, ◌<◌, true, false, List, [], ◌++◌, length, Option}
-use Rattle.std.specs.Prelude.{Some, None, Result, Ok, Err, MatchResult, IfOk, IfErr, IsErrOf}
-use Rattle.std.specs.Prelude.{if◌then◌else◌}
+use Rattle.std.specs.Prelude.{◌≡◌, ◌⊎◌, ℕ, ◌+◌, ◌<◌, ◌≤◌, true, false, List, [], ◌++◌, length}
+use Rattle.std.specs.Prelude.{Option, Some, None, Result, Ok, Err, MatchResult, IfOk, IfErr}
+use Rattle.std.specs.Prelude.{IsErrOf, if◌then◌else◌}
 use Rattle.std.specs.Io.KnownBytes.{Appends}
 use Rattle.pid_ident.specs.Sending.{SendsFront}
 use Rattle.pid_lookup.specs.declared.answer.Answer.{Answer}
@@ -22,9 +22,13 @@ use Rattle.pid_script.specs.Calling.{CallsSend, CallsSendEither}
 use Rattle.pid_script.specs.ScriptLines as lines
 use Rattle.pid_script.specs.ScriptLines.{Ask}
 use Rattle.pid_script.specs.Replies.{BAD_FLAGS, answer_line, name_line, line_reply, command_of}
-use Rattle.pid_script.specs.Replies.{is_call}
+use Rattle.pid_script.specs.Replies.{calls_for, is_call}
 use Rattle.pid_script.specs.RegistryStates.{Becomes, BecomesEither, StopsBehind}
 use Rattle.pid_script.specs.StopLines.{is_stop, IsStopInPlace, IsStopText}
+
+-- the most bytes that are held
+abbrev pub MOST_HELD : ℕ
+MOST_HELD = 65536
 
 -- what a writer took, and what is held for it
 pub record Out : Type 0 where
@@ -35,11 +39,13 @@ pub record Out : Type 0 where
 abbrev pub out : Option (List ℕ) → List ℕ → Out
 out taken held = record { taken = taken; held = held }
 
--- a text was said: some bytes went out, and the rest of what was held and said is held
+-- a text was said: some bytes went out, and the rest of what was held and said is held, in the room
+-- that there is
 pub record HasSaid (old new : Out) (text : List ℕ) : Type 0 where
   pub sent : List ℕ
   pub told : Appends old.taken new.taken sent
   pub rest : old.held ++ text ≡ sent ++ new.held
+  pub room : length old.held ≤ MOST_HELD → length new.held ≤ MOST_HELD
 
 -- the writer failed, and took a prefix of what was held and said, and not all of it
 abbrev pub SaysFront : Out → Out → List ℕ → Type 0
@@ -168,10 +174,11 @@ module _ {R : Type 0} (registry : Ghosts R) where
   -- What calls sent for the line: its command if it was answered, none that has an outcome if
   -- it was stopped, and one or the other if the writer failed.
   abbrev pub SendsFor : Result (Unit {0}) LineEnd → R → R → Ask → Type 0
-  SendsFor (Ok x) r new ask = CallsSend registry.showing r (command_of ask) new
-  SendsFor (Err TooLong) r new ask = CallsSend registry.showing r [] new
-  SendsFor (Err Stopped) r new ask = CallsSend registry.showing r [] new
-  SendsFor (Err WriteFault) r new ask = CallsSendEither registry.showing r [] (command_of ask) new
+  SendsFor (Ok x) r new ask = CallsSend registry.showing r (command_of ask) (calls_for ask) new
+  SendsFor (Err TooLong) r new ask = CallsSend registry.showing r [] (calls_for ask) new
+  SendsFor (Err Stopped) r new ask = CallsSend registry.showing r [] (calls_for ask) new
+  SendsFor (Err WriteFault) r new ask = CallsSendEither registry.showing r [] (command_of ask)
+      (calls_for ask) new
 
   -- the answer to a line
   pub record AnswersLine (result : Result (Unit {0}) LineEnd) (ask : Ask) (h : History) (r : R)

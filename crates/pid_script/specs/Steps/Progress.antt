@@ -1,5 +1,6 @@
 -- How far a script has come within the text that was read.
-use Rattle.std.specs.Prelude.{◌≡◌, ℕ, List, [], ◌++◌, Option, Result, Ok, Err, IfErr, OnOk}
+use Rattle.std.specs.Prelude.{◌≡◌, ◌≤◌, ◌+◌, ℕ, List, [], ◌++◌, length, Option, Result, Ok, Err}
+use Rattle.std.specs.Prelude.{IfErr, OnOk}
 use Rattle.std.specs.Io.KnownBytes.{Appends}
 use Rattle.pid_reader.specs.Lines.{lines_of}
 use Rattle.pid_reader.specs.WholeLines.{whole_lines, open_part}
@@ -11,15 +12,17 @@ use Rattle.pid_script.specs.declared.script_end.ScriptEnd.{ScriptEnd}
 use Rattle.pid_script.specs.declared.script_end.ScriptEnd.TheVariants.{Done, WriteFault, TooLong}
 use Rattle.pid_script.specs.declared.script_end.ScriptEnd.TheVariants.{Stopped}
 use Rattle.pid_script.specs.Calling.{CallsSend}
-use Rattle.pid_script.specs.Replies.{replies, commands_of_lines, history_after}
-use Rattle.pid_script.specs.Steps.Output.{Out}
+use Rattle.pid_script.specs.Replies.{replies, calls_for_lines, commands_of_lines}
+use Rattle.pid_script.specs.Replies.{history_after}
+use Rattle.pid_script.specs.ScriptLines.{LONGEST}
+use Rattle.pid_script.specs.Steps.Output.{MOST_HELD, Out}
 use Rattle.pid_script.specs.Scripts.{NoneTooLong, NoneCalls, passage, AnswersLines, StopsAtLine}
 use Rattle.pid_script.specs.Scripts.{EndsTooLong, FailsToWrite}
 use Rattle.pid_script.specs.RegistryStates.{Becomes, ShowsOrHasFailed}
 
 module _ {R : Type 0} (registry : Ghosts R) where
   -- The lines were answered. Of the replies to those that wait, none of which is a command, some
-  -- bytes went out, and the rest is held.
+  -- bytes went out, and the rest is held, in the room that there is.
   pub record Answered (h : History) (start : Option (List ℕ)) (old new : R) (now : Out)
       (lines : List (List ℕ)) : Type 0 where
     pub before : List (List ℕ)
@@ -31,15 +34,18 @@ module _ {R : Type 0} (registry : Ghosts R) where
     pub sent : List ℕ
     pub went : Appends between now.taken sent
     pub rest : sent ++ now.held ≡ replies (history_after h before) waiting
+    pub room : length now.held ≤ MOST_HELD
     pub fits : NoneTooLong lines
     pub leaves : Becomes registry old h new (history_after h lines)
     pub lives : registry.has_failed old → NoneCalls lines
-    pub calls : CallsSend registry.showing old (commands_of_lines lines) new
+    pub calls : CallsSend registry.showing old (commands_of_lines lines) (calls_for_lines lines) new
 
-  -- the whole lines of a prefix of the text were answered, and what comes after them is kept
+  -- the whole lines of a prefix of the text were answered, and what comes after them is kept, which
+  -- is no more than the longest line and its CR
   pub record HasAnswered (h : History) (start : Option (List ℕ)) (old new : R) (now : Out)
       (kept front : List ℕ) : Type 0 where
     pub open_line : kept ≡ open_part front
+    pub short : length kept ≤ LONGEST + 1
     pub answered : Answered h start old new now (whole_lines front)
 
   -- a line ended it

@@ -25,10 +25,10 @@ returns-clause-tells g c = λ given.
     c.send.ensures.end
 
 pub returns-then-holds-clause-told : goal.returns-then-holds-clause-told
-returns-then-holds-clause-told g c = held (g.O.Output.taken c.args.output.now) c.args.held.now.items c.holds.new.held.items c.args.text.now (c.holds.ensures.held c.if-holds.true)
+returns-then-holds-clause-told g c = held (g.O.Output.taken c.args.output.now) c.args.held.now.items c.holds.new.held.items c.args.text.now (c.holds.ensures.held c.if-holds.true) c.holds.ensures.room
 
 pub returns-then-holds-clause-tells : goal.returns-then-holds-clause-tells
-returns-then-holds-clause-tells g c = λ given. held (g.O.Output.taken c.args.output.now) c.args.held.now.items c.holds.new.held.items c.args.text.now (c.holds.ensures.held c.if-holds.true)
+returns-then-holds-clause-tells g c = λ given. held (g.O.Output.taken c.args.output.now) c.args.held.now.items c.holds.new.held.items c.args.text.now (c.holds.ensures.held c.if-holds.true) c.holds.ensures.room
 
 pub returns-in-Err-clause-told : goal.returns-in-Err-clause-told
 returns-in-Err-clause-told g c = unsent_front (g.O.Output.taken c.args.output.now) (g.O.Output.taken c.flush.new.output) c.args.held.now.items c.holds.new.held.items c.args.text.now (c.holds.ensures.same c.if-holds.false) c.in-Err.ensures.front

@@ -29,7 +29,7 @@ returns-then-is_empty-clause-answered g c =
 pub returns-clause-answered : goal.returns-clause-answered
 returns-clause-answered g c =
     half_kept_on g.R.Moderated g.O.Output.taken c.keep.result c.args.piece.now c.loop-front.rest.now c.args.registry.now c.loop-front.registry (out (g.O.Output.taken c.args.output.now) c.args.held.now.items) c.loop-front.output c.keep.new.output c.loop-front.held.items c.keep.new.held.items c.args.kept.now.items c.loop-front.kept.items c.keep.new.kept.items
-    c.loop-front.invariant c.in_default.ensures.parts c.keep.ensures.kept c.keep.ensures.silent c.keep.ensures.still
+    c.loop-front.invariant c.in_default.ensures.parts c.keep.ensures.kept c.keep.ensures.short c.keep.ensures.silent c.keep.ensures.still
 
 pub returns-clause-ended : goal.returns-clause-ended
 returns-clause-ended g c =
