@@ -102,7 +102,7 @@ half_kept m piece rest old now was left kept kept_now kept_next half no_lf is sh
     }
 
 -- what is left of the piece is not kept
-half_unfit : {R : Type 0} (m : Ghosts R) (e : LineEnd) (piece rest : List ℕ) (old now : R) (was left left_next : Out) (kept kept_now : List ℕ)
+pub half_unfit : {R : Type 0} (m : Ghosts R) (e : LineEnd) (piece rest : List ℕ) (old now : R) (was left left_next : Out) (kept kept_now : List ℕ)
     → IsHalfway m piece rest old now was left kept kept_now → ended_pieces rest ≡ [] → (rest ≡ [] → ⊥) → Unfit e (kept_now ++ rest) left left_next
     → m.showing.is_clean now → (h : History) (start : Option (List ℕ)) (first : R) (text more : List ℕ) → ShowsOrHasFailed m first h → HasAnswered m h start first old was kept text
     → Ended m e h start first now left_next (lines_of ((text ++ piece) ++ more))
@@ -121,22 +121,14 @@ pub half_whole : {R : Type 0} (m : Ghosts R) (piece rest : List ℕ) (old now : 
     → HasAnswered m h start first now left kept_now (text ++ piece)
 half_whole m piece rest old now was left kept kept_now half none = half_kept m piece rest old now was left kept kept_now kept_now half (ap ended_pieces none) (sym (ap (λ (l : List ℕ). kept_now ++ l) none ∙ append-nil kept_now)) (λ short. short)
 
-pub half_kept_on : {R O : Type 0} (m : Ghosts R) (took : O → Option (List ℕ)) (r : Result (Unit {0}) LineEnd) (piece rest : List ℕ) (old now : R) (was : Out) (out_now out_next : O) (held held_next kept kept_now kept_next : List ℕ)
-    → IsHalfway m piece rest old now was (out (took out_now) held) kept kept_now → ended_pieces rest ≡ [] → OnOk r (kept_next ≡ kept_now ++ rest) → (length kept_now ≤ LONGEST + 1 → OnOk r (length kept_next ≤ LONGEST + 1)) → OnOk r (out_next ≡ out_now) → OnOk r (held_next ≡ held)
+-- with what `keep` says of it
+pub half_kept_on : {R O : Type 0} (m : Ghosts R) (took : O → Option (List ℕ)) (piece rest : List ℕ) (old now : R) (was : Out) (out_now out_next : O) (held held_next kept kept_now kept_next : List ℕ)
+    → IsHalfway m piece rest old now was (out (took out_now) held) kept kept_now → ended_pieces rest ≡ [] → kept_next ≡ kept_now ++ rest → (length kept_now ≤ LONGEST + 1 → length kept_next ≤ LONGEST + 1) → out_next ≡ out_now → held_next ≡ held
     → m.showing.is_clean now → (h : History) (start : Option (List ℕ)) (first : R) (text : List ℕ) → ShowsOrHasFailed m first h → HasAnswered m h start first old was kept text
-    → OnOk r (HasAnswered m h start first now (out (took out_next) held_next) kept_next (text ++ piece))
-half_kept_on m took (Ok x) piece rest old now was out_now out_next held held_next kept kept_now kept_next half no_lf is short silent still t h start first text stands a =
+    → HasAnswered m h start first now (out (took out_next) held_next) kept_next (text ++ piece)
+half_kept_on m took piece rest old now was out_now out_next held held_next kept kept_now kept_next half no_lf is short silent still t h start first text stands a =
     subst (λ o. HasAnswered m h start first now (out (took o) held_next) kept_next (text ++ piece)) (sym silent) (subst (λ l. HasAnswered m h start first now (out (took out_now) l) kept_next (text ++ piece)) (sym still)
     (half_kept m piece rest old now was (out (took out_now) held) kept kept_now kept_next half no_lf is short t h start first text stands a))
-half_kept_on m took (Err e) piece rest old now was out_now out_next held held_next kept kept_now kept_next half no_lf is short silent still t h start first text stands a = tt
-
-pub half_unfit_on : {R : Type 0} (m : Ghosts R) (r : Result (Unit {0}) LineEnd) (piece rest : List ℕ) (old now : R) (was left left_next : Out) (kept kept_now : List ℕ)
-    → IsHalfway m piece rest old now was left kept kept_now → ended_pieces rest ≡ [] → (rest ≡ [] → ⊥) → IfErr r (λ e. Unfit e (kept_now ++ rest) left left_next)
-    → m.showing.is_clean now → (h : History) (start : Option (List ℕ)) (first : R) (text more : List ℕ) → ShowsOrHasFailed m first h → HasAnswered m h start first old was kept text
-    → IfErr r (λ e. Ended m e h start first now left_next (lines_of ((text ++ piece) ++ more)))
-half_unfit_on m (Ok x) piece rest old now was left left_next kept kept_now half no_lf some unfit t h start first text more stands a = tt
-half_unfit_on m (Err e) piece rest old now was left left_next kept kept_now half no_lf some unfit t h start first text more stands a =
-    half_unfit m e piece rest old now was left left_next kept kept_now half no_lf some unfit t h start first text more stands a
 
 -- the lines of a piece were answered, and what is held goes out
 piece_flushed : {R : Type 0} (m : Ghosts R) (h : History) (start : Option (List ℕ)) (first r : R) (old : Out) (new : Option (List ℕ)) (held kept text : List ℕ) → HasAnswered m h start first r old kept text → Appends old.taken new old.held → held ≡ [] → HasAnswered m h start first r (out new held) kept text

@@ -3,6 +3,7 @@ use Rattle.std.proofs.Common.{◌≡◌, ℕ, ◌+◌, ◌*◌, ◌-◌, ◌^◌
 use Rattle.std.proofs.lemmas.List.{append-nil, length-append, length-take}
 use Rattle.std.specs.Prelude.{IfSome, IsSome}
 use Rattle.std.specs.Io.KnownBytes.{Consumes, Keeps, IsAtEnd}
+use Rattle.pid_file.specs.declared.io.ReadFault.{ReadFault as InputFault}
 use Rattle.pid_reader.specs.Lines.{lines_of}
 use Rattle.pid_moderation.specs.History.{History}
 use Rattle.pid_script.specs.declared.line_end.LineEnd.{LineEnd}
@@ -161,6 +162,26 @@ last_read end s turn reads_now now front piece less counted more read bounded so
   some = omega (arith, length-append front piece, some);
   spent = λ e. absurd (other e);
 }
+
+-- a read that failed
+pub read_failed : (s : ReaderAndWriter) (f : InputFault) (turn reads_now : ℕ) (now : Option (List ℕ)) (front : List ℕ)
+    → s.read_fault ≡ Some f → turn < s.turns → (s.reads < 2 ^ 64 → reads_now ≡ min (s.reads + turn) (2 ^ 64 - 1)) → s.reads_now ≡ min (reads_now + 1) (2 ^ 64 - 1)
+    → Consumes s.come now front → length front ≤ turn * BUFFER_ROOM → turn ≤ length front → Keeps now s.come_now → EndsWith ReadEnd s
+read_failed s f turn reads_now now front is less counted more read bounded some kept = record {
+  read_fault = λ e. some_told s.read_fault f is;
+  write_fault = λ e. absurd cc;
+  failed = λ few fault. refl;
+  reads = last_read ReadEnd s turn reads_now now front [] less counted more read bounded some (keeps_none now s.come_now kept) (omega arith) (λ e. absurd cc);
+}
+
+pub no_turn : {X : Type 0} → 0 < 0 → X
+no_turn less = absurd (omega (arith, less))
+
+pub last_turn : (turn turns : ℕ) → turn ≤ turns → turns ≤ turn → turn ≡ turns
+last_turn turn turns less end = omega (arith, less, end)
+
+pub has_room : (buffer : List ℕ) → length buffer ≡ BUFFER_ROOM → 0 < length buffer
+has_room buffer whole = omega (arith, whole)
 
 -- all reads were made
 pub all_made : (s : ReaderAndWriter) (turn : ℕ) (front : List ℕ)

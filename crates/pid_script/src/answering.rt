@@ -5,7 +5,6 @@ ghost use Rattle.pid_script.specs.ScriptLines as asks;
 ghost use Rattle.pid_script.specs.ScriptLines.{ask_of};
 ghost use Rattle.pid_script.specs.Calling.{CallsGo};
 ghost use Rattle.pid_script.specs.Steps.Output.{out, AnswersLine};
-ghost use Rattle.pid_service_laws.specs.CallLaws.{StaysClean};
 ghost use Rattle.pid_script.specs.RegistryStates.{OverStanding};
 
 use crate::fields::{read_command, read_path};
@@ -32,7 +31,6 @@ fn obey<R: Moderated, O: Output>(
     account: &str,
     form: &str,
 ) -> Result<(), LineEnd>
-    ensures honest { StaysClean R.showing registry.old registry.new }
     ensures calls { CallsGo R.showing registry.old registry.new }
     ensures ends { OverStanding R.Moderated registry.old registry.new (λ h.
         AnswersLine R.Moderated result (asks.AsksCommand verb account.now form.now) h registry.old
@@ -57,7 +55,6 @@ fn read<R: Moderated, O: Output>(
     held: &mut Vec<u8>,
     form: &str,
 ) -> Result<(), LineEnd>
-    ensures honest { StaysClean R.showing registry.old registry.new }
     ensures calls { CallsGo R.showing registry.old registry.new }
     ensures ends { OverStanding R.Moderated registry.old registry.new (λ h.
         AnswersLine R.Moderated result (asks.AsksName form.now) h registry.old
@@ -82,7 +79,6 @@ fn lookup<R: Moderated, O: Output>(
     held: &mut Vec<u8>,
     form: &str,
 ) -> Result<(), LineEnd>
-    ensures honest { StaysClean R.showing registry.old registry.new }
     ensures calls { CallsGo R.showing registry.old registry.new }
     ensures ends { OverStanding R.Moderated registry.old registry.new (λ h.
         AnswersLine R.Moderated result (asks.AsksLookup form.now) h registry.old
@@ -106,7 +102,6 @@ fn export<R: Moderated, O: Output>(
     output: &mut O,
     held: &mut Vec<u8>,
 ) -> Result<(), LineEnd>
-    ensures honest { StaysClean R.showing registry.old registry.new }
     ensures calls { CallsGo R.showing registry.old registry.new }
     ensures ends { OverStanding R.Moderated registry.old registry.new (λ h.
         AnswersLine R.Moderated result asks.AsksExport h registry.old
@@ -132,7 +127,6 @@ pub fn answer_line<R: Moderated, O: Output>(
     held: &mut Vec<u8>,
     line: &[u8],
 ) -> Result<(), LineEnd>
-    ensures honest { StaysClean R.showing registry.old registry.new }
     ensures calls { CallsGo R.showing registry.old registry.new }
     ensures ends { OverStanding R.Moderated registry.old registry.new (λ h.
         AnswersLine R.Moderated result (ask_of line.now) h registry.old

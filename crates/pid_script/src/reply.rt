@@ -80,19 +80,6 @@ fn stops(answer: Result<Reply, Refusal>) -> bool
     }
 }
 
-// Says a text and an LF.
-fn say_ended<O: Output>(output: &mut O, held: &mut Vec<u8>, text: &[u8]) -> Result<(), LineEnd>
-    ensures told { SaysText result (out (O.taken output.old) held.old.items)
-        (out (O.taken output.new) held.new.items) (text.now ++ 10 ∷ []) }
-    ensures end { IfErr result (λ e. e ≡ LineEnd.WriteFault) }
-    ensures fault { result ≡ Err LineEnd.WriteFault → IsSome (O.write_fault output.new) }
-{
-    if let Err(end) = say(output, held, text) {
-        return Err(end);
-    }
-    say(output, held, b"\n")
-}
-
 // Says a word, a text and an LF.
 fn say_line<O: Output>(
     output: &mut O,
@@ -109,30 +96,10 @@ fn say_line<O: Output>(
     if let Err(end) = say(output, held, word) {
         return Err(end);
     }
-    say_ended(output, held, text)
-}
-
-// Writes all that is held, and the line of an answer after it.
-fn say_answer<O: Output>(
-    output: &mut O,
-    held: &mut Vec<u8>,
-    answer: Result<Reply, Refusal>,
-) -> Result<(), LineEnd>
-    ensures sent { OnOk result (Appends (O.taken output.old) (O.taken output.new)
-        (held.old.items ++ outcome_line answer)) }
-    ensures empty { OnOk result (held.new.items ≡ []) }
-    ensures front { OnErr result (SendsFront (O.taken output.old) (O.taken output.new)
-        (held.old.items ++ outcome_line answer)) }
-    ensures end { IfErr result (λ e. e ≡ LineEnd.WriteFault) }
-    ensures fault { result ≡ Err LineEnd.WriteFault → IsSome (O.write_fault output.new) }
-{
-    if let Err(end) = flush(output, held) {
+    if let Err(end) = say(output, held, text) {
         return Err(end);
     }
-    match write_reply_line(output, answer) {
-        Ok(()) => Ok(()),
-        Err(_) => Err(LineEnd::WriteFault),
-    }
+    say(output, held, b"\n")
 }
 
 /// Writes the line of an answer, with all that is held. What was answered is written, even if
@@ -150,9 +117,12 @@ pub fn send_answer<O: Output>(
     ensures fault { result ≡ Err LineEnd.WriteFault → IsSome (O.write_fault output.new) }
     ensures fits { result ≡ Err LineEnd.TooLong → ⊥ }
 {
-    if let Err(end) = say_answer(output, held, answer) {
+    if let Err(end) = flush(output, held) {
         return Err(end);
     }
+    let Ok(()) = write_reply_line(output, answer) else {
+        return Err(LineEnd::WriteFault);
+    };
     if stops(answer) {
         return Err(LineEnd::Stopped);
     }

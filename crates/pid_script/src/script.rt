@@ -23,9 +23,7 @@ ghost use Rattle.pid_reader.specs.Lines.{drop_cr};
 ghost use Rattle.pid_script.specs.ScriptLines.{ask_of};
 ghost use Rattle.pid_script.specs.Steps.Progress.{
   AnswersPiece,
-  AnswersLast,
   EndsInPiece,
-  EndsInLast,
   EndsAll,
 };
 ghost use Rattle.pid_script.specs.Steps.Progress.{script_end};
@@ -38,7 +36,6 @@ ghost use Rattle.pid_script.specs.Scripts.{
   IsUpToDate,
   OverText,
 };
-ghost use Rattle.pid_service_laws.specs.CallLaws.{StaysClean};
 ghost use Rattle.pid_script.specs.RegistryStates.{OverStanding};
 
 use crate::answering::answer_line;
@@ -93,7 +90,6 @@ fn end_line<R: Moderated, O: Output>(
     ensures empty { OnOk result (kept.new.items ≡ []) }
     // The memory of a line that was kept is let go before the next one.
     ensures let_go { OnOk result (0 < length kept.old.items → vec_capacity kept.new ≡ 0) }
-    ensures honest { StaysClean R.showing registry.old registry.new }
     ensures calls { CallsGo R.showing registry.old registry.new }
     ensures ends { OverStanding R.Moderated registry.old registry.new (λ h.
         AnswersLine R.Moderated result (ask_of
@@ -114,8 +110,9 @@ fn end_line<R: Moderated, O: Output>(
     answered
 }
 
-// Answers the lines of the next piece of the text, and keeps what comes after them.
-fn take_lines<R: Moderated, O: Output>(
+// Answers the lines of the next piece of the text, keeps what comes after them, and writes the
+// replies that are held.
+fn take_piece<R: Moderated, O: Output>(
     alloc: Global,
     registry: &mut R,
     output: &mut O,
@@ -123,8 +120,8 @@ fn take_lines<R: Moderated, O: Output>(
     kept: &mut Vec<u8>,
     piece: &[u8],
 ) -> Result<(), LineEnd>
-    ensures honest { StaysClean R.showing registry.old registry.new }
     ensures calls { CallsGo R.showing registry.old registry.new }
+    ensures empty { OnOk result (held.new.items ≡ []) }
     ensures answered { AnswersPiece R.Moderated result registry.old registry.new
         (out (O.taken output.old) held.old.items) (out (O.taken output.new) held.new.items)
         kept.old.items kept.new.items piece.now }
@@ -141,62 +138,15 @@ fn take_lines<R: Moderated, O: Output>(
         rest = behind;
     }
     if rest.is_empty() {
-        return Ok(());
+        return flush(output, held);
     }
-    keep(output, held, kept, rest)
-}
-
-// Takes the next piece of the text, and writes the replies that are held.
-fn take_piece<R: Moderated, O: Output>(
-    alloc: Global,
-    registry: &mut R,
-    output: &mut O,
-    held: &mut Vec<u8>,
-    kept: &mut Vec<u8>,
-    piece: &[u8],
-) -> Result<(), LineEnd>
-    ensures honest { StaysClean R.showing registry.old registry.new }
-    ensures calls { CallsGo R.showing registry.old registry.new }
-    ensures empty { OnOk result (held.new.items ≡ []) }
-    ensures answered { AnswersPiece R.Moderated result registry.old registry.new
-        (out (O.taken output.old) held.old.items) (out (O.taken output.new) held.new.items)
-        kept.old.items kept.new.items piece.now }
-    ensures ended { EndsInPiece R.Moderated result registry.old registry.new
-        (out (O.taken output.old) held.old.items) (out (O.taken output.new) held.new.items)
-        kept.old.items piece.now }
-    ensures fault { result ≡ Err LineEnd.WriteFault → IsSome (O.write_fault output.new) }
-{
-    if let Err(end) = take_lines(alloc, registry, output, held, kept, piece) {
+    if let Err(end) = keep(output, held, kept, rest) {
         return Err(end);
     }
     flush(output, held)
 }
 
-// Answers a last line without LF.
-fn answer_last<R: Moderated, O: Output>(
-    alloc: Global,
-    registry: &mut R,
-    output: &mut O,
-    held: &mut Vec<u8>,
-    kept: &[u8],
-) -> Result<(), LineEnd>
-    ensures honest { StaysClean R.showing registry.old registry.new }
-    ensures calls { CallsGo R.showing registry.old registry.new }
-    ensures answered { AnswersLast R.Moderated result registry.old registry.new
-        (out (O.taken output.old) held.old.items) (out (O.taken output.new) held.new.items)
-        kept.now }
-    ensures ended { EndsInLast R.Moderated result registry.old registry.new
-        (out (O.taken output.old) held.old.items) (out (O.taken output.new) held.new.items)
-        kept.now }
-    ensures fault { result ≡ Err LineEnd.WriteFault → IsSome (O.write_fault output.new) }
-{
-    if kept.is_empty() {
-        return Ok(());
-    }
-    answer_line(alloc, registry, output, held, without_cr(kept))
-}
-
-// The text has ended.
+// The text has ended: answers a last line without LF, and writes the replies that are held.
 fn end_text<R: Moderated, O: Output>(
     alloc: Global,
     registry: &mut R,
@@ -204,14 +154,16 @@ fn end_text<R: Moderated, O: Output>(
     held: &mut Vec<u8>,
     kept: &[u8],
 ) -> Result<(), LineEnd>
-    ensures honest { StaysClean R.showing registry.old registry.new }
     ensures calls { CallsGo R.showing registry.old registry.new }
     ensures ends { EndsAll R.Moderated result registry.old registry.new
         (out (O.taken output.old) held.old.items) (out (O.taken output.new) held.new.items)
         kept.now }
     ensures fault { result ≡ Err LineEnd.WriteFault → IsSome (O.write_fault output.new) }
 {
-    if let Err(end) = answer_last(alloc, registry, output, held, kept) {
+    if kept.is_empty() {
+        return flush(output, held);
+    }
+    if let Err(end) = answer_line(alloc, registry, output, held, without_cr(kept)) {
         return Err(end);
     }
     flush(output, held)

@@ -87,14 +87,6 @@ module _ {R : Type 0} (registry : Ghosts R) where
       → IfErr result (λ e. Ended e h start first new now (lines_of ((text ++ piece) ++ more)))
 
   -- the text has ended, and its last line is answered, or ended it
-  abbrev pub AnswersLast : Result (Unit {0}) LineEnd → R → R → Out → Out → List ℕ → Type 0
-  AnswersLast result old new was now kept = FromAnswered old new was kept
-      (λ h start first text. OnOk result (Answered h start first new now (lines_of text)))
-
-  abbrev pub EndsInLast : Result (Unit {0}) LineEnd → R → R → Out → Out → List ℕ → Type 0
-  EndsInLast result old new was now kept = FromAnswered old new was kept
-      (λ h start first text. IfErr result (λ e. Ended e h start first new now (lines_of text)))
-
   abbrev pub EndsAll : Result (Unit {0}) LineEnd → R → R → Out → Out → List ℕ → Type 0
   EndsAll result old new was now kept = FromAnswered old new was kept
       (λ h start first text. EndsText result h start first new now text)

@@ -1,14 +1,14 @@
-use Rattle.std.proofs.Common.{◌≡◌, ℕ, List, [], length, take, Err, refl, sym, ◌∙◌, subst, arith, rules, IfSome}
+use Rattle.std.proofs.Common.{◌≡◌, ℕ, List, length, take, Err, sym, ◌∙◌, subst, rules, IfSome}
 use Rattle.pid_script.specs.Steps.Progress.{HasAnswered}
 use Rattle.pid_script.specs.Steps.Output.{out}
 use Rattle.pid_script.specs.Scripts.{passage, IsScript}
 use Rattle.pid_script.proofs.CatchingUp.{unread, read_then, calls_then}
-use Rattle.pid_script.proofs.ReadLemmas.{none_read, read_more, cut_off, turns_over, all_read, ended, ended_by, some_told, not_spent, consumed_none, piece_fits, piece_some, keeps_none, last_read, all_made}
+use Rattle.pid_script.proofs.ReadLemmas.{none_read, read_more, cut_off, turns_over, all_read, ended, ended_by, not_spent, consumed_none, piece_fits, piece_some, last_read, last_turn, read_failed, no_turn, has_room, all_made}
 use Rattle.pid_script.proofs.Calling.{go_then}
 use Rattle.pid_script.proofs.script.run_script.Goals as goal
 
 pub loop-turn-init : goal.loop-turn-init
-loop-turn-init g c = (none_read g.R.Moderated c.args.registry.now (g.O.Output.taken c.args.output.now) (g.I.Incoming.to_come c.args.input.now) (g.I.Incoming.reads c.args.input.now) c.new-held.result.items c.new-kept.result.items c.new-held.ensures.items c.new-kept.ensures.items, (g.met.I.Incoming.stays _, (unread g.R.Moderated c.args.registry.now (g.O.Output.taken c.args.output.now) (g.I.Incoming.to_come c.args.input.now) (g.I.Incoming.moments c.args.input.now), λ some. absurd (omega (arith, some)))))
+loop-turn-init g c = (none_read g.R.Moderated c.args.registry.now (g.O.Output.taken c.args.output.now) (g.I.Incoming.to_come c.args.input.now) (g.I.Incoming.reads c.args.input.now) c.new-held.result.items c.new-kept.result.items c.new-held.ensures.items c.new-kept.ensures.items, (g.met.I.Incoming.stays _, (unread g.R.Moderated c.args.registry.now (g.O.Output.taken c.args.output.now) (g.I.Incoming.to_come c.args.input.now) (g.I.Incoming.moments c.args.input.now), (no_turn, search rules))))
 
 pub loop-turn-preserved : goal.loop-turn-preserved
 loop-turn-preserved g c = (
@@ -17,13 +17,13 @@ loop-turn-preserved g c = (
       (g.I.Incoming.to_come c.args.input.now) (g.I.Incoming.to_come c.loop-turn.input) (g.I.Incoming.to_come c.read_behind.new.self)
       c.loop-turn.kept.items c.take_piece.new.kept.items (take c.in-Ok.count c.read_behind.new.buffer)
       (g.I.Incoming.reads c.args.input.now) (g.I.Incoming.reads c.loop-turn.input) (g.I.Incoming.reads c.read_behind.new.self) c.loop-turn._turn
-      c.loop-turn.invariant.0 c.in-Ok.ensures.bytes.0 (let whole : length c.read_behind.new.buffer ≡ 65536 = search rules in piece_fits c.in-Ok.count c.read_behind.new.buffer whole) (piece_some c.in-Ok.count c.read_behind.new.buffer c.if-count-eq0.false c.in-Ok.ensures.room) c.read_behind.ensures.count c.take_piece.ensures.honest c.take_piece.ensures.calls c.in_default-take_piece.ensures.empty c.in_default-take_piece.ensures.answered,
+      c.loop-turn.invariant.0 c.in-Ok.ensures.bytes.0 (piece_fits c.in-Ok.count c.read_behind.new.buffer (c.read_behind.auto.buffer ∙ c.loop-turn.invariant.1.1.1.1)) (piece_some c.in-Ok.count c.read_behind.new.buffer c.if-count-eq0.false c.in-Ok.ensures.room) c.read_behind.ensures.count c.take_piece.ensures.calls.clean c.take_piece.ensures.calls c.in_default-take_piece.ensures.empty c.in_default-take_piece.ensures.answered,
   (
     g.met.I.Incoming.joins _ _ _ c.loop-turn.invariant.1.0 c.read_behind.ensures.goes,
     (
       calls_then g.R.Moderated c.args.registry.now c.loop-turn.registry c.take_piece.new.registry (g.O.Output.taken c.args.output.now) (g.O.Output.taken c.loop-turn.output) (g.O.Output.taken c.take_piece.new.output) (g.I.Incoming.to_come c.args.input.now) (g.I.Incoming.moments c.args.input.now) (g.I.Incoming.moments c.read_behind.new.self) c.take_piece.ensures.calls
           (read_then g.R.Moderated c.args.registry.now c.loop-turn.registry (g.O.Output.taken c.args.output.now) (g.I.Incoming.to_come c.args.input.now) (g.I.Incoming.to_come c.loop-turn.input) (out (g.O.Output.taken c.loop-turn.output) c.loop-turn.held.items) c.loop-turn.kept.items (g.I.Incoming.reads c.args.input.now) (g.I.Incoming.reads c.loop-turn.input) c.loop-turn._turn (g.I.Incoming.moments c.args.input.now) (g.I.Incoming.moments c.loop-turn.input) (g.I.Incoming.moments c.read_behind.new.self) c.loop-turn.invariant.0 c.loop-turn.invariant.1.1.0 c.read_behind.ensures.noted),
-      λ some. c.in-Ok.ensures.fault,
+      (λ some. c.in-Ok.ensures.fault, c.read_behind.auto.buffer ∙ c.loop-turn.invariant.1.1.1.1),
     ),
   ),
 )
@@ -34,32 +34,28 @@ returns-in_default-clause-script g c = λ honest h stands.
     c.loop-turn.invariant.0.consumed c.in_default.ensures.bytes c.loop-turn.invariant.0.empty (c.loop-turn.invariant.0.answered honest h stands)
 
 pub returns-in_default-clause-ended : goal.returns-in_default-clause-ended
-returns-in_default-clause-ended g c = record {
-  read_fault = λ e. some_told _ _ c.in_default.ensures.fault;
-  write_fault = λ e. absurd cc;
-  failed = λ some fault. refl;
-  reads = last_read _ _ c.loop-turn._turn (g.I.Incoming.reads c.loop-turn.input) (g.I.Incoming.to_come c.loop-turn.input) c.loop-turn.invariant.0.front [] c.loop-turn-test.true c.loop-turn.invariant.0.counted c.read_behind.ensures.count c.loop-turn.invariant.0.consumed c.loop-turn.invariant.0.bounded c.loop-turn.invariant.0.some (keeps_none _ _ c.in_default.ensures.bytes) (omega arith) (λ e. absurd cc);
-}
+returns-in_default-clause-ended g c =
+    read_failed _ _ c.loop-turn._turn (g.I.Incoming.reads c.loop-turn.input) (g.I.Incoming.to_come c.loop-turn.input) c.loop-turn.invariant.0.front c.in_default.ensures.fault c.loop-turn-test.true c.loop-turn.invariant.0.counted c.read_behind.ensures.count c.loop-turn.invariant.0.consumed c.loop-turn.invariant.0.bounded c.loop-turn.invariant.0.some c.in_default.ensures.bytes
 
 pub returns-in_default-clause-goes : goal.returns-in_default-clause-goes
 returns-in_default-clause-goes g c = g.met.I.Incoming.joins _ _ _ c.loop-turn.invariant.1.0 c.read_behind.ensures.goes
 
 pub returns-then-count-eq0-clause-script : goal.returns-then-count-eq0-clause-script
 returns-then-count-eq0-clause-script g c = λ honest h stands.
-    let whole : length c.read_behind.new.buffer ≡ 65536 = search rules in
-    let was = c.end_text.ensures.honest honest in
+    let whole : length c.read_behind.new.buffer ≡ 65536 = c.read_behind.auto.buffer ∙ c.loop-turn.invariant.1.1.1.1 in
+    let was = c.end_text.ensures.calls.clean honest in
     let new = g.I.Incoming.to_come c.read_behind.new.self in
     let now = g.I.Incoming.to_come c.loop-turn.input in
     let taken = g.O.Output.taken c.args.output.now in
     let left = out (g.O.Output.taken c.end_text.new.output) c.end_text.new.held.items in
     subst (λ e. IfSome (g.I.Incoming.to_come c.args.input.now) (λ text. IsScript g.R.Moderated e h (passage c.args.registry.now c.end_text.new.registry taken (g.O.Output.taken c.end_text.new.output)) text new)) (sym c.end_of.ensures)
     (all_read g.R.Moderated c.end_text.result h taken c.args.registry.now c.end_text.new.registry left c.loop-turn.invariant.0.front (g.I.Incoming.to_come c.args.input.now) now new
-    c.loop-turn.invariant.0.consumed (consumed_none now new c.in-Ok.count c.read_behind.new.buffer c.if-count-eq0.true c.in-Ok.ensures.bytes.0) (c.in-Ok.ensures.bytes.1 c.if-count-eq0.true (omega (arith, whole)))
+    c.loop-turn.invariant.0.consumed (consumed_none now new c.in-Ok.count c.read_behind.new.buffer c.if-count-eq0.true c.in-Ok.ensures.bytes.0) (c.in-Ok.ensures.bytes.1 c.if-count-eq0.true (has_room c.read_behind.new.buffer whole))
     (c.end_text.ensures.ends honest h taken c.args.registry.now c.loop-turn.invariant.0.front stands
     (subst (λ (l : List ℕ). HasAnswered g.R.Moderated h taken c.args.registry.now c.loop-turn.registry (out (g.O.Output.taken c.loop-turn.output) c.loop-turn.held.items) l c.loop-turn.invariant.0.front) (sym c.deref.ensures.value) (c.loop-turn.invariant.0.answered was h stands))))
 
 pub returns-then-count-eq0-clause-ended : goal.returns-then-count-eq0-clause-ended
-returns-then-count-eq0-clause-ended g c = let whole : length c.read_behind.new.buffer ≡ 65536 = search rules in
+returns-then-count-eq0-clause-ended g c = let whole : length c.read_behind.new.buffer ≡ 65536 = c.read_behind.auto.buffer ∙ c.loop-turn.invariant.1.1.1.1 in
     ended_by c.end_text.result c.end_of.result _ c.end_of.ensures c.in-Ok.ensures.fault c.end_text.ensures.fault
     (last_read _ _ c.loop-turn._turn (g.I.Incoming.reads c.loop-turn.input) (g.I.Incoming.to_come c.loop-turn.input) c.loop-turn.invariant.0.front (take c.in-Ok.count c.read_behind.new.buffer) c.loop-turn-test.true c.loop-turn.invariant.0.counted c.read_behind.ensures.count c.loop-turn.invariant.0.consumed c.loop-turn.invariant.0.bounded c.loop-turn.invariant.0.some c.in-Ok.ensures.bytes.0 (piece_fits c.in-Ok.count c.read_behind.new.buffer whole) (λ e. not_spent c.end_text.result (sym c.end_of.ensures ∙ e)))
 
@@ -68,7 +64,7 @@ returns-then-count-eq0-clause-goes g c = g.met.I.Incoming.joins _ _ _ c.loop-tur
 
 pub returns-in-Err-clause-script : goal.returns-in-Err-clause-script
 returns-in-Err-clause-script g c = λ honest h stands.
-    let was = c.take_piece.ensures.honest honest in
+    let was = c.take_piece.ensures.calls.clean honest in
     let new = g.I.Incoming.to_come c.read_behind.new.self in
     let now = g.I.Incoming.to_come c.loop-turn.input in
     let taken = g.O.Output.taken c.args.output.now in
@@ -79,7 +75,7 @@ returns-in-Err-clause-script g c = λ honest h stands.
     (λ more. c.in-Err.ensures.ended honest h taken c.args.registry.now c.loop-turn.invariant.0.front more stands (c.loop-turn.invariant.0.answered was h stands)))
 
 pub returns-in-Err-clause-ended : goal.returns-in-Err-clause-ended
-returns-in-Err-clause-ended g c = let whole : length c.read_behind.new.buffer ≡ 65536 = search rules in
+returns-in-Err-clause-ended g c = let whole : length c.read_behind.new.buffer ≡ 65536 = c.read_behind.auto.buffer ∙ c.loop-turn.invariant.1.1.1.1 in
     ended_by (Err c.in-Err.end) c.end_of-in-Err.result _ c.end_of-in-Err.ensures c.in-Ok.ensures.fault c.in-Err.ensures.fault
     (last_read _ _ c.loop-turn._turn (g.I.Incoming.reads c.loop-turn.input) (g.I.Incoming.to_come c.loop-turn.input) c.loop-turn.invariant.0.front (take c.in-Ok.count c.read_behind.new.buffer) c.loop-turn-test.true c.loop-turn.invariant.0.counted c.read_behind.ensures.count c.loop-turn.invariant.0.consumed c.loop-turn.invariant.0.bounded c.loop-turn.invariant.0.some c.in-Ok.ensures.bytes.0 (piece_fits c.in-Ok.count c.read_behind.new.buffer whole) (λ e. not_spent (Err c.in-Err.end) (sym c.end_of-in-Err.ensures ∙ e)))
 
@@ -92,7 +88,7 @@ returns-clause-script g c = λ honest h stands.
 
 pub returns-clause-ended : goal.returns-clause-ended
 returns-clause-ended g c =
-    all_made _ c.loop-turn._turn c.loop-turn.invariant.0.front (omega (arith, c.loop-turn-test.false)) c.loop-turn.invariant.0.counted c.loop-turn.invariant.0.consumed c.loop-turn.invariant.0.bounded c.loop-turn.invariant.0.some c.loop-turn.invariant.1.1.1
+    all_made _ c.loop-turn._turn c.loop-turn.invariant.0.front (last_turn _ _ c.loop-turn.auto._turn-end c.loop-turn-test.false) c.loop-turn.invariant.0.counted c.loop-turn.invariant.0.consumed c.loop-turn.invariant.0.bounded c.loop-turn.invariant.0.some c.loop-turn.invariant.1.1.1.0
 
 pub returns-in_default-clause-calls : goal.returns-in_default-clause-calls
 returns-in_default-clause-calls g c = c.loop-turn.invariant.0.calls
