@@ -1,12 +1,14 @@
 -- What makes rows of accounts those of a registry.
 use Rattle.std.proofs.Common.{◌≡◌, inl, inr, ℕ, Bool, List, [], ◌∷◌, ◌++◌, IsTrue, refl, sym, ap, ◌∙◌, codes}
-use Rattle.std.specs.Prelude.{◌↔◌, ◌||◌, IsUtf8}
+use Rattle.std.specs.Prelude.{◌↔◌, ◌&&◌, ◌||◌, IsUtf8}
 use Rattle.std.proofs.lemmas.Bool.{or_cases, or_left, or_right}
 use Rattle.sqlite.specs.declared.types.Value.{Value}
 use Rattle.sqlite.specs.declared.types.Value.TheVariants.{Text}
 use Rattle.sqlite.specs.Order.{Row, column}
-use Rattle.pid_tables_check.specs.Conditions.{HasValue, IsAccountRow}
-use Rattle.pid_tables_check.proofs.ItemFacts.{split, last, value_before}
+use Rattle.pid_tables_check.specs.Conditions.{HasAccount, HasValue, IsAccountRow, AreAccounts}
+use Rattle.pid_tables_check.specs.Steps.Keeping.{IsPartJudged, TakesAccounts}
+use Rattle.pid_tables_check.specs.declared.account.Accounts.{Accounts}
+use Rattle.pid_tables_check.proofs.ItemFacts.{split, last, value_before, all_three}
 use Rattle.pid_tables_check.proofs.WordTexts.{account_utf8}
 
 pub account_named : (r : Row) → IsAccountRow r → (name : List ℕ) × (column r 0 ≡ Text name) × IsUtf8 name
@@ -24,3 +26,10 @@ value_or rows r at v was row so_far here = (
 
 pub root_utf8 : IsUtf8 (codes "root")
 root_utf8 = account_utf8 (codes "root") refl
+
+pub accounts_judged : (rows : List Row) (it : Accounts) (root : Bool) → TakesAccounts rows it → (IsTrue root ↔ HasAccount rows (codes "root")) → IsPartJudged AreAccounts rows (it.good && (root && it.administrator))
+accounts_judged rows it root taken named =
+    let parts = all_three it.good root it.administrator in (
+      λ yes. let of = parts.0 yes in record { each = taken.good.0 of.0; root = named.0 of.1; administrator = taken.administrator.0 of.2 },
+      λ all. parts.1 (taken.good.1 all.each, named.1 all.root, taken.administrator.1 all.administrator),
+    )

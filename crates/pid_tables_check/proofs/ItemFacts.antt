@@ -1,6 +1,6 @@
 -- The set of the paths of items, and what makes rows of items those of a registry.
-use Rattle.std.proofs.Common.{◌≡◌, ◌⊎◌, ◌&&◌, inl, inr, ℕ, ◌≤◌, List, [], ◌∷◌, ◌++◌, length, Bool, IsTrue, true, false, cond, refl, sym, ap, subst, ◌∙◌, arith}
-use Rattle.std.proofs.lemmas.Bool.{false≢true}
+use Rattle.std.proofs.Common.{◌≡◌, ◌⊎◌, ◌&&◌, inl, inr, ℕ, ◌≤◌, List, [], ◌∷◌, ◌++◌, length, Bool, IsTrue, true, false, nat_le, cond, refl, sym, ap, subst, ◌∙◌, arith, le-leb}
+use Rattle.std.proofs.lemmas.Bool.{false≢true, leb-true}
 use Rattle.std.specs.Prelude.{◌↔◌}
 use Rattle.std.specs.List.{list_any}
 use Rattle.std.specs.Ordering.{is_eq}
@@ -20,7 +20,8 @@ use Rattle.pid_tables_rows.proofs.SetLemmas.{tied}
 use Rattle.pid_file.proofs.Kin.{same_path, parent_in_range}
 use Rattle.pid_tables_check.specs.Conditions.{HasValue, HasItemRow, AreItems}
 use Rattle.pid_tables_check.specs.Steps.PathSets.{ArePathsOf, HasParent, HasPath, HasPathText, HasEachParent, IsItemAlone}
-use Rattle.pid_tables_check.specs.Steps.Keeping.{AreEach, IsPartJudged}
+use Rattle.pid_tables_check.specs.Steps.Keeping.{AreEach, IsPartJudged, TakesItems}
+use Rattle.pid_tables_check.specs.declared.item.Items.{Items}
 
 -- ---- a list with one more element
 
@@ -48,6 +49,12 @@ texts_same p q e = cc
 pub both : (one other : Bool) → IsTrue (one && other) ↔ (IsTrue one × IsTrue other)
 both true other = (λ yes. (refl, yes), λ it. it.1)
 both false other = (λ no. absurd (false≢true no), λ it. it.0)
+
+pub all_three : (one two three : Bool) → IsTrue (one && (two && three)) ↔ (IsTrue one × IsTrue two × IsTrue three)
+all_three one two three = (
+  λ yes. let first = (both one (two && three)).0 yes in let rest = (both two three).0 first.1 in (first.0, rest.0, rest.1),
+  λ it. (both one (two && three)).1 (it.0, (both two three).1 (it.1, it.2)),
+)
 
 -- one row more, and each is so
 pub one_row : (Is : Row → Type 0) (rows : List Row) (r : Row) (good row : Bool) → (IsTrue row ↔ Is r) → IsPartJudged (AreEach Is) rows good → IsPartJudged (AreEach Is) (rows ++ r ∷ []) (good && row)
@@ -163,3 +170,10 @@ module _ (paths : BTreeSet Path) (rows : List Row) (are : ArePathsOf paths rows)
 
 pub items_alone : (rows : List Row) → AreItems rows → AreEach IsItemAlone rows
 items_alone rows good r h = let it = good.each r h in record { path = it.path; name = it.name; is = it.is; in_range = it.in_range; good = it.good }
+
+pub items_judged : (rows : List Row) (it : Items) (hold : Bool) → TakesItems rows it → (IsTrue hold ↔ HasEachParent it.paths) → IsPartJudged AreItems rows (it.good && (nat_le it.count most_items && hold))
+items_judged rows it hold taken held =
+    let parts = all_three it.good (nat_le it.count most_items) hold in (
+      λ yes. let of = parts.0 yes in items_made it.paths rows taken.paths (subst (λ n. n ≤ most_items) taken.count (leb-true it.count most_items of.1)) (taken.good.0 of.0) (held.0 of.2),
+      λ good. parts.1 (taken.good.1 (items_alone rows good), le-leb it.count most_items (subst (λ n. n ≤ most_items) (sym taken.count) good.limit), held.1 (parents_of it.paths rows taken.paths good)),
+    )

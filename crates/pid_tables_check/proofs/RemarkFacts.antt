@@ -1,5 +1,5 @@
 -- The set of the places of remarks, and what makes rows of remarks those of a registry.
-use Rattle.std.proofs.Common.{◌≡◌, ◌⊎◌, inl, inr, ℕ, ◌-◌, ◌≤◌, List, [], ◌∷◌, ◌++◌, length, Bool, true, false, cond, refl, sym, ap, subst, subst₂, ◌∙◌, arith, Ordering, Less, Equal, Greater}
+use Rattle.std.proofs.Common.{◌≡◌, ◌⊎◌, ◌↔◌, ◌&&◌, IsTrue, inl, inr, ℕ, ◌-◌, ◌≤◌, List, [], ◌∷◌, ◌++◌, length, Bool, true, false, cond, refl, sym, ap, subst, subst₂, ◌∙◌, arith, Ordering, Less, Equal, Greater}
 use Rattle.std.specs.List.{list_any}
 use Rattle.std.specs.Ordering.{is_eq, nat_cmp, ordering_then}
 use Rattle.std.specs.FinMap.{nat_cmp-IsAntisymmetric}
@@ -13,8 +13,9 @@ use Rattle.pid_moderation.specs.CheckTables.{most_remarks}
 use Rattle.pid_tables_rows.specs.TableRows.{number}
 use Rattle.pid_tables_check.specs.Conditions.{HasRemark, AreRemarks}
 use Rattle.pid_tables_check.specs.Steps.PlaceSets.{pair_cmp, ArePlacesOf, FollowEach, FollowsPlace, IsRemark}
-use Rattle.pid_tables_check.specs.Steps.Keeping.{AreEach}
-use Rattle.pid_tables_check.proofs.ItemFacts.{split, before, last}
+use Rattle.pid_tables_check.specs.Steps.Keeping.{AreEach, IsPartJudged, TakesRemarks}
+use Rattle.pid_tables_check.specs.declared.remark.RemarkKeeper.{RemarkKeeper}
+use Rattle.pid_tables_check.proofs.ItemFacts.{split, before, last, both}
 
 pub numbers_same : (m n : ℕ) → number m ≡ number n → m ≡ n
 numbers_same m n e = cc
@@ -146,3 +147,9 @@ remarks_alone rows good r h = let it = good r h in record { num = it.num; place 
 
 pub no_places : (places : BTreeSet (ℕ × ℕ)) → places.keys ≡ [] → ArePlacesOf places []
 no_places places none num place = (λ there. absurd (let bad : false ≡ true = sym (ap (λ (ks : List (ℕ × ℕ)). list_any (λ k. is_eq (pair_cmp (num, place) k)) ks) none) ∙ there in cc), λ it. absurd it.1)
+
+pub remarks_judged : (rows : List Row) (it : RemarkKeeper) (follow : Bool) → TakesRemarks rows it → (IsTrue follow ↔ FollowEach it.places) → IsPartJudged AreRemarks rows (it.good && follow)
+remarks_judged rows it follow taken follows = (
+  λ yes. let of = (both it.good follow).0 yes in remarks_made it.places rows taken.places (taken.good.0 of.0) (follows.0 of.1),
+  λ good. (both it.good follow).1 (taken.good.1 (remarks_alone rows good), follows.1 (follow_of it.places rows taken.places good)),
+)

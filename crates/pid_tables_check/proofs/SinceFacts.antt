@@ -1,5 +1,5 @@
 -- What makes rows of item_since go with the items and the revision.
-use Rattle.std.proofs.Common.{◌≡◌, ℕ, ◌≤◌, List, [], ◌∷◌, length, ap, ◌∙◌}
+use Rattle.std.proofs.Common.{◌≡◌, ◌↔◌, ◌&&◌, Bool, IsTrue, ℕ, ◌≤◌, List, [], ◌∷◌, length, ap, subst, ◌∙◌}
 use Rattle.std.specs.BTreeSet.{BTreeSet, IsSubset}
 use Rattle.sqlite.specs.Order.{Row, column}
 use Rattle.pid_file.specs.declared.path.Path.{Path}
@@ -7,8 +7,9 @@ use Rattle.pid_ident.specs.PathTexts.{path_cmp}
 use Rattle.pid_tables_rows.specs.TableRows.{number}
 use Rattle.pid_tables_check.specs.Conditions.{IsSinceRow, AreSinces}
 use Rattle.pid_tables_check.specs.Steps.PathSets.{ArePathsOf, HasPath}
-use Rattle.pid_tables_check.specs.Steps.Keeping.{AreEach}
-use Rattle.pid_tables_check.proofs.ItemFacts.{two, path_known, path_listed}
+use Rattle.pid_tables_check.specs.Steps.Keeping.{AreEach, GoWith, TakesSinces}
+use Rattle.pid_tables_check.specs.declared.since.SinceKeeper.{SinceKeeper}
+use Rattle.pid_tables_check.proofs.ItemFacts.{both, two, path_known, path_listed}
 
 module _ (revision : ℕ) (r : Row) where
   pub since_made : length r ≡ 2 → HasPath r → ((since : ℕ) × (column r 1 ≡ number since) × (since ≤ revision)) → IsSinceRow revision r
@@ -34,3 +35,9 @@ module _ (revision : ℕ) (items sinces : List Row) (all paths : BTreeSet Path) 
   subset_of good path there =
       let it = (have path).0 there in
       (are path).1 (it.0, it.1, it.2, good.there it.0 it.1 it.3)
+
+pub sinces_judged : (first : SinceKeeper) (rows : List Row) (it : SinceKeeper) (all : BTreeSet Path) (among : Bool) → TakesSinces first rows it → (IsTrue among ↔ IsSubset path_cmp all it.paths) → GoWith all first.revision rows (it.good && among)
+sinces_judged first rows it all among taken subset = subst (λ revision. GoWith all revision rows (it.good && among)) taken.revision (λ items have. (
+  λ yes. let of = (both it.good among).0 yes in sinces_made it.revision items rows all it.paths have taken.paths (taken.good.0 of.0) (subset.0 of.1),
+  λ good. (both it.good among).1 (taken.good.1 good.each, subset.1 (subset_of it.revision items rows all it.paths have taken.paths good)),
+))

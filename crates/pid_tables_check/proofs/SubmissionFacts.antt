@@ -1,5 +1,6 @@
 -- What makes rows of submissions those of a registry.
-use Rattle.std.proofs.Common.{◌≡◌, ◌≢◌, ◌↔◌, inl, inr, IsTrue, ℕ, ◌≤◌, List, [], ◌∷◌, ◌++◌, length, true, false, refl, sym, ap, subst, ◌∙◌, arith}
+use Rattle.std.proofs.Common.{◌≡◌, ◌≢◌, ◌↔◌, ◌&&◌, Bool, nat_le, inl, inr, IsTrue, ℕ, ◌≤◌, List, [], ◌∷◌, ◌++◌, length, true, false, refl, sym, ap, subst, ◌∙◌, arith, le-leb}
+use Rattle.std.proofs.lemmas.Bool.{leb-true}
 use Rattle.std.specs.Prelude.{IsUtf8, String}
 use Rattle.std.specs.BTreeSet.{BTreeSet}
 use Rattle.std.specs.declared.alloc.Global.{Global}
@@ -19,10 +20,11 @@ use Rattle.pid_tables_check.specs.Conditions.{HasAccount, AreAccounts, IsDecided
 use Rattle.pid_tables_check.specs.Steps.NamesRead.{IsAmong, IsDecidedAmong, IsSubmissionAmong, StandsInRows}
 use Rattle.pid_tables_check.specs.Steps.NameSets.{AreNamesOf}
 use Rattle.sqlite_rules.specs.Lists.{Has}
-use Rattle.pid_tables_check.specs.Steps.Keeping.{AreFit}
+use Rattle.pid_tables_check.specs.Steps.Keeping.{AreFit, AreOfAccounts, TakesSubmissions}
+use Rattle.pid_tables_check.specs.declared.submission.SubmissionKeeper.{SubmissionKeeper}
 use Rattle.pid_tables_check.specs.declared.submission.Fit.{Fit}
 use Rattle.pid_tables_check.specs.Steps.NumberSets.{CountFromOne}
-use Rattle.pid_tables_check.proofs.ItemFacts.{split, before, last, texts_same}
+use Rattle.pid_tables_check.proofs.ItemFacts.{split, before, last, texts_same, both}
 use Rattle.pid_tables_check.proofs.AccountFacts.{account_named}
 
 numbers_same : (m n : ℕ) → number m ≡ number n → m ≡ n
@@ -220,3 +222,18 @@ module _ (names : BTreeSet (String Global)) (rows : List Row) (fit : Fit) (count
 
   pub fit_of : AreSubmissions accounts rows → IsTrue fit.good × (fit.greatest ≤ count)
   fit_of all = (are count).1 (subst (λ k. (r : Row) → Has rows r → IsSubmissionAmong names k r) (sym is) (submissions_among accounts good names listed rows all))
+
+pub submissions_judged : (first : SubmissionKeeper) (rows : List Row) (it : SubmissionKeeper) (counted : Bool) → TakesSubmissions first rows it → (IsTrue counted ↔ CountFromOne rows)
+    → AreOfAccounts first.names.now rows ((it.fit.good && nat_le it.fit.greatest it.count) && counted)
+submissions_judged first rows it counted taken counts =
+    let fits = it.fit.good && nat_le it.fit.greatest it.count in
+    let names = it.names.now in
+    subst (λ names. AreOfAccounts names rows (fits && counted)) taken.names (λ accounts listed good. (
+      λ yes.
+          let of = (both fits counted).0 yes in
+          let fit = (both it.fit.good (nat_le it.fit.greatest it.count)).0 of.0 in
+          all_fit names rows it.fit it.count taken.count taken.fit accounts listed good fit.0 (leb-true it.fit.greatest it.count fit.1) (counts.0 of.1),
+      λ all.
+          let fit = fit_of names rows it.fit it.count taken.count taken.fit accounts listed good all in
+          (both fits counted).1 ((both it.fit.good (nat_le it.fit.greatest it.count)).1 (fit.0, le-leb it.fit.greatest it.count fit.1), counts.1 (counted_of accounts rows all)),
+    ))

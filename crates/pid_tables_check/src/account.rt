@@ -1,17 +1,15 @@
 //! Accounts: each has a name and a rank, `root` is one, and some account is an administrator.
-ghost use Rattle.std.specs.Prelude.{◌≡◌, ◌↔◌, List, false, IsTrue};
-ghost use Rattle.sqlite.specs.Order.{column, Row as Values};
-ghost use Rattle.pid_tables_rows.specs.TableRows.{number};
+ghost use Rattle.std.specs.Prelude.{◌≡◌, ◌↔◌, false, IsTrue};
 ghost use Rattle.pid_tables_rows.specs.Clauses.{OnlyReads};
-ghost use Rattle.pid_tables_check.specs.Conditions.{IsAccountRow, AreAccounts};
+ghost use Rattle.pid_tables_check.specs.Conditions.{IsAccountRow};
 ghost use Rattle.pid_tables_check.specs.Steps.Clauses.{KeepsTable};
-ghost use Rattle.pid_tables_check.specs.Steps.Keeping.{KeepsAccounts, TakesAccounts};
+ghost use Rattle.pid_tables_check.specs.Steps.Keeping.{KeepsAccounts};
 ghost use Rattle.pid_tables_check.specs.declared.shape.Table.TheVariants as table;
 
 use crate::names::add_name;
 use crate::read::{Keeper, keep_rows};
 use crate::shape::Table;
-use crate::value::{is_within, number_at, text_at};
+use crate::value::{is_number_at, is_within, text_at};
 use pid_ident::is_account;
 use pid_tables_rows::TableFault;
 use sqlite::{Alter, Connection, Row};
@@ -26,15 +24,6 @@ fn is_account_row(row: &Row) -> bool
     }
     match text_at(row, 0) {
         Some(name) => is_account(name) && is_within(row, 1, 3),
-        None => false,
-    }
-}
-
-fn is_administrator(row: &Row) -> bool
-    ensures { IsTrue result ↔ (column row.now 1 ≡ number 3) }
-{
-    match number_at(row, 1) {
-        Some(rank) => rank == 3,
         None => false,
     }
 }
@@ -57,23 +46,10 @@ impl Keeper for Accounts {
 
     fn keep(&mut self, row: &Row) -> Result<(), TableFault> {
         self.good &= is_account_row(row);
-        self.administrator |= is_administrator(row);
+        self.administrator |= is_number_at(row, 1, 3);
         add_name(&mut self.names, self.alloc, row)?;
         Ok(())
     }
-}
-
-fn are_accounts(accounts: &Accounts) -> bool
-    ensures { (rows : List Values) → TakesAccounts rows accounts.now
-        → IsTrue result ↔ AreAccounts rows }
-{
-    if !accounts.good {
-        return false;
-    }
-    if !accounts.names.contains("root") {
-        return false;
-    }
-    accounts.administrator
 }
 
 /// Reads the accounts, and judges whether they are those of a registry.
@@ -93,6 +69,6 @@ pub(crate) fn read_accounts<S: Alter>(
         names: BTreeSet::new(alloc),
     };
     keep_rows(conn, Table::Account, &mut accounts)?;
-    accounts.good = are_accounts(&accounts);
+    accounts.good &= accounts.names.contains("root") & accounts.administrator;
     Ok(accounts)
 }

@@ -8,7 +8,6 @@ ghost use Rattle.std.specs.Prelude.{
   ℕ,
   List,
   [],
-  None,
   IsTrue,
   IfOk,
   IfErr,
@@ -51,23 +50,6 @@ pub(crate) fn no_authors(alloc: Global) -> Authors
     }
 }
 
-// A name that is not there yet.
-fn add_name(names: &mut BTreeMap<String, u32>, alloc: Global, name: &str) -> Result<u32, TableFault>
-    ensures placed { get_by_text names.old name.now ≡ None
-        → IfOk result (PlacesName names.old names.new name.now) }
-    ensures untold { IfErr result IsMemoryOrStore }
-{
-    let Ok(place) = u32::try_from(names.len()) else {
-        return Err(TableFault::Memory);
-    };
-    let owned = String::from_str(alloc, name)?;
-    let inserted = names.insert(owned, place).is_ok();
-    if !inserted {
-        return Err(TableFault::Memory);
-    }
-    Ok(place)
-}
-
 fn place_in(names: &BTreeMap<String, u32>, name: &str) -> Option<u32>
     ensures { result ≡ get_by_text names.now name.now }
 {
@@ -82,10 +64,18 @@ fn place_of(names: &mut BTreeMap<String, u32>, alloc: Global, name: &str) -> Res
     ensures placed { IfOk result (PlacesName names.old names.new name.now) }
     ensures untold { IfErr result IsMemoryOrStore }
 {
-    match place_in(names, name) {
-        Some(place) => Ok(place),
-        None => add_name(names, alloc, name),
+    if let Some(place) = place_in(names, name) {
+        return Ok(place);
     }
+    let Ok(place) = u32::try_from(names.len()) else {
+        return Err(TableFault::Memory);
+    };
+    let owned = String::from_str(alloc, name)?;
+    let inserted = names.insert(owned, place).is_ok();
+    if !inserted {
+        return Err(TableFault::Memory);
+    }
+    Ok(place)
 }
 
 fn insert_place(

@@ -16,7 +16,7 @@ ghost use Rattle.pid_tables_check.specs.Shapes.{HasEachTable, HasTables, IsMadeF
 
 use crate::lacking::check_lacking;
 use crate::meta::{Labels, are_labels, read_labels, revision_told};
-use crate::shape::{has_each_table, has_some_table, tables_of};
+use crate::shape::{SIX, has_some_table, some_can, tables_of};
 use crate::tables::read_tables;
 use pid_tables_rows::{TableFault, Version};
 use sqlite::{Alter, Connection};
@@ -98,7 +98,7 @@ pub fn check<S: Alter>(
         ↔ IsRegistry version (seen S.Store conn.old))
         (λ fault. IsRegistry version (seen S.Store conn.old) → IsMemoryOrStore fault) }
 {
-    if has_each_table(conn)? {
+    if !some_can(conn, &SIX, false)? {
         return check_tables(conn, alloc);
     }
     if has_some_table(conn)? {

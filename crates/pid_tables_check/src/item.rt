@@ -18,7 +18,6 @@ ghost use Rattle.pid_tables_rows.specs.Clauses.{OnlyReads};
 ghost use Rattle.std.specs.BTreeSet.{contains};
 ghost use Rattle.sqlite.specs.Order.{Row as Values};
 ghost use Rattle.pid_ident.specs.PathTexts.{IsPath, path_cmp, parent_of};
-ghost use Rattle.pid_tables_check.specs.Conditions.{AreItems};
 ghost use Rattle.pid_tables_check.specs.Steps.PathSets.{
   ArePathsOf,
   HasPath,
@@ -26,7 +25,7 @@ ghost use Rattle.pid_tables_check.specs.Steps.PathSets.{
   IsItemAlone,
 };
 ghost use Rattle.pid_tables_check.specs.Steps.Clauses.{KeepsTable};
-ghost use Rattle.pid_tables_check.specs.Steps.Keeping.{KeepsItems, TakesItems};
+ghost use Rattle.pid_tables_check.specs.Steps.Keeping.{KeepsItems};
 ghost use Rattle.pid_tables_check.specs.declared.shape.Table.TheVariants as table;
 ghost use Rattle.pid_tables_rows.specs.Faults.{IsMemoryOrStore};
 
@@ -113,18 +112,6 @@ impl Keeper for Items {
     }
 }
 
-fn are_items(items: &Items) -> bool
-    ensures { (rows : List Values) → TakesItems rows items.now → IsTrue result ↔ AreItems rows }
-{
-    if !items.good {
-        return false;
-    }
-    if items.count > ITEMS as u64 {
-        return false;
-    }
-    hold_parents(&items.paths)
-}
-
 /// Reads the items, and judges whether they are those of a registry.
 pub(crate) fn read_items<S: Alter>(
     conn: &mut Connection<S>,
@@ -141,6 +128,6 @@ pub(crate) fn read_items<S: Alter>(
         paths: BTreeSet::new(alloc),
     };
     keep_rows(conn, Table::Item, &mut items)?;
-    items.good = are_items(&items);
+    items.good &= (items.count <= ITEMS as u64) & hold_parents(&items.paths);
     Ok(items)
 }

@@ -19,20 +19,11 @@ ghost use Rattle.pid_tables_check.specs.Steps.AuthorSets.{
 use crate::authors::{Authors, is_by};
 use crate::read::{Keeper, keep_rows};
 use crate::shape::Table;
-use crate::value::{number_at, text_at};
+use crate::value::{is_number_at, number_at, text_at};
 use pid_ident::{is_account, is_key};
 use pid_moderation::ITEMS;
 use pid_tables_rows::TableFault;
 use sqlite::{Alter, Connection, Row};
-
-fn is_zero(row: &Row, at: usize) -> bool
-    ensures { IsTrue result ↔ (column row.now at ≡ number 0) }
-{
-    match number_at(row, at) {
-        Some(number) => number == 0,
-        None => false,
-    }
-}
 
 fn fits(added: u64, renamed: u64, same: u64) -> bool
     ensures { IsTrue result ↔ (added + renamed + same ≤ 100000) }
@@ -60,17 +51,17 @@ fn is_done(row: &Row) -> bool
     ensures { IsTrue result ↔ ((column row.now 3 ≡ number 0) × (column row.now 4 ≡ number 0)
         × (column row.now 5 ≡ number 0)) }
 {
-    is_zero(row, 3) && is_zero(row, 4) && is_zero(row, 5)
+    is_number_at(row, 3, 0) && is_number_at(row, 4, 0) && is_number_at(row, 5, 0)
 }
 
 fn is_numbered(row: &Row, authors: &Authors, account: &str) -> bool
     ensures { (rows : List Values) → AreAuthorsOf authors.now rows
         → IsTrue result ↔ IsNumbered rows row.now account.now }
 {
-    if !is_zero(row, 4) {
+    if !is_number_at(row, 4, 0) {
         return false;
     }
-    if !is_zero(row, 5) {
+    if !is_number_at(row, 5, 0) {
         return false;
     }
     match number_at(row, 3) {

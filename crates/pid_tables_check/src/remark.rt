@@ -1,11 +1,10 @@
 //! Remarks: those on a submission count from 1, and none is empty.
 ghost use Rattle.std.specs.Prelude.{◌≡◌, ◌↔◌, ◌++◌, ◌∷◌, List, [], false, IsTrue, IfErr, OnOk};
-ghost use Rattle.sqlite.specs.Order.{column, Row as Values};
-ghost use Rattle.pid_tables_rows.specs.TableRows.{number};
+ghost use Rattle.sqlite.specs.Order.{Row as Values};
 ghost use Rattle.pid_tables_rows.specs.Clauses.{OnlyReads};
 ghost use Rattle.pid_tables_check.specs.Conditions.{AreRemarks};
 ghost use Rattle.pid_tables_check.specs.Steps.Clauses.{KeepsTable};
-ghost use Rattle.pid_tables_check.specs.Steps.Keeping.{IsPartJudged, TakesRemarks};
+ghost use Rattle.pid_tables_check.specs.Steps.Keeping.{IsPartJudged};
 ghost use Rattle.pid_tables_check.specs.declared.shape.Table.TheVariants as table;
 ghost use Rattle.pid_tables_check.specs.Steps.PlaceSets.{
   ArePlacesOf,
@@ -25,34 +24,21 @@ use sqlite::{Alter, Connection, Row};
 use std::alloc::Global;
 use std::collections::BTreeSet;
 
-fn insert_place(
-    places: &mut BTreeSet<(u64, u64)>,
-    submission: u64,
-    place: u64,
-) -> Result<(), TableFault>
-    ensures added { (rows : List Values) (row : Values) → column row 0 ≡ number submission
-        → column row 1 ≡ number place
-        → ArePlacesOf places.old rows → OnOk result (ArePlacesOf places.new (rows ++ row ∷ [])) }
-    ensures untold { IfErr result IsMemoryOrStore }
-{
-    match places.insert((submission, place)) {
-        Ok(_) => Ok(()),
-        Err(_) => Err(TableFault::Memory),
-    }
-}
-
 // Adds the place of a row.
 fn add_place(places: &mut BTreeSet<(u64, u64)>, row: &Row) -> Result<(), TableFault>
     ensures added { (rows : List Values) → ArePlacesOf places.old rows
         → OnOk result (ArePlacesOf places.new (rows ++ row.now ∷ [])) }
     ensures untold { IfErr result IsMemoryOrStore }
 {
-    match number_at(row, 0) {
-        None => Ok(()),
-        Some(submission) => match number_at(row, 1) {
-            None => Ok(()),
-            Some(place) => insert_place(places, submission, place),
-        },
+    let Some(submission) = number_at(row, 0) else {
+        return Ok(());
+    };
+    let Some(place) = number_at(row, 1) else {
+        return Ok(());
+    };
+    match places.insert((submission, place)) {
+        Ok(_) => Ok(()),
+        Err(_) => Err(TableFault::Memory),
     }
 }
 
@@ -118,16 +104,6 @@ impl Keeper for RemarkKeeper {
     }
 }
 
-fn are_remarks(keeper: &RemarkKeeper) -> bool
-    ensures { (rows : List Values) → TakesRemarks rows keeper.now
-        → IsTrue result ↔ AreRemarks rows }
-{
-    if !keeper.good {
-        return false;
-    }
-    follow_each(&keeper.places)
-}
-
 /// Reads the remarks, and judges whether they are those of a registry.
 pub(crate) fn read_remarks<S: Alter>(
     conn: &mut Connection<S>,
@@ -143,5 +119,5 @@ pub(crate) fn read_remarks<S: Alter>(
         places: BTreeSet::new(alloc),
     };
     keep_rows(conn, Table::Remark, &mut keeper)?;
-    Ok(are_remarks(&keeper))
+    Ok(keeper.good & follow_each(&keeper.places))
 }

@@ -79,7 +79,8 @@ pub(crate) enum Table {
     Since,
 }
 
-const SIX: [Table; 6] = [
+/// The tables that both schemas have.
+pub(crate) const SIX: [Table; 6] = [
     Table::Meta,
     Table::Account,
     Table::Item,
@@ -118,8 +119,8 @@ pub(crate) fn query(table: Table) -> &'static str
     }
 }
 
-// Whether the query of one of the tables can be asked; or, if `can` is false, cannot be.
-fn some_can<S: Alter>(
+/// Whether the query of one of the tables can be asked; or, if `can` is false, cannot be.
+pub(crate) fn some_can<S: Alter>(
     conn: &mut Connection<S>,
     tables: &[Table],
     can: bool,
@@ -144,22 +145,6 @@ fn some_can<S: Alter>(
         }
     }
     Ok(false)
-}
-
-/// Whether each of the six tables that both schemas have is there.
-pub(crate) fn has_each_table<S: Alter>(conn: &mut Connection<S>) -> Result<bool, TableFault>
-    requires { conn.old.in_transaction ≡ false }
-    ensures rests { OnlyReads S.Store conn.old conn.new }
-    ensures same { HasCleanDisk S.Store conn.new
-        → IfOk result (λ each. (seen S.Store conn.new) ≡ (seen S.Store conn.old)) }
-    ensures asked { HasCleanDisk S.Store conn.new
-        → IfOk result (λ each. IsTrue each ↔ HasEachTable (seen S.Store conn.old).schema) }
-    ensures was_open { HasCleanDisk S.Store conn.new
-        → OnOk result (IsTrue (is_open S.Store conn.old)) }
-    ensures untold { IfErr result IsMemoryOrStore }
-{
-    let lacks_some = some_can(conn, &SIX, false)?;
-    Ok(!lacks_some)
 }
 
 /// Whether some of the seven tables is there: whether a query of its columns by their names can be

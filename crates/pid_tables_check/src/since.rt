@@ -1,11 +1,10 @@
 //! The numbers of changes: each item has one, which is at most the revision.
-ghost use Rattle.std.specs.Prelude.{◌≡◌, ◌↔◌, List, false, IsTrue};
-ghost use Rattle.sqlite.specs.Order.{Row as Values};
+ghost use Rattle.std.specs.Prelude.{◌≡◌, ◌↔◌, false, IsTrue};
 ghost use Rattle.pid_tables_rows.specs.Clauses.{OnlyReads};
 ghost use Rattle.pid_tables_check.specs.Conditions.{IsSinceRow};
 ghost use Rattle.pid_tables_check.specs.Steps.PathSets.{HasPath};
 ghost use Rattle.pid_tables_check.specs.Steps.Clauses.{KeepsTable};
-ghost use Rattle.pid_tables_check.specs.Steps.Keeping.{GoWith, TakesSinces};
+ghost use Rattle.pid_tables_check.specs.Steps.Keeping.{GoWith};
 ghost use Rattle.pid_tables_check.specs.declared.shape.Table.TheVariants as table;
 
 use crate::item::add_path;
@@ -51,16 +50,6 @@ impl Keeper for SinceKeeper {
     }
 }
 
-fn are_sinces(keeper: &SinceKeeper, items: &BTreeSet<Path>) -> bool
-    ensures { (first : _) (rows : List Values) → TakesSinces first rows keeper.now
-        → GoWith items.now keeper.now.revision rows result }
-{
-    if !keeper.good {
-        return false;
-    }
-    items.is_subset(&keeper.paths)
-}
-
 /// Reads the numbers of changes, and judges whether they go with the paths of the items and the
 /// revision.
 pub(crate) fn read_sinces<S: Alter>(
@@ -80,5 +69,5 @@ pub(crate) fn read_sinces<S: Alter>(
         paths: BTreeSet::new(alloc),
     };
     keep_rows(conn, Table::Since, &mut keeper)?;
-    Ok(are_sinces(&keeper, items))
+    Ok(keeper.good & items.is_subset(&keeper.paths))
 }

@@ -9,7 +9,6 @@ ghost use Rattle.std.specs.Prelude.{
   List,
   [],
   ℕ,
-  length,
   false,
   IsTrue,
 };
@@ -25,8 +24,7 @@ ghost use Rattle.pid_tables_check.specs.Steps.NamesRead.{
 };
 ghost use Rattle.pid_tables_rows.specs.Clauses.{OnlyReads};
 ghost use Rattle.pid_tables_check.specs.Steps.Clauses.{KeepsTable};
-ghost use Rattle.pid_tables_check.specs.Steps.Keeping.{AreFit, AreOfAccounts, KeepsSubmissions};
-ghost use Rattle.pid_tables_check.specs.Steps.NumberSets.{AreNumbersOf};
+ghost use Rattle.pid_tables_check.specs.Steps.Keeping.{AreFit, KeepsSubmissions};
 ghost use Rattle.pid_tables_check.specs.declared.shape.Table.TheVariants as table;
 
 use crate::authors::{Authors, add_author, no_authors};
@@ -164,19 +162,6 @@ pub(crate) struct Submissions {
     pub(crate) authors: Authors,
 }
 
-fn are_submissions(fit: Fit, numbers: &Numbers, count: u64) -> bool
-    ensures { (names : _) (rows : List Values) → count ≡ length rows → AreFit names rows fit
-        → AreNumbersOf numbers.now rows → AreOfAccounts names rows result }
-{
-    if !fit.good {
-        return false;
-    }
-    if fit.greatest > count {
-        return false;
-    }
-    count_from_one(numbers, count)
-}
-
 /// Reads the submissions, and judges whether they are those of a registry with accounts of these
 /// names.
 pub(crate) fn read_submissions<S: Alter>(
@@ -201,8 +186,9 @@ pub(crate) fn read_submissions<S: Alter>(
         authors: no_authors(alloc),
     };
     keep_rows(conn, Table::Submission, &mut keeper)?;
+    let fits = keeper.fit.good & (keeper.fit.greatest <= keeper.count);
     Ok(Submissions {
-        good: are_submissions(keeper.fit, &keeper.numbers, keeper.count),
+        good: fits & count_from_one(&keeper.numbers, keeper.count),
         count: keeper.count,
         authors: keeper.authors,
     })

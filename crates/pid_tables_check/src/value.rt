@@ -51,6 +51,16 @@ pub(crate) fn number_at(row: &Row, at: usize) -> Option<u64>
     }
 }
 
+/// Whether this number is in a column.
+pub(crate) fn is_number_at(row: &Row, at: usize, wanted: u64) -> bool
+    ensures { IsTrue result ↔ (column row.now at ≡ number wanted) }
+{
+    match number_at(row, at) {
+        Some(found) => found == wanted,
+        None => false,
+    }
+}
+
 /// Whether there is a number in a column that is at most this one.
 pub(crate) fn is_within(row: &Row, at: usize, most: u64) -> bool
     ensures { IsTrue result ↔ ((n : ℕ) × (column row.now at ≡ number n) × (n ≤ most)) }

@@ -1,9 +1,11 @@
+use Rattle.std.proofs.Common.{sym, codes, ◌∙◌}
 use Rattle.std.proofs.lemmas.Bool.{false≢true}
 use Rattle.pid_tables_rows.specs.Faults.{IsMemoryOrStore}
 use Rattle.pid_tables_rows.proofs.CauseLemmas.{passed_on}
 use Rattle.pid_tables_check.specs.Conditions.{IsAccountRow}
 use Rattle.pid_tables_check.proofs.ItemFacts.{no_row}
 use Rattle.pid_tables_check.proofs.NameFacts.{no_names}
+use Rattle.pid_tables_check.proofs.AccountFacts.{accounts_judged, root_utf8}
 use Rattle.pid_tables_check.proofs.account.read_accounts.Goals as goal
 
 pub returns-in_err-keep_rows-clause-keeps : goal.returns-in_err-keep_rows-clause-keeps
@@ -13,4 +15,5 @@ pub returns-clause-keeps : goal.returns-clause-keeps
 returns-clause-keeps g c clean d is asked =
     let it = c.in_ok-keep_rows.ensures.keeps clean d is asked in
     let taken = it.0.2 (record { good = no_row IsAccountRow; administrator = (λ no. absurd (false≢true no), λ some. absurd some.1); names = no_names _ c.new.ensures.empty }) in
-    ((it.0.0, it.0.1, record { names = taken.names; good = c.are_accounts.ensures it.0.0 taken }), it.1)
+    let root = taken.names (codes "root") root_utf8 in
+    ((it.0.0, it.0.1, record { names = taken.names; good = accounts_judged it.0.0 c.keep_rows.new.keeper c.contains.result taken (λ yes. root.0 (sym c.contains.ensures ∙ yes), λ has. c.contains.ensures ∙ root.1 has) }), it.1)

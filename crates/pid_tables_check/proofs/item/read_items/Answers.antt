@@ -2,7 +2,7 @@ use Rattle.std.proofs.Common.{refl}
 use Rattle.pid_tables_rows.specs.Faults.{IsMemoryOrStore}
 use Rattle.pid_tables_rows.proofs.CauseLemmas.{passed_on}
 use Rattle.pid_tables_check.specs.Steps.PathSets.{IsItemAlone}
-use Rattle.pid_tables_check.proofs.ItemFacts.{no_paths, no_row}
+use Rattle.pid_tables_check.proofs.ItemFacts.{no_paths, no_row, items_judged}
 use Rattle.pid_tables_check.proofs.item.read_items.Goals as goal
 
 pub returns-in_err-keep_rows-clause-keeps : goal.returns-in_err-keep_rows-clause-keeps
@@ -12,4 +12,4 @@ pub returns-clause-keeps : goal.returns-clause-keeps
 returns-clause-keeps g c clean d is asked =
     let it = c.in_ok-keep_rows.ensures.keeps clean d is asked in
     let taken = it.0.2 (record { good = no_row IsItemAlone; count = refl; paths = no_paths _ c.new.ensures.empty }) in
-    ((it.0.0, it.0.1, record { count = taken.count; paths = taken.paths; good = c.are_items.ensures it.0.0 taken }), it.1)
+    ((it.0.0, it.0.1, record { count = taken.count; paths = taken.paths; good = items_judged it.0.0 c.keep_rows.new.keeper c.hold_parents.result taken c.hold_parents.ensures }), it.1)

@@ -2,7 +2,7 @@ use Rattle.pid_tables_rows.specs.Faults.{IsMemoryOrStore}
 use Rattle.pid_tables_rows.proofs.CauseLemmas.{passed_on}
 use Rattle.pid_tables_check.specs.Steps.PlaceSets.{IsRemark}
 use Rattle.pid_tables_check.proofs.ItemFacts.{no_row}
-use Rattle.pid_tables_check.proofs.RemarkFacts.{no_places}
+use Rattle.pid_tables_check.proofs.RemarkFacts.{no_places, remarks_judged}
 use Rattle.pid_tables_check.proofs.remark.read_remarks.Goals as goal
 
 pub returns-in_err-keep_rows-clause-keeps : goal.returns-in_err-keep_rows-clause-keeps
@@ -12,4 +12,4 @@ pub returns-clause-keeps : goal.returns-clause-keeps
 returns-clause-keeps g c clean d is asked =
     let it = c.in_ok-keep_rows.ensures.keeps clean d is asked in
     let taken = it.0.2 (record { good = no_row IsRemark; places = no_places _ c.new.ensures.empty }) in
-    ((it.0.0, it.0.1, c.are_remarks.ensures it.0.0 taken), it.1)
+    ((it.0.0, it.0.1, remarks_judged it.0.0 c.keep_rows.new.keeper c.follow_each.result taken c.follow_each.ensures), it.1)

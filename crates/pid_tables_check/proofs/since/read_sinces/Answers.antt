@@ -1,9 +1,9 @@
-use Rattle.std.proofs.Common.{refl, subst}
+use Rattle.std.proofs.Common.{refl}
 use Rattle.pid_tables_rows.specs.Faults.{IsMemoryOrStore}
 use Rattle.pid_tables_rows.proofs.CauseLemmas.{passed_on}
 use Rattle.pid_tables_check.specs.Conditions.{IsSinceRow}
-use Rattle.pid_tables_check.specs.Steps.Keeping.{GoWith}
 use Rattle.pid_tables_check.proofs.ItemFacts.{no_paths, no_row}
+use Rattle.pid_tables_check.proofs.SinceFacts.{sinces_judged}
 use Rattle.pid_tables_check.proofs.since.read_sinces.Goals as goal
 
 pub returns-in_err-keep_rows-clause-keeps : goal.returns-in_err-keep_rows-clause-keeps
@@ -13,4 +13,4 @@ pub returns-clause-keeps : goal.returns-clause-keeps
 returns-clause-keeps g c clean d is asked =
     let it = c.in_ok-keep_rows.ensures.keeps clean d is asked in
     let taken = it.0.2 (record { revision = refl; good = no_row (IsSinceRow c.args.revision); paths = no_paths _ c.new.ensures.empty }) in
-    ((it.0.0, it.0.1, subst (λ revision. GoWith c.args.items.now revision it.0.0 c.are_sinces.result) taken.revision (c.are_sinces.ensures _ it.0.0 taken)), it.1)
+    ((it.0.0, it.0.1, sinces_judged _ it.0.0 c.keep_rows.new.keeper c.args.items.now c.is_subset.result taken c.is_subset.ensures), it.1)

@@ -1,7 +1,7 @@
-use Rattle.std.proofs.Common.{refl, subst, arith}
+use Rattle.std.proofs.Common.{refl, arith}
 use Rattle.pid_tables_rows.specs.Faults.{IsMemoryOrStore}
 use Rattle.pid_tables_rows.proofs.CauseLemmas.{passed_on}
-use Rattle.pid_tables_check.specs.Steps.Keeping.{AreFit}
+use Rattle.pid_tables_check.proofs.SubmissionFacts.{submissions_judged}
 use Rattle.pid_tables_check.proofs.submission.read_submissions.Goals as goal
 
 pub returns-in_err-keep_rows-clause-keeps : goal.returns-in_err-keep_rows-clause-keeps
@@ -15,7 +15,7 @@ returns-clause-keeps g c clean d is asked =
       (
         it.0.0,
         it.0.1,
-        record { count = taken.count; authors = taken.authors; good = c.are_submissions.ensures c.args.names.now it.0.0 taken.count (subst (λ names. AreFit names it.0.0 last.fit) taken.names taken.fit) taken.numbers },
+        record { count = taken.count; authors = taken.authors; good = submissions_judged _ it.0.0 last c.count_from_one.result taken (c.count_from_one.ensures it.0.0 taken.numbers taken.count) },
       ),
       it.1,
     )

@@ -10,6 +10,6 @@ returns-clause-kept c first rows was =
     let old = c.args.self.now in
     record {
       good = one_row IsAccountRow rows row old.good c.is_account_row.result c.is_account_row.ensures was.good;
-      administrator = value_or rows row 1 (number 3) old.administrator c.is_administrator.result was.administrator c.is_administrator.ensures;
+      administrator = value_or rows row 1 (number 3) old.administrator c.is_number_at.result was.administrator c.is_number_at.ensures;
       names = c.in_ok-add_name.ensures.added rows was.names;
     }
