@@ -1,5 +1,6 @@
 pub mod Runs
 pub mod Sessions
 pub mod Lines
+pub mod Streams
 pub mod Exports
 pub mod Ends

@@ -1,17 +1,18 @@
 -- What each job does with a registry that is open, what it prints, and how it ends by that. Choices
 -- of this project.
-use Rattle.std.specs.Prelude.{◌≡◌, false, ℕ, List, Option, IfSome, Result, Ok, Err}
+use Rattle.std.specs.Prelude.{◌≡◌, false, ℕ, List, Option, Result, Ok, Err}
 use Rattle.sqlite_trees.specs.declared.store.Store.{Ghosts}
-use Rattle.pid_file.specs.declared.io.Input as inputs
 use Rattle.pid_file.specs.declared.io.Output as outputs
+use Rattle.pid_file.specs.Writing.{WriterUse, use_of}
+use Rattle.pid_ident.specs.Moments.{AllSince}
 use Rattle.pid_moderation.specs.declared.command.Reply.{Reply}
 use Rattle.pid_moderation.specs.BeforeFile.{import_of}
 use Rattle.pid_script.specs.declared.moderated.Moderated as moderated
 use Rattle.pid_script.specs.declared.script_end.ScriptEnd.{ScriptEnd}
 use Rattle.pid_script.specs.declared.script_end.ScriptEnd.TheVariants as scripts
 use Rattle.pid_script.specs.EndStatus.{script_status}
-use Rattle.pid_script.specs.Scripts.{IsScript, passage}
-use Rattle.pid_script.specs.RegistryStates.{OverStanding}
+use Rattle.pid_script.specs.Scripts.{EndsWith, IsScript, IsUpToDate, OverText}
+use Rattle.pid_script.specs.Scripts.{passage}
 use Rattle.pid_service.specs.declared.exporting.ExportFault.{ExportFault}
 use Rattle.pid_service.specs.declared.exporting.ExportFault.TheVariants as exports
 use Rattle.pid_service.specs.declared.importing.ImportEnd.{ImportEnd}
@@ -26,21 +27,27 @@ use Rattle.pid_cli_jobs.specs.declared.job_end.JobEnd.TheVariants.{Told, Replied
 use Rattle.pid_cli_jobs.specs.declared.jobs.RegistryJob.{RegistryJob}
 use Rattle.pid_cli_jobs.specs.declared.jobs.RegistryJob.TheVariants as jobs
 use Rattle.pid_cli_jobs.specs.declared.serving.Port.{Port}
+use Rattle.pid_cli_jobs.specs.Inputs.{InputUse}
 use Rattle.pid_cli_jobs.specs.Serving.{Serves}
 use Rattle.pid_cli_jobs.specs.Wrote.{AsksNothing, IsSilent, Wrote}
 
--- what a job is to do with a registry; of an input, with what it has to come
+-- what a job is to do with a registry: a script with an input, of which this becomes, and an import
+-- of one that has this to come
 pub data Work : Type 0 where
-  ToAnswer : (to_come : Option (List ℕ)) → Work
+  ToAnswer : (input : InputUse) → Work
   ToImport : (account : List ℕ) (key to_come : Option (List ℕ)) → Work
   ToExport : Work
   ToServe : (port : Port) → Work
 
-abbrev pub work_of : {I : Type 0} → inputs.Ghosts I → RegistryJob I → Work
-work_of reader (jobs.Script input) = ToAnswer (reader.to_come input)
-work_of reader (jobs.Import account key input) = ToImport account key (reader.to_come input)
-work_of reader jobs.Export = ToExport
-work_of reader (jobs.Serve port) = ToServe port
+abbrev pub work_of : RegistryJob → InputUse → Work
+work_of jobs.Script input = ToAnswer input
+work_of (jobs.Import account key) input = ToImport account key input.to_come
+work_of jobs.Export input = ToExport
+work_of (jobs.Serve port) input = ToServe port
+
+-- the most reads of a script
+abbrev pub MOST_READS : ℕ
+MOST_READS = 10000000
 
 -- a fault of the reader or the writer is still to be reported
 abbrev pub end_of_script : ScriptEnd → JobEnd
@@ -65,14 +72,26 @@ module _ {S : Type 0} (store : Ghosts S) where
   abbrev pub as_moderated : moderated.Ghosts (Registry S store)
   as_moderated = record { showing = showing store; has_failed = λ r. is_live r ≡ false }
 
-  -- The lines of the text were answered as a script, of which a part may not have been read.
-  pub record RunsLines (old new : Registry S store) (to_come taken taken_now : Option (List ℕ))
+  -- The lines of the input were answered as a script: what `run_script` says of its text, of the
+  -- moments at which that was read, of the faults and of the reads.
+  pub record RunsLines (old new : Registry S store) (input : InputUse) (output : WriterUse)
       (end : JobEnd) : Type 0 where
     pub script : ScriptEnd
     pub ends : end ≡ end_of_script script
-    pub rest : Option (List ℕ)
-    pub ran : OverStanding as_moderated old new (λ h. IfSome to_come (λ text.
-        IsScript as_moderated script h (passage old new taken taken_now) text rest))
+    pub ran : OverText as_moderated (passage old new output.before output.after) input.to_come
+        (λ h p text. IsScript as_moderated script h p text input.left)
+    pub caught_up : OverText as_moderated (passage old new output.before output.after)
+        input.to_come (λ h p text.
+        AllSince (IsUpToDate as_moderated h p text) input.moments input.moments_after)
+    pub ended : EndsWith script (record {
+      read_fault = input.fault;
+      write_fault = output.fault;
+      turns = MOST_READS;
+      reads = input.reads;
+      reads_now = input.reads_after;
+      come = input.to_come;
+      come_now = input.left;
+    })
 
   -- An import of what was read of the file was obeyed.
   pub record BringsIn (old new : Registry S store) (account : List ℕ) (key : Option (List ℕ))
@@ -93,12 +112,12 @@ module _ {S : Type 0} (store : Ghosts S) where
   -- and an export report nothing and ask nothing of the machine, and an import prints nothing.
   abbrev pub DoesWork : {R W : Type 0} → outputs.Ghosts W → Work → Registry S store
       → Registry S store → Wrote R W → Type 0
-  DoesWork writer (ToAnswer to_come) old new w = RunsLines old new to_come (writer.taken w.output)
-      (writer.taken w.output_after) w.end
+  DoesWork writer (ToAnswer input) old new w = RunsLines old new input
+      (use_of writer w.output w.output_after) w.end
       × (w.faults.after ≡ w.faults.before) × AsksNothing w
   DoesWork writer (ToImport account key to_come) old new w = BringsIn old new account key to_come
       w.end
       × IsSilent w × AsksNothing w
   DoesWork writer ToExport old new w = PrintsAll writer old new w.output w.output_after w.end
       × (w.faults.after ≡ w.faults.before) × AsksNothing w
-  DoesWork writer (ToServe port) old new w = Serves writer port (is_live new) w
+  DoesWork writer (ToServe port) old new w = Serves store writer port old new w

@@ -1,6 +1,7 @@
 pub mod Lines
 pub mod Machines
 pub mod Wrote
+pub mod Inputs
 pub mod Serving
 pub mod Jobs
 pub mod Sessions

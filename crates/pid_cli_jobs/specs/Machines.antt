@@ -1,9 +1,10 @@
 -- What a job asks of the machine that it runs on. Choices of this project.
-use Rattle.std.specs.Prelude.{◌≡◌, ℕ, Bool, List, [], ◌∷◌, ◌++◌, Option, None, Some, IfSome}
-use Rattle.std.specs.Prelude.{Result, Ok, Err}
+use Rattle.std.specs.Prelude.{◌≡◌, ℕ, Bool, List, [], ◌∷◌, ◌++◌, length, map}
+use Rattle.std.specs.Prelude.{Option, None, Some, IfSome, Result, Ok, Err}
+use Rattle.pid_http_listener.specs.Streams.{Exchange}
 use Rattle.pid_tables_rows.specs.declared.fault.TableFault.{TableFault}
 
--- what was to be opened, and what came of that
+-- what was to be opened or served, and what came of that
 pub data Opening (R : Type 0) : Type 0 where
   -- the pci.ids file at a path: the open file, if it could be opened
   TextAt : (path : List ℕ) (file : Option R) → Opening R
@@ -11,6 +12,8 @@ pub data Opening (R : Type 0) : Type 0 where
   DatabaseAt : (path : List ℕ) (fault : Option TableFault) → Opening R
   -- a port of this machine: whether it could be had
   PortAt : (port : ℕ) (is_bound : Bool) → Opening R
+  -- the stream of a connection to a port, which was given to a server: what became of it
+  StreamOf : (stream : Exchange) → Opening R
 
 abbrev pub why_unopened : {X : Type 0} → Result X TableFault → Option TableFault
 why_unopened (Ok opened) = None
@@ -25,3 +28,17 @@ AsksFor before after one = IfSome before (λ all. after ≡ Some (all ++ one ∷
 pub record Openings (R : Type 0) : Type 0 where
   pub before : Option (List (Opening R))
   pub after : Option (List (Opening R))
+
+-- One stream after the other led from the first to the last of what answers them, and each as this
+-- says of what answers it, before and after.
+abbrev pub InTurn : {S : Type 0} → (S → S → Exchange → Type 0) → S → List Exchange → S → Type 0
+InTurn Answers first [] last = last ≡ first
+InTurn Answers first (stream ∷ streams) last = (next : _) × Answers first next stream
+    × InTurn Answers next streams last
+
+-- so many streams were given to a server, by what was asked for before and after, if that is kept,
+-- and of these this holds
+abbrev pub GivesStreams : {R : Type 0} → Option (List (Opening R)) → Option (List (Opening R))
+    → ℕ → (List Exchange → Type 0) → Type 0
+GivesStreams before after count Holds = IfSome before (λ all. (streams : List Exchange)
+    × (length streams ≡ count) × (after ≡ Some (all ++ map StreamOf streams)) × Holds streams)

@@ -8,7 +8,6 @@ use Rattle.sqlite_store.specs.declared.store.FileStore.{FileStore}
 use Rattle.sqlite_trees.specs.declared.memory.MemStore.{MemStore}
 use Rattle.sqlite_trees.specs.declared.store.Store.{Ghosts}
 use Rattle.sqlite_wal.specs.Recovery.{Image}
-use Rattle.pid_file.specs.declared.io.Input as inputs
 use Rattle.pid_file.specs.declared.io.Output as outputs
 use Rattle.pid_tables_rows.specs.Faults.{IsMemoryOrStore}
 use Rattle.pid_tables_rows.specs.declared.fault.TableFault.{TableFault}
@@ -16,6 +15,7 @@ use Rattle.pid_tables_rows.specs.declared.fault.TableFault.TheVariants.{Memory}
 use Rattle.pid_cli_jobs.specs.declared.on_files.FileJob.{FileJob}
 use Rattle.pid_cli_jobs.specs.declared.on_files.FileJob.TheVariants as jobs
 use Rattle.pid_cli_jobs.specs.Files.{OpensFiles}
+use Rattle.pid_cli_jobs.specs.Inputs.{InputUse}
 use Rattle.pid_cli_jobs.specs.Jobs.{Work, work_of}
 use Rattle.pid_cli_jobs.specs.Machines.{AsksFor, DatabaseAt, Opening}
 use Rattle.pid_cli_jobs.specs.Sessions.{Migrates, TellsUnopened, WorksOn}
@@ -26,9 +26,9 @@ pub data FileTask : Type 0 where
   ToWork : Work → FileTask
   ToMigrate : FileTask
 
-abbrev pub file_task_of : {I : Type 0} → inputs.Ghosts I → FileJob I → FileTask
-file_task_of reader (jobs.Work job) = ToWork (work_of reader job)
-file_task_of reader jobs.Migrate = ToMigrate
+abbrev pub file_task_of : FileJob → InputUse → FileTask
+file_task_of (jobs.Work job) input = ToWork (work_of job input)
+file_task_of jobs.Migrate input = ToMigrate
 
 -- a session of the registry on a connection, or a migration of its tables
 abbrev pub DoesOn : {S R W : Type 0} → (store : Ghosts S) → outputs.Ghosts W → Held S → FileTask

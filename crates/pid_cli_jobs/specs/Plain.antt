@@ -17,6 +17,7 @@ use Rattle.pid_cli_jobs.specs.declared.lookups.Lookup.{Lookup}
 use Rattle.pid_cli_jobs.specs.declared.running.PlainJob.{PlainJob}
 use Rattle.pid_cli_jobs.specs.declared.running.PlainJob.TheVariants as plain
 use Rattle.pid_cli_jobs.specs.Ends.{PrintsReply}
+use Rattle.pid_cli_jobs.specs.Inputs.{InputUse}
 use Rattle.pid_cli_jobs.specs.Jobs.{ToAnswer, ToImport, ToServe}
 use Rattle.pid_cli_jobs.specs.Lookups.{IsReadFrom, LooksUpText, fields_given}
 use Rattle.pid_cli_jobs.specs.Machines.{AsksFor, Opening, TextAt}
@@ -78,24 +79,24 @@ module _ {E R W : Type 0} (files : disk.Ghosts E) (image : Image) (holds : R →
 
 module _ {E R W : Type 0} (files : disk.Ghosts E) (image : Image) (memory : Ghosts MemStore)
     (holds : R → Option (List ℕ)) (writer : outputs.Ghosts W) where
-  -- What a job does, of which the input has this to come.
-  abbrev pub DoesPlain : PlainJob → Option (List ℕ) → Wrote R W → Type 0
-  DoesPlain (plain.Lookup words) to_come w = LooksUpInFile holds writer words.ids.now
+  -- What a job does, and this becomes of its input.
+  abbrev pub DoesPlain : PlainJob → InputUse → Wrote R W → Type 0
+  DoesPlain (plain.Lookup words) input w = LooksUpInFile holds writer words.ids.now
       (fields_given words) w
-  DoesPlain (plain.Script (Some db)) to_come w = DoesInFiles files image writer db.now
-      (ToWork (ToAnswer to_come)) w
-  DoesPlain (plain.Script None) to_come w = WorksOnNew memory writer (ToAnswer to_come) w
-  DoesPlain (plain.Import names sender) to_come w = ImportsFile files image holds writer
+  DoesPlain (plain.Script (Some db)) input w = DoesInFiles files image writer db.now
+      (ToWork (ToAnswer input)) w
+  DoesPlain (plain.Script None) input w = WorksOnNew memory writer (ToAnswer input) w
+  DoesPlain (plain.Import names sender) input w = ImportsFile files image holds writer
       (names.0.now, names.1.now) sender.0.now (text_given sender.1) w
-  DoesPlain (plain.Serve db port) to_come w = DoesInFiles files image writer db.now
+  DoesPlain (plain.Serve db port) input w = DoesInFiles files image writer db.now
       (ToWork (ToServe port)) w
-  DoesPlain (plain.Migrate db) to_come w = DoesInFiles files image writer db.now ToMigrate w
+  DoesPlain (plain.Migrate db) input w = DoesInFiles files image writer db.now ToMigrate w
 
   -- The same, and then the reply goes to the output if there is one: after all files are closed.
-  pub record AnswersPlain (job : PlainJob) (to_come : Option (List ℕ)) (w : Wrote R W)
+  pub record AnswersPlain (job : PlainJob) (input : InputUse) (w : Wrote R W)
       : Type 0 where
     -- what the output was before the reply, and to what the job came
     pub between : W
     pub done : JobEnd
-    pub does : DoesPlain job to_come (record w { output_after = between; end = done })
+    pub does : DoesPlain job input (record w { output_after = between; end = done })
     pub prints : PrintsReply done w.end (use_of writer between w.output_after)

@@ -15,11 +15,12 @@ use Rattle.pid_http.specs.Streams.{OverStream}
 use Rattle.pid_http_stream.specs.Causes.{EndsFor}
 use Rattle.pid_http_stream.specs.Serving.{IsServed, outside}
 use Rattle.pid_service.specs.declared.registry.Registry.{Registry}
+use Rattle.pid_service.specs.Registries.{is_live}
 use Rattle.pid_cli_jobs.specs.declared.job_end.JobEnd.{JobEnd}
 use Rattle.pid_cli_jobs.specs.declared.job_end.JobEnd.TheVariants.{Told, FileFailed}
 use Rattle.pid_cli_jobs.specs.declared.serving.Port.{Port}
 use Rattle.pid_cli_jobs.specs.Lines.{PrintsLine, Streams, count_line}
-use Rattle.pid_cli_jobs.specs.Machines.{PortAt}
+use Rattle.pid_cli_jobs.specs.Machines.{AsksFor, GivesStreams, InTurn, Opening, Openings, PortAt}
 use Rattle.pid_cli_jobs.specs.Wrote.{AsksOnce, TellsMemory, Wrote, streams_of}
 
 -- where it listens; how many streams were started; that a socket failed
@@ -43,22 +44,6 @@ ReportsServing AcceptFault streams w end = (end ≡ Told 3)
     × TriesLine w.output (served_line streams)
     × TriesLine w.faults socket_line
 
--- Streams were served, one for each connection of so many, while the registry was live, and it is
--- reported how many.
-pub record ReportsStreams (connections : ℕ) (live : Bool) (w : Streams) (end : JobEnd) : Type 0 where
-  pub serving : Serving
-  pub counted : CountsStreams serving.end connections serving.streams
-  pub lasts : IsLiveAt serving.end serving.streams live
-  pub reports : ReportsServing serving.end serving.streams w end
-
--- the same, after the line of where it listens
-pub record HasServed (port : Port) (live : Bool) (w : Streams) (end : JobEnd) : Type 0 where
-  -- what the output had taken before the first of them
-  pub between : Option (List ℕ)
-  pub listens : Appends w.output.before between (listening_line port.number)
-  pub streams : ReportsStreams port.connections live
-      (record w { output = record w.output { before = between } }) end
-
 -- A stream was answered over a registry, before it and after it: what `served` and `ended` of
 -- `serve_stream` of `pid_http` say, of the reader and the writer of this exchange. So if the bytes
 -- of the stream are known, such calls led on as its requests make.
@@ -77,17 +62,41 @@ pub record AnswersStream {S : Type 0} (store : Ghosts S) (old new : Registry S s
     reads_after = x.input.reads_after;
   })
 
-module _ {R W : Type 0} (writer : outputs.Ghosts W) where
-  -- Serving on a port, after which the registry is live or not.
-  pub data Serves (port : Port) (live : Bool) (w : Wrote R W) : Type 0 where
+-- Streams were served, one for each connection of so many, while the server was live, and of what
+-- became of them this holds. It is reported how many.
+pub record ReportsStreams {R : Type 0} (Holds : List Exchange → Type 0) (connections : ℕ)
+    (live : Bool) (asked : Openings R) (w : Streams) (end : JobEnd) : Type 0 where
+  pub serving : Serving
+  pub counted : CountsStreams serving.end connections serving.streams
+  pub lasts : IsLiveAt serving.end serving.streams live
+  pub given : GivesStreams asked.before asked.after serving.streams Holds
+  pub reports : ReportsServing serving.end serving.streams w end
+
+-- the same, after the line of where it listens
+pub record HasServed {R : Type 0} (Holds : List Exchange → Type 0) (port : Port) (live : Bool)
+    (asked : Openings R) (w : Streams) (end : JobEnd) : Type 0 where
+  -- what the output had taken before the first of them
+  pub between : Option (List ℕ)
+  pub listens : Appends w.output.before between (listening_line port.number)
+  pub streams : ReportsStreams Holds port.connections live asked
+      (record w { output = record w.output { before = between } }) end
+
+module _ {S R W : Type 0} (store : Ghosts S) (writer : outputs.Ghosts W) where
+  -- Serving a registry on a port. Without a stream the registry is as before.
+  pub data Serves (port : Port) (old new : Registry S store) (w : Wrote R W) : Type 0 where
     -- the port could not be had
-    Unbound : AsksOnce w (PortAt port.number false) → w.output_after ≡ w.output
-        → TriesLine w.faults socket_line → w.end ≡ Told 3 → Serves port live w
+    Unbound : AsksOnce w (PortAt port.number false) → new ≡ old → w.output_after ≡ w.output
+        → TriesLine w.faults socket_line → w.end ≡ Told 3 → Serves port old new w
     -- out of memory for the table of routes
-    Unrouted : AsksOnce w (PortAt port.number true) → TellsMemory w → Serves port live w
+    Unrouted : AsksOnce w (PortAt port.number true) → new ≡ old → TellsMemory w
+        → Serves port old new w
     -- the line of where it listens did not go out whole, and nothing was accepted
-    Unheard : AsksOnce w (PortAt port.number true)
+    Unheard : AsksOnce w (PortAt port.number true) → new ≡ old
         → FailsWithin (use_of writer w.output w.output_after) (listening_line port.number)
-        → w.faults.after ≡ w.faults.before → w.end ≡ FileFailed → Serves port live w
-    Served : AsksOnce w (PortAt port.number true) → HasServed port live (streams_of writer w) w.end
-        → Serves port live w
+        → w.faults.after ≡ w.faults.before → w.end ≡ FileFailed → Serves port old new w
+    -- each stream was answered over the registry in turn, and nothing else was done with that
+    Served : (between : Option (List (Opening R)))
+        → AsksFor w.asked.before between (PortAt port.number true)
+        → HasServed (λ streams. InTurn (AnswersStream store) old streams new) port (is_live new)
+        (record w.asked { before = between }) (streams_of writer w) w.end
+        → Serves port old new w

@@ -1,6 +1,7 @@
 //! The jobs of a registry, on any store. Each returns the connection if the registry is live.
 ghost use Rattle.std.specs.Prelude.{◌≡◌};
 ghost use Rattle.pid_file.specs.Writing.{use_of};
+ghost use Rattle.pid_cli_jobs.specs.Inputs.{input_use};
 ghost use Rattle.pid_cli_jobs.specs.Jobs.{BringsIn, DoesWork, PrintsAll, RunsLines, work_of};
 ghost use Rattle.pid_cli_jobs.specs.Sessions.{IsPartOfSession, Migrates, WorksOn};
 ghost use Rattle.pid_cli_jobs.specs.Sessions.{handed_back as back_of};
@@ -8,9 +9,10 @@ ghost use Rattle.pid_cli_jobs.specs.Wrote.{job_wrote};
 
 use crate::job_end::JobEnd;
 use crate::machine::Machine;
+use crate::read_behind::ReadBehind;
 use crate::replies::{print_step, tell_unopened};
 use crate::serving::{Port, serve_registry};
-use pid_ident::{Account, Input, Key, Output};
+use pid_ident::{Account, Incoming, Key, Output};
 use pid_script::{ScriptEnd, run_script};
 use pid_service::{ExportFault, ImportEnd, Registry, migrate, open};
 use sqlite::{Alter, Connection};
@@ -19,47 +21,48 @@ use std::alloc::Global;
 /// The number of reads that a script may use.
 const TURNS: u64 = 10_000_000;
 
-/// A job of a registry, with its input.
+/// A job of a registry. The input of a script has its lines, and that of an import the file.
 #[derive(Drop)]
-pub enum RegistryJob<I> {
-    Script(I),
-    Import {
-        account: Account,
-        key: Option<Key>,
-        input: I,
-    },
+pub enum RegistryJob {
+    Script,
+    Import { account: Account, key: Option<Key> },
     Export,
     Serve(Port),
 }
 
 // Answers the lines of a script.
-fn run_lines<S: Alter + Drop, I: Input + Drop, O: Output>(
+fn run_lines<S: Alter + Drop, I: Incoming<O>, O: Output>(
     alloc: Global,
     registry: &mut Registry<S>,
-    mut input: I,
+    input: &mut I,
     output: &mut O,
 ) -> JobEnd
     ensures goes { IsPartOfSession S.Store registry.old registry.new }
     ensures ran { RunsLines S.Store registry.old registry.new
-        (I.to_come input) (O.taken output.old) (O.taken output.new) result }
+        (input_use I.Incoming input.old input.new) (use_of O.Output output.old output.new) result }
+    ensures reads { I.goes input.old input.new }
 {
-    match run_script(alloc, registry, &mut input, output, TURNS) {
+    match run_script(alloc, registry, input, output, TURNS) {
         ScriptEnd::ReadFault | ScriptEnd::WriteFault => JobEnd::FileFailed,
         end => JobEnd::Told(end.status()),
     }
 }
 
 // Imports a file.
-fn bring_in<S: Alter + Drop, I: Input + Drop>(
+fn bring_in<S: Alter + Drop, I: Incoming<O>, O: Output>(
     registry: &mut Registry<S>,
     account: Account,
     key: Option<Key>,
-    mut input: I,
+    input: &mut I,
+    output: &O,
 ) -> JobEnd
     ensures goes { IsPartOfSession S.Store registry.old registry.new }
-    ensures imported { BringsIn S.Store registry.old registry.new account key (I.to_come input) result }
+    ensures imported { BringsIn S.Store registry.old registry.new account key
+        (I.to_come input.old) result }
+    ensures reads { I.goes input.old input.new }
 {
     pid_service::laws::clauses_meet_lives::<S>(); // proof only
+    let mut input = ReadBehind { input, output };
     match registry.import_from(account, key, &mut input) {
         Ok(reply) => JobEnd::Replied(Ok(reply)),
         Err(ImportEnd::Refused(refusal)) => JobEnd::Replied(Err(refusal)),
@@ -81,25 +84,24 @@ fn print_all<S: Alter + Drop, O: Output>(registry: &mut Registry<S>, output: &mu
     }
 }
 
-fn do_job<M: Machine, S: Alter + Drop, I: Input + Drop, O: Output, F: Output>(
+fn do_job<M: Machine, S: Alter + Drop, I: Incoming<O>, O: Output, F: Output>(
     machine: &mut M,
     registry: &mut Registry<S>,
-    job: RegistryJob<I>,
+    job: RegistryJob,
+    input: &mut I,
     output: &mut O,
     faults: &mut F,
 ) -> JobEnd
     ensures goes { IsPartOfSession S.Store registry.old registry.new }
-    ensures does { DoesWork S.Store O.Output (work_of I.Input job) registry.old registry.new
+    ensures does { DoesWork S.Store O.Output
+        (work_of job (input_use I.Incoming input.old input.new)) registry.old registry.new
         (job_wrote (output.old, output.new) (use_of F.Output faults.old faults.new)
         (M.asked machine.old, M.asked machine.new) result) }
+    ensures reads { I.goes input.old input.new }
 {
     match job {
-        RegistryJob::Script(input) => run_lines(machine.alloc(), registry, input, output),
-        RegistryJob::Import {
-            account,
-            key,
-            input,
-        } => bring_in(registry, account, key, input),
+        RegistryJob::Script => run_lines(machine.alloc(), registry, input, output),
+        RegistryJob::Import { account, key } => bring_in(registry, account, key, input, output),
         RegistryJob::Export => print_all(registry, output),
         RegistryJob::Serve(port) => serve_registry(machine, registry, port, output, faults),
     }
@@ -123,21 +125,24 @@ fn handed_back<S: Alter + Drop>(registry: Registry<S>) -> Option<Connection<S>>
 /// to a script, the canonical text of an export, the lines of a server; the reply to an import is
 /// returned. Where the registry is not opened, `faults` gets the reason (`open: Store`), and the
 /// exit status is 3. The machine is asked for nothing but the port of a server.
-pub fn work_on<M: Machine, S: Alter + Drop, I: Input + Drop, O: Output, F: Output>(
+pub fn work_on<M: Machine, S: Alter + Drop, I: Incoming<O>, O: Output, F: Output>(
     machine: &mut M,
     conn: Connection<S>,
-    job: RegistryJob<I>,
+    job: RegistryJob,
+    input: &mut I,
     output: &mut O,
     faults: &mut F,
 ) -> (JobEnd, Option<Connection<S>>)
-    ensures { WorksOn S.Store O.Output conn (work_of I.Input job)
+    ensures works { WorksOn S.Store O.Output conn
+        (work_of job (input_use I.Incoming input.old input.new))
         (job_wrote (output.old, output.new) (use_of F.Output faults.old faults.new)
         (M.asked machine.old, M.asked machine.new) result.0) result.1 }
+    ensures reads { I.goes input.old input.new }
 {
     match open(machine.alloc(), conn) {
         Ok(registry) => {
             let mut registry = registry;
-            let end = do_job(machine, &mut registry, job, output, faults);
+            let end = do_job(machine, &mut registry, job, input, output, faults);
             (end, handed_back(registry))
         }
         Err((fault, _)) => (JobEnd::Told(tell_unopened(fault, faults)), None),

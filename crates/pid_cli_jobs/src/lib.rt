@@ -8,6 +8,7 @@ pub mod laws;
 mod lookups;
 mod machine;
 mod on_files;
+mod read_behind;
 mod replies;
 mod running;
 mod serving;

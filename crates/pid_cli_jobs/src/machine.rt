@@ -1,6 +1,7 @@
 //! The machine that jobs run on.
 ghost use Rattle.pid_cli_jobs.specs.Steps.Serving.{IsLoopback};
 
+use pid_http_listener::{Serving, StreamServer, serve_on};
 use pid_service::TableFault;
 use sqlite::{Connection, FileStore};
 use sqlite_disk::Start;
@@ -13,14 +14,17 @@ use std::{fs, io};
 
 /// All that a job can ask of the machine it runs on, but for its streams.
 pub trait Machine {
-    ghost use Rattle.std.specs.Prelude.{List, None, Option, IfErr, IfOk, is_some};
+    ghost use Rattle.std.specs.Prelude.{◌≡◌, List, None, Option, IfErr, IfOk, is_some};
     ghost use Rattle.sqlite.specs.Held.{IsNew};
     ghost use Rattle.sqlite_wal.specs.Files.{image_at};
+    ghost use Rattle.pid_http_listener.specs.Servings.{CountsStreams, IsLiveAt};
     ghost use Rattle.pid_tables_rows.specs.Faults.{IsMemoryOrStore};
     ghost use Rattle.pid_cli_jobs.specs.Files.{OpensFiles};
     ghost use Rattle.pid_cli_jobs.specs.Machines.{
       AsksFor,
       DatabaseAt,
+      GivesStreams,
+      InTurn,
       Opening,
       PortAt,
       TextAt,
@@ -30,7 +34,10 @@ pub trait Machine {
     /// An open pci.ids file.
     type Opened: Read + Drop;
 
-    /// What it was asked to open so far and what came of that, in order, if it keeps that.
+    /// A port that is listened on.
+    type Listener: Drop;
+
+    /// What it was asked for so far and what came of that, in order, if it keeps that.
     ghost asked: { Self → Option (List (Opening Self.Opened)) } = { λ _. None };
 
     fn alloc(&self) -> Global;
@@ -55,8 +62,22 @@ pub trait Machine {
         ensures fault { IfErr result IsMemoryOrStore };
 
     /// Listens on a port, for clients on this machine and for no others.
-    fn listen(&mut self, port: u16) -> Option<TcpListener>
+    fn listen(&mut self, port: u16) -> Option<Self::Listener>
         ensures { AsksFor (asked self.old) (asked self.new) (PortAt port (is_some result)) };
+
+    /// Gives the streams of so many connections to a server, one after the other. Stops if the
+    /// server is not live after a stream, and if no connection can be accepted.
+    fn serve<T: StreamServer>(
+        &mut self,
+        listener: &Self::Listener,
+        server: &mut T,
+        connections: u32,
+    ) -> Serving
+        ensures goes { T.goes server.old server.new }
+        ensures streams { CountsStreams result.end connections result.streams }
+        ensures live { IsLiveAt result.end result.streams (T.live server.new) }
+        ensures gives { GivesStreams (asked self.old) (asked self.new) result.streams
+            (λ streams. InTurn T.answers server.old streams server.new) };
 }
 
 /// The machine of the process. Which files its paths name is not said, nor what a socket does.
@@ -65,6 +86,8 @@ pub struct Host<'r>(pub &'r HostRuntime);
 
 impl Machine for Host<'_> {
     type Opened = File;
+
+    type Listener = TcpListener;
 
     fn alloc(&self) -> Global {
         self.0.alloc()
@@ -87,6 +110,15 @@ impl Machine for Host<'_> {
 
     fn listen(&mut self, port: u16) -> Option<TcpListener> {
         listen_at(self.0, address_of(port), port).ok()
+    }
+
+    fn serve<T: StreamServer>(
+        &mut self,
+        listener: &TcpListener,
+        server: &mut T,
+        connections: u32,
+    ) -> Serving {
+        serve_on(self.alloc(), listener, server, connections)
     }
 }
 

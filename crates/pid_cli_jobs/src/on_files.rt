@@ -1,6 +1,7 @@
 //! The jobs on a registry in a file or in memory.
 ghost use Rattle.sqlite_wal.specs.Files.{image_at};
 ghost use Rattle.pid_file.specs.Writing.{use_of};
+ghost use Rattle.pid_cli_jobs.specs.Inputs.{input_use};
 ghost use Rattle.pid_cli_jobs.specs.Jobs.{work_of};
 ghost use Rattle.pid_cli_jobs.specs.OnFiles.{
   DoesInFiles,
@@ -15,7 +16,7 @@ use crate::job_end::JobEnd;
 use crate::jobs::{RegistryJob, migrate_on, work_on};
 use crate::machine::Machine;
 use crate::replies::tell_unopened;
-use pid_ident::{Input, Output};
+use pid_ident::{Incoming, Output};
 use pid_service::TableFault;
 use sqlite::{Alter, Connection, FileStore, MemStore};
 use sqlite_disk::{Disk, Start};
@@ -24,44 +25,50 @@ use sqlite_trees::store::Store;
 
 /// A job on the files of a registry.
 #[derive(Drop)]
-pub enum FileJob<I> {
+pub enum FileJob {
     /// A job of the registry that is opened there.
-    Work(RegistryJob<I>),
+    Work(RegistryJob),
     /// Moves the tables to the newest schema.
     Migrate,
 }
 
-fn do_on<M: Machine, S: Alter + Drop, I: Input + Drop, O: Output, F: Output>(
+fn do_on<M: Machine, S: Alter + Drop, I: Incoming<O>, O: Output, F: Output>(
     machine: &mut M,
     conn: Connection<S>,
-    job: FileJob<I>,
+    job: FileJob,
+    input: &mut I,
     output: &mut O,
     faults: &mut F,
 ) -> (JobEnd, Option<Connection<S>>)
-    ensures { DoesOn S.Store O.Output conn (file_task_of I.Input job)
+    ensures does { DoesOn S.Store O.Output conn
+        (file_task_of job (input_use I.Incoming input.old input.new))
         (job_wrote (output.old, output.new) (use_of F.Output faults.old faults.new)
         (M.asked machine.old, M.asked machine.new) result.0) result.1 }
+    ensures reads { I.goes input.old input.new }
 {
     match job {
-        FileJob::Work(job) => work_on(machine, conn, job, output, faults),
+        FileJob::Work(job) => work_on(machine, conn, job, input, output, faults),
         FileJob::Migrate => migrate_on(machine, conn, output, faults),
     }
 }
 
 // Does a job on a connection to files, and closes it if it came back. No other function names a
 // store of files together with a drop, since each one that does takes half a minute to prove.
-fn do_there<M: Machine, D: Disk + Drop, I: Input + Drop, O: Output, F: Output>(
+fn do_there<M: Machine, D: Disk + Drop, I: Incoming<O>, O: Output, F: Output>(
     machine: &mut M,
     conn: Connection<FileStore<D>>,
-    job: FileJob<I>,
+    job: FileJob,
+    input: &mut I,
     output: &mut O,
     faults: &mut F,
 ) -> JobEnd
-    ensures { DoesThere D.Disk O.Output conn (file_task_of I.Input job)
+    ensures does { DoesThere D.Disk O.Output conn
+        (file_task_of job (input_use I.Incoming input.old input.new))
         (job_wrote (output.old, output.new) (use_of F.Output faults.old faults.new)
         (M.asked machine.old, M.asked machine.new) result) }
+    ensures reads { I.goes input.old input.new }
 {
-    let (end, back) = do_on(machine, conn, job, output, faults);
+    let (end, back) = do_on(machine, conn, job, input, output, faults);
     if let Some(conn) = back {
         // If the log cannot be copied into the file, it stays for the next opening.
         let _ = conn.close();
@@ -71,39 +78,44 @@ fn do_there<M: Machine, D: Disk + Drop, I: Input + Drop, O: Output, F: Output>(
 
 /// Does the job on the files of a registry, which are created if they do not exist. Afterwards, all
 /// that was committed is in the file or in the log next to it. `start` is as for `open_database`.
-pub fn do_in_files<M: Machine, S: Start, I: Input + Drop, O: Output, F: Output>(
+pub fn do_in_files<M: Machine, S: Start, I: Incoming<O>, O: Output, F: Output>(
     machine: &mut M,
     start: S,
     path: &str,
-    job: FileJob<I>,
+    job: FileJob,
+    input: &mut I,
     output: &mut O,
     faults: &mut F,
 ) -> JobEnd
-    ensures { DoesInFiles ⟦<FileFrom<S> as Disk>⟧ (image_at S.Start) O.Output path.now
-        (file_task_of I.Input job)
+    ensures does { DoesInFiles ⟦<FileFrom<S> as Disk>⟧ (image_at S.Start) O.Output path.now
+        (file_task_of job (input_use I.Incoming input.old input.new))
         (job_wrote (output.old, output.new) (use_of F.Output faults.old faults.new)
         (M.asked machine.old, M.asked machine.new) result) }
+    ensures reads { I.goes input.old input.new }
 {
     match machine.open_database(path, start) {
-        Ok(conn) => do_there(machine, conn, job, output, faults),
+        Ok(conn) => do_there(machine, conn, job, input, output, faults),
         Err(fault) => JobEnd::Told(tell_unopened(fault, faults)),
     }
 }
 
 /// Does the job on a new registry in memory.
-pub fn work_on_memory<M: Machine, I: Input + Drop, O: Output, F: Output>(
+pub fn work_on_memory<M: Machine, I: Incoming<O>, O: Output, F: Output>(
     machine: &mut M,
-    job: RegistryJob<I>,
+    job: RegistryJob,
+    input: &mut I,
     output: &mut O,
     faults: &mut F,
 ) -> JobEnd
-    ensures { WorksOnNew ⟦<MemStore as Store>⟧ O.Output (work_of I.Input job)
+    ensures works { WorksOnNew ⟦<MemStore as Store>⟧ O.Output
+        (work_of job (input_use I.Incoming input.old input.new))
         (job_wrote (output.old, output.new) (use_of F.Output faults.old faults.new)
         (M.asked machine.old, M.asked machine.new) result) }
+    ensures reads { I.goes input.old input.new }
 {
     match Connection::open_in_memory(machine.alloc()) {
         Ok(conn) => {
-            let (end, _) = work_on(machine, conn, job, output, faults);
+            let (end, _) = work_on(machine, conn, job, input, output, faults);
             end
         }
         Err(_) => JobEnd::Told(tell_unopened(TableFault::Memory, faults)),

@@ -7,6 +7,7 @@ ghost use Rattle.pid_file.specs.Writing.{use_of};
 ghost use Rattle.pid_cli_words.specs.Jobs.{text_given};
 ghost use Rattle.pid_cli_jobs.specs.Ends.{ReportsLast, exit_status};
 ghost use Rattle.pid_cli_jobs.specs.Exports.{ExportsThrough};
+ghost use Rattle.pid_cli_jobs.specs.Inputs.{input_use};
 ghost use Rattle.pid_cli_jobs.specs.Lookups.{fields_given};
 ghost use Rattle.pid_cli_jobs.specs.Plain.{
   AnswersPlain,
@@ -29,14 +30,14 @@ use crate::replies::{print_reply, tell_reply};
 use crate::serving::Port;
 use pid_cli_words::{Counted, Job, LookupWords, Progress, job_of, tell_no_job};
 use pid_file::{TextEnd, Watched, run_check, run_tidy, tell_end, tell_failed};
-use pid_ident::{Account, Input, Key, Output, Plain, WordFault};
+use pid_ident::{Account, Incoming, Key, Output, Plain, WordFault};
 use pid_moderation::Refusal;
 use sqlite::MemStore;
 use sqlite_disk::{Disk, Start};
 use sqlite_std_file::FileFrom;
 use sqlite_trees::store::Store;
 use std::alloc::Global;
-use std::io::{BufWriter, IsTerminal, Read, Stdin, Write};
+use std::io::{BufWriter, IsTerminal, Read, Write};
 
 const BUFFER: usize = 65_536;
 
@@ -111,6 +112,7 @@ fn run_plain<S: Start, I: Read + Drop, O: Write + Drop, F: Write + Drop>(
 ) -> u8 {
     let mut machine = Host(rt);
     let mut progress = Progress::new(rt, "importing", rt.stderr().is_terminal());
+    let mut input = Plain::new(input);
     let mut output = Plain::new(Watched::new(output));
     let mut faults = Plain::new(faults);
     let end = answer_plain(
@@ -118,7 +120,7 @@ fn run_plain<S: Start, I: Read + Drop, O: Write + Drop, F: Write + Drop>(
         &mut progress,
         start,
         job,
-        Plain::new(input),
+        &mut input,
         &mut output,
         &mut faults,
     );
@@ -127,19 +129,21 @@ fn run_plain<S: Start, I: Read + Drop, O: Write + Drop, F: Write + Drop>(
 
 /// Does a job, and then prints the reply to an import, or to a lookup whose arguments are refused:
 /// once all files are closed. `progress` is that of an import; `start` is as for `open_database`.
-pub fn answer_plain<M: Machine, S: Start, I: Input + Drop, O: Output, F: Output>(
+pub fn answer_plain<M: Machine, S: Start, I: Incoming<O>, O: Output, F: Output>(
     machine: &mut M,
     progress: &mut Progress<'_>,
     start: S,
     job: PlainJob<'_>,
-    input: I,
+    input: &mut I,
     output: &mut O,
     faults: &mut F,
 ) -> JobEnd
-    ensures { AnswersPlain ⟦<FileFrom<S> as Disk>⟧ (image_at S.Start) ⟦<MemStore as Store>⟧
-        M.Opened.remaining O.Output job.entry (I.to_come input)
+    ensures answers { AnswersPlain ⟦<FileFrom<S> as Disk>⟧ (image_at S.Start)
+        ⟦<MemStore as Store>⟧ M.Opened.remaining O.Output job.entry
+        (input_use I.Incoming input.old input.new)
         (job_wrote (output.old, output.new) (use_of F.Output faults.old faults.new)
         (M.asked machine.old, M.asked machine.new) result) }
+    ensures reads { I.goes input.old input.new }
 {
     match do_plain(machine, progress, start, job, input, output, faults) {
         JobEnd::Replied(reply) => print_reply(reply, output),
@@ -147,40 +151,48 @@ pub fn answer_plain<M: Machine, S: Start, I: Input + Drop, O: Output, F: Output>
     }
 }
 
-fn do_plain<M: Machine, S: Start, I: Input + Drop, O: Output, F: Output>(
+fn do_plain<M: Machine, S: Start, I: Incoming<O>, O: Output, F: Output>(
     machine: &mut M,
     progress: &mut Progress<'_>,
     start: S,
     job: PlainJob<'_>,
-    input: I,
+    input: &mut I,
     output: &mut O,
     faults: &mut F,
 ) -> JobEnd
-    ensures { DoesPlain ⟦<FileFrom<S> as Disk>⟧ (image_at S.Start) ⟦<MemStore as Store>⟧
-        M.Opened.remaining O.Output job.entry (I.to_come input)
+    ensures does { DoesPlain ⟦<FileFrom<S> as Disk>⟧ (image_at S.Start) ⟦<MemStore as Store>⟧
+        M.Opened.remaining O.Output job.entry (input_use I.Incoming input.old input.new)
         (job_wrote (output.old, output.new) (use_of F.Output faults.old faults.new)
         (M.asked machine.old, M.asked machine.new) result) }
+    ensures reads { I.goes input.old input.new }
 {
     match job {
         PlainJob::Lookup(words) => run_lookup(machine, &words, output, faults),
         PlainJob::Script(Some(file)) => {
-            let job = FileJob::Work(RegistryJob::Script(input));
-            do_in_files(machine, start, file, job, output, faults)
+            let job = FileJob::Work(RegistryJob::Script);
+            do_in_files(machine, start, file, job, input, output, faults)
         }
         PlainJob::Script(None) => {
-            work_on_memory(machine, RegistryJob::Script(input), output, faults)
+            work_on_memory(machine, RegistryJob::Script, input, output, faults)
         }
         PlainJob::Import {
             files: paths,
             sender,
         } => run_import(machine, progress, start, paths, sender, output, faults),
         PlainJob::Serve(file, port) => {
-            let job: FileJob<I> = FileJob::Work(RegistryJob::Serve(port));
-            do_in_files(machine, start, file, job, output, faults)
+            let job = FileJob::Work(RegistryJob::Serve(port));
+            do_in_files(machine, start, file, job, input, output, faults)
         }
         PlainJob::Migrate(file) => {
-            let job: FileJob<I> = FileJob::Migrate;
-            do_in_files(machine, start, file, job, output, faults)
+            do_in_files(
+                machine,
+                start,
+                file,
+                FileJob::Migrate,
+                input,
+                output,
+                faults,
+            )
         }
     }
 }
@@ -247,8 +259,9 @@ pub fn export_through<M: Machine, S: Start, O: Write + Drop, F: Output>(
         (use_of F.Output faults.old faults.new) (M.asked machine.old, M.asked machine.new) result.0) }
 {
     let mut output = Plain::new(buffer);
-    let job: FileJob<Plain<Stdin>> = FileJob::Work(RegistryJob::Export);
-    let end = do_in_files(machine, start, db, job, &mut output, faults);
+    let mut nothing = Plain::new(b"".as_slice());
+    let job = FileJob::Work(RegistryJob::Export);
+    let end = do_in_files(machine, start, db, job, &mut nothing, &mut output, faults);
     let mut buffer = output.into_inner();
     let end = match (end, buffer.flush()) {
         (JobEnd::Told(0), Err(_)) => JobEnd::FileFailed,
@@ -340,13 +353,10 @@ fn import_at<M: Machine, S: Start, O: Output, F: Output>(
     };
     let (account, key) = sender;
     let counted = Counted::new(file, progress);
-    let input = Plain::new(counted);
-    let job = RegistryJob::Import {
-        account,
-        key,
-        input,
-    };
-    let end = do_in_files(machine, start, db, FileJob::Work(job), output, faults);
+    let mut input = Plain::new(counted);
+    let job = FileJob::Work(RegistryJob::Import { account, key });
+    let end = do_in_files(machine, start, db, job, &mut input, output, faults);
+    drop(input);
     progress.clear();
     end
 }

@@ -2,10 +2,9 @@
 ghost use Rattle.std.specs.Prelude.{◌≡◌};
 ghost use Rattle.pid_file.specs.Writing.{TriesLine, use_of};
 ghost use Rattle.pid_http.specs.Known.{LivesOn};
-ghost use Rattle.pid_service.specs.Registries.{is_live};
 ghost use Rattle.pid_cli_jobs.specs.Serving.{ReportsServing, Serves, socket_line};
 ghost use Rattle.pid_cli_jobs.specs.Sessions.{IsPartOfSession};
-ghost use Rattle.pid_cli_jobs.specs.Steps.Serving.{GivesStreams};
+ghost use Rattle.pid_cli_jobs.specs.Steps.Serving.{GivesTo};
 ghost use Rattle.pid_cli_jobs.specs.Wrote.{job_wrote};
 
 use crate::job_end::JobEnd;
@@ -13,13 +12,12 @@ use crate::machine::Machine;
 use crate::replies::write_count;
 use pid_file::{FAILED, TextEnd, tell_end};
 use pid_http::{Routes, serve_with};
-use pid_http_listener::{Serving, ServingEnd, StreamServer, serve_on};
+use pid_http_listener::{Serving, ServingEnd, StreamServer};
 use pid_http_stream::Served;
 use pid_ident::{Input, Output, WriteFault, write_all};
 use pid_service::Registry;
 use sqlite::Alter;
 use std::alloc::Global;
-use std::net::TcpListener;
 
 /// The port that clients connect to, and the number of connections to serve, one after the other.
 #[derive(Clone, Copy)]
@@ -92,19 +90,20 @@ fn report<O: Output, F: Output>(serving: Serving, output: &mut O, faults: &mut F
     }
 }
 
-// Prints where it listens, gives the streams of so many connections to a server, one after the
-// other, and reports how many it was given. It knows nothing of the server, so it can't give it
-// none and count some, nor do anything with it but that.
-fn give_streams<S: StreamServer, O: Output, F: Output>(
-    alloc: Global,
-    listener: &TcpListener,
-    server: &mut S,
+// Prints where it listens, has the machine give streams to a server, and reports how many it gave.
+fn give_streams<M: Machine, T: StreamServer, O: Output, F: Output>(
+    machine: &mut M,
+    listener: &M::Listener,
+    server: &mut T,
     port: Port,
     output: &mut O,
     faults: &mut F,
 ) -> JobEnd
-    ensures goes { S.goes server.old server.new }
-    ensures gives { GivesStreams S.StreamServer (server.old, server.new) port (record {
+    ensures goes { T.goes server.old server.new }
+    ensures gives { GivesTo T.StreamServer (server.old, server.new) port (record {
+      before = M.asked machine.old;
+      after = M.asked machine.new;
+    }) (record {
       output = use_of O.Output output.old output.new;
       faults = use_of F.Output faults.old faults.new;
     }) result }
@@ -112,7 +111,7 @@ fn give_streams<S: StreamServer, O: Output, F: Output>(
     let number = u64::from(port.number);
     match write_count("listening on 127.0.0.1:", number, output) {
         Ok(()) => {
-            let serving = serve_on(alloc, listener, server, port.connections);
+            let serving = machine.serve(listener, server, port.connections);
             report(serving, output, faults)
         }
         Err(_) => JobEnd::FileFailed,
@@ -132,7 +131,7 @@ pub fn serve_registry<M: Machine, S: Alter + Drop, O: Output, F: Output>(
     faults: &mut F,
 ) -> JobEnd
     ensures goes { IsPartOfSession S.Store registry.old registry.new }
-    ensures serves { Serves O.Output port (is_live registry.new)
+    ensures serves { Serves S.Store O.Output port registry.old registry.new
         (job_wrote (output.old, output.new) (use_of F.Output faults.old faults.new)
         (M.asked machine.old, M.asked machine.new) result) }
 {
@@ -148,5 +147,5 @@ pub fn serve_registry<M: Machine, S: Alter + Drop, O: Output, F: Output>(
         registry,
         routes: &routes,
     };
-    give_streams(alloc, &listener, &mut server, port, output, faults)
+    give_streams(machine, &listener, &mut server, port, output, faults)
 }

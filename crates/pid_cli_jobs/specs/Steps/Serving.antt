@@ -6,12 +6,12 @@ use Rattle.std.specs.declared.net.socket_addr.SocketAddr.{SocketAddr}
 use Rattle.std.specs.Net.Addr.{ipv4_octets}
 use Rattle.std.specs.Net.Socket.{socket_ip, socket_port}
 use Rattle.pid_http_listener.specs.declared.server.StreamServer as servers
-use Rattle.pid_http_listener.specs.Streams.{IsGivenMore}
 use Rattle.pid_file.specs.Writing.{FailsWithin}
 use Rattle.pid_cli_jobs.specs.declared.job_end.JobEnd.{JobEnd}
 use Rattle.pid_cli_jobs.specs.declared.job_end.JobEnd.TheVariants.{FileFailed}
 use Rattle.pid_cli_jobs.specs.declared.serving.Port.{Port}
 use Rattle.pid_cli_jobs.specs.Lines.{Streams}
+use Rattle.pid_cli_jobs.specs.Machines.{InTurn, Openings}
 use Rattle.pid_cli_jobs.specs.Serving.{HasServed, listening_line}
 
 -- 127.0.0.1 (RFC 1122, 3.2.1.3) and this port: no other machine reaches it
@@ -21,16 +21,12 @@ pub record IsLoopback (address : SocketAddr) (port : ℕ) : Type 0 where
   pub octets : ipv4_octets ip ≡ 127 ∷ 0 ∷ 0 ∷ 1 ∷ []
   pub at_port : socket_port address ≡ port
 
-module _ {S : Type 0} (server : servers.Ghosts S) (change : S × S) where
-  -- After the line of where it listens a server was given streams, and it is reported how many:
-  -- just those that it counts, if it does.
-  pub record HasGiven (port : Port) (w : Streams) (end : JobEnd) : Type 0 where
-    pub served : HasServed port (server.live change.1) w end
-    pub given : IsGivenMore served.streams.serving.streams (server.given change.0)
-        (server.given change.1)
-
-  -- or that line did not go out whole, and it was given none
-  pub data GivesStreams (port : Port) (w : Streams) (end : JobEnd) : Type 0 where
+module _ {S R : Type 0} (server : servers.Ghosts S) (change : S × S) where
+  -- After the line of where it listens a server was given streams in turn, and it is reported how
+  -- many; or that line did not go out whole, and it was given none.
+  pub data GivesTo (port : Port) (asked : Openings R) (w : Streams) (end : JobEnd) : Type 0 where
     GaveNone : FailsWithin w.output (listening_line port.number) → w.faults.after ≡ w.faults.before
-        → end ≡ FileFailed → change.1 ≡ change.0 → GivesStreams port w end
-    Gave : HasGiven port w end → GivesStreams port w end
+        → asked.after ≡ asked.before → end ≡ FileFailed → change.1 ≡ change.0
+        → GivesTo port asked w end
+    Gave : HasServed (λ streams. InTurn server.answers change.0 streams change.1) port
+        (server.live change.1) asked w end → GivesTo port asked w end

@@ -23,8 +23,8 @@ returns-in-Err-Refused-clause-goes g c =
     one_call g.S.Store old new (import_sent asked c.import_from.result (is_live new))
     (c.clauses_meet_lives.ensures.imports old new asked c.import_from.result i.clean i.failed i.obeyed.holds)
 
-pub returns-clause-goes : goal.returns-clause-goes
-returns-clause-goes g c =
+pub returns-in-Err-Body-clause-goes : goal.returns-in-Err-Body-clause-goes
+returns-in-Err-Body-clause-goes g c =
     let old = c.args.registry.now in
     let new = c.import_from.new.self in
     let i = c.import_from.ensures in

@@ -7,12 +7,13 @@ pub returns-in-ReadFault-clause-ran : goal.returns-in-ReadFault-clause-ran
 returns-in-ReadFault-clause-ran g c = record {
   script = c.run_script.result;
   ends = file_ended c.run_script.result c.in-ReadFault.is;
-  rest = g.I.Input.to_come c.run_script.new.input;
   ran = c.run_script.ensures.script;
+  caught_up = c.run_script.ensures.caught_up;
+  ended = c.run_script.ensures.ended;
 }
 
-pub returns : goal.returns
-returns g c = record {
+pub returns-in_default : goal.returns-in_default
+returns-in_default g c = record {
   goes = record {
     calls = c.run_script.ensures.calls.calls;
     lead = c.run_script.ensures.calls.lead;
@@ -21,7 +22,9 @@ returns g c = record {
     script = c.run_script.result;
     ends = ap Told c.status.ensures
         ∙ status_ended c.run_script.result c.in_default.not-ReadFault c.in_default.not-WriteFault;
-    rest = g.I.Input.to_come c.run_script.new.input;
     ran = c.run_script.ensures.script;
+    caught_up = c.run_script.ensures.caught_up;
+    ended = c.run_script.ensures.ended;
   };
+  reads = c.run_script.ensures.goes;
 }

@@ -6,8 +6,8 @@ use Rattle.pid_cli_jobs.specs.Sessions.{Session, Unopened}
 use Rattle.pid_cli_jobs.proofs.Sessions.{opened_limit}
 use Rattle.pid_cli_jobs.proofs.jobs.work_on.Goals as goal
 
-pub returns-in-Ok : goal.returns-in-Ok
-returns-in-Ok g c = Session (record {
+pub returns-in-Ok-clause-works : goal.returns-in-Ok-clause-works
+returns-in-Ok-clause-works g c = Session (record {
   opened = c.in-Ok.registry;
   opens = subst (λ r. OpensTo g.S.Store c.args.conn r) c.in-Ok.is c.open.ensures.history;
   limit = opened_limit g.S.Store c.args.conn Store c.open.result c.in-Ok.registry c.in-Ok.is
@@ -18,8 +18,8 @@ returns-in-Ok g c = Session (record {
   hands = c.handed_back.ensures;
 })
 
-pub returns-in-Err : goal.returns-in-Err
-returns-in-Err g c = Unopened (record {
+pub returns-in-Err-clause-works : goal.returns-in-Err-clause-works
+returns-in-Err-clause-works g c = Unopened (record {
   fault = c.in-Err.fault;
   left = c.in-Err.field-0-1;
   opens = subst (λ r. OpensTo g.S.Store c.args.conn r) c.in-Err.is c.open.ensures.history;

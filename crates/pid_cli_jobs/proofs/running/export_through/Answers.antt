@@ -19,7 +19,7 @@ returns g c = record {
     };
     end = c.do_in_files-end.result;
   };
-  exports = c.do_in_files-end.ensures;
+  exports = c.do_in_files-end.ensures.does;
   begins = ap (writer_contents g.O.Write.contents) c.new-output.ensures.wraps;
   reports = (
     refl {a = use_of g.F.Output c.args.faults.now c.do_in_files-end.new.faults},

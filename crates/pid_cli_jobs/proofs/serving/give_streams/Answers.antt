@@ -13,19 +13,17 @@ returns-in-Ok-clause-gives g c =
     let w = use_of g.O.Output c.args.output.now c.write_count.new.output in
     let word = codes "listening on 127.0.0.1:" in
     Gave (record {
-      served = record {
-        between = w.after;
-        listens = subst (λ n. Appends w.before w.after (count_line word n)) c.from-number.ensures
-            (taken_whole w (count_line word c.from-number.result) c.write_count.result
-            c.in-Ok.field-0 c.in-Ok.is c.write_count.ensures.sent);
-        streams = record {
-          serving = c.serve_on-serving.result;
-          counted = c.serve_on-serving.ensures.streams;
-          lasts = c.serve_on-serving.ensures.live;
-          reports = c.report.ensures;
-        };
+      between = w.after;
+      listens = subst (λ n. Appends w.before w.after (count_line word n)) c.from-number.ensures
+          (taken_whole w (count_line word c.from-number.result) c.write_count.result
+          c.in-Ok.field-0 c.in-Ok.is c.write_count.ensures.sent);
+      streams = record {
+        serving = c.serve-serving.result;
+        counted = c.serve-serving.ensures.streams;
+        lasts = c.serve-serving.ensures.live;
+        given = c.serve-serving.ensures.gives;
+        reports = c.report.ensures;
       };
-      given = c.serve_on-serving.ensures.counted;
     })
 
 pub returns-in-Err-clause-gives : goal.returns-in-Err-clause-gives
@@ -36,5 +34,5 @@ returns-in-Err-clause-gives g c =
     (subst (λ n. FailsWithin w (count_line word n)) c.from-number.ensures
     (taken_in_part w (count_line word c.from-number.result) c.write_count.result
     c.in-Err.field-0 c.in-Err.is c.write_count.ensures.sent c.write_count.ensures.fault))
-    (refl {a = g.F.Output.taken c.args.faults.now}) (refl {a = FileFailed})
-    (refl {a = c.args.server.now})
+    (refl {a = g.F.Output.taken c.args.faults.now}) (refl {a = g.M.Machine.asked c.args.machine.now})
+    (refl {a = FileFailed}) (refl {a = c.args.server.now})

@@ -1,30 +1,45 @@
-use Rattle.std.specs.Prelude.{◌≡◌, true, Bool}
-use Rattle.std.proofs.Common.{ap, refl, rules, subst}
+use Rattle.std.specs.Prelude.{◌≡◌, true, List, Option}
+use Rattle.std.proofs.Common.{ap, refl, rules, subst, sym, ◌∙◌}
+use Rattle.sqlite_trees.specs.declared.store.Store.{Ghosts}
 use Rattle.pid_file.specs.declared.io.Output as outputs
+use Rattle.pid_http_listener.specs.Streams.{Exchange}
 use Rattle.pid_http_listener.specs.declared.server.StreamServer as servers
+use Rattle.pid_service.specs.declared.registry.Registry.{Registry}
+use Rattle.pid_service.specs.Registries.{is_live}
 use Rattle.pid_cli_jobs.specs.declared.job_end.JobEnd.TheVariants.{Told}
 use Rattle.pid_cli_jobs.specs.declared.serving.Port.{Port}
-use Rattle.pid_cli_jobs.specs.Machines.{PortAt}
-use Rattle.pid_cli_jobs.specs.Serving.{HasServed, Served, Serves, Unbound, Unheard, Unrouted}
-use Rattle.pid_cli_jobs.specs.Steps.Serving.{Gave, GaveNone, GivesStreams}
-use Rattle.pid_cli_jobs.specs.Wrote.{AsksOnce, Wrote, streams_of}
+use Rattle.pid_cli_jobs.specs.Machines.{AsksFor, Opening, PortAt}
+use Rattle.pid_cli_jobs.specs.Serving.{AnswersStream, Served, Serves, Unbound, Unheard, Unrouted}
+use Rattle.pid_cli_jobs.specs.Steps.Serving.{Gave, GaveNone, GivesTo}
+use Rattle.pid_cli_jobs.specs.Wrote.{Wrote, streams_of}
+use Rattle.pid_cli_jobs.proofs.Streams.{served_over}
 use Rattle.pid_cli_jobs.proofs.serving.serve_registry.Goals as goal
 
--- what was given to a server on a port is what is served there
-served : {S R W : Type 0} (server : servers.Ghosts S) (change : S × S) (writer : outputs.Ghosts W)
-    (port : Port) (w : Wrote R W) (live : Bool) → AsksOnce w (PortAt port.number true)
-    → server.live change.1 ≡ live → GivesStreams server change port (streams_of writer w) w.end
-    → Serves writer port live w
-served server change writer port w live asks same (GaveNone fails silent ends still) = Unheard asks fails silent ends
-served server change writer port w live asks same (Gave given) = Served asks
-    (subst (λ l. HasServed port l (streams_of writer w) w.end) same given.served)
+-- what was given to a server of a registry is what is served there
+served : {S R W T : Type 0} (store : Ghosts S) (server : servers.Ghosts T)
+    (held : T → Registry S store) (change : T × T) (new : Registry S store)
+    (writer : outputs.Ghosts W) (port : Port) (w : Wrote R W)
+    (between : Option (List (Opening R)))
+    → ((a b : T) (x : Exchange) → server.answers a b x → AnswersStream store (held a) (held b) x)
+    → ((a : T) → server.live a ≡ is_live (held a))
+    → held change.1 ≡ new
+    → AsksFor w.asked.before between (PortAt port.number true)
+    → GivesTo server change port (record w.asked { before = between }) (streams_of writer w) w.end
+    → Serves store writer port (held change.0) new w
+served store server held change new writer port w between each live is asks
+    (GaveNone fails silent still ends same) = Unheard
+    (subst (λ a. AsksFor w.asked.before a (PortAt port.number true)) (sym still) asks)
+    (sym is ∙ ap held same) fails silent ends
+served store server held change new writer port w between each live is asks (Gave given) =
+    subst (λ r. Serves store writer port (held change.0) r w) is (Served between asks
+    (served_over _ _ held each _ _ _ _ _ _ _ _ (live change.1) given))
 
 pub returns-in_default-clause-serves : goal.returns-in_default-clause-serves
-returns-in_default-clause-serves g c = Unbound c.in_default.ensures refl
+returns-in_default-clause-serves g c = Unbound c.in_default.ensures refl refl
     c.tell_socket.ensures.told c.tell_socket.ensures.ends
 
 pub returns-in_default-new-clause-serves : goal.returns-in_default-new-clause-serves
-returns-in_default-new-clause-serves g c = Unrouted c.in-Some.ensures (record {
+returns-in_default-new-clause-serves g c = Unrouted c.in-Some.ensures refl (record {
   silent = refl;
   told = c.tell_end.ensures.told;
   ends = ap Told c.tell_end.ensures.status;
@@ -33,4 +48,5 @@ returns-in_default-new-clause-serves g c = Unrouted c.in-Some.ensures (record {
 pub returns-clause-serves : goal.returns-clause-serves
 returns-clause-serves g c =
     let name = c.give_streams.ensures.goes.0 in
-    served _ _ g.O.Output c.args.port _ _ c.in-Some.ensures (search rules) c.give_streams.ensures.gives
+    served g.S.Store _ (λ s. s.registry.now) _ _ g.O.Output c.args.port _ _ (λ a b x answers. answers)
+    (λ a. refl) (search rules) c.in-Some.ensures c.give_streams.ensures.gives
