@@ -3,6 +3,7 @@ pub mod Applies
 pub mod Bringing
 pub mod Clauses
 pub mod Found
+pub mod Gathering
 pub mod Making
 pub mod ImportClauses
 pub mod Importing

@@ -1,5 +1,5 @@
 //! The facts that a command is judged by.
-ghost use Rattle.std.specs.Prelude.{◌≡◌, false, length, None};
+ghost use Rattle.std.specs.Prelude.{◌≡◌, false, length};
 ghost use Rattle.pid_ident.specs.PathReading.{parent_text};
 ghost use Rattle.pid_ident.specs.PathTexts.{path_text};
 ghost use Rattle.pid_moderation.specs.FactsOfViews.{
@@ -7,15 +7,17 @@ ghost use Rattle.pid_moderation.specs.FactsOfViews.{
   named as named_in,
   known as known_of,
   looked_at,
+  with_item_facts,
   facts_at,
 };
 ghost use Rattle.pid_moderation.specs.Items.{name_at, holds_parent, has_children as are_children};
 ghost use Rattle.pid_moderation.specs.Wants.{wanted_by};
 ghost use Rattle.pid_moderation.specs.WellMade.{AllItems, HoldsParents};
 ghost use Rattle.pid_tables_rows.specs.Clauses.{Reads};
+ghost use Rattle.pid_tables.specs.Steps.Gathering.{bare};
 
 use pid_ident::{Account, Key, Name, Path, PathText};
-use pid_moderation::{Facts, Named, Reply, Rows};
+use pid_moderation::{Facts, Named, Rank, Reply, Rows};
 use pid_tables_rows::TableFault;
 use pid_tables_rows::account::rank;
 use pid_tables_rows::item::{has_children, item_name};
@@ -25,7 +27,6 @@ use pid_tables_rows::remark::remark_count;
 use pid_tables_rows::submission::standing;
 use sqlite::{Alter, Connection};
 use std::alloc::Global;
-use std::mem::replace;
 
 fn kept<S: Alter>(
     conn: &mut Connection<S>,
@@ -42,31 +43,55 @@ fn kept<S: Alter>(
     }
 }
 
+// What is known of every command.
+#[derive(Clone, Copy)]
+struct KnownFacts {
+    rank: Option<Rank>,
+    kept: Option<Reply>,
+    revision: u64,
+}
+
 fn known<S: Alter>(
     conn: &mut Connection<S>,
     account: &Account,
     key: &Option<Key>,
-) -> Result<Facts, TableFault>
+) -> Result<KnownFacts, TableFault>
     requires { conn.old.in_transaction ≡ false }
     ensures { Reads S.Store conn.old conn.new result
-        (λ v facts. facts ≡ known_of v account.now key.now) }
+        (λ v known. bare known ≡ known_of v account.now key.now) }
 {
     let rank = rank(conn, account.as_str())?;
     let revision = revision(conn)?;
     let kept = kept(conn, account, key)?;
-    Ok(Facts {
+    Ok(KnownFacts {
         rank,
         kept,
         revision,
-        who: None,
-        submissions: 0,
+    })
+}
+
+// The facts of a command that is no approval.
+fn plain_facts(
+    known: KnownFacts,
+    who: Option<Rank>,
+    submissions: u32,
+    named: Option<Named>,
+) -> Facts
+    ensures { result ≡ record (bare known) { who = who; submissions = submissions; named = named } }
+{
+    Facts {
+        rank: known.rank,
+        kept: known.kept,
+        revision: known.revision,
+        who,
+        submissions,
         items: 0,
-        named: None,
+        named,
         present: None,
         has_parent: false,
         has_children: false,
         file: None,
-    })
+    }
 }
 
 fn named<S: Alter>(
@@ -89,22 +114,6 @@ fn named<S: Alter>(
         })),
         Err(fault) => Err(fault),
     }
-}
-
-fn add_named<S: Alter>(
-    conn: &mut Connection<S>,
-    alloc: Global,
-    number: u32,
-    facts: &mut Facts,
-) -> Result<(), TableFault>
-    requires { conn.old.in_transaction ≡ false }
-    ensures { Reads S.Store conn.old conn.new result
-        (λ v _. facts.new ≡ record facts.old { named = named_in v number }) }
-{
-    let found = named(conn, alloc, number)?;
-    // What was there is dropped in one call.
-    drop(replace(&mut facts.named, found));
-    Ok(())
 }
 
 /// The name of the item at a path.
@@ -139,60 +148,107 @@ fn has_parent<S: Alter>(
     }
 }
 
-// Adds what the item at the path of the submission is.
-fn add_item<S: Alter>(
+// What the item at the path of a submission is, and how many items there are.
+#[derive(Drop)]
+struct Place {
+    items: u32,
+    present: Option<Name>,
+    has_parent: bool,
+    has_children: bool,
+}
+
+fn place_at<S: Alter>(
     conn: &mut Connection<S>,
     alloc: Global,
     path: Path,
-    facts: &mut Facts,
-) -> Result<(), TableFault>
+) -> Result<Place, TableFault>
     requires { conn.old.in_transaction ≡ false }
     ensures { Reads S.Store conn.old conn.new result
-        (λ v _. AllItems v.items → HoldsParents v.items
-        → facts.new ≡ record facts.old {
+        (λ v place. AllItems v.items → HoldsParents v.items
+        → place ≡ record {
           items = length v.items;
           present = name_at (path_text path) v.items;
           has_parent = holds_parent (parent_text (path_text path)) v.items;
           has_children = are_children (path_text path) v.items;
         }) }
 {
-    facts.items = items(conn)?;
-    facts.has_parent = has_parent(conn, alloc, path)?;
-    facts.has_children = has_children(conn, alloc, path)?;
-    facts.present = name_of(conn, alloc, &path)?;
-    Ok(())
+    let items = items(conn)?;
+    let has_parent = has_parent(conn, alloc, path)?;
+    let has_children = has_children(conn, alloc, path)?;
+    match name_of(conn, alloc, &path) {
+        Ok(present) => Ok(Place {
+            items,
+            present,
+            has_parent,
+            has_children,
+        }),
+        Err(fault) => Err(fault),
+    }
 }
 
-// Adds what `rows` names to facts that have none of it.
-fn add_rows<S: Alter>(
+// The facts of an approval.
+fn item_facts<S: Alter>(
+    conn: &mut Connection<S>,
+    alloc: Global,
+    number: u32,
+    known: KnownFacts,
+) -> Result<Facts, TableFault>
+    requires { conn.old.in_transaction ≡ false }
+    ensures { Reads S.Store conn.old conn.new result
+        (λ v facts. AllItems v.items → HoldsParents v.items
+        → facts ≡ with_item_facts v (named_in v number) (bare known)) }
+{
+    match named(conn, alloc, number)? {
+        None => Ok(plain_facts(known, None, 0, None)),
+        Some(named) => match place_at(conn, alloc, named.path) {
+            Ok(place) => Ok(Facts {
+                rank: known.rank,
+                kept: known.kept,
+                revision: known.revision,
+                who: None,
+                submissions: 0,
+                items: place.items,
+                named: Some(named),
+                present: place.present,
+                has_parent: place.has_parent,
+                has_children: place.has_children,
+                file: None,
+            }),
+            Err(fault) => {
+                drop(named);
+                Err(fault)
+            }
+        },
+    }
+}
+
+// The facts by what is known and the rows that are named.
+fn with_rows<S: Alter>(
     conn: &mut Connection<S>,
     alloc: Global,
     rows: Rows<'_>,
-    facts: &mut Facts,
-) -> Result<(), TableFault>
+    known: KnownFacts,
+) -> Result<Facts, TableFault>
     requires { conn.old.in_transaction ≡ false }
     ensures { Reads S.Store conn.old conn.new result
-        (λ v _. facts.old.named ≡ None → AllItems v.items → HoldsParents v.items
-        → facts.new ≡ looked_at v (wanted_by rows.entry) facts.old) }
+        (λ v facts. AllItems v.items → HoldsParents v.items
+        → facts ≡ looked_at v (wanted_by rows.entry) (bare known)) }
 {
     match rows {
         Rows::Rank(who) => {
-            facts.who = rank(conn, who.as_str())?;
-            Ok(())
+            let who = rank(conn, who.as_str())?;
+            Ok(plain_facts(known, who, 0, None))
         }
         Rows::Submissions => {
-            facts.submissions = submissions(conn)?;
-            Ok(())
+            let submissions = submissions(conn)?;
+            Ok(plain_facts(known, None, submissions, None))
         }
-        Rows::Submission(number) => add_named(conn, alloc, number, facts),
-        Rows::Item(number) => {
-            add_named(conn, alloc, number, facts)?;
-            match &facts.named {
-                None => Ok(()),
-                Some(named) => add_item(conn, alloc, named.path, facts),
-            }
+        Rows::Submission(number) => {
+            let named = named(conn, alloc, number)?;
+            Ok(plain_facts(known, None, 0, named))
         }
-        Rows::Nothing => Ok(()),
+        Rows::Item(number) => item_facts(conn, alloc, number, known),
+        Rows::Nothing => Ok(plain_facts(known, None, 0, None)),
     }
 }
 
@@ -209,12 +265,6 @@ pub(crate) fn gather_facts<S: Alter>(
         (λ v facts. AllItems v.items → HoldsParents v.items
         → facts ≡ facts_at v account.now key.now (wanted_by rows.entry)) }
 {
-    let mut facts = known(conn, account, key)?;
-    match add_rows(conn, alloc, rows, &mut facts) {
-        Ok(()) => Ok(facts),
-        Err(fault) => {
-            drop(facts);
-            Err(fault)
-        }
-    }
+    let known = known(conn, account, key)?;
+    with_rows(conn, alloc, rows, known)
 }

@@ -1,16 +1,13 @@
-use Rattle.std.proofs.Common.{Err, refl, ap, ◌∙◌}
-use Rattle.pid_moderation.specs.declared.facts.Facts.{Facts}
+use Rattle.std.proofs.Common.{ap, ◌∙◌}
 use Rattle.pid_moderation.specs.FactsOfViews.{looked_at}
 use Rattle.pid_moderation.specs.Wants.{wanted_by}
-use Rattle.pid_tables.proofs.ThenReads.{fault_after, value_after}
+use Rattle.pid_tables.proofs.ThenReads.{answer_after, fault_first}
 use Rattle.pid_tables.proofs.gather.gather_facts.Goals as goal
 
-pub returns-in-Ok : goal.returns-in-Ok
-returns-in-Ok g c =
-    value_after g.S.Store c.args.conn.now c.known.new.conn c.add_rows.new.conn c.known.ensures.rests _ _ c.in-Ok.ensures
-    (λ clean v rest says all parents.
-    let known = c.in_ok-facts.ensures.told clean v rest in
-    says (ap (λ (f : Facts). f.named) known) all parents ∙ ap (λ f. looked_at v (wanted_by c.args.rows) f) known)
+pub returns : goal.returns
+returns g c =
+    answer_after g.S.Store c.args.conn.now c.known.new.conn c.with_rows.new.conn c.known.ensures.rests c.with_rows.result c.with_rows.ensures
+    (λ clean v rest x says all parents. says all parents ∙ ap (looked_at v (wanted_by c.args.rows)) (c.in_ok-known.ensures.told clean v rest))
 
-pub returns-in-Err : goal.returns-in-Err
-returns-in-Err g c = fault_after g.S.Store c.args.conn.now c.known.new.conn c.add_rows.new.conn c.known.ensures.rests c.in-Err.fault (Err c.in-Err.fault) refl c.in-Err.ensures
+pub returns-in_err-known : goal.returns-in_err-known
+returns-in_err-known g c = fault_first g.S.Store c.args.conn.now c.known.new.conn c.in_err-known.field-0.0 c.from_residual.result c.from_residual.ensures.1 c.in_err-known.ensures
