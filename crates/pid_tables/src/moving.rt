@@ -1,30 +1,26 @@
 //! The tables of schema 1 become those of schema 2, inside a transaction.
-ghost use Rattle.std.specs.Prelude.{◌≡◌, IfErr, MatchResult, IsTrue};
-ghost use Rattle.pid_moderation.specs.Views.{Views};
-ghost use Rattle.pid_tables_rows.specs.declared.version.Version.TheVariants.{One};
-ghost use Rattle.pid_tables_rows.specs.Faults.{IsMemoryOrStore, IsNotNewerSchema};
-ghost use Rattle.pid_tables_rows.specs.Steps.Moving.{IsBetween};
-ghost use Rattle.pid_tables_rows.specs.Shows.{Counts, ShowsKeeping, ShowsCounting, numbers_in};
-ghost use Rattle.pid_tables_rows.specs.Clauses.{GoesOn, HasCleanDisk, is_open, seen};
+ghost use Rattle.std.specs.Prelude.{◌≡◌, IfErr};
+ghost use Rattle.pid_tables_rows.specs.Faults.{IsNotNewerSchema};
+ghost use Rattle.pid_tables_rows.specs.Clauses.{GoesOn};
 ghost use Rattle.pid_tables.specs.Statements.{move_statements};
 ghost use Rattle.pid_tables.specs.Steps.Clauses.{Moves};
-ghost use Rattle.pid_tables.specs.Steps.Making.{CarriesOut, raise_statements, since_statements};
+ghost use Rattle.pid_tables.specs.Steps.Making.{CarriesOut};
 
 use pid_tables_rows::TableFault;
 use pid_tables_rows::run::write_one;
 use sqlite::types::ToSql;
 use sqlite::{Alter, Transaction};
 
-// Makes the seventh table, where each item has the number 0.
-fn add_table<S: Alter>(tx: &mut Transaction<'_, S>) -> Result<(), TableFault>
+/// Makes tables of schema 1 those of schema 2: a table of the numbers of changes, where each item
+/// has 0, and the revision, which is 0. What the six tables show stays. The caller knows that the
+/// tables are of schema 1: if they have a table, a view or an index of the new table's name, it
+/// is refused with `Damaged` or `Store`.
+pub(crate) fn move_tables<S: Alter>(tx: &mut Transaction<'_, S>) -> Result<(), TableFault>
     ensures same_reference { tx.new.conn.ghost_name ≡ tx.old.conn.ghost_name }
     ensures goes { GoesOn S.Store tx.old.conn.now tx.new.conn.now result }
     ensures never { IfErr result IsNotNewerSchema }
-    ensures added { HasCleanDisk S.Store tx.new.conn.now → IsTrue tx.old.conn.now.in_transaction
-        → (c : Counts) (v : Views) → (IsTrue (is_open S.Store tx.old.conn.now)
-        → ShowsKeeping One c (numbers_in v) (seen S.Store tx.old.conn.now) v)
-        → MatchResult result (λ _. IsBetween c (seen S.Store tx.new.conn.now) v) IsMemoryOrStore }
-    ensures carried { CarriesOut S.Store tx.old.conn.now tx.new.conn.now result since_statements }
+    ensures shows { Moves S.Store tx.old.conn.now tx.new.conn.now result }
+    ensures carried { CarriesOut S.Store tx.old.conn.now tx.new.conn.now result move_statements }
 {
     write_one(
         tx,
@@ -36,20 +32,7 @@ fn add_table<S: Alter>(tx: &mut Transaction<'_, S>) -> Result<(), TableFault>
         tx,
         "INSERT INTO item_since (path, since) SELECT path, 0 FROM item",
         &[],
-    )
-}
-
-// Adds the label of the revision, which is 0, and raises the number of the schema.
-fn raise_labels<S: Alter>(tx: &mut Transaction<'_, S>) -> Result<(), TableFault>
-    ensures same_reference { tx.new.conn.ghost_name ≡ tx.old.conn.ghost_name }
-    ensures goes { GoesOn S.Store tx.old.conn.now tx.new.conn.now result }
-    ensures never { IfErr result IsNotNewerSchema }
-    ensures raised { HasCleanDisk S.Store tx.new.conn.now → IsTrue tx.old.conn.now.in_transaction
-        → (c : Counts) (v : Views) → IsBetween c (seen S.Store tx.old.conn.now) v
-        → MatchResult result (λ _. ShowsCounting c
-        (seen S.Store tx.new.conn.now) v) IsMemoryOrStore }
-    ensures carried { CarriesOut S.Store tx.old.conn.now tx.new.conn.now result raise_statements }
-{
+    )?;
     let revision = "revision".to_sql();
     let none = 0u32.to_sql();
     write_one(
@@ -64,19 +47,4 @@ fn raise_labels<S: Alter>(tx: &mut Transaction<'_, S>) -> Result<(), TableFault>
         "UPDATE meta SET value = ?2 WHERE label = ?1",
         &[schema, two],
     )
-}
-
-/// Makes tables of schema 1 those of schema 2: a table of the numbers of changes, where each item
-/// has 0, and the revision, which is 0. What the six tables show stays. The caller knows that the
-/// tables are of schema 1: if they have a table, a view or an index of the new table's name, it
-/// is refused with `Damaged` or `Store`.
-pub(crate) fn move_tables<S: Alter>(tx: &mut Transaction<'_, S>) -> Result<(), TableFault>
-    ensures same_reference { tx.new.conn.ghost_name ≡ tx.old.conn.ghost_name }
-    ensures goes { GoesOn S.Store tx.old.conn.now tx.new.conn.now result }
-    ensures never { IfErr result IsNotNewerSchema }
-    ensures shows { Moves S.Store tx.old.conn.now tx.new.conn.now result }
-    ensures carried { CarriesOut S.Store tx.old.conn.now tx.new.conn.now result move_statements }
-{
-    add_table(tx)?;
-    raise_labels(tx)
 }

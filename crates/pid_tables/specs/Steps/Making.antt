@@ -51,14 +51,6 @@ label_statements = (new_label_text, Text (codes "revision") ∷ number 0 ∷ [])
     ∷ (new_label_text, Text (codes "items") ∷ number 0 ∷ [])
     ∷ (new_label_text, Text (codes "schema") ∷ number 2 ∷ []) ∷ []
 
--- those of a move that make the table of the numbers of changes, and those that change labels
-abbrev pub since_statements : List Statement
-since_statements = (texts.item_since_text, []) ∷ (texts.item_since_rows_text, []) ∷ []
-
-abbrev pub raise_statements : List Statement
-raise_statements = (new_label_text, Text (codes "revision") ∷ number 0 ∷ [])
-    ∷ (texts.label_text, Text (codes "schema") ∷ number 2 ∷ []) ∷ []
-
 -- the one that adds the account
 abbrev pub root_statement : Statement
 root_statement = (new_account_text, Text (codes "root") ∷ number 3 ∷ [])
