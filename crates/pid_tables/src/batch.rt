@@ -25,11 +25,7 @@ ghost use Rattle.pid_moderation.specs.Changes.{
 };
 ghost use Rattle.pid_tables_rows.specs.Faults.{IsMemoryOrStore};
 ghost use Rattle.pid_tables_rows.specs.Shows.{Counts, Shows, counts_of};
-ghost use Rattle.pid_tables_rows.specs.Writes.{
-  with_rank,
-  with_revision,
-  with_submission,
-};
+ghost use Rattle.pid_tables_rows.specs.Writes.{with_rank, with_submission};
 ghost use Rattle.pid_tables.specs.Applies.{CountsFit};
 ghost use Rattle.pid_tables.specs.Steps.Applies.{recounted, turn_of};
 ghost use Rattle.pid_tables.specs.Steps.Clauses.{WritesChange};
@@ -129,27 +125,6 @@ fn edit_item<S: Alter>(
     }
 }
 
-fn write_item<S: Alter>(
-    batch: &mut Batch<'_, S>,
-    alloc: Global,
-    write: &Write,
-    revision: u64,
-) -> Result<(), TableFault>
-    ensures same_reference { batch.new.conn.ghost_name ≡ batch.old.conn.ghost_name }
-    ensures goes { GoesOn S.Store batch.old.conn.now batch.new.conn.now result }
-    ensures shows { LeadsTo S.Store batch.old.conn.now batch.new.conn.now result
-        (record {
-          IsFor = λ c v. FitsEdit write.now.edit (name_at (path_text write.now.path) v.items);
-          recount = λ c. record c { items = write.now.items };
-          next = λ v. with_items revision
-              (edited (path_text write.now.path) write.now.edit v.items) v;
-        }) }
-{
-    let path = write.path.path_text(alloc)?;
-    edit_item(batch, path.as_str(), &write.edit, revision)?;
-    count_items(batch, write.items)
-}
-
 fn decision<S: Alter>(
     batch: &mut Batch<'_, S>,
     alloc: Global,
@@ -170,7 +145,11 @@ fn decision<S: Alter>(
     decide(batch, number, state)?;
     match write {
         None => Ok(()),
-        Some(write) => write_item(batch, alloc, write, revision),
+        Some(write) => {
+            let path = write.path.path_text(alloc)?;
+            edit_item(batch, path.as_str(), &write.edit, revision)?;
+            count_items(batch, write.items)
+        }
     }
 }
 
@@ -210,21 +189,6 @@ fn write_effect<S: Alter>(
     }
 }
 
-fn write_counted<S: Alter>(
-    batch: &mut Batch<'_, S>,
-    alloc: Global,
-    effect: &Effect,
-    revision: u64,
-) -> Result<(), TableFault>
-    ensures same_reference { batch.new.conn.ghost_name ≡ batch.old.conn.ghost_name }
-    ensures goes { GoesOn S.Store batch.old.conn.now batch.new.conn.now result }
-    ensures shows { LeadsTo S.Store batch.old.conn.now batch.new.conn.now result
-        (turn_of effect.now (λ v. with_revision revision (affected revision effect.now v))) }
-{
-    write_effect(batch, alloc, effect, revision)?;
-    set_revision(batch, revision)
-}
-
 fn write_change<S: Alter>(
     batch: &mut Batch<'_, S>,
     alloc: Global,
@@ -234,7 +198,8 @@ fn write_change<S: Alter>(
     ensures goes { GoesOn S.Store batch.old.conn.now batch.new.conn.now result }
     ensures shows { WritesChange S.Store batch.old.conn.now batch.new.conn.now result change.now }
 {
-    write_counted(batch, alloc, &change.effect, change.revision)?;
+    write_effect(batch, alloc, &change.effect, change.revision)?;
+    set_revision(batch, change.revision)?;
     match &change.receipt {
         None => Ok(()),
         Some(receipt) => keep_reply(batch, &receipt.account, &receipt.key, receipt.reply),
