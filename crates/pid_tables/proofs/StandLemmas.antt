@@ -1,5 +1,5 @@
 -- What stands in a database, as reads tell it.
-use Rattle.std.proofs.Common.{◌≡◌, ◌↔◌, ◌≤◌, ℕ, arith, inl, inr, true, false, Bool, [], ◌∷◌, ◌++◌, None, Some, Option, Ok, Err, Result, IfErr, IfOk, MatchResult, IsTrue, codes, refl, sym, ap, subst}
+use Rattle.std.proofs.Common.{◌≡◌, ◌↔◌, ◌≤◌, ℕ, arith, inl, inr, false, [], ◌∷◌, ◌++◌, None, Some, Option, Ok, Err, Result, IfErr, MatchResult, IsTrue, codes, refl, sym, ap, subst}
 use Rattle.std.proofs.lemmas.Bool.{cases_Bool}
 use Rattle.std.proofs.lemmas.List.Sorted.{IsPermutation-sym}
 use Rattle.sqlite.specs.Effect.{Database}
@@ -90,11 +90,6 @@ good_found version s v (Err e) rest good shut stored = elim (cases_Bool s.is_ope
 ]
 
 -- ---- what the labels name
-
--- what they name behind reads they named before
-pub named_before : (mid old : Database) (r : Result Bool TableFault) → mid ≡ old → IfOk r (λ is. is ≡ true → NamesLatest mid) → IfOk r (λ is. is ≡ true → NamesLatest old)
-named_before mid old (Ok is) same named = λ latest. subst NamesLatest same (named latest)
-named_before mid old (Err e) same named = named
 
 -- a row of meta that is shown as a label is one
 label_shown : (trees : Trees) (n : ℕ) → Has (rows_in trees).meta (label_row (codes "schema", n)) → HasLabel trees (codes "schema") n

@@ -33,7 +33,7 @@ ghost use Rattle.pid_tables.specs.Clauses.{
 ghost use Rattle.pid_tables.specs.Statements.{Carries, move_statements};
 ghost use Rattle.pid_tables.specs.Steps.Clauses.{FindsShown};
 ghost use Rattle.pid_tables.specs.Bringing.{NamesLatest};
-ghost use Rattle.pid_tables.specs.Steps.Bringing.{IsStanding, TellsLatest, is_latest, step_for};
+ghost use Rattle.pid_tables.specs.Steps.Bringing.{IsStanding, is_latest, step_for};
 ghost use Rattle.pid_tables.specs.Steps.Found.{BringsFound};
 
 use crate::batch::commit;
@@ -56,23 +56,7 @@ pub enum Step {
     Already,
 }
 
-// Whether the labels name schema 2. Labels that cannot be read name none.
-fn names_latest<S: Alter>(conn: &mut Connection<S>) -> Result<bool, TableFault>
-    requires { conn.old.in_transaction ≡ false }
-    ensures rests { OnlyReads S.Store conn.old conn.new }
-    ensures shown { HasCleanDisk S.Store conn.new → TellsLatest (seen S.Store conn.old) result }
-    ensures named { HasCleanDisk S.Store conn.new
-        → IfOk result (λ is. is ≡ true → NamesLatest (seen S.Store conn.old)) }
-    ensures untold { IfErr result IsMemoryOrStore }
-{
-    match schema_number(conn) {
-        Ok(number) => Ok(number == 2),
-        Err(TableFault::Damaged) => Ok(false),
-        Err(fault) => Err(fault),
-    }
-}
-
-// Whether there are tables, and their labels name schema 2.
+// Whether there are tables, and their labels name schema 2. Labels that cannot be read name none.
 fn is_current<S: Alter>(conn: &mut Connection<S>) -> Result<bool, TableFault>
     requires { conn.old.in_transaction ≡ false }
     ensures rests { OnlyReads S.Store conn.old conn.new }
@@ -90,10 +74,13 @@ fn is_current<S: Alter>(conn: &mut Connection<S>) -> Result<bool, TableFault>
     ensures untold { IfErr result IsMemoryOrStore }
 {
     pid_tables_check::laws::schemas_have_tables(); // proof only
-    if has_some_table(conn)? {
-        names_latest(conn)
-    } else {
-        Ok(false)
+    if !has_some_table(conn)? {
+        return Ok(false);
+    }
+    match schema_number(conn) {
+        Ok(number) => Ok(number == 2),
+        Err(TableFault::Damaged) => Ok(false),
+        Err(fault) => Err(fault),
     }
 }
 

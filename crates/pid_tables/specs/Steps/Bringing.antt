@@ -1,6 +1,6 @@
 -- What is in a database that is to be moved to schema 2, and which step that takes.
 use Rattle.std.specs.Prelude.{◌≡◌, Bool, true, false, Option, None, Some}
-use Rattle.std.specs.Prelude.{Result, IfOk, MatchResult}
+use Rattle.std.specs.Prelude.{Result, MatchResult}
 use Rattle.sqlite.specs.Effect.{Database}
 use Rattle.sqlite.specs.State.{State, HasCleanDisk}
 use Rattle.pid_moderation.specs.History.{History}
@@ -11,7 +11,6 @@ use Rattle.pid_tables_rows.specs.declared.version.Version.{Version}
 use Rattle.pid_tables_rows.specs.declared.version.Version.TheVariants.{One, Two}
 use Rattle.pid_tables_rows.specs.Faults.{IsMemoryOrStore}
 use Rattle.pid_tables_rows.specs.Leaves.{RestsIn}
-use Rattle.pid_tables_rows.specs.Shows.{Counts, Numbers, ShowsKeeping}
 use Rattle.pid_tables_check.specs.Checking.{FindsVersion}
 use Rattle.pid_tables_check.specs.Shapes.{HasNoTable}
 use Rattle.pid_tables.specs.Bringing.{NamesLatest}
@@ -22,11 +21,6 @@ use Rattle.pid_tables.specs.declared.migration.Step.TheVariants.{Created, Moved,
 abbrev pub is_latest : Version → Bool
 is_latest One = false
 is_latest Two = true
-
--- if views are shown, the answer is whether they are shown in that schema
-abbrev pub TellsLatest : Database → Result Bool TableFault → Type 0
-TellsLatest db result = (version : Version) (counts : Counts) (numbers : Numbers) (v : Views)
-    → ShowsKeeping version counts numbers db v → IfOk result (λ is. is ≡ is_latest version)
 
 -- the step that is made if this is there
 abbrev pub step_for : Option Version → Step

@@ -1,37 +1,49 @@
-use Rattle.std.proofs.Common.{refl, sym, subst, ◌∙◌}
+use Rattle.std.proofs.Common.{inl, codes, refl, sym, subst, ◌∙◌}
 use Rattle.std.proofs.lemmas.Bool.{true≢false, false≢true}
 use Rattle.sqlite.specs.Effect.{Database}
+use Rattle.sqlite.specs.Held.{state}
 use Rattle.pid_tables_rows.specs.Faults.{IsMemoryOrStore}
+use Rattle.pid_tables_rows.specs.LabelRows.{ExplainsNumber}
 use Rattle.pid_tables_rows.specs.Shows.{ShowsKeeping}
 use Rattle.pid_tables_rows.proofs.CauseLemmas.{passed_from}
 use Rattle.pid_tables_rows.proofs.OnlyReading.{reads_then}
 use Rattle.pid_tables_check.specs.Shapes.{HasSomeTable}
-use Rattle.pid_tables.proofs.MoveLemmas.{known, not_ok, not_on_ok}
-use Rattle.pid_tables.proofs.StandLemmas.{tables_some, named_before}
+use Rattle.pid_tables.specs.Bringing.{NamesLatest}
+use Rattle.pid_tables.proofs.MoveLemmas.{not_ok, not_on_ok}
+use Rattle.pid_tables.proofs.SchemaNumbers.{schema_told, schema_there, second_is_latest, shown_second}
+use Rattle.pid_tables.proofs.StandLemmas.{exactly_first, names_latest, tables_some}
 use Rattle.pid_tables.proofs.migration.is_current.Goals as goal
 
-pub returns-then-branch-clause-shown : goal.returns-then-branch-clause-shown
-returns-then-branch-clause-shown g c clean version counts numbers v shows =
-    let found = c.in_ok-has_some_table.ensures in
-    let early = c.names_latest.ensures.rests.clean clean in
-    c.names_latest.ensures.shown clean version counts numbers v (subst (λ (d : Database). ShowsKeeping version counts numbers d v) (sym (found.same early)) (shows (found.was_open early)))
-
-pub returns-else-branch-clause-shown : goal.returns-else-branch-clause-shown
-returns-else-branch-clause-shown g c clean version counts numbers v shows =
+pub returns-then-not-branch-clause-shown : goal.returns-then-not-branch-clause-shown
+returns-then-not-branch-clause-shown g c clean version counts numbers v shows =
     let found = c.in_ok-has_some_table.ensures in
     let some = tables_some version _ (c.schemas_have_tables.ensures.tables version) in
     let on = (found.asked clean).1 (subst HasSomeTable (sym (shows (found.was_open clean)).schema) some) in
-    absurd (true≢false (sym on ∙ c.if-branch.false))
+    absurd (true≢false (sym on ∙ c.if-not-branch.true))
 
-pub returns-then-branch-clause-bare : goal.returns-then-branch-clause-bare
-returns-then-branch-clause-bare g c clean none =
-    let early = c.names_latest.ensures.rests.clean clean in
-    absurd (none ((c.in_ok-has_some_table.ensures.asked early).0 c.if-branch.true))
+pub returns-in-Ok-clause-shown : goal.returns-in-Ok-clause-shown
+returns-in-Ok-clause-shown g c clean version counts numbers v shows =
+    let found = c.in_ok-has_some_table.ensures in
+    let early = c.schema_number.ensures.reads.rests.clean clean in
+    let db = (state g.S.Store c.has_some_table.new.conn).now in
+    let there = subst (λ (d : Database). ShowsKeeping version counts numbers d v) (sym (found.same early)) (shows (found.was_open early)) in
+    second_is_latest version c.in-Ok.number (schema_told db v there c.in-Ok.number (c.in-Ok.ensures.stored clean (exactly_first version db.schema there.schema)))
 
-pub returns-then-branch-clause-named : goal.returns-then-branch-clause-named
-returns-then-branch-clause-named g c clean =
-    let early = c.names_latest.ensures.rests.clean clean in
-    named_before _ _ c.names_latest.result (c.in_ok-has_some_table.ensures.same early) (c.names_latest.ensures.named clean)
+pub returns-in-Err-Damaged-clause-shown : goal.returns-in-Err-Damaged-clause-shown
+returns-in-Err-Damaged-clause-shown g c clean version counts numbers v shows =
+    let found = c.in_ok-has_some_table.ensures in
+    let early = c.schema_number.ensures.reads.rests.clean clean in
+    let db = (state g.S.Store c.has_some_table.new.conn).now in
+    let there = subst (λ (d : Database). ShowsKeeping version counts numbers d v) (sym (found.same early)) (shows (found.was_open early)) in
+    absurd (schema_there db v there (subst (ExplainsNumber db.trees (codes "schema")) c.in-Err-Damaged.field-0-is (c.in-Err-Damaged.ensures.stored clean (exactly_first version db.schema there.schema))))
+
+pub returns-in-Ok-clause-named : goal.returns-in-Ok-clause-named
+returns-in-Ok-clause-named g c clean is =
+    let db = (state g.S.Store c.has_some_table.new.conn).now in
+    subst NamesLatest (c.in_ok-has_some_table.ensures.same (c.schema_number.ensures.reads.rests.clean clean)) (names_latest db (inl (shown_second db c.in-Ok.number is (c.in-Ok.ensures.shown clean))))
+
+pub returns-in-Ok-clause-bare : goal.returns-in-Ok-clause-bare
+returns-in-Ok-clause-bare g c clean none = absurd (none ((c.in_ok-has_some_table.ensures.asked (c.schema_number.ensures.reads.rests.clean clean)).0 c.if-not-branch.false))
 
 -- ---- what goes through
 
@@ -53,23 +65,32 @@ returns-in_err-has_some_table-clause-was_open g c clean = not_on_ok c.from_resid
 pub returns-in_err-has_some_table-clause-untold : goal.returns-in_err-has_some_table-clause-untold
 returns-in_err-has_some_table-clause-untold g c = passed_from c.from_residual.result _ IsMemoryOrStore c.from_residual.ensures.1 c.in_err-has_some_table.ensures.untold
 
-pub returns-then-branch-clause-rests : goal.returns-then-branch-clause-rests
-returns-then-branch-clause-rests g c = reads_then _ _ _ c.has_some_table.ensures.reads.rests c.names_latest.ensures.rests
+pub returns-then-not-branch-clause-rests : goal.returns-then-not-branch-clause-rests
+returns-then-not-branch-clause-rests g c = c.has_some_table.ensures.reads.rests
 
-pub returns-then-branch-clause-was_open : goal.returns-then-branch-clause-was_open
-returns-then-branch-clause-was_open g c clean = known c.names_latest.result (c.in_ok-has_some_table.ensures.was_open (c.names_latest.ensures.rests.clean clean))
+pub returns-then-not-branch-clause-bare : goal.returns-then-not-branch-clause-bare
+returns-then-not-branch-clause-bare g c clean none = refl
 
-pub returns-then-branch-clause-untold : goal.returns-then-branch-clause-untold
-returns-then-branch-clause-untold g c = c.names_latest.ensures.untold
+pub returns-then-not-branch-clause-named : goal.returns-then-not-branch-clause-named
+returns-then-not-branch-clause-named g c clean = λ is. absurd (false≢true is)
 
-pub returns-else-branch-clause-rests : goal.returns-else-branch-clause-rests
-returns-else-branch-clause-rests g c = c.has_some_table.ensures.reads.rests
+pub returns-then-not-branch-clause-was_open : goal.returns-then-not-branch-clause-was_open
+returns-then-not-branch-clause-was_open g c clean = c.in_ok-has_some_table.ensures.was_open clean
 
-pub returns-else-branch-clause-bare : goal.returns-else-branch-clause-bare
-returns-else-branch-clause-bare g c clean none = refl
+pub returns-in-Ok-clause-rests : goal.returns-in-Ok-clause-rests
+returns-in-Ok-clause-rests g c = reads_then _ _ _ c.has_some_table.ensures.reads.rests c.schema_number.ensures.reads.rests
 
-pub returns-else-branch-clause-named : goal.returns-else-branch-clause-named
-returns-else-branch-clause-named g c clean = λ is. absurd (false≢true is)
+pub returns-in-Ok-clause-was_open : goal.returns-in-Ok-clause-was_open
+returns-in-Ok-clause-was_open g c clean = c.in_ok-has_some_table.ensures.was_open (c.schema_number.ensures.reads.rests.clean clean)
 
-pub returns-else-branch-clause-was_open : goal.returns-else-branch-clause-was_open
-returns-else-branch-clause-was_open g c clean = c.in_ok-has_some_table.ensures.was_open clean
+pub returns-in-Err-Damaged-clause-rests : goal.returns-in-Err-Damaged-clause-rests
+returns-in-Err-Damaged-clause-rests g c = reads_then _ _ _ c.has_some_table.ensures.reads.rests c.schema_number.ensures.reads.rests
+
+pub returns-in-Err-Damaged-clause-bare : goal.returns-in-Err-Damaged-clause-bare
+returns-in-Err-Damaged-clause-bare g c clean none = refl
+
+pub returns-in-Err-Damaged-clause-named : goal.returns-in-Err-Damaged-clause-named
+returns-in-Err-Damaged-clause-named g c clean = λ is. absurd (false≢true is)
+
+pub returns-in-Err-Damaged-clause-was_open : goal.returns-in-Err-Damaged-clause-was_open
+returns-in-Err-Damaged-clause-was_open g c clean = c.in_ok-has_some_table.ensures.was_open (c.schema_number.ensures.reads.rests.clean clean)
