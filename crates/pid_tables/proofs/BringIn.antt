@@ -1,5 +1,5 @@
 -- How a file that is brought in ends.
-use Rattle.std.proofs.Common.{◌≡◌, ◌≢◌, ◌⊎◌, inl, inr, ℕ, ◌<◌, ◌+◌, true, List, length, Option, Some, Result, Err, refl, sym, ap, subst, ◌∙◌, arith}
+use Rattle.std.proofs.Common.{◌≡◌, ◌≢◌, ◌⊎◌, inl, inr, ℕ, ◌<◌, ◌+◌, ◌-◌, ◌^◌, min, true, List, length, Option, Some, Result, Err, refl, sym, ap, subst, ◌∙◌, arith}
 use Rattle.sqlite.specs.State.{State}
 use Rattle.pid_reader.specs.LookingBack.{Item}
 use Rattle.pid_file.specs.declared.refusal.ReadRefusal.{ReadRefusal}
@@ -28,12 +28,16 @@ use Rattle.pid_tables.specs.declared.tally.Tally.{Tally}
 use Rattle.pid_tables.specs.Files.{file_reading, read_as}
 use Rattle.pid_tables.specs.Faults.{IsMemoryOrStore}
 use Rattle.pid_tables.specs.Importing.{StopIsNotFailed, ReadsFile, EndsImport}
-use Rattle.pid_tables.specs.Steps.ImportParts.{IsStopOf}
+use Rattle.pid_tables.specs.Steps.ImportParts.{IsNext, IsStopOf}
 use Rattle.pid_tables.specs.Steps.Importing.{Applies}
 use Rattle.pid_tables.specs.Judging.{IsOpen}
 use Rattle.pid_tables.specs.Steps.PutFiles.{PutsFile}
 use Rattle.pid_tables.proofs.Judged.{faulty, long_refused}
 use Rattle.pid_tables.proofs.Readings.{short_reading}
+
+-- the number that an import is given is that of one command more, if it can be counted
+pub next_of : (revision n : ℕ) → n ≡ min (revision + 1) (2 ^ 64 - 1) → IsNext revision n
+next_of revision n is below = omega (arith, is, below)
 
 leaves_first : (s : State) (v w : Views) → AtRest s v → LeavesEither s v w
 leaves_first s v w rest = record { each = λ clean db may. inl (rest.leaves.each clean db may) }

@@ -89,13 +89,6 @@ fn stop_of(end: InputEnd<TableFault>) -> Stop
     }
 }
 
-// The number that an import has if it is accepted.
-fn next_revision(facts: &Facts) -> u64
-    ensures { IsNext facts.now.revision result }
-{
-    facts.revision.saturating_add(1)
-}
-
 // Judges an import whose file was put.
 fn judge_file(
     facts: &mut Facts,
@@ -185,7 +178,8 @@ pub fn bring_in<S: Alter, I: Input>(
     // Only a registry that has failed is answered as such.
     ensures alive { IfErr result StopIsNotFailed }
 {
-    let revision = next_revision(facts);
+    // The number that the import has if it is accepted.
+    let revision = facts.revision.saturating_add(1);
     let mut batch = begin(conn);
     match put_file(&mut batch, alloc, revision, input) {
         Err(end) => {

@@ -10,7 +10,7 @@ use Rattle.pid_tables_rows.proofs.GoingLemmas.{earlier}
 use Rattle.pid_tables.specs.Files.{file_reading}
 use Rattle.pid_tables.specs.Steps.PutFiles.{PutsFile}
 use Rattle.pid_tables.proofs.PutInto.{puts, gives_up, shown, put_name, put_clean, put_limit, put_holds, put_within, put_tally}
-use Rattle.pid_tables.proofs.BringIn.{left_read, left_stops, stop_live, body_end, end_body, applied_stops, applied_read, err_is, end_is}
+use Rattle.pid_tables.proofs.BringIn.{next_of, left_read, left_stops, stop_live, body_end, end_body, applied_stops, applied_read, err_is, end_is}
 use Rattle.pid_tables.proofs.put_file.bring_in.Given.{Over}
 use Rattle.pid_tables.proofs.put_file.bring_in.Goals as goal
 
@@ -19,27 +19,27 @@ use Rattle.pid_tables.proofs.put_file.bring_in.Goals as goal
 same_unput : (g : Over) (c : goal.After-stop_of g) → c.roll_back.new.batch.0 ≡ c.conn-1.given.0
 same_unput g c =
     let read = c.put_file.ensures.puts in
-    let name : c.put_file.new.batch.conn.ghost_name ≡ c.begin-batch.result.conn.ghost_name = put_name g.S.Store c.next_revision-revision.result c.put_file.result _ read.0 c.begin-batch.result c.put_file.new.batch read.2 in
+    let name : c.put_file.new.batch.conn.ghost_name ≡ c.begin-batch.result.conn.ghost_name = put_name g.S.Store c.saturating_add-revision.result c.put_file.result _ read.0 c.begin-batch.result c.put_file.new.batch read.2 in
     search rules
 
 same_unapplied : (g : Over) (c : goal.After-conn-in-Err-apply_file-1 g) → c.roll_back-in-Err-apply_file.new.batch.0 ≡ c.conn-in-Err-apply_file-1.given.0
 same_unapplied g c =
     let read = c.put_file.ensures.puts in
-    let name : c.put_file.new.batch.conn.ghost_name ≡ c.begin-batch.result.conn.ghost_name = put_name g.S.Store c.next_revision-revision.result c.put_file.result _ read.0 c.begin-batch.result c.put_file.new.batch read.2 in
+    let name : c.put_file.new.batch.conn.ghost_name ≡ c.begin-batch.result.conn.ghost_name = put_name g.S.Store c.saturating_add-revision.result c.put_file.result _ read.0 c.begin-batch.result c.put_file.new.batch read.2 in
     let named : c.apply_file.new.batch.conn.ghost_name ≡ c.put_file.new.batch.conn.ghost_name = c.apply_file.ensures.same_reference in
     search rules
 
 same_kept : (g : Over) (c : goal.In-Ok-commit g) → c.commit.new.batch.0 ≡ c.conn-in-Ok-apply_file-1.given.0
 same_kept g c =
     let read = c.put_file.ensures.puts in
-    let name : c.put_file.new.batch.conn.ghost_name ≡ c.begin-batch.result.conn.ghost_name = put_name g.S.Store c.next_revision-revision.result c.put_file.result _ read.0 c.begin-batch.result c.put_file.new.batch read.2 in
+    let name : c.put_file.new.batch.conn.ghost_name ≡ c.begin-batch.result.conn.ghost_name = put_name g.S.Store c.saturating_add-revision.result c.put_file.result _ read.0 c.begin-batch.result c.put_file.new.batch read.2 in
     let named : c.apply_file.new.batch.conn.ghost_name ≡ c.put_file.new.batch.conn.ghost_name = c.apply_file.ensures.same_reference in
     search rules
 
 same_unkept : (g : Over) (c : goal.After-refusal_of g) → c.commit.new.batch.0 ≡ c.conn-in-Ok-apply_file-1.given.0
 same_unkept g c =
     let read = c.put_file.ensures.puts in
-    let name : c.put_file.new.batch.conn.ghost_name ≡ c.begin-batch.result.conn.ghost_name = put_name g.S.Store c.next_revision-revision.result c.put_file.result _ read.0 c.begin-batch.result c.put_file.new.batch read.2 in
+    let name : c.put_file.new.batch.conn.ghost_name ≡ c.begin-batch.result.conn.ghost_name = put_name g.S.Store c.saturating_add-revision.result c.put_file.result _ read.0 c.begin-batch.result c.put_file.new.batch read.2 in
     let named : c.apply_file.new.batch.conn.ghost_name ≡ c.put_file.new.batch.conn.ghost_name = c.apply_file.ensures.same_reference in
     search rules
 
@@ -47,7 +47,7 @@ same_unkept g c =
 
 pub returns-in-Err-clause-ends : goal.returns-in-Err-clause-ends
 returns-in-Err-clause-ends g c =
-    let n = c.next_revision-revision.result in
+    let n = c.saturating_add-revision.result in
     let start = c.begin-batch.result in
     let end = c.put_file.new.batch in
     let read = c.put_file.ensures.puts in
@@ -63,7 +63,7 @@ returns-in-Err-clause-ends g c =
 
 pub returns-in-Err-clause-stops : goal.returns-in-Err-clause-stops
 returns-in-Err-clause-stops g c =
-    let n = c.next_revision-revision.result in
+    let n = c.saturating_add-revision.result in
     let start = c.begin-batch.result in
     let end = c.put_file.new.batch in
     let read = c.put_file.ensures.puts in
@@ -88,7 +88,7 @@ returns-in-Err-clause-read_fault g c = record {
 
 pub returns-in-Err-apply_file-clause-ends : goal.returns-in-Err-apply_file-clause-ends
 returns-in-Err-apply_file-clause-ends g c =
-    let n = c.next_revision-revision.result in
+    let n = c.saturating_add-revision.result in
     let start = c.begin-batch.result in
     let end = c.put_file.new.batch in
     let read = c.put_file.ensures.puts in
@@ -105,7 +105,7 @@ returns-in-Err-apply_file-clause-ends g c =
 
 pub returns-in-Err-apply_file-clause-stops : goal.returns-in-Err-apply_file-clause-stops
 returns-in-Err-apply_file-clause-stops g c =
-    let n = c.next_revision-revision.result in
+    let n = c.saturating_add-revision.result in
     let start = c.begin-batch.result in
     let end = c.put_file.new.batch in
     let read = c.put_file.ensures.puts in
@@ -121,7 +121,7 @@ returns-in-Err-apply_file-clause-stops g c =
           let begun = put_within g.S.Store n c.in-Ok.tally _ read.0 start end put v (c.begin-batch.ensures.begun v rest) in
           let clean_end : HasCleanDisk (shown g.S.Store end) = c.apply_file.ensures.clean (earlier (shown g.S.Store after) (state g.S.Store c.roll_back-in-Err-apply_file.new.batch.0) c.roll_back-in-Err-apply_file.ensures.survives (subst (λ h. HasCleanDisk (state g.S.Store h)) (sym same) clean)) in
           let counted = put_tally g.S.Store n c.in-Ok.tally _ read.0 start end put v (c.begin-batch.ensures.begun v rest) clean_end in
-          let applied = c.in-Err-apply_file.ensures.applied h read.0 n marked import open_ many (record { short = put.ends.0.short; good = put.ends.1; tally = counted }) c.next_revision-revision.ensures begun in
+          let applied = c.in-Err-apply_file.ensures.applied h read.0 n marked import open_ many (record { short = put.ends.0.short; good = put.ends.1; tally = counted }) (next_of _ _ c.saturating_add-revision.ensures) begun in
           let back : AtRest (state g.S.Store c.roll_back-in-Err-apply_file.new.batch.0) v = c.roll_back-in-Err-apply_file.ensures.given_back v (c.apply_file.ensures.holds (counts_of v) v _ begun) in
           applied_stops c.in-Err-apply_file.stop _ (shown g.S.Store after) h _ applied (subst (λ x. AtRest (state g.S.Store x) v) same back),
     )
@@ -134,7 +134,7 @@ returns-in-Err-apply_file-clause-read_fault g c = record {
 
 pub returns-in-Ok-commit-clause-ends : goal.returns-in-Ok-commit-clause-ends
 returns-in-Ok-commit-clause-ends g c =
-    let n = c.next_revision-revision.result in
+    let n = c.saturating_add-revision.result in
     let start = c.begin-batch.result in
     let end = c.put_file.new.batch in
     let read = c.put_file.ensures.puts in
@@ -151,7 +151,7 @@ returns-in-Ok-commit-clause-ends g c =
 
 pub returns-in-Ok-commit-clause-stops : goal.returns-in-Ok-commit-clause-stops
 returns-in-Ok-commit-clause-stops g c =
-    let n = c.next_revision-revision.result in
+    let n = c.saturating_add-revision.result in
     let start = c.begin-batch.result in
     let end = c.put_file.new.batch in
     let read = c.put_file.ensures.puts in
@@ -167,13 +167,13 @@ returns-in-Ok-commit-clause-stops g c =
           let begun = put_within g.S.Store n c.in-Ok.tally _ read.0 start end put v (c.begin-batch.ensures.begun v rest) in
           let clean_end : HasCleanDisk (shown g.S.Store end) = c.apply_file.ensures.clean (earlier (shown g.S.Store after) (state g.S.Store c.commit.new.batch.0) c.commit.ensures.survives (subst (λ h. HasCleanDisk (state g.S.Store h)) (sym same) clean)) in
           let counted = put_tally g.S.Store n c.in-Ok.tally _ read.0 start end put v (c.begin-batch.ensures.begun v rest) clean_end in
-          let applied = c.in-Ok-apply_file.ensures.applied h read.0 n marked import open_ many (record { short = put.ends.0.short; good = put.ends.1; tally = counted }) c.next_revision-revision.ensures begun in
+          let applied = c.in-Ok-apply_file.ensures.applied h read.0 n marked import open_ many (record { short = put.ends.0.short; good = put.ends.1; tally = counted }) (next_of _ _ c.saturating_add-revision.ensures) begun in
           (applied.0, subst (λ x. AtRest (state g.S.Store x) w) same (c.in-Ok-commit.ensures.stands w (λ clean. (applied.1.opened clean, applied.1.within.shows (applied.1.opened clean))))),
     )
 
 pub returns-in-Err-commit-clause-ends : goal.returns-in-Err-commit-clause-ends
 returns-in-Err-commit-clause-ends g c =
-    let n = c.next_revision-revision.result in
+    let n = c.saturating_add-revision.result in
     let start = c.begin-batch.result in
     let end = c.put_file.new.batch in
     let read = c.put_file.ensures.puts in
@@ -190,7 +190,7 @@ returns-in-Err-commit-clause-ends g c =
 
 pub returns-in-Err-commit-clause-stops : goal.returns-in-Err-commit-clause-stops
 returns-in-Err-commit-clause-stops g c =
-    let n = c.next_revision-revision.result in
+    let n = c.saturating_add-revision.result in
     let start = c.begin-batch.result in
     let end = c.put_file.new.batch in
     let read = c.put_file.ensures.puts in
@@ -206,7 +206,7 @@ returns-in-Err-commit-clause-stops g c =
           let begun = put_within g.S.Store n c.in-Ok.tally _ read.0 start end put v (c.begin-batch.ensures.begun v rest) in
           let clean_end : HasCleanDisk (shown g.S.Store end) = c.apply_file.ensures.clean (earlier (shown g.S.Store after) (state g.S.Store c.commit.new.batch.0) c.commit.ensures.survives (subst (λ h. HasCleanDisk (state g.S.Store h)) (sym same) clean)) in
           let counted = put_tally g.S.Store n c.in-Ok.tally _ read.0 start end put v (c.begin-batch.ensures.begun v rest) clean_end in
-          let applied = c.in-Ok-apply_file.ensures.applied h read.0 n marked import open_ many (record { short = put.ends.0.short; good = put.ends.1; tally = counted }) c.next_revision-revision.ensures begun in
+          let applied = c.in-Ok-apply_file.ensures.applied h read.0 n marked import open_ many (record { short = put.ends.0.short; good = put.ends.1; tally = counted }) (next_of _ _ c.saturating_add-revision.ensures) begun in
           (subst (λ x. LeavesEither (state g.S.Store x) v w) same (c.commit.ensures.either v w applied.1), c.refusal_of.ensures.fault),
     )
 
