@@ -1,18 +1,30 @@
 -- What makes rows of accounts those of a registry.
-use Rattle.std.proofs.Common.{◌≡◌, inl, inr, ℕ, Bool, List, [], ◌∷◌, ◌++◌, IsTrue, refl, sym, ap, ◌∙◌, codes}
+use Rattle.std.proofs.Common.{◌≡◌, ◌≤◌, inl, inr, ℕ, Bool, true, List, [], ◌∷◌, ◌++◌, length, IsTrue, refl, sym, ap, ◌∙◌, codes}
 use Rattle.std.specs.Prelude.{◌↔◌, ◌&&◌, ◌||◌, IsUtf8}
 use Rattle.std.proofs.lemmas.Bool.{or_cases, or_left, or_right}
 use Rattle.sqlite.specs.declared.types.Value.{Value}
 use Rattle.sqlite.specs.declared.types.Value.TheVariants.{Text}
 use Rattle.sqlite.specs.Order.{Row, column}
+use Rattle.pid_ident.specs.Words.{is_account}
+use Rattle.pid_tables_rows.specs.TableRows.{number}
 use Rattle.pid_tables_check.specs.Conditions.{HasAccount, HasValue, IsAccountRow, AreAccounts}
 use Rattle.pid_tables_check.specs.Steps.Keeping.{IsPartJudged, TakesAccounts}
 use Rattle.pid_tables_check.specs.declared.account.Accounts.{Accounts}
-use Rattle.pid_tables_check.proofs.ItemFacts.{split, last, value_before, all_three}
+use Rattle.pid_tables_check.proofs.ItemFacts.{split, last, two, value_before, all_three}
 use Rattle.pid_tables_check.proofs.WordTexts.{account_utf8}
 
 pub account_named : (r : Row) → IsAccountRow r → (name : List ℕ) × (column r 0 ≡ Text name) × IsUtf8 name
 account_named r row = (row.name, ap (λ (x : Row). column x 0) row.is, account_utf8 row.name row.good)
+
+module _ (r : Row) where
+  pub account_made : (name : List ℕ) → length r ≡ 2 → column r 0 ≡ Text name → is_account name ≡ true → ((rank : ℕ) × (column r 1 ≡ number rank) × (rank ≤ 3)) → IsAccountRow r
+  account_made name len first good rank = record { name = name; rank = rank.0; is = two r len ∙ (λ i. first i ∷ rank.1 i ∷ []); good = good; ranked = rank.2 }
+
+  pub account_length : IsAccountRow r → length r ≡ 2
+  account_length it = ap length it.is
+
+  pub account_rank : IsAccountRow r → (rank : ℕ) × (column r 1 ≡ number rank) × (rank ≤ 3)
+  account_rank it = (it.rank, ap (λ (x : Row). column x 1) it.is, it.ranked)
 
 -- one row more, and some row has the value
 pub value_or : (rows : List Row) (r : Row) (at : ℕ) (v : Value) (was row : Bool) → (IsTrue was ↔ HasValue rows at v) → (IsTrue row ↔ (column r at ≡ v)) → IsTrue (was || row) ↔ HasValue (rows ++ r ∷ []) at v

@@ -70,11 +70,18 @@ fn read_submitted<S: Alter>(conn: &mut Connection<S>, alloc: Global) -> Result<P
         (λ d. HasEachTable d.schema) ShowsSubmitted (λ d. IsMemoryOrStore) }
 {
     let accounts = read_accounts(conn, alloc)?;
-    let submissions = read_submissions(conn, &accounts.names, alloc)?;
-    let receipts = read_receipts(conn, &submissions.authors)?;
+    let listed = accounts.good;
+    let read = read_submissions(conn, &accounts.names, alloc);
+    drop(accounts);
+    let submissions = read?;
+    let good = listed & submissions.good;
+    let count = submissions.count;
+    let kept = read_receipts(conn, &submissions.authors);
+    drop(submissions);
+    let receipts = kept?;
     Ok(Part {
-        good: accounts.good & submissions.good & receipts,
-        count: submissions.count,
+        good: good & receipts,
+        count,
     })
 }
 

@@ -8,6 +8,9 @@ use Rattle.pid_tables_check.proofs.Complete.{tables_each}
 use Rattle.pid_tables_check.proofs.KeepingFacts.{judged}
 use Rattle.pid_tables_check.proofs.tables.read_tables.Goals as goal
 
+pub returns-in_err-submitted-clause-told : goal.returns-in_err-submitted-clause-told
+returns-in_err-submitted-clause-told g c clean d is has = passed_on c.from_residual.result _ _ IsMemoryOrStore c.from_residual.ensures.1 (c.in_err-submitted.ensures.told clean d is (tables_each _ d.schema has))
+
 pub returns-in_err-named-clause-told : goal.returns-in_err-named-clause-told
 returns-in_err-named-clause-told g c clean d is has =
     let mid : HasCleanDisk (state g.S.Store c.read_submitted.new.conn) = c.read_named.ensures.rests.clean clean in
