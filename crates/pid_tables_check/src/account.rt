@@ -6,7 +6,6 @@ ghost use Rattle.pid_tables_check.specs.Steps.Clauses.{KeepsTable};
 ghost use Rattle.pid_tables_check.specs.Steps.Keeping.{KeepsAccounts};
 ghost use Rattle.pid_tables_check.specs.declared.shape.Table.TheVariants as table;
 
-use crate::names::add_name;
 use crate::read::{Keeper, keep_rows};
 use crate::shape::Table;
 use crate::value::{is_number_at, is_within, text_at};
@@ -47,7 +46,14 @@ impl Keeper for Accounts {
     fn keep(&mut self, row: &Row) -> Result<(), TableFault> {
         self.good &= is_account_row(row);
         self.administrator |= is_number_at(row, 1, 3);
-        add_name(&mut self.names, self.alloc, row)?;
+        let Some(text) = text_at(row, 0) else {
+            return Ok(());
+        };
+        let name = String::from_str(self.alloc, text)?;
+        let inserted = self.names.insert(name).is_ok();
+        if !inserted {
+            return Err(TableFault::Memory);
+        }
         Ok(())
     }
 }

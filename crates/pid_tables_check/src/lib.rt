@@ -8,7 +8,6 @@ mod item;
 mod lacking;
 pub mod laws;
 mod meta;
-mod names;
 mod numbers;
 mod read;
 mod receipt;
