@@ -22,7 +22,6 @@ ghost use Rattle.pid_tables_rows.specs.Faults.{IsMemoryOrStore, IsNotNewerSchema
 ghost use Rattle.pid_tables_rows.specs.PairRows.{Map};
 ghost use Rattle.pid_tables_rows.specs.Steps.Shows.{meta_of};
 ghost use Rattle.pid_tables_rows.specs.TableRows.{number};
-ghost use Rattle.pid_tables_rows.specs.Writes.{with_rank};
 ghost use Rattle.pid_tables.specs.Creation.{table_names};
 ghost use Rattle.pid_tables.specs.Statements.{Carries, new_label_text, registry_statements};
 ghost use Rattle.pid_tables.specs.Steps.MakingTables.{
@@ -43,12 +42,10 @@ ghost use Rattle.pid_tables.specs.Steps.Making.{
   first_tables,
   label_statements,
   rest_statements,
-  root_statement,
   six_tables,
 };
 ghost use Rattle.pid_tables_rows.specs.Clauses.{
   AtRest,
-  ChangesTo,
   GoesOn,
   HasCleanDisk,
   is_open,
@@ -195,25 +192,6 @@ fn add_labels<S: Alter>(tx: &mut Transaction<'_, S>) -> Result<(), TableFault>
     add_label(tx, "schema", 2)
 }
 
-// The one account of a new registry.
-fn add_root<S: Alter>(tx: &mut Transaction<'_, S>) -> Result<(), TableFault>
-    ensures same_reference { tx.new.conn.ghost_name ≡ tx.old.conn.ghost_name }
-    ensures goes { GoesOn S.Store tx.old.conn.now tx.new.conn.now result }
-    ensures never { IfErr result IsNotNewerSchema }
-    ensures shows { ChangesTo S.Store tx.old.conn.now tx.new.conn.now result
-        (λ v. v.rank (codes "root") ≡ None) (with_rank (codes "root") Rank.Administrator) }
-    ensures carried { CarriesOut S.Store tx.old.conn.now tx.new.conn.now result
-        (root_statement ∷ []) }
-{
-    let name = "root".to_sql();
-    let rank = u32::from(Rank::Administrator.number()).to_sql();
-    write_one(
-        tx,
-        "INSERT INTO account (name, rank) VALUES (?1, ?2)",
-        &[name, rank],
-    )
-}
-
 fn fill<S: Alter>(tx: &mut Transaction<'_, S>) -> Result<(), TableFault>
     ensures same_reference { tx.new.conn.ghost_name ≡ tx.old.conn.ghost_name }
     ensures goes { GoesOn S.Store tx.old.conn.now tx.new.conn.now result }
@@ -229,7 +207,14 @@ fn fill<S: Alter>(tx: &mut Transaction<'_, S>) -> Result<(), TableFault>
 {
     make_tables(tx)?;
     add_labels(tx)?;
-    add_root(tx)
+    // The one account of a new registry.
+    let name = "root".to_sql();
+    let rank = u32::from(Rank::Administrator.number()).to_sql();
+    write_one(
+        tx,
+        "INSERT INTO account (name, rank) VALUES (?1, ?2)",
+        &[name, rank],
+    )
 }
 
 /// Makes the tables of a new registry in a database that has none, in one transaction: `root` is an

@@ -1,11 +1,20 @@
-use Rattle.std.proofs.Common.{[], ◌∷◌, ◌++◌, refl}
+use Rattle.std.proofs.Common.{[], ◌∷◌, ◌++◌, codes, refl}
 use Rattle.sqlite.specs.Held.{state}
+use Rattle.sqlite.specs.declared.types.Value.TheVariants.{Text}
+use Rattle.pid_moderation.specs.declared.rank.Rank.TheVariants.{Administrator}
+use Rattle.pid_tables_rows.specs.declared.version.Version.TheVariants.{Two}
 use Rattle.pid_tables_rows.specs.Faults.{IsNotNewerSchema}
+use Rattle.pid_tables_rows.specs.Schema.{pid_schema}
+use Rattle.pid_tables_rows.specs.TableRows.{number}
 use Rattle.pid_tables_rows.proofs.CauseLemmas.{passed_on, passed_from}
 use Rattle.pid_tables_rows.proofs.GoingLemmas.{earlier, goes_then}
+use Rattle.pid_tables_rows.proofs.KeyTexts.{insert_account_is}
+use Rattle.pid_tables_rows.proofs.WriteFaults.{led, insert_writes}
+use Rattle.pid_tables_rows.proofs.WriteRows.{account_added}
 use Rattle.pid_tables.specs.Creation.{IsFaultOfTaken}
+use Rattle.pid_tables.specs.Statements.{new_account_text}
 use Rattle.pid_tables.specs.Steps.Making.{all_statements, label_statements, root_statement}
-use Rattle.pid_tables.proofs.Carrying.{carried_both, carried_then}
+use Rattle.pid_tables.proofs.Carrying.{carried_both, carried_one, carried_then}
 use Rattle.pid_tables.proofs.CreateLemmas.{all_made, shows_nothing, nothing_yet}
 use Rattle.pid_tables.proofs.MoveLemmas.{goes_fault, goes_fault_after, not_on_ok}
 use Rattle.pid_tables.proofs.MetLemmas.{none_met}
@@ -15,13 +24,16 @@ pub returns-clause-filled : goal.returns-clause-filled
 returns-clause-filled g c clean inside made =
     let b = state g.S.Store c.make_tables.new.tx.conn.now in
     let d = state g.S.Store c.add_labels.new.tx.conn.now in
-    let second = earlier d (state g.S.Store c.add_root.new.tx.conn.now) c.add_root.ensures.goes.survives clean in
+    let second = earlier d (state g.S.Store c.write_one.new.tx.conn.now) c.write_one.ensures.goes.survives clean in
     let first = earlier b d c.add_labels.ensures.goes.survives second in
     let one = c.in_ok-make_tables.ensures in
     let two = c.in_ok-add_labels.ensures in
     let within = (one.goes.going first inside).1 in
     let has = two.added second within (all_made b.now (one.made first inside made)) in
-    c.add_root.ensures.shows clean (two.goes.going second within).1 _ nothing_yet (shows_nothing d.now has) refl
+    let shown = shows_nothing d.now has in
+    led c.write_one.result (account_added d (state g.S.Store c.write_one.new.tx.conn.now) _ nothing_yet shown (codes "root") Administrator refl)
+    (rw (c.to_sql-name.ensures, c.to_sql-rank.ensures, c.from.ensures, c.number.ensures) at (c.write_one.ensures.runs.ran clean (two.goes.going second within).1))
+    (c.write_one.ensures.runs.untold clean pid_schema (λ opened. shown.schema) (insert_writes (insert_account_is Two)))
 
 -- ---- where a name is taken
 
@@ -39,7 +51,7 @@ pub returns-clause-refused : goal.returns-clause-refused
 returns-clause-refused g c clean inside met =
     let b = state g.S.Store c.make_tables.new.tx.conn.now in
     let d = state g.S.Store c.add_labels.new.tx.conn.now in
-    let second = earlier d (state g.S.Store c.add_root.new.tx.conn.now) c.add_root.ensures.goes.survives clean in
+    let second = earlier d (state g.S.Store c.write_one.new.tx.conn.now) c.write_one.ensures.goes.survives clean in
     let first = earlier b d c.add_labels.ensures.goes.survives second in
     let one = c.in_ok-make_tables.ensures in
     absurd (none_met _ _ (one.takes first inside) (met (one.goes.was_open first (one.goes.going first inside).0)))
@@ -57,7 +69,7 @@ returns-in_err-add_labels-clause-met g c clean inside has =
 pub returns-clause-met : goal.returns-clause-met
 returns-clause-met g c clean inside has =
     let d = state g.S.Store c.add_labels.new.tx.conn.now in
-    let second = earlier d (state g.S.Store c.add_root.new.tx.conn.now) c.add_root.ensures.goes.survives clean in
+    let second = earlier d (state g.S.Store c.write_one.new.tx.conn.now) c.write_one.ensures.goes.survives clean in
     absurd (c.in_ok-make_tables.ensures.met (earlier (state g.S.Store c.make_tables.new.tx.conn.now) d c.add_labels.ensures.goes.survives second) inside has)
 
 -- ---- no fault tells a later schema
@@ -75,15 +87,16 @@ returns-clause-carried g c clean inside =
     let a = c.args.tx.now.conn.now in
     let b = c.make_tables.new.tx.conn.now in
     let d = c.add_labels.new.tx.conn.now in
-    let e = c.add_root.new.tx.conn.now in
-    let second = earlier (state g.S.Store d) (state g.S.Store e) c.add_root.ensures.goes.survives clean in
+    let e = c.write_one.new.tx.conn.now in
+    let second = earlier (state g.S.Store d) (state g.S.Store e) c.write_one.ensures.goes.survives clean in
     let first = earlier (state g.S.Store b) (state g.S.Store d) c.add_labels.ensures.goes.survives second in
     let one = c.in_ok-make_tables.ensures in
     let two = c.in_ok-add_labels.ensures in
     let within = (one.goes.going first inside).1 in
-    carried_then g.S.Store (all_statements ++ label_statements) (root_statement ∷ []) a d e c.add_root.result
+    carried_then g.S.Store (all_statements ++ label_statements) (root_statement ∷ []) a d e c.write_one.result
     (carried_both g.S.Store all_statements label_statements a b d (one.carried first inside) (two.carried second within))
-    (c.add_root.ensures.carried clean (two.goes.going second within).1)
+    (carried_one g.S.Store new_account_text (Text (codes "root") ∷ number 3 ∷ []) d e c.write_one.result
+    (rw (c.to_sql-name.ensures, c.to_sql-rank.ensures, c.from.ensures, c.number.ensures) at (c.write_one.ensures.runs.ran clean (two.goes.going second within).1)))
 
 -- ---- what the transaction goes on with
 
@@ -99,9 +112,9 @@ returns-in_err-add_labels-clause-goes g c =
 pub returns-clause-goes : goal.returns-clause-goes
 returns-clause-goes g c =
     let b = state g.S.Store c.make_tables.new.tx.conn.now in
-    let e = state g.S.Store c.add_root.new.tx.conn.now in
-    goes_then (state g.S.Store c.args.tx.now.conn.now) b e _ c.add_root.result c.in_ok-make_tables.ensures.goes
-    (goes_then b (state g.S.Store c.add_labels.new.tx.conn.now) e _ c.add_root.result c.in_ok-add_labels.ensures.goes c.add_root.ensures.goes)
+    let e = state g.S.Store c.write_one.new.tx.conn.now in
+    goes_then (state g.S.Store c.args.tx.now.conn.now) b e _ c.write_one.result c.in_ok-make_tables.ensures.goes
+    (goes_then b (state g.S.Store c.add_labels.new.tx.conn.now) e _ c.write_one.result c.in_ok-add_labels.ensures.goes c.write_one.ensures.goes)
 
 pub returns-in_err-make_tables-clause-carried : goal.returns-in_err-make_tables-clause-carried
 returns-in_err-make_tables-clause-carried g c clean inside = not_on_ok c.from_residual.result _ _ c.from_residual.ensures.1
