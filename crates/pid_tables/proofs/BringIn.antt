@@ -1,5 +1,5 @@
 -- How a file that is brought in ends.
-use Rattle.std.proofs.Common.{◌≡◌, ◌≢◌, ◌⊎◌, inl, inr, ℕ, ◌<◌, ◌+◌, ◌-◌, ◌^◌, min, true, List, length, Option, Some, Result, Err, refl, sym, ap, subst, ◌∙◌, arith}
+use Rattle.std.proofs.Common.{◌≡◌, ◌≢◌, ◌⊎◌, inl, inr, ℕ, ◌<◌, ◌+◌, ◌-◌, ◌^◌, min, true, List, length, Option, Some, Result, Ok, Err, refl, sym, ap, subst, ◌∙◌, arith}
 use Rattle.sqlite.specs.State.{State}
 use Rattle.pid_reader.specs.LookingBack.{Item}
 use Rattle.pid_file.specs.declared.refusal.ReadRefusal.{ReadRefusal}
@@ -38,6 +38,15 @@ use Rattle.pid_tables.proofs.Readings.{short_reading}
 -- the number that an import is given is that of one command more, if it can be counted
 pub next_of : (revision n : ℕ) → n ≡ min (revision + 1) (2 ^ 64 - 1) → IsNext revision n
 next_of revision n is below = omega (arith, is, below)
+
+pub ok_apart : {X E : Type 0} (x : X) (e : E) → ◌≡◌ {A = Result X E} (Ok x) (Err e) → ⊥
+ok_apart x e same = cc
+
+pub refused_apart : (e : Refusal) → stops.Refused e ≢ stops.Body
+refused_apart e same = cc
+
+pub failed_apart : (e : Refusal) → stops.Failed e ≢ stops.Body
+failed_apart e same = cc
 
 leaves_first : (s : State) (v w : Views) → AtRest s v → LeavesEither s v w
 leaves_first s v w rest = record { each = λ clean db may. inl (rest.leaves.each clean db may) }

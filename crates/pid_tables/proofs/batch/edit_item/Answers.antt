@@ -16,3 +16,23 @@ returns-in-Add-clause-shows g c = rw c.in-Add.is (λ clean inside counts v shows
 
 pub returns-in-Rename-clause-shows : goal.returns-in-Rename-clause-shows
 returns-in-Rename-clause-shows g c = rw c.in-Rename.is (λ clean inside counts v shows fits. (rw c.as_str-in-Rename.ensures.text at c.rename_item.ensures.shows) clean inside counts v shows fits)
+
+-- ---- what the transaction goes on with
+
+pub returns-in-Remove-clause-goes : goal.returns-in-Remove-clause-goes
+returns-in-Remove-clause-goes g c = c.remove_item.ensures.goes
+
+pub returns-in-Remove-clause-same_reference : goal.returns-in-Remove-clause-same_reference
+returns-in-Remove-clause-same_reference g c = c.remove_item.ensures.same_reference
+
+pub returns-in-Add-clause-goes : goal.returns-in-Add-clause-goes
+returns-in-Add-clause-goes g c = c.add_item.ensures.goes
+
+pub returns-in-Add-clause-same_reference : goal.returns-in-Add-clause-same_reference
+returns-in-Add-clause-same_reference g c = c.add_item.ensures.same_reference
+
+pub returns-in-Rename-clause-goes : goal.returns-in-Rename-clause-goes
+returns-in-Rename-clause-goes g c = c.rename_item.ensures.goes
+
+pub returns-in-Rename-clause-same_reference : goal.returns-in-Rename-clause-same_reference
+returns-in-Rename-clause-same_reference g c = c.rename_item.ensures.same_reference

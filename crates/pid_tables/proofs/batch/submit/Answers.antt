@@ -1,7 +1,8 @@
 use Rattle.sqlite.specs.Held.{state}
 use Rattle.pid_tables_rows.specs.Faults.{IsMemoryOrStore}
 use Rattle.pid_tables_rows.proofs.CauseLemmas.{passed_on}
-use Rattle.pid_tables_rows.proofs.GoingLemmas.{earlier}
+use Rattle.pid_tables_rows.proofs.GoingLemmas.{earlier, goes_then}
+use Rattle.pid_tables.proofs.MoveLemmas.{goes_fault}
 use Rattle.pid_tables.proofs.batch.submit.Goals as goal
 
 pub returns-clause-shows : goal.returns-clause-shows
@@ -13,3 +14,13 @@ returns-clause-shows g c clean inside counts v shows last =
 pub returns-in_err-add_submission-clause-shows : goal.returns-in_err-add_submission-clause-shows
 returns-in_err-add_submission-clause-shows g c clean inside counts v shows last =
     passed_on c.from_residual.result _ _ IsMemoryOrStore c.from_residual.ensures.1 (c.in_err-add_submission.ensures.shows clean inside counts v shows last)
+
+-- ---- what the transaction goes on with
+
+pub returns-in_err-add_submission-clause-goes : goal.returns-in_err-add_submission-clause-goes
+returns-in_err-add_submission-clause-goes g c =
+    goes_fault (state g.S.Store c.args.batch.now.conn.now) (state g.S.Store c.add_submission.new.tx.conn.now) _ c.from_residual.result c.from_residual.ensures.1 c.in_err-add_submission.ensures.goes
+
+pub returns-clause-goes : goal.returns-clause-goes
+returns-clause-goes g c =
+    goes_then (state g.S.Store c.args.batch.now.conn.now) (state g.S.Store c.add_submission.new.tx.conn.now) (state g.S.Store c.count_submissions.new.tx.conn.now) _ c.count_submissions.result c.in_ok-add_submission.ensures.goes c.count_submissions.ensures.goes

@@ -1,5 +1,6 @@
+use Rattle.std.proofs.Common.{None, false}
 use Rattle.pid_tables_rows.proofs.OnlyReading.{reads_then}
-use Rattle.pid_tables.proofs.ThenReads.{fault_after, fault_first}
+use Rattle.pid_tables.proofs.ThenReads.{fault_after, fault_first, value_after}
 use Rattle.pid_tables.proofs.gather.known.Goals as goal
 
 pub returns-in_err-revision : goal.returns-in_err-revision
@@ -12,3 +13,11 @@ returns-in_err-kept g c =
 
 pub returns-in_err-rank : goal.returns-in_err-rank
 returns-in_err-rank g c = fault_first g.S.Store c.args.conn.now c.rank.new.conn c.in_err-rank.field-0.0 c.from_residual.result c.from_residual.ensures.1 c.in_err-rank.ensures
+
+pub returns : goal.returns
+returns g c =
+    value_after g.S.Store c.args.conn.now c.revision.new.conn c.kept.new.conn (reads_then _ _ _ c.rank.ensures.rests c.revision.ensures.rests) _ _ c.in_ok-kept.ensures
+    (λ clean v rest kept.
+    let number = c.in_ok-revision.ensures.told clean v (c.rank.ensures.rests.kept v rest) in
+    let rank = rw c.as_str.ensures.text at (c.in_ok-rank.ensures.told (c.revision.ensures.rests.clean clean) v rest) in
+    λ i. record { rank = rank i; kept = kept i; revision = number i; who = None; submissions = 0; items = 0; named = None; present = None; has_parent = false; has_children = false; file = None })

@@ -1,4 +1,4 @@
-use Rattle.std.proofs.Common.{◌≡◌, ℕ, ◌+◌, ap, subst, sym, ◌∙◌}
+use Rattle.std.proofs.Common.{◌≡◌, ℕ, ◌+◌, refl, ap, subst, sym, ◌∙◌}
 use Rattle.sqlite.specs.Held.{state}
 use Rattle.pid_moderation.specs.Changes.{with_items, with_pairs}
 use Rattle.pid_moderation.specs.Items.{imported}
@@ -8,6 +8,8 @@ use Rattle.pid_tables_rows.specs.Shows.{counts_of}
 use Rattle.pid_reader.specs.Lines.{lines_of}
 use Rattle.pid_reader.specs.Reading.{entries_of}
 use Rattle.pid_tables.specs.Steps.Putting.{put_in_turn}
+use Rattle.pid_tables_rows.proofs.GoingLemmas.{earlier}
+use Rattle.pid_tables.proofs.BringIn.{refused_apart, failed_apart}
 use Rattle.pid_tables.proofs.InTurn.{in_turn}
 use Rattle.pid_tables.proofs.Judged.{next_is}
 use Rattle.pid_tables.proofs.put_file.apply_file.Goals as goal
@@ -28,3 +30,55 @@ returns-in-Ok-applied-clause-applied g c h text n marked is open_ many was next 
 
 pub returns-in-Err-applied-clause-applied : goal.returns-in-Err-applied-clause-applied
 returns-in-Err-applied-clause-applied g c h text n marked is open_ many was next within = c.refusal_of.ensures.fault
+
+-- ---- what the transaction goes on with
+
+pub returns-in-Err-clause-same_reference : goal.returns-in-Err-clause-same_reference
+returns-in-Err-clause-same_reference g c = refl
+
+pub returns-in-Err-clause-clean : goal.returns-in-Err-clause-clean
+returns-in-Err-clause-clean g c = λ clean. clean
+
+pub returns-in-Err-clause-limit : goal.returns-in-Err-clause-limit
+returns-in-Err-clause-limit g c = refl
+
+pub returns-in-Err-clause-holds : goal.returns-in-Err-clause-holds
+returns-in-Err-clause-holds g c counts v w within = within.holds
+
+pub returns-in-Ok-applied-clause-same_reference : goal.returns-in-Ok-applied-clause-same_reference
+returns-in-Ok-applied-clause-same_reference g c = c.apply-applied.ensures.same_reference
+
+pub returns-in-Ok-applied-clause-clean : goal.returns-in-Ok-applied-clause-clean
+returns-in-Ok-applied-clause-clean g c = earlier (state g.S.Store c.args.batch.now.conn.now) (state g.S.Store c.apply-applied.new.batch.conn.now) c.apply-applied.ensures.survives
+
+pub returns-in-Ok-applied-clause-limit : goal.returns-in-Ok-applied-clause-limit
+returns-in-Ok-applied-clause-limit g c = c.apply-applied.ensures.survives.limit
+
+pub returns-in-Ok-applied-clause-holds : goal.returns-in-Ok-applied-clause-holds
+returns-in-Ok-applied-clause-holds g c counts v w within = c.apply-applied.ensures.holds counts v w within
+
+pub returns-in-Err-applied-clause-same_reference : goal.returns-in-Err-applied-clause-same_reference
+returns-in-Err-applied-clause-same_reference g c = c.apply-applied.ensures.same_reference
+
+pub returns-in-Err-applied-clause-clean : goal.returns-in-Err-applied-clause-clean
+returns-in-Err-applied-clause-clean g c = earlier (state g.S.Store c.args.batch.now.conn.now) (state g.S.Store c.apply-applied.new.batch.conn.now) c.apply-applied.ensures.survives
+
+pub returns-in-Err-applied-clause-limit : goal.returns-in-Err-applied-clause-limit
+returns-in-Err-applied-clause-limit g c = c.apply-applied.ensures.survives.limit
+
+pub returns-in-Err-applied-clause-holds : goal.returns-in-Err-applied-clause-holds
+returns-in-Err-applied-clause-holds g c counts v w within = c.apply-applied.ensures.holds counts v w within
+
+-- ---- how an import is stopped
+
+pub returns-in-Err-clause-reads : goal.returns-in-Err-clause-reads
+returns-in-Err-clause-reads g c = refused_apart c.in-Err.refusal
+
+pub returns-in-Err-clause-alive : goal.returns-in-Err-clause-alive
+returns-in-Err-clause-alive g c = c.in-Err.ensures.alive
+
+pub returns-in-Err-applied-clause-reads : goal.returns-in-Err-applied-clause-reads
+returns-in-Err-applied-clause-reads g c = failed_apart c.refusal_of.result
+
+pub returns-in-Err-applied-clause-alive : goal.returns-in-Err-applied-clause-alive
+returns-in-Err-applied-clause-alive g c = c.refusal_of.ensures.alive

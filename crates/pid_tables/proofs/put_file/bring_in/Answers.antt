@@ -10,7 +10,7 @@ use Rattle.pid_tables_rows.proofs.GoingLemmas.{earlier}
 use Rattle.pid_tables.specs.Files.{file_reading}
 use Rattle.pid_tables.specs.Steps.PutFiles.{PutsFile}
 use Rattle.pid_tables.proofs.PutInto.{puts, gives_up, shown, put_name, put_clean, put_limit, put_holds, put_within, put_tally}
-use Rattle.pid_tables.proofs.BringIn.{next_of, left_read, left_stops, stop_live, body_end, end_body, applied_stops, applied_read, err_is, end_is}
+use Rattle.pid_tables.proofs.BringIn.{next_of, ok_apart, failed_apart, left_read, left_stops, stop_live, body_end, end_body, applied_stops, applied_read, err_is, end_is}
 use Rattle.pid_tables.proofs.put_file.bring_in.Given.{Over}
 use Rattle.pid_tables.proofs.put_file.bring_in.Goals as goal
 
@@ -129,7 +129,7 @@ returns-in-Err-apply_file-clause-stops g c =
 pub returns-in-Err-apply_file-clause-read_fault : goal.returns-in-Err-apply_file-clause-read_fault
 returns-in-Err-apply_file-clause-read_fault g c = record {
   told = λ is. absurd (c.in-Err-apply_file.ensures.reads (err_is _ _ is));
-  first = λ fault. search rules;
+  first = λ fault. absurd (ok_apart _ _ (sym c.in-Ok.is ∙ c.put_file.ensures.fault_first fault));
 }
 
 pub returns-in-Ok-commit-clause-ends : goal.returns-in-Ok-commit-clause-ends
@@ -212,3 +212,35 @@ returns-in-Err-commit-clause-stops g c =
 
 pub returns-in-Err-clause-alive : goal.returns-in-Err-clause-alive
 returns-in-Err-clause-alive g c = stop_live c.in-Err.end c.stop_of.result c.stop_of.ensures
+
+pub returns-in-Err-apply_file-clause-alive : goal.returns-in-Err-apply_file-clause-alive
+returns-in-Err-apply_file-clause-alive g c = c.in-Err-apply_file.ensures.alive
+
+pub returns-in-Err-commit-clause-alive : goal.returns-in-Err-commit-clause-alive
+returns-in-Err-commit-clause-alive g c = c.refusal_of.ensures.alive
+
+pub returns-in-Ok-commit-clause-read_fault : goal.returns-in-Ok-commit-clause-read_fault
+returns-in-Ok-commit-clause-read_fault g c = record {
+  told = λ is. absurd (ok_apart _ _ is);
+  first = λ fault. absurd (ok_apart _ _ (sym c.in-Ok.is ∙ c.put_file.ensures.fault_first fault));
+}
+
+pub returns-in-Err-commit-clause-read_fault : goal.returns-in-Err-commit-clause-read_fault
+returns-in-Err-commit-clause-read_fault g c = record {
+  told = λ is. absurd (failed_apart _ (err_is _ _ is));
+  first = λ fault. absurd (ok_apart _ _ (sym c.in-Ok.is ∙ c.put_file.ensures.fault_first fault));
+}
+
+-- ---- the input
+
+pub returns-in-Err-clause-goes : goal.returns-in-Err-clause-goes
+returns-in-Err-clause-goes g c = c.put_file.ensures.goes
+
+pub returns-in-Err-apply_file-clause-goes : goal.returns-in-Err-apply_file-clause-goes
+returns-in-Err-apply_file-clause-goes g c = c.put_file.ensures.goes
+
+pub returns-in-Ok-commit-clause-goes : goal.returns-in-Ok-commit-clause-goes
+returns-in-Ok-commit-clause-goes g c = c.put_file.ensures.goes
+
+pub returns-in-Err-commit-clause-goes : goal.returns-in-Err-commit-clause-goes
+returns-in-Err-commit-clause-goes g c = c.put_file.ensures.goes
