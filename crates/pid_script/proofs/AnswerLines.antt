@@ -1,14 +1,15 @@
 -- The line of an answer, written whole or not after what was held.
 use mathlib.Core.Bool.{true≢false}
-use Rattle.std.proofs.Common.{◌≡◌, ℕ, true, false, List, [], ◌++◌, Result, Err, refl, sym, ap, ◌∙◌, subst, inl, inr}
+use Rattle.std.proofs.Common.{◌≡◌, ℕ, true, false, List, [], ◌++◌, Option, Some, None, Result, Ok, Err, refl, sym, ap, ◌∙◌, subst, inl, inr}
 use Rattle.std.specs.Io.KnownBytes.{Appends}
-use Rattle.std.specs.Prelude.{◌⊎◌}
+use Rattle.std.specs.Prelude.{◌⊎◌, IsSome}
+use Rattle.pid_file.specs.declared.io.WriteFault.{WriteFault as OutputFault}
 use Rattle.pid_moderation.specs.declared.command.Reply.{Reply}
 use Rattle.pid_moderation.specs.declared.refusal.Refusal.{Refusal}
 use Rattle.pid_moderation.specs.ReplyLines.{outcome_line}
 use Rattle.pid_script.specs.declared.line_end.LineEnd.{LineEnd}
 use Rattle.pid_script.specs.declared.line_end.LineEnd.TheVariants.{Stopped, WriteFault}
-use Rattle.pid_script.specs.Steps.Output.{Out, HasSaid, SaysFront, IsReplyOrStop, IsGivenRefusal, IsGivenStop, IsNothing, TellsLine, refusal_given}
+use Rattle.pid_script.specs.Steps.Output.{Out, HasSaid, GoesOnAfter, SaysFront, IsReplyOrStop, IsGivenRefusal, IsGivenStop, IsNothing, TellsLine, refusal_given}
 use Rattle.pid_script.specs.StopLines.{is_stop, IsStopText}
 use Rattle.pid_script.proofs.SayLemmas.{all_out}
 
@@ -16,6 +17,16 @@ use Rattle.pid_script.proofs.SayLemmas.{all_out}
 part_of : (answer : Result Reply Refusal) (reply : List ℕ) → IsReplyOrStop reply answer → (outcome_line answer ≡ reply) ⊎ IsStopText (IsGivenRefusal (refusal_given answer)) IsNothing (outcome_line answer)
 part_of answer reply (inl is) = inl is
 part_of answer reply (inr (e, stop, is)) = inr (record { begun = []; front = refl; refusal = e; cause = (ap refusal_given is, stop); is = ap outcome_line is })
+
+-- a writer that failed keeps its fault
+pub some_fault : (kept : Option OutputFault) (fault : OutputFault) → kept ≡ Some fault → IsSome kept
+some_fault None fault is = cc
+some_fault (Some x) fault is = refl
+
+-- an answer that is no stop goes on
+pub whole_goes : (answer : Result Reply Refusal) → ((e : Refusal) → answer ≡ Err e → is_stop e ≡ false) → GoesOnAfter (Ok tt) (refusal_given answer)
+whole_goes (Ok reply) goes = tt
+whole_goes (Err e) goes = goes e refl
 
 -- the writer failed within it
 pub told_broken : (end : LineEnd) (answer : Result Reply Refusal) (reply : List ℕ) (old new : Out) → end ≡ WriteFault → SaysFront old new (outcome_line answer) → IsReplyOrStop reply answer → TellsLine (Err end) reply (IsGivenStop (refusal_given answer)) old new

@@ -114,6 +114,16 @@ pub none_goes : (r : Result (Unit {0}) LineEnd) → GoesOnAfter r None
 none_goes (Ok x) = tt
 none_goes (Err e) = tt
 
+pub answer_goes : (r : Result (Unit {0}) LineEnd) (found : Result Answer (LookupRefusal Refusal)) (x : Answer) → found ≡ Ok x → GoesOnAfter r (refusal_of_names found)
+answer_goes r found x is = subst (λ f. GoesOnAfter r (refusal_of_names f)) (sym is) (none_goes r)
+
+pub name_goes : {X : Type 0} (r : Result (Unit {0}) LineEnd) (name : Result X Refusal) (x : X) → name ≡ Ok x → GoesOnAfter r (refusal_given name)
+name_goes r name x is = subst (λ n. GoesOnAfter r (refusal_given n)) (sym is) (none_goes r)
+
+-- the fault of a line that ends so
+pub err_fault : {P : Type 0} (e : LineEnd) → (e ≡ WriteFault → P) → ◌≡◌ {A = Result (Unit {0}) LineEnd} (Err e) (Err WriteFault) → P
+err_fault e fault is = fault (cc is)
+
 pub only_fault : (r : Result (Unit {0}) LineEnd) → IfErr r (λ e. e ≡ WriteFault) → r ≡ Err TooLong → ⊥
 only_fault (Ok x) end is = absurd cc
 only_fault (Err e) end is = let other : WriteFault ≡ TooLong = sym end ∙ cc is in absurd cc

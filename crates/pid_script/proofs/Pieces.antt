@@ -1,8 +1,9 @@
 -- The lines of a piece of the text, and the open line behind them.
-use Rattle.std.proofs.Common.{◌≡◌, ◌≤◌, ℕ, ◌+◌, List, [], ◌∷◌, ◌++◌, length, Option, Result, Ok, Err, refl, sym, ap, ◌∙◌, subst, append_assoc, arith}
-use Rattle.std.proofs.lemmas.List.{append-nil}
+use Rattle.std.proofs.Common.{◌≡◌, ◌<◌, ◌≤◌, ℕ, ◌+◌, true, false, Vec, List, [], ◌∷◌, ◌++◌, length, Option, Result, Ok, Err, refl, sym, ap, ◌∙◌, subst, append_assoc, arith}
+use Rattle.std.proofs.lemmas.Bool.Decides.{nat_tests}
+use Rattle.std.proofs.lemmas.List.{append-nil, nil_from_length}
 use Rattle.std.specs.Io.KnownBytes.{Appends}
-use Rattle.std.specs.Prelude.{OnOk, IfErr, OnErr}
+use Rattle.std.specs.Prelude.{◌==◌, vec_len, OnOk, IfErr, OnErr}
 use Rattle.pid_ident.specs.Sending.{SendsFront}
 use Rattle.pid_reader.specs.Lines.{drop_cr, lines_of}
 use Rattle.pid_moderation.specs.History.{History}
@@ -39,6 +40,24 @@ half_start m piece old was kept = record {
   calls = go_still m.showing old;
   answered = λ _ h start first text stands a. subst (HasAnswered m h start first old was kept) (sym (append-nil text)) a;
 }
+
+-- an open line, or what is left of a piece, by whether it is empty
+pub nothing_left : (xs : List ℕ) → true ≡ (length xs == 0) → xs ≡ []
+nothing_left xs e = nil_from_length xs (grind (arith, nat_tests, e))
+
+pub something_left : (xs : List ℕ) → false ≡ (length xs == 0) → xs ≡ [] → ⊥
+something_left xs e is =
+    let none : length xs ≡ 0 = ap length is in
+    let some : 0 < length xs = grind (arith, nat_tests, e) in
+    omega arith
+
+pub nothing_kept : {A : Type 0} (v : Vec ℕ A) → true ≡ (vec_len v == 0) → v.items ≡ []
+nothing_kept v e = nil_from_length v.items (grind (arith, nat_tests, e))
+
+pub no_open_line : {A X : Type 0} (v : Vec ℕ A) → true ≡ (vec_len v == 0) → 0 < length v.items → X
+no_open_line v e some =
+    let none : length v.items ≡ 0 = ap length (nothing_kept v e) in
+    absurd (omega (arith, some))
 
 -- no open line is short enough
 pub no_line : (kept : List ℕ) → kept ≡ [] → length kept ≤ LONGEST + 1

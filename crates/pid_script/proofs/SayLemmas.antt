@@ -79,6 +79,11 @@ pub out_front : (r : Result (Unit {0}) LineEnd) (a b : Out) (new : Option (List 
 out_front (Ok u) a b new x p q = tt
 out_front (Err e) a b new x p q = said_front a b new x p q
 
+-- and all went out
+pub out_whole : (r : Result (Unit {0}) LineEnd) (a b : Out) (new : Option (List ℕ)) (x : List ℕ) → HasSaid a b x → OnOk r (Appends b.taken new b.held) → OnOk r (Appends a.taken new (a.held ++ x))
+out_whole (Ok u) a b new x p q = subst (Appends a.taken new) (sym p.rest) (Appends-then a.taken b.taken new p.sent b.held p.told q)
+out_whole (Err e) a b new x p q = tt
+
 -- not all of what is held went out
 pub unsent_front : (old new : Option (List ℕ)) (was now text : List ℕ) → now ≡ was → SendsFront old new now → SendsFront old new (was ++ text)
 unsent_front old new was now text same front = front-before old new was text (subst (SendsFront old new) same front)

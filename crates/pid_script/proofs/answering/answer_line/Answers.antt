@@ -2,6 +2,7 @@ use Rattle.std.proofs.Common.{Ok, Err, subst}
 use Rattle.pid_script.specs.Steps.Output.{out, AnswersLine}
 use Rattle.pid_script.proofs.OtherLines.{unclear, long, idle}
 use Rattle.pid_script.proofs.Calling.{go_still}
+use Rattle.pid_script.proofs.Asked.{err_fault}
 use Rattle.pid_script.proofs.answering.answer_line.Goals as goal
 
 pub returns-in-Export-clause-ends : goal.returns-in-Export-clause-ends
@@ -35,3 +36,33 @@ returns-in-Read-clause-ends g c = λ honest h stands. subst (λ a. AnswersLine g
 
 pub returns-in-Lookup-clause-ends : goal.returns-in-Lookup-clause-ends
 returns-in-Lookup-clause-ends g c = λ honest h stands. subst (λ a. AnswersLine g.R.Moderated c.lookup.result a h c.args.registry.now (out (g.O.Output.taken c.args.output.now) c.args.held.now.items) c.lookup.new.registry (out (g.O.Output.taken c.lookup.new.output) c.lookup.new.held.items)) c.in-Lookup.ensures (c.lookup.ensures.ends honest h stands)
+
+pub returns-in-Command-clause-calls : goal.returns-in-Command-clause-calls
+returns-in-Command-clause-calls g c = c.obey.ensures.calls
+
+pub returns-in-Command-clause-fault : goal.returns-in-Command-clause-fault
+returns-in-Command-clause-fault g c = c.obey.ensures.fault
+
+pub returns-in-Export-clause-calls : goal.returns-in-Export-clause-calls
+returns-in-Export-clause-calls g c = c.export.ensures.calls
+
+pub returns-in-Export-clause-fault : goal.returns-in-Export-clause-fault
+returns-in-Export-clause-fault g c = c.export.ensures.fault
+
+pub returns-in-Read-clause-calls : goal.returns-in-Read-clause-calls
+returns-in-Read-clause-calls g c = c.read.ensures.calls
+
+pub returns-in-Read-clause-fault : goal.returns-in-Read-clause-fault
+returns-in-Read-clause-fault g c = c.read.ensures.fault
+
+pub returns-in-Lookup-clause-calls : goal.returns-in-Lookup-clause-calls
+returns-in-Lookup-clause-calls g c = c.lookup.ensures.calls
+
+pub returns-in-Lookup-clause-fault : goal.returns-in-Lookup-clause-fault
+returns-in-Lookup-clause-fault g c = c.lookup.ensures.fault
+
+pub returns-in-Unclear-clause-fault : goal.returns-in-Unclear-clause-fault
+returns-in-Unclear-clause-fault g c = c.send_bad_text.ensures.fault
+
+pub returns-in-TooLong-clause-fault : goal.returns-in-TooLong-clause-fault
+returns-in-TooLong-clause-fault g c = err_fault c.refuse_long.result c.refuse_long.ensures.fault

@@ -38,3 +38,6 @@ returns-in-Err-Write-clause-calls g c = go_one g.R.Moderated.showing c.args.regi
 
 pub returns-in-Err-Refused-clause-calls : goal.returns-in-Err-Refused-clause-calls
 returns-in-Err-Refused-clause-calls g c = go_one g.R.Moderated.showing c.args.registry.now c.export.new.self nothing_sent c.export.ensures.calls
+
+pub returns-in-Err-Refused-clause-fault : goal.returns-in-Err-Refused-clause-fault
+returns-in-Err-Refused-clause-fault g c = c.send_answer.ensures.fault

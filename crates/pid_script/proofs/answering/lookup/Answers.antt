@@ -2,7 +2,7 @@ use Rattle.std.proofs.Common.{ap, ◌∙◌}
 use Rattle.std.specs.Option.{option_map}
 use Rattle.pid_lookup.specs.Fields.{as_lookup as lookup_told}
 use Rattle.pid_script.specs.Steps.Output.{out}
-use Rattle.pid_script.proofs.Asked.{looked_for, bad_lookup, no_lookup}
+use Rattle.pid_script.proofs.Asked.{err_fault, looked_for, bad_lookup, no_lookup}
 use Rattle.pid_service_laws.specs.Calls.{nothing_sent}
 use Rattle.pid_script.proofs.Calling.{go_one, go_still}
 use Rattle.pid_script.proofs.answering.lookup.Goals as goal
@@ -34,3 +34,12 @@ returns-in-Ok-None-clause-calls g c = go_still g.R.Moderated.showing c.args.regi
 
 pub returns-in-Err-clause-calls : goal.returns-in-Err-clause-calls
 returns-in-Err-clause-calls g c = go_still g.R.Moderated.showing c.args.registry.now
+
+pub returns-in-Ok-Some-clause-fault : goal.returns-in-Ok-Some-clause-fault
+returns-in-Ok-Some-clause-fault g c = c.send_found.ensures.fault
+
+pub returns-in-Ok-None-clause-fault : goal.returns-in-Ok-None-clause-fault
+returns-in-Ok-None-clause-fault g c = c.send_bad_text.ensures.fault
+
+pub returns-in-Err-clause-fault : goal.returns-in-Err-clause-fault
+returns-in-Err-clause-fault g c = err_fault c.stop_for_memory.result c.stop_for_memory.ensures.fault

@@ -29,3 +29,9 @@ returns-in-Ok-clause-calls g c = go_one g.R.Moderated.showing c.args.registry.no
 
 pub returns-in-Err-clause-calls : goal.returns-in-Err-clause-calls
 returns-in-Err-clause-calls g c = go_still g.R.Moderated.showing c.args.registry.now
+
+pub returns-in-Ok-clause-fault : goal.returns-in-Ok-clause-fault
+returns-in-Ok-clause-fault g c = c.send_answer.ensures.fault
+
+pub returns-in-Err-clause-fault : goal.returns-in-Err-clause-fault
+returns-in-Err-clause-fault g c = c.send_answer-in-Err.ensures.fault

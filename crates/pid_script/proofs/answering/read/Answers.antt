@@ -32,3 +32,9 @@ returns-in-Ok-clause-ends g c = λ honest h stands.
     (out (g.O.Output.taken c.args.output.now) c.args.held.now.items) (out (g.O.Output.taken c.send_name.new.output) c.send_name.new.held.items) (λ name. name ≡ name_at (path_text c.in-Ok.path) (items_of h))
     c.in-Ok.ensures.ok (c.read-name.ensures.told honest h) (c.read-name.ensures.kept honest h) c.read-name.ensures.failed
     (c.send_name.ensures.told (name_at (path_text c.in-Ok.path) (items_of h))) c.send_name.ensures.goes_on c.send_name.ensures.fits c.read-name.ensures.calls stands
+
+pub returns-in-Ok-clause-fault : goal.returns-in-Ok-clause-fault
+returns-in-Ok-clause-fault g c = c.send_name.ensures.fault
+
+pub returns-in-Err-clause-fault : goal.returns-in-Err-clause-fault
+returns-in-Err-clause-fault g c = c.send_answer.ensures.fault

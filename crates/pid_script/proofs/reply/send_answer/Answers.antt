@@ -1,6 +1,6 @@
 use Rattle.pid_moderation.specs.ReplyLines.{outcome_line}
 use Rattle.pid_script.specs.Steps.Output.{out}
-use Rattle.pid_script.proofs.AnswerLines.{told_broken, told_stopped, told_whole}
+use Rattle.pid_script.proofs.AnswerLines.{whole_goes, some_fault, told_broken, told_stopped, told_whole}
 use Rattle.pid_script.proofs.SayLemmas.{Appends-then, front-before, front-then}
 use Rattle.std.proofs.Common.{refl}
 use Rattle.pid_script.proofs.reply.send_answer.Goals as goal
@@ -30,3 +30,15 @@ returns-clause-told g c = λ reply is.
     told_whole c.args.answer reply (out (g.O.Output.taken c.args.output.now) c.args.held.now.items) (out (g.O.Output.taken c.write_reply_line.new.out) c.flush.new.held.items)
     (Appends-then (g.O.Output.taken c.args.output.now) (g.O.Output.taken c.flush.new.output) (g.O.Output.taken c.write_reply_line.new.out) c.args.held.now.items (outcome_line c.args.answer) c.in_default.ensures.sent c.in-Ok.ensures.sent)
     c.in_default.ensures.empty (c.stops.ensures.false_at c.if-stops.false) is
+
+pub returns-clause-goes_on : goal.returns-clause-goes_on
+returns-clause-goes_on g c = whole_goes c.args.answer (c.stops.ensures.false_at c.if-stops.false)
+
+pub returns-clause-empty : goal.returns-clause-empty
+returns-clause-empty g c = c.in_default.ensures.empty
+
+pub returns-in-Err-clause-fault : goal.returns-in-Err-clause-fault
+returns-in-Err-clause-fault g c = c.in-Err.ensures.fault
+
+pub returns-in_default-write_reply_line-clause-fault : goal.returns-in_default-write_reply_line-clause-fault
+returns-in_default-write_reply_line-clause-fault g c = λ is. some_fault _ _ c.in_default-write_reply_line.ensures.fault

@@ -1,10 +1,10 @@
-use Rattle.std.proofs.Common.{◌≡◌, ℕ, List, [], ◌++◌, sym, ap, ◌∙◌, subst, arith}
-use Rattle.std.proofs.lemmas.Bool.Decides.{nat_tests}
-use Rattle.std.proofs.lemmas.List.{nil_from_length}
+use Rattle.std.proofs.Common.{◌≡◌, ℕ, List, [], ◌++◌, sym, ap, ◌∙◌, subst}
 use Rattle.pid_reader.specs.Lines.{drop_cr}
 use Rattle.pid_script.specs.Steps.Output.{out, AnswersLine}
 use Rattle.pid_script.specs.ScriptLines.{ask_of}
+use Rattle.pid_script.proofs.Asked.{always}
 use Rattle.pid_script.proofs.OtherLines.{unfit_here}
+use Rattle.pid_script.proofs.Pieces.{nothing_kept, no_open_line}
 use Rattle.pid_script.proofs.Calling.{go_still}
 use Rattle.pid_script.proofs.script.end_line.Goals as goal
 
@@ -16,7 +16,7 @@ returns-in-Err-clause-calls g c = go_still g.R.Moderated.showing c.args.registry
 
 pub returns-then-is_empty-clause-ends : goal.returns-then-is_empty-clause-ends
 returns-then-is_empty-clause-ends g c = λ honest h stands.
-    let none : c.args.kept.now.items ≡ [] = nil_from_length c.args.kept.now.items (grind (arith, nat_tests, c.if-is_empty.ensures)) in
+    let none : c.args.kept.now.items ≡ [] = nothing_kept c.args.kept.now c.if-is_empty.ensures in
     subst (λ l. AnswersLine g.R.Moderated c.answer_line.result (ask_of l) h c.args.registry.now (out (g.O.Output.taken c.args.output.now) c.args.held.now.items) c.answer_line.new.registry (out (g.O.Output.taken c.answer_line.new.output) c.answer_line.new.held.items))
     (c.without_cr.ensures ∙ ap (λ (k : List ℕ). drop_cr (k ++ c.args.front.now)) (sym none)) (c.answer_line.ensures.ends honest h stands)
 
@@ -28,3 +28,27 @@ returns-clause-ends g c = λ honest h stands.
     (subst (λ o. AnswersLine g.R.Moderated c.answer_line-answered.result (ask_of c.without_cr-2.result.now) h c.args.registry.now (out (g.O.Output.taken o) c.args.held.now.items) c.answer_line-answered.new.registry new) c.in_default.ensures.silent
     (subst (λ l. AnswersLine g.R.Moderated c.answer_line-answered.result (ask_of c.without_cr-2.result.now) h c.args.registry.now (out (g.O.Output.taken c.keep.new.output) l) c.answer_line-answered.new.registry new) c.in_default.ensures.still
     (c.answer_line-answered.ensures.ends honest h stands)))
+
+pub returns-then-is_empty-clause-empty : goal.returns-then-is_empty-clause-empty
+returns-then-is_empty-clause-empty g c = always c.answer_line.result _ (nothing_kept c.args.kept.now c.if-is_empty.ensures)
+
+pub returns-then-is_empty-clause-let_go : goal.returns-then-is_empty-clause-let_go
+returns-then-is_empty-clause-let_go g c = always c.answer_line.result _ (λ some. no_open_line c.args.kept.now c.if-is_empty.ensures some)
+
+pub returns-then-is_empty-clause-calls : goal.returns-then-is_empty-clause-calls
+returns-then-is_empty-clause-calls g c = c.answer_line.ensures.calls
+
+pub returns-then-is_empty-clause-fault : goal.returns-then-is_empty-clause-fault
+returns-then-is_empty-clause-fault g c = c.answer_line.ensures.fault
+
+pub returns-clause-empty : goal.returns-clause-empty
+returns-clause-empty g c = always c.answer_line-answered.result _ c.new.ensures.items
+
+pub returns-clause-let_go : goal.returns-clause-let_go
+returns-clause-let_go g c = always c.answer_line-answered.result _ (λ some. c.new.ensures.capacity)
+
+pub returns-clause-calls : goal.returns-clause-calls
+returns-clause-calls g c = c.answer_line-answered.ensures.calls
+
+pub returns-clause-fault : goal.returns-clause-fault
+returns-clause-fault g c = c.answer_line-answered.ensures.fault

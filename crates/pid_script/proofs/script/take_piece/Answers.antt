@@ -1,8 +1,6 @@
-use Rattle.std.proofs.Common.{◌≡◌, ◌<◌, ◌++◌, length, ap, arith}
-use Rattle.std.proofs.lemmas.Bool.Decides.{nat_tests}
-use Rattle.std.proofs.lemmas.List.{nil_from_length}
+use Rattle.std.proofs.Common.{◌++◌}
 use Rattle.pid_script.specs.Steps.Output.{out}
-use Rattle.pid_script.proofs.Pieces.{half_start, half_stop, half_more, half_whole, half_kept_on, half_unfit, piece_flushed_on, piece_broken_on}
+use Rattle.pid_script.proofs.Pieces.{half_start, half_stop, half_more, half_whole, half_kept_on, half_unfit, nothing_left, something_left, piece_flushed_on, piece_broken_on}
 use Rattle.pid_script.proofs.Calling.{go_then}
 use Rattle.pid_script.proofs.script.take_piece.Goals as goal
 
@@ -27,7 +25,7 @@ returns-then-is_empty-clause-answered g c = λ honest h start first text stands 
     let now = out (g.O.Output.taken c.loop-front.output) c.loop-front.held.items in
     piece_flushed_on g.R.Moderated c.flush.result h start first c.loop-front.registry now (g.O.Output.taken c.flush.new.output) c.flush.new.held.items c.loop-front.kept.items (text ++ c.args.piece.now)
     (half_whole g.R.Moderated c.args.piece.now c.loop-front.rest.now c.args.registry.now c.loop-front.registry old now c.args.kept.now.items c.loop-front.kept.items
-    c.loop-front.invariant (nil_from_length c.loop-front.rest.now (grind (arith, nat_tests, c.if-is_empty.ensures))) honest h start first text stands a) c.flush.ensures.sent c.flush.ensures.empty
+    c.loop-front.invariant (nothing_left c.loop-front.rest.now c.if-is_empty.ensures) honest h start first text stands a) c.flush.ensures.sent c.flush.ensures.empty
 
 pub returns-then-is_empty-clause-ended : goal.returns-then-is_empty-clause-ended
 returns-then-is_empty-clause-ended g c = λ honest h start first text more stands a.
@@ -35,13 +33,12 @@ returns-then-is_empty-clause-ended g c = λ honest h start first text more stand
     let now = out (g.O.Output.taken c.loop-front.output) c.loop-front.held.items in
     piece_broken_on g.R.Moderated c.flush.result h start first c.loop-front.registry now (out (g.O.Output.taken c.flush.new.output) c.flush.new.held.items) c.loop-front.kept.items (text ++ c.args.piece.now) more
     (half_whole g.R.Moderated c.args.piece.now c.loop-front.rest.now c.args.registry.now c.loop-front.registry old now c.args.kept.now.items c.loop-front.kept.items
-    c.loop-front.invariant (nil_from_length c.loop-front.rest.now (grind (arith, nat_tests, c.if-is_empty.ensures))) honest h start first text stands a) c.flush.ensures.end c.flush.ensures.front
+    c.loop-front.invariant (nothing_left c.loop-front.rest.now c.if-is_empty.ensures) honest h start first text stands a) c.flush.ensures.end c.flush.ensures.front
 
 pub returns-in-Err-keep-clause-ended : goal.returns-in-Err-keep-clause-ended
 returns-in-Err-keep-clause-ended g c =
-    let some : 0 < length c.loop-front.rest.now = grind (arith, nat_tests, c.if-is_empty.ensures) in
     half_unfit g.R.Moderated c.in-Err-keep.end c.args.piece.now c.loop-front.rest.now c.args.registry.now c.loop-front.registry (out (g.O.Output.taken c.args.output.now) c.args.held.now.items) (out (g.O.Output.taken c.loop-front.output) c.loop-front.held.items) (out (g.O.Output.taken c.keep.new.output) c.keep.new.held.items) c.args.kept.now.items c.loop-front.kept.items
-    c.loop-front.invariant c.in_default.ensures.parts (λ e. let none : length c.loop-front.rest.now ≡ 0 = ap length e in omega arith) c.in-Err-keep.ensures.unfit
+    c.loop-front.invariant c.in_default.ensures.parts (something_left c.loop-front.rest.now c.if-is_empty.ensures) c.in-Err-keep.ensures.unfit
 
 pub returns-clause-answered : goal.returns-clause-answered
 returns-clause-answered g c = λ honest h start first text stands a.
@@ -66,3 +63,21 @@ returns-in-Err-keep-clause-calls g c = c.loop-front.invariant.calls
 
 pub returns-clause-calls : goal.returns-clause-calls
 returns-clause-calls g c = c.loop-front.invariant.calls
+
+pub returns-then-is_empty-clause-fault : goal.returns-then-is_empty-clause-fault
+returns-then-is_empty-clause-fault g c = c.flush.ensures.fault
+
+pub returns-then-is_empty-clause-empty : goal.returns-then-is_empty-clause-empty
+returns-then-is_empty-clause-empty g c = c.flush.ensures.empty
+
+pub returns-in-Err-clause-fault : goal.returns-in-Err-clause-fault
+returns-in-Err-clause-fault g c = c.in-Err.ensures.fault
+
+pub returns-in-Err-keep-clause-fault : goal.returns-in-Err-keep-clause-fault
+returns-in-Err-keep-clause-fault g c = c.in-Err-keep.ensures.fault
+
+pub returns-clause-fault : goal.returns-clause-fault
+returns-clause-fault g c = c.flush-2.ensures.fault
+
+pub returns-clause-empty : goal.returns-clause-empty
+returns-clause-empty g c = c.flush-2.ensures.empty
