@@ -1,6 +1,6 @@
 -- The field of the key among the fields of a command.
-use Rattle.std.proofs.Common.{◌≡◌, ℕ, zero, suc, ◌<◌, ◌≤◌, Bool, true, false, cond, List, [], ◌∷◌, length, Some, None, refl, sym, ap, ◌∙◌, arith, String, get_or, subst}
-use Rattle.std.specs.Prelude.{string_bytes, nat_lt, codes, slice_get, ◌+◌, not}
+use Rattle.std.proofs.Common.{◌≡◌, ℕ, zero, suc, ◌<◌, ◌≤◌, Bool, true, false, cond, List, [], ◌∷◌, length, Some, None, refl, sym, ap, ◌∙◌, arith, String, Vec, get_or, drop, subst}
+use Rattle.std.specs.Prelude.{string_bytes, vec_len, nat_lt, codes, slice_get, ◌+◌, not}
 use Rattle.std.specs.List.{position, position_or_len, remove}
 use Rattle.std.specs.Str.{bytes_eq}
 use Rattle.std.proofs.lemmas.Bool.Decides.{nat_tests}
@@ -59,3 +59,44 @@ pub key_at : {A : Type 0} (fs : List (String A × String A)) (f : String A × St
 key_at fs f i h is =
     let place = some_place _ _ i _ refl h in
     value_found (codes "key") fs f (find_at is_key fs ∙ ap (slice_get fs) place.0 ∙ got fs i f (subst (λ n. n < length fs) place.0 place.1) is)
+
+-- THE WALK THAT FINDS IT
+
+here : {A : Type 0} (fs : List (String A × String A)) (i : ℕ) (f : String A × String A) → i < length fs → f ≡ get_or fs i f → is_key f ≡ true → position_or_len is_key (drop i fs) ≡ 0
+here [] i f h e k = absurd (omega arith)
+here (g ∷ gs) zero f h e k = ap (λ b. cond (not b) (1 + position_or_len is_key gs) 0) (ap is_key (sym e) ∙ k)
+here (g ∷ gs) (suc i) f h e k = here gs i f (omega arith) e k
+
+behind_all : {A : Type 0} (fs : List (String A × String A)) (i : ℕ) → length fs ≤ i → position_or_len is_key (drop i fs) ≡ 0
+behind_all [] zero h = refl
+behind_all [] (suc i) h = refl
+behind_all (g ∷ gs) zero h = absurd (omega arith)
+behind_all (g ∷ gs) (suc i) h = behind_all gs i (omega arith)
+
+place_is : (p n i : ℕ) → p ≡ i → i < n → cond (nat_lt p n) (Some p) None ≡ Some i
+place_is p n i e h = let less : nat_lt p n ≡ true = grind (arith, nat_tests, e, h) in ap (λ b. cond b (Some p) None) less ∙ ap Some e
+
+no_place_is : (p n : ℕ) → n ≤ p → cond (nat_lt p n) (Some p) None ≡ None
+no_place_is p n h = let not_less : nat_lt p n ≡ false = grind (arith, nat_tests, h) in ap (λ b. cond b (Some p) None) not_less
+
+added_none : (p i k : ℕ) → p ≡ i + k → k ≡ 0 → p ≡ i
+added_none p i k e z = omega arith
+
+in_vec : {X A : Type 0} (v : Vec X A) (i n : ℕ) → n ≡ vec_len v → i < n → i < length v.items
+in_vec v i n e h = omega arith
+
+all_of : {X A : Type 0} (v : Vec X A) (i n : ℕ) → n ≡ vec_len v → n ≤ i → length v.items ≤ i
+all_of v i n e h = omega arith
+
+pub key_place : {A : Type 0} (v : Vec (String A × String A) A) (i n : ℕ) (f : String A × String A) (word : List ℕ) → n ≡ vec_len v → i < n → position_or_len is_key v.items ≡ i + position_or_len is_key (drop i v.items) → f ≡ get_or v.items i f → word ≡ string_bytes f.0 → true ≡ bytes_eq word (codes "key") → position is_key v.items ≡ Some i
+key_place v i n f word e h so_far is named key =
+    let less = in_vec v i n e h in
+    place_is (position_or_len is_key v.items) (length v.items) i (added_none _ i _ so_far (here v.items i f less is (ap (λ w. bytes_eq w (codes "key")) (sym named) ∙ sym key))) less
+
+pub no_key : {A : Type 0} (v : Vec (String A × String A) A) (i n : ℕ) → n ≡ vec_len v → n ≤ i → position_or_len is_key v.items ≡ i + position_or_len is_key (drop i v.items) → position is_key v.items ≡ None
+no_key v i n e h so_far =
+    let all = all_of v i n e h in
+    no_place_is (position_or_len is_key v.items) (length v.items) (from_all (added_none _ i _ so_far (behind_all v.items i all)) all)
+  where
+    from_all : {p n i : ℕ} → p ≡ i → n ≤ i → n ≤ p
+    from_all e h = omega (arith, e, h)

@@ -25,7 +25,7 @@ ghost use Rattle.std.specs.Prelude.{
   IsErr,
 };
 ghost use Rattle.std.specs.Option.{option_copied, option_map};
-ghost use Rattle.std.specs.List.{position, position_or_len, remove};
+ghost use Rattle.std.specs.List.{position_or_len, remove};
 ghost use Rattle.std.specs.Str.{bytes_eq};
 ghost use Rattle.pid_moderation.specs.Fields.{
   Fields,
@@ -46,21 +46,19 @@ use pid_ident::{Path, PathText};
 use pid_moderation::{Command, Refusal, Verb, command_of};
 use std::alloc::Global;
 
-fn key_place(fields: &[(String, String)]) -> Option<usize>
-    ensures { result ≡ position (λ f. bytes_eq (string_bytes f.0) (codes "key")) fields.now }
-{
-    fields.iter().position(|field| field.0.as_str() == "key")
-}
-
 // Takes the key out of the fields.
 fn take_key(fields: &mut Vec<(String, String)>) -> Option<String>
     ensures key { option_map string_bytes result
         ≡ value_in (codes "key") (texts_of fields.old.items) }
     ensures others { texts_of fields.new.items ≡ other_fields (texts_of fields.old.items) }
 {
-    let place = key_place(fields)?;
-    let (_, key) = fields.remove(place);
-    Some(key)
+    for place in 0..fields.len() {
+        if fields[place].0.as_str() == "key" {
+            let (_, key) = fields.remove(place);
+            return Some(key);
+        }
+    }
+    None
 }
 
 fn command_with(

@@ -1,5 +1,6 @@
 use Rattle.std.proofs.Common.{◌++◌, arith, length-append}
 use Rattle.pid_script.specs.Steps.Output.{out}
+use Rattle.pid_script.proofs.Asked.{err_fault}
 use Rattle.pid_script.proofs.OtherLines.{unfit_memory, unfit_long}
 use Rattle.pid_script.proofs.script.keep.Goals as goal
 
@@ -12,3 +13,9 @@ pub returns-in-Err-clause-unfit : goal.returns-in-Err-clause-unfit
 returns-in-Err-clause-unfit g c =
     unfit_memory c.stop_for_memory.result (c.args.kept.now.items ++ c.args.piece.now) (out (g.O.Output.taken c.args.output.now) c.args.held.now.items) (out (g.O.Output.taken c.stop_for_memory.new.output) c.stop_for_memory.new.held.items)
     c.stop_for_memory.ensures.told c.stop_for_memory.ensures.fits
+
+pub returns-then-saturating_sub-piece-clause-fault : goal.returns-then-saturating_sub-piece-clause-fault
+returns-then-saturating_sub-piece-clause-fault g c = err_fault c.refuse_long.result c.refuse_long.ensures.fault
+
+pub returns-in-Err-clause-fault : goal.returns-in-Err-clause-fault
+returns-in-Err-clause-fault g c = err_fault c.stop_for_memory.result c.stop_for_memory.ensures.fault

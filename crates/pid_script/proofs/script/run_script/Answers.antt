@@ -117,3 +117,6 @@ returns-in-Err-clause-caught_up g c =
 
 pub returns-clause-caught_up : goal.returns-clause-caught_up
 returns-clause-caught_up g c = c.loop-turn.invariant.1.1.0
+
+pub returns-clause-goes : goal.returns-clause-goes
+returns-clause-goes g c = c.loop-turn.invariant.1.0
