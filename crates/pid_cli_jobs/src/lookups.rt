@@ -1,5 +1,5 @@
 //! Lookups in a pci.ids file.
-ghost use Rattle.std.specs.Prelude.{◌≡◌, ◌⊎◌, ◌++◌, IfOk, IsSome, OnOk};
+ghost use Rattle.std.specs.Prelude.{◌≡◌, ◌⊎◌, ◌++◌, [], IfOk, IsSome, OnOk};
 ghost use Rattle.pid_file.specs.Writing.{use_of};
 ghost use Rattle.pid_lookup.specs.Fields.{bytes_of};
 ghost use Rattle.pid_cli_words.specs.Jobs.{text_given};
@@ -40,19 +40,24 @@ fn push_given(
     Ok(())
 }
 
-fn fields_of(alloc: Global, words: &LookupWords<'_>) -> Result<Vec<(String, String)>, AllocError>
-    ensures { IfOk result (λ fields. bytes_of fields.items ≡ fields_given words.now) }
+// Adds the fields that the arguments give.
+fn push_fields(
+    alloc: Global,
+    fields: &mut Vec<(String, String)>,
+    words: &LookupWords<'_>,
+) -> Result<(), AllocError>
+    ensures { fields.old.items ≡ []
+        → OnOk result (bytes_of fields.new.items ≡ fields_given words.now) }
 {
-    let mut fields = Vec::new(alloc);
-    push_given(alloc, &mut fields, "flags", Some(words.flags))?;
-    push_given(alloc, &mut fields, "size", words.size)?;
-    push_given(alloc, &mut fields, "vendor", words.vendor)?;
-    push_given(alloc, &mut fields, "device", words.device)?;
-    push_given(alloc, &mut fields, "subvendor", words.subvendor)?;
-    push_given(alloc, &mut fields, "subdevice", words.subdevice)?;
-    push_given(alloc, &mut fields, "class", words.class)?;
-    push_given(alloc, &mut fields, "progif", words.progif)?;
-    Ok(fields)
+    push_given(alloc, fields, "flags", Some(words.flags))?;
+    push_given(alloc, fields, "size", words.size)?;
+    push_given(alloc, fields, "vendor", words.vendor)?;
+    push_given(alloc, fields, "device", words.device)?;
+    push_given(alloc, fields, "subvendor", words.subvendor)?;
+    push_given(alloc, fields, "subdevice", words.subdevice)?;
+    push_given(alloc, fields, "class", words.class)?;
+    push_given(alloc, fields, "progif", words.progif)?;
+    Ok(())
 }
 
 /// Checks the values of the arguments and returns the lookup that they ask for.
@@ -62,7 +67,8 @@ pub fn read_words(
 ) -> Result<Result<Lookup, BadField>, AllocError>
     ensures { IfOk result (λ read. IsReadFrom (fields_given words.now) read) }
 {
-    let fields = fields_of(alloc, words)?;
+    let mut fields = Vec::new(alloc);
+    push_fields(alloc, &mut fields, words)?;
     match args_of(&fields) {
         Ok((flags, args, size)) => Ok(Ok(Lookup { flags, args, size })),
         Err(bad) => Ok(Err(bad)),

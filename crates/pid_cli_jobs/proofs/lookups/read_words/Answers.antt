@@ -5,10 +5,10 @@ use Rattle.pid_cli_jobs.proofs.lookups.read_words.Goals as goal
 
 pub returns-in-Ok : goal.returns-in-Ok
 returns-in-Ok c =
-    let all : bytes_of c.in_ok-fields.fields.items ≡ fields_given c.args.words.now = c.in_ok-fields.ensures in
+    let all : bytes_of c.push_fields.new.fields.items ≡ fields_given c.args.words.now = c.in_ok-push_fields.ensures c.new-fields.ensures.items in
     ap lookup_from (sym all) ∙ ap (λ fs. lookup_from (bytes_of fs)) (sym c.deref.ensures.value) ∙ c.in-Ok.ensures.ok
 
 pub returns : goal.returns
 returns c =
-    let all : bytes_of c.in_ok-fields.fields.items ≡ fields_given c.args.words.now = c.in_ok-fields.ensures in
+    let all : bytes_of c.push_fields.new.fields.items ≡ fields_given c.args.words.now = c.in_ok-push_fields.ensures c.new-fields.ensures.items in
     ap are_bad (sym all) ∙ ap (λ fs. are_bad (bytes_of fs)) (sym c.deref.ensures.value) ∙ c.in-Err.ensures.bad.0 refl
