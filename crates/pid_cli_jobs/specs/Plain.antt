@@ -81,8 +81,8 @@ module _ {E R W : Type 0} (files : disk.Ghosts E) (image : Image) (memory : Ghos
     (holds : R → Option (List ℕ)) (writer : outputs.Ghosts W) where
   -- What a job does, and this becomes of its input.
   abbrev pub DoesPlain : PlainJob → InputUse → Wrote R W → Type 0
-  DoesPlain (plain.Lookup words) input w = LooksUpInFile holds writer words.ids.now
-      (fields_given words) w
+  DoesPlain (plain.Lookup words) input w = LooksUpInFile holds writer words.now.ids.now
+      (fields_given words.now) w
   DoesPlain (plain.Script (Some db)) input w = DoesInFiles files image writer db.now
       (ToWork (ToAnswer input)) w
   DoesPlain (plain.Script None) input w = WorksOnNew memory writer (ToAnswer input) w

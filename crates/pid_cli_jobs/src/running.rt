@@ -61,7 +61,7 @@ pub fn run_words<S: Start, I: Read + Drop, O: Write + Drop, F: Write + Drop>(
         Job::Tidy => return run_tidy(rt.alloc(), input, output, faults).0,
         Job::Check => return run_check(rt.alloc(), input, output, faults).0,
         Job::Export { db } => return run_export(rt, start, db, output, faults),
-        Job::Lookup(words) => PlainJob::Lookup(words),
+        Job::Lookup(ref words) => PlainJob::Lookup(words),
         Job::Script { db } => PlainJob::Script(db),
         Job::Import {
             db,
@@ -92,7 +92,7 @@ pub fn run_words<S: Start, I: Read + Drop, O: Write + Drop, F: Write + Drop>(
 /// is the account and the key.
 #[derive(Clone, Copy)]
 pub enum PlainJob<'a> {
-    Lookup(LookupWords<'a>),
+    Lookup(&'a LookupWords<'a>),
     Script(Option<&'a str>),
     Import {
         files: (&'a str, &'a str),
@@ -167,7 +167,7 @@ fn do_plain<M: Machine, S: Start, I: Incoming<O>, O: Output, F: Output>(
     ensures reads { I.goes input.old input.new }
 {
     match job {
-        PlainJob::Lookup(words) => run_lookup(machine, &words, output, faults),
+        PlainJob::Lookup(words) => run_lookup(machine, words, output, faults),
         PlainJob::Script(Some(file)) => {
             let job = FileJob::Work(RegistryJob::Script);
             do_in_files(machine, start, file, job, input, output, faults)
