@@ -1,5 +1,6 @@
 -- A walk over the items, row by row.
-use Rattle.std.proofs.Common.{◌≡◌, ◌⊎◌, inl, inr, ℕ, suc, ◌+◌, ◌^◌, ◌≤◌, List, [], ◌∷◌, ◌++◌, length, map, take, drop, true, false, IsTrue, Ok, Err, Result, IfErr, OnErr, None, Some, Option, length-append, append-nil, reverse, refl, sym, ap, subst, ◌∙◌, arith, take-append-drop}
+use mathlib.Core.Bool.{false≢true}
+use Rattle.std.proofs.Common.{◌≡◌, ◌⊎◌, inl, inr, ℕ, suc, ◌+◌, ◌^◌, ◌≤◌, List, [], ◌∷◌, ◌++◌, length, map, take, drop, true, false, IsTrue, Ok, Err, Result, IfErr, IsErrAnd, OnErr, None, Some, Option, length-append, append-nil, reverse, refl, sym, ap, subst, ◌∙◌, arith, take-append-drop}
 use Rattle.std.proofs.lemmas.List.{reverse-append, reverse-reverse, length-map}
 use Rattle.std.proofs.Math.Seq.{take-length}
 use Rattle.sqlite.specs.Order.{Row}
@@ -25,7 +26,8 @@ use Rattle.pid_tables_rows.specs.Causes.{IsCaused, IsReadable}
 use Rattle.pid_tables_rows.specs.Faults.{fault_of_sql}
 use Rattle.pid_tables_rows.specs.Leaves.{AtRest, OnlyReads}
 use Rattle.pid_tables_rows.specs.Schema.{pid_schema}
-use Rattle.pid_tables_rows.specs.Unread.{ReadsAsItem}
+use Rattle.pid_tables_rows.specs.Unread.{IsUnreadable, ReadsAsItem}
+use Rattle.pid_ident.specs.Words.{is_name}
 use Rattle.sqlite.specs.declared.types.Value.TheVariants.{Text}
 use Rattle.pid_tables_rows.specs.Steps.Unread.{IsPathText, IsWord}
 use Rattle.pid_tables_rows.proofs.CauseLemmas.{caused, caused_later}
@@ -81,6 +83,20 @@ path_word row good = (good.2.0.0, good.2.0.1.in_range, good.3 ∙ ap Text good.2
 
 pub name_word : (row : Row) → ReadsAsItem row → IsWord is_utf8 (column row 1)
 name_word row good = (good.1, name_utf8 good.1 good.2.1, good.4)
+
+text_same : (s t : List ℕ) → Text s ≡ Text t → s ≡ t
+text_same s t e = cc
+
+-- a text that breaks the rule of names is that of no item
+pub name_broken : (row : Row) → ReadsAsItem row → (name : List ℕ) → column row 1 ≡ Text name → is_name name ≡ false → ⊥
+name_broken row good name at broken =
+    let same : name ≡ good.1 = text_same name good.1 (sym at ∙ good.4) in
+    false≢true (sym broken ∙ ap is_name same ∙ good.2.1)
+
+-- a row that is not read ends the walk
+pub unread_end : {X F : Type 0} (r : Result X (EachEnd F)) (fault : TableFault) (Written : Type 0) → IsErrAnd r (λ y. y ≡ Tables fault) → IsUnreadable Written fault → IfErr r (IsUnreadEnd Written)
+unread_end (Ok x) fault Written h unread = absurd h
+unread_end (Err y) fault Written h unread = subst (IsUnreadEnd Written) (sym h) unread
 
 -- ---- lists
 

@@ -163,17 +163,6 @@ impl Sink for Tops {
     }
 }
 
-// The fault of the tables, or of the sink.
-fn fault_of(end: EachEnd<TableFault>) -> TableFault
-    ensures tables { (fault : FaultValue) → end ≡ ends.Tables fault → result ≡ fault }
-    ensures sink { (fault : FaultValue) → end ≡ ends.Fault fault → result ≡ fault }
-{
-    match end {
-        EachEnd::Tables(fault) => fault,
-        EachEnd::Fault(fault) => fault,
-    }
-}
-
 fn at_the_top<S: Alter>(conn: &mut Connection<S>, alloc: Global) -> Result<Vec<Item>, TableFault>
     requires { conn.old.in_transaction ≡ false }
     ensures { Reads S.Store conn.old conn.new result
@@ -188,7 +177,8 @@ fn at_the_top<S: Alter>(conn: &mut Connection<S>, alloc: Global) -> Result<Vec<I
             let Tops { kept, alloc: _ } = tops;
             Ok(kept)
         }
-        Err(end) => Err(fault_of(end)),
+        Err(EachEnd::Tables(fault)) => Err(fault),
+        Err(EachEnd::Fault(fault)) => Err(fault),
     }
 }
 

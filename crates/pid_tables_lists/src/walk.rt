@@ -48,41 +48,19 @@ impl<F> From<SqlError> for EachEnd<F> {
     }
 }
 
-// The name of an item's row, lent.
-fn name_in(row: &Row) -> Result<&str, TableFault>
-    ensures name { IfOk result (λ name. column row.now 1 ≡ TextValue name.now) }
-    ensures checked { IfOk result (λ name. IsTrue (name_test name.now)) }
-    ensures unread { IfErr result (IsUnreadable (ReadsAsItem row.now)) }
-{
-    let name = text_at(row, 1)?;
-    if is_name(name) {
-        Ok(name)
-    } else {
-        Err(TableFault::Damaged)
-    }
-}
-
-// The item of a row, lent.
-fn entry_of(row: &Row, line: usize) -> Result<Entry<'_>, TableFault>
-    ensures line { IfOk result (λ entry. entry.line ≡ line) }
-    ensures path { IfOk result (λ entry. column row.now 0 ≡ TextValue (path_text entry.path)) }
-    ensures name { IfOk result (λ entry. column row.now 1 ≡ TextValue entry.name.now) }
-    ensures checked { IfOk result (λ entry. IsTrue (name_test entry.name.now)) }
-    ensures unread { IfErr result (IsUnreadable (ReadsAsItem row.now)) }
-{
-    let path = path_at(row, 0)?;
-    let name = name_in(row)?;
-    Ok(Entry { line, path, name })
-}
-
+// Hands the item of a row to the sink.
 fn hand_on<K: Sink>(row: &Row, line: usize, sink: &mut K) -> Result<(), EachEnd<K::Fault>>
     ensures takes { (item : Item) → row.now ≡ item_shown item
         → TakesOne K.takes K.faults result (line, item) sink.old sink.new }
     ensures some { (item : Numbered) × TakesOne K.takes K.faults result item sink.old sink.new }
     ensures unread { IfErr result (IsUnreadEnd (ReadsAsItem row.now)) }
 {
-    let entry = entry_of(row, line)?;
-    match sink.entry(&entry) {
+    let path = path_at(row, 0)?;
+    let name = text_at(row, 1)?;
+    if !is_name(name) {
+        return Err(EachEnd::Tables(TableFault::Damaged));
+    }
+    match sink.entry(&Entry { line, path, name }) {
         Ok(()) => Ok(()),
         Err(fault) => Err(EachEnd::Fault(fault)),
     }

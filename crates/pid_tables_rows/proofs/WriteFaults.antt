@@ -244,3 +244,8 @@ create_writes schema sql table is plain whole defined = known_text sql _ _ is pl
 pub led : {X : Type 0} {P Q : Type 0} (r : Result X TableFault) → (P → Q) → OnOk r P → IfErr r IsMemoryOrStore → MatchResult r (λ _. Q) IsMemoryOrStore
 led (Ok x) f h untold = f h
 led (Err e) f h untold = untold
+
+-- the same of a call that says at once what became of it
+pub led_on : {X : Type 0} {P Q : Type 0} (r : Result X TableFault) → (P → Q) → MatchResult r (λ _. P) IsMemoryOrStore → MatchResult r (λ _. Q) IsMemoryOrStore
+led_on (Ok x) f h = f h
+led_on (Err e) f h = h

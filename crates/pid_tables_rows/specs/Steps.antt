@@ -1,5 +1,6 @@
 -- What serves private functions alone; no promise rests on it.
 pub mod Answers
+pub mod Both
 pub mod Moving
 pub mod Ranges
 pub mod Shows

@@ -7,7 +7,9 @@ ghost use Rattle.pid_moderation.specs.Items.{
 };
 ghost use Rattle.sqlite.specs.Order.{column};
 ghost use Rattle.sqlite.specs.declared.types.Value.TheVariants.{Text as TextValue};
+ghost use Rattle.pid_tables_rows.specs.Steps.Both.{RunsBoth};
 ghost use Rattle.pid_tables_rows.specs.Steps.Ranges.{holds_under};
+ghost use Rattle.pid_tables_rows.specs.TableRows.{number};
 ghost use Rattle.pid_ident.specs.PathTexts.{path_text};
 ghost use Rattle.pid_moderation.specs.WellMade.{AllItems, HoldsParents};
 ghost use Rattle.pid_tables_rows.specs.Shows.{AreViews};
@@ -24,6 +26,32 @@ use sqlite::types::{ToSql, ValueRef};
 use sqlite::{Alter, Connection, Row, Transaction};
 use std::alloc::{AllocError, Global};
 
+// Runs two statements in turn: one with a path and a name, one with the path and a number. A number
+// that 63 bits do not hold is refused with `Store`.
+fn write_both<S: Alter>(
+    tx: &mut Transaction<'_, S>,
+    naming: &str,
+    numbering: &str,
+    path: &str,
+    name: &str,
+    since: u64,
+) -> Result<(), TableFault>
+    ensures same_reference { tx.new.conn.ghost_name ≡ tx.old.conn.ghost_name }
+    ensures goes { GoesOn S.Store tx.old.conn.now tx.new.conn.now result }
+    ensures runs { RunsBoth S.Store (record {
+          first = naming.now;
+          named = TextValue path.now ∷ TextValue name.now ∷ [];
+          second = numbering.now;
+          numbered = TextValue path.now ∷ number since ∷ [];
+        }) tx.old.conn.now tx.new.conn.now result }
+{
+    let path = path.to_sql();
+    let name = name.to_sql();
+    let since = stored(since)?;
+    write_one(tx, naming, &[path, name])?;
+    write_one(tx, numbering, &[path, since])
+}
+
 /// Adds an item at a path that has none, with the number of its change. The path is the text of a
 /// path, as `PC/8086/1237`; neither it nor the name is tested, and nor is whether the path's parent
 /// is there. A path that has an item is refused with `Store`, and so is a number that 63 bits do
@@ -39,18 +67,13 @@ pub fn add_item<S: Alter>(
     ensures shows { ChangesTo S.Store tx.old.conn.now tx.new.conn.now result
         (λ v. item_at path.now v.items ≡ None) (with_name since path.now name.now) }
 {
-    let path = path.to_sql();
-    let name = name.to_sql();
-    let since = stored(since)?;
-    write_one(
+    write_both(
         tx,
         "INSERT INTO item (path, name) VALUES (?1, ?2)",
-        &[path, name],
-    )?;
-    write_one(
-        tx,
         "INSERT INTO item_since (path, since) VALUES (?1, ?2)",
-        &[path, since],
+        path,
+        name,
+        since,
     )
 }
 
@@ -70,18 +93,13 @@ pub fn rename_item<S: Alter>(
         × (has_name name.now (item_at path.now v.items) ≡ false))
         (with_name since path.now name.now) }
 {
-    let path = path.to_sql();
-    let name = name.to_sql();
-    let number = stored(since)?;
-    write_one(
+    write_both(
         tx,
         "UPDATE item SET name = ?2 WHERE path = ?1",
-        &[path, name],
-    )?;
-    write_one(
-        tx,
         "UPDATE item_since SET since = ?2 WHERE path = ?1",
-        &[path, number],
+        path,
+        name,
+        since,
     )
 }
 
@@ -121,21 +139,14 @@ pub struct Range {
     pub high: Vec<u8>,
 }
 
-// The two parts and a last byte, joined.
-fn edge(alloc: Global, front: &[u8], rest: &[u8], last: u8) -> Result<Vec<u8>, AllocError>
-    ensures { IfOk result (λ edge. edge.items ≡ (front.now ++ rest.now) ++ last ∷ []) }
-{
-    [front, rest, &[last]].concat(alloc)
-}
-
 /// The paths that go on after the text of the two parts and a slash. Those below `PC/8086` are
 /// between `PC/8086/` and `PC/80860`.
 pub fn range_below(alloc: Global, front: &[u8], rest: &[u8]) -> Result<Range, AllocError>
     ensures low { IfOk result (λ range. range.low.items ≡ (front.now ++ rest.now) ++ 47 ∷ []) }
     ensures high { IfOk result (λ range. range.high.items ≡ (front.now ++ rest.now) ++ 48 ∷ []) }
 {
-    let low = edge(alloc, front, rest, b'/')?;
-    let high = edge(alloc, front, rest, b'0')?;
+    let low = [front, rest, &[b'/']].concat(alloc)?;
+    let high = [front, rest, &[b'0']].concat(alloc)?;
     Ok(Range { low, high })
 }
 

@@ -41,53 +41,17 @@ fn form_and_name(proposal: &Proposal) -> (u32, &str)
     }
 }
 
-fn insert_submission<'x, S: Alter>(
-    tx: &mut Transaction<'_, S>,
-    number: u32,
-    author: &'x Account,
-    path: Path,
-    text: &'x str,
-    proposal: &'x Proposal,
-    note: &'x Text,
-) -> Result<(), TableFault>
-    requires { text.now ≡ path_text path }
-    ensures same_reference { tx.new.conn.ghost_name ≡ tx.old.conn.ghost_name }
-    ensures goes { GoesOn S.Store tx.old.conn.now tx.new.conn.now result }
-    ensures shows { ChangesTo S.Store tx.old.conn.now tx.new.conn.now result
-        (λ v. number ≡ length v.submits + 1)
-        (with_submission (record {
-          author = author.now;
-          path = path;
-          proposal = proposal.now;
-          note = note.now;
-        })) }
-{
-    let number = number.to_sql();
-    let author = author.as_str().to_sql();
-    let text = text.to_sql();
-    let (form, name) = form_and_name(proposal);
-    let form = form.to_sql();
-    let name = name.to_sql();
-    let note = note.as_str().to_sql();
-    write_one(
-        tx,
-        "INSERT INTO submission (num, author, path, form, name, note, state, decider, reason) \
-            VALUES (?1, ?2, ?3, ?4, ?5, ?6, 0, '', '')",
-        &[number, author, text, form, name, note],
-    )
-}
-
 /// Adds a pending submission after the last one. `number` is one more than the submissions are so
 /// far: they count from 1. A number that is taken, or an author that is not there, is refused with
 /// `Store`.
-pub fn add_submission<S: Alter>(
+pub fn add_submission<'x, S: Alter>(
     tx: &mut Transaction<'_, S>,
     alloc: Global,
     number: u32,
-    author: &Account,
+    author: &'x Account,
     path: Path,
-    proposal: &Proposal,
-    note: &Text,
+    proposal: &'x Proposal,
+    note: &'x Text,
 ) -> Result<(), TableFault>
     ensures same_reference { tx.new.conn.ghost_name ≡ tx.old.conn.ghost_name }
     ensures goes { GoesOn S.Store tx.old.conn.now tx.new.conn.now result }
@@ -101,7 +65,19 @@ pub fn add_submission<S: Alter>(
         })) }
 {
     let text = path.path_text(alloc)?;
-    insert_submission(tx, number, author, path, text.as_str(), proposal, note)
+    let number = number.to_sql();
+    let author = author.as_str().to_sql();
+    let path = text.as_str().to_sql();
+    let (form, name) = form_and_name(proposal);
+    let form = form.to_sql();
+    let name = name.to_sql();
+    let note = note.as_str().to_sql();
+    write_one(
+        tx,
+        "INSERT INTO submission (num, author, path, form, name, note, state, decider, reason) \
+            VALUES (?1, ?2, ?3, ?4, ?5, ?6, 0, '', '')",
+        &[number, author, path, form, name, note],
+    )
 }
 
 // The number of a state, who decided and for what reason.
@@ -118,46 +94,6 @@ fn parts(state: &State) -> (u32, &str, &str)
     }
 }
 
-/// Sets a state of a submission that names who decided.
-fn set_state<S: Alter>(
-    tx: &mut Transaction<'_, S>,
-    number: u32,
-    state: &State,
-) -> Result<(), TableFault>
-    ensures same_reference { tx.new.conn.ghost_name ≡ tx.old.conn.ghost_name }
-    ensures goes { GoesOn S.Store tx.old.conn.now tx.new.conn.now result }
-    ensures shows { ChangesTo S.Store tx.old.conn.now tx.new.conn.now result
-        (λ v. NamesDecider state.now × IsSome (submission_at number v.submits))
-        (with_state number state.now) }
-{
-    let number = number.to_sql();
-    let (told, decider, reason) = parts(state);
-    let told = told.to_sql();
-    let decider = decider.to_sql();
-    let reason = reason.to_sql();
-    write_one(
-        tx,
-        "UPDATE submission SET state = ?2, decider = ?3, reason = ?4 WHERE num = ?1",
-        &[number, told, decider, reason],
-    )
-}
-
-/// Withdraws a submission in the name of its author.
-fn withdraw<S: Alter>(tx: &mut Transaction<'_, S>, number: u32) -> Result<(), TableFault>
-    ensures same_reference { tx.new.conn.ghost_name ≡ tx.old.conn.ghost_name }
-    ensures goes { GoesOn S.Store tx.old.conn.now tx.new.conn.now result }
-    ensures shows { ChangesTo S.Store tx.old.conn.now tx.new.conn.now result
-        (λ v. IsSome (submission_at number v.submits))
-        (with_state number states.Withdrawn) }
-{
-    let number = number.to_sql();
-    write_one(
-        tx,
-        "UPDATE submission SET state = 3, decider = author, reason = '' WHERE num = ?1",
-        &[number],
-    )
-}
-
 /// Sets the state of the submission with a number, whatever its state is. If there is no such
 /// submission, it writes nothing and answers `Ok`.
 pub fn decide<S: Alter>(
@@ -171,12 +107,23 @@ pub fn decide<S: Alter>(
         (λ v. IsSome (submission_at number v.submits))
         (with_state number state.now) }
 {
-    match state {
-        State::Withdrawn => withdraw(tx, number),
-        State::Pending => set_state(tx, number, state),
-        State::Approved { .. } => set_state(tx, number, state),
-        State::Rejected { .. } => set_state(tx, number, state),
+    if let State::Withdrawn = state {
+        return write_one(
+            tx,
+            "UPDATE submission SET state = 3, decider = author, reason = '' WHERE num = ?1",
+            &[number.to_sql()],
+        );
     }
+    let number = number.to_sql();
+    let (told, decider, reason) = parts(state);
+    let told = told.to_sql();
+    let decider = decider.to_sql();
+    let reason = reason.to_sql();
+    write_one(
+        tx,
+        "UPDATE submission SET state = ?2, decider = ?3, reason = ?4 WHERE num = ?1",
+        &[number, told, decider, reason],
+    )
 }
 
 /// The submission of a row that has its author, path, form, name, note, state, decider and reason

@@ -219,25 +219,6 @@ pub(crate) fn state_at(row: &Row, alloc: Global, author: &Account) -> Result<Sta
     }
 }
 
-fn reply_of(kind: u32, a: u32, b: u32, c: u32) -> Result<Reply, TableFault>
-    ensures read { IfOk result (λ reply. (kind ≡ reply_kind reply) × (a ≡ first_number reply)
-        × (b ≡ second_number reply) × (c ≡ third_number reply)) }
-    ensures none { IfErr result (IsMistold
-        ((reply : ReplyValue) × (kind ≡ reply_kind reply) × (a ≡ first_number reply)
-        × (b ≡ second_number reply) × (c ≡ third_number reply))) }
-{
-    match (kind, a, b, c) {
-        (0, 0, 0, 0) => Ok(Reply::Done),
-        (1, number, 0, 0) => Ok(Reply::Numbered(number)),
-        (2, added, renamed, same) => Ok(Reply::Counts {
-            added,
-            renamed,
-            same,
-        }),
-        _ => Err(TableFault::Damaged),
-    }
-}
-
 /// A reply by its kind and its three numbers.
 pub(crate) fn reply_at(row: &Row) -> Result<Reply, TableFault>
     ensures kind { IfOk result (λ reply. column row.now 0 ≡ number (reply_kind reply)) }
@@ -250,5 +231,14 @@ pub(crate) fn reply_at(row: &Row) -> Result<Reply, TableFault>
     let a = number_at(row, 1)?;
     let b = number_at(row, 2)?;
     let c = number_at(row, 3)?;
-    reply_of(kind, a, b, c)
+    match (kind, a, b, c) {
+        (0, 0, 0, 0) => Ok(Reply::Done),
+        (1, number, 0, 0) => Ok(Reply::Numbered(number)),
+        (2, added, renamed, same) => Ok(Reply::Counts {
+            added,
+            renamed,
+            same,
+        }),
+        _ => Err(TableFault::Damaged),
+    }
 }

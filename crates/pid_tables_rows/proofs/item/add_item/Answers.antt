@@ -1,33 +1,15 @@
 use Rattle.sqlite.specs.Held.{state}
 use Rattle.pid_tables_rows.specs.declared.version.Version.TheVariants.{Two}
-use Rattle.pid_tables_rows.specs.Faults.{IsMemoryOrStore}
 use Rattle.pid_tables_rows.specs.Schema.{pid_schema}
-use Rattle.pid_tables_rows.proofs.CauseLemmas.{passed_on}
-use Rattle.pid_tables_rows.proofs.GoingLemmas.{earlier, goes_then}
 use Rattle.pid_tables_rows.proofs.KeyTexts.{insert_item_is, insert_since_is}
-use Rattle.pid_tables_rows.proofs.WriteFaults.{led, insert_writes}
+use Rattle.pid_tables_rows.proofs.WriteFaults.{led_on, insert_writes}
 use Rattle.pid_tables_rows.proofs.WriteRows.{item_added, number_added}
 use Rattle.pid_tables_rows.proofs.item.add_item.Goals as goal
 
 pub returns-clause-shows : goal.returns-clause-shows
 returns-clause-shows g c clean inside counts v shows none =
     let old = state g.S.Store c.args.tx.now.conn.now in
-    let mid = state g.S.Store c.write_one.new.tx.conn.now in
-    let new = state g.S.Store c.write_one-2.new.tx.conn.now in
-    let before = earlier mid new c.write_one-2.ensures.goes.survives clean in
-    let first = c.in_ok-write_one.ensures in
-    let between = item_added old mid counts v shows c.args.path.now c.args.name.now none (rw (c.to_sql-path.ensures, c.to_sql-name.ensures) at (first.runs.ran before inside)) in
-    led c.write_one-2.result (number_added mid new counts v c.args.path.now c.args.name.now c.args.since between none)
-    (rw (c.to_sql-path.ensures, c.in_ok-since.ensures) at (c.write_one-2.ensures.runs.ran clean (first.goes.going before inside).1))
-    (c.write_one-2.ensures.runs.untold clean pid_schema (λ opened. between.schema) (insert_writes insert_since_is))
-
-pub returns-in_err-since-clause-shows : goal.returns-in_err-since-clause-shows
-returns-in_err-since-clause-shows g c clean inside counts v shows none = passed_on c.from_residual.result _ _ IsMemoryOrStore c.from_residual.ensures.1 c.in_err-since.ensures
-
-pub returns-in_err-write_one-clause-shows : goal.returns-in_err-write_one-clause-shows
-returns-in_err-write_one-clause-shows g c clean inside counts v shows none =
-    passed_on c.from_residual-in_err-write_one.result _ _ IsMemoryOrStore c.from_residual-in_err-write_one.ensures.1
-    (c.in_err-write_one.ensures.runs.untold clean pid_schema (λ opened. shows.schema) (insert_writes (insert_item_is Two)))
-
-pub returns-clause-goes : goal.returns-clause-goes
-returns-clause-goes g c = goes_then (state g.S.Store c.args.tx.now.conn.now) (state g.S.Store c.write_one.new.tx.conn.now) (state g.S.Store c.write_one-2.new.tx.conn.now) _ c.write_one-2.result c.in_ok-write_one.ensures.goes c.write_one-2.ensures.goes
+    let path = c.args.path.now in
+    let name = c.args.name.now in
+    led_on c.write_both.result (λ both. number_added (state g.S.Store both.0) (state g.S.Store c.write_both.new.tx.conn.now) counts v path name c.args.since (item_added old (state g.S.Store both.0) counts v shows path name none both.1) none both.2)
+    (c.write_both.ensures.runs clean inside pid_schema shows.schema (insert_writes (insert_item_is Two)) (λ mid ran. (item_added old (state g.S.Store mid) counts v shows path name none ran).schema) (insert_writes insert_since_is))
