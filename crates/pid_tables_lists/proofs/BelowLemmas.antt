@@ -1,6 +1,6 @@
 -- The items below a path, by the ranges in which they stand.
-use Rattle.std.proofs.Common.{◌≡◌, ◌⊎◌, inl, inr, ℕ, List, [], ◌∷◌, ◌++◌, length, filter, map, ◌+◌, codes, Bool, true, false, cond, Some, Ordering, Less, Equal, Greater, is_lt, refl, sym, ap, subst, ◌∙◌, reverse, append-nil, append_assoc, Err}
-use Rattle.std.specs.Prelude.{option_map}
+use Rattle.std.proofs.Common.{◌≡◌, ◌⊎◌, inl, inr, ℕ, List, [], ◌∷◌, ◌++◌, length, filter, map, ◌+◌, codes, Bool, true, false, cond, Some, Ordering, Less, Equal, Greater, is_lt, refl, sym, ap, subst, ◌∙◌, reverse, append-nil, append_assoc, None, Ok, Err, OnOk, Result}
+use Rattle.std.specs.Prelude.{is_none, option_map}
 use Rattle.std.specs.FinMap.Entries.{is_sorted, below_all}
 use Rattle.std.specs.Cmp.Lexicographic.{nat_list_cmp_total}
 use Rattle.std.proofs.lemmas.Bool.{and_parts, cases_Bool, false_from_ne_true}
@@ -25,6 +25,8 @@ use Rattle.pid_file.specs.declared.path.Path.{Path}
 use Rattle.pid_file.specs.declared.path.Path.TheVariants.{Vendor, Device, Subsystem, Class, Subclass, ProgIf, Generic}
 use Rattle.pid_ident.specs.PathReading.{parent_text}
 use Rattle.pid_moderation.specs.Items.{Items}
+use Rattle.pid_moderation.specs.ItemPairs.{pair_of}
+use Rattle.pid_moderation.specs.declared.lists.Item.{Item}
 use Rattle.pid_moderation.specs.WellMade.{AllItems}
 use Rattle.pid_tables_rows.specs.Steps.Ranges.{is_between}
 use Rattle.pid_moderation.specs.Children.{stands_below, children_of}
@@ -157,12 +159,19 @@ pub kept_items : (f : List ℕ × List ℕ → Bool) (items : Items) → AllItem
 kept_items f [] all = tt
 kept_items f (e ∷ items) all = elim (f e) as (λ b. AllItems (cond b (e ∷ filter f items) (filter f items))) [ true ↦ (all.0, kept_items f items all.1) | false ↦ kept_items f items all.1 ]
 
--- the walk that keeps some ended for a cause, or the sink's memory was short
-pub top_caused : {S : Type 0} (old new : State) (v : Views) (takes : S → Numbered → S → Type 0) (before after : S) (end : EachEnd TableFault) (fault : TableFault)
-    → ((t : TableFault) → end ≡ Tables t → fault ≡ t) → ((t : TableFault) → end ≡ Fault t → fault ≡ t) → IsCausedEnd old new end
-    → Walks takes (λ s e f t. f ≡ Memory) {X = Unit {0}} (Err end) (placed_from 1 v.items) before after → IsCaused old new fault
-top_caused old new v takes before after (Tables t) fault tables sink caused took = subst (IsCaused old new) (sym (tables t refl)) caused
-top_caused old new v takes before after (Fault t) fault tables sink caused took = subst (IsCaused old new) (sym (sink t refl ∙ took.faulted)) tt
+-- ---- what is kept at the top
+
+module _ (e : List ℕ × List ℕ) where
+  pub not_top : (above : List ℕ) → parent_text e.0 ≡ Some above → filter (λ (e : List ℕ × List ℕ). stands_below None e.0) (e ∷ []) ≡ []
+  not_top above below = ap (λ o. cond (is_none o) (e ∷ []) []) below
+
+  is_top : parent_text e.0 ≡ None → filter (λ (e : List ℕ × List ℕ). stands_below None e.0) (e ∷ []) ≡ e ∷ []
+  is_top top = ap (λ o. cond (is_none o) (e ∷ []) []) top
+
+  pub top_taken : (was now : List Item) (x : Item) (r : Result (Unit {0}) TableFault) → OnOk r (now ≡ was ++ x ∷ []) → pair_of x ≡ e → parent_text e.0 ≡ None
+      → OnOk r (map pair_of now ≡ map pair_of was ++ filter (λ (e : List ℕ × List ℕ). stands_below None e.0) (e ∷ []))
+  top_taken was now x (Ok u) added is top = ap (map pair_of) added ∙ map-append pair_of was (x ∷ []) ∙ ap (λ l. map pair_of was ++ l) (ap (λ y. y ∷ []) is ∙ sym (is_top top))
+  top_taken was now x (Err fault) added is top = tt
 
 -- ---- what is kept in turn
 

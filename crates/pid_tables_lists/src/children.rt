@@ -155,7 +155,7 @@ impl Sink for Tops {
         match entry.path.parent() {
             Some(_) => Ok(()),
             None => {
-                let name = Name::of(self.alloc, entry.name)?;
+                let name = Name::of_checked(self.alloc, entry.name)?;
                 let path = entry.path;
                 put_last(&mut self.kept, Item { path, name })
             }

@@ -15,8 +15,8 @@ returns-in_err-name-clause-some g c =
     let p = err_from_is_err_and c.from_residual-in_err-name.result c.from_residual-in_err-name.ensures.1 in
     ((0, ([], [])), subst (λ r. TakesOne g.K.Sink.takes g.K.Sink.faults r (0, ([], [])) c.args.sink.now c.args.sink.now) (sym (p.1 ∙ ap Err p.2)) refl)
 
-pub returns-then-branch-clause-some : goal.returns-then-branch-clause-some
-returns-then-branch-clause-some g c = ((0, ([], [])), refl)
+pub returns-then-not-is_name-clause-some : goal.returns-then-not-is_name-clause-some
+returns-then-not-is_name-clause-some g c = ((0, ([], [])), refl)
 
 pub returns-in_err-path-clause-unread : goal.returns-in_err-path-clause-unread
 returns-in_err-path-clause-unread g c = unread_end c.from_residual.result _ _ c.from_residual.ensures.1 (unread_more c.in_err-path.field-0.0 (path_word c.args.row.now) c.in_err-path.ensures.unread)
@@ -24,5 +24,5 @@ returns-in_err-path-clause-unread g c = unread_end c.from_residual.result _ _ c.
 pub returns-in_err-name-clause-unread : goal.returns-in_err-name-clause-unread
 returns-in_err-name-clause-unread g c = unread_end c.from_residual-in_err-name.result _ _ c.from_residual-in_err-name.ensures.1 (unread_more c.in_err-name.field-0.0 (name_word c.args.row.now) c.in_err-name.ensures.unread)
 
-pub returns-then-branch-clause-unread : goal.returns-then-branch-clause-unread
-returns-then-branch-clause-unread g c good = name_broken c.args.row.now good _ c.in_ok-name.ensures.read c.if-branch.true
+pub returns-then-not-is_name-clause-unread : goal.returns-then-not-is_name-clause-unread
+returns-then-not-is_name-clause-unread g c good = name_broken c.args.row.now good _ c.in_ok-name.ensures.read (sym c.is_name.ensures ∙ c.if-not-is_name.true)
