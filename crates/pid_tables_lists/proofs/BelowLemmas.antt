@@ -1,5 +1,5 @@
 -- The items below a path, by the ranges in which they stand.
-use Rattle.std.proofs.Common.{◌≡◌, ◌⊎◌, inl, inr, ℕ, List, [], ◌∷◌, ◌++◌, length, filter, map, ◌+◌, codes, Bool, true, false, cond, Some, Ordering, Less, Equal, Greater, is_lt, refl, sym, ap, subst, ◌∙◌, reverse, append-nil, append_assoc, None, Ok, Err, OnOk, Result}
+use Rattle.std.proofs.Common.{◌≡◌, ◌⊎◌, inl, inr, ℕ, List, [], ◌∷◌, ◌++◌, length, filter, map, ◌+◌, codes, Bool, true, false, cond, Some, Ordering, Less, Equal, Greater, is_lt, refl, sym, ap, subst, ◌∙◌, reverse, append-nil, append_assoc, None, Ok, Err, OnOk, IfErr, MatchResult, Result}
 use Rattle.std.specs.Prelude.{is_none, option_map}
 use Rattle.std.specs.FinMap.Entries.{is_sorted, below_all}
 use Rattle.std.specs.Cmp.Lexicographic.{nat_list_cmp_total}
@@ -24,7 +24,12 @@ use Rattle.pid_ident.specs.PathTexts.{path_text, parent_of}
 use Rattle.pid_file.specs.declared.path.Path.{Path}
 use Rattle.pid_file.specs.declared.path.Path.TheVariants.{Vendor, Device, Subsystem, Class, Subclass, ProgIf, Generic}
 use Rattle.pid_ident.specs.PathReading.{parent_text}
-use Rattle.pid_moderation.specs.Items.{Items}
+use Rattle.pid_moderation.specs.Items.{Items, is_parent}
+use Rattle.sqlite.specs.Order.{Row, column}
+use Rattle.sqlite.specs.declared.types.Value.TheVariants.{Text}
+use Rattle.pid_tables_rows.specs.Steps.Answers.{item_shown}
+use Rattle.pid_tables_rows.specs.Unread.{IsUnreadable}
+use Rattle.pid_tables_lists.specs.Steps.Children.{children_among}
 use Rattle.pid_moderation.specs.ItemPairs.{pair_of}
 use Rattle.pid_moderation.specs.declared.lists.Item.{Item}
 use Rattle.pid_moderation.specs.WellMade.{AllItems}
@@ -172,6 +177,32 @@ module _ (e : List ℕ × List ℕ) where
       → OnOk r (map pair_of now ≡ map pair_of was ++ filter (λ (e : List ℕ × List ℕ). stands_below None e.0) (e ∷ []))
   top_taken was now x (Ok u) added is top = ap (map pair_of) added ∙ map-append pair_of was (x ∷ []) ∙ ap (λ l. map pair_of was ++ l) (ap (λ y. y ∷ []) is ∙ sym (is_top top))
   top_taken was now x (Err fault) added is top = tt
+
+-- ---- a row whose item may be kept
+
+module _ (path : Path) (e : List ℕ × List ℕ) (row : Row) (is : row ≡ item_shown e) (item : Item) (at_path : column row 0 ≡ Text (path_text item.path)) (at_name : column row 1 ≡ Text item.name) where
+  same_text : (s t : List ℕ) → Text s ≡ Text t → s ≡ t
+  same_text s t h = cc
+
+  same_path : path_text item.path ≡ e.0
+  same_path = same_text _ _ (sym at_path ∙ ap (λ r. column r 0) is)
+
+  is_asked : (b : Bool) → b ≡ is_parent (path_text path) (parent_text (path_text item.path)) → is_parent (path_text path) (parent_text e.0) ≡ b
+  is_asked b told = sym (told ∙ ap (λ t. is_parent (path_text path) (parent_text t)) same_path)
+
+  pub child_passed : (b : Bool) → b ≡ is_parent (path_text path) (parent_text (path_text item.path)) → b ≡ false → children_among path (e ∷ []) ≡ []
+  child_passed b told other = ap (λ k. cond k (e ∷ []) []) (is_asked b told ∙ other)
+
+  pub child_kept : (b : Bool) → b ≡ is_parent (path_text path) (parent_text (path_text item.path)) → b ≡ true → pair_of item ∷ [] ≡ children_among path (e ∷ [])
+  child_kept b told child =
+      let same_name = same_text _ _ (sym at_name ∙ ap (λ r. column r 1) is) in
+      (λ i. (same_path i, same_name i) ∷ []) ∙ sym (ap (λ k. cond k (e ∷ []) []) (is_asked b told ∙ child))
+
+-- an element was added where it is one of those that are kept, or there was no memory
+pub kept_child : (Written : Type 0) (was now : List Item) (x : Item) (more : Items) (r : Result (Unit {0}) TableFault) → OnOk r (now ≡ was ++ x ∷ []) → IfErr r (λ fault. fault ≡ Memory) → pair_of x ∷ [] ≡ more
+    → MatchResult r (λ _. map pair_of now ≡ map pair_of was ++ more) (IsUnreadable Written)
+kept_child Written was now x more (Ok u) added full same = ap (map pair_of) added ∙ map-append pair_of was (x ∷ []) ∙ ap (λ l. map pair_of was ++ l) same
+kept_child Written was now x more (Err fault) added full same = subst (IsUnreadable Written) (sym full) tt
 
 -- ---- what is kept in turn
 

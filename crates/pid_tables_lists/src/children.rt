@@ -105,31 +105,6 @@ fn add_under<S: Alter>(
     add_children(kept, rows.as_slice(), alloc, path)
 }
 
-fn below<S: Alter>(
-    conn: &mut Connection<S>,
-    alloc: Global,
-    path: Path,
-) -> Result<Vec<Item>, TableFault>
-    requires { conn.old.in_transaction ≡ false }
-    ensures { Reads S.Store conn.old conn.new result
-        (λ v items. AreChildren (Some (path_text path)) v items.items) }
-{
-    let text = path.path_text(alloc)?;
-    let mut kept = Vec::new(alloc);
-    let added = add_under(&mut kept, conn, alloc, b"", text.as_bytes(), path);
-    drop(text);
-    added?;
-    match path {
-        Path::Vendor { vendor } => {
-            // its generic subsystems, as PS/8086/.. of PC/8086
-            let digits = hex4(vendor);
-            add_under(&mut kept, conn, alloc, b"PS/", digits.as_slice(), path)?;
-            Ok(kept)
-        }
-        _ => Ok(kept),
-    }
-}
-
 // Keeps the items at the top.
 #[derive(Drop)]
 struct Tops {
@@ -194,8 +169,21 @@ pub fn children_below<S: Alter>(
     ensures { Reads S.Store conn.old conn.new result
         (λ v items. AreChildren (option_map path_text above) v items.items) }
 {
-    match above {
-        Some(path) => below(conn, alloc, path),
-        None => at_the_top(conn, alloc),
+    let Some(path) = above else {
+        return at_the_top(conn, alloc);
+    };
+    let text = path.path_text(alloc)?;
+    let mut kept = Vec::new(alloc);
+    let added = add_under(&mut kept, conn, alloc, b"", text.as_bytes(), path);
+    drop(text);
+    added?;
+    match path {
+        Path::Vendor { vendor } => {
+            // its generic subsystems, as PS/8086/.. of PC/8086
+            let digits = hex4(vendor);
+            add_under(&mut kept, conn, alloc, b"PS/", digits.as_slice(), path)?;
+            Ok(kept)
+        }
+        _ => Ok(kept),
     }
 }

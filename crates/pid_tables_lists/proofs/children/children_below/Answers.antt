@@ -1,5 +1,7 @@
 use Rattle.std.proofs.Common.{◌≡◌, ◌++◌, ◌∙◌, codes, filter, map, ap, subst, sym}
+use Rattle.std.specs.Prelude.{option_map}
 use Rattle.sqlite.specs.Held.{state}
+use Rattle.pid_moderation.specs.Children.{children_of}
 use Rattle.pid_ident.specs.PathTexts.{path_text}
 use Rattle.pid_file.specs.declared.path.Path.TheVariants.{Vendor}
 use Rattle.pid_moderation.specs.ItemPairs.{pair_of}
@@ -8,7 +10,7 @@ use Rattle.pid_tables_lists.proofs.BelowLemmas.{behind, child_of, vendor_joined,
 use Rattle.pid_tables_rows.specs.Causes.{IsCaused, IsReadable}
 use Rattle.pid_tables_rows.proofs.CauseLemmas.{caused_later, passed_on}
 use Rattle.pid_tables_rows.proofs.OnlyReading.{reads_then}
-use Rattle.pid_tables_lists.proofs.children.below.Goals as goal
+use Rattle.pid_tables_lists.proofs.children.children_below.Goals as goal
 
 pub returns-in_ok-add_under-in-Vendor : goal.returns-in_ok-add_under-in-Vendor
 returns-in_ok-add_under-in-Vendor g c = record {
@@ -21,16 +23,18 @@ returns-in_ok-add_under-in-Vendor g c = record {
       let two : map pair_of c.add_under.new.kept.items ≡ map pair_of c.add_under-added.new.kept.items ++ filter (child_of (Vendor c.in-Vendor.vendor)) generics =
       (second.told clean v (first.rests.kept v rest)).1
       ∙ ap (λ d. map pair_of c.add_under-added.new.kept.items ++ filter (child_of (Vendor c.in-Vendor.vendor)) (filter (behind (codes "PS/" ++ d)) v.items)) (c.as_slice.ensures ∙ c.hex4-digits.ensures) in
-      vendor_joined v.items c.args.path c.in-Vendor.vendor c.in-Vendor.is one.0.sorted all _ (c.as_bytes.ensures.value ∙ c.in_ok-text.ensures) _ _ _ (ap (map pair_of) c.new-kept.ensures.items) one.1
-      (subst (λ p. map pair_of c.add_under.new.kept.items ≡ map pair_of c.add_under-added.new.kept.items ++ filter (child_of p) generics) (sym c.in-Vendor.is) two);
+      subst (λ above. map pair_of c.add_under.new.kept.items ≡ children_of (option_map path_text above) v.items) (sym c.in-Some.is)
+      (vendor_joined v.items c.in-Some.path c.in-Vendor.vendor c.in-Vendor.is one.0.sorted all _ (c.as_bytes.ensures.value ∙ c.in_ok-text.ensures) _ _ _ (ap (map pair_of) c.new-kept.ensures.items) one.1
+      (subst (λ p. map pair_of c.add_under.new.kept.items ≡ map pair_of c.add_under-added.new.kept.items ++ filter (child_of p) generics) (sym c.in-Vendor.is) two));
 }
 
-pub returns-in_default : goal.returns-in_default
-returns-in_default g c = record {
+pub returns-in_default-path : goal.returns-in_default-path
+returns-in_default-path g c = record {
   rests = c.in_ok-added.ensures.rests;
   told = λ clean v rest all.
       let one = c.in_ok-added.ensures.told clean v rest in
-      other_joined v.items c.args.path c.in_default.not-Vendor all _ (c.as_bytes.ensures.value ∙ c.in_ok-text.ensures) _ _ (ap (map pair_of) c.new-kept.ensures.items) one.1;
+      subst (λ above. map pair_of c.add_under-added.new.kept.items ≡ children_of (option_map path_text above) v.items) (sym c.in-Some.is)
+      (other_joined v.items c.in-Some.path c.in_default-path.not-Vendor all _ (c.as_bytes.ensures.value ∙ c.in_ok-text.ensures) _ _ (ap (map pair_of) c.new-kept.ensures.items) one.1);
 }
 
 pub returns-in_err-add_under-in-Vendor : goal.returns-in_err-add_under-in-Vendor
