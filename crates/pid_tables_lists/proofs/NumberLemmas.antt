@@ -46,11 +46,6 @@ more_there v numbers i number d old new is low one before =
 
 -- ---- what a call answers
 
--- of one that says more
-pub told_less : {X : Type 0} (r : Result X TableFault) (P Q : X → Type 0) (F : TableFault → Type 0) → MatchResult r P F → ((x : X) → P x → Q x) → MatchResult r Q F
-told_less (Ok x) P Q F h less = less x h
-told_less (Err e) P Q F h less = h
-
 -- an element was added, or there was no memory
 pub kept_one : {X Y : Type 0} (f : X → Y) (was now : List X) (x : X) (more : List Y) (r : Result (Unit {0}) TableFault) (old new : State) (v : Views) → OnOk r (now ≡ was ++ x ∷ []) → IfErr r (λ fault. fault ≡ Memory) → f x ∷ [] ≡ more
     → MatchResult r (λ _. map f now ≡ map f was ++ more) (λ fault. IsReadable v → IsCaused old new fault)

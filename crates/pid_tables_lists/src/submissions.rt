@@ -151,32 +151,6 @@ fn next_of(page: &[Listed], lowest: u32) -> u32
     if number <= 1 { 0 } else { number }
 }
 
-// The page by texts, of which the empty one stands for every path or author.
-fn page_by_texts<'x, S: Alter>(
-    conn: &mut Connection<S>,
-    alloc: Global,
-    path: &'x str,
-    author: &'x str,
-    before: u32,
-) -> Result<SubmissionPage, TableFault>
-    requires { conn.old.in_transaction ≡ false }
-    ensures { Reads S.Store conn.old conn.new result
-        (λ v page. (search : Search) → StandsFor (option_map path_text search.path) path.now
-        → StandsFor search.author author.now → search.before ≡ before
-        → submission_page_of page ≡ submissions_of PAGE SEARCHED search v) }
-{
-    let count = submissions(conn)?;
-    let last = last_of(count, before);
-    let low = last.saturating_sub(SEARCHED as u32);
-    let rows = number_rows(conn, low, last, path, author)?;
-    let submissions = listed_at(conn, alloc, rows.as_slice())?;
-    let before = next_of(submissions.as_slice(), low + 1);
-    Ok(SubmissionPage {
-        before,
-        submissions,
-    })
-}
-
 // The text of an account, or the empty one.
 fn author_or_any(author: Option<&Account>) -> &str
     ensures { StandsFor (option_copied author.entry) result.now }
@@ -207,5 +181,15 @@ pub fn submissions_page<S: Alter>(
         }) v) }
 {
     let path = text_or_empty(alloc, path)?;
-    page_by_texts(conn, alloc, path.as_str(), author_or_any(author), before)
+    let author = author_or_any(author);
+    let count = submissions(conn)?;
+    let last = last_of(count, before);
+    let low = last.saturating_sub(SEARCHED as u32);
+    let rows = number_rows(conn, low, last, path.as_str(), author)?;
+    let submissions = listed_at(conn, alloc, rows.as_slice())?;
+    let before = next_of(submissions.as_slice(), low + 1);
+    Ok(SubmissionPage {
+        before,
+        submissions,
+    })
 }
