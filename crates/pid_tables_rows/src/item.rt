@@ -39,11 +39,11 @@ fn write_both<S: Alter>(
     ensures same_reference { tx.new.conn.ghost_name ≡ tx.old.conn.ghost_name }
     ensures goes { GoesOn S.Store tx.old.conn.now tx.new.conn.now result }
     ensures runs { RunsBoth S.Store (record {
-          first = naming.now;
-          named = TextValue path.now ∷ TextValue name.now ∷ [];
-          second = numbering.now;
-          numbered = TextValue path.now ∷ number since ∷ [];
-        }) tx.old.conn.now tx.new.conn.now result }
+      first = naming.now;
+      named = TextValue path.now ∷ TextValue name.now ∷ [];
+      second = numbering.now;
+      numbered = TextValue path.now ∷ number since ∷ [];
+    }) tx.old.conn.now tx.new.conn.now result }
 {
     let path = path.to_sql();
     let name = name.to_sql();

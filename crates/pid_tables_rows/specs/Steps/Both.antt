@@ -23,7 +23,7 @@ module _ {S : Type 0} (store : Ghosts S) where
   Ran sql params old new = (count : ℕ) × Executes store sql params old new (Ok count)
 
   -- Each was carried out, if they are texts that write and the first leaves the schema as it was; a
-  -- fault tells nothing of the tables.
+  -- fault is that of the memory or of the store.
   abbrev pub RunsBoth : {X : Type 0} → Both → Held S → Held S → Result X TableFault → Type 0
   RunsBoth both old new result =
       HasCleanDisk store new → IsTrue old.in_transaction
