@@ -12,13 +12,11 @@ ghost use Rattle.std.specs.Prelude.{
 };
 ghost use Rattle.pid_ident.specs.PathTexts.{path_text};
 ghost use Rattle.pid_moderation.specs.Views.{submission_at};
-ghost use Rattle.pid_moderation.specs.declared.facts.State.TheVariants as states;
 ghost use Rattle.pid_tables_rows.specs.TableRows.{form_of, name_of, state_number};
 ghost use Rattle.pid_moderation.specs.Submissions.{decider_of, reason_of, standing_in, standing_of};
 ghost use Rattle.pid_tables_rows.specs.Standings.{ReadsTo};
 ghost use Rattle.pid_tables_rows.specs.Unread.{IsUnreadable, ReadsAsStanding};
 ghost use Rattle.pid_tables_rows.specs.Writes.{with_submission, with_state};
-ghost use Rattle.pid_tables_rows.specs.Steps.Writes.{NamesDecider};
 ghost use Rattle.pid_tables_rows.specs.Clauses.{ChangesTo, GoesOn, Reads};
 
 use crate::fault::TableFault;

@@ -10,7 +10,6 @@ ghost use Rattle.pid_ident.specs.Words.{
   is_account as account_rule,
   is_text as text_rule,
 };
-ghost use Rattle.pid_moderation.specs.declared.command.Reply.{Reply as ReplyValue};
 ghost use Rattle.pid_moderation.specs.declared.rank.Rank.{Rank as RankValue};
 ghost use Rattle.pid_moderation.specs.Ranks.{rank_number};
 ghost use Rattle.pid_tables_rows.specs.Faults.{IsMemoryOrStore};
