@@ -62,12 +62,6 @@ kept_row Written f was now x y (Err e) added full same = subst (IsUnreadable Wri
 pub by_number : (v : Views) (number : ℕ) (found : Option Standing) → found ≡ standing_in v number → cons_option (option_map (λ (s : Standing). (number, s)) found) [] ≡ standings_at (number ∷ []) v
 by_number v number found is = ap (λ o. cons_option (option_map (λ (s : Standing). (number, s)) o) []) is
 
--- a second read whose answer is the answer
-pub read_behind : {X : Type 0} (old mid new : State) (v : Views) (r : Result X TableFault) (P Q : X → Type 0) → OnlyReads old mid → OnlyReads mid new → HasCleanDisk new → MatchResult r P (λ fault. IsReadable v → IsCaused mid new fault) → ((x : X) → P x → Q x)
-    → MatchResult r Q (λ fault. IsReadable v → IsCaused old new fault)
-read_behind old mid new v (Ok x) P Q one two clean told more = more x told
-read_behind old mid new v (Err e) P Q one two clean told more = λ readable. caused_later old mid new (λ _. ⊥) e one.survives two.survives.counts (two.clean clean) (told readable)
-
 -- those that are there, read by their numbers
 pub read_again : (v : Views) (all : List (ℕ × Standing)) → ((e : ℕ × Standing) → Has all e → standing_in v e.0 ≡ Some e.1) → standings_at (map (λ (e : ℕ × Standing). e.0) all) v ≡ all
 read_again v [] there = refl

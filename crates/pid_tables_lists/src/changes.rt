@@ -93,28 +93,6 @@ fn changed_items<S: Alter>(
     Ok(items)
 }
 
-// The items of a page, which begins after the path.
-fn items_after<S: Alter>(
-    conn: &mut Connection<S>,
-    alloc: Global,
-    since: u64,
-    after: Option<&Path>,
-) -> Result<Vec<ChangedItem>, TableFault>
-    requires { conn.old.in_transaction ≡ false }
-    ensures { Reads S.Store conn.old conn.new result (λ v items. map changed_of items.items
-        ≡ (changes_in PAGE (held_number since) (start_text (option_copied after.entry)) v).items) }
-{
-    let start = text_or_empty(alloc, after)?;
-    let after = start.as_str().to_sql();
-    let since = held(since);
-    let rows = read_rows(
-        conn,
-        "SELECT path, since FROM item_since WHERE path > ?1 AND since > ?2 ORDER BY path LIMIT 100",
-        &[after, since],
-    )?;
-    changed_items(conn, alloc, rows.as_slice())
-}
-
 /// The first items whose last change has a number above this one and whose paths come after that
 /// path, at most a page of them, in the canonical order. Without a path the page begins with the
 /// first item. Items that were removed are not listed. Items without such a change are passed over,
@@ -135,6 +113,14 @@ pub fn changes_page<S: Alter>(
         ≡ most_listed (length (changed_behind since (start_text (option_copied after.entry)) v))) }
 {
     let revision = revision(conn)?;
-    let items = items_after(conn, alloc, since, after)?;
+    let start = text_or_empty(alloc, after)?;
+    let after = start.as_str().to_sql();
+    let since = held(since);
+    let rows = read_rows(
+        conn,
+        "SELECT path, since FROM item_since WHERE path > ?1 AND since > ?2 ORDER BY path LIMIT 100",
+        &[after, since],
+    )?;
+    let items = changed_items(conn, alloc, rows.as_slice())?;
     Ok(Changes { revision, items })
 }

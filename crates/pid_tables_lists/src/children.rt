@@ -19,8 +19,6 @@ ghost use Rattle.pid_reader.specs.LookingBack.{Item as Pair};
 ghost use Rattle.pid_tables_rows.specs.Steps.Answers.{item_shown};
 ghost use Rattle.pid_moderation.specs.ItemPairs.{pair_of};
 ghost use Rattle.pid_tables_rows.specs.Unread.{IsUnreadable};
-ghost use Rattle.pid_tables_rows.specs.declared.fault.TableFault.{TableFault as FaultValue};
-ghost use Rattle.pid_tables_lists.specs.declared.walk.EachEnd.TheVariants as ends;
 ghost use Rattle.pid_tables_rows.specs.Shows.{AreViews};
 ghost use Rattle.pid_moderation.specs.Children.{children_of};
 ghost use Rattle.pid_tables_lists.specs.Steps.Adding.{Adds};

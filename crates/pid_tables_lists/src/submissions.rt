@@ -1,9 +1,7 @@
 //! Pages of the submissions for a path or of an author, the latest first.
-ghost use Rattle.std.specs.Prelude.{◌≡◌, false, map, option_map};
+ghost use Rattle.std.specs.Prelude.{◌≡◌, false, map};
 ghost use Rattle.std.specs.Option.{option_copied};
-ghost use Rattle.pid_ident.specs.PathTexts.{path_text};
 ghost use Rattle.pid_moderation.specs.SubmissionPages.{
-  Search,
   listed_of,
   submission_page_of,
   submissions_of,

@@ -1,15 +1,11 @@
 //! All items, one at a time.
-ghost use Rattle.std.specs.Prelude.{◌≡◌, false, IfOk, IfErr, IsTrue};
-ghost use Rattle.sqlite.specs.Order.{column};
-ghost use Rattle.sqlite.specs.declared.types.Value.TheVariants.{Text as TextValue};
-ghost use Rattle.pid_ident.specs.PathTexts.{path_text};
-ghost use Rattle.pid_ident.specs.Words.{is_name as name_test};
+ghost use Rattle.std.specs.Prelude.{◌≡◌, false, IfErr};
 ghost use Rattle.pid_reader.specs.LookingBack.{Item};
 ghost use Rattle.pid_reader.specs.Numbered.{Numbered};
 ghost use Rattle.pid_tables_rows.specs.Steps.Answers.{item_shown};
 ghost use Rattle.pid_tables_rows.specs.Causes.{IsReadable};
 ghost use Rattle.pid_tables_rows.specs.Faults.{fault_of_sql};
-ghost use Rattle.pid_tables_rows.specs.Unread.{IsUnreadable, ReadsAsItem};
+ghost use Rattle.pid_tables_rows.specs.Unread.{ReadsAsItem};
 ghost use Rattle.pid_tables_lists.specs.EachItem.{Walks, WalksSome, placed_from};
 ghost use Rattle.pid_tables_lists.specs.Steps.EachItem.{TakesOne, IsUnreadEnd};
 ghost use Rattle.pid_tables_lists.specs.declared.walk.EachEnd.TheVariants as ends;
