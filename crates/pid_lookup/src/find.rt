@@ -10,7 +10,7 @@ use crate::args::{Args, class_byte, subclass_byte};
 use crate::flags::Request;
 use crate::ide::IdeWords;
 use crate::names::Names;
-use pid_ident::{Id16, Name, Path};
+use pid_ident::{Name, Path};
 
 /// What there is for a request.
 #[derive(Drop)]
@@ -31,23 +31,21 @@ pub fn find<N: Names>(names: &mut N, request: Request, args: &Args) -> Result<Fo
     ensures told { IfOk result (λ _. N.may_tell names.old) }
 {
     match request {
-        Request::Vendor => Ok(Found::One(find_vendor(names, args.vendor)?)),
+        Request::Vendor => {
+            let vendor = args.vendor;
+            Ok(Found::One(names.name_of(&Path::Vendor { vendor })?))
+        }
         Request::Device => Ok(Found::One(find_device(names, args)?)),
-        Request::Subvendor => Ok(Found::One(find_vendor(names, args.subvendor)?)),
+        Request::Subvendor => {
+            let vendor = args.subvendor;
+            Ok(Found::One(names.name_of(&Path::Vendor { vendor })?))
+        }
         Request::Subsystem => Ok(Found::One(find_subsystem(names, args)?)),
         Request::Class => find_class(names, args),
         Request::ProgIf => find_progif(names, args),
         Request::VendorAndDevice => find_device_pair(names, args),
         Request::SubvendorAndSubsystem => find_subsystem_pair(names, args),
     }
-}
-
-fn find_vendor<N: Names>(names: &mut N, vendor: Id16) -> Result<Option<Name>, N::Fault>
-    ensures asks { AsksNamesFor N.Names names.old names.new result
-        (λ named. named (paths.Vendor vendor)) }
-    ensures told { IfOk result (λ _. N.may_tell names.old) }
-{
-    names.name_of(&Path::Vendor { vendor })
 }
 
 fn find_device<N: Names>(names: &mut N, args: &Args) -> Result<Option<Name>, N::Fault>
@@ -66,7 +64,8 @@ fn find_device_pair<N: Names>(names: &mut N, args: &Args) -> Result<Found, N::Fa
         (λ named found. IsFoundFor found named Request.VendorAndDevice args.now) }
     ensures told { IfOk result (λ _. N.may_tell names.old) }
 {
-    let vendor = find_vendor(names, args.vendor)?;
+    let vendor = args.vendor;
+    let vendor = names.name_of(&Path::Vendor { vendor })?;
     let device = find_device(names, args)?;
     Ok(Found::Pair(vendor, device))
 }
@@ -76,7 +75,8 @@ fn find_subsystem_pair<N: Names>(names: &mut N, args: &Args) -> Result<Found, N:
         (λ named found. IsFoundFor found named Request.SubvendorAndSubsystem args.now) }
     ensures told { IfOk result (λ _. N.may_tell names.old) }
 {
-    let vendor = find_vendor(names, args.subvendor)?;
+    let vendor = args.subvendor;
+    let vendor = names.name_of(&Path::Vendor { vendor })?;
     let device = find_subsystem(names, args)?;
     Ok(Found::Pair(vendor, device))
 }
@@ -89,10 +89,17 @@ fn find_subsystem<N: Names>(names: &mut N, args: &Args) -> Result<Option<Name>, 
     if let Some(name) = find_under_device(names, args)? {
         return Ok(Some(name));
     }
-    if let Some(name) = find_generic(names, args)? {
+    let generic = Path::Generic {
+        vendor: args.subvendor,
+        device: args.subdevice,
+    };
+    if let Some(name) = names.name_of(&generic)? {
         return Ok(Some(name));
     }
-    find_own_device(names, args)
+    if args.subvendor == args.vendor && args.subdevice == args.device {
+        return find_device(names, args);
+    }
+    Ok(None)
 }
 
 // The subsystem's entry under the device.
@@ -110,36 +117,6 @@ fn find_under_device<N: Names>(names: &mut N, args: &Args) -> Result<Option<Name
         subvendor: args.subvendor,
         subdevice: args.subdevice,
     })
-}
-
-// The subsystem's entry under no device.
-fn find_generic<N: Names>(names: &mut N, args: &Args) -> Result<Option<Name>, N::Fault>
-    ensures asks { AsksNamesFor N.Names names.old names.new result
-        (λ named. named (paths.Generic args.now.subvendor args.now.subdevice)) }
-    ensures told { IfOk result (λ _. N.may_tell names.old) }
-{
-    names.name_of(&Path::Generic {
-        vendor: args.subvendor,
-        device: args.subdevice,
-    })
-}
-
-// The device, if it is its own subsystem.
-fn find_own_device<N: Names>(names: &mut N, args: &Args) -> Result<Option<Name>, N::Fault>
-    ensures asks { AsksNamesFor N.Names names.old names.new result
-        (λ named. own_device named args.now) }
-{
-    if !is_own_subsystem(args) {
-        return Ok(None);
-    }
-    find_device(names, args)
-}
-
-fn is_own_subsystem(args: &Args) -> bool
-    ensures { result ≡ (args.now.subvendor == args.now.vendor
-        && args.now.subdevice == args.now.device) }
-{
-    args.subvendor == args.vendor && args.subdevice == args.device
 }
 
 fn find_class<N: Names>(names: &mut N, args: &Args) -> Result<Found, N::Fault>

@@ -1,6 +1,6 @@
 -- Whether a registry is live behind a call, on any disk.
-use Rattle.std.proofs.Common.{◌≡◌, ◌≢◌, ◌⊎◌, ◌<◌, ◌≤◌, ℕ, arith, inl, inr, Bool, true, false, List, [], ◌∷◌, ◌++◌, Option, Some, None, Result, Ok, Err, IsErrAnd, is_some, refl, sym, subst, ◌∙◌}
-use Rattle.std.specs.Prelude.{IfErr, IfSome, IsSome, IsSomeAnd, MatchResult}
+use Rattle.std.proofs.Common.{◌≡◌, ◌≢◌, ◌⊎◌, inl, inr, Bool, true, false, List, [], ◌∷◌, ◌++◌, Option, Some, None, Result, Ok, Err, IsErrAnd, is_some, refl, sym, subst, ◌∙◌}
+use Rattle.std.specs.Prelude.{IfErr, IfSome, IsSomeAnd, MatchResult}
 use Rattle.std.specs.List.{AllByRecursion}
 use Rattle.pid_service_laws.specs.Outcomes.{is_outcome}
 use Rattle.pid_moderation.specs.declared.command.Reply.{Reply}
@@ -105,15 +105,6 @@ pub on_after : (r : Result Reply Refusal) (after : Bool) → fault_in r ≡ None
 on_after r true none fails = refl
 on_after r false none fails = absurd (no_fault r none (fails refl))
 
-pub stays_so : (fault : Option Refusal) (after : Bool) → (after ≡ true) ⊎ IsSomeAnd fault IsMemoryOrStore → fault ≡ None → after ≡ true
-stays_so fault after (inl on) none = on
-stays_so None after (inr is) none = absurd is
-stays_so (Some e) after (inr is) none = absurd (let no : ⊥ = cc in no)
-
-pub fault_so : (fault : Option Refusal) (after : Bool) → (after ≡ true) ⊎ IsSomeAnd fault IsMemoryOrStore → after ≡ false → IsSomeAnd fault IsMemoryOrStore
-fault_so fault after (inl on) off = absurd (let no : true ≡ false = sym on ∙ off in let bad : ⊥ = cc in bad)
-fault_so fault after (inr is) off = is
-
 pub some_fault : (fault : Option Refusal) → is_some fault ≡ true → IfSome fault IsMemoryOrStore → IsSomeAnd fault IsMemoryOrStore
 some_fault None some is = let no : ⊥ = cc in absurd no
 some_fault (Some e) some is = is
@@ -126,7 +117,3 @@ all_more P (y ∷ xs) x all one = (all.0, all_more P xs x all.1 one)
 pub given_live : (fault : Option Refusal) (live : Bool) → live ≡ true → IfSome fault IsMemoryOrStore → IfSome fault (MayGive live)
 given_live None live on is = tt
 given_live (Some e) live on is = record { alive = λ was. is; failed = λ off. absurd (let no : true ≡ false = sym on ∙ off in let bad : ⊥ = cc in bad) }
-
-pub most_so : (fault : Option Refusal) (n m : ℕ) → (fault ≡ None → n ≡ m) → (IsSome fault → n < m) → n ≤ m
-most_so None n m whole cut = let same = whole refl in omega (arith, same)
-most_so (Some e) n m whole cut = let less : n < m = cut refl in omega (arith, less)

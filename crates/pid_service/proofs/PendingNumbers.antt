@@ -117,11 +117,10 @@ submitted_holds effect number author path proposal note is n v old new views fit
     let many : number ≡ length v.submits + 1 = subst (λ (e : Effect). FitsEffect e v) is fits in
     added ∙ ap (λ l. l ++ number ∷ []) held ∙ sym (submitted_waits v number (record { author = author; path = path; proposal = proposal; note = note }) views many) ∙ ap (λ (e : Effect). numbers_waiting (affected n e v)) (sym is)
 
-pub decided_holds : (effect : Effect) (number : ℕ) (st : State) (w : Option Write) → effect ≡ Decided number st w → (n : ℕ) (v : Views) (old : List ℕ) (r : Option (Vec ℕ Global)) → old ≡ numbers_waiting v
-    → IfSome r (λ left. (is_pending st ≡ false) × (left.items ≡ filter (λ k. not (k == number)) old)) → HoldsWaiting r (affected n effect v)
-decided_holds effect number st w is n v old None held left = tt
-decided_holds effect number st w is n v old (Some numbers) held left =
-    left.1 ∙ ap (others number) held ∙ sym (decided_waits v (affected n (Decided number st w) v) number st left.0 refl refl) ∙ ap (λ (e : Effect). numbers_waiting (affected n e v)) (sym is)
+pub decided_holds : (effect : Effect) (number : ℕ) (st : State) (w : Option Write) → effect ≡ Decided number st w → (n : ℕ) (v : Views) (old new : List ℕ) → old ≡ numbers_waiting v → is_pending st ≡ false → new ≡ filter (λ k. not (k == number)) old
+    → new ≡ numbers_waiting (affected n effect v)
+decided_holds effect number st w is n v old new held off left =
+    left ∙ ap (others number) held ∙ sym (decided_waits v (affected n (Decided number st w) v) number st off refl refl) ∙ ap (λ (e : Effect). numbers_waiting (affected n e v)) (sym is)
 
 -- ---- pages of it, one after the other
 

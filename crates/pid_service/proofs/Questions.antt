@@ -176,7 +176,7 @@ module _ {S : Type 0} (store : Ghosts S) where
   }
 
   -- what has its cause in a call has it in that and those before
-  caused_since : (old mid new : Held S) (e : Refusal) → clauses.OnlyReads store old mid → clauses.OnlyReads store mid new → clauses.HasCleanDisk store new → IsCausedAs store mid new e → IsCausedAs store old new e
+  pub caused_since : (old mid new : Held S) (e : Refusal) → clauses.OnlyReads store old mid → clauses.OnlyReads store mid new → clauses.HasCleanDisk store new → IsCausedAs store mid new e → IsCausedAs store old new e
   caused_since old mid new Memory first second clean cause = tt
   caused_since old mid new Store first second clean cause = caused_later (state store old) (state store mid) (state store new) (λ _. ⊥) faults.Store first.survives second.survives.counts (second.clean clean) cause
   caused_since old mid new e first second clean cause = cause

@@ -56,28 +56,6 @@ fn writes_items(effect: &Effect) -> bool
     }
 }
 
-// Numbers after one is decided.
-fn without(mut numbers: Vec<u32>, number: u32) -> Vec<u32>
-    ensures { result.items ≡ filter (λ n. not (n == number)) numbers.items }
-{
-    numbers.retain(|waiting| *waiting != number);
-    numbers
-}
-
-// Numbers after one gets a state; none if that is no decision.
-fn without_decided(numbers: Vec<u32>, number: u32, state: &State) -> Option<Vec<u32>>
-    ensures left { IfSome result (λ left. (is_pending state.now ≡ false)
-        × (left.items ≡ filter (λ n. not (n == number)) numbers.items)) }
-    ensures still { is_pending state.now ≡ false → IsSome result }
-{
-    match state {
-        State::Pending => None,
-        State::Approved { .. } | State::Rejected { .. } | State::Withdrawn => {
-            Some(without(numbers, number))
-        }
-    }
-}
-
 // The numbers of what is pending after a change.
 fn waiting_after(numbers: Option<Vec<u32>>, effect: &Effect) -> Option<Vec<u32>>
     ensures holds { (n : ℕ) (v : Views) → AreViews v → FitsEffect effect.now v
@@ -93,7 +71,13 @@ fn waiting_after(numbers: Option<Vec<u32>>, effect: &Effect) -> Option<Vec<u32>>
                 None
             }
         }
-        Effect::Decided { number, state, .. } => without_decided(numbers, *number, state),
+        Effect::Decided { number, state, .. } => match state {
+            State::Pending => None,
+            State::Approved { .. } | State::Rejected { .. } | State::Withdrawn => {
+                numbers.retain(|waiting| *waiting != *number);
+                Some(numbers)
+            }
+        },
         Effect::Nothing
         | Effect::Ranked { .. }
         | Effect::Remarked { .. }

@@ -1,6 +1,5 @@
 //! How much a registry holds.
-ghost use Rattle.std.specs.Prelude.{◌≡◌, false, length, OnOk};
-ghost use Rattle.pid_moderation.specs.PendingPages.{waiting_above};
+ghost use Rattle.std.specs.Prelude.{◌≡◌, false, OnOk};
 ghost use Rattle.pid_moderation.specs.RegistryStatus.{
   IsStatusIn,
   registry_status_of,
@@ -21,25 +20,6 @@ use pid_tables_rows::meta::{revision, submissions};
 use sqlite::Alter;
 use std::alloc::Global;
 
-// How many submissions are pending: their numbers are counted, if they are kept.
-fn pending_count<S: Alter + Drop>(
-    tables: &mut Tables<S>,
-    alloc: Global,
-    numbers: &Option<Vec<u32>>,
-) -> Result<u32, TableFault>
-    requires { tables.old.conn.in_transaction ≡ false }
-    ensures { Reads S.Store tables.old.conn tables.new.conn result
-        (λ v n. HoldsWaiting numbers.now v → n ≡ length (waiting_above 0 v)) }
-{
-    match numbers {
-        Some(numbers) => match u32::try_from(numbers.len()) {
-            Ok(count) => Ok(count),
-            Err(_) => Err(TableFault::Memory),
-        },
-        None => count_waiting(tables, alloc),
-    }
-}
-
 // The status, by the numbers of what is pending, if they are kept.
 fn status_by<S: Alter + Drop>(
     tables: &mut Tables<S>,
@@ -50,7 +30,7 @@ fn status_by<S: Alter + Drop>(
     ensures { Reads S.Store tables.old.conn tables.new.conn result
         (λ v status. HoldsWaiting numbers.now v → IsStatusIn v (registry_status_of status)) }
 {
-    let pending = pending_count(tables, alloc, numbers)?;
+    let pending = count_waiting(tables, alloc, numbers)?;
     let accounts = accounts(&mut tables.conn)?;
     let items = tables.items()?;
     let revision = revision(&mut tables.conn)?;

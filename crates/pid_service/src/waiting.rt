@@ -97,16 +97,24 @@ fn plus(count: u32, page: &[Pending]) -> Option<u32>
     }
 }
 
-/// How many submissions are pending, by pages of them.
+/// How many submissions are pending: their numbers are counted, if they are kept, and else pages of
+/// them.
 pub(crate) fn count_waiting<S: Alter + Drop>(
     tables: &mut Tables<S>,
     alloc: Global,
+    numbers: &Option<Vec<u32>>,
 ) -> Result<u32, TableFault>
     requires { tables.old.conn.in_transaction ≡ false }
     ensures { Reads S.Store tables.old.conn tables.new.conn result
-        (λ v n. n ≡ length (waiting_above 0 v)) }
+        (λ v n. HoldsWaiting numbers.now v → n ≡ length (waiting_above 0 v)) }
 {
     pid_tables_lists::laws::pending_go_on(); // proof only
+    if let Some(numbers) = numbers {
+        return match u32::try_from(numbers.len()) {
+            Ok(count) => Ok(count),
+            Err(_) => Err(TableFault::Memory),
+        };
+    }
     let mut count = 0u32;
     let mut after = 0;
     for _ in 0..u32::MAX {

@@ -1,6 +1,7 @@
 -- Serves private functions alone; no promise rests on it.
 -- What the names that were found show.
-use Rattle.std.specs.Prelude.{◌≡◌, ℕ, Bool, true, false, List, Option, Some, None}
+use Rattle.std.specs.Prelude.{◌≡◌, ◌++◌, ℕ, Bool, true, false, List, Option, Some, None}
+use Rattle.std.specs.Prelude.{codes, if◌then◌else◌}
 use Rattle.pid_file.specs.declared.path.Path.{Path}
 use Rattle.pid_lookup.specs.declared.args.Args.{Args}
 use Rattle.pid_lookup.specs.declared.find.Found.{Found}
@@ -8,8 +9,16 @@ use Rattle.pid_lookup.specs.declared.find.Found.TheVariants as found
 use Rattle.pid_lookup.specs.declared.flags.Request.{Request}
 use Rattle.pid_lookup.specs.Flags.{Switches}
 use Rattle.pid_lookup.specs.Found.{ide_words}
-use Rattle.pid_lookup.specs.Layouts.{one_text, pair_text}
+use Rattle.pid_lookup.specs.Layouts.{bracketed, one_text, pair_text}
 use Rattle.pid_lookup.specs.Answers.{request_number, request_text, with_numbers, request_word}
+
+-- words for a name that is not there, with the number, which alone after them may be a short one
+abbrev pub unnamed_text : Switches → List ℕ → List ℕ → List ℕ → Option (List ℕ)
+unnamed_text s number short words =
+    if s.no_numbers then None else
+    (if s.numeric then Some number else
+    (if s.mixed then Some (words ++ bracketed number) else
+    Some (words ++ codes " " ++ short)))
 
 abbrev pub found_text : Switches → List ℕ → List ℕ → Found → Option (List ℕ)
 found_text s number word (found.One name) = one_text s number word name

@@ -2,12 +2,12 @@ use Rattle.pid_lookup.specs.Found.{name_in_map}
 use Rattle.pid_lookup.proofs.FoundTexts.{for_vendor, for_device, for_subvendor, for_subsystem}
 use Rattle.pid_lookup.proofs.find.find.Goals as goal
 
-pub returns-in_ok-find_vendor-in-Vendor-clause-asks : goal.returns-in_ok-find_vendor-in-Vendor-clause-asks
-returns-in_ok-find_vendor-in-Vendor-clause-asks g c = record {
-  found = λ honest s shown. rw c.in-Vendor.is (for_vendor (name_in_map (g.N.Names.map_of s)) c.args.args.now c.in_ok-find_vendor-in-Vendor.field-0 (c.in_ok-find_vendor-in-Vendor.ensures.asks.found honest s shown));
+pub returns-in_ok-name_of-in-Vendor-clause-asks : goal.returns-in_ok-name_of-in-Vendor-clause-asks
+returns-in_ok-name_of-in-Vendor-clause-asks g c = record {
+  found = λ honest s shown. rw c.in-Vendor.is (for_vendor (name_in_map (g.N.Names.map_of s)) c.args.args.now c.in_ok-name_of-in-Vendor.field-0 (c.in_ok-name_of-in-Vendor.ensures.found honest s shown));
   fault = tt;
   caused = λ honest s shown start only. tt;
-  kept = c.in_ok-find_vendor-in-Vendor.ensures.asks.kept;
+  kept = c.in_ok-name_of-in-Vendor.ensures.kept;
 }
 
 pub returns-in_ok-find_device-in-Device-clause-asks : goal.returns-in_ok-find_device-in-Device-clause-asks
@@ -18,12 +18,12 @@ returns-in_ok-find_device-in-Device-clause-asks g c = record {
   kept = c.in_ok-find_device-in-Device.ensures.asks.kept;
 }
 
-pub returns-in_ok-find_vendor-in-Subvendor-clause-asks : goal.returns-in_ok-find_vendor-in-Subvendor-clause-asks
-returns-in_ok-find_vendor-in-Subvendor-clause-asks g c = record {
-  found = λ honest s shown. rw c.in-Subvendor.is (for_subvendor (name_in_map (g.N.Names.map_of s)) c.args.args.now c.in_ok-find_vendor-in-Subvendor.field-0 (c.in_ok-find_vendor-in-Subvendor.ensures.asks.found honest s shown));
+pub returns-in_ok-name_of-in-Subvendor-clause-asks : goal.returns-in_ok-name_of-in-Subvendor-clause-asks
+returns-in_ok-name_of-in-Subvendor-clause-asks g c = record {
+  found = λ honest s shown. rw c.in-Subvendor.is (for_subvendor (name_in_map (g.N.Names.map_of s)) c.args.args.now c.in_ok-name_of-in-Subvendor.field-0 (c.in_ok-name_of-in-Subvendor.ensures.found honest s shown));
   fault = tt;
   caused = λ honest s shown start only. tt;
-  kept = c.in_ok-find_vendor-in-Subvendor.ensures.asks.kept;
+  kept = c.in_ok-name_of-in-Subvendor.ensures.kept;
 }
 
 pub returns-in_ok-find_subsystem-in-Subsystem-clause-asks : goal.returns-in_ok-find_subsystem-in-Subsystem-clause-asks

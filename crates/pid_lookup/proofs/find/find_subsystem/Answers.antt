@@ -7,7 +7,7 @@ use Rattle.pid_lookup.proofs.find.find_subsystem.Goals as goal
 pub returns-in-Some-2-clause-asks : goal.returns-in-Some-2-clause-asks
 returns-in-Some-2-clause-asks g c =
     let first = c.in_ok-name.ensures.asks in
-    let second = c.in_ok-name-2.ensures.asks in
+    let second = c.in_ok-name-2.ensures in
     record {
       found = λ honest s shown. by_generic (name_in_map (g.N.Names.map_of s)) c.args.args.now c.in-Some-2.name
           (sym c.in_default.is ∙ first.found (second.kept.was_honest honest) s shown)

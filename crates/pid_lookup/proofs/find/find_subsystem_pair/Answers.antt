@@ -5,7 +5,7 @@ use Rattle.pid_lookup.proofs.find.find_subsystem_pair.Goals as goal
 
 pub returns-clause-asks : goal.returns-clause-asks
 returns-clause-asks g c =
-    let first = c.in_ok-vendor.ensures.asks in
+    let first = c.in_ok-vendor.ensures in
     let second = c.in_ok-device.ensures.asks in
     record {
       found = λ honest s shown. for_subsystem_pair (name_in_map (g.N.Names.map_of s)) c.args.args.now c.in_ok-vendor.vendor c.in_ok-device.device

@@ -7,7 +7,7 @@ use Rattle.pid_service.proofs.status.status_by.Goals as goal
 
 pub returns-in_err-accounts : goal.returns-in_err-accounts
 returns-in_err-accounts g c =
-    faults_behind g.S.Store c.args.tables.now.conn c.pending_count.new.tables.conn c.accounts.new.conn c.in_err-accounts.field-0.0 c.from_residual-in_err-accounts.result _ c.in_ok-pending.ensures.rests c.in_err-accounts.ensures.rests
+    faults_behind g.S.Store c.args.tables.now.conn c.count_waiting.new.tables.conn c.accounts.new.conn c.in_err-accounts.field-0.0 c.from_residual-in_err-accounts.result _ c.in_ok-pending.ensures.rests c.in_err-accounts.ensures.rests
     (λ clean v rest readable. c.in_err-accounts.ensures.told clean v rest readable) c.from_residual-in_err-accounts.ensures.1
 
 pub returns-in_err-items : goal.returns-in_err-items

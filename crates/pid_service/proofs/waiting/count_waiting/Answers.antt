@@ -1,4 +1,4 @@
-use Rattle.std.proofs.Common.{◌≡◌, ◌<◌, ◌+◌, map, length, ap, sym, ◌∙◌, rules}
+use Rattle.std.proofs.Common.{◌≡◌, ◌<◌, ◌+◌, map, length, ap, sym, subst, ◌∙◌, rules}
 use Rattle.sqlite.specs.Held.{state}
 use Rattle.pid_moderation.specs.PendingPages.{told_of, waiting_above}
 use Rattle.pid_tables_rows.specs.Causes.{IsCaused, IsReadable}
@@ -6,9 +6,22 @@ use Rattle.pid_tables_rows.proofs.CauseLemmas.{caused_later, passed_on}
 use Rattle.pid_tables_rows.proofs.OnlyReading.{reads_then}
 use Rattle.pid_tables_lists.specs.Laws.{pending_number}
 use Rattle.pid_tables_lists.specs.Pages.{last_of}
+use Rattle.std.proofs.lemmas.List.{length-map}
+use Rattle.pid_service.specs.KeptViews.{HoldsWaiting, numbers_waiting}
 use Rattle.pid_service.proofs.PendingNumbers.{last_count, next_count}
 use Rattle.pid_service.proofs.waiting.count_waiting.Goals as goal
 
+-- the numbers are kept
+pub returns-in-Ok : goal.returns-in-Ok
+returns-in-Ok g c = record {
+  rests = search rules;
+  told = λ clean v rest holds.
+      let held : c.in-Some.numbers.items ≡ numbers_waiting v = subst (λ o. HoldsWaiting o v) c.in-Some.is holds in
+      let many : c.in-Ok.count ≡ length c.in-Some.numbers.items = search rules in
+      many ∙ ap length held ∙ length-map (waiting_above 0 v) pending_number;
+}
+
+-- a page after the other
 pub returns-in_err-page : goal.returns-in_err-page
 returns-in_err-page g c =
     let one = c.in_err-page.ensures in
@@ -24,8 +37,8 @@ returns-in_err-page g c =
     }
 
 -- too many
-pub returns-in_default : goal.returns-in_default
-returns-in_default g c = record { rests = reads_then _ _ _ c.loop.invariant.0 c.in_ok-page.ensures.rests; told = λ clean v rest readable. tt }
+pub returns-in_default-plus : goal.returns-in_default-plus
+returns-in_default-plus g c = record { rests = reads_then _ _ _ c.loop.invariant.0 c.in_ok-page.ensures.rests; told = λ clean v rest readable. tt }
 
 pub returns : goal.returns
 returns g c = record { rests = c.loop.invariant.0; told = λ clean v rest readable. tt }
@@ -37,8 +50,8 @@ returns-then-len-lt-PAGE g c =
     let short : length c.as_slice.result.now < 100 = search rules in
     record {
       rests = reads_then _ _ _ before.0 one.rests;
-      told = λ clean v rest.
-          c.in-Some.ensures
+      told = λ clean v rest holds.
+          c.in-Some-plus.ensures
           ∙ last_count v 100 c.loop.after c.as_slice.result.now c.loop.count (ap (map told_of) c.as_slice.ensures.value ∙ one.told clean v (before.0.kept v rest)) short
           ∙ before.1 (one.rests.clean clean) v rest;
     }
@@ -51,7 +64,7 @@ loop-preserved g c =
     let last : c.last_number-after.result ≡ last_of pending_number c.loop.after (map told_of c.as_slice.result.now) = c.last_number-after.ensures ∙ ap (λ p. last_of pending_number c.loop.after (map told_of p)) same in (
       reads_then _ _ _ before.0 one.rests,
       λ clean v rest.
-          (λ i. c.in-Some.ensures i + length (waiting_above (last i) v))
+          (λ i. c.in-Some-plus.ensures i + length (waiting_above (last i) v))
           ∙ next_count c.pending_go_on.ensures.next v 100 c.loop.after c.as_slice.result.now c.loop.count (ap (map told_of) c.as_slice.ensures.value ∙ one.told clean v (before.0.kept v rest))
           ∙ before.1 (one.rests.clean clean) v rest,
     )

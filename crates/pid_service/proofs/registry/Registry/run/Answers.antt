@@ -1,35 +1,42 @@
-use Rattle.std.proofs.Common.{◌≡◌, ◌<◌, [], Some, inl, length, refl, rules, subst, sym, arith}
-use Rattle.std.specs.List.{AllByRecursion}
-use Rattle.pid_moderation.specs.declared.refusal.Refusal.TheVariants.{Memory}
-use Rattle.pid_service.specs.Running.{ReplyIsNotFailed}
+use Rattle.std.proofs.Common.{◌≡◌, ℕ, ◌+◌, ◌<◌, ◌≤◌, List, [], ◌∷◌, Some, length, vec_capacity, vec_len, length-append, take, drop, map, suc, not, true, false, is_ok, is_some, inl, inr, refl, rules, sym, ap, subst, ◌∙◌, arith}
+use Rattle.pid_moderation.specs.declared.refusal.Refusal.TheVariants.{Failed, Memory}
+use Rattle.pid_moderation.specs.History.{Asked}
+use Rattle.pid_moderation.specs.Judgement.{after_all}
 use Rattle.pid_tables.specs.Files.{asks}
-use Rattle.std.specs.Prelude.{map}
+use Rattle.std.specs.List.{AllByRecursion}
+use Rattle.pid_service.specs.Running.{ObeysInTurn, ReplyIsNotFailed}
 use Rattle.pid_service.proofs.Keeping.{true_not}
-use Rattle.pid_service.proofs.Lasting.{fault_so, given_live, most_so, stays_so}
-use Rattle.pid_service.proofs.Runs.{forgets_none, runs_none, some_not, turn_short}
+use Rattle.pid_service.proofs.Lasting.{all_more, given_live, on_after, some_fault}
+use Rattle.pid_service.proofs.Runs.{ends_at, forgets_all, forgets_at, forgets_more, forgets_none, next_is, no_room, none_next, none_of, none_then, obeyed_more, one_more, runs_all, runs_none, so_many, some_not, turn_ends, turn_more, turn_none, turn_short, turn_stops}
 use Rattle.pid_service.proofs.registry.Registry.run.Goals as goal
 
-pub returns-in-Ok : goal.returns-in-Ok
-returns-in-Ok g c = record {
-  failed = true_not c.args.self.now.live c.if-not-self.false;
-  clean = c.run_into.ensures.clean;
-  fault = given_live c.run_into.result.fault c.args.self.now.live c.if-not-self.false c.run_into.ensures.fault;
-  complete = c.run_into.ensures.counts.complete;
-  cut = λ on. c.run_into.ensures.counts.cut;
-  most = most_so c.run_into.result.fault (length c.run_into.result.replies.items) (length c.args.commands.now) c.run_into.ensures.counts.complete c.run_into.ensures.counts.cut;
-  ran = c.run_into.ensures.ran;
-  in_turn = λ on. c.run_into.ensures.in_turn;
-  forgets = c.run_into.ensures.forgets;
-  stays = λ on none. stays_so c.run_into.result.fault c.run_into.new.self.live (c.run_into.ensures.held on) none;
-  fails = λ on off. fault_so c.run_into.result.fault c.run_into.new.self.live (c.run_into.ensures.held on) off;
-  alive = c.run_into.ensures.alive;
-  limit = c.run_into.ensures.limit;
-}
+-- ---- a registry that has failed
 
-pub returns-in-Err : goal.returns-in-Err
-returns-in-Err g c =
-    let none : c.new-in-Err.result.items ≡ [] = search rules in
-    let less : length c.new-in-Err.result.items < length c.args.commands.now = search rules in
+pub returns-then-not-self : goal.returns-then-not-self
+returns-then-not-self g c =
+    let none : c.new.result.items ≡ [] = search rules in
+    record {
+      failed = λ still. (none, refl, refl);
+      clean = λ clean. clean;
+      fault = record { alive = λ on. true_not c.args.self.now.live on c.if-not-self.true; failed = λ still. refl };
+      complete = λ is. absurd (some_not (Some Failed) refl is);
+      cut = λ on. true_not c.args.self.now.live on c.if-not-self.true;
+      most = let few : length c.new.result.items ≡ 0 = ap length none in omega (arith, few);
+      ran = λ clean h shows. true_not c.args.self.now.live shows.lives c.if-not-self.true;
+      in_turn = λ on. true_not c.args.self.now.live on c.if-not-self.true;
+      forgets = λ clean h shows. true_not c.args.self.now.live shows.lives c.if-not-self.true;
+      stays = λ on. true_not c.args.self.now.live on c.if-not-self.true;
+      fails = λ on. true_not c.args.self.now.live on c.if-not-self.true;
+      alive = λ on. true_not c.args.self.now.live on c.if-not-self.true;
+      limit = refl;
+    }
+
+-- ---- no memory for the replies
+
+pub returns-in_default : goal.returns-in_default
+returns-in_default g c =
+    let none : c.new-in_default.result.items ≡ [] = search rules in
+    let less : length c.new-in_default.result.items < length c.args.commands.now = search rules in
     record {
       failed = true_not c.args.self.now.live c.if-not-self.false;
       clean = λ clean. clean;
@@ -44,4 +51,121 @@ returns-in-Err g c =
       fails = λ on off. inl refl;
       alive = λ on. subst (AllByRecursion ReplyIsNotFailed) (sym none) tt;
       limit = refl;
+    }
+
+-- ---- there is room for each reply
+
+pub returns-then-is_err : goal.returns-then-is_err
+returns-then-is_err g c =
+    let bad : is_ok c.push.result ≡ false = c.is_err.ensures.negation ∙ ap not c.if-is_err.true in
+    let full : vec_capacity c.loop-command.replies ≤ vec_len c.loop-command.replies = no_room c.push.result _ bad c.push.ensures.full in
+    absurd (omega (arith, full, c.loop-command.invariant.0, c.loop-command.invariant.2, c.loop-command-test.true))
+
+pub loop-command-init : goal.loop-command-init
+loop-command-init g c =
+    let none : c.in-Ok.replies.items ≡ [] = search rules in
+    let len : vec_len c.in-Ok.replies ≡ 0 = search rules in
+    let room : length c.args.commands.now ≤ vec_capacity c.in-Ok.replies = search rules in (
+      len,
+      ap length none,
+      room,
+      λ clean. clean,
+      λ clean h shows. (none, shows),
+      λ on. on,
+      λ on. subst (AllByRecursion ReplyIsNotFailed) (sym none) tt,
+      λ clean h shows. inr tt,
+      refl,
+      turn_none g.S.Store _ _ none,
+    )
+
+pub loop-command-preserved : goal.loop-command-preserved
+loop-command-preserved g c =
+    let i : ℕ = c.loop-command.command-index in
+    let all : List Asked = map asks c.args.commands.now in
+    let good : is_ok c.push.result ≡ true = c.is_err.ensures.negation ∙ ap not c.if-is_err.false in
+    let none = sym c.fault_of-fault.ensures.told ∙ none_of c.fault_of-fault.result (sym c.is_some.ensures ∙ c.if-is_some.false) in (
+      rw good at c.push.ensures.len ∙ ap (λ n. n + 1) c.loop-command.invariant.0,
+      ap length (rw good at c.push.ensures.items) ∙ length-append c.loop-command.replies.items (c.obey_lent-outcome.result ∷ []) ∙ ap (λ n. n + 1) c.loop-command.invariant.1,
+      omega (arith, c.loop-command.invariant.2, c.push.ensures.capacity),
+      λ clean. c.loop-command.invariant.3 (c.obey_lent-outcome.ensures.does.clean clean),
+      λ clean h shows.
+          let more = obeyed_more g.S.Store c.obey_lent-outcome.result c.loop-command.self c.obey_lent-outcome.new.self h (take i all) (take (i + 1) all) (asks c.command-item.result) c.loop-command.replies.items
+          (one_more asks c.args.commands.now i c.command-item.result (omega (arith, c.loop-command-test.true)) (sym c.command-item.is))
+          (c.loop-command.invariant.4 (c.obey_lent-outcome.ensures.does.clean clean) h shows)
+          (λ so. c.obey_lent-outcome.ensures.does.obeyed clean (after_all h (take i all)) so)
+          none in
+          (rw good at c.push.ensures.items ∙ more.0, more.1),
+      λ on. on_after c.obey_lent-outcome.result c.obey_lent-outcome.new.self.live none (λ off. c.obey_lent-outcome.ensures.does.lasts.fails (c.loop-command.invariant.5 on) off),
+      λ on.
+          subst (AllByRecursion ReplyIsNotFailed) (sym (rw good at c.push.ensures.items))
+          (all_more ReplyIsNotFailed c.loop-command.replies.items c.obey_lent-outcome.result (c.loop-command.invariant.6 on) (c.obey_lent-outcome.ensures.does.lasts.alive (c.loop-command.invariant.5 on))),
+      λ clean h shows.
+          let was = c.obey_lent-outcome.ensures.does.clean clean in
+          forgets_more _ _ c.obey_lent-outcome.result h (take i all) (take (i + 1) all) (asks c.command-item.result)
+          (one_more asks c.args.commands.now i c.command-item.result (omega (arith, c.loop-command-test.true)) (sym c.command-item.is))
+          c.obey_lent-outcome.ensures.none (c.loop-command.invariant.7 was h shows)
+          (c.obey_lent-outcome.ensures.spares clean (after_all h (take i all)) (c.loop-command.invariant.4 was h shows).1) none,
+      c.obey_lent-outcome.ensures.does.lasts.limit ∙ c.loop-command.invariant.8,
+      subst (λ l. ObeysInTurn g.S.Store (take (i + 1) c.args.commands.now) l c.args.self.now c.obey_lent-outcome.new.self) (sym (rw good at c.push.ensures.items))
+          (turn_more g.S.Store c.args.commands.now i c.loop-command.replies.items c.args.self.now c.loop-command.self c.obey_lent-outcome.new.self c.command-item.result c.obey_lent-outcome.result
+          (omega (arith, c.loop-command-test.true)) (sym c.command-item.is) c.loop-command.invariant.9 c.obey_lent-outcome.ensures.does),
+    )
+
+-- ---- at the fault of a command
+
+pub returns-then-is_some : goal.returns-then-is_some
+returns-then-is_some g c =
+    let i : ℕ = c.loop-command.command-index in
+    let all : List Asked = map asks c.args.commands.now in
+    let does = c.obey_lent-outcome.ensures.does in
+    let some : is_some c.fault_of-fault.result ≡ true = sym c.is_some.ensures ∙ c.if-is_some.true in
+    record {
+      failed = true_not c.args.self.now.live c.if-not-self.false;
+      clean = λ clean. c.loop-command.invariant.3 (does.clean clean);
+      fault = given_live c.fault_of-fault.result c.args.self.now.live c.if-not-self.false c.fault_of-fault.ensures.fault;
+      complete = λ none. absurd (some_not c.fault_of-fault.result some none);
+      cut = λ on is. omega (arith, c.loop-command.invariant.1, c.loop-command-test.true);
+      most = omega (arith, c.loop-command.invariant.1, c.loop-command-test.true);
+      ran = λ clean h shows.
+          ends_at g.S.Store c.obey_lent-outcome.result _ c.loop-command.self c.obey_lent-outcome.new.self h i all (drop (suc i) all) (asks c.command-item.result)
+          (next_is asks c.args.commands.now i c.command-item.result (omega (arith, c.loop-command-test.true)) (sym c.command-item.is))
+          (so_many asks c.args.commands.now i c.command-item.result h (omega (arith, c.loop-command-test.true)) (sym c.command-item.is))
+          (c.loop-command.invariant.4 (does.clean clean) h shows)
+          (λ so. does.obeyed clean (after_all h (take i all)) so)
+          c.fault_of-fault.ensures.told
+          some;
+      in_turn = λ on.
+          turn_stops g.S.Store _ c.args.commands.now i c.args.self.now c.loop-command.self c.obey_lent-outcome.new.self c.command-item.result c.obey_lent-outcome.result
+          (omega (arith, c.loop-command-test.true)) (sym c.command-item.is) c.loop-command.invariant.1 c.loop-command.invariant.9 does c.fault_of-fault.ensures.told some;
+      forgets = λ clean h shows.
+          let was = does.clean clean in
+          forgets_at g.S.Store _ c.obey_lent-outcome.new.self h i all (drop (suc i) all) (asks c.command-item.result)
+          (next_is asks c.args.commands.now i c.command-item.result (omega (arith, c.loop-command-test.true)) (sym c.command-item.is))
+          c.loop-command.invariant.1 (none_then _ _ _ c.obey_lent-outcome.ensures.none (c.loop-command.invariant.7 was h shows))
+          (does.forgets clean (after_all h (take i all)) (c.loop-command.invariant.4 was h shows).1);
+      stays = λ on none. absurd (some_not c.fault_of-fault.result some none);
+      fails = λ on off. some_fault c.fault_of-fault.result some c.fault_of-fault.ensures.fault;
+      alive = c.loop-command.invariant.6;
+      limit = does.lasts.limit ∙ c.loop-command.invariant.8;
+    }
+
+-- ---- all were obeyed
+
+pub returns : goal.returns
+returns g c =
+    let end = none_next asks c.args.commands.now c.loop-command.command-index c.loop-command-test.false in
+    record {
+      failed = true_not c.args.self.now.live c.if-not-self.false;
+      clean = c.loop-command.invariant.3;
+      fault = tt;
+      complete = λ none. omega arith;
+      cut = λ on some. absurd (let no : ⊥ = cc in no);
+      most = omega arith;
+      ran = λ clean h shows. runs_all g.S.Store _ c.loop-command.self h c.loop-command.command-index (map asks c.args.commands.now) end c.loop-command.invariant.1 refl (c.loop-command.invariant.4 clean h shows);
+      in_turn = λ on. turn_ends g.S.Store _ c.args.commands.now c.loop-command.command-index c.args.self.now c.loop-command.self c.loop-command.invariant.1 c.loop-command.invariant.9 refl;
+      forgets = λ clean h shows. forgets_all g.S.Store _ c.loop-command.self h c.loop-command.command-index (map asks c.args.commands.now) end c.loop-command.invariant.1 (c.loop-command.invariant.7 clean h shows);
+      stays = λ on none. c.loop-command.invariant.5 on;
+      fails = λ on. true_not c.loop-command.self.live (c.loop-command.invariant.5 on);
+      alive = c.loop-command.invariant.6;
+      limit = c.loop-command.invariant.8;
     }

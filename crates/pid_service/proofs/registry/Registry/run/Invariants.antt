@@ -7,7 +7,7 @@ use Rattle.pid_service.specs.Histories.{Shows}
 use Rattle.pid_service.specs.Registries.{HasCleanDisk, KeepsLimit, is_live}
 use Rattle.pid_service.specs.KeptViews.{kept_by, nothing}
 use Rattle.pid_service.specs.Running.{ReplyIsNotFailed, LeaveItems, ObeysInTurn}
-use Rattle.pid_service.proofs.registry.Registry.run_into.Given as goal
+use Rattle.pid_service.proofs.registry.Registry.run.Given as goal
 
 abbrev pub invariant-loop-command : goal.invariant-loop-command
 invariant-loop-command g l =
