@@ -15,7 +15,7 @@ LONGER = ("pid_tables::bring_in", "pid_tables::check", "pid_tables::create",
 # Any function has fewer than so many, but for these.
 TOO_MANY = 8
 LONGEST = ("pid_file::read_nested", "pid_http_stream::fill",
-           "pid_http_stream::read_head", "pid_service::run_into")
+           "pid_http_stream::read_head")
 # What a clause of these crates has on average, in characters.
 CHARACTERS = 91
 ABOVE = ("pid_service", "pid_http", "pid_http_listener", "pid_http_replies", "pid_http_requests",

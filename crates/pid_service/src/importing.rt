@@ -1,9 +1,9 @@
 //! An import, whose file comes as an input or as bytes.
 ghost use Rattle.std.specs.Prelude.{◌≡◌, ◌≢◌, Bool, [], true, false, Err, IfErr};
 ghost use Rattle.pid_moderation.specs.BeforeFile.{import_of};
-ghost use Rattle.pid_moderation.specs.History.{History, Reading, asked, is_import};
+ghost use Rattle.pid_moderation.specs.History.{History};
 ghost use Rattle.pid_tables.specs.Judging.{WhereOpen};
-ghost use Rattle.pid_service.specs.Histories.{IsMemoryOrStore, OverHistory, Shows};
+ghost use Rattle.pid_service.specs.Histories.{IsMemoryOrStore, Shows};
 ghost use Rattle.pid_service.specs.Importing.{
   AnswersFailed,
   EndIsNotFailed,
@@ -16,12 +16,13 @@ ghost use Rattle.pid_service.specs.Importing.{
   OfRefusal,
 };
 ghost use Rattle.pid_service.specs.KeptViews.{kept_by, nothing};
-ghost use Rattle.pid_service.specs.Obeying.{ImportFaults, Obeys};
+ghost use Rattle.pid_service.specs.Obeying.{Obeys};
 ghost use Rattle.pid_service.specs.Registries.{HasCleanDisk, KeepsLimit, is_live as lives};
 ghost use Rattle.pid_service.specs.Steps.Importing.{
   AnswersPast,
   BytesStay,
   CarriesText,
+  CausesImport,
   EndStays,
   EndStaysLive,
   FaultStays,
@@ -166,10 +167,8 @@ impl<S: Alter + Drop> Registry<S> {
         ensures none { kept_by self.old ≡ nothing → kept_by self.new ≡ nothing }
         ensures reads { InputIsRead I.Input input.old input.new result }
         ensures lasts { EndStays S.Store self.old self.new result }
-        ensures caused { OverHistory S.Store self.old self.new
-            (λ h. (reading : Reading) → is_import command.now.act ≡ true
-            → IfErr result (OfRefusal (ImportFaults S.Store self.old self.new h
-            (asked command.now reading)))) }
+        ensures caused { CausesImport S.Store self.old self.new command.now
+            (λ faults. IfErr result (OfRefusal faults)) }
     {
         pid_moderation::laws::command_is_well_made(command); // proof only
         laws::commands_lead_on(); // proof only
@@ -197,10 +196,7 @@ impl<S: Alter + Drop> Registry<S> {
             (SparesNames result self.new) }
         ensures none { kept_by self.old ≡ nothing → kept_by self.new ≡ nothing }
         ensures lasts { BytesStay S.Store self.old self.new result }
-        ensures caused { OverHistory S.Store self.old self.new
-            (λ h. (reading : Reading) → is_import command.now.act ≡ true
-            → IfErr result (ImportFaults S.Store self.old self.new h
-            (asked command.now reading))) }
+        ensures caused { CausesImport S.Store self.old self.new command.now (IfErr result) }
     {
         let mut input = SliceInput::new(file);
         let end = self.import_act(command, &mut input);

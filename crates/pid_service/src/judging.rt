@@ -1,12 +1,11 @@
 //! What comes of a command, before anything is written.
 ghost use Rattle.std.specs.Prelude.{◌≡◌, ◌≢◌, ◌⊎◌, false, Err, IfErr};
-ghost use Rattle.pid_moderation.specs.FactsOfViews.{facts_of};
-ghost use Rattle.pid_moderation.specs.History.{History, Reading, asked, is_import};
+ghost use Rattle.pid_moderation.specs.History.{is_import};
 ghost use Rattle.pid_moderation.specs.Judgement.{answer, judge as judgement};
 ghost use Rattle.pid_moderation.specs.Revisions.{IsMarked};
 ghost use Rattle.pid_moderation.specs.Views.{views_of};
 ghost use Rattle.pid_tables_rows.specs.Clauses.{OnlyReads};
-ghost use Rattle.pid_service.specs.Steps.Judging.{IsJudgedFor, JudgesCommand, OverTables};
+ghost use Rattle.pid_service.specs.Steps.Judging.{IsJudgedFor, JudgesCommand, OverFacts, OverTables};
 
 use crate::laws;
 use pid_moderation::{Change, Command, Facts, Refusal, Reply, decide, needs};
@@ -23,14 +22,10 @@ pub(crate) enum Judged {
 }
 
 fn judged_by(facts: &Facts, command: &Command) -> Result<Judged, Refusal>
-    ensures judged { (h : History) (reading : Reading) → IsMarked h
-        → is_import command.now.act ≡ false
-        → facts.now ≡ facts_of (views_of h) (asked command.now reading)
-        → JudgesCommand h (asked command.now reading) result }
-    ensures refused { (h : History) (reading : Reading)
-        → facts.now ≡ facts_of (views_of h) (asked command.now reading)
-        → IfErr result (λ e. (answer (judgement (views_of h) (asked command.now reading)) ≡ Err e)
-        ⊎ (e ≡ Refusal.Memory)) }
+    ensures judged { OverFacts facts.now command.now (λ h c. IsMarked h
+        → is_import command.now.act ≡ false → JudgesCommand h c result) }
+    ensures refused { OverFacts facts.now command.now (λ h c. IfErr result
+        (λ e. (answer (judgement (views_of h) c) ≡ Err e) ⊎ (e ≡ Refusal.Memory))) }
     ensures alive { IfErr result (λ e. e ≢ Refusal.Failed) }
 {
     match decide(facts, command) {

@@ -8,7 +8,7 @@ use Rattle.pid_moderation.specs.declared.facts.Facts.{Facts}
 use Rattle.pid_moderation.specs.declared.refusal.Refusal.{Refusal}
 use Rattle.pid_moderation.specs.declared.refusal.Refusal.TheVariants.{BadText, Failed, Memory, Store}
 use Rattle.pid_moderation.specs.CheckTables.{most_file_bytes}
-use Rattle.pid_moderation.specs.History.{Asked, History, asked, is_import}
+use Rattle.pid_moderation.specs.History.{Asked, History, Reading, asked, is_import}
 use Rattle.pid_moderation.specs.Judgement.{after}
 use Rattle.pid_moderation.specs.Views.{items_of}
 use Rattle.pid_tables.specs.Files.{file_reading}
@@ -19,6 +19,7 @@ use Rattle.pid_service.specs.declared.registry.Registry.{Registry}
 use Rattle.pid_service.specs.Histories.{IsMemoryOrStore, IsReached, OverHistory, Shows}
 use Rattle.pid_service.specs.Importing.{ObeysImport}
 use Rattle.pid_service.specs.KeptViews.{kept_by, nothing}
+use Rattle.pid_service.specs.Obeying.{ImportFaults}
 use Rattle.pid_service.specs.Registries.{HasCleanDisk, KeepsLimit, is_live}
 use Rattle.pid_service.specs.Steps.Obeying.{StaysLive}
 
@@ -94,3 +95,11 @@ module _ {S : Type 0} (store : Ghosts S) where
   OverBytes old new command file Holds = OverHistory store old new
       (λ h. is_import command.act ≡ true → length file ≤ most_file_bytes
       → Holds h (asked command (file_reading file)))
+
+  -- this is said of what a fault of an import stands for, over the history that was shown, whatever
+  -- file it is taken to have
+  abbrev pub CausesImport : Registry S store → Registry S store → Command
+      → ((Refusal → Type 0) → Type 0) → Type 0
+  CausesImport old new command Says = OverHistory store old new
+      (λ h. (reading : Reading) → is_import command.act ≡ true
+      → Says (ImportFaults store old new h (asked command reading)))

@@ -7,7 +7,9 @@ use Rattle.pid_moderation.specs.declared.change.Effect.{Effect}
 use Rattle.pid_moderation.specs.declared.change.Effect.TheVariants.{Decided, Imported}
 use Rattle.pid_moderation.specs.declared.command.Command.{Command}
 use Rattle.pid_moderation.specs.declared.command.Reply.{Reply}
+use Rattle.pid_moderation.specs.declared.facts.Facts.{Facts}
 use Rattle.pid_moderation.specs.declared.refusal.Refusal.{Refusal}
+use Rattle.pid_moderation.specs.FactsOfViews.{facts_of}
 use Rattle.pid_moderation.specs.Changes.{changed, FitsViews}
 use Rattle.pid_moderation.specs.CheckTables.{is_pending}
 use Rattle.pid_moderation.specs.History.{Asked, History, Reading, asked, is_import}
@@ -39,6 +41,12 @@ abbrev pub JudgesCommand : History → Asked → Result Judged Refusal → Type 
 JudgesCommand h c (Ok (Kept reply)) = (answer (judge (views_of h) c) ≡ Ok reply) × (after h c ≡ h)
 JudgesCommand h c (Ok (Accepted change reply)) = AcceptsWith h c change reply
 JudgesCommand h c (Err e) = ((answer (judge (views_of h) c) ≡ Err e) × (after h c ≡ h)) ⊎ IsMemoryOrStore e
+
+-- this holds of each history of which these are the facts, and of the command, whatever file it is
+-- taken to have
+abbrev pub OverFacts : Facts → Command → (History → Asked → Type 0) → Type 0
+OverFacts facts command Holds = (h : History) (reading : Reading)
+    → facts ≡ facts_of (views_of h) (asked command reading) → Holds h (asked command reading)
 
 module _ {S : Type 0} (store : Ghosts S) where
   -- while the disk returns what was written, this holds of the history that the tables showed, and

@@ -11,7 +11,7 @@ returns-in-Ok-clause-judged g c clean h reading reached rest other =
     let law = c.reached_histories_are_kept.ensures in
     let found : c.in-Ok.facts ≡ facts_of (views_of h) (asked c.args.command.now reading) =
     c.in-Ok.ensures.told clean (views_of h) rest (law.items h reached).0 (law.items h reached).1 ∙ sym (c.needs.ensures.suffice (views_of h) reading other) in
-    c.judged_by-judged.ensures.judged h reading reached.marked other found
+    c.judged_by-judged.ensures.judged h reading found reached.marked other
 
 pub returns-in-Ok-clause-caused : goal.returns-in-Ok-clause-caused
 returns-in-Ok-clause-caused g c clean h reading reached rest other =
