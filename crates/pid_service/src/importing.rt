@@ -1,9 +1,8 @@
 //! An import, whose file comes as an input or as bytes.
 ghost use Rattle.std.specs.Prelude.{◌≡◌, ◌≢◌, Bool, [], true, false, Err, IfErr};
 ghost use Rattle.pid_moderation.specs.BeforeFile.{import_of};
-ghost use Rattle.pid_moderation.specs.History.{History};
 ghost use Rattle.pid_tables.specs.Judging.{WhereOpen};
-ghost use Rattle.pid_service.specs.Histories.{IsMemoryOrStore, Shows};
+ghost use Rattle.pid_service.specs.Histories.{IsMemoryOrStore, OverHistory};
 ghost use Rattle.pid_service.specs.Importing.{
   AnswersFailed,
   EndIsNotFailed,
@@ -134,9 +133,8 @@ impl<S: Alter + Drop> Registry<S> {
         ensures reads { InputIsRead I.Input input.old input.new result }
         ensures held { EndStaysLive result (lives self.old) (lives self.new) }
         ensures limit { KeepsLimit S.Store self.old self.new }
-        ensures caused { HasCleanDisk S.Store self.new → (h : History)
-            → Shows S.Store self.old h → WhereOpen h command.now facts.old items
-            (IfErr result (OfRefusal (FaultStays (lives self.new)))) }
+        ensures caused { OverHistory S.Store self.old self.new (λ h. WhereOpen h command.now
+            facts.old items (IfErr result (OfRefusal (FaultStays (lives self.new))))) }
     {
         pid_service_laws::judgements_are_outcomes(); // proof only
         self.kept.clear();

@@ -1,6 +1,5 @@
 //! One command: it is judged, and what comes of it is written.
 ghost use Rattle.std.specs.Prelude.{◌≡◌, ◌⊎◌};
-ghost use Rattle.pid_moderation.specs.History.{Asked, History};
 ghost use Rattle.pid_moderation.specs.Judgement.{after};
 ghost use Rattle.pid_moderation.specs.Views.{items_of};
 ghost use Rattle.pid_tables.specs.Files.{asks};
@@ -8,7 +7,7 @@ ghost use Rattle.pid_service.specs.Histories.{OverHistory};
 ghost use Rattle.pid_service.specs.KeptViews.{kept_by, nothing};
 ghost use Rattle.pid_service.specs.Obeying.{IsObeyed, Obeys};
 ghost use Rattle.pid_service.specs.Registries.{HasCleanDisk, KeepsLimit};
-ghost use Rattle.pid_service.specs.Steps.Obeying.{ComesOf, KeptAfter, LivesOrFails, SparesNames};
+ghost use Rattle.pid_service.specs.Steps.Obeying.{KeptAfter, LivesOrFails, SparesNames, WhereComes};
 
 use crate::judging::{Judged, judge};
 use crate::laws;
@@ -23,10 +22,9 @@ impl<S: Alter + Drop> Registry<S> {
     // that was kept writes nothing.
     fn carry_out(&mut self, judged: &Judged) -> Result<Reply, Refusal>
         ensures clean { HasCleanDisk S.Store self.new → HasCleanDisk S.Store self.old }
-        ensures obeyed { (h : History) (c : Asked)
-            → ComesOf S.Store self.old judged.now h c → Obeys S.Store result self.new h c }
-        ensures spares { (h : History) (c : Asked) → ComesOf S.Store self.old judged.now h c
-            → (kept_by self.new ≡ nothing) ⊎ (items_of (after h c) ≡ items_of h) }
+        ensures obeyed { WhereComes S.Store self.old judged.now (Obeys S.Store result self.new) }
+        ensures spares { WhereComes S.Store self.old judged.now
+            (λ h c. (kept_by self.new ≡ nothing) ⊎ (items_of (after h c) ≡ items_of h)) }
         ensures none { kept_by self.old ≡ nothing → kept_by self.new ≡ nothing }
         ensures held { LivesOrFails S.Store result self.old self.new }
         ensures limit { KeepsLimit S.Store self.old self.new }

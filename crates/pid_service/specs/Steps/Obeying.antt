@@ -58,6 +58,10 @@ module _ {S : Type 0} (store : Ghosts S) where
     pub reached : IsReached (after h c)
     pub comes : JudgesCommand h c (Ok judged)
 
+  -- this holds of each such history and command
+  abbrev pub WhereComes : Registry S store → Judged → (History → Asked → Type 0) → Type 0
+  WhereComes r judged Holds = (h : History) (c : Asked) → ComesOf r judged h c → Holds h c
+
   -- What a command that is carried out leaves in memory. One whose reply was kept has that reply
   -- and leaves what is kept; after another that has a reply the numbers still count as read, if
   -- they did, and no more is dropped than has to be.
