@@ -1,4 +1,5 @@
-use Rattle.std.proofs.Common.{◌≡◌, ◌<◌, ◌≤◌, ◌∷◌, ◌++◌, [], true, false, get_or, length, rules, ◌∙◌}
+use Rattle.std.proofs.Common.{◌≡◌, ◌<◌, ◌≤◌, ◌∷◌, ◌++◌, [], true, false, filter, get_or, length, take, ap, arith, rules, ◌∙◌}
+use Rattle.std.proofs.lemmas.List.{take_all}
 use Rattle.std.specs.Prelude.{nat_lt}
 use Rattle.std.proofs.lemmas.Bool.Decides.{nat_tests}
 use Rattle.pid_service.proofs.PendingNumbers.{not_above, one_above, page_full}
@@ -25,3 +26,7 @@ loop-number-preserved c =
           let below : nat_lt c.args.after (get_or all i 0) ≡ false = search (rules, nat_tests) in
           rw w.page-is (not_above 100 c.args.after all i 0 page low is below)
     ]
+
+pub returns : goal.returns
+returns c =
+    c.loop-number.invariant ∙ ap (λ l. take 100 (filter (nat_lt c.args.after) l)) (take_all c.loop-number.number-index c.args.numbers.now (omega (arith, c.loop-number-test.false)))

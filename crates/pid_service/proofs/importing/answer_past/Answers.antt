@@ -1,0 +1,31 @@
+use Rattle.std.proofs.Common.{◌≡◌, ℕ, List, Option, Err, inl, inr, refl, rules, subst}
+use Rattle.pid_file.specs.declared.whole_input.SkipEnd.{SkipEnd}
+use Rattle.pid_file.specs.declared.whole_input.SkipEnd.TheVariants as skips
+use Rattle.pid_file.specs.WholeInputs.{SkipsInput}
+use Rattle.pid_service.proofs.importing.answer_past.Goals as goal
+
+ended_so : (limit : ℕ) (rest : Option (List ℕ)) (text : List ℕ) (end so : SkipEnd) → end ≡ so → SkipsInput {X = Unit {0}} limit (Err end) rest text → SkipsInput {X = Unit {0}} limit (Err so) rest text
+ended_so limit rest text end so is skips = subst (λ (e : SkipEnd). SkipsInput {X = Unit {0}} limit (Err e) rest text) is skips
+
+pub returns-in-Err-ReadFault-clause-past : goal.returns-in-Err-ReadFault-clause-past
+returns-in-Err-ReadFault-clause-past g c =
+    let r = c.in-Err-ReadFault.ensures.read in
+    let is : c.in-Err-ReadFault.field-0 ≡ skips.ReadFault = search rules in
+    record { text = r.0; consumed = r.1; read = ended_so 4194304 _ r.0 c.in-Err-ReadFault.field-0 skips.ReadFault is r.2; holds = tt }
+
+pub returns-in-Err-TooLong-clause-past : goal.returns-in-Err-TooLong-clause-past
+returns-in-Err-TooLong-clause-past g c =
+    let r = c.in-Err-TooLong.ensures.read in
+    let is : c.in-Err-TooLong.field-0 ≡ skips.TooLong = search rules in
+    let long = ended_so 4194304 _ r.0 c.in-Err-TooLong.field-0 skips.TooLong is r.2 in
+    record { text = r.0; consumed = r.1; read = inr (inl refl, long); holds = inr (refl, long) }
+
+pub returns-in-Ok-answer-clause-past : goal.returns-in-Ok-answer-clause-past
+returns-in-Ok-answer-clause-past g c =
+    let r = c.in-Ok.ensures.read in
+    record { text = r.0; consumed = r.1; read = r.2; holds = (c.in-Ok-answer.is, r.2.short) }
+
+pub returns-in-Err-clause-past : goal.returns-in-Err-clause-past
+returns-in-Err-clause-past g c =
+    let r = c.in-Ok.ensures.read in
+    record { text = r.0; consumed = r.1; read = inl r.2; holds = inl (c.in-Err.is, r.2.short) }
