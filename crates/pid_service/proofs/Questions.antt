@@ -149,20 +149,7 @@ module _ {S : Type 0} (store : Ghosts S) where
     caused = λ clean h shows. true_not (is_live r) shows.lives off;
   }
 
-  -- one that they answer
-  pub answers_ok : {X : Type 0} (old new : Registry S store) (x : X) (Says : History → X → Type 0) → is_live old ≡ true → is_live new ≡ is_live old → kept_views new ≡ kept_views old → OnlyReads store old new
-      → (HasCleanDisk store new → (h : History) → Shows store old h → Says h x) → Answers store old new (Ok x) Says
-  answers_ok old new x Says on same kept reads says = record {
-    failed = true_not (is_live old) on;
-    fault = tt;
-    lives = same;
-    rests = reads;
-    leaves = subst (λ k. LeavesKept (kept_views old) k) (sym kept) (left_same (kept_views old));
-    told = λ clean h shows. (says clean h shows, only_read store old new h same reads kept shows);
-    caused = λ clean h shows. tt;
-  }
-
-  -- and one at which the tables fail
+  -- one at which the tables fail
   pub answers_fault : {X : Type 0} (old new : Registry S store) (fault : TableFault) (e : Refusal) (Says : History → X → Type 0) → is_live old ≡ true → is_live new ≡ is_live old → kept_views new ≡ kept_views old → OnlyReads store old new → e ≡ refusal_for fault → IsMemoryOrStore e
       → (HasCleanDisk store new → (h : History) → Shows store old h → clauses.IsCaused store (connection old) (connection new) fault) → Answers store old new (Err e) Says
   answers_fault old new fault e Says on same kept reads is bad cause = record {

@@ -44,10 +44,7 @@ impl<S: Alter + Drop> Registry<S> {
             return Err(Refusal::Failed);
         }
         laws::reached_histories_are_kept(); // proof only
-        match self.tables.item(self.alloc, path) {
-            Ok(name) => Ok(name),
-            Err(fault) => Err(refusal_of(fault)),
-        }
+        or_refusal(self.tables.item(self.alloc, path))
     }
 
     /// The rank of an account, where there is one.
