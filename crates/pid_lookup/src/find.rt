@@ -4,7 +4,7 @@ ghost use Rattle.pid_file.specs.declared.path.Path.TheVariants as paths;
 ghost use Rattle.pid_lookup.specs.Found.{own_device, subsystem_name, under_device};
 ghost use Rattle.pid_lookup.specs.Flags.{has_bits};
 ghost use Rattle.pid_lookup.specs.Steps.Asking.{AsksNames, AsksNamesFor};
-ghost use Rattle.pid_lookup.specs.Steps.FoundTexts.{IsFoundFor, nameless};
+ghost use Rattle.pid_lookup.specs.Steps.FoundTexts.{IsFoundFor, found_one, nameless};
 
 use crate::args::{Args, class_byte, subclass_byte};
 use crate::flags::Request;
@@ -24,6 +24,16 @@ pub enum Found {
     Pair(Option<Name>, Option<Name>),
 }
 
+// One name, if there was no fault.
+fn one<F>(name: Result<Option<Name>, F>) -> Result<Found, F>
+    ensures { result ≡ found_one name }
+{
+    match name {
+        Ok(name) => Ok(Found::One(name)),
+        Err(fault) => Err(fault),
+    }
+}
+
 /// The names that a request is about.
 pub fn find<N: Names>(names: &mut N, request: Request, args: &Args) -> Result<Found, N::Fault>
     ensures asks { AsksNames N.Names names.old names.new result
@@ -33,14 +43,14 @@ pub fn find<N: Names>(names: &mut N, request: Request, args: &Args) -> Result<Fo
     match request {
         Request::Vendor => {
             let vendor = args.vendor;
-            Ok(Found::One(names.name_of(&Path::Vendor { vendor })?))
+            one(names.name_of(&Path::Vendor { vendor }))
         }
-        Request::Device => Ok(Found::One(find_device(names, args)?)),
+        Request::Device => one(find_device(names, args)),
         Request::Subvendor => {
             let vendor = args.subvendor;
-            Ok(Found::One(names.name_of(&Path::Vendor { vendor })?))
+            one(names.name_of(&Path::Vendor { vendor }))
         }
-        Request::Subsystem => Ok(Found::One(find_subsystem(names, args)?)),
+        Request::Subsystem => one(find_subsystem(names, args)),
         Request::Class => find_class(names, args),
         Request::ProgIf => find_progif(names, args),
         Request::VendorAndDevice => find_device_pair(names, args),

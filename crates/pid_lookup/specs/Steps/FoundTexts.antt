@@ -1,7 +1,7 @@
 -- Serves private functions alone; no promise rests on it.
 -- What the names that were found show.
 use Rattle.std.specs.Prelude.{◌≡◌, ◌++◌, ℕ, Bool, true, false, List, Option, Some, None}
-use Rattle.std.specs.Prelude.{codes, if◌then◌else◌}
+use Rattle.std.specs.Prelude.{Result, Ok, Err, codes, if◌then◌else◌}
 use Rattle.pid_file.specs.declared.path.Path.{Path}
 use Rattle.pid_lookup.specs.declared.args.Args.{Args}
 use Rattle.pid_lookup.specs.declared.find.Found.{Found}
@@ -25,6 +25,11 @@ found_text s number word (found.One name) = one_text s number word name
 found_text s number word (found.Ide words) = one_text s number word (Some words)
 found_text s number word (found.ClassOnly name) = one_text (with_numbers s) number word (Some name)
 found_text s number word (found.Pair v d) = pair_text s number v d
+
+-- one name, or a fault
+abbrev pub found_one : {F : Type 0} → Result (Option (List ℕ)) F → Result Found F
+found_one (Ok name) = Ok (found.One name)
+found_one (Err fault) = Err fault
 
 -- an interface that has no name: words for an IDE controller's
 abbrev pub nameless : Bool → ℕ → Found
