@@ -1,4 +1,5 @@
 -- Serve private functions alone; no promise rests on these.
+pub mod Answering
 pub mod Asking
 pub mod FoundTexts
 pub mod Styles

@@ -8,6 +8,7 @@ ghost use Rattle.pid_lookup.specs.Cut.{cut as cut_text};
 ghost use Rattle.pid_lookup.specs.Flags.{is_bad};
 ghost use Rattle.pid_lookup.specs.Found.{name_in_map};
 ghost use Rattle.pid_lookup.specs.Questions.{HaveCauses, IsStill, OfShown};
+ghost use Rattle.pid_lookup.specs.Steps.Answering.{in_memory};
 ghost use Rattle.pid_lookup.specs.Steps.FoundTexts.{found_text};
 ghost use Rattle.pid_lookup.specs.Steps.Styles.{switches};
 ghost use Rattle.pid_lookup.specs.Told.{AsksWhereNeeded, TellsOnlyIf};
@@ -91,7 +92,17 @@ pub fn lookup<N: Names>(
     };
     match flags.request {
         Some(request) => answer_request(alloc, names, request, flags.style, args, size),
-        None => Ok(told(alloc, b"<pci_lookup_name: invalid request>")?),
+        None => or_memory(told(alloc, b"<pci_lookup_name: invalid request>")),
+    }
+}
+
+// An answer, if there was memory for it.
+fn or_memory<F>(answer: Result<Answer, AllocError>) -> Result<Answer, LookupRefusal<F>>
+    ensures { result ≡ in_memory answer }
+{
+    match answer {
+        Ok(answer) => Ok(answer),
+        Err(_) => Err(LookupRefusal::Memory),
     }
 }
 
@@ -123,12 +134,12 @@ fn answer_request<N: Names>(
     ensures kept { IsStill N.Names names.old names.new }
 {
     match style {
-        Style::Numeric => Ok(show_number(alloc, request, args, size)?),
+        Style::Numeric => or_memory(show_number(alloc, request, args, size)),
         _ => match find(names, request, args) {
             Ok(found) => {
                 let shown = show_found(alloc, style, request, args, &found, size);
                 drop(found);
-                Ok(shown?)
+                or_memory(shown)
             }
             Err(fault) => Err(LookupRefusal::Names(fault)),
         },
