@@ -35,6 +35,17 @@ for_subsystem named a name is = record { shown = λ s. ap (one_shown s requests.
 pub by_generic : (named : Path → Option (List ℕ)) (a : Args) (name : List ℕ) → None ≡ under_device named a → Some name ≡ named (Generic a.subvendor a.subdevice) → Some name ≡ subsystem_name named a
 by_generic named a name none is = both (λ under generic. first_there (under ∷ generic ∷ own_device named a ∷ [])) none is
 
+last_there : (name : Option (List ℕ)) → first_there (name ∷ []) ≡ name
+last_there (Some name) = refl
+last_there None = refl
+
+-- by the device, where it has neither
+pub by_device : (named : Path → Option (List ℕ)) (a : Args) (name : Option (List ℕ)) → None ≡ under_device named a → None ≡ named (Generic a.subvendor a.subdevice) → (a.subvendor == a.vendor && a.subdevice == a.device) ≡ true
+    → name ≡ named (Device a.vendor a.device) → name ≡ subsystem_name named a
+by_device named a name under generic same is =
+    is ∙ sym (last_there (named (Device a.vendor a.device))) ∙ ap (λ b. first_there (where_true b (named (Device a.vendor a.device)) ∷ [])) (sym same)
+    ∙ both (λ u g. first_there (u ∷ g ∷ own_device named a ∷ [])) under generic
+
 -- a subclass by its entry; without one the class by its own, or neither
 pub its_subclass : (named : Path → Option (List ℕ)) (a : Args) (name : Option (List ℕ)) (class subclass : ℕ)
     → name ≡ named (Subclass class subclass) → class ≡ class_byte a → subclass ≡ subclass_byte a → name ≡ subclass_name named a

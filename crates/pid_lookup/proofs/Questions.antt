@@ -1,5 +1,5 @@
 -- Questions one after another.
-use Rattle.std.proofs.Common.{◌≡◌, ℕ, List, Option, Result, Ok, Err, IfOk, sym, subst}
+use Rattle.std.proofs.Common.{◌≡◌, ℕ, List, Option, Result, Ok, Err, IfErr, IfOk, sym, subst}
 use Rattle.pid_file.specs.declared.path.Path.{Path}
 use Rattle.pid_lookup.specs.declared.args.Args.{Args}
 use Rattle.pid_lookup.specs.declared.find.Found.{Found}
@@ -18,6 +18,16 @@ kept_through names first second = record {
   told = (λ may. second.told.0 (first.told.0 may), λ may. first.told.1 (second.told.1 may));
   asked = λ start only. second.asked start (first.asked start only);
 }
+
+-- what is so of an answer, or of a fault
+
+pub of_answer : {A F : Type 0} (r : Result A F) (P Q : A → Type 0) → ((x : A) → P x → Q x) → IfOk r P → IfOk r Q
+of_answer (Ok x) P Q means so = means x so
+of_answer (Err f) P Q means so = tt
+
+pub of_fault : {A F : Type 0} (r : Result A F) (P Q : F → Type 0) → ((f : F) → P f → Q f) → IfErr r P → IfErr r Q
+of_fault (Ok x) P Q means so = tt
+of_fault (Err f) P Q means so = means f so
 
 -- one name is what there is for a request
 
