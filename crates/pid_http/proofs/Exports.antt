@@ -23,7 +23,7 @@ use Rattle.pid_service.specs.Registries.{HasCleanDisk, is_live}
 use Rattle.pid_service.specs.declared.exporting.ExportFault.{ExportFault}
 use Rattle.pid_service.specs.declared.exporting.ExportFault.TheVariants.{Refused, Write}
 use Rattle.pid_service.specs.declared.registry.Registry.{Registry}
-use Rattle.pid_tree.specs.Printing.{header, print}
+use Rattle.pid_file.specs.Printing.{header, print}
 use Rattle.pid_http_stream.specs.Serving.{WritesFront}
 use Rattle.pid_http_stream.specs.declared.reply_head.ReplyHead.{ReplyHead}
 use Rattle.pid_http_stream.specs.declared.reply_head.Content.TheVariants.{Text}

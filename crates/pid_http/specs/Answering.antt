@@ -22,7 +22,7 @@ use Rattle.pid_moderation.specs.QueuePages.{queue_in}
 use Rattle.pid_moderation.specs.RegistryStatus.{status_of_registry}
 use Rattle.pid_moderation.specs.SubmissionPages.{submissions_of}
 use Rattle.pid_moderation.specs.declared.lists.TheConstants.{PAGE, SEARCHED}
-use Rattle.pid_tree.specs.Printing.{print}
+use Rattle.pid_file.specs.Printing.{print}
 use Rattle.pid_http_stream.specs.Replies.{Answer, answer_with}
 use Rattle.pid_http_stream.specs.declared.reply_head.Content.TheVariants.{Text}
 use Rattle.pid_http_requests.specs.declared.format.Format.{Format}

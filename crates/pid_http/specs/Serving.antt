@@ -10,7 +10,7 @@ use Rattle.pid_moderation.specs.Views.{views_of}
 use Rattle.pid_moderation.specs.Writes.{tree_of}
 use Rattle.pid_moderation.specs.declared.refusal.Refusal.{Refusal}
 use Rattle.pid_service.specs.Histories.{IsMemoryOrStore}
-use Rattle.pid_tree.specs.Printing.{print}
+use Rattle.pid_file.specs.Printing.{print}
 use Rattle.pid_http_stream.specs.Conducts.{Conduct}
 use Rattle.pid_http_stream.specs.Replies.{Answer}
 use Rattle.pid_http_stream.specs.declared.reply_head.Content.TheVariants.{Text}

@@ -1,10 +1,13 @@
 //! The names of a tree.
 ghost use Rattle.std.specs.Prelude.{◌≡◌};
+ghost use Rattle.std.specs.FinMap as finite;
+ghost use Rattle.std.specs.Option.{option_copied};
+ghost use Rattle.pid_file.specs.PathTexts.{path_text};
 ghost use Rattle.pid_lookup.specs.TreeNames.{tree_shown};
 
 use crate::names::Names;
+use pid_file::Tree;
 use pid_ident::{Name, Path};
-use pid_tree::{Tree, TreeItems};
 use std::alloc::AllocError;
 
 /// The names of a tree that is lent. Its fault is that there is no memory for a copy.
@@ -42,9 +45,16 @@ impl Names for TreeNames<'_> {
     ghost only_asked = { λ start names. names ≡ start };
 
     fn name_of(&mut self, path: &Path) -> Result<Option<Name>, AllocError> {
-        match self.tree.get(path) {
+        match name_at(self.tree, path) {
             Some(name) => Ok(Some(name.copy()?)),
             None => Ok(None),
         }
     }
+}
+
+// The name of a path in the tree.
+fn name_at<'a>(tree: &'a Tree, path: &Path) -> Option<&'a Name>
+    ensures { option_copied result ≡ finite.get tree.now (path_text path.now) }
+{
+    tree.items.get(path)
 }

@@ -21,7 +21,7 @@ use Rattle.pid_service.specs.Asking.{MayGive}
 use Rattle.pid_service.specs.declared.exporting.ExportFault.{ExportFault}
 use Rattle.pid_service.specs.declared.exporting.ExportFault.TheVariants.{Refused, Write}
 use Rattle.pid_service.specs.Exporting.{ExportsTree}
-use Rattle.pid_tree.specs.Printing.{ended, header, lines_behind, print}
+use Rattle.pid_file.specs.Printing.{ended, header, lines_behind, print}
 use Rattle.pid_script.specs.Exporting.{ExportsText}
 use Rattle.pid_script.specs.LookingUp.{LooksUp}
 use Rattle.pid_script.specs.WholeFronts.{IsWholeFront}

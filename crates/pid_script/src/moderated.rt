@@ -2,7 +2,7 @@
 ghost use Rattle.std.specs.Prelude.{◌≡◌, Bool, Err, IsSome, IsErrOf, MatchResult};
 ghost use Rattle.pid_ident.specs.PathTexts.{path_text};
 ghost use Rattle.pid_lookup.specs.declared.answering.LookupRefusal.TheVariants as lookups;
-ghost use Rattle.pid_tree.specs.Printing.{print};
+ghost use Rattle.pid_file.specs.Printing.{print};
 ghost use Rattle.pid_moderation.specs.History.{History};
 ghost use Rattle.pid_moderation.specs.Items.{name_at};
 ghost use Rattle.pid_moderation.specs.Views.{items_of};

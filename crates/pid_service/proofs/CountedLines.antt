@@ -14,9 +14,9 @@ use Rattle.pid_moderation.specs.WellMade.{AllItems, IsItem}
 use Rattle.pid_reader.specs.Numbered.{Numbered, item_in}
 use Rattle.pid_reader.specs.Sinks.{Took}
 use Rattle.pid_tables_lists.specs.EachItem.{placed_from}
-use Rattle.pid_tree.specs.Labels.{label}
-use Rattle.pid_tree.specs.Printing.{block_line, ended, header, item_line, label_of, opens_block, text_or_none}
-use Rattle.pid_tree.proofs.Labelled.{label_of_text}
+use Rattle.pid_file.specs.Labels.{label}
+use Rattle.pid_file.specs.Printing.{block_line, ended, header, item_line, label_of, opens_block, text_or_none}
+use Rattle.pid_service.proofs.Labelled.{label_of_text}
 use Rattle.pid_service.specs.ItemTexts.{text_of_items}
 use Rattle.pid_ident.specs.PathTexts.{path_text}
 use Rattle.pid_service.specs.Steps.TextSinks.{Lengthens, block_behind, text_in}

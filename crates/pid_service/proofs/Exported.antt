@@ -13,7 +13,7 @@ use Rattle.pid_service.specs.ItemTexts.{text_of_items}
 use Rattle.pid_moderation.specs.History.{History}
 use Rattle.pid_moderation.specs.Views.{items_of, views_of}
 use Rattle.pid_moderation.specs.Writes.{tree_of}
-use Rattle.pid_tree.specs.Printing.{print}
+use Rattle.pid_file.specs.Printing.{print}
 use Rattle.pid_service.specs.declared.exporting.ExportFault.{ExportFault}
 use Rattle.pid_service.specs.declared.exporting.ExportFault.TheVariants.{Refused, Write}
 use Rattle.sqlite.specs.Held.{Held}

@@ -6,7 +6,7 @@ use Rattle.pid_file.proofs.SendingLemmas.{Appends-nil, Appends-then}
 use Rattle.pid_moderation.specs.Items.{Items}
 use Rattle.pid_reader.specs.Numbered.{Numbered, item_in}
 use Rattle.pid_reader.specs.Sinks.{Took}
-use Rattle.pid_tree.specs.Printing.{ended, lines_behind, text_or_none}
+use Rattle.pid_file.specs.Printing.{ended, lines_behind, text_or_none}
 use Rattle.pid_file.proofs.Written.{ended-append, lines-first}
 use Rattle.pid_service.specs.ExportSinks.{PrintsItem}
 use Rattle.pid_service.specs.declared.export_sink.ExportSink.{ExportSink}

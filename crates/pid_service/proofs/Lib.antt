@@ -16,6 +16,7 @@ pub mod RunLives
 pub mod Questions
 pub mod ItemLines
 pub mod WalkEnds
+pub mod Labelled
 pub mod CountedLines
 pub mod PendingNumbers
 pub mod KeptNumbers

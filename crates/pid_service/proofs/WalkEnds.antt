@@ -13,7 +13,7 @@ use Rattle.pid_reader.specs.Sinks.{Took}
 use Rattle.pid_tables_lists.specs.EachItem.{Walks, WalksSome, placed_from}
 use Rattle.pid_tables_lists.specs.declared.walk.EachEnd.{EachEnd}
 use Rattle.pid_tables_lists.specs.declared.walk.EachEnd.TheVariants.{Tables, Fault}
-use Rattle.pid_tree.specs.Printing.{ended, header, text_or_none}
+use Rattle.pid_file.specs.Printing.{ended, header, text_or_none}
 use Rattle.pid_service.specs.Steps.Exports.{WritesItems}
 use Rattle.pid_service.specs.ExportSinks.{PrintsItem, StopsWithin, lines_of_entry}
 use Rattle.pid_service.specs.ItemTexts.{text_of_items}

@@ -5,7 +5,7 @@ use Rattle.std.specs.Io.KnownBytes.{Appends}
 use Rattle.pid_ident.specs.Sending.{SendsFront}
 use Rattle.pid_file.specs.declared.io.WriteFault.{WriteFault}
 use Rattle.pid_reader.specs.Numbered.{Numbered, item_in}
-use Rattle.pid_tree.specs.Printing.{ended, lines_behind, text_or_none}
+use Rattle.pid_file.specs.Printing.{ended, lines_behind, text_or_none}
 use Rattle.pid_service.specs.declared.export_sink.ExportSink.{ExportSink}
 
 -- the lines of an entry, after those of the entry before

@@ -12,7 +12,7 @@ use Rattle.pid_moderation.specs.declared.refusal.Refusal.TheVariants.{Failed}
 use Rattle.pid_moderation.specs.History.{History}
 use Rattle.pid_moderation.specs.Views.{items_of}
 use Rattle.pid_moderation.specs.Writes.{tree_of}
-use Rattle.pid_tree.specs.Printing.{print}
+use Rattle.pid_file.specs.Printing.{print}
 use Rattle.pid_service.specs.declared.exporting.ExportFault.{ExportFault}
 use Rattle.pid_service.specs.declared.exporting.ExportFault.TheVariants.{Refused, Write}
 use Rattle.pid_service.specs.declared.registry.Registry.{Registry}

@@ -3,7 +3,7 @@
 -- tree.
 use Rattle.std.specs.Prelude.{ℕ, List, [], ◌∷◌}
 use Rattle.pid_moderation.specs.Items.{Items}
-use Rattle.pid_tree.specs.Printing.{ended, header, lines_behind}
+use Rattle.pid_file.specs.Printing.{ended, header, lines_behind}
 
 -- the header, and the lines of each item, a block's line before the first generic subsystem of each
 -- vendor

@@ -4,7 +4,7 @@ use Rattle.std.specs.Prelude.{◌≡◌, ◌⊎◌, ◌↔◌, Bool, List, Resul
 use Rattle.sqlite.specs.Held.{Held, state}
 use Rattle.sqlite_trees.specs.declared.store.Store.{Ghosts}
 use Rattle.pid_ident.specs.Trees.{TreeMap}
-use Rattle.pid_tree.specs.Printing.{print}
+use Rattle.pid_file.specs.Printing.{print}
 use Rattle.pid_reader.specs.Reading.{Reads}
 use Rattle.pid_moderation.specs.declared.command.Reply.{Reply}
 use Rattle.pid_moderation.specs.History.{Asked, History}

@@ -1,7 +1,7 @@
 -- What a sink that adds up lengths and keeps lines does with an item.
 use Rattle.std.specs.Prelude.{◌≡◌, ℕ, ◌+◌, ◌<◌, ◌^◌, List, [], ◌∷◌, length}
 use Rattle.pid_reader.specs.Numbered.{Numbered, item_in}
-use Rattle.pid_tree.specs.Printing.{ended, lines_behind, text_or_none}
+use Rattle.pid_file.specs.Printing.{ended, lines_behind, text_or_none}
 use Rattle.pid_service.specs.Steps.TextSinks.{Lengthens}
 use Rattle.pid_service.specs.declared.items_text.TextSink.{TextSink}
 

@@ -1,9 +1,9 @@
 //! Items, printed one by one.
 ghost use Rattle.std.specs.Prelude.{◌≡◌, None};
 
+use pid_file::write_behind;
 use pid_ident::{Output, Path, WriteFault};
 use pid_reader::{Entry, Sink};
-use pid_tree::write_behind;
 
 /// Writes the lines of each item that it takes after those of the one before.
 #[derive(Drop)]

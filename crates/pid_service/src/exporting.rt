@@ -1,7 +1,7 @@
 //! The items of a registry as the text of their tree.
 ghost use Rattle.std.specs.Prelude.{◌≡◌, true, length, IfErr, IsSome};
 ghost use Rattle.pid_moderation.specs.Writes.{tree_of};
-ghost use Rattle.pid_tree.specs.Printing.{print};
+ghost use Rattle.pid_file.specs.Printing.{print};
 ghost use Rattle.pid_service.specs.Asking.{Answers};
 ghost use Rattle.pid_service.specs.Exporting.{IsExported};
 ghost use Rattle.pid_service.specs.KeptViews.{kept_by, kept_views};

@@ -8,9 +8,9 @@ ghost use Rattle.pid_tables_rows.specs.Causes.{IsReadable};
 ghost use Rattle.pid_tables_rows.specs.Clauses.{OnlyReads};
 
 use crate::export_sink::ExportSink;
+use pid_file::write_header;
 use pid_ident::{Output, WriteFault};
 use pid_tables::{EachEnd, Tables};
-use pid_tree::write_header;
 use sqlite::Alter;
 
 /// Writes the header and then the lines of each item in the canonical order, while the item is lent

@@ -6,12 +6,12 @@ ghost use Rattle.pid_ident.specs.PathTexts.{path_text};
 ghost use Rattle.pid_tables_rows.specs.Causes.{IsReadable};
 ghost use Rattle.pid_tables_rows.specs.Clauses.{Reads};
 ghost use Rattle.pid_tables_lists.specs.declared.walk.EachEnd.TheVariants as walks;
-ghost use Rattle.pid_tree.specs.Printing.{ended, header, label_of, lines_behind, text_or_none};
+ghost use Rattle.pid_file.specs.Printing.{ended, header, label_of, lines_behind, text_or_none};
 
+use pid_file::{opened_block, write_behind, write_header};
 use pid_ident::{Output, Path, WriteFault};
 use pid_reader::{Entry, Never, Sink};
 use pid_tables::{EachEnd, TableFault, Tables};
-use pid_tree::{opened_block, write_behind, write_header};
 use sqlite::Alter;
 use std::alloc::Global;
 
@@ -25,10 +25,10 @@ const HEADER: u64 = 18;
 const BLOCK: u64 = 7;
 
 // The length of what comes before the spaces and the name in the line of an item.
+#[tactic(auto, using(crate::proofs::Labelled::label_of_text))]
 fn label_length(path: Path) -> u64
     ensures { result ≡ length (label_of (path_text path)) }
 {
-    pid_tree::laws::labels_are_of_paths(); // proof only
     match path {
         Path::Vendor { .. } | Path::Class { .. } | Path::ProgIf { .. } => 4,
         Path::Device { .. } | Path::Generic { .. } => 5,

@@ -5,7 +5,7 @@ use Rattle.sqlite_trees.specs.declared.store.Store.{Ghosts}
 use Rattle.pid_service_laws.specs.Calls.{AreNothing, Call}
 use Rattle.pid_moderation.specs.History.{History}
 use Rattle.pid_moderation.specs.Writes.{tree_of}
-use Rattle.pid_tree.specs.Printing.{print}
+use Rattle.pid_file.specs.Printing.{print}
 use Rattle.pid_http_stream.specs.Replies.{answer_behind}
 use Rattle.pid_http_stream.specs.Requests.{Request}
 use Rattle.pid_http_stream.specs.declared.reply_head.ReplyHead.{ReplyHead}

@@ -1,6 +1,6 @@
 -- Steps of TextSinks.
 use Rattle.std.specs.Prelude.{◌≡◌, ℕ, List, [], ◌∷◌, ◌++◌, Option, None, Some, if◌then◌else◌}
-use Rattle.pid_tree.specs.Printing.{block_line, opens_block}
+use Rattle.pid_file.specs.Printing.{block_line, opens_block}
 use Rattle.pid_service.specs.declared.items_text.TextBuffer.{TextBuffer}
 
 -- the line that comes between two items, if one does

@@ -1,6 +1,6 @@
 use Rattle.std.proofs.Common.{◌≡◌, rules, [], ◌∷◌, Some}
 use Rattle.std.specs.Io.KnownBytes.{Appends}
-use Rattle.pid_tree.specs.Printing.{ended, header}
+use Rattle.pid_file.specs.Printing.{ended, header}
 use Rattle.pid_service.specs.Steps.Exports.{WritesItems}
 use Rattle.pid_service.proofs.WalkEnds.{exported, fault_told, header_stopped, walk_same}
 use Rattle.pid_service.proofs.item_text.export_items.Goals as goal

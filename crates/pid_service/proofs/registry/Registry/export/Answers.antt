@@ -4,7 +4,7 @@ use Rattle.sqlite.specs.Held.{state}
 use Rattle.pid_ident.specs.Sending.{SendsFront}
 use Rattle.pid_moderation.specs.Views.{views_of}
 use Rattle.pid_moderation.specs.Writes.{tree_of}
-use Rattle.pid_tree.specs.Printing.{print}
+use Rattle.pid_file.specs.Printing.{print}
 use Rattle.pid_service.specs.declared.exporting.ExportFault.TheVariants.{Refused, Write}
 use Rattle.pid_tables_check.proofs.Asking.{nothing_read}
 use Rattle.pid_tables_lists.specs.declared.walk.EachEnd.TheVariants as ends
