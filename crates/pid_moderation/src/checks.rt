@@ -2,18 +2,11 @@
 ghost use Rattle.std.specs.Prelude.{◌≡◌, true, find};
 ghost use Rattle.pid_file.specs.Bytes.{is_empty as no_bytes};
 ghost use Rattle.pid_moderation.specs.CheckTables.{
-  first_failing as first_that_fails,
   is_pending as stands_pending,
   is_removal as removal,
 };
 ghost use Rattle.pid_moderation.specs.CheckTables.{
-  is_so as so_already,
-  lacks_parent as parent_lacking,
-  leaves_children as children_left,
   is_changed as changed_since,
-};
-ghost use Rattle.pid_moderation.specs.CheckTables.{
-  overflows as one_too_many,
   is_ill_formed as ill_formed,
   is_broken as broken_act,
   TellsLength,
@@ -50,16 +43,6 @@ fn failing(checks: &[(bool, Refusal)]) -> Option<(bool, Refusal)>
     ensures { result ≡ find (λ c. c.0) checks.now }
 {
     checks.iter().copied().find(|check| check.0)
-}
-
-/// The refusal of the first check that fails.
-pub fn first_failing(checks: &[(bool, Refusal)]) -> Option<Refusal>
-    ensures { result ≡ first_that_fails checks.now }
-{
-    match failing(checks) {
-        Some((_, refusal)) => Some(refusal),
-        None => None,
-    }
 }
 
 /// Passes if no check fails; else the refusal of the first that does.
@@ -114,7 +97,8 @@ pub fn is_removal(proposal: &Proposal) -> bool
     }
 }
 
-fn is_named_so(name: &Name, present: &Option<Name>) -> bool
+/// Whether the item has this name.
+pub fn is_named_so(name: &Name, present: &Option<Name>) -> bool
     ensures { result ≡ names_so name.now present.now }
 {
     match present {
@@ -131,46 +115,6 @@ pub fn is_changed(expected: &Expected, present: &Option<Name>) -> bool
         Expected::Anything => false,
         Expected::Absent => present.is_some(),
         Expected::Named(name) => !is_named_so(name, present),
-    }
-}
-
-/// Whether the item is as proposed already.
-pub fn is_so(proposal: &Proposal, present: &Option<Name>) -> bool
-    ensures { result ≡ so_already proposal.now present.now }
-{
-    match proposal {
-        Proposal::Name(name) => is_named_so(name, present),
-        Proposal::Removal => present.is_none(),
-    }
-}
-
-/// Whether the parent of a proposed name is missing.
-pub fn lacks_parent(proposal: &Proposal, has_parent: bool) -> bool
-    ensures { result ≡ parent_lacking proposal.now has_parent }
-{
-    match proposal {
-        Proposal::Name(_) => !has_parent,
-        Proposal::Removal => false,
-    }
-}
-
-/// Whether a removal would leave children without their parent.
-pub fn leaves_children(proposal: &Proposal, has_children: bool) -> bool
-    ensures { result ≡ children_left proposal.now has_children }
-{
-    match proposal {
-        Proposal::Name(_) => false,
-        Proposal::Removal => has_children,
-    }
-}
-
-/// Whether the proposal adds an item to as many as there may be.
-pub fn overflows(proposal: &Proposal, present: &Option<Name>, items: u32) -> bool
-    ensures { result ≡ one_too_many proposal.now present.now items }
-{
-    match proposal {
-        Proposal::Name(_) => present.is_none() && ITEMS <= items,
-        Proposal::Removal => false,
     }
 }
 

@@ -117,17 +117,6 @@ fn proposal(alloc: Global, fields: &[(String, String)]) -> Result<Proposal, Refu
     }
 }
 
-// Whether a removal, if there is one, is said by `yes`.
-fn is_removal_told(fields: &[(String, String)]) -> bool
-    ensures { result ≡ is_none_or (bytes_eq (codes "yes"))
-        (value_in (codes "remove") (texts_of fields.now)) }
-{
-    match value(fields, "remove") {
-        Some(word) => "yes" == word,
-        None => true,
-    }
-}
-
 // The note of a submission whose removal, if there is one, is said by `yes`.
 fn note(alloc: Global, fields: &[(String, String)]) -> Result<Text, Refusal>
     ensures ok { IfOk result (λ note. (note ≡ text_in (codes "note") (texts_of fields.now)) ×
@@ -138,8 +127,10 @@ fn note(alloc: Global, fields: &[(String, String)]) -> Result<Text, Refusal>
         ((is_none_or (bytes_eq (codes "yes")) (value_in (codes "remove") (texts_of fields.now)) &&
         text_test (text_in (codes "note") (texts_of fields.now))) ≡ false)) }
 {
-    if !is_removal_told(fields) {
-        return Err(Refusal::BadText);
+    if let Some(word) = value(fields, "remove") {
+        if "yes" != word {
+            return Err(Refusal::BadText);
+        }
     }
     note_in(alloc, text_at(fields, "note"))
 }

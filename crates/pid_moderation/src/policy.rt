@@ -66,8 +66,8 @@ ghost use Rattle.pid_moderation.specs.Revisions.{IsMarked};
 
 use crate::change::{Change, Edit, Effect, Receipt, Write};
 use crate::checks::{
-    ITEMS, REMARKS, REVISIONS, SUBMISSIONS, first_failing, has_rank, is_changed, is_ill_formed,
-    is_pending, is_rank, is_removal, is_so, lacks_parent, leaves_children, overflows, pass,
+    ITEMS, REMARKS, REVISIONS, SUBMISSIONS, has_rank, is_changed, is_ill_formed, is_named_so,
+    is_pending, is_rank, is_removal, pass,
 };
 use crate::command::{Act, Command, Expected, Proposal, Reply};
 use crate::facts::{Facts, Named, State, Verdict};
@@ -207,23 +207,23 @@ fn may_decide(facts: &Facts, account: &Account, named: &Named) -> Result<(), Ref
 fn may_write(facts: &Facts, expected: &Expected, named: &Named) -> Result<(), Refusal>
     ensures { FollowsChecks (item_checks facts.now expected.now named.now) tt result }
 {
-    let proposal = &named.proposal;
-    pass(&[
-        (is_changed(expected, &facts.present), Refusal::Changed),
-        (is_so(proposal, &facts.present), Refusal::NothingToDo),
-        (
-            lacks_parent(proposal, facts.has_parent),
-            Refusal::ParentMissing,
-        ),
-        (
-            leaves_children(proposal, facts.has_children),
-            Refusal::HasChildren,
-        ),
-        (
-            overflows(proposal, &facts.present, facts.items),
-            Refusal::Full,
-        ),
-    ])
+    let changed = (is_changed(expected, &facts.present), Refusal::Changed);
+    match &named.proposal {
+        Proposal::Name(name) => pass(&[
+            changed,
+            (is_named_so(name, &facts.present), Refusal::NothingToDo),
+            (!facts.has_parent, Refusal::ParentMissing),
+            (
+                facts.present.is_none() && ITEMS <= facts.items,
+                Refusal::Full,
+            ),
+        ]),
+        Proposal::Removal => pass(&[
+            changed,
+            (facts.present.is_none(), Refusal::NothingToDo),
+            (facts.has_children, Refusal::HasChildren),
+        ]),
+    }
 }
 
 fn may_approve(
@@ -239,45 +239,26 @@ fn may_approve(
     may_write(facts, expected, named)
 }
 
-fn edit(proposal: &Proposal, present: &Option<Name>) -> Result<Edit, AllocError>
-    ensures { IfOk result (λ edit. edit ≡ edit_of proposal.now present.now) }
-{
-    match proposal {
-        Proposal::Name(name) => match present {
-            Some(_) => Ok(Edit::Rename(name.copy()?)),
-            None => Ok(Edit::Add(name.copy()?)),
-        },
-        Proposal::Removal => Ok(Edit::Remove),
-    }
-}
-
-// How many items there are after the proposal is carried out.
-fn count_after(proposal: &Proposal, present: &Option<Name>, items: u32) -> u32
-    requires { one_too_many proposal.now present.now items ≡ false }
-    ensures { result ≡ items_after (edit_of proposal.now present.now) items }
-{
-    match proposal {
-        Proposal::Name(_) => match present {
-            Some(_) => items,
-            None => {
-                if ITEMS <= items {
-                    unreachable!();
-                }
-                items + 1
-            }
-        },
-        Proposal::Removal => items.saturating_sub(1),
-    }
-}
-
 fn write(facts: &Facts, named: &Named) -> Result<Write, AllocError>
     requires { one_too_many named.now.proposal facts.now.present facts.now.items ≡ false }
     ensures { IfOk result (λ w. w ≡ write_of facts.now named.now) }
 {
+    let (edit, items) = match &named.proposal {
+        Proposal::Name(name) => match &facts.present {
+            Some(_) => (Edit::Rename(name.copy()?), facts.items),
+            None => {
+                if ITEMS <= facts.items {
+                    unreachable!();
+                }
+                (Edit::Add(name.copy()?), facts.items + 1)
+            }
+        },
+        Proposal::Removal => (Edit::Remove, facts.items.saturating_sub(1)),
+    };
     Ok(Write {
         path: named.path,
-        edit: edit(&named.proposal, &facts.present)?,
-        items: count_after(&named.proposal, &facts.present, facts.items),
+        edit,
+        items,
     })
 }
 
@@ -333,16 +314,24 @@ fn import_refusal(facts: &Facts) -> Option<Refusal>
         ((is_none facts.now.rank, Refusal.NoAccount) ∷ import_checks facts.now) }
     ensures alive { IfSome result (λ e. e ≢ Refusal.Failed) }
 {
-    first_failing(&[
-        (facts.rank.is_none(), Refusal::NoAccount),
-        (!has_rank(Rank::Senior, facts.rank), Refusal::RankTooLow),
-    ])
+    if facts.rank.is_none() {
+        return Some(Refusal::NoAccount);
+    }
+    if has_rank(Rank::Senior, facts.rank) {
+        None
+    } else {
+        Some(Refusal::RankTooLow)
+    }
 }
 
-fn bring_in(file: Option<Verdict>) -> Result<(Effect, Reply), Refusal>
-    ensures { FollowsChecks (file_checks file) (import_effect file, import_reply file) result }
+fn import(facts: &Facts) -> Result<(Effect, Reply), Refusal>
+    ensures { (reading : Reading) (account : List ℕ)
+        → Settles facts.now account (Imports reading) result }
 {
-    match file {
+    if let Some(refusal) = import_refusal(facts) {
+        return Err(refusal);
+    }
+    match facts.file {
         Some(
             Verdict::Good {
                 added,
@@ -363,16 +352,6 @@ fn bring_in(file: Option<Verdict>) -> Result<(Effect, Reply), Refusal>
         }
         Some(Verdict::Faulty(fault)) => Err(Refusal::FileFault(fault)),
         None => Err(Refusal::BadText),
-    }
-}
-
-fn import(facts: &Facts) -> Result<(Effect, Reply), Refusal>
-    ensures { (reading : Reading) (account : List ℕ)
-        → Settles facts.now account (Imports reading) result }
-{
-    match import_refusal(facts) {
-        Some(refusal) => Err(refusal),
-        None => bring_in(facts.file),
     }
 }
 
@@ -418,23 +397,6 @@ fn effect(facts: &Facts, command: &Command) -> Result<(Effect, Reply), Refusal>
     }
 }
 
-fn receipt(command: &Command, reply: Reply) -> Result<Option<Receipt>, AllocError>
-    ensures { IfOk result (λ r. r ≡ receipt_of command.now.account command.now.key reply) }
-{
-    match &command.key {
-        Some(key) => {
-            let account = command.account.copy()?;
-            let key = key.copy()?;
-            Ok(Some(Receipt {
-                account,
-                key,
-                reply,
-            }))
-        }
-        None => Ok(None),
-    }
-}
-
 // The number of one command more, and the receipt of its reply.
 fn count(facts: &Facts, command: &Command, reply: Reply) -> Result<(u64, Option<Receipt>), Refusal>
     ensures { FollowsChecks (revision_checks facts.now)
@@ -443,8 +405,18 @@ fn count(facts: &Facts, command: &Command, reply: Reply) -> Result<(u64, Option<
     if REVISIONS <= facts.revision {
         return Err(Refusal::Full);
     }
-    let receipt = receipt(command, reply)?;
-    Ok((facts.revision + 1, receipt))
+    let revision = facts.revision + 1;
+    let Some(key) = &command.key else {
+        return Ok((revision, None));
+    };
+    let account = command.account.copy()?;
+    let key = key.copy()?;
+    let receipt = Receipt {
+        account,
+        key,
+        reply,
+    };
+    Ok((revision, Some(receipt)))
 }
 
 // What a command that breaks no rule of form, and is new, changes, and its reply.

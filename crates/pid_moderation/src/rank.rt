@@ -1,9 +1,6 @@
 //! Ranks of accounts.
 ghost use Rattle.std.specs.Prelude.{◌≡◌};
-ghost use Rattle.pid_moderation.specs.Ranks.{
-  needed_rank as rank_for,
-  naming_rank as rank_for_naming,
-};
+ghost use Rattle.pid_moderation.specs.Ranks.{needed_rank as rank_for};
 
 use pid_ident::Path;
 
@@ -42,15 +39,8 @@ pub fn needed_rank(path: &Path, removal: bool) -> Rank
     ensures { result ≡ rank_for path.now removal }
 {
     if removal {
-        Rank::Senior
-    } else {
-        naming_rank(path)
+        return Rank::Senior;
     }
-}
-
-fn naming_rank(path: &Path) -> Rank
-    ensures { result ≡ rank_for_naming path.now }
-{
     match path {
         Path::Vendor { .. } | Path::Class { .. } => Rank::Senior,
         Path::Device { .. }

@@ -50,24 +50,6 @@ fn write_counts<W: Output>(
     )
 }
 
-fn write_accepted<W: Output>(out: &mut W, reply: Reply) -> Result<(), WriteFault>
-    ensures sent { Sends result (W.taken out.old) (W.taken out.new) (accepted_line reply) }
-    ensures fault { IfErr result (λ f. W.write_fault out.new ≡ Some f) }
-{
-    let mut digits = Buffer::new();
-    match reply {
-        Reply::Done => write_all(out, b"ok\n"),
-        Reply::Numbered(number) => {
-            write_parts(out, &[b"ok ", digits.format(number).as_bytes(), b"\n"])
-        }
-        Reply::Counts {
-            added,
-            renamed,
-            same,
-        } => write_counts(out, added, renamed, same),
-    }
-}
-
 // A refusal by a fault of the file, with that fault.
 fn write_file_fault<W: Output>(out: &mut W, fault: FileFault) -> Result<(), WriteFault>
     ensures sent { Sends result (W.taken out.old) (W.taken out.new)
@@ -109,19 +91,6 @@ fn write_file_fault<W: Output>(out: &mut W, fault: FileFault) -> Result<(), Writ
     }
 }
 
-fn write_refused<W: Output>(out: &mut W, refusal: Refusal) -> Result<(), WriteFault>
-    ensures sent { Sends result (W.taken out.old) (W.taken out.new) (refused_line refusal) }
-    ensures fault { IfErr result (λ f. W.write_fault out.new ≡ Some f) }
-{
-    if let Refusal::FileFault(fault) = refusal {
-        return write_file_fault(out, fault);
-    }
-    let mut digits = Buffer::new();
-    let number = digits.format(refusal.number()).as_bytes();
-    let word = refusal.word().as_bytes();
-    write_parts(out, &[b"refused ", number, b" ", word, b"\n"])
-}
-
 /// Writes the line that answers a command, with the line feed at its end; at a fault a prefix of
 /// it. It takes no memory, so that no answer is lost when memory runs out.
 pub fn write_reply_line<W: Output>(
@@ -131,9 +100,25 @@ pub fn write_reply_line<W: Output>(
     ensures sent { Sends result (W.taken out.old) (W.taken out.new) (outcome_line outcome) }
     ensures fault { IfErr result (λ f. W.write_fault out.new ≡ Some f) }
 {
+    let mut digits = Buffer::new();
     match outcome {
-        Ok(reply) => write_accepted(out, reply),
-        Err(refusal) => write_refused(out, refusal),
+        Ok(Reply::Done) => write_all(out, b"ok\n"),
+        Ok(Reply::Numbered(number)) => {
+            write_parts(out, &[b"ok ", digits.format(number).as_bytes(), b"\n"])
+        }
+        Ok(
+            Reply::Counts {
+                added,
+                renamed,
+                same,
+            },
+        ) => write_counts(out, added, renamed, same),
+        Err(Refusal::FileFault(fault)) => write_file_fault(out, fault),
+        Err(refusal) => {
+            let number = digits.format(refusal.number()).as_bytes();
+            let word = refusal.word().as_bytes();
+            write_parts(out, &[b"refused ", number, b" ", word, b"\n"])
+        }
     }
 }
 
@@ -143,23 +128,6 @@ pub fn write_reply_line<W: Output>(
 struct Written {
     text: String,
     fault: Option<WriteFault>,
-}
-
-impl Written {
-    fn push(&mut self, bytes: &[u8]) -> Option<usize>
-        ensures grown { IfSome result (λ n. (n ≡ length bytes.now)
-            × (string_bytes self.new.text ≡ string_bytes self.old.text ++ bytes.now)) }
-        ensures same { IsNone result → string_bytes self.new.text ≡ string_bytes self.old.text }
-        ensures fault { self.new.fault ≡ self.old.fault }
-    {
-        let Ok(text) = str::from_utf8(bytes) else {
-            return None;
-        };
-        match self.text.push_str(text) {
-            Ok(()) => Some(bytes.len()),
-            Err(_) => None,
-        }
-    }
 }
 
 impl Output for Written {
@@ -173,13 +141,13 @@ impl Output for Written {
         if let Some(fault) = self.fault {
             return Err(fault);
         }
-        match self.push(bytes) {
-            Some(count) => Ok(count),
-            None => {
-                self.fault = Some(WriteFault::Device);
-                Err(WriteFault::Device)
+        if let Ok(text) = str::from_utf8(bytes) {
+            if self.text.push_str(text).is_ok() {
+                return Ok(bytes.len());
             }
         }
+        self.fault = Some(WriteFault::Device);
+        Err(WriteFault::Device)
     }
 }
 
