@@ -91,11 +91,5 @@ pub fn is_key(text: &str) -> bool
 fn are_key_bytes(bytes: &[u8]) -> bool
     ensures { result ≡ list_all key_byte bytes.now }
 {
-    bytes.iter().all(|b| is_key_byte(*b))
-}
-
-fn is_key_byte(byte: u8) -> bool
-    ensures { result ≡ key_byte byte }
-{
-    byte >= b'!' && byte <= b'~'
+    bytes.iter().all(|b| *b >= b'!' && *b <= b'~')
 }

@@ -114,8 +114,9 @@ fn split4(text: &[u8]) -> Option<(Id16, &[u8])>
     let [a, b, c, d, rest @ ..] = text else {
         return None;
     };
-    let number = number4([*a, *b, *c, *d])?;
-    Some((number, rest))
+    let high = number2([*a, *b])?;
+    let low = number2([*c, *d])?;
+    Some((high as u16 * 256 + low as u16, rest))
 }
 
 // The number of a slash and two digits, and what follows them.
@@ -142,17 +143,6 @@ fn lower_value(digit: u8) -> Option<u8>
         b'a'..=b'f' => Some(digit - b'a' + 10),
         _ => None,
     }
-}
-
-// The number of four lower-case digits.
-fn number4(digits: [u8; 4]) -> Option<Id16>
-    ensures found { IfSome result (λ n. (n < 2 ^ 16) × (digits ≡ four_digits n)) }
-    ensures none { IfNone result ((n : ℕ) → n < 2 ^ 16 → digits ≡ four_digits n → ⊥) }
-{
-    let [a, b, c, d] = digits;
-    let high = number2([a, b])?;
-    let low = number2([c, d])?;
-    Some(high as u16 * 256 + low as u16)
 }
 
 // The number of two lower-case digits.
