@@ -29,16 +29,12 @@ use std::alloc::Global;
 pub fn rank_said(text: &str) -> Option<Rank>
     ensures { result ≡ rank_in text.now }
 {
-    if text == "0" {
-        Some(Rank::Contributor)
-    } else if text == "1" {
-        Some(Rank::Moderator)
-    } else if text == "2" {
-        Some(Rank::Senior)
-    } else if text == "3" {
-        Some(Rank::Administrator)
-    } else {
-        None
+    match text {
+        "0" => Some(Rank::Contributor),
+        "1" => Some(Rank::Moderator),
+        "2" => Some(Rank::Senior),
+        "3" => Some(Rank::Administrator),
+        _ => None,
     }
 }
 
