@@ -14,6 +14,9 @@ use std::{env, io};
 /// The exit status if the arguments name no job.
 pub const UNKNOWN_WORDS: u8 = 2;
 
+// Commands after which no file was meant.
+const OTHERS: [&str; 6] = ["lookup", "script", "import", "export", "serve", "migrate"];
+
 /// The arguments of the process, the program's name first. Reports an argument that is not UTF-8,
 /// or that it ran out of memory, on standard error, and returns the exit status.
 pub fn words_given(rt: &HostRuntime) -> Result<Vec<String>, u8>
@@ -82,11 +85,12 @@ fn hint(words: &[String]) -> &'static str {
         Some(word) => word.as_str(),
         None => "",
     };
+    if OTHERS.contains(&word) || matches!(word.as_bytes(), [b'-', ..]) {
+        return "";
+    }
     match word {
         "check" => "To read a file, redirect standard input: pciids check < FILE\n",
         "tidy" => "To read a file, redirect standard input: pciids tidy < FILE\n",
-        "lookup" | "script" | "import" | "export" | "serve" | "migrate" => "",
-        _ if word.as_bytes().first() == Some(&b'-') => "",
         _ => "To read a file, redirect standard input: pciids < FILE\n",
     }
 }

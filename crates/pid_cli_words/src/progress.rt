@@ -100,7 +100,7 @@ impl Display for Grouped {
     fn fmt<W: fmt::Write>(&self, f: &mut Formatter<W>) -> fmt::Result {
         let (thousands, rest) = (self.0 / 1_000, self.0 % 1_000);
         match thousands {
-            0 => write!(f, "{rest}"),
+            0 => Display::fmt(&rest, f),
             1..=999 => write!(f, "{thousands},{rest:03}"),
             _ => write!(
                 f,
