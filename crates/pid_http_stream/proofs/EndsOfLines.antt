@@ -1,6 +1,6 @@
 -- Line ends and nothing else: what the code scans, and what the definition says of the bytes.
 use Rattle.std.proofs.Common.{◌≡◌, ℕ, Bool, true, false, List, [], ◌∷◌, ◌++◌, refl, sym, ap, ◌∙◌, inl, inr}
-use Rattle.std.specs.Prelude.{IsTrue, ◌↔◌, ◌==◌, not, ◌&&◌, if◌then◌else◌, ◌⊎◌}
+use Rattle.std.specs.Prelude.{◌==◌, not, ◌&&◌, if◌then◌else◌, ◌⊎◌}
 use Rattle.std.proofs.lemmas.Bool.{eqb-true, eq-eqb}
 use Rattle.std.proofs.lemmas.List.Elements.{All-cons, All-nil, All-head, All-tail}
 use Rattle.pid_http_stream.specs.Leftovers.{AreLineEnds}
@@ -103,5 +103,8 @@ pub all_scanned : (s : List ℕ) → AreLineEnds s → blank_after false s ≡ t
 all_scanned s x = scanned false s x (nothing_before s)
 
 -- the test by the scan is that of the definition
-pub line_ends_test : (b : Bool) (s : List ℕ) → b ≡ blank_after false s → IsTrue b ↔ AreLineEnds s
-line_ends_test b s e = (λ t. (says false s (sym e ∙ t)).0, λ x. e ∙ all_scanned s x)
+pub all_line_ends : (s : List ℕ) → blank_after false s ≡ true → AreLineEnds s
+all_line_ends s e = (says false s e).0
+
+pub no_line_ends : (s : List ℕ) → blank_after false s ≡ false → ¬ (AreLineEnds s)
+no_line_ends s e x = true_not_false (blank_after false s) (all_scanned s x) e

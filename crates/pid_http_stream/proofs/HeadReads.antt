@@ -1,7 +1,6 @@
 -- What comes in up to the end of a head.
 use Rattle.std.proofs.Common.{◌≡◌, ◌≢◌, ℕ, List, [], ◌++◌, Option, Some, None, take, drop, sym, ap, subst, ◌∙◌, append_assoc, inl}
-use Rattle.std.specs.Prelude.{IfSome, IsTrue, ◌↔◌, Bool, false}
-use Rattle.std.proofs.lemmas.Bool.{iff_false}
+use Rattle.std.specs.Prelude.{IfSome}
 use Rattle.std.specs.Io.KnownBytes.{Consumes, IsAtEnd}
 use Rattle.std.proofs.KnownBytes.{Consumes-nil, Consumes-trans}
 use Rattle.std.proofs.lemmas.List.{append-nil, take-append-drop}
@@ -62,9 +61,6 @@ still_begins after n x quiet = record {
 -- what was parsed whole
 pub begins_whole : (held : List ℕ) → MayBecomeHead held → CanBeHead held
 begins_whole held may = record { front = held; line = []; is = sym (append-nil held); may = may; unended = All-nil (λ (b : ℕ). b ≢ line_feed) }
-
-pub not_line_ends : (b : Bool) (held : List ℕ) → IsTrue b ↔ AreLineEnds held → b ≡ false → ¬ (AreLineEnds held)
-not_line_ends b held both no_end x = iff_false both no_end x
 
 -- only a piece is one
 pub stopped_is_none : {P : Type 0} (stop : Stop) → filled.Stopped stop ≡ filled.Piece → P

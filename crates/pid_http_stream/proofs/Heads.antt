@@ -1,11 +1,12 @@
 -- What bytes behind a head, or behind what is no head, change.
 use Rattle.std.proofs.Common.{◌≡◌, ◌≢◌, ℕ, zero, suc, get_or, ◌+◌, ◌<◌, ◌≤◌, Bool, true, false, List, [], ◌∷◌, ◌++◌, length, map, take, drop, refl, sym, ap, subst, ◌∙◌, arith, append_assoc, length-append, inl, inr}
-use Rattle.std.specs.Prelude.{IsTrue, ◌⊎◌, ◌==◌, not, ◌&&◌, if◌then◌else◌, codes}
-use Rattle.std.specs.List.{flat_map}
-use Rattle.std.proofs.lemmas.Bool.{eqb-true, cases_lt}
+use Rattle.std.specs.Prelude.{IsTrue, ◌⊎◌, ◌||◌, ◌==◌, not, ◌&&◌, if◌then◌else◌, codes}
+use Rattle.std.specs.List.{flat_map, list_any}
+use Rattle.std.proofs.lemmas.Bool.{eqb-true, eq-eqb, cases_lt}
+use mathlib.Core.Bool.{false≢true}
 use Rattle.std.proofs.lemmas.Str.{IsUtf8-from_ascii}
-use Rattle.std.proofs.lemmas.List.Elements.{All-cons, All-nil, All-head, All-tail, All-push}
-use Rattle.std.proofs.lemmas.List.{take_all, take_more, length-map, length-take, length-take-le, take-append-drop}
+use Rattle.std.proofs.lemmas.List.Elements.{All-cons, All-nil, All-head, All-tail}
+use Rattle.std.proofs.lemmas.List.{length-map, length-take, length-take-le, take-append-drop}
 use Rattle.httparse.specs.Grammar.{is_token_byte, is_uri_byte, LineEnd, crlf, lf, print_blank, print_end, print_field, RequestHead, IsRequestHead, ReadsRequest, HasNoRequest as HasNoRequestHead, print_request}
 use Rattle.httparse.specs.Spans.{header_bytes, name_and_value, IsRequestWithin, IsRequestAt, IsRequestOf, RequestOverflows}
 use Rattle.httparse.specs.declared.spans.HeaderSpan.{HeaderSpan}
@@ -312,8 +313,13 @@ no_head_behind held piece none quiet = λ h rest x.
     by_length h rest x front e (inl long) =
         lf_behind held front piece rest (x.1 ∙ ap (λ (l : List ℕ). l ++ rest) e ∙ append_assoc front (10 ∷ []) rest) (let n = ap length e ∙ length-append front (10 ∷ []) in omega arith) quiet
 
-pub quiet_more : (bytes : List ℕ) (i : ℕ) → i < length bytes → ¬ (get_or bytes i 0 ≡ 10) → HasNoLineEnd (take i bytes) → HasNoLineEnd (take (i + 1) bytes)
-quiet_more bytes i h other none = rw (take_more bytes i 0 h) (All-push (λ (y : ℕ). ¬ (y ≡ 10)) (take i bytes) (get_or bytes i 0) none other)
+neither : (x y : Bool) → (x || y) ≡ false → (x ≡ false) × (y ≡ false)
+neither false y e = (refl, e)
+neither true y e = cc
 
-pub quiet_all : (bytes : List ℕ) (i : ℕ) → length bytes ≤ i → HasNoLineEnd (take i bytes) → HasNoLineEnd bytes
-quiet_all bytes i h none = subst HasNoLineEnd (take_all i bytes h) none
+-- where no byte is LF, no line ends
+pub quiet : (bytes : List ℕ) → list_any (λ b. b == 10) bytes ≡ false → HasNoLineEnd bytes
+quiet [] e = All-nil (λ (y : ℕ). ¬ (y ≡ 10))
+quiet (b ∷ bytes) e =
+    let none = neither (b == 10) (list_any (λ b. b == 10) bytes) e in
+    All-cons (λ (y : ℕ). ¬ (y ≡ 10)) b bytes (λ same. false≢true (sym none.0 ∙ eq-eqb b 10 same)) (quiet bytes none.1)

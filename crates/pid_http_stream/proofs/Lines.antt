@@ -1,9 +1,9 @@
 -- The parts of a reply in one list.
-use Rattle.std.proofs.Common.{◌≡◌, ℕ, List, [], ◌++◌, ◌+◌, take, Option, Result, sym, append_assoc, length-append, subst, arith}
+use Rattle.std.proofs.Common.{◌≡◌, ◌∙◌, ℕ, zero, suc, List, [], ◌++◌, ◌+◌, take, Option, None, Some, Result, Ok, Err, sym, append_assoc, length-append, subst, arith}
 use Rattle.std.proofs.lemmas.List.{append-nil}
 use Rattle.std.specs.Prelude.{Bool, length, codes, decimal}
 use Rattle.pid_ident.specs.Sending.{Sends, SendsFront}
-use Rattle.std.specs.Io.KnownBytes.{Appends}
+use Rattle.std.specs.Io.KnownBytes.{Appends, Keeps, WriteAppends}
 use Rattle.std.proofs.KnownBytes.{Appends-trans}
 use Rattle.std.proofs.Math.Seq.{take-append-add}
 use Rattle.http.specs.StatusCode.{code_digits}
@@ -58,6 +58,17 @@ head_then_front head told closes t u v body p (n, less, q) =
       (let both = length-append front body in omega arith),
       subst (Appends t v) (sym (take-append-add front body n)) (Appends-trans t u v front (take n body) p q),
     )
+
+kept_none : (t u : Option (List ℕ)) → Keeps t u → Appends t u []
+kept_none None u same = tt
+kept_none (Some x) None same = absurd same
+kept_none (Some x) (Some y) same = same ∙ sym (append-nil x)
+
+-- a write of nothing writes nothing
+pub wrote_none : {E : Type 0} (r : Result ℕ E) (t u : Option (List ℕ)) → WriteAppends t u r [] → Appends t u []
+wrote_none (Ok zero) t u w = w
+wrote_none (Ok (suc n)) t u w = w
+wrote_none (Err e) t u w = kept_none t u w
 
 -- nothing more was written
 pub front_then_nothing : (t u v : Option (List ℕ)) (bytes : List ℕ) → WritesFront t u bytes → Appends u v [] → WritesFront t v bytes

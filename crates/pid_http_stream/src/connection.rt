@@ -9,13 +9,10 @@ ghost use Rattle.std.specs.Prelude.{
   All,
   length,
   map,
-  codes,
-  take,
   reverse,
 };
-ghost use Rattle.httparse.specs.Grammar.{skip_ows, trim_ows};
+ghost use Rattle.httparse.specs.Grammar.{skip_ows};
 ghost use Rattle.httparse.specs.Spans.{header_bytes, IsHeaderWithin};
-ghost use Rattle.std.specs.Str.{str_eq_ignore_ascii_case};
 ghost use Rattle.pid_http_stream.specs.Connections.{
   is_close as is_close_word,
   has_close,
@@ -51,24 +48,11 @@ fn trim_end(word: &[u8]) -> &[u8]
     &word[..end]
 }
 
-// The word without the blanks around it.
-fn trim(word: &[u8]) -> &[u8]
-    ensures { result.now ≡ trim_ows word.now }
-{
-    trim_end(trim_start(word))
-}
-
-fn is_word_close(word: &[u8]) -> bool
-    ensures { result ≡ str_eq_ignore_ascii_case word.now (codes "close") }
-{
-    word.eq_ignore_ascii_case(b"close")
-}
-
 // Whether the word is close, in any case, with blanks around it.
 fn is_close(word: &[u8]) -> bool
     ensures { result ≡ is_close_word word.now }
 {
-    is_word_close(trim(word))
+    trim_end(trim_start(word)).eq_ignore_ascii_case(b"close")
 }
 
 // Whether one of the words between the commas is close.

@@ -29,7 +29,7 @@ ghost use Rattle.pid_http_stream.specs.Steps.Intakes.{
   StaysBut,
 };
 ghost use Rattle.pid_http_stream.specs.Moments.{AllSince, IsMoment};
-ghost use Rattle.pid_http_stream.specs.Unfinished.{HasNoLineEnd, IsHeadUnfinished, IsUnfinished};
+ghost use Rattle.pid_http_stream.specs.Unfinished.{IsHeadUnfinished, IsUnfinished};
 
 use crate::judging::{Judged, StreamFault, are_line_ends, judge, judge_unended};
 use crate::limits::{LONGEST_HEAD, MOST_FIELDS, READ_SIZE};
@@ -112,18 +112,6 @@ fn fill<I: Incoming<W>, W: Output>(
     }
 }
 
-// Whether a line ends in the bytes.
-fn ends_line(bytes: &[u8]) -> bool
-    ensures { result ≡ false → HasNoLineEnd bytes.now }
-{
-    for byte in bytes {
-        if *byte == b'\n' {
-            return true;
-        }
-    }
-    false
-}
-
 // The bytes that are left at the end of the stream, in which no head has ended.
 fn judge_end(held: &[u8]) -> HeadRead
     requires none { HasNoHeadYet held.now }
@@ -148,7 +136,7 @@ fn judge_more(held: &[u8], before: usize, fields: &mut [HeaderSpan]) -> Judged
     ensures { IsHeadJudged held.now fields.new result }
 {
     let (_, piece) = held.split_at(before);
-    if ends_line(piece) {
+    if piece.contains(&b'\n') {
         judge(held, fields)
     } else {
         judge_unended(held)

@@ -1,11 +1,9 @@
 //! What the bytes that came begin with.
 ghost use Rattle.std.specs.Prelude.{
   ◌≡◌,
-  ◌↔◌,
   ℕ,
   ◌≤◌,
   ◌<◌,
-  IsTrue,
   false,
   List,
   length,
@@ -19,7 +17,6 @@ ghost use Rattle.httparse.specs.Spans.{header_bytes, IsRequestWithin, IsRequestO
 ghost use Rattle.httparse.specs.declared.spans.HeaderSpan.{HeaderSpan as FieldSpan};
 ghost use Rattle.pid_http_stream.specs.Steps.Intakes.{IsHeadJudged};
 ghost use Rattle.pid_http_stream.specs.declared.limits.TheConstants.{MOST_FIELDS};
-ghost use Rattle.pid_http_stream.specs.Leftovers.{AreLineEnds};
 ghost use Rattle.pid_http_stream.specs.Steps.LineScans.{blank_after};
 ghost use Rattle.pid_http_stream.specs.Unfinished.{CanBeHead};
 
@@ -28,6 +25,7 @@ use crate::limits::LONGEST_HEAD;
 use crate::refusal::RequestRefusal;
 use httparse::Status;
 use httparse::spans::{HeaderSpan, RequestSpans, parse_request};
+use std::fmt::{self, Display, Formatter, Write};
 use thiserror::Error;
 
 /// Why a stream is refused.
@@ -35,13 +33,12 @@ use thiserror::Error;
 pub enum StreamFault {
     /// The bytes begin with no head, or with one that has too many fields or is too long, or whose
     /// Content-Length is no length.
-    #[error("no head of a request, or one that is too long or says no length")]
     BadHead,
-    #[error("the body is sent in a transfer encoding")]
+    /// The body is sent in a transfer encoding.
     Encoding,
-    #[error("the body is longer than a body may be")]
+    /// The body is longer than a body may be.
     BodyTooLong,
-    #[error("the stream ends within the body")]
+    /// The stream ends within the body.
     BodyShort,
 }
 
@@ -61,6 +58,12 @@ impl StreamFault {
     }
 }
 
+impl Display for StreamFault {
+    fn fmt<W: Write>(&self, f: &mut Formatter<W>) -> fmt::Result {
+        f.write_str(self.refusal().sentence())
+    }
+}
+
 /// What the bytes that came begin with.
 #[derive(Clone, Copy)]
 pub(crate) enum Judged {
@@ -72,8 +75,8 @@ pub(crate) enum Judged {
     Faulty(StreamFault),
 }
 
-// Whether there are line ends and nothing else, the last perhaps without its LF.
-fn scan_line_ends(bytes: &[u8]) -> bool
+/// Whether there are line ends and nothing else, the last perhaps without its LF.
+pub(crate) fn are_line_ends(bytes: &[u8]) -> bool
     ensures { result ≡ blank_after false bytes.now }
 {
     let mut cr = false;
@@ -87,13 +90,6 @@ fn scan_line_ends(bytes: &[u8]) -> bool
         }
     }
     true
-}
-
-/// Whether there are line ends and nothing else, the last perhaps without its LF.
-pub(crate) fn are_line_ends(bytes: &[u8]) -> bool
-    ensures { IsTrue result ↔ AreLineEnds bytes.now }
-{
-    scan_line_ends(bytes)
 }
 
 // What a head that was found says of its body.

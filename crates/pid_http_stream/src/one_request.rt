@@ -19,13 +19,14 @@ ghost use Rattle.httparse.specs.Grammar.{RequestHead};
 ghost use Rattle.pid_http_stream.specs.Bodies.{SpendsTurns, turns_at};
 ghost use Rattle.pid_http_stream.specs.BodyLengths.{longest_body};
 ghost use Rattle.pid_http_stream.specs.Handling.{IsHandled};
-ghost use Rattle.pid_http_stream.specs.Steps.Intakes.{AskStops, WaitsForRequest, StandsAt};
+ghost use Rattle.pid_http_stream.specs.Steps.Intakes.{AskStops, WaitsForRequest};
 ghost use Rattle.pid_http_stream.specs.HeadParts.{IsHeadOf};
 ghost use Rattle.pid_http_stream.specs.Leading.{Leads};
 ghost use Rattle.pid_http_stream.specs.Moments.{AllSince};
 ghost use Rattle.pid_http_stream.specs.Requests.{Request};
 ghost use Rattle.pid_http_stream.specs.Steps.Loop.{
   AsksHandler,
+  HeadStands,
   around,
   asked_so,
   front_head,
@@ -158,7 +159,7 @@ pub(crate) fn ask_over<H: Handler, I: Incoming<W>, W: Output>(
     turns_left: &mut u64,
     output: &W,
 ) -> Asked
-    requires { StandsAt head.now.bytes.now head.now.fields.now head.now.spans content_length }
+    requires { HeadStands head.now content_length }
     ensures becomes { H.becomes handler.old handler.new }
     ensures asked { Leads H.is_good H.stands handler.old handler.new
         (λ v w. IfSome (I.to_come input.old) (λ _. AsksHandler H.conduct

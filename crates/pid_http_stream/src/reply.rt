@@ -1,5 +1,5 @@
 //! The bytes of a reply.
-ghost use Rattle.std.specs.Prelude.{◌≡◌, ◌++◌, codes, ℕ, IfErr, Some, true};
+ghost use Rattle.std.specs.Prelude.{◌≡◌, ◌++◌, codes, IfErr, Some};
 ghost use Rattle.pid_ident.specs.Sending.{Sends};
 ghost use Rattle.pid_http_stream.specs.Replies.{
   phrase_of as phrase_for,
@@ -8,7 +8,6 @@ ghost use Rattle.pid_http_stream.specs.Replies.{
   close_line as line_of_close,
   reply_bytes,
   answer_behind,
-  fault_answer,
 };
 ghost use Rattle.pid_http_stream.specs.RequestRefusals.{refusal_of_fault, request_refusal_text};
 
@@ -118,9 +117,9 @@ pub(crate) fn write_reply<W: Output>(
     write_lines(out, status, phrase, content, length, allow, close, body)
 }
 
-// The body of the reply to a fault: the compact JSON of its refusal, as `serde_json` writes it. It
-// takes no memory, so that each fault is replied to.
-fn fault_text(fault: StreamFault) -> &'static [u8]
+/// The body of the reply to a fault: the compact JSON of its refusal, as `serde_json` writes it. It
+/// takes no memory, so that each fault is replied to.
+pub(crate) fn fault_text(fault: StreamFault) -> &'static [u8]
     ensures { result.now ≡ request_refusal_text (refusal_of_fault fault) }
 {
     match fault {
@@ -129,18 +128,4 @@ fn fault_text(fault: StreamFault) -> &'static [u8]
         StreamFault::BodyTooLong => br#"{"ok":false,"refused":21,"word":"BodyTooLong"}"#,
         StreamFault::BodyShort => br#"{"ok":false,"refused":23,"word":"BodyShort"}"#,
     }
-}
-
-/// Writes the reply to a stream that ends with a fault, which closes the connection.
-pub(crate) fn write_fault<W: Output>(fault: StreamFault, out: &mut W) -> Result<(), WriteFault>
-    ensures sent { Sends result (W.taken out.old) (W.taken out.new)
-        (reply_bytes (fault_answer fault) true) }
-    ensures fault { IfErr result (λ f. W.write_fault out.new ≡ Some f) }
-{
-    let head = ReplyHead {
-        status: fault.refusal().status(),
-        content: Content::Json,
-    };
-    let body = fault_text(fault);
-    write_reply(head, body.len() as u64, body, true, out)
 }

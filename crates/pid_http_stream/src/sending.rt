@@ -1,12 +1,11 @@
 //! A reply, written to its end.
-ghost use Rattle.std.specs.Prelude.{◌≡◌, true, false, None, [], IsSome};
-ghost use Rattle.std.specs.Io.KnownBytes.{Appends};
+ghost use Rattle.std.specs.Prelude.{◌≡◌, None, IsSome};
 ghost use Rattle.pid_http_stream.specs.Handling.{MayReply};
 ghost use Rattle.pid_http_stream.specs.Leading.{Leads};
 ghost use Rattle.pid_http_stream.specs.Replies.{answer_behind, reply_bytes};
 ghost use Rattle.pid_http_stream.specs.Requests.{Request};
 ghost use Rattle.pid_http_stream.specs.Serving.{outside};
-ghost use Rattle.pid_http_stream.specs.Steps.Loop.{IsSent, SendsText};
+ghost use Rattle.pid_http_stream.specs.Steps.Loop.{IsSent, SendsText, replied};
 
 use crate::handler::{BodyStop, Handler, Reply, ReplyBody};
 use crate::reply::write_reply;
@@ -40,18 +39,6 @@ fn send_bytes<W: Output>(
     }
 }
 
-// Whether the writer has failed: then it keeps its fault, and a write of nothing fails with it too.
-fn has_failed<W: Output>(out: &mut W) -> bool
-    ensures taken { Appends (W.taken out.old) (W.taken out.new) [] }
-    ensures failed { result ≡ true → IsSome (W.write_fault out.new) }
-    ensures good { result ≡ false → W.write_fault out.new ≡ None }
-{
-    match out.write(b"") {
-        Ok(_) => false,
-        Err(_) => true,
-    }
-}
-
 // Writes the head of a reply, and lets the handler write the body that it promised.
 fn send_written<H: Handler, W: Output>(
     handler: &mut H,
@@ -66,7 +53,7 @@ fn send_written<H: Handler, W: Output>(
         → (H.conduct).promises a request head content_length v
         → IsSent H.conduct
         (outside a w (W.taken out.old) (W.taken out.new))
-        (record { request = request; closing = closes }) result) }
+        (replied request closes) result) }
     ensures fault { result ≡ Sent.WriteFault → IsSome (W.write_fault out.new) }
     ensures store { result ≡ Sent.StoreFault → W.write_fault out.new ≡ None }
     ensures stuck { result ≡ Sent.StoreFault → H.cannot_go_on handler.new }
@@ -77,13 +64,11 @@ fn send_written<H: Handler, W: Output>(
     match handler.write_body(out) {
         Ok(()) => Sent::Whole,
         Err(BodyStop::Writer) => Sent::WriteFault,
-        Err(BodyStop::Store) => {
-            if has_failed(out) {
-                Sent::WriteFault
-            } else {
-                Sent::StoreFault
-            }
-        }
+        // A writer that has failed keeps its fault, and a write of nothing fails with it too.
+        Err(BodyStop::Store) => match out.write(b"") {
+            Ok(_) => Sent::StoreFault,
+            Err(_) => Sent::WriteFault,
+        },
     }
 }
 
@@ -99,7 +84,7 @@ pub(crate) fn send<H: Handler, W: Output>(
         (λ v w. (a : H.View) (request : Request) → MayReply H.conduct a request reply v
         → IsSent H.conduct
         (outside a w (W.taken out.old) (W.taken out.new))
-        (record { request = request; closing = closes }) result) }
+        (replied request closes) result) }
     ensures fault { result ≡ Sent.WriteFault → IsSome (W.write_fault out.new) }
     ensures store { result ≡ Sent.StoreFault → W.write_fault out.new ≡ None }
     ensures stuck { result ≡ Sent.StoreFault → H.cannot_go_on handler.new }

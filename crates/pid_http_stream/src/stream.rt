@@ -18,13 +18,14 @@ ghost use Rattle.std.specs.Prelude.{
 };
 ghost use Rattle.pid_http_stream.specs.Bodies.{SpendsTurns, turns_at};
 ghost use Rattle.pid_http_stream.specs.Causes.{EndsFor, LastState};
-ghost use Rattle.pid_http_stream.specs.Steps.Intakes.{WaitsForRequest, StandsAt};
+ghost use Rattle.pid_http_stream.specs.Steps.Intakes.{WaitsForRequest};
 ghost use Rattle.pid_http_stream.specs.Leading.{Leads};
 ghost use Rattle.pid_http_stream.specs.Moments.{AllSince};
 ghost use Rattle.pid_http_stream.specs.Serving.{IsCaughtUp, IsServed, outside};
 ghost use Rattle.pid_http_stream.specs.Steps.Loop.{
   EndsBroken,
   EndsSo,
+  HeadStands,
   WritesRefusal,
   Steps,
   answered_so,
@@ -40,7 +41,8 @@ use crate::intake::{HeadRead, Stop, read_head};
 use crate::judging::StreamFault;
 use crate::limits::MOST_FIELDS;
 use crate::one_request::{Asked, ask_over};
-use crate::reply::write_fault;
+use crate::reply::{fault_text, write_reply};
+use crate::reply_head::{Content, ReplyHead};
 use crate::sending::{Sent, send};
 use httparse::spans::EMPTY_HEADER_SPAN;
 use pid_ident::{Incoming, Output};
@@ -102,7 +104,12 @@ fn refuse<W: Output>(fault: StreamFault, out: &mut W) -> StreamEnd
     ensures refused { WritesRefusal fault (W.taken out.old) (W.taken out.new) result }
     ensures fault { result ≡ StreamEnd.WriteFault → IsSome (W.write_fault out.new) }
 {
-    match write_fault(fault, out) {
+    let head = ReplyHead {
+        status: fault.refusal().status(),
+        content: Content::Json,
+    };
+    let body = fault_text(fault);
+    match write_reply(head, body.len() as u64, body, true, out) {
         Err(_) => StreamEnd::WriteFault,
         Ok(()) => match fault {
             StreamFault::BadHead | StreamFault::Encoding => StreamEnd::HeadFault,
@@ -150,7 +157,7 @@ fn serve_request<H: Handler, I: Incoming<W>, W: Output>(
     turns_left: &mut u64,
     out: &mut W,
 ) -> Answered
-    requires { StandsAt head.now.bytes.now head.now.fields.now head.now.spans content_length }
+    requires { HeadStands head.now content_length }
     ensures becomes { H.becomes handler.old handler.new }
     ensures stepped { Leads H.is_good H.stands handler.old handler.new
         (λ v w. IfSome (I.to_come input.old) (λ _. Steps H.conduct

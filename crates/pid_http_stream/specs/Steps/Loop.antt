@@ -13,6 +13,7 @@ use Rattle.pid_http_stream.specs.Replies.{Answer, reply_head, reply_bytes, fault
 use Rattle.pid_http_stream.specs.Requests.{Request, IsRequest}
 use Rattle.pid_http_stream.specs.Serving.{saturated, Outside, WritesFront, IsWrittenNext}
 use Rattle.pid_http_stream.specs.Serving.{IsCutInBody, RunsOut, is_head_fault}
+use Rattle.pid_http_stream.specs.Steps.Intakes.{StandsAt}
 use Rattle.pid_http_stream.specs.Streams.{closes}
 use Rattle.pid_http_stream.specs.Unfinished.{IsUnfinished}
 use Rattle.pid_http_stream.specs.declared.judging.StreamFault.{StreamFault}
@@ -59,6 +60,10 @@ front_head head n = record {
   content_length = n;
 }
 
+-- the bytes begin with this head, which says that its body has so many bytes
+abbrev pub HeadStands : Head → ℕ → Type 0
+HeadStands head n = StandsAt head.bytes.now head.fields.now head.spans n
+
 -- what is held after the request that has this head
 abbrev pub held_behind : FrontHead → List ℕ
 held_behind f = drop (f.spans.len + f.content_length) f.held
@@ -104,6 +109,9 @@ SendsText sent.StoreFault old new bytes = ⊥
 pub record Replied : Type 0 where
   pub request : Request
   pub closing : Bool
+
+abbrev pub replied : Request → Bool → Replied
+replied request closing = record { request = request; closing = closing }
 
 -- an answer was written, a prefix of one, or a prefix of the head of one whose body was not asked
 -- for; or it was cut in its body

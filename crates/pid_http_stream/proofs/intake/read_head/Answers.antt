@@ -88,3 +88,45 @@ pub judge_end-requires-clause-short : goal.judge_end-requires-clause-short
 judge_end-requires-clause-short g c =
     let u : IsHeadUnfinished c.reading.held.items = rw c.in-More.is at c.reading.invariant.judged in
     let e = ap length (c.deref-in-End.ensures.value ∙ c.in-End.ensures.stays.0) in omega (arith, e, u.short)
+
+pub returns-in-Head-clause-comes : goal.returns-in-Head-clause-comes
+returns-in-Head-clause-comes g c = c.reading.invariant.comes
+
+pub returns-in-Head-clause-head : goal.returns-in-Head-clause-head
+returns-in-Head-clause-head g c = rw c.in-Head.is at c.reading.invariant.judged
+
+pub returns-in-Head-clause-turns : goal.returns-in-Head-clause-turns
+returns-in-Head-clause-turns g c = c.reading.invariant.turns
+
+pub returns-in-Head-clause-pace : goal.returns-in-Head-clause-pace
+returns-in-Head-clause-pace g c = c.reading.invariant.pace
+
+pub returns-in-Head-clause-waits : goal.returns-in-Head-clause-waits
+returns-in-Head-clause-waits g c = c.reading.invariant.waits
+
+pub returns-in-Head-clause-stopped : goal.returns-in-Head-clause-stopped
+returns-in-Head-clause-stopped g c = c.reading.invariant.failed
+
+pub returns-in-Head-clause-goes : goal.returns-in-Head-clause-goes
+returns-in-Head-clause-goes g c = c.reading.invariant.goes
+
+pub returns-in-Faulty-clause-comes : goal.returns-in-Faulty-clause-comes
+returns-in-Faulty-clause-comes g c = c.reading.invariant.comes
+
+pub returns-in-Faulty-clause-turns : goal.returns-in-Faulty-clause-turns
+returns-in-Faulty-clause-turns g c = c.reading.invariant.turns
+
+pub returns-in-Faulty-clause-pace : goal.returns-in-Faulty-clause-pace
+returns-in-Faulty-clause-pace g c = c.reading.invariant.pace
+
+pub returns-in-Faulty-clause-waits : goal.returns-in-Faulty-clause-waits
+returns-in-Faulty-clause-waits g c = c.reading.invariant.waits
+
+pub returns-in-Faulty-clause-stopped : goal.returns-in-Faulty-clause-stopped
+returns-in-Faulty-clause-stopped g c = c.reading.invariant.failed
+
+pub returns-in-Faulty-clause-goes : goal.returns-in-Faulty-clause-goes
+returns-in-Faulty-clause-goes g c = c.reading.invariant.goes
+
+pub fill-requires : goal.fill-requires
+fill-requires g c = record { waits = inl (rw c.in-More.is at c.reading.invariant.judged) }
