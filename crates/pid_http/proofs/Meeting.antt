@@ -30,7 +30,7 @@ use Rattle.pid_http.specs.Answering.{answer_over, history_behind, IsErrandRefuse
 use Rattle.pid_http.specs.Errands.{Errand, Answered, Denied, Obeys, command_sent, command_errand, import_errand}
 use Rattle.pid_http.specs.Known.{Known, Live, Between, Down, IsKnownOf, LivesOn, IsToldOf, ByCalls}
 use Rattle.pid_http.specs.Steps.Going.{Goes, calls_join}
-use Rattle.pid_http.specs.Steps.Replying.{IsCommandMet, IsBodyMet, IsMetBy, answer_or}
+use Rattle.pid_http.specs.Steps.Replying.{CommandsAreCalls, QuestionsAreCalls, IsCommandMet, IsBodyMet, IsMetBy, answer_or}
 use Rattle.pid_http.specs.Serving.{IsErrandMet, IsMetOver, AnsweredOver, NotAsked, NotDone, InDoubt, AreCallsOver, AreUndone}
 
 -- what only asks: its answer by what is found
@@ -59,7 +59,7 @@ is_met_by k now errand (Ok reply) given calls is m = body_met k now errand reply
 is_met_by k now errand (Err e) given calls is m = (given, m)
 
 -- what was found is no refusal
-pub found_is_none : {X P : Type 0} (x : X) (e : Refusal) → Ok x ≡ Err e → P
+found_is_none : {X P : Type 0} (x : X) (e : Refusal) → Ok x ≡ Err e → P
 found_is_none x e is = cc
 
 -- an answer for which the registry is not asked
@@ -119,21 +119,15 @@ module _ {S : Type 0} (store : Ghosts S) where
   abbrev pub one_call : (old new : Registry S store) (call : Call) → Does (showing store) old call new → (is_live old ≡ false → new ≡ old) → LivesOn store old new
   one_call old new call does rests = record { rests = rests; calls = call ∷ []; lead = (new, does, refl) }
 
-  -- what is told of calls that send nothing
   abbrev pub CallsLook : Type 0
-  CallsLook =
-      (old new : Registry S store) → (HasCleanDisk store new → HasCleanDisk store old) → (is_live old ≡ false → new ≡ old)
-      → (HasCleanDisk store new → (h : History) → Shows store old h → Shows store new h) → Does (showing store) old nothing_sent new
+  CallsLook = QuestionsAreCalls store
 
   abbrev pub looked : CallsLook → (old new : Registry S store) → (HasCleanDisk store new → HasCleanDisk store old) → (is_live old ≡ false → new ≡ old)
       → (HasCleanDisk store new → (h : History) → Shows store old h → Shows store new h) → LivesOn store old new
   looked look old new clean rests shown = one_call old new nothing_sent (look old new clean rests shown) rests
 
-  -- what is told of a call that obeys a command
   abbrev pub CallsObey : Type 0
-  CallsObey =
-      (old new : Registry S store) (c : Asked) (result : Result Outcome Refusal) → (HasCleanDisk store new → HasCleanDisk store old) → (is_live old ≡ false → (result ≡ Err refusals.Failed) × (new ≡ old))
-      → (HasCleanDisk store new → (h : History) → Shows store old h → service_obeys.Obeys store result new h c) → Does (showing store) old (sends c result (is_live new)) new
+  CallsObey = CommandsAreCalls store
 
   -- a question
   abbrev pub asked_on : CallsLook → {X : Type 0} (old new : Registry S store) (result : Result X Refusal) (Says : History → X → Type 0) → Answers store old new result Says → LivesOn store old new
@@ -208,11 +202,6 @@ module _ {S : Type 0} (store : Ghosts S) where
     served = record { good = a.rests.clean; leads = λ good k known. met old new result Says format found errand (nothing_sent ∷ []) (refl, tt) q a good k known };
   }
 
-  -- the same, where what was found came by one of several calls
-  pub question_came : CallsLook → {X : Type 0} (old new : Registry S store) (found given : Result X Refusal) (Says : History → X → Type 0) (format : Format) (is : X → Answer) (errand : Errand) → given ≡ found
-      → IsQuestion format is Says errand → Answers store old new found Says → Goes store old new (λ k calls now. IsErrandMet k errand (answer_or format is given) calls now)
-  question_came look old new found given Says format is errand e q a = question_met look old new given Says format is errand q (subst (λ r. Answers store old new r Says) (sym e) a)
-
   -- a call of its own kind, which sends nothing: what it comes to over a history, and where the registry had failed
   pub from_call : (old new : Registry S store) (errand : Errand) (given : Answer) (lives : LivesOn store old new) → AreNothing lives.calls → (HasCleanDisk store new → HasCleanDisk store old)
       → (HasCleanDisk store new → (h : History) → Shows store old h → (now : Known) × IsKnownOf store new now × IsMetOver h errand given lives.calls now)
@@ -224,6 +213,51 @@ module _ {S : Type 0} (store : Ghosts S) where
       leads good (Between before behind) fails =
           (Between before behind, subst (λ r. FailsBetween store r before behind) (sym (lives.rests fails.has_failed)) fails, (Refused (failed fails.has_failed), nothing, refl))
       leads good Down off = (Down, subst (λ r. is_live r ≡ false) (sym (lives.rests off)) off, (Refused (failed off), nothing, refl))
+
+  by_found : {Y : Type 0} (result : Result Y Refusal) (P Q : Y → Type 0) (M : Refusal → Type 0) → ((y : Y) → P y → Q y) → MatchResult result P M → MatchResult result Q M
+  by_found (Ok y) P Q M f m = f y m
+  by_found (Err e) P Q M f m = m
+
+  -- two questions, one after the other
+  pub question_then : CallsLook → {X Y : Type 0} (old mid new : Registry S store) (first : X) (result : Result Y Refusal) (Holds : History → X → Type 0) (Tells Says : History → Y → Type 0) (format : Format) (found : Y → Answer) (errand : Errand)
+      → IsQuestion format found Says errand → ((h : History) (y : Y) → Holds h first → Tells h y → Says h y) → Answers store old mid (Ok first) Holds → Answers store mid new result Tells
+      → Goes store old new (λ k calls now. IsErrandMet k errand (answer_or format found result) calls now)
+  question_then look old mid new first result Holds Tells Says format found errand q both a b =
+      let lives : LivesOn store old new = record {
+        rests = λ off. found_is_none first refusals.Failed (a.failed off).0;
+        calls = nothing_sent ∷ nothing_sent ∷ [];
+        lead = (mid, look old mid a.rests.clean (λ off. (a.failed off).1) (λ good h shows. (a.told good h shows).1), (new, look mid new b.rests.clean (λ off. (b.failed off).1) (λ good h shows. (b.told good h shows).1), refl));
+      } in
+      from_call old new errand (answer_or format found result) lives (refl, (refl, tt)) (λ clean. a.rests.clean (b.rests.clean clean))
+      (λ good h shows.
+      let t = a.told (b.rests.clean good) h shows in
+      let u = b.told good h t.1 in
+      (Live h, u.1, over_history result Says format found errand (nothing_sent ∷ nothing_sent ∷ []) (refl, (refl, tt)) q h (by_found result (Tells h) (Says h) IsMemoryOrStore (λ y tells. both h y t.0 tells) u.0)))
+      (λ off. found_is_none first refusals.Failed (a.failed off).0)
+
+  -- an answer says what follows from it
+  pub answers_by : {Y : Type 0} (old new : Registry S store) (result : Result Y Refusal) (Tells Says : History → Y → Type 0) → ((h : History) (y : Y) → Tells h y → Says h y) → Answers store old new result Tells → Answers store old new result Says
+  answers_by old new result Tells Says f a = record {
+    failed = a.failed;
+    fault = a.fault;
+    lives = a.lives;
+    rests = a.rests;
+    leaves = a.leaves;
+    told = λ good h shows. let t = a.told good h shows in (by_found result (Tells h) (Says h) IsMemoryOrStore (f h) t.0, t.1);
+    caused = a.caused;
+  }
+
+  -- the same of something else that is found
+  pub answers_so : {X Y : Type 0} (old new : Registry S store) (x : X) (y : Y) (Holds : History → X → Type 0) (Says : History → Y → Type 0) → ((h : History) → Holds h x → Says h y) → Answers store old new (Ok x) Holds → Answers store old new (Ok y) Says
+  answers_so old new x y Holds Says f a = record {
+    failed = λ off. found_is_none x refusals.Failed (a.failed off).0;
+    fault = tt;
+    lives = a.lives;
+    rests = a.rests;
+    leaves = a.leaves;
+    told = λ good h shows. let t = a.told good h shows in (f h t.0, t.1);
+    caused = λ good h shows. tt;
+  }
 
   pub turned : (old new : Registry S store) {P Q : Known → List Call → Known → Type 0} → ((k : Known) (calls : List Call) (now : Known) → P k calls now → Q k calls now) → Goes store old new P → Goes store old new Q
   turned old new f g = record {
@@ -238,14 +272,6 @@ module _ {S : Type 0} (store : Ghosts S) where
   pub replied : {E : Type 0} (old new : Registry S store) (errand : Errand) (result : Result Reply E) (given : Answer) → IfOk result (λ reply. IsReplyOf reply given) → Goes store old new (λ k calls now. IsErrandMet k errand given calls now)
       → Goes store old new (λ k calls now. IsMetBy k errand result calls now)
   replied old new errand result given is goes = turned old new (λ k calls now m. is_met_by k now errand result given calls is m) goes
-
-  -- a text that is no path is refused, and nothing is asked
-  pub no_path : {X E : Type 0} (r : Registry S store) (format : Format) (refusal : Refusal) (result : Result Reply E) (found : Result X Refusal) → found ≡ Err refusal → found ≡ Err refusals.BadPath → IfOk result (λ reply. IsReplyOf reply (outcome_answer format (Err refusal)))
-      → Goes store r r (λ k calls now. IsMetBy k (Answered (outcome_answer format (Err refusals.BadPath))) result calls now)
-  no_path r format refusal result found was e is =
-      let same : refusal ≡ refusals.BadPath = cc in
-      let given = outcome_answer format (Err refusals.BadPath) in
-      replied r r (Answered given) result given (subst (λ x. IfOk result (λ reply. IsReplyOf reply (outcome_answer format (Err x)))) same is) (no_call r (λ k calls now. IsErrandMet k (Answered given) given calls now) (answered given))
 
   -- a question of its own kind that is refused
   pub refused_call : CallsLook → {X : Type 0} (old new : Registry S store) (e : Refusal) (Says : History → X → Type 0) (format : Format) (errand : Errand)

@@ -1,33 +1,16 @@
 //! Commands, each with its reply.
 ghost use Rattle.std.specs.Prelude.{◌≡◌, Err};
-ghost use Rattle.pid_service.specs.Files.{asks};
 ghost use Rattle.pid_http_requests.specs.Commands.{command_made};
-ghost use Rattle.pid_http.specs.Errands as errands;
 ghost use Rattle.pid_http.specs.Errands.{sent};
-ghost use Rattle.pid_http.specs.Steps.Replying.{Replies, sending_in};
+ghost use Rattle.pid_http.specs.Steps.Replying.{Commands, sending_in};
 
 use pid_http_replies::{outcome_reply, refusal_reply};
 use pid_http_requests::{Format, Sender, command_in};
 use pid_http_stream::Reply;
-use pid_moderation::{Command, Refusal, Verb};
+use pid_moderation::{Refusal, Verb};
 use pid_service::Registry;
 use sqlite::Alter;
 use std::alloc::{AllocError, Global};
-
-// Has a command obeyed.
-fn obey<S: Alter + Drop>(
-    alloc: Global,
-    registry: &mut Registry<S>,
-    command: Command,
-    format: Format,
-) -> Result<Reply, AllocError>
-    ensures { Replies S.Store registry.old registry.new
-        (errands.Obeys (asks command) format) result }
-{
-    pid_service::laws::clauses_meet_lives::<S>(); // proof only
-    let outcome = registry.obey(command);
-    outcome_reply(alloc, format, outcome)
-}
 
 /// Has the command obeyed that a sender's form makes. The sender is judged before the form.
 pub(crate) fn command<S: Alter + Drop>(
@@ -38,14 +21,17 @@ pub(crate) fn command<S: Alter + Drop>(
     sender: Option<Sender<'_>>,
     body: &[u8],
 ) -> Result<Reply, AllocError>
-    ensures { Replies S.Store registry.old registry.new
+    ensures { Commands S.Store registry.old registry.new
         (sent format (λ s. command_made verb s body.now) (sending_in sender.entry)) result }
 {
     match sender {
         None => refusal_reply(alloc, format, Refusal::BadText),
         Some(sender) => match command_in(alloc, verb, sender, body) {
             Err(refusal) => refusal_reply(alloc, format, refusal),
-            Ok(command) => obey(alloc, registry, command, format),
+            Ok(command) => {
+                let outcome = registry.obey(command);
+                outcome_reply(alloc, format, outcome)
+            }
         },
     }
 }

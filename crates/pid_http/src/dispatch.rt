@@ -18,14 +18,15 @@ use std::alloc::{AllocError, Global};
 pub(crate) fn answer<S: Alter + Drop>(
     alloc: Global,
     registry: &mut Registry<S>,
-    question: Question,
+    question: &Question,
     sender: Option<Sender<'_>>,
     body: &[u8],
 ) -> Result<Reply, AllocError>
     ensures { Replies S.Store registry.old registry.new
-        (errand_for question (sending_in sender.entry) body.now) result }
+        (errand_for question.now (sending_in sender.entry) body.now) result }
 {
-    match question {
+    pid_service::laws::clauses_meet_lives::<S>(); // proof only
+    match *question {
         Question::AnotherMethod => early_reply(alloc, Early::AnotherMethod),
         Question::BadTarget => early_reply(alloc, Early::BadTarget),
         Question::NoRoute => early_reply(alloc, Early::NoRoute),
@@ -46,12 +47,12 @@ pub(crate) fn answer<S: Alter + Drop>(
         Question::Queue { after, format } => queue(alloc, registry, after, format),
         Question::Submissions {
             sought,
-            author,
+            ref author,
             before,
             format,
         } => submissions(alloc, registry, sought, author.as_ref(), before, format),
         Question::Status { format } => status(alloc, registry, format),
-        Question::Rank { who, format } => rank(alloc, registry, &who, format),
+        Question::Rank { ref who, format } => rank(alloc, registry, who, format),
         Question::Command { verb, format } => command(alloc, registry, verb, format, sender, body),
     }
 }

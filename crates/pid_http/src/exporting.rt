@@ -1,7 +1,7 @@
 //! The canonical text of all items, whose length is stated before it is written.
 ghost use Rattle.std.specs.Prelude.{◌≡◌, Ok};
 ghost use Rattle.pid_http.specs.Errands as errands;
-ghost use Rattle.pid_http.specs.Steps.Replying.{Replies};
+ghost use Rattle.pid_http.specs.Steps.Replying.{Asks};
 
 use http::StatusCode;
 use pid_http_replies::refusal_reply;
@@ -16,9 +16,8 @@ pub(crate) fn export<S: Alter + Drop>(
     alloc: Global,
     registry: &mut Registry<S>,
 ) -> Result<Reply, AllocError>
-    ensures { Replies S.Store registry.old registry.new errands.Export result }
+    ensures { Asks S.Store registry.old registry.new errands.Export result }
 {
-    pid_service::laws::clauses_meet_lives::<S>(); // proof only
     match registry.export_length() {
         Ok(length) => Ok(Reply {
             head: ReplyHead {

@@ -61,7 +61,7 @@ impl<S: Alter + Drop> Handler for Service<'_, '_, S> {
         head: &Head<'_>,
         body: &[u8],
     ) -> Result<Reply, NoReply> {
-        match answer(self.alloc, self.registry, question, sender_of(head), body) {
+        match answer(self.alloc, self.registry, &question, sender_of(head), body) {
             Ok(reply) => Ok(reply),
             Err(_) => Err(NoReply),
         }

@@ -12,7 +12,7 @@ ghost use Rattle.pid_http.specs.Steps.Replying.{RepliesToFile, sending_in};
 use pid_http_replies::outcome_reply;
 use pid_http_requests::{Format, Sender};
 use pid_http_stream::{LONGEST_BODY, NoReply, Reply};
-use pid_ident::{Account, Input, Key, WordFault};
+use pid_ident::{Account, Input, Key};
 use pid_moderation::{Refusal, Reply as Outcome};
 use pid_reader::skip_input;
 use pid_service::{ImportEnd, Registry};
@@ -73,30 +73,20 @@ fn take_in<S: Alter + Drop, B: Input>(
     }
 }
 
-// The key, if there is one.
-fn key_of(alloc: Global, key: Option<&str>) -> Result<Option<Key>, WordFault>
-    ensures { IfOk result (λ k. k ≡ option_copied key.entry) }
-{
-    match key {
-        None => Ok(None),
-        Some(text) => match Key::of(alloc, text) {
-            Ok(key) => Ok(Some(key)),
-            Err(fault) => Err(fault),
-        },
-    }
-}
-
 // The account and the key of a sender; none if there is no memory for them.
 fn owner_of(alloc: Global, sender: Sender<'_>) -> Option<(Account, Option<Key>)>
     ensures { IfSome result (λ owner. (owner.0 ≡ sender.entry.account.now)
         × (owner.1 ≡ option_copied sender.entry.key)) }
 {
-    match Account::of(alloc, sender.account) {
-        Ok(account) => match key_of(alloc, sender.key) {
-            Ok(key) => Some((account, key)),
+    let Ok(account) = Account::of(alloc, sender.account) else {
+        return None;
+    };
+    match sender.key {
+        None => Some((account, None)),
+        Some(text) => match Key::of(alloc, text) {
+            Ok(key) => Some((account, Some(key))),
             Err(_) => None,
         },
-        Err(_) => None,
     }
 }
 

@@ -2,7 +2,7 @@
 ghost use Rattle.std.specs.Prelude.{◌≡◌, option_copied};
 ghost use Rattle.pid_http.specs.Errands as errands;
 ghost use Rattle.pid_http.specs.Errands.{submissions_for};
-ghost use Rattle.pid_http.specs.Steps.Replying.{Replies};
+ghost use Rattle.pid_http.specs.Steps.Replying.{Asks};
 
 use pid_http_replies::{queue_reply, refusal_reply, status_reply, submissions_reply};
 use pid_http_requests::{Format, Sought};
@@ -20,9 +20,8 @@ pub(crate) fn queue<S: Alter + Drop>(
     after: u32,
     format: Format,
 ) -> Result<Reply, AllocError>
-    ensures { Replies S.Store registry.old registry.new (errands.Queue after format) result }
+    ensures { Asks S.Store registry.old registry.new (errands.Queue after format) result }
 {
-    pid_service::laws::clauses_meet_lives::<S>(); // proof only
     match registry.queue(after) {
         Ok(page) => queue_reply(alloc, format, &page),
         Err(refusal) => refusal_reply(alloc, format, refusal),
@@ -39,16 +38,15 @@ pub(crate) fn submissions<S: Alter + Drop>(
     before: u32,
     format: Format,
 ) -> Result<Reply, AllocError>
-    ensures { Replies S.Store registry.old registry.new
+    ensures { Asks S.Store registry.old registry.new
         (submissions_for format sought (option_copied author.entry) before) result }
 {
-    pid_service::laws::clauses_meet_lives::<S>(); // proof only
-    let found = match sought {
-        Sought::Anywhere => registry.submissions(None, author, before),
-        Sought::At(path) => registry.submissions(Some(&path), author, before),
-        Sought::BadPath => Err(Refusal::BadPath),
+    let path = match sought {
+        Sought::Anywhere => None,
+        Sought::At(path) => Some(path),
+        Sought::BadPath => return refusal_reply(alloc, format, Refusal::BadPath),
     };
-    match found {
+    match registry.submissions(path.as_ref(), author, before) {
         Ok(page) => submissions_reply(alloc, format, &page),
         Err(refusal) => refusal_reply(alloc, format, refusal),
     }
@@ -60,9 +58,8 @@ pub(crate) fn status<S: Alter + Drop>(
     registry: &mut Registry<S>,
     format: Format,
 ) -> Result<Reply, AllocError>
-    ensures { Replies S.Store registry.old registry.new (errands.Status format) result }
+    ensures { Asks S.Store registry.old registry.new (errands.Status format) result }
 {
-    pid_service::laws::clauses_meet_lives::<S>(); // proof only
     match registry.status() {
         Ok(status) => status_reply(alloc, format, &status),
         Err(refusal) => refusal_reply(alloc, format, refusal),

@@ -1,20 +1,21 @@
 -- What the functions that answer one request say of their reply.
 use Rattle.std.specs.Prelude.{◌≡◌, ◌≤◌, ◌⊎◌, ℕ, true, false, List, [], ◌∷◌, length}
 use Rattle.std.specs.Prelude.{Option, Some, None, Result}
-use Rattle.std.specs.Prelude.{Ok, Err, IsErrAnd, MatchResult, Vec, map, option_map, option_copied}
-use Rattle.std.specs.declared.alloc.Global.{Global}
+use Rattle.std.specs.Prelude.{Ok, Err, IsErrAnd, MatchResult, option_copied}
 use Rattle.std.specs.Io.KnownBytes.{IsAtEnd}
 use Rattle.sqlite_trees.specs.declared.store.Store.{Ghosts}
-use Rattle.pid_service_laws.specs.Calls.{AreNothing, Call, obeyed}
-use Rattle.pid_moderation.specs.History.{Asked}
-use Rattle.pid_moderation.specs.ItemPairs.{pair_of}
+use Rattle.pid_service_laws.specs.Calls.{AreNothing, Call, nothing_sent, obeyed}
+use Rattle.pid_service_laws.specs.Registries.{Does}
+use Rattle.pid_moderation.specs.History.{Asked, History}
 use Rattle.pid_moderation.specs.Judgement.{answer, judge, after}
 use Rattle.pid_moderation.specs.Views.{views_of}
 use Rattle.pid_moderation.specs.declared.command.Reply.{Reply as Outcome}
-use Rattle.pid_moderation.specs.declared.lists.Item.{Item}
 use Rattle.pid_moderation.specs.declared.refusal.Refusal.{Refusal}
 use Rattle.pid_moderation.specs.declared.refusal.Refusal.TheVariants as refusals
-use Rattle.pid_service.specs.Histories.{IsMemoryOrStore}
+use Rattle.pid_service.specs.Histories.{IsMemoryOrStore, Shows}
+use Rattle.pid_service.specs.Lives.{showing}
+use Rattle.pid_service.specs.Obeying.{Obeys}
+use Rattle.pid_service.specs.Registries.{HasCleanDisk, is_live}
 use Rattle.pid_service.specs.declared.registry.Registry.{Registry}
 use Rattle.pid_http_stream.specs.BodyLengths.{longest_body}
 use Rattle.pid_http_stream.specs.Replies.{Answer, answer_with}
@@ -44,10 +45,6 @@ abbrev pub answer_or : {X : Type 0} → Format → (X → Answer) → Result X R
 answer_or format found (Ok x) = found x
 answer_or format found (Err refusal) = outcome_answer format (Err refusal)
 
--- the items that were found, by their texts
-abbrev pub pairs_found : Option (Vec Item Global) → Option (List (List ℕ × List ℕ))
-pairs_found found = option_map (λ items. map pair_of items.items) found
-
 -- what a command is answered, by which call, and what is known of the registry then
 abbrev pub IsCommandMet : Asked → Known → Result Outcome Refusal → List Call → Known → Type 0
 IsCommandMet c (Live h) result calls k =
@@ -64,6 +61,21 @@ abbrev pub IsBodyMet : Known → Errand → ReplyHead → ReplyBody → List Cal
 IsBodyMet k errand head (Bytes body) calls now = IsErrandMet k errand
     (answer_with head.status head.content body.items) calls now
 IsBodyMet k errand head (Written told) calls now = IsPromised k errand head told calls now
+
+-- each question is a call of the registry's session that sends nothing
+abbrev pub QuestionsAreCalls : {S : Type 0} → Ghosts S → Type 0
+QuestionsAreCalls {S} store = (old new : Registry S store)
+    → (HasCleanDisk store new → HasCleanDisk store old) → (is_live old ≡ false → new ≡ old)
+    → (HasCleanDisk store new → (h : History) → Shows store old h → Shows store new h)
+    → Does (showing store) old nothing_sent new
+
+-- each command that is obeyed is a call of the session that sends it
+abbrev pub CommandsAreCalls : {S : Type 0} → Ghosts S → Type 0
+CommandsAreCalls {S} store = (old new : Registry S store) (c : Asked)
+    (result : Result Outcome Refusal) → (HasCleanDisk store new → HasCleanDisk store old)
+    → (is_live old ≡ false → (result ≡ Err refusals.Failed) × (new ≡ old))
+    → (HasCleanDisk store new → (h : History) → Shows store old h → Obeys store result new h c)
+    → Does (showing store) old (obeyed c result (is_live new)) new
 
 -- the reply is an answer; or memory ran out for it, and what it is a reply to was done
 abbrev pub IsMetBy : {E : Type 0} → Known → Errand → Result Reply E → List Call → Known → Type 0
@@ -87,7 +99,17 @@ abbrev pub Replies : {S E : Type 0} → (store : Ghosts S) → Registry S store 
 Replies store old new errand result = Goes store old new
     (λ k calls now. IsMetBy k errand result calls now)
 
--- the same, if the body is a file that is read as it comes, known and not too long
+-- what comes of a question, if each is a call of the registry's session
+abbrev pub Asks : {S E : Type 0} → (store : Ghosts S) → Registry S store → Registry S store
+    → Errand → Result Reply E → Type 0
+Asks store old new errand result = QuestionsAreCalls store → Replies store old new errand result
+
+-- what comes of a command, if each that is obeyed is a call of the session
+abbrev pub Commands : {S E : Type 0} → (store : Ghosts S) → Registry S store → Registry S store
+    → Errand → Result Reply E → Type 0
+Commands store old new errand result = CommandsAreCalls store → Replies store old new errand result
+
+-- what comes of it if the body is a file that is read as it comes, known and not too long
 abbrev pub RepliesToFile : {S E : Type 0} → (store : Ghosts S) → Registry S store
     → Registry S store → Option (List ℕ) → Option (List ℕ) → (List ℕ → Errand) → Result Reply E
     → Type 0

@@ -35,37 +35,37 @@ returns-in-BadQuery g c =
     rw c.in-BadQuery.is (replied _ _ _ (Answered given) _ given c.early_reply-in-BadQuery.ensures (no_call _ _ _ (answered given)))
 
 pub returns-in-Export : goal.returns-in-Export
-returns-in-Export g c = rw c.in-Export.is c.export.ensures
+returns-in-Export g c = rw c.in-Export.is (c.export.ensures c.clauses_meet_lives.ensures.looks)
 
 pub returns-in-Read : goal.returns-in-Read
-returns-in-Read g c = rw c.in-Read.is c.read.ensures
+returns-in-Read g c = rw c.in-Read.is (c.read.ensures c.clauses_meet_lives.ensures.looks)
 
 pub returns-in-Children : goal.returns-in-Children
-returns-in-Children g c = rw c.in-Children.is c.children.ensures
+returns-in-Children g c = rw c.in-Children.is (c.children.ensures c.clauses_meet_lives.ensures.looks)
 
 pub returns-in-Lookup : goal.returns-in-Lookup
-returns-in-Lookup g c = rw c.in-Lookup.is c.lookup.ensures
+returns-in-Lookup g c = rw c.in-Lookup.is (c.lookup.ensures c.clauses_meet_lives.ensures.looks)
 
 pub returns-in-Submission : goal.returns-in-Submission
-returns-in-Submission g c = rw c.in-Submission.is c.submission.ensures
+returns-in-Submission g c = rw c.in-Submission.is (c.submission.ensures c.clauses_meet_lives.ensures.looks)
 
 pub returns-in-Pending : goal.returns-in-Pending
-returns-in-Pending g c = rw c.in-Pending.is c.pending.ensures
+returns-in-Pending g c = rw c.in-Pending.is (c.pending.ensures c.clauses_meet_lives.ensures.looks)
 
 pub returns-in-Changes : goal.returns-in-Changes
-returns-in-Changes g c = rw c.in-Changes.is c.changes.ensures
+returns-in-Changes g c = rw c.in-Changes.is (c.changes.ensures c.clauses_meet_lives.ensures.looks)
 
 pub returns-in-Queue : goal.returns-in-Queue
-returns-in-Queue g c = rw c.in-Queue.is c.queue.ensures
+returns-in-Queue g c = rw c.in-Queue.is (c.queue.ensures c.clauses_meet_lives.ensures.looks)
 
 pub returns-in-Status : goal.returns-in-Status
-returns-in-Status g c = rw c.in-Status.is c.status.ensures
+returns-in-Status g c = rw c.in-Status.is (c.status.ensures c.clauses_meet_lives.ensures.looks)
 
 pub returns-in-Rank : goal.returns-in-Rank
-returns-in-Rank g c = rw c.in-Rank.is c.rank.ensures
+returns-in-Rank g c = rw c.in-Rank.is (rw c.in-Rank.is at (c.rank.ensures c.clauses_meet_lives.ensures.looks))
 
 pub returns-in-Command : goal.returns-in-Command
-returns-in-Command g c = rw c.in-Command.is c.command.ensures
+returns-in-Command g c = rw c.in-Command.is (c.command.ensures c.clauses_meet_lives.ensures.obeys)
 
 pub returns-in-Submissions : goal.returns-in-Submissions
-returns-in-Submissions g c = rw (c.in-Submissions.is, ← c.as_ref.ensures.value) c.submissions.ensures
+returns-in-Submissions g c = rw (c.in-Submissions.is, ← c.as_ref.ensures.value) (rw c.in-Submissions.is at (c.submissions.ensures c.clauses_meet_lives.ensures.looks))

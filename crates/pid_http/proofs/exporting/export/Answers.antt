@@ -6,7 +6,7 @@ use Rattle.pid_http.proofs.Meeting.{asked_on, refused_call, replied}
 use Rattle.pid_http.proofs.exporting.export.Goals as goal
 
 pub returns-in-Ok : goal.returns-in-Ok
-returns-in-Ok g c = length_told _ _ _ _ _ (asked_on _ c.clauses_meet_lives.ensures.looks _ _ _ _ c.in-Ok.ensures.answers) refl refl c.in-Ok.ensures.answers (refl, tt)
+returns-in-Ok g c = λ looks. length_told _ _ _ _ _ (asked_on _ looks _ _ _ _ c.in-Ok.ensures.answers) refl refl c.in-Ok.ensures.answers (refl, tt)
 
 pub returns-in-Err : goal.returns-in-Err
-returns-in-Err g c = replied _ _ _ Export _ _ c.refusal_reply.ensures (refused_call _ c.clauses_meet_lives.ensures.looks _ _ _ _ Json Export (λ x. (refl, refl)) refl c.in-Err.ensures.answers)
+returns-in-Err g c = λ looks. replied _ _ _ Export _ _ c.refusal_reply.ensures (refused_call _ looks _ _ _ _ Json Export (λ x. (refl, refl)) refl c.in-Err.ensures.answers)

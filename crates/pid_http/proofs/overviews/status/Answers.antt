@@ -17,7 +17,7 @@ question format = record {
 }
 
 pub returns-in-Ok : goal.returns-in-Ok
-returns-in-Ok g c = replied _ _ _ _ _ _ c.status_reply.ensures (question_met _ c.clauses_meet_lives.ensures.looks _ _ _ _ _ _ _ (question c.args.format) c.in-Ok.ensures.answers)
+returns-in-Ok g c = λ looks. replied _ _ _ _ _ _ c.status_reply.ensures (question_met _ looks _ _ _ _ _ _ _ (question c.args.format) c.in-Ok.ensures.answers)
 
 pub returns-in-Err : goal.returns-in-Err
-returns-in-Err g c = replied _ _ _ _ _ _ c.refusal_reply.ensures (question_met _ c.clauses_meet_lives.ensures.looks _ _ _ _ _ _ _ (question c.args.format) c.in-Err.ensures.answers)
+returns-in-Err g c = λ looks. replied _ _ _ _ _ _ c.refusal_reply.ensures (question_met _ looks _ _ _ _ _ _ _ (question c.args.format) c.in-Err.ensures.answers)

@@ -1,4 +1,8 @@
-use Rattle.std.proofs.Common.{◌≡◌, ℕ, Option, None, Some, refl, sym, ap, ◌∙◌}
+use Rattle.std.proofs.Common.{◌≡◌, ℕ, Option, None, Some, Err, refl, ap, ◌∙◌}
+use Rattle.pid_moderation.specs.History.{History}
+use Rattle.pid_moderation.specs.declared.refusal.Refusal.TheVariants.{BadPath}
+use Rattle.pid_http_replies.specs.Outcomes.{outcome_answer}
+use Rattle.pid_http.specs.Errands.{Answered}
 use Rattle.pid_file.specs.declared.path.Path.{Path}
 use Rattle.pid_moderation.specs.Views.{views_of}
 use Rattle.pid_moderation.specs.ChangePages.{changes_in, page_of, start_text}
@@ -8,9 +12,9 @@ use Rattle.pid_http_requests.specs.declared.format.Format.{Format}
 use Rattle.pid_http_replies.specs.ChangeAnswers.{changes_answer}
 use Rattle.pid_http.specs.Answering.{answer_over}
 use Rattle.pid_http.specs.Errands as errands
-use Rattle.pid_http.proofs.Meeting.{IsQuestion, found_is_none, no_path, question_came, replied}
+use Rattle.pid_http.proofs.Meeting.{IsQuestion, answered, answers_by, no_call, question_met, replied}
 use Rattle.pid_http.proofs.queries.changes.Goals as goal
-use Rattle.pid_http.proofs.queries.changes.Goals.{in-First, in-Behind, in-BadPath}
+use Rattle.pid_http.proofs.queries.changes.Goals.{in-First, in-Behind}
 
 question : (since : ℕ) (after : Option Path) (format : Format) → IsQuestion format (λ (changes : Changes). changes_answer format (page_of changes)) (λ h (changes : Changes). page_of changes ≡ changes_in PAGE since (start_text after) (views_of h)) (errands.Changes since after format)
 unfolding answer_over
@@ -20,16 +24,23 @@ question since after format = record {
   no_command = refl;
 }
 
+-- the path that was asked for
+over : (since : ℕ) (after other : Option Path) → after ≡ other → (h : History) (changes : Changes) → page_of changes ≡ changes_in PAGE since (start_text after) (views_of h) → page_of changes ≡ changes_in PAGE since (start_text other) (views_of h)
+over since after other e h changes told = told ∙ ap (λ (p : Option Path). changes_in PAGE since (start_text p) (views_of h)) e
+
+pub returns-in-BadPath : goal.returns-in-BadPath
+returns-in-BadPath g c = λ looks.
+    let given = outcome_answer c.args.format (Err BadPath) in
+    rw c.in-BadPath.is (replied _ _ _ (Answered given) _ given c.refusal_reply.ensures (no_call _ _ _ (answered given)))
+
 pub returns-in-Ok : goal.returns-in-Ok
-returns-in-Ok g c = elim c.match-start.branch [
-  | in-First w ↦ (rw (w.registry-is, w.in-First.is) (replied _ _ _ _ _ _ c.changes_reply.ensures (question_came _ c.clauses_meet_lives.ensures.looks _ _ _ _ _ _ _ _ (sym c.in-Ok.is ∙ w.found-is) (question c.args.since None c.args.format) w.changes-found.ensures.answers)))
-  | in-Behind w ↦ (rw (w.registry-is, w.in-Behind.is) (replied _ _ _ _ _ _ c.changes_reply.ensures (question_came _ c.clauses_meet_lives.ensures.looks _ _ _ _ _ _ _ _ (sym c.in-Ok.is ∙ w.found-is) (question c.args.since (Some w.in-Behind.path) c.args.format) w.changes-found-in-Behind.ensures.answers)))
-  | in-BadPath w ↦ found_is_none _ _ (sym c.in-Ok.is ∙ w.found-is)
+returns-in-Ok g c = λ looks. elim c.match-start.branch [
+  | in-First w ↦ (rw w.in-First.is (replied _ _ _ _ _ _ c.changes_reply.ensures (question_met _ looks _ _ _ _ _ _ _ (question c.args.since None c.args.format) (answers_by _ _ _ _ _ _ (over c.args.since _ None (c.as_ref.ensures.value ∙ w.after-is)) c.in-Ok.ensures.answers))))
+  | in-Behind w ↦ (rw w.in-Behind.is (replied _ _ _ _ _ _ c.changes_reply.ensures (question_met _ looks _ _ _ _ _ _ _ (question c.args.since (Some w.in-Behind.path) c.args.format) (answers_by _ _ _ _ _ _ (over c.args.since _ (Some w.in-Behind.path) (c.as_ref.ensures.value ∙ w.after-is)) c.in-Ok.ensures.answers))))
 ]
 
 pub returns-in-Err : goal.returns-in-Err
-returns-in-Err g c = elim c.match-start.branch [
-  | in-First w ↦ (rw (w.registry-is, w.in-First.is) (replied _ _ _ _ _ _ c.refusal_reply.ensures (question_came _ c.clauses_meet_lives.ensures.looks _ _ _ _ _ _ _ _ (sym c.in-Err.is ∙ w.found-is) (question c.args.since None c.args.format) w.changes-found.ensures.answers)))
-  | in-Behind w ↦ (rw (w.registry-is, w.in-Behind.is) (replied _ _ _ _ _ _ c.refusal_reply.ensures (question_came _ c.clauses_meet_lives.ensures.looks _ _ _ _ _ _ _ _ (sym c.in-Err.is ∙ w.found-is) (question c.args.since (Some w.in-Behind.path) c.args.format) w.changes-found-in-Behind.ensures.answers)))
-  | in-BadPath w ↦ (rw (w.registry-is, w.in-BadPath.is) (no_path _ _ _ _ _ _ c.in-Err.is w.found-is c.refusal_reply.ensures))
+returns-in-Err g c = λ looks. elim c.match-start.branch [
+  | in-First w ↦ (rw w.in-First.is (replied _ _ _ _ _ _ c.refusal_reply-in-Err.ensures (question_met _ looks _ _ _ _ _ _ _ (question c.args.since None c.args.format) (answers_by _ _ _ _ _ _ (over c.args.since _ None (c.as_ref.ensures.value ∙ w.after-is)) c.in-Err.ensures.answers))))
+  | in-Behind w ↦ (rw w.in-Behind.is (replied _ _ _ _ _ _ c.refusal_reply-in-Err.ensures (question_met _ looks _ _ _ _ _ _ _ (question c.args.since (Some w.in-Behind.path) c.args.format) (answers_by _ _ _ _ _ _ (over c.args.since _ (Some w.in-Behind.path) (c.as_ref.ensures.value ∙ w.after-is)) c.in-Err.ensures.answers))))
 ]

@@ -1,20 +1,26 @@
-use Rattle.std.proofs.Common.{◌≡◌, refl, sym, ap, subst, ◌∙◌, map, Option, None, Some, Ok}
+use Rattle.std.proofs.Common.{◌≡◌, ℕ, List, refl, ap, subst, ◌∙◌, map, Option, None, Some, Ok, Err}
 use Rattle.std.specs.Prelude.{Vec, option_map}
 use Rattle.std.specs.declared.alloc.Global.{Global}
+use Rattle.pid_ident.specs.PathTexts.{path_text}
 use Rattle.pid_file.specs.declared.path.Path.{Path}
+use Rattle.pid_moderation.specs.Children.{children_of}
+use Rattle.pid_moderation.specs.History.{History}
+use Rattle.pid_moderation.specs.Items.{name_at}
 use Rattle.pid_moderation.specs.Views.{items_of}
 use Rattle.pid_moderation.specs.ItemPairs.{pair_of}
 use Rattle.pid_moderation.specs.declared.lists.Item.{Item}
+use Rattle.pid_moderation.specs.declared.refusal.Refusal.TheVariants.{BadPath}
 use Rattle.pid_http_requests.specs.declared.format.Format.{Format}
 use Rattle.pid_http_replies.specs.ItemAnswers.{children_answer}
+use Rattle.pid_http_replies.specs.Outcomes.{outcome_answer}
 use Rattle.pid_http_replies.specs.Replying.{MakesReply}
-use Rattle.pid_http.specs.Answering.{answer_over, children_below, children_or_missing}
-use Rattle.pid_http.specs.Errands.{Children}
-use Rattle.pid_http.proofs.Meeting.{IsQuestion, found_is_none, no_path, question_came, replied}
+use Rattle.pid_http.specs.Answering.{answer_over, children_below, children_or_missing, items_if}
+use Rattle.pid_http.specs.Errands.{Answered, Children}
+use Rattle.pid_http.proofs.Meeting.{IsQuestion, answered, answers_by, answers_so, no_call, question_met, question_then, refused_call, replied}
 use Rattle.pid_http.proofs.queries.children.Goals as goal
-use Rattle.pid_http.proofs.queries.children.Goals.{in-Top, in-Below, in-BadPath}
+use Rattle.pid_http.proofs.queries.children.Goals.{in-Top, in-Below+in-Ok-Some}
 
-question : (above : Option Path) (format : Format) → IsQuestion format (λ (items : Option (Vec Item Global)). children_or_missing format (option_map (λ (i : Vec Item Global). map pair_of i.items) items)) (λ h found. option_map (λ (i : Vec Item Global). map pair_of i.items) found ≡ children_below above (items_of h)) (Children above format)
+question : (above : Option Path) (format : Format) → IsQuestion format (λ (items : Vec Item Global). children_answer format (map pair_of items.items)) (λ h (items : Vec Item Global). Some (map pair_of items.items) ≡ children_below above (items_of h)) (Children above format)
 unfolding answer_over
 question above format = record {
   over = λ h x e. ap (children_or_missing format) e;
@@ -22,28 +28,51 @@ question above format = record {
   no_command = refl;
 }
 
-pub returns-in-Ok-Some : goal.returns-in-Ok-Some
-returns-in-Ok-Some g c =
-    let is = subst (λ items. MakesReply c.children_reply.result (children_answer c.args.format (map pair_of items))) c.deref.ensures.value c.children_reply.ensures in
-    let e = sym (c.in-Ok-Some.is ∙ ap Ok c.in-Ok-Some.field-0-is) in
-    elim c.match-above.branch [
-      | in-Top w ↦ (rw (w.registry-is, w.in-Top.is) (replied _ _ _ _ _ _ is (question_came _ c.clauses_meet_lives.ensures.looks _ _ _ _ _ _ _ _ (e ∙ w.found-is) (question None c.args.format) w.children_top-found.ensures)))
-      | in-Below w ↦ (rw (w.registry-is, w.in-Below.is) (replied _ _ _ _ _ _ is (question_came _ c.clauses_meet_lives.ensures.looks _ _ _ _ _ _ _ _ (e ∙ w.found-is) (question (Some w.in-Below.path) c.args.format) w.children_under-found.ensures)))
-      | in-BadPath w ↦ found_is_none _ _ (e ∙ w.found-is)
-    ]
+-- where nothing is at the path
+missing : (path : Path) (format : Format) → IsQuestion format (λ (x : Unit {0}). children_or_missing format None) (λ h (x : Unit {0}). None ≡ children_below (Some path) (items_of h)) (Children (Some path) format)
+unfolding answer_over
+missing path format = record {
+  over = λ h x e. ap (children_or_missing format) e;
+  refused = λ e. (refl, refl);
+  no_command = refl;
+}
+
+at_top : (under : Option Path) → under ≡ None → (h : History) (items : Vec Item Global) → map pair_of items.items ≡ children_of (option_map path_text under) (items_of h) → Some (map pair_of items.items) ≡ children_below None (items_of h)
+at_top under e h items told = ap Some (told ∙ ap (λ (u : Option Path). children_of (option_map path_text u) (items_of h)) e)
+
+below : (path : Path) (under : Option Path) → under ≡ Some path → (name : List ℕ) (h : History) (items : Vec Item Global) → Some name ≡ name_at (path_text path) (items_of h) → map pair_of items.items ≡ children_of (option_map path_text under) (items_of h)
+    → Some (map pair_of items.items) ≡ children_below (Some path) (items_of h)
+below path under e name h items is told =
+    ap Some (told ∙ ap (λ (u : Option Path). children_of (option_map path_text u) (items_of h)) e)
+    ∙ ap (λ (n : Option (List ℕ)). items_if n (children_of (Some (path_text path)) (items_of h))) is
+
+pub returns-in-BadPath : goal.returns-in-BadPath
+returns-in-BadPath g c = λ looks.
+    let given = outcome_answer c.args.format (Err BadPath) in
+    rw c.in-BadPath.is (replied _ _ _ (Answered given) _ given c.refusal_reply-in-BadPath.ensures (no_call _ _ _ (answered given)))
 
 pub returns-in-Ok-None : goal.returns-in-Ok-None
-returns-in-Ok-None g c =
-    let e = sym (c.in-Ok-None.is ∙ ap Ok c.in-Ok-None.field-0-is) in
-    elim c.match-above.branch [
-      | in-Top w ↦ (rw (w.registry-is, w.in-Top.is) (replied _ _ _ _ _ _ c.missing_reply.ensures (question_came _ c.clauses_meet_lives.ensures.looks _ _ _ _ _ _ _ _ (e ∙ w.found-is) (question None c.args.format) w.children_top-found.ensures)))
-      | in-Below w ↦ (rw (w.registry-is, w.in-Below.is) (replied _ _ _ _ _ _ c.missing_reply.ensures (question_came _ c.clauses_meet_lives.ensures.looks _ _ _ _ _ _ _ _ (e ∙ w.found-is) (question (Some w.in-Below.path) c.args.format) w.children_under-found.ensures)))
-      | in-BadPath w ↦ found_is_none _ _ (e ∙ w.found-is)
-    ]
+returns-in-Ok-None g c = λ looks.
+    rw c.in-Below.is (replied _ _ _ _ _ _ c.missing_reply.ensures (question_met _ looks _ _ (Ok tt) _ _ _ _ (missing c.in-Below.path c.args.format)
+    (answers_so _ _ _ None tt _ _ (λ h is. ap (λ (n : Option (List ℕ)). items_if n (children_of (Some (path_text c.in-Below.path)) (items_of h))) is) (rw c.in-Ok-None.field-0-is at c.in-Ok-None.ensures.answers))))
 
 pub returns-in-Err : goal.returns-in-Err
-returns-in-Err g c = elim c.match-above.branch [
-  | in-Top w ↦ (rw (w.registry-is, w.in-Top.is) (replied _ _ _ _ _ _ c.refusal_reply.ensures (question_came _ c.clauses_meet_lives.ensures.looks _ _ _ _ _ _ _ _ (sym c.in-Err.is ∙ w.found-is) (question None c.args.format) w.children_top-found.ensures)))
-  | in-Below w ↦ (rw (w.registry-is, w.in-Below.is) (replied _ _ _ _ _ _ c.refusal_reply.ensures (question_came _ c.clauses_meet_lives.ensures.looks _ _ _ _ _ _ _ _ (sym c.in-Err.is ∙ w.found-is) (question (Some w.in-Below.path) c.args.format) w.children_under-found.ensures)))
-  | in-BadPath w ↦ (rw (w.registry-is, w.in-BadPath.is) (no_path _ _ _ _ _ _ c.in-Err.is w.found-is c.refusal_reply.ensures))
+returns-in-Err g c = λ looks.
+    let q = question (Some c.in-Below.path) c.args.format in
+    rw c.in-Below.is (replied _ _ _ _ _ _ c.refusal_reply.ensures (refused_call _ looks _ _ _ _ c.args.format (Children (Some c.in-Below.path) c.args.format) q.refused q.no_command c.in-Err.ensures.answers))
+
+pub returns-in-Ok : goal.returns-in-Ok
+returns-in-Ok g c = λ looks.
+    let is = subst (λ items. MakesReply c.children_reply.result (children_answer c.args.format (map pair_of items))) c.deref.ensures.value c.children_reply.ensures in
+    elim c.match-above.branch [
+      | in-Top w ↦ (rw w.in-Top.is (replied _ _ _ _ _ _ is (question_met _ looks _ _ _ _ _ _ _ (question None c.args.format) (answers_by _ _ _ _ _ _ (at_top c.match-above.under w.under-is) (rw w.registry-is at c.in-Ok.ensures.answers)))))
+      | in-Below+in-Ok-Some w ↦ (rw w.in-Below.is (replied _ _ _ _ _ _ is
+          (question_then _ looks _ _ _ _ _ _ _ _ _ _ _ (question (Some w.in-Below.path) c.args.format) (below w.in-Below.path c.match-above.under w.under-is _) (rw w.in-Ok-Some.field-0-is at w.in-Ok-Some.ensures.answers) (rw w.registry-is at c.in-Ok.ensures.answers))))
+    ]
+
+pub returns-in-Err-children : goal.returns-in-Err-children
+returns-in-Err-children g c = λ looks. elim c.match-above.branch [
+  | in-Top w ↦ (rw w.in-Top.is (replied _ _ _ _ _ _ c.refusal_reply-in-Err-children.ensures (question_met _ looks _ _ _ _ _ _ _ (question None c.args.format) (answers_by _ _ _ _ _ _ (at_top c.match-above.under w.under-is) (rw w.registry-is at c.in-Err-children.ensures.answers)))))
+  | in-Below+in-Ok-Some w ↦ (rw w.in-Below.is (replied _ _ _ _ _ _ c.refusal_reply-in-Err-children.ensures
+      (question_then _ looks _ _ _ _ _ _ _ _ _ _ _ (question (Some w.in-Below.path) c.args.format) (below w.in-Below.path c.match-above.under w.under-is _) (rw w.in-Ok-Some.field-0-is at w.in-Ok-Some.ensures.answers) (rw w.registry-is at c.in-Err-children.ensures.answers))))
 ]

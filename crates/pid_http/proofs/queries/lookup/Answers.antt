@@ -40,10 +40,10 @@ failed : (l : LookupQuery) (result : Result Found (LookupRefusal Refusal)) → r
 failed l result e = (refl, ap lookup_answer e)
 
 pub returns : goal.returns
-returns g c =
+returns g c = λ looks.
     let l = c.args.query in
     let e = c.lookup-found.ensures in
     replied _ _ _ _ _ _ c.lookup_reply.ensures (from_call _ _ _ _ (lookup_answer c.lookup-found.result)
-    (looked _ c.clauses_meet_lives.ensures.looks _ _ e.clean (λ off. (e.failed off).1) (λ good h shows. e.shown h shows)) (refl, tt) e.clean
+    (looked _ looks _ _ e.clean (λ off. (e.failed off).1) (λ good h shows. e.shown h shows)) (refl, tt) e.clean
     (λ clean h shows. (Live h, e.shown h shows, over l h c.lookup-found.result (e.answer clean h shows) (e.bad_flags shows.lives) (λ f is. subst (λ b. MayGive b f) shows.lives (e.fault f is))))
     (λ off. failed l c.lookup-found.result (e.failed off).0))

@@ -22,9 +22,9 @@ question after format = record {
 }
 
 pub returns-in-Ok : goal.returns-in-Ok
-returns-in-Ok g c =
+returns-in-Ok g c = λ looks.
     let is = subst (λ items. MakesReply c.pending_reply.result (pending_answer c.args.format (map told_of items))) c.deref.ensures.value c.pending_reply.ensures in
-    replied _ _ _ _ _ _ is (question_met _ c.clauses_meet_lives.ensures.looks _ _ _ _ _ _ _ (question c.args.after c.args.format) c.in-Ok.ensures.answers)
+    replied _ _ _ _ _ _ is (question_met _ looks _ _ _ _ _ _ _ (question c.args.after c.args.format) c.in-Ok.ensures.answers)
 
 pub returns-in-Err : goal.returns-in-Err
-returns-in-Err g c = replied _ _ _ _ _ _ c.refusal_reply.ensures (question_met _ c.clauses_meet_lives.ensures.looks _ _ _ _ _ _ _ (question c.args.after c.args.format) c.in-Err.ensures.answers)
+returns-in-Err g c = λ looks. replied _ _ _ _ _ _ c.refusal_reply.ensures (question_met _ looks _ _ _ _ _ _ _ (question c.args.after c.args.format) c.in-Err.ensures.answers)

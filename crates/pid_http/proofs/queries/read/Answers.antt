@@ -21,18 +21,18 @@ question path format = record {
 }
 
 pub returns-in-None : goal.returns-in-None
-returns-in-None g c =
+returns-in-None g c = λ looks.
     let given = outcome_answer c.args.format (Err BadPath) in
     rw c.in-None.is (replied _ _ _ (Answered given) _ given c.refusal_reply.ensures (no_call _ _ _ (answered given)))
 
 pub returns-in-Ok-Some : goal.returns-in-Ok-Some
-returns-in-Ok-Some g c =
-    rw c.in-Some.is (replied _ _ _ _ _ _ c.item_reply.ensures (question_met _ c.clauses_meet_lives.ensures.looks _ _ _ _ _ _ _ (question c.in-Some.path c.args.format) (rw c.in-Ok-Some.field-0-is at c.in-Ok-Some.ensures.answers)))
+returns-in-Ok-Some g c = λ looks.
+    rw c.in-Some.is (replied _ _ _ _ _ _ c.item_reply.ensures (question_met _ looks _ _ _ _ _ _ _ (question c.in-Some.path c.args.format) (rw c.in-Ok-Some.field-0-is at c.in-Ok-Some.ensures.answers)))
 
 pub returns-in-Ok-None : goal.returns-in-Ok-None
-returns-in-Ok-None g c =
-    rw c.in-Some.is (replied _ _ _ _ _ _ c.missing_reply.ensures (question_met _ c.clauses_meet_lives.ensures.looks _ _ _ _ _ _ _ (question c.in-Some.path c.args.format) (rw c.in-Ok-None.field-0-is at c.in-Ok-None.ensures.answers)))
+returns-in-Ok-None g c = λ looks.
+    rw c.in-Some.is (replied _ _ _ _ _ _ c.missing_reply.ensures (question_met _ looks _ _ _ _ _ _ _ (question c.in-Some.path c.args.format) (rw c.in-Ok-None.field-0-is at c.in-Ok-None.ensures.answers)))
 
 pub returns-in-Err : goal.returns-in-Err
-returns-in-Err g c =
-    rw c.in-Some.is (replied _ _ _ _ _ _ c.refusal_reply-in-Err.ensures (question_met _ c.clauses_meet_lives.ensures.looks _ _ _ _ _ _ _ (question c.in-Some.path c.args.format) c.in-Err.ensures.answers))
+returns-in-Err g c = λ looks.
+    rw c.in-Some.is (replied _ _ _ _ _ _ c.refusal_reply-in-Err.ensures (question_met _ looks _ _ _ _ _ _ _ (question c.in-Some.path c.args.format) c.in-Err.ensures.answers))

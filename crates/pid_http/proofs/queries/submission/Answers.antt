@@ -42,12 +42,12 @@ met store look old new number format found e =
     (λ off. failed number format found (e.failed off).0)
 
 pub returns-in-None : goal.returns-in-None
-returns-in-None g c =
+returns-in-None g c = λ looks.
     let given = outcome_answer c.args.format (Err BadText) in
     rw c.in-None.is (replied _ _ _ (Answered given) _ given c.refusal_reply.ensures (no_call _ _ _ (answered given)))
 
 pub returns-in-Ok : goal.returns-in-Ok
-returns-in-Ok g c = rw c.in-Some.is (replied _ _ _ _ _ _ c.submission_reply.ensures (met _ c.clauses_meet_lives.ensures.looks _ _ c.in-Some.number c.args.format _ c.in-Ok.ensures.answers))
+returns-in-Ok g c = λ looks. rw c.in-Some.is (replied _ _ _ _ _ _ c.submission_reply.ensures (met _ looks _ _ c.in-Some.number c.args.format _ c.in-Ok.ensures.answers))
 
 pub returns-in-Err : goal.returns-in-Err
-returns-in-Err g c = rw c.in-Some.is (replied _ _ _ _ _ _ c.refusal_reply-in-Err.ensures (met _ c.clauses_meet_lives.ensures.looks _ _ c.in-Some.number c.args.format _ c.in-Err.ensures.answers))
+returns-in-Err g c = λ looks. rw c.in-Some.is (replied _ _ _ _ _ _ c.refusal_reply-in-Err.ensures (met _ looks _ _ c.in-Some.number c.args.format _ c.in-Err.ensures.answers))

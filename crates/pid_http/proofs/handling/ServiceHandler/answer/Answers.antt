@@ -18,8 +18,8 @@ returns-in-Ok-clause-answered g c =
           );
     }
 
-pub returns-in-Err-clause-answered : goal.returns-in-Err-clause-answered
-returns-in-Err-clause-answered g c =
+pub returns-clause-answered : goal.returns-clause-answered
+returns-clause-answered g c =
     let l = told_of _ _ _ _ c.in-Err.ensures in
     record {
       good = l.good;
