@@ -37,6 +37,11 @@ pub keeps_same : (o : Option (List ℕ)) → Keeps o o
 keeps_same None = tt
 keeps_same (Some s) = refl
 
+-- where nothing is wanted, nothing is to come
+pub none_left : (known : Option (List ℕ)) (w : ℕ) (held : List ℕ) → w ≡ 0 → IsAtEnd (option_map (λ s. padded w (held ++ s)) known)
+none_left None w held e = tt
+none_left (Some s) w held e = ap (λ (n : ℕ). padded n (held ++ s)) e
+
 -- of the body as little was read as of the reader under it
 pub keeps_padded : (a b : Option (List ℕ)) (w : ℕ) (held : List ℕ) → Consumes a b [] → Keeps (option_map (λ s. padded w (held ++ s)) a) (option_map (λ s. padded w (held ++ s)) b)
 keeps_padded None b w held c = tt

@@ -2,7 +2,7 @@
 use Rattle.std.proofs.Common.{◌≡◌, ℕ, suc, ◌+◌, ◌-◌, ◌<◌, ◌≤◌, Bool, true, false, List, [], ◌∷◌, ◌++◌, length, take, drop, get_or, refl, sym, ap, ◌∙◌, arith, append_assoc, add-one, drop-cons, take-suc}
 use Rattle.std.specs.Prelude.{◌||◌, ◌==◌, codes, slice_range, reverse, All, if◌then◌else◌}
 use Rattle.std.specs.List.{list_any, slice_split}
-use Rattle.std.proofs.lemmas.List.{get_or-drop, length-drop, append-nil, reverse-append, reverse-reverse, take_more, take_all}
+use Rattle.std.proofs.lemmas.List.{get_or-drop, length-drop, append-nil, reverse-append, reverse-reverse, take_more, take_all, drop_all}
 use Rattle.std.proofs.lemmas.List.Elements.{All-nil, All-push}
 use Rattle.std.proofs.lemmas.List.Splits.{slice_split_none, slice_split_at}
 use Rattle.std.proofs.lemmas.Bool.{eq-eqb}
@@ -74,6 +74,23 @@ comma_step v s i h e n = rw (none_before v (i + 1), drop-cons v i 0 h, add-one) 
 pub other_step : (v : List ℕ) (s i : ℕ) → s ≤ i → i < length v → (get_or v i 0 == 44) ≡ false
     → closes_after (slice_range v s (i + 1)) (drop (i + 1) v) ≡ closes_after (slice_range v s i) (drop i v)
 other_step v s i o h e = rw (one_more v s i o h, drop-cons v i 0 h, add-one) (sym (behind_comma (slice_range v s i) (drop (suc i) v) (get_or v i 0) e))
+
+-- ---- blanks at the start
+
+pub blank_first : (word : List ℕ) (n : ℕ) → n < length word → is_ows (get_or word n 0) ≡ true → skip_ows (drop (n + 1) word) ≡ skip_ows (drop n word)
+blank_first word n h e = rw (drop-cons word n 0 h, add-one, e) refl
+
+to_the_end : (word : List ℕ) (n : ℕ) → take (length word - n) (drop n word) ≡ drop n word
+to_the_end word n = take_all (length word - n) (drop n word) (simp length-drop (omega arith))
+
+kept_first : (word : List ℕ) (n : ℕ) → n < length word → is_ows (get_or word n 0) ≡ false → drop n word ≡ skip_ows (drop n word)
+kept_first word n h e = rw (drop-cons word n 0 h, e) refl
+
+pub other_first : (word : List ℕ) (n : ℕ) → n < length word → is_ows (get_or word n 0) ≡ false → take (length word - n) (drop n word) ≡ skip_ows (drop n word)
+other_first word n h e = to_the_end word n ∙ kept_first word n h e
+
+pub all_blank : (word : List ℕ) (n : ℕ) → length word ≤ n → skip_ows (drop n word) ≡ skip_ows word → take (length word - length word) (drop (length word) word) ≡ skip_ows word
+all_blank word n h e = to_the_end word (length word) ∙ drop_all (length word) word (omega arith) ∙ sym (ap skip_ows (drop_all n word h)) ∙ e
 
 -- ---- blanks at the end
 

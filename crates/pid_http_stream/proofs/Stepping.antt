@@ -132,6 +132,19 @@ never_stuck sent.Whole u v bytes p e = cc
 never_stuck sent.WriteFault u v bytes p e = cc
 never_stuck sent.StoreFault u v bytes p e = p
 
+-- how far it was sent is one of three
+pub whole_is_no_fault : {P : Type 0} → sent.Whole ≡ sent.WriteFault → P
+whole_is_no_fault e = cc
+
+pub whole_is_not_stuck : {P : Type 0} → sent.Whole ≡ sent.StoreFault → P
+whole_is_not_stuck e = cc
+
+pub fault_is_not_stuck : {P : Type 0} → sent.WriteFault ≡ sent.StoreFault → P
+fault_is_not_stuck e = cc
+
+pub stuck_is_no_fault : {P : Type 0} → sent.StoreFault ≡ sent.WriteFault → P
+stuck_is_no_fault e = cc
+
 -- where a refusal was written
 pub refused_ends : (x : LastState) (fault : StreamFault) (u v : Option (List ℕ)) (end : StreamEnd) → x.reads_after ≤ x.reads + x.turns → x.read_fault ≡ x.fault_before → WritesRefusal fault u v end → (end ≡ ends.WriteFault → IsSome x.write_fault) → EndsFor end x
 refused_ends x fault u v ends.HeadFault few same r failed = record { within = few; cause = tt; failed = inl same }

@@ -109,11 +109,12 @@ impl<I: Incoming<W>, W: Output> Input for BodyInput<'_, '_, '_, I, W> {
         if self.fault.is_some() {
             return Err(ReadFault::Device);
         }
-        if self.wanted == 0 || buffer.is_empty() {
+        let room = buffer.len().min(self.wanted);
+        if room == 0 {
             return Ok(0);
         }
         if !self.held.is_empty() {
-            let count = buffer.len().min(self.held.len());
+            let count = room.min(self.held.len());
             let (front, behind) = self.held.split_at(count);
             buffer[..count].copy_from_slice(front);
             self.held = behind;
@@ -125,7 +126,6 @@ impl<I: Incoming<W>, W: Output> Input for BodyInput<'_, '_, '_, I, W> {
             return Err(ReadFault::Device);
         }
         self.left -= 1;
-        let room = buffer.len().min(self.wanted);
         match self.input.read_behind(self.output, &mut buffer[..room]) {
             Err(_) => {
                 self.fault = Some(BodyFault::ReadFault);

@@ -17,3 +17,15 @@ loop-preserved g c =
       came = (came.0 ++ piece, Consumes-trans _ _ _ came.0 piece came.1 c.in-Ok.ensures.bytes.0, omega (arith, came.2, length-append came.0 piece, sized, some));
       goes = g.met.B.Input.joins _ _ _ c.loop.invariant.goes c.read.ensures.goes;
     }
+
+pub returns-clause-goes : goal.returns-clause-goes
+returns-clause-goes g c = c.loop.invariant.goes
+
+pub returns-in_default-clause-goes : goal.returns-in_default-clause-goes
+returns-in_default-clause-goes g c = g.met.B.Input.joins _ _ _ c.loop.invariant.goes c.read.ensures.goes
+
+pub returns-then-count-eq0-clause-goes : goal.returns-then-count-eq0-clause-goes
+returns-then-count-eq0-clause-goes g c = g.met.B.Input.joins _ _ _ c.loop.invariant.goes c.read.ensures.goes
+
+pub returns-then-count-eq0-clause-whole : goal.returns-then-count-eq0-clause-whole
+returns-then-count-eq0-clause-whole g c = c.in-Ok.ensures.bytes.1 c.if-count-eq0.true (search rules)

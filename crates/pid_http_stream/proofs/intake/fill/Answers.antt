@@ -1,4 +1,4 @@
-use Rattle.std.proofs.Common.{refl}
+use Rattle.std.proofs.Common.{rules, refl}
 use Rattle.std.proofs.KnownBytes.{Consumes-nil}
 use Rattle.pid_http_stream.specs.BodyLaws.{no_turns}
 use Rattle.pid_http_stream.specs.MomentLaws.{since_none}
@@ -102,3 +102,9 @@ returns-in-Ok-eq0-clause-goes g c = c.read_behind.ensures.goes
 
 pub returns-in-Ok-clause-goes : goal.returns-in-Ok-clause-goes
 returns-in-Ok-clause-goes g c = c.read_behind.ensures.goes
+
+pub returns-in-Ok-eq0-clause-comes : goal.returns-in-Ok-eq0-clause-comes
+returns-in-Ok-eq0-clause-comes g c = none_came _ _ _ _ c.reserve.ensures.items (rw c.in-Ok-eq0.field-0-test at c.in-Ok-eq0.ensures.bytes.0)
+
+pub returns-in-Ok-eq0-clause-stays : goal.returns-in-Ok-eq0-clause-stays
+returns-in-Ok-eq0-clause-stays g c = (c.reserve.ensures.items, c.in-Ok-eq0.ensures.bytes.1 c.in-Ok-eq0.field-0-test (search rules))

@@ -1,4 +1,4 @@
-use Rattle.std.proofs.Common.{rules, ◌++◌, length, take, drop, refl, sym, ap, subst, ◌∙◌, ℕ, inl, inr}
+use Rattle.std.proofs.Common.{rules, arith, ◌++◌, length, take, drop, refl, sym, ap, subst, ◌∙◌, ℕ, inl, inr}
 use Rattle.std.specs.Io.KnownBytes.{Consumes}
 use Rattle.std.proofs.KnownBytes.{Consumes-nil}
 use Rattle.std.proofs.lemmas.List.{length-take-le, take-append-drop, take-append-le}
@@ -6,24 +6,29 @@ use Rattle.pid_http_stream.specs.BodyLaws.{no_body_reads, no_turns}
 use Rattle.pid_http_stream.specs.MomentLaws.{since_none}
 use Rattle.pid_http_stream.specs.Moments.{IsMoment}
 use Rattle.pid_http_stream.specs.declared.body_input.BodyFault.TheVariants.{Short, ReadFault, TurnsSpent}
-use Rattle.pid_http_stream.proofs.BodyReads.{held_given, read_given, whole_front, nothing, keeps_same, keeps_padded, keeps_nil, none_of, told_some, told_none, kept_told, none_kept, some_told, still_good, gave_held, gave_read, broke_off, one_turn, some_of}
+use Rattle.pid_http_stream.proofs.BodyReads.{held_given, read_given, whole_front, nothing, keeps_same, none_left, keeps_padded, keeps_nil, none_of, told_some, told_none, kept_told, none_kept, some_told, still_good, gave_held, gave_read, broke_off, one_turn, some_of}
 use Rattle.pid_http_stream.proofs.body_input.BodyInputInput.read.Goals as goal
-use Rattle.pid_http_stream.proofs.body_input.BodyInputInput.read.Goals.{then-self-eq0-via-then-self-eq0, then-self-eq0-via-else-self-eq0+then-is_empty}
 
 pub returns-then-is_some-clause-goes : goal.returns-then-is_some-clause-goes
 returns-then-is_some-clause-goes g c = (refl, g.met.I.Incoming.stays c.args.self.now.input.now, no_body_reads _)
 
-pub returns-then-self-eq0-clause-goes : goal.returns-then-self-eq0-clause-goes
-returns-then-self-eq0-clause-goes g c = elim c.then-self-eq0.branch [
-  | then-self-eq0-via-then-self-eq0 w ↦ (rw w.self-is (refl, g.met.I.Incoming.stays c.args.self.now.input.now, no_body_reads _))
-  | then-self-eq0-via-else-self-eq0+then-is_empty w ↦ (rw w.self-is (refl, g.met.I.Incoming.stays c.args.self.now.input.now, no_body_reads _))
-]
+pub returns-then-room-eq0-clause-goes : goal.returns-then-room-eq0-clause-goes
+returns-then-room-eq0-clause-goes g c = (refl, g.met.I.Incoming.stays c.args.self.now.input.now, no_body_reads _)
+
+pub returns-then-room-eq0-clause-bytes : goal.returns-then-room-eq0-clause-bytes
+returns-then-room-eq0-clause-bytes g c = (Consumes-nil _, λ z some. none_left (g.I.Incoming.to_come c.args.self.now.input.now) c.args.self.now.wanted c.args.self.now.held.now (omega (arith, c.min-room.ensures, c.if-room-eq0.true, some)))
+
+pub returns-then-room-eq0-clause-fault : goal.returns-then-room-eq0-clause-fault
+returns-then-room-eq0-clause-fault g c = told_none c.args.self.now.fault (sym c.is_some.ensures ∙ c.if-is_some.false)
+
+pub returns-then-room-eq0-clause-kept : goal.returns-then-room-eq0-clause-kept
+returns-then-room-eq0-clause-kept g c = none_kept c.args.self.now.fault _ (sym c.is_some.ensures ∙ c.if-is_some.false)
 
 pub returns-then-not-is_empty-clause-bytes : goal.returns-then-not-is_empty-clause-bytes
 returns-then-not-is_empty-clause-bytes g c =
     let s = c.split_at.ensures in (
       held_given (g.I.Incoming.to_come c.args.self.now.input.now) c.args.self.now.wanted c.min-count.result c.args.self.now.held.now c.split_at.result.1.now c.split_at.result.0.now (take c.min-count.result (c.copy_from_slice.new.self ++ drop c.min-count.result c.args.buffer.now))
-          (sym (take-append-drop c.min-count.result c.args.self.now.held.now) ∙ (λ i. sym s.front i ++ sym s.back i)) s.front_len (search rules)
+          (sym (take-append-drop c.min-count.result c.args.self.now.held.now) ∙ (λ i. sym s.front i ++ sym s.back i)) s.front_len (omega (arith, c.min-count.ensures, c.min-room.ensures))
           (whole_front c.copy_from_slice.new.self _ c.min-count.result (ap length c.copy_from_slice.ensures.after ∙ s.front_len) ∙ c.copy_from_slice.ensures.after),
       λ z some. absurd (search rules),
     )
@@ -34,15 +39,15 @@ returns-then-not-is_empty-clause-goes g c =
       refl,
       g.met.I.Incoming.stays c.args.self.now.input.now,
       gave_held c.args.self.now.fault (g.I.Incoming.to_come c.args.self.now.input.now) (g.I.Incoming.read_fault c.args.self.now.input.now) _ _ _ c.args.self.now.wanted c.min-count.result c.args.self.now.held.now c.split_at.result.1.now c.split_at.result.0.now
-          (none_of c.args.self.now.fault (sym c.is_some.ensures ∙ c.if-is_some.false)) (sym (take-append-drop c.min-count.result c.args.self.now.held.now) ∙ (λ i. sym s.front i ++ sym s.back i)) s.front_len (search rules),
+          (none_of c.args.self.now.fault (sym c.is_some.ensures ∙ c.if-is_some.false)) (sym (take-append-drop c.min-count.result c.args.self.now.held.now) ∙ (λ i. sym s.front i ++ sym s.back i)) s.front_len (omega (arith, c.min-count.ensures, c.min-room.ensures)),
     )
 
-pub returns-then-self-eq0-2-clause-goes : goal.returns-then-self-eq0-2-clause-goes
-returns-then-self-eq0-2-clause-goes g c = (
+pub returns-then-self-eq0-clause-goes : goal.returns-then-self-eq0-clause-goes
+returns-then-self-eq0-clause-goes g c = (
   refl,
   g.met.I.Incoming.stays c.args.self.now.input.now,
   broke_off c.args.self.now.fault (g.I.Incoming.to_come c.args.self.now.input.now) (g.I.Incoming.to_come c.args.self.now.input.now) _ _ _ _ _ _ _ c.args.self.now.wanted c.args.self.now.held.now TurnsSpent
-      (none_of c.args.self.now.fault (sym c.is_some.ensures ∙ c.if-is_some.false)) (Consumes-nil _) (no_turns _) (some_of _ c.if-self-eq0.false) (nothing c.args.self.now.held.now (search rules)) (since_none (IsMoment _ _) _) c.if-self-eq0-2.true (inl refl),
+      (none_of c.args.self.now.fault (sym c.is_some.ensures ∙ c.if-is_some.false)) (Consumes-nil _) (no_turns _) (omega (arith, c.min-room.ensures, c.if-room-eq0.false)) (nothing c.args.self.now.held.now (search rules)) (since_none (IsMoment _ _) _) c.if-self-eq0.true (inl refl),
 )
 
 pub returns-in-Err-clause-goes : goal.returns-in-Err-clause-goes
@@ -50,7 +55,7 @@ returns-in-Err-clause-goes g c = (
   refl,
   c.read_behind.ensures.goes,
   broke_off c.args.self.now.fault (g.I.Incoming.to_come c.args.self.now.input.now) (g.I.Incoming.to_come c.read_behind.new.self) _ _ _ _ _ _ _ c.args.self.now.wanted c.args.self.now.held.now ReadFault
-      (none_of c.args.self.now.fault (sym c.is_some.ensures ∙ c.if-is_some.false)) (keeps_nil _ _ c.in-Err.ensures.bytes) (one_turn _ c.args.self.now.left _ (some_of _ c.if-self-eq0-2.false) c.read_behind.ensures.count) (some_of _ c.if-self-eq0.false) (nothing c.args.self.now.held.now (search rules)) c.in-Err.ensures.noted (some_told _ _ c.in-Err.ensures.fault) (inr refl),
+      (none_of c.args.self.now.fault (sym c.is_some.ensures ∙ c.if-is_some.false)) (keeps_nil _ _ c.in-Err.ensures.bytes) (one_turn _ c.args.self.now.left _ (some_of _ c.if-self-eq0.false) c.read_behind.ensures.count) (omega (arith, c.min-room.ensures, c.if-room-eq0.false)) (nothing c.args.self.now.held.now (search rules)) c.in-Err.ensures.noted (some_told _ _ c.in-Err.ensures.fault) (inr refl),
 )
 
 pub returns-else-count-eq0-clause-bytes : goal.returns-else-count-eq0-clause-bytes
@@ -65,7 +70,7 @@ returns-else-count-eq0-clause-goes g c = (
   refl,
   c.read_behind.ensures.goes,
   gave_read c.args.self.now.fault (g.I.Incoming.to_come c.args.self.now.input.now) (g.I.Incoming.to_come c.read_behind.new.self) _ _ _ _ _ _ _ c.args.self.now.wanted c.in-Ok.count c.args.self.now.held.now (take c.in-Ok.count c.read_behind.new.buffer)
-      (none_of c.args.self.now.fault (sym c.is_some.ensures ∙ c.if-is_some.false)) (nothing _ (search rules)) c.in-Ok.ensures.bytes.0 (length-take-le c.in-Ok.count c.read_behind.new.buffer c.in-Ok.ensures.room) (search rules) (one_turn _ c.args.self.now.left _ (some_of _ c.if-self-eq0-2.false) c.read_behind.ensures.count) (some_of _ c.if-self-eq0.false) c.in-Ok.ensures.noted (still_good _ _ _ c.in-Ok.ensures.kept c.in-Ok.ensures.fault),
+      (none_of c.args.self.now.fault (sym c.is_some.ensures ∙ c.if-is_some.false)) (nothing _ (search rules)) c.in-Ok.ensures.bytes.0 (length-take-le c.in-Ok.count c.read_behind.new.buffer c.in-Ok.ensures.room) (search rules) (one_turn _ c.args.self.now.left _ (some_of _ c.if-self-eq0.false) c.read_behind.ensures.count) (omega (arith, c.min-room.ensures, c.if-room-eq0.false)) c.in-Ok.ensures.noted (still_good _ _ _ c.in-Ok.ensures.kept c.in-Ok.ensures.fault),
 )
 
 pub returns-then-count-eq0-clause-goes : goal.returns-then-count-eq0-clause-goes
@@ -73,7 +78,7 @@ returns-then-count-eq0-clause-goes g c = (
   refl,
   c.read_behind.ensures.goes,
   broke_off c.args.self.now.fault (g.I.Incoming.to_come c.args.self.now.input.now) (g.I.Incoming.to_come c.read_behind.new.self) _ _ _ _ _ _ _ c.args.self.now.wanted c.args.self.now.held.now Short
-      (none_of c.args.self.now.fault (sym c.is_some.ensures ∙ c.if-is_some.false)) (subst (Consumes _ _) (ap (λ (n : ℕ). take n c.read_behind.new.buffer) c.if-count-eq0.true) c.in-Ok.ensures.bytes.0) (one_turn _ c.args.self.now.left _ (some_of _ c.if-self-eq0-2.false) c.read_behind.ensures.count) (some_of _ c.if-self-eq0.false) (nothing c.args.self.now.held.now (search rules)) c.in-Ok.ensures.noted
+      (none_of c.args.self.now.fault (sym c.is_some.ensures ∙ c.if-is_some.false)) (subst (Consumes _ _) (ap (λ (n : ℕ). take n c.read_behind.new.buffer) c.if-count-eq0.true) c.in-Ok.ensures.bytes.0) (one_turn _ c.args.self.now.left _ (some_of _ c.if-self-eq0.false) c.read_behind.ensures.count) (omega (arith, c.min-room.ensures, c.if-room-eq0.false)) (nothing c.args.self.now.held.now (search rules)) c.in-Ok.ensures.noted
       (c.in-Ok.ensures.bytes.1 c.if-count-eq0.true (search rules)) (inl (still_good _ _ _ c.in-Ok.ensures.kept c.in-Ok.ensures.fault)),
 )
 
@@ -92,11 +97,11 @@ returns-then-not-is_empty-clause-fault g c = told_none c.args.self.now.fault (sy
 pub returns-then-not-is_empty-clause-kept : goal.returns-then-not-is_empty-clause-kept
 returns-then-not-is_empty-clause-kept g c = none_kept c.args.self.now.fault _ (sym c.is_some.ensures ∙ c.if-is_some.false)
 
-pub returns-then-self-eq0-2-clause-bytes : goal.returns-then-self-eq0-2-clause-bytes
-returns-then-self-eq0-2-clause-bytes g c = keeps_same _
+pub returns-then-self-eq0-clause-bytes : goal.returns-then-self-eq0-clause-bytes
+returns-then-self-eq0-clause-bytes g c = keeps_same _
 
-pub returns-then-self-eq0-2-clause-kept : goal.returns-then-self-eq0-2-clause-kept
-returns-then-self-eq0-2-clause-kept g c = kept_told _ c.args.self.now.fault refl
+pub returns-then-self-eq0-clause-kept : goal.returns-then-self-eq0-clause-kept
+returns-then-self-eq0-clause-kept g c = kept_told _ c.args.self.now.fault refl
 
 pub returns-in-Err-clause-bytes : goal.returns-in-Err-clause-bytes
 returns-in-Err-clause-bytes g c = keeps_padded _ _ c.args.self.now.wanted c.args.self.now.held.now (keeps_nil _ _ c.in-Err.ensures.bytes)
@@ -115,3 +120,24 @@ returns-else-count-eq0-clause-fault g c = told_none c.args.self.now.fault (sym c
 
 pub returns-else-count-eq0-clause-kept : goal.returns-else-count-eq0-clause-kept
 returns-else-count-eq0-clause-kept g c = none_kept c.args.self.now.fault _ (sym c.is_some.ensures ∙ c.if-is_some.false)
+
+pub returns-then-is_some-clause-count : goal.returns-then-is_some-clause-count
+returns-then-is_some-clause-count g c = c.saturating_add-self.ensures
+
+pub returns-then-room-eq0-clause-count : goal.returns-then-room-eq0-clause-count
+returns-then-room-eq0-clause-count g c = c.saturating_add-self.ensures
+
+pub returns-then-not-is_empty-clause-count : goal.returns-then-not-is_empty-clause-count
+returns-then-not-is_empty-clause-count g c = c.saturating_add-self.ensures
+
+pub returns-then-self-eq0-clause-count : goal.returns-then-self-eq0-clause-count
+returns-then-self-eq0-clause-count g c = c.saturating_add-self.ensures
+
+pub returns-in-Err-clause-count : goal.returns-in-Err-clause-count
+returns-in-Err-clause-count g c = c.saturating_add-self.ensures
+
+pub returns-then-count-eq0-clause-count : goal.returns-then-count-eq0-clause-count
+returns-then-count-eq0-clause-count g c = c.saturating_add-self.ensures
+
+pub returns-else-count-eq0-clause-count : goal.returns-else-count-eq0-clause-count
+returns-else-count-eq0-clause-count g c = c.saturating_add-self.ensures
