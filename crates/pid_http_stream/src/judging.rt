@@ -25,7 +25,6 @@ use crate::limits::LONGEST_HEAD;
 use crate::refusal::RequestRefusal;
 use httparse::Status;
 use httparse::spans::{HeaderSpan, RequestSpans, parse_request};
-use std::fmt::{self, Display, Formatter, Write};
 use thiserror::Error;
 
 /// Why a stream is refused.
@@ -33,12 +32,13 @@ use thiserror::Error;
 pub enum StreamFault {
     /// The bytes begin with no head, or with one that has too many fields or is too long, or whose
     /// Content-Length is no length.
+    #[error("no head of a request, or one that is too long or says no length")]
     BadHead,
-    /// The body is sent in a transfer encoding.
+    #[error("the body is sent in a transfer encoding")]
     Encoding,
-    /// The body is longer than a body may be.
+    #[error("the body is longer than a body may be")]
     BodyTooLong,
-    /// The stream ends within the body.
+    #[error("the stream ends within the body")]
     BodyShort,
 }
 
@@ -55,12 +55,6 @@ impl StreamFault {
             StreamFault::BodyTooLong => RequestRefusal::BodyTooLong,
             StreamFault::BodyShort => RequestRefusal::BodyShort,
         }
-    }
-}
-
-impl Display for StreamFault {
-    fn fmt<W: Write>(&self, f: &mut Formatter<W>) -> fmt::Result {
-        f.write_str(self.refusal().sentence())
     }
 }
 

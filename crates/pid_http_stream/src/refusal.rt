@@ -2,17 +2,22 @@
 ghost use Rattle.std.specs.Prelude.{◌≡◌, IsTrue};
 
 use http::StatusCode;
-use std::fmt::{self, Display, Formatter, Write};
 use thiserror::Error;
 
 /// Why a request is refused before anything is asked for it. The reply has the number and the word.
 #[derive(Clone, Copy, Debug, Error)]
 pub enum RequestRefusal {
+    #[error("no head of a request, or one that is too long or says no length")]
     BadHead,
+    #[error("the body is longer than a body may be")]
     BodyTooLong,
+    #[error("the body is sent in a transfer encoding")]
     Encoding,
+    #[error("the stream ends within the body")]
     BodyShort,
+    #[error("no route has the path")]
     NoRoute,
+    #[error("the target does not begin with a slash")]
     BadTarget,
 }
 
@@ -65,24 +70,5 @@ impl RequestRefusal {
             RequestRefusal::Encoding => StatusCode::NOT_IMPLEMENTED,
             RequestRefusal::NoRoute => StatusCode::NOT_FOUND,
         }
-    }
-    // What is wrong with the request.
-    pub(crate) fn sentence(self) -> &'static str {
-        match self {
-            RequestRefusal::BadHead => {
-                "no head of a request, or one that is too long or says no length"
-            }
-            RequestRefusal::BodyTooLong => "the body is longer than a body may be",
-            RequestRefusal::Encoding => "the body is sent in a transfer encoding",
-            RequestRefusal::BodyShort => "the stream ends within the body",
-            RequestRefusal::NoRoute => "no route has the path",
-            RequestRefusal::BadTarget => "the target does not begin with a slash",
-        }
-    }
-}
-
-impl Display for RequestRefusal {
-    fn fmt<W: Write>(&self, f: &mut Formatter<W>) -> fmt::Result {
-        f.write_str(self.sentence())
     }
 }
