@@ -73,6 +73,19 @@ behind_all [] (suc i) h = refl
 behind_all (g ∷ gs) zero h = absurd (omega arith)
 behind_all (g ∷ gs) (suc i) h = behind_all gs i (omega arith)
 
+next : {A : Type 0} (fs : List (String A × String A)) (i : ℕ) (f : String A × String A) → i < length fs → f ≡ get_or fs i f → is_key f ≡ false → position_or_len is_key (drop i fs) ≡ 1 + position_or_len is_key (drop (i + 1) fs)
+next [] i f h e k = absurd (omega arith)
+next (g ∷ gs) zero f h e k = ap (λ b. cond (not b) (1 + position_or_len is_key gs) 0) (ap is_key (sym e) ∙ k)
+next (g ∷ gs) (suc i) f h e k =
+    let more : suc (i + 1) ≡ suc i + 1 = omega arith in
+    subst (λ n. position_or_len is_key (drop i gs) ≡ 1 + position_or_len is_key (drop n (g ∷ gs))) more (next gs i f (omega arith) e k)
+
+pub none_yet : (n : ℕ) → n ≡ 0 + n
+none_yet n = omega arith
+
+one_on : (p i j k : ℕ) → p ≡ i + j → j ≡ 1 + k → p ≡ (i + 1) + k
+one_on p i j k e z = omega arith
+
 place_is : (p n i : ℕ) → p ≡ i → i < n → cond (nat_lt p n) (Some p) None ≡ Some i
 place_is p n i e h = let less : nat_lt p n ≡ true = grind (arith, nat_tests, e, h) in ap (λ b. cond b (Some p) None) less ∙ ap Some e
 
@@ -100,3 +113,7 @@ no_key v i n e h so_far =
   where
     from_all : {p n i : ℕ} → p ≡ i → n ≤ i → n ≤ p
     from_all e h = omega (arith, e, h)
+
+pub key_on : {A : Type 0} (v : Vec (String A × String A) A) (i n : ℕ) (f : String A × String A) (word : List ℕ) → n ≡ vec_len v → i < n → position_or_len is_key v.items ≡ i + position_or_len is_key (drop i v.items) → f ≡ get_or v.items i f → word ≡ string_bytes f.0 → false ≡ bytes_eq word (codes "key") → position_or_len is_key v.items ≡ (i + 1) + position_or_len is_key (drop (i + 1) v.items)
+key_on v i n f word e h so_far is named key =
+    one_on _ i _ _ so_far (next v.items i f (in_vec v i n e h) is (ap (λ w. bytes_eq w (codes "key")) (sym named) ∙ sym key))

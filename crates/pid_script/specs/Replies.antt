@@ -94,10 +94,11 @@ command_of (AsksLookup fields) = []
 command_of Unclear = []
 command_of TooLong = []
 
--- how often the registry is asked for lines
+-- the most calls of a registry that the reply to a line takes
 abbrev pub calls_for : Ask → ℕ
 calls_for ask = if is_call ask then 1 else 0
 
+-- and the replies to lines
 abbrev pub calls_for_lines : List (List ℕ) → ℕ
 calls_for_lines [] = 0
 calls_for_lines (line ∷ lines) = calls_for (ask_of line) + calls_for_lines lines

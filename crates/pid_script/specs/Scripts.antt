@@ -142,7 +142,7 @@ module _ {R : Type 0} (registry : Ghosts R) where
   -- The lines before one got their replies. In place of its reply, or after what was begun of it,
   -- the line of a refusal comes last; and the registry shows the history before the line, or has
   -- failed at its command, which may have been written. The commands that calls sent are those of
-  -- the lines before.
+  -- the lines before, and no more calls were made than these and the line ask for.
   pub record StopsAtLine (h : History) (p : Passage R) (lines : List (List ℕ)) : Type 0 where
     pub before : List (List ℕ)
     pub line : List ℕ

@@ -18,3 +18,12 @@ returns-in-Ok-Text-clause-goes_on g c = answer_goes c.say_line.result c.args.fou
 
 pub returns-in-Ok-NoAnswer-clause-goes_on : goal.returns-in-Ok-NoAnswer-clause-goes_on
 returns-in-Ok-NoAnswer-clause-goes_on g c = answer_goes c.say.result c.args.found.now c.in-Ok-NoAnswer.field-0 c.in-Ok-NoAnswer.is
+
+pub returns-in-Ok-Text-clause-fault : goal.returns-in-Ok-Text-clause-fault
+returns-in-Ok-Text-clause-fault g c = c.say_line.ensures.fault
+
+pub returns-in-Ok-NoAnswer-clause-fault : goal.returns-in-Ok-NoAnswer-clause-fault
+returns-in-Ok-NoAnswer-clause-fault g c = c.say.ensures.fault
+
+pub returns-in-Err-Names-clause-fault : goal.returns-in-Err-Names-clause-fault
+returns-in-Err-Names-clause-fault g c = c.send_answer.ensures.fault

@@ -12,3 +12,12 @@ returns-in-Ok-Some-clause-goes_on g c = name_goes c.say_line.result c.args.name.
 
 pub returns-in-Ok-None-clause-goes_on : goal.returns-in-Ok-None-clause-goes_on
 returns-in-Ok-None-clause-goes_on g c = name_goes c.say.result c.args.name.now c.in-Ok-None.field-0 c.in-Ok-None.is
+
+pub returns-in-Ok-Some-clause-fault : goal.returns-in-Ok-Some-clause-fault
+returns-in-Ok-Some-clause-fault g c = c.say_line.ensures.fault
+
+pub returns-in-Ok-None-clause-fault : goal.returns-in-Ok-None-clause-fault
+returns-in-Ok-None-clause-fault g c = c.say.ensures.fault
+
+pub returns-in-Err-clause-fault : goal.returns-in-Err-clause-fault
+returns-in-Err-clause-fault g c = c.send_answer.ensures.fault
