@@ -17,8 +17,8 @@ pub record InputUse : Type 0 where
   pub moments_after : Option (List Moment)
 
 -- the same, of a reader before and after
-abbrev pub input_use : {I W : Type 0} → Ghosts I W → I → I → InputUse
-input_use reader old new = record {
+abbrev pub uses : {I W : Type 0} → Ghosts I W → I → I → InputUse
+uses reader old new = record {
   to_come = reader.to_come old;
   left = reader.to_come new;
   fault_before = reader.read_fault old;

@@ -4,6 +4,7 @@ use Rattle.std.specs.Prelude.{◌≡◌, false, ℕ, List, Option, Result, Ok, E
 use Rattle.sqlite_trees.specs.declared.store.Store.{Ghosts}
 use Rattle.pid_file.specs.declared.io.Output as outputs
 use Rattle.pid_file.specs.Writing.{WriterUse, use_of}
+use Rattle.pid_ident.specs.declared.incoming.Incoming as incoming
 use Rattle.pid_ident.specs.Moments.{AllSince}
 use Rattle.pid_moderation.specs.declared.command.Reply.{Reply}
 use Rattle.pid_moderation.specs.BeforeFile.{import_of}
@@ -44,6 +45,13 @@ work_of jobs.Script input = ToAnswer input
 work_of (jobs.Import account key) input = ToImport account key input.to_come
 work_of jobs.Export input = ToExport
 work_of (jobs.Serve port) input = ToServe port
+
+-- a script and an import read the input of a job, and no other job does
+abbrev pub JobReads : {I W : Type 0} → incoming.Ghosts I W → RegistryJob → I → I → Type 0
+JobReads reader jobs.Script old new = reader.goes old new
+JobReads reader (jobs.Import account key) old new = reader.goes old new
+JobReads reader jobs.Export old new = new ≡ old
+JobReads reader (jobs.Serve port) old new = new ≡ old
 
 -- the most reads of a script
 abbrev pub MOST_READS : ℕ

@@ -1,5 +1,5 @@
 -- Jobs on the files of a registry, or on a new one in memory. Choices of this project.
-use Rattle.std.specs.Prelude.{ℕ, List, Option, None, Some}
+use Rattle.std.specs.Prelude.{◌≡◌, ℕ, List, Option, None, Some}
 use Rattle.sqlite.specs.Files.{over_files}
 use Rattle.sqlite.specs.Held.{Held, IsNew, state}
 use Rattle.sqlite.specs.Steps.{IsEmpty, over_memory}
@@ -9,6 +9,7 @@ use Rattle.sqlite_trees.specs.declared.memory.MemStore.{MemStore}
 use Rattle.sqlite_trees.specs.declared.store.Store.{Ghosts}
 use Rattle.sqlite_wal.specs.Recovery.{Image}
 use Rattle.pid_file.specs.declared.io.Output as outputs
+use Rattle.pid_ident.specs.declared.incoming.Incoming as incoming
 use Rattle.pid_tables_rows.specs.Faults.{IsMemoryOrStore}
 use Rattle.pid_tables_rows.specs.declared.fault.TableFault.{TableFault}
 use Rattle.pid_tables_rows.specs.declared.fault.TableFault.TheVariants.{Memory}
@@ -16,7 +17,7 @@ use Rattle.pid_cli_jobs.specs.declared.on_files.FileJob.{FileJob}
 use Rattle.pid_cli_jobs.specs.declared.on_files.FileJob.TheVariants as jobs
 use Rattle.pid_cli_jobs.specs.Files.{OpensFiles}
 use Rattle.pid_cli_jobs.specs.Inputs.{InputUse}
-use Rattle.pid_cli_jobs.specs.Jobs.{Work, work_of}
+use Rattle.pid_cli_jobs.specs.Jobs.{JobReads, Work, work_of}
 use Rattle.pid_cli_jobs.specs.Machines.{AsksFor, DatabaseAt, Opening}
 use Rattle.pid_cli_jobs.specs.Sessions.{Migrates, TellsUnopened, WorksOn}
 use Rattle.pid_cli_jobs.specs.Wrote.{AsksNothing, AsksOnce, Wrote, from_there}
@@ -29,6 +30,11 @@ pub data FileTask : Type 0 where
 abbrev pub file_task_of : FileJob → InputUse → FileTask
 file_task_of (jobs.Work job) input = ToWork (work_of job input)
 file_task_of jobs.Migrate input = ToMigrate
+
+-- so it is with these
+abbrev pub FileReads : {I W : Type 0} → incoming.Ghosts I W → FileJob → I → I → Type 0
+FileReads reader (jobs.Work job) old new = JobReads reader job old new
+FileReads reader jobs.Migrate old new = new ≡ old
 
 -- a session of the registry on a connection, or a migration of its tables
 abbrev pub DoesOn : {S R W : Type 0} → (store : Ghosts S) → outputs.Ghosts W → Held S → FileTask

@@ -7,6 +7,7 @@ use Rattle.sqlite_trees.specs.declared.memory.MemStore.{MemStore}
 use Rattle.sqlite_trees.specs.declared.store.Store.{Ghosts}
 use Rattle.sqlite_wal.specs.Recovery.{Image}
 use Rattle.pid_file.specs.declared.io.Output as outputs
+use Rattle.pid_ident.specs.declared.incoming.Incoming as incoming
 use Rattle.pid_file.specs.Writing.{use_of}
 use Rattle.pid_file.specs.Words.{is_account, is_key}
 use Rattle.pid_lookup.specs.declared.fields.BadField.{BadField}
@@ -25,6 +26,14 @@ use Rattle.pid_cli_jobs.specs.OnFiles.{DoesInFiles, ToMigrate, ToWork, WorksOnNe
 use Rattle.pid_cli_jobs.specs.Wrote.{AsksNothing, AsksOnce, IsSilent, TellsMemory, Wrote}
 use Rattle.pid_cli_jobs.specs.Wrote.{from_there, streams_of}
 use Rattle.pid_cli_words.specs.Jobs.{text_given}
+
+-- a script reads the input of the process, and no other job does
+abbrev pub PlainReads : {I W : Type 0} → incoming.Ghosts I W → PlainJob → I → I → Type 0
+PlainReads reader (plain.Lookup words) old new = new ≡ old
+PlainReads reader (plain.Script db) old new = reader.goes old new
+PlainReads reader (plain.Import names sender) old new = new ≡ old
+PlainReads reader (plain.Serve db port) old new = new ≡ old
+PlainReads reader (plain.Migrate db) old new = new ≡ old
 
 -- an account or a key that breaks its rule
 abbrev pub IsBadSender : List ℕ → Option (List ℕ) → Type 0

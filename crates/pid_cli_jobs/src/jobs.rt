@@ -1,8 +1,15 @@
 //! The jobs of a registry, on any store. Each returns the connection if the registry is live.
 ghost use Rattle.std.specs.Prelude.{◌≡◌};
 ghost use Rattle.pid_file.specs.Writing.{use_of};
-ghost use Rattle.pid_cli_jobs.specs.Inputs.{input_use};
-ghost use Rattle.pid_cli_jobs.specs.Jobs.{BringsIn, DoesWork, PrintsAll, RunsLines, work_of};
+ghost use Rattle.pid_cli_jobs.specs.Inputs.{uses};
+ghost use Rattle.pid_cli_jobs.specs.Jobs.{
+  BringsIn,
+  DoesWork,
+  JobReads,
+  PrintsAll,
+  RunsLines,
+  work_of,
+};
 ghost use Rattle.pid_cli_jobs.specs.Sessions.{IsPartOfSession, Migrates, WorksOn};
 ghost use Rattle.pid_cli_jobs.specs.Sessions.{handed_back as back_of};
 ghost use Rattle.pid_cli_jobs.specs.Wrote.{job_wrote};
@@ -39,7 +46,7 @@ fn run_lines<S: Alter + Drop, I: Incoming<O>, O: Output>(
 ) -> JobEnd
     ensures goes { IsPartOfSession S.Store registry.old registry.new }
     ensures ran { RunsLines S.Store registry.old registry.new
-        (input_use I.Incoming input.old input.new) (use_of O.Output output.old output.new) result }
+        (uses I.Incoming input.old input.new) (use_of O.Output output.old output.new) result }
     ensures reads { I.goes input.old input.new }
 {
     match run_script(alloc, registry, input, output, TURNS) {
@@ -94,10 +101,10 @@ fn do_job<M: Machine, S: Alter + Drop, I: Incoming<O>, O: Output, F: Output>(
 ) -> JobEnd
     ensures goes { IsPartOfSession S.Store registry.old registry.new }
     ensures does { DoesWork S.Store O.Output
-        (work_of job (input_use I.Incoming input.old input.new)) registry.old registry.new
+        (work_of job (uses I.Incoming input.old input.new)) registry.old registry.new
         (job_wrote (output.old, output.new) (use_of F.Output faults.old faults.new)
         (M.asked machine.old, M.asked machine.new) result) }
-    ensures reads { I.goes input.old input.new }
+    ensures reads { JobReads I.Incoming job input.old input.new }
 {
     match job {
         RegistryJob::Script => run_lines(machine.alloc(), registry, input, output),
@@ -134,10 +141,10 @@ pub fn work_on<M: Machine, S: Alter + Drop, I: Incoming<O>, O: Output, F: Output
     faults: &mut F,
 ) -> (JobEnd, Option<Connection<S>>)
     ensures works { WorksOn S.Store O.Output conn
-        (work_of job (input_use I.Incoming input.old input.new))
+        (work_of job (uses I.Incoming input.old input.new))
         (job_wrote (output.old, output.new) (use_of F.Output faults.old faults.new)
         (M.asked machine.old, M.asked machine.new) result.0) result.1 }
-    ensures reads { I.goes input.old input.new }
+    ensures reads { JobReads I.Incoming job input.old input.new }
 {
     match open(machine.alloc(), conn) {
         Ok(registry) => {

@@ -1,12 +1,13 @@
 //! The jobs on a registry in a file or in memory.
 ghost use Rattle.sqlite_wal.specs.Files.{image_at};
 ghost use Rattle.pid_file.specs.Writing.{use_of};
-ghost use Rattle.pid_cli_jobs.specs.Inputs.{input_use};
-ghost use Rattle.pid_cli_jobs.specs.Jobs.{work_of};
+ghost use Rattle.pid_cli_jobs.specs.Inputs.{uses};
+ghost use Rattle.pid_cli_jobs.specs.Jobs.{JobReads, work_of};
 ghost use Rattle.pid_cli_jobs.specs.OnFiles.{
   DoesInFiles,
   DoesOn,
   DoesThere,
+  FileReads,
   WorksOnNew,
   file_task_of,
 };
@@ -41,10 +42,10 @@ fn do_on<M: Machine, S: Alter + Drop, I: Incoming<O>, O: Output, F: Output>(
     faults: &mut F,
 ) -> (JobEnd, Option<Connection<S>>)
     ensures does { DoesOn S.Store O.Output conn
-        (file_task_of job (input_use I.Incoming input.old input.new))
+        (file_task_of job (uses I.Incoming input.old input.new))
         (job_wrote (output.old, output.new) (use_of F.Output faults.old faults.new)
         (M.asked machine.old, M.asked machine.new) result.0) result.1 }
-    ensures reads { I.goes input.old input.new }
+    ensures reads { FileReads I.Incoming job input.old input.new }
 {
     match job {
         FileJob::Work(job) => work_on(machine, conn, job, input, output, faults),
@@ -63,10 +64,10 @@ fn do_there<M: Machine, D: Disk + Drop, I: Incoming<O>, O: Output, F: Output>(
     faults: &mut F,
 ) -> JobEnd
     ensures does { DoesThere D.Disk O.Output conn
-        (file_task_of job (input_use I.Incoming input.old input.new))
+        (file_task_of job (uses I.Incoming input.old input.new))
         (job_wrote (output.old, output.new) (use_of F.Output faults.old faults.new)
         (M.asked machine.old, M.asked machine.new) result) }
-    ensures reads { I.goes input.old input.new }
+    ensures reads { FileReads I.Incoming job input.old input.new }
 {
     let (end, back) = do_on(machine, conn, job, input, output, faults);
     if let Some(conn) = back {
@@ -88,10 +89,10 @@ pub fn do_in_files<M: Machine, S: Start, I: Incoming<O>, O: Output, F: Output>(
     faults: &mut F,
 ) -> JobEnd
     ensures does { DoesInFiles ⟦<FileFrom<S> as Disk>⟧ (image_at S.Start) O.Output path.now
-        (file_task_of job (input_use I.Incoming input.old input.new))
+        (file_task_of job (uses I.Incoming input.old input.new))
         (job_wrote (output.old, output.new) (use_of F.Output faults.old faults.new)
         (M.asked machine.old, M.asked machine.new) result) }
-    ensures reads { I.goes input.old input.new }
+    ensures reads { FileReads I.Incoming job input.old input.new }
 {
     match machine.open_database(path, start) {
         Ok(conn) => do_there(machine, conn, job, input, output, faults),
@@ -108,10 +109,10 @@ pub fn work_on_memory<M: Machine, I: Incoming<O>, O: Output, F: Output>(
     faults: &mut F,
 ) -> JobEnd
     ensures works { WorksOnNew ⟦<MemStore as Store>⟧ O.Output
-        (work_of job (input_use I.Incoming input.old input.new))
+        (work_of job (uses I.Incoming input.old input.new))
         (job_wrote (output.old, output.new) (use_of F.Output faults.old faults.new)
         (M.asked machine.old, M.asked machine.new) result) }
-    ensures reads { I.goes input.old input.new }
+    ensures reads { JobReads I.Incoming job input.old input.new }
 {
     match Connection::open_in_memory(machine.alloc()) {
         Ok(conn) => {

@@ -7,7 +7,7 @@ ghost use Rattle.pid_file.specs.Writing.{use_of};
 ghost use Rattle.pid_cli_words.specs.Jobs.{text_given};
 ghost use Rattle.pid_cli_jobs.specs.Ends.{ReportsLast, exit_status};
 ghost use Rattle.pid_cli_jobs.specs.Exports.{ExportsThrough};
-ghost use Rattle.pid_cli_jobs.specs.Inputs.{input_use};
+ghost use Rattle.pid_cli_jobs.specs.Inputs.{uses};
 ghost use Rattle.pid_cli_jobs.specs.Lookups.{fields_given};
 ghost use Rattle.pid_cli_jobs.specs.Plain.{
   AnswersPlain,
@@ -18,6 +18,7 @@ ghost use Rattle.pid_cli_jobs.specs.Plain.{
   IsGoodSender,
   LooksUpAt,
   LooksUpInFile,
+  PlainReads,
 };
 ghost use Rattle.pid_cli_jobs.specs.Wrote.{job_wrote};
 
@@ -140,10 +141,10 @@ pub fn answer_plain<M: Machine, S: Start, I: Incoming<O>, O: Output, F: Output>(
 ) -> JobEnd
     ensures answers { AnswersPlain ⟦<FileFrom<S> as Disk>⟧ (image_at S.Start)
         ⟦<MemStore as Store>⟧ M.Opened.remaining O.Output job.entry
-        (input_use I.Incoming input.old input.new)
+        (uses I.Incoming input.old input.new)
         (job_wrote (output.old, output.new) (use_of F.Output faults.old faults.new)
         (M.asked machine.old, M.asked machine.new) result) }
-    ensures reads { I.goes input.old input.new }
+    ensures reads { PlainReads I.Incoming job.entry input.old input.new }
 {
     match do_plain(machine, progress, start, job, input, output, faults) {
         JobEnd::Replied(reply) => print_reply(reply, output),
@@ -161,10 +162,10 @@ fn do_plain<M: Machine, S: Start, I: Incoming<O>, O: Output, F: Output>(
     faults: &mut F,
 ) -> JobEnd
     ensures does { DoesPlain ⟦<FileFrom<S> as Disk>⟧ (image_at S.Start) ⟦<MemStore as Store>⟧
-        M.Opened.remaining O.Output job.entry (input_use I.Incoming input.old input.new)
+        M.Opened.remaining O.Output job.entry (uses I.Incoming input.old input.new)
         (job_wrote (output.old, output.new) (use_of F.Output faults.old faults.new)
         (M.asked machine.old, M.asked machine.new) result) }
-    ensures reads { I.goes input.old input.new }
+    ensures reads { PlainReads I.Incoming job.entry input.old input.new }
 {
     match job {
         PlainJob::Lookup(words) => run_lookup(machine, words, output, faults),

@@ -100,13 +100,11 @@ fn give_streams<M: Machine, T: StreamServer, O: Output, F: Output>(
     faults: &mut F,
 ) -> JobEnd
     ensures goes { T.goes server.old server.new }
-    ensures gives { GivesTo T.StreamServer (server.old, server.new) port (record {
-      before = M.asked machine.old;
-      after = M.asked machine.new;
-    }) (record {
-      output = use_of O.Output output.old output.new;
-      faults = use_of F.Output faults.old faults.new;
-    }) result }
+    ensures gives { GivesTo T.StreamServer (server.old, server.new) port
+        (M.asked machine.old, M.asked machine.new) (record {
+          output = use_of O.Output output.old output.new;
+          faults = use_of F.Output faults.old faults.new;
+        }) result }
 {
     let number = u64::from(port.number);
     match write_count("listening on 127.0.0.1:", number, output) {

@@ -1,5 +1,5 @@
 -- The address that the server listens on, and the streams that are given to it.
-use Rattle.std.specs.Prelude.{◌≡◌, ℕ, [], ◌∷◌}
+use Rattle.std.specs.Prelude.{◌≡◌, ℕ, List, [], ◌∷◌, Option}
 use Rattle.std.specs.declared.net.ip_addr.IpAddr.TheVariants as ips
 use Rattle.std.specs.declared.net.ipv4_addr.Ipv4Addr.{Ipv4Addr}
 use Rattle.std.specs.declared.net.socket_addr.SocketAddr.{SocketAddr}
@@ -11,7 +11,7 @@ use Rattle.pid_cli_jobs.specs.declared.job_end.JobEnd.{JobEnd}
 use Rattle.pid_cli_jobs.specs.declared.job_end.JobEnd.TheVariants.{FileFailed}
 use Rattle.pid_cli_jobs.specs.declared.serving.Port.{Port}
 use Rattle.pid_cli_jobs.specs.Lines.{Streams}
-use Rattle.pid_cli_jobs.specs.Machines.{InTurn, Openings}
+use Rattle.pid_cli_jobs.specs.Machines.{InTurn, Opening}
 use Rattle.pid_cli_jobs.specs.Serving.{HasServed, listening_line}
 
 -- 127.0.0.1 (RFC 1122, 3.2.1.3) and this port: no other machine reaches it
@@ -24,9 +24,11 @@ pub record IsLoopback (address : SocketAddr) (port : ℕ) : Type 0 where
 module _ {S R : Type 0} (server : servers.Ghosts S) (change : S × S) where
   -- After the line of where it listens a server was given streams in turn, and it is reported how
   -- many; or that line did not go out whole, and it was given none.
-  pub data GivesTo (port : Port) (asked : Openings R) (w : Streams) (end : JobEnd) : Type 0 where
+  pub data GivesTo (port : Port) (asked : Option (List (Opening R)) × Option (List (Opening R)))
+      (w : Streams) (end : JobEnd) : Type 0 where
     GaveNone : FailsWithin w.output (listening_line port.number) → w.faults.after ≡ w.faults.before
-        → asked.after ≡ asked.before → end ≡ FileFailed → change.1 ≡ change.0
+        → asked.1 ≡ asked.0 → end ≡ FileFailed → change.1 ≡ change.0
         → GivesTo port asked w end
     Gave : HasServed (λ streams. InTurn server.answers change.0 streams change.1) port
-        (server.live change.1) asked w end → GivesTo port asked w end
+        (server.live change.1) (record { before = asked.0; after = asked.1 }) w end
+        → GivesTo port asked w end

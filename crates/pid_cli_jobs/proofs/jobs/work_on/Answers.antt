@@ -3,6 +3,7 @@ use Rattle.pid_service.specs.Opening.{OpensTo}
 use Rattle.pid_tables_rows.specs.declared.fault.TableFault.TheVariants.{Store}
 use Rattle.pid_cli_jobs.specs.declared.job_end.JobEnd.TheVariants.{Told}
 use Rattle.pid_cli_jobs.specs.Sessions.{Session, Unopened}
+use Rattle.pid_cli_jobs.proofs.Inputs.{unread}
 use Rattle.pid_cli_jobs.proofs.Sessions.{opened_limit}
 use Rattle.pid_cli_jobs.proofs.jobs.work_on.Goals as goal
 
@@ -31,3 +32,7 @@ returns-in-Err-clause-works g c = Unopened (record {
   unasked = refl;
   hands = refl;
 })
+
+pub returns-in-Err-clause-reads : goal.returns-in-Err-clause-reads
+returns-in-Err-clause-reads g c =
+    unread g.I.Incoming c.args.job c.args.input.now (g.met.I.Incoming.stays _)

@@ -24,7 +24,7 @@ served : {S R W T : Type 0} (store : Ghosts S) (server : servers.Ghosts T)
     → ((a : T) → server.live a ≡ is_live (held a))
     → held change.1 ≡ new
     → AsksFor w.asked.before between (PortAt port.number true)
-    → GivesTo server change port (record w.asked { before = between }) (streams_of writer w) w.end
+    → GivesTo server change port (between, w.asked.after) (streams_of writer w) w.end
     → Serves store writer port (held change.0) new w
 served store server held change new writer port w between each live is asks
     (GaveNone fails silent still ends same) = Unheard
