@@ -15,13 +15,10 @@ use Rattle.pid_http_requests.specs.Routes.{table, route_at}
 use Rattle.pid_http_requests.specs.declared.route.Route.{Route}
 
 -- the route of a path, by what a router answers
-pub route_found : (path : List ℕ) (routes : RowsOf (RouteOf Route)) → routes ≡ table → (result : Option Route) → MatchOption (first routes path) (result ≡ None) (λ found. result ≡ Some found.value) → result ≡ route_at path
+pub route_found : (path : List ℕ) (routes : RowsOf (RouteOf Route)) → routes ≡ table → (found : Option (RouteOf Route)) → first routes path ≡ found → map_key (λ found. found.value) found ≡ route_at path
 unfolding route_at
-route_found path routes same result told = go (first routes path) told ∙ ap (λ (rows : RowsOf (RouteOf Route)). map_key (λ found. found.value) (first rows path)) same
-  where
-    go : (found : Option (RouteOf Route)) → MatchOption found (result ≡ None) (λ found. result ≡ Some found.value) → result ≡ map_key (λ found. found.value) found
-    go None h = h
-    go (Some found) h = h
+route_found path routes same found is =
+    ap (λ (o : Option (RouteOf Route)). map_key (λ found. found.value) o) (sym is) ∙ ap (λ (rows : RowsOf (RouteOf Route)). map_key (λ found. found.value) (first rows path)) same
 
 -- what stands behind a front
 pub rest_found : (front path : List ℕ) (rest : Option (Bor (List ℕ))) (other : Bor (List ℕ)) → other.now ≡ [] → MatchOption rest (FindsTextPrefix front path None) (λ x. StripsPrefix (FindsTextPrefix front) path x.now)

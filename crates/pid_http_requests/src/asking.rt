@@ -1,5 +1,5 @@
 //! What each route asks for.
-ghost use Rattle.std.specs.Prelude.{◌≡◌, IfOk, unwrap_or};
+ghost use Rattle.std.specs.Prelude.{◌≡◌, IfOk};
 ghost use Rattle.std.specs.Option.{option_map};
 ghost use Rattle.pid_moderation.specs.Fields.{texts_of};
 ghost use Rattle.pid_http_requests.specs.Lookups.{lookup_asked};
@@ -15,9 +15,9 @@ ghost use Rattle.pid_http_requests.specs.Questions.{
   queue_asked,
   submissions_asked,
   status_asked,
-  rank_asked,
   account_asked,
   verb_asked,
+  buffered,
 };
 
 use crate::format::Format;
@@ -43,89 +43,93 @@ fn rest_behind<'a>(path: &'a str, front: &str) -> &'a str
     path.strip_prefix(front).unwrap_or("")
 }
 
-fn export_of(fields: &[(String, String)]) -> Option<Question>
-    ensures { result ≡ export_asked (texts_of fields.now) }
+fn export_of(fields: &[(String, String)]) -> Option<Wanted<Question, Format>>
+    ensures { result ≡ buffered (export_asked (texts_of fields.now)) }
 {
     match fields {
-        [] => Some(Question::Export),
+        [] => Some(Wanted::Buffered(Question::Export)),
         [_, ..] => None,
     }
 }
 
-fn read_of(path: &str, fields: &[(String, String)]) -> Option<Question>
-    ensures { result ≡ read_asked path.now (texts_of fields.now) }
+fn read_of(path: &str, fields: &[(String, String)]) -> Option<Wanted<Question, Format>>
+    ensures { result ≡ buffered (read_asked path.now (texts_of fields.now)) }
 {
     let format = format_of(fields)?;
     let path = Path::parse(rest_behind(path, "/read/"));
-    Some(Question::Read { path, format })
+    Some(Wanted::Buffered(Question::Read { path, format }))
 }
 
-fn children_of(fields: &[(String, String)]) -> Option<Question>
-    ensures { result ≡ children_asked (texts_of fields.now) }
+fn children_of(fields: &[(String, String)]) -> Option<Wanted<Question, Format>>
+    ensures { result ≡ buffered (children_asked (texts_of fields.now)) }
 {
     let format = format_beside(fields, "of")?;
     let above = above_named(text_at(fields, "of"));
-    Some(Question::Children { above, format })
+    Some(Wanted::Buffered(Question::Children { above, format }))
 }
 
-fn lookup_of(fields: &[(String, String)]) -> Option<Question>
-    ensures { result ≡ option_map Question.Lookup (lookup_asked (texts_of fields.now)) }
+fn lookup_of(fields: &[(String, String)]) -> Option<Wanted<Question, Format>>
+    ensures { result ≡ buffered (option_map Question.Lookup (lookup_asked (texts_of fields.now))) }
 {
     match args_of(fields) {
-        Ok((flags, args, size)) => Some(Question::Lookup(LookupQuery { flags, args, size })),
+        Ok((flags, args, size)) => Some(Wanted::Buffered(Question::Lookup(LookupQuery {
+            flags,
+            args,
+            size,
+        }))),
         Err(_) => None,
     }
 }
 
-fn submission_of(path: &str, fields: &[(String, String)]) -> Option<Question>
-    ensures { result ≡ submission_asked path.now (texts_of fields.now) }
+fn submission_of(path: &str, fields: &[(String, String)]) -> Option<Wanted<Question, Format>>
+    ensures { result ≡ buffered (submission_asked path.now (texts_of fields.now)) }
 {
     let format = format_of(fields)?;
     let number = submission_number(rest_behind(path, "/submission/"));
-    Some(Question::Submission { number, format })
+    Some(Wanted::Buffered(Question::Submission { number, format }))
 }
 
-fn pending_of(fields: &[(String, String)]) -> Option<Question>
-    ensures { result ≡ pending_asked (texts_of fields.now) }
+fn pending_of(fields: &[(String, String)]) -> Option<Wanted<Question, Format>>
+    ensures { result ≡ buffered (pending_asked (texts_of fields.now)) }
 {
     let format = format_beside(fields, "after")?;
     let after = after_named(value(fields, "after"))?;
-    Some(Question::Pending { after, format })
+    Some(Wanted::Buffered(Question::Pending { after, format }))
 }
 
-fn changes_of(fields: &[(String, String)]) -> Option<Question>
-    ensures { result ≡ changes_asked (texts_of fields.now) }
+fn changes_of(fields: &[(String, String)]) -> Option<Wanted<Question, Format>>
+    ensures { result ≡ buffered (changes_asked (texts_of fields.now)) }
 {
     let format = format_beside_two(fields, "since", "after")?;
     let since = since_named(value(fields, "since"))?;
     let start = start_named(text_at(fields, "after"));
-    Some(Question::Changes {
+    Some(Wanted::Buffered(Question::Changes {
         since,
         start,
         format,
-    })
+    }))
 }
 
-fn command_of(verb: Verb, fields: &[(String, String)]) -> Option<Question>
-    ensures { result ≡ verb_asked verb (texts_of fields.now) }
+fn command_of(verb: Verb, fields: &[(String, String)]) -> Option<Wanted<Question, Format>>
+    ensures { result ≡ buffered (verb_asked verb (texts_of fields.now)) }
 {
     let format = format_of(fields)?;
-    Some(Question::Command { verb, format })
+    Some(Wanted::Buffered(Question::Command { verb, format }))
 }
 
-fn queue_of(fields: &[(String, String)]) -> Option<Question>
-    ensures { result ≡ queue_asked (texts_of fields.now) }
+fn queue_of(fields: &[(String, String)]) -> Option<Wanted<Question, Format>>
+    ensures { result ≡ buffered (queue_asked (texts_of fields.now)) }
 {
     let format = format_beside(fields, "after")?;
     let after = after_named(value(fields, "after"))?;
-    Some(Question::Queue { after, format })
+    Some(Wanted::Buffered(Question::Queue { after, format }))
 }
 
 fn submissions_of(
     alloc: Global,
     fields: &[(String, String)],
-) -> Result<Option<Question>, AllocError>
-    ensures { IfOk result (λ asked. asked ≡ submissions_asked (texts_of fields.now)) }
+) -> Result<Option<Wanted<Question, Format>>, AllocError>
+    ensures { IfOk result (λ asked. asked ≡ buffered (submissions_asked (texts_of fields.now))) }
 {
     let Some(format) = format_beside_three(fields, "path", "author", "before") else {
         return Ok(None);
@@ -137,31 +141,19 @@ fn submissions_of(
         return Ok(None);
     };
     let sought = sought_named(text_at(fields, "path"));
-    Ok(Some(Question::Submissions {
+    Ok(Some(Wanted::Buffered(Question::Submissions {
         sought,
         author,
         before,
         format,
-    }))
+    })))
 }
 
-fn status_of(fields: &[(String, String)]) -> Option<Question>
-    ensures { result ≡ status_asked (texts_of fields.now) }
+fn status_of(fields: &[(String, String)]) -> Option<Wanted<Question, Format>>
+    ensures { result ≡ buffered (status_asked (texts_of fields.now)) }
 {
     let format = format_of(fields)?;
-    Some(Question::Status { format })
-}
-
-fn rank_of(alloc: Global, fields: &[(String, String)]) -> Result<Option<Question>, AllocError>
-    ensures { IfOk result (λ asked. asked ≡ rank_asked (texts_of fields.now)) }
-{
-    let Some(format) = format_beside(fields, "who") else {
-        return Ok(None);
-    };
-    match account_named(alloc, text_at(fields, "who"))? {
-        Some(who) => Ok(Some(Question::Rank { who, format })),
-        None => Ok(None),
-    }
+    Some(Wanted::Buffered(Question::Status { format }))
 }
 
 // The rank of an account, or by the other method a command on it.
@@ -169,68 +161,59 @@ fn account_of(
     alloc: Global,
     method: &Method,
     fields: &[(String, String)],
-) -> Result<Option<Question>, AllocError>
-    ensures { IfOk result (λ asked. asked ≡ account_asked method.now (texts_of fields.now)) }
+) -> Result<Option<Wanted<Question, Format>>, AllocError>
+    ensures { IfOk result (λ asked. asked
+        ≡ buffered (account_asked method.now (texts_of fields.now))) }
 {
-    if *method == Method::GET {
-        rank_of(alloc, fields)
-    } else {
-        Ok(command_of(Verb::Account, fields))
+    if *method != Method::GET {
+        return Ok(command_of(Verb::Account, fields));
+    }
+    let Some(format) = format_beside(fields, "who") else {
+        return Ok(None);
+    };
+    match account_named(alloc, text_at(fields, "who"))? {
+        Some(who) => Ok(Some(Wanted::Buffered(Question::Rank { who, format }))),
+        None => Ok(None),
     }
 }
 
-// What is asked for once the body is held; that the query is bad if nothing is.
-fn buffered(question: Option<Question>) -> Wanted<Question, Format>
-    ensures { result ≡ unwrap_or (option_map Wanted.Buffered question)
-        (Wanted.Buffered Question.BadQuery) }
+fn import_of(fields: &[(String, String)]) -> Option<Wanted<Question, Format>>
+    ensures { result ≡ option_map Wanted.Streamed (format_in (texts_of fields.now)) }
 {
-    match question {
-        Some(question) => Wanted::Buffered(question),
-        None => Wanted::Buffered(Question::BadQuery),
-    }
+    let format = format_of(fields)?;
+    Some(Wanted::Streamed(format))
 }
 
-fn import_of(fields: &[(String, String)]) -> Wanted<Question, Format>
-    ensures { result ≡ unwrap_or (option_map Wanted.Streamed (format_in (texts_of fields.now)))
-        (Wanted.Buffered Question.BadQuery) }
-{
-    match format_of(fields) {
-        Some(format) => Wanted::Streamed(format),
-        None => Wanted::Buffered(Question::BadQuery),
-    }
-}
-
-// What a route, by a method that it takes, its path and the fields of its query ask for.
-#[tactic(auto, unfolding(crate::specs::Questions::question_at))]
+// What a route, by a method that it takes, its path and the fields of its query ask for; nothing if
+// the query is bad.
 pub(crate) fn ask_route(
     alloc: Global,
     method: &Method,
     route: Route,
     path: &str,
     fields: &[(String, String)],
-) -> Result<Wanted<Question, Format>, AllocError>
+) -> Result<Option<Wanted<Question, Format>>, AllocError>
     ensures { IfOk result (λ asked. asked
-        ≡ unwrap_or (question_at method.now route path.now (texts_of fields.now))
-        (Wanted.Buffered Question.BadQuery)) }
+        ≡ question_at method.now route path.now (texts_of fields.now)) }
 {
     match route {
-        Route::Export => Ok(buffered(export_of(fields))),
-        Route::Read => Ok(buffered(read_of(path, fields))),
-        Route::Children => Ok(buffered(children_of(fields))),
-        Route::Lookup => Ok(buffered(lookup_of(fields))),
-        Route::Submission => Ok(buffered(submission_of(path, fields))),
-        Route::Pending => Ok(buffered(pending_of(fields))),
-        Route::Changes => Ok(buffered(changes_of(fields))),
-        Route::Queue => Ok(buffered(queue_of(fields))),
-        Route::Submissions => Ok(buffered(submissions_of(alloc, fields)?)),
-        Route::Status => Ok(buffered(status_of(fields))),
-        Route::Account => Ok(buffered(account_of(alloc, method, fields)?)),
-        Route::Submit => Ok(buffered(command_of(Verb::Submit, fields))),
-        Route::Comment => Ok(buffered(command_of(Verb::Comment, fields))),
-        Route::Withdraw => Ok(buffered(command_of(Verb::Withdraw, fields))),
-        Route::Approve => Ok(buffered(command_of(Verb::Approve, fields))),
-        Route::Confirm => Ok(buffered(command_of(Verb::Confirm, fields))),
-        Route::Reject => Ok(buffered(command_of(Verb::Reject, fields))),
+        Route::Export => Ok(export_of(fields)),
+        Route::Read => Ok(read_of(path, fields)),
+        Route::Children => Ok(children_of(fields)),
+        Route::Lookup => Ok(lookup_of(fields)),
+        Route::Submission => Ok(submission_of(path, fields)),
+        Route::Pending => Ok(pending_of(fields)),
+        Route::Changes => Ok(changes_of(fields)),
+        Route::Queue => Ok(queue_of(fields)),
+        Route::Submissions => submissions_of(alloc, fields),
+        Route::Status => Ok(status_of(fields)),
+        Route::Account => account_of(alloc, method, fields),
+        Route::Submit => Ok(command_of(Verb::Submit, fields)),
+        Route::Comment => Ok(command_of(Verb::Comment, fields)),
+        Route::Withdraw => Ok(command_of(Verb::Withdraw, fields)),
+        Route::Approve => Ok(command_of(Verb::Approve, fields)),
+        Route::Confirm => Ok(command_of(Verb::Confirm, fields)),
+        Route::Reject => Ok(command_of(Verb::Reject, fields)),
         Route::Import => Ok(import_of(fields)),
     }
 }

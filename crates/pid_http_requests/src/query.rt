@@ -14,8 +14,6 @@ ghost use Rattle.std.specs.Prelude.{
 ghost use Rattle.std.specs.Option.{option_copied};
 ghost use Rattle.pid_moderation.specs.Fields.{texts_of};
 ghost use Rattle.pid_http_requests.specs.Queries.{
-  is_format_alone as format_alone,
-  are_both as both,
   format_said,
   format_in,
   format_beside as format_in_both,
@@ -24,8 +22,6 @@ ghost use Rattle.pid_http_requests.specs.Queries.{
   above_said,
 };
 ghost use Rattle.pid_http_requests.specs.Queries.{
-  are_three as three,
-  are_four as four,
   format_beside_two as format_in_three,
   format_beside_three as format_in_four,
   author_said,
@@ -91,62 +87,29 @@ fn format_named(value: Option<&str>) -> Option<Format>
     }
 }
 
-fn is_format_alone(fields: &[(String, String)]) -> bool
-    ensures { result ≡ format_alone (texts_of fields.now) }
-{
-    let formats = times(fields, "format");
-    formats <= 1 && fields.len() == formats
-}
-
-fn are_both(fields: &[(String, String)], other: &str) -> bool
-    ensures { result ≡ both other.now (texts_of fields.now) }
-{
-    let formats = times(fields, "format");
-    let others = times(fields, other);
-    formats <= 1 && others <= 1 && fields.len() == others + formats
-}
-
-fn are_three(fields: &[(String, String)], first: &str, second: &str) -> bool
-    ensures { result ≡ three first.now second.now (texts_of fields.now) }
-{
-    let formats = times(fields, "format");
-    let firsts = times(fields, first);
-    let seconds = times(fields, second);
-    formats <= 1 && firsts <= 1 && seconds <= 1 && fields.len() == firsts + seconds + formats
-}
-
-fn are_four(fields: &[(String, String)], first: &str, second: &str, third: &str) -> bool
-    ensures { result ≡ four first.now second.now third.now (texts_of fields.now) }
-{
-    let formats = times(fields, "format");
-    let firsts = times(fields, first);
-    let seconds = times(fields, second);
-    let thirds = times(fields, third);
-    formats <= 1
-        && firsts <= 1
-        && seconds <= 1
-        && thirds <= 1
-        && fields.len() == firsts + seconds + thirds + formats
-}
-
 // The format, of fields that may say nothing else.
 pub(crate) fn format_of(fields: &[(String, String)]) -> Option<Format>
     ensures { result ≡ format_in (texts_of fields.now) }
 {
-    if !is_format_alone(fields) {
-        return None;
+    let formats = times(fields, "format");
+    if formats <= 1 && fields.len() == formats {
+        format_named(value(fields, "format"))
+    } else {
+        None
     }
-    format_named(value(fields, "format"))
 }
 
 // The format, of fields that may say one other thing.
 pub(crate) fn format_beside(fields: &[(String, String)], other: &str) -> Option<Format>
     ensures { result ≡ format_in_both other.now (texts_of fields.now) }
 {
-    if !are_both(fields, other) {
-        return None;
+    let formats = times(fields, "format");
+    let others = times(fields, other);
+    if formats <= 1 && others <= 1 && fields.len() == others + formats {
+        format_named(value(fields, "format"))
+    } else {
+        None
     }
-    format_named(value(fields, "format"))
 }
 
 // The format, of fields that may say two other things.
@@ -157,10 +120,14 @@ pub(crate) fn format_beside_two(
 ) -> Option<Format>
     ensures { result ≡ format_in_three first.now second.now (texts_of fields.now) }
 {
-    if !are_three(fields, first, second) {
-        return None;
+    let formats = times(fields, "format");
+    let firsts = times(fields, first);
+    let seconds = times(fields, second);
+    if formats <= 1 && firsts <= 1 && seconds <= 1 && fields.len() == firsts + seconds + formats {
+        format_named(value(fields, "format"))
+    } else {
+        None
     }
-    format_named(value(fields, "format"))
 }
 
 // The format, of fields that may say three other things.
@@ -172,10 +139,20 @@ pub(crate) fn format_beside_three(
 ) -> Option<Format>
     ensures { result ≡ format_in_four first.now second.now third.now (texts_of fields.now) }
 {
-    if !are_four(fields, first, second, third) {
-        return None;
+    let formats = times(fields, "format");
+    let firsts = times(fields, first);
+    let seconds = times(fields, second);
+    let thirds = times(fields, third);
+    if formats <= 1
+        && firsts <= 1
+        && seconds <= 1
+        && thirds <= 1
+        && fields.len() == firsts + seconds + thirds + formats
+    {
+        format_named(value(fields, "format"))
+    } else {
+        None
     }
-    format_named(value(fields, "format"))
 }
 
 // The account with this name, if a text may be one.

@@ -7,7 +7,6 @@ ghost use Rattle.pid_http_requests.specs.Questions.{
   with_target,
   in_other,
   is_target,
-  begins_slash,
 };
 
 use crate::asking::ask_route;
@@ -112,22 +111,16 @@ fn split_target(target: &str) -> (&str, &str)
     }
 }
 
-fn has_slash(target: &str) -> bool
-    ensures { result ≡ begins_slash target.now }
-{
-    match target.as_bytes() {
-        [] => false,
-        [byte, ..] => *byte == b'/',
-    }
-}
-
 // The target as text, if it begins with a slash.
 fn text_of_target(target: &[u8]) -> Option<&str>
     ensures { MatchOption result (is_target target.now ≡ false)
         (λ text. (text.now ≡ target.now) × (is_target target.now ≡ true)) }
 {
     let text = text_of(target)?;
-    if has_slash(text) { Some(text) } else { None }
+    match text.as_bytes() {
+        [b'/', ..] => Some(text),
+        _ => None,
+    }
 }
 
 // The refusal, if the route takes the other method.
@@ -162,7 +155,10 @@ fn ask(
         return Ok(Wanted::Buffered(refusal));
     }
     let fields = fields_of(alloc, query)?;
-    ask_route(alloc, method, route, path, &fields)
+    match ask_route(alloc, method, route, path, &fields)? {
+        Some(wanted) => Ok(wanted),
+        None => Ok(Wanted::Buffered(Question::BadQuery)),
+    }
 }
 
 /// What a method and a target ask for. The file of an import is read as it comes; the format is

@@ -1,6 +1,5 @@
 //! The routes, found by their paths.
-ghost use Rattle.std.specs.Prelude.{◌≡◌, IfErr, None, Some, MatchOption, MatchResult};
-ghost use Rattle.matchit.specs.Seek.{first};
+ghost use Rattle.std.specs.Prelude.{◌≡◌, IfErr};
 ghost use Rattle.pid_http_requests.specs.Routes.{table, route_at};
 
 use crate::route::{Route, path_of};
@@ -23,7 +22,33 @@ impl Routes {
     pub fn new(alloc: Global) -> Result<Routes, InsertError>
         ensures { IfErr result (λ e. e ≡ InsertError.OutOfMemory) }
     {
-        let router = build_router(alloc)?;
+        let all = [
+            Route::Export,
+            Route::Read,
+            Route::Children,
+            Route::Lookup,
+            Route::Submission,
+            Route::Pending,
+            Route::Changes,
+            Route::Queue,
+            Route::Submissions,
+            Route::Status,
+            Route::Account,
+            Route::Submit,
+            Route::Comment,
+            Route::Withdraw,
+            Route::Approve,
+            Route::Confirm,
+            Route::Reject,
+            Route::Import,
+        ];
+        let mut router = Router::new(alloc);
+        for route in all {
+            match router.insert(path_of(route), route) {
+                Ok(()) => {}
+                Err(error) => return Err(error),
+            }
+        }
         Ok(Routes { router })
     }
 
@@ -31,49 +56,9 @@ impl Routes {
     pub(crate) fn route_of(&self, path: &str) -> Option<Route>
         ensures { result ≡ route_at path.now }
     {
-        find(&self.router, path)
-    }
-}
-
-fn build_router(alloc: Global) -> Result<Router<Route>, InsertError>
-    ensures { MatchResult result (λ routes. routes ≡ table) (λ e. e ≡ InsertError.OutOfMemory) }
-{
-    let all = [
-        Route::Export,
-        Route::Read,
-        Route::Children,
-        Route::Lookup,
-        Route::Submission,
-        Route::Pending,
-        Route::Changes,
-        Route::Queue,
-        Route::Submissions,
-        Route::Status,
-        Route::Account,
-        Route::Submit,
-        Route::Comment,
-        Route::Withdraw,
-        Route::Approve,
-        Route::Confirm,
-        Route::Reject,
-        Route::Import,
-    ];
-    let mut routes = Router::new(alloc);
-    for route in all {
-        match routes.insert(path_of(route), route) {
-            Ok(()) => {}
-            Err(error) => return Err(error),
+        match self.router.at(path) {
+            Ok(found) => Some(*found.value),
+            Err(_) => None,
         }
-    }
-    Ok(routes)
-}
-
-fn find(routes: &Router<Route>, path: &str) -> Option<Route>
-    ensures { MatchOption (first routes.now path.now)
-        (result ≡ None) (λ found. result ≡ Some found.value) }
-{
-    match routes.at(path) {
-        Ok(found) => Some(*found.value),
-        Err(_) => None,
     }
 }

@@ -3,11 +3,12 @@ use Rattle.std.specs.Option.{option_map}
 use Rattle.pid_lookup.specs.Fields.{bytes_of, lookup_from, lookup_said}
 use Rattle.pid_http_requests.specs.Lookups.{as_query}
 use Rattle.pid_http_requests.specs.declared.question.Question.TheVariants.{Lookup}
+use Rattle.pid_http_stream.specs.declared.handler.Wanted.TheVariants.{Buffered}
 use Rattle.pid_http_requests.proofs.asking.lookup_of.Goals as goal
 
 pub returns-in-Ok : goal.returns-in-Ok
-returns-in-Ok c = sym (ap (λ l. option_map Lookup (option_map as_query l)) c.in-Ok.ensures.ok)
+returns-in-Ok c = sym (ap (λ l. option_map Buffered (option_map Lookup (option_map as_query l))) c.in-Ok.ensures.ok)
 
 pub returns-in-Err : goal.returns-in-Err
 unfolding lookup_from
-returns-in-Err c = sym (ap (λ b. option_map Lookup (option_map as_query (cond b None (Some (lookup_said (bytes_of c.args.fields.now)))))) (c.in-Err.ensures.bad.0 refl))
+returns-in-Err c = sym (ap (λ b. option_map Buffered (option_map Lookup (option_map as_query (cond b None (Some (lookup_said (bytes_of c.args.fields.now))))))) (c.in-Err.ensures.bad.0 refl))
