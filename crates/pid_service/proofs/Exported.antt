@@ -19,7 +19,6 @@ use Rattle.pid_service.specs.declared.exporting.ExportFault.TheVariants.{Refused
 use Rattle.sqlite.specs.Held.{Held}
 use Rattle.sqlite_trees.specs.declared.store.Store.{Ghosts}
 use Rattle.pid_tables.specs.Faults.{refusal_for}
-use Rattle.pid_tables_rows.specs.declared.fault.TableFault.{TableFault}
 use Rattle.pid_moderation.specs.declared.refusal.Refusal.{Refusal}
 use Rattle.pid_service.specs.Asking.{IsCausedAs, MayGive}
 use Rattle.pid_service.specs.Exporting.{ExportsTree}
@@ -30,28 +29,20 @@ use Rattle.pid_lookup.specs.CacheAgreement.{Agrees}
 use Rattle.pid_lookup.specs.CacheEntries.{Entries}
 use Rattle.pid_moderation.specs.Items.{name_at}
 use Rattle.pid_service.specs.declared.registry.Registry.{Registry}
+use Rattle.pid_service.specs.Steps.Exporting.{IsToldAs}
 use Rattle.pid_service.proofs.Causes.{caused_as}
 use Rattle.pid_service.proofs.Keeping.{true_not}
 
 pub whole_tree : (old new : Option (List ℕ)) (h : History) → text_of_items (items_of h) ≡ print (tree_of h) → WritesItems {X = Unit {0}} (Ok tt) old new (items_of h) → ExportsTree {X = Unit {0}} (Ok tt) old new h
 whole_tree old new h same all = subst (λ (text : List ℕ). Appends old new text) same all
 
--- whole lines of it, if the tables failed
-pub lines_told : (end : EachEnd WriteFault) (fault : TableFault) (e : Refusal) (old new : Option (List ℕ)) (h : History) → end ≡ ends.Tables fault → IsMemoryOrStore e → WritesItems {X = Unit {0}} (Err end) old new (items_of h)
-    → ExportsTree {X = Unit {0}} (Err (Refused e)) old new h
-lines_told end fault e old new h is bad lines = (bad, subst (λ (x : EachEnd WriteFault). WritesItems {X = Unit {0}} (Err x) old new (items_of h)) is lines)
+pub told_tree : (end : EachEnd WriteFault) (told : ExportFault) (old new : Option (List ℕ)) (h : History) → text_of_items (items_of h) ≡ print (tree_of h) → IsToldAs end told → WritesItems {X = Unit {0}} (Err end) old new (items_of h)
+    → ExportsTree {X = Unit {0}} (Err told) old new h
+told_tree (ends.Tables fault) told old new h same (e, is, bad, of) lines = subst (λ (x : ExportFault). ExportsTree {X = Unit {0}} (Err x) old new h) (sym is) (bad, lines)
+told_tree (ends.Fault fault) told old new h same is front = subst (λ (x : ExportFault). ExportsTree {X = Unit {0}} (Err x) old new h) (sym is) (subst (λ (text : List ℕ). SendsFront old new text) same front)
 
--- a prefix of it, if the writer did
-pub front_told : (end : EachEnd WriteFault) (fault : WriteFault) (old new : Option (List ℕ)) (h : History) → end ≡ ends.Fault fault → text_of_items (items_of h) ≡ print (tree_of h) → WritesItems {X = Unit {0}} (Err end) old new (items_of h)
-    → ExportsTree {X = Unit {0}} (Err (Write fault)) old new h
-front_told end fault old new h is same front =
-    subst (λ (text : List ℕ). SendsFront old new text) same (subst (λ (x : EachEnd WriteFault). WritesItems {X = Unit {0}} (Err x) old new (items_of h)) is front)
-
-refuses : (e f : Refusal) → ◌≡◌ {A = Result (Unit {0}) ExportFault} (Err (Refused e)) (Err (Refused f)) → e ≡ f
+refuses : (e f : Refusal) → Refused e ≡ Refused f → e ≡ f
 refuses e f is = cc
-
-pub refused_not : {Z : Type 0} (e : Refusal) (f : WriteFault) → ◌≡◌ {A = Result (Unit {0}) ExportFault} (Err (Refused e)) (Err (Write f)) → Z
-refused_not e f is = absurd (let no : ⊥ = cc in no)
 
 pub write_not : {Z : Type 0} (f : WriteFault) (e : Refusal) → ◌≡◌ {A = Result (Unit {0}) ExportFault} (Err (Write f)) (Err (Refused e)) → Z
 write_not f e is = absurd (let no : ⊥ = cc in no)
@@ -60,14 +51,27 @@ pub same_write : (f told : WriteFault) → ◌≡◌ {A = Result (Unit {0}) Expo
 same_write f told is = cc
 
 -- a fault of the tables has its cause
-pub told_cause : {S : Type 0} (store : Ghosts S) (old new : Held S) (end : EachEnd WriteFault) (fault : TableFault) (x e : Refusal) → end ≡ ends.Tables fault → x ≡ refusal_for fault
-    → ◌≡◌ {A = Result (Unit {0}) ExportFault} (Err (Refused x)) (Err (Refused e)) → IsCausedEnd store old new end → IsCausedAs store old new e
-told_cause store old new end fault x e is of asked caused =
-    subst (λ (y : Refusal). IsCausedAs store old new y) (sym of ∙ refuses x e asked) (caused_as store old new fault (subst (λ (y : EachEnd WriteFault). IsCausedEnd store old new y) is caused))
+pub told_cause : {S : Type 0} (store : Ghosts S) (old new : Held S) (end : EachEnd WriteFault) (told : ExportFault) (e : Refusal) → IsToldAs end told → told ≡ Refused e
+    → IsCausedEnd store old new end → IsCausedAs store old new e
+told_cause store old new (ends.Tables fault) told e (x, is, bad, of) asked caused =
+    let same : e ≡ refusal_for fault = refuses e x (sym asked ∙ is) ∙ of in
+    subst (λ (y : Refusal). IsCausedAs store old new y) (sym same) (caused_as store old new fault caused)
+told_cause store old new (ends.Fault fault) told e is asked caused = absurd (let other = sym asked ∙ is in let no : ⊥ = cc in no)
 
 -- what a live registry may give
-pub told_gives : (x e : Refusal) (live : Bool) → live ≡ true → IsMemoryOrStore x → ◌≡◌ {A = Result (Unit {0}) ExportFault} (Err (Refused x)) (Err (Refused e)) → MayGive live e
-told_gives x e live on bad asked = record { alive = λ still. subst IsMemoryOrStore (refuses x e asked) bad; failed = true_not live on }
+pub told_gives : (end : EachEnd WriteFault) (told : ExportFault) (e : Refusal) (live : Bool) → live ≡ true → IsToldAs end told → told ≡ Refused e → MayGive live e
+told_gives (ends.Tables fault) told e live on (x, is, bad, of) asked =
+    let same : x ≡ e = refuses x e (sym is ∙ asked) in
+    record { alive = λ still. subst IsMemoryOrStore same bad; failed = true_not live on }
+told_gives (ends.Fault fault) told e live on is asked = absurd (let other = sym asked ∙ is in let no : ⊥ = cc in no)
+
+-- a fault of the writer is the one that the walk met
+pub told_writes : {X : Type 0} (r : Result X ExportFault) (end : EachEnd WriteFault) (told : ExportFault) (f : WriteFault) → r ≡ Err told → r ≡ Err (Write f) → IsToldAs end told → end ≡ ends.Fault f
+told_writes r (ends.Tables fault) told f is asked (e, was, bad, of) = absurd (let both = sym is ∙ asked in let no : ⊥ = cc in no)
+told_writes r (ends.Fault fault) told f is asked was = let both = sym is ∙ asked in let same : fault ≡ f = cc in ap ends.Fault same
+
+pub told_by : {X : Type 0} (r : Result X ExportFault) (told : ExportFault) (e : Refusal) → r ≡ Err told → r ≡ Err (Refused e) → told ≡ Refused e
+told_by r told e is asked = let same = sym is ∙ asked in cc
 
 module _ {S : Type 0} (store : Ghosts S) where
   -- a text that is kept is that of the tree

@@ -1,5 +1,6 @@
 -- What serves private functions alone; no promise rests on it.
 pub mod Asking
+pub mod Exporting
 pub mod Exports
 pub mod Importing
 pub mod ItemTexts

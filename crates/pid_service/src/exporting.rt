@@ -6,6 +6,7 @@ ghost use Rattle.pid_service.specs.Asking.{Answers};
 ghost use Rattle.pid_service.specs.Exporting.{IsExported};
 ghost use Rattle.pid_service.specs.KeptViews.{kept_by, kept_views};
 ghost use Rattle.pid_service.specs.Registries.{is_live as lives};
+ghost use Rattle.pid_service.specs.Steps.Exporting.{IsToldAs};
 
 use crate::item_text::export_items;
 use crate::items_text::{ItemsText, items_text};
@@ -43,6 +44,15 @@ impl ExportFault {
     }
 }
 
+fn fault_of(end: EachEnd<WriteFault>) -> ExportFault
+    ensures { IsToldAs end result }
+{
+    match end {
+        EachEnd::Tables(fault) => ExportFault::Refused(refusal_of(fault)),
+        EachEnd::Fault(fault) => ExportFault::Write(fault),
+    }
+}
+
 impl<S: Alter + Drop> Registry<S> {
     /// Writes the canonical text of all items: the text that is kept in memory, or one that is
     /// printed while the items are read one by one.
@@ -68,8 +78,7 @@ impl<S: Alter + Drop> Registry<S> {
         }
         match export_items(&mut self.tables, output) {
             Ok(()) => Ok(()),
-            Err(EachEnd::Tables(fault)) => Err(ExportFault::Refused(refusal_of(fault))),
-            Err(EachEnd::Fault(fault)) => Err(ExportFault::Write(fault)),
+            Err(end) => Err(fault_of(end)),
         }
     }
 

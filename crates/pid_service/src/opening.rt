@@ -1,5 +1,5 @@
 //! Opens a registry, and moves a database to the schema of today.
-ghost use Rattle.std.specs.Prelude.{◌≡◌, true, false, Some, Err, IfErr, IsTrue, MatchResult};
+ghost use Rattle.std.specs.Prelude.{◌≡◌, ◌↔◌, true, false, Some, Err, IfErr, IsTrue, MatchResult};
 ghost use Rattle.pid_moderation.specs.History.{History};
 ghost use Rattle.pid_moderation.specs.Views.{views_of};
 ghost use Rattle.pid_tables_rows.specs.declared.version.Version.TheVariants.{Two};
@@ -29,6 +29,15 @@ use pid_tables::{Step, TableFault, Tables, Version};
 use sqlite::{Alter, Connection};
 use std::alloc::Global;
 
+fn is_today(found: Option<Version>) -> bool
+    ensures { result ≡ true ↔ (found ≡ Some Two) }
+{
+    match found {
+        Some(Version::Two) => true,
+        Some(Version::One) | None => false,
+    }
+}
+
 // Judges tables in the schema of today. There are no others after a migration.
 fn judge_tables<S: Alter + Drop>(tables: &mut Tables<S>, alloc: Global) -> Result<(), TableFault>
     requires { tables.old.conn.in_transaction ≡ false }
@@ -48,9 +57,13 @@ fn judge_tables<S: Alter + Drop>(tables: &mut Tables<S>, alloc: Global) -> Resul
     let _settled = tables.conn.is_autocommit(); // proof only
     match tables.check(alloc) {
         Err(fault) => Err(fault),
-        Ok(Some(Version::Two)) => Ok(()),
-        Ok(Some(Version::One)) => Err(TableFault::Store),
-        Ok(None) => Err(TableFault::Store),
+        Ok(found) => {
+            if is_today(found) {
+                Ok(())
+            } else {
+                Err(TableFault::Store)
+            }
+        }
     }
 }
 

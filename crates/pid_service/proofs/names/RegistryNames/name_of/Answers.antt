@@ -1,4 +1,4 @@
-use Rattle.std.proofs.Common.{◌≡◌, ℕ, true, List, Option, Some, IfSome, refl, rules, sym, ap, subst, ◌∙◌}
+use Rattle.std.proofs.Common.{◌≡◌, ℕ, true, List, Option, Some, IfSome, inl, refl, rules, sym, ap, subst, ◌∙◌}
 use Rattle.std.specs.FinMap.{entries, get, get-entries}
 use Rattle.std.specs.FinMap.Entries.{find}
 use Rattle.sqlite.specs.Held.{state}
@@ -10,7 +10,8 @@ use Rattle.pid_moderation.specs.Views.{items_of, views_of}
 use Rattle.pid_moderation.specs.Writes.{tree_of}
 use Rattle.pid_tables_check.proofs.Asking.{nothing_read}
 use Rattle.pid_service.proofs.Causes.{caused_by}
-use Rattle.pid_service.proofs.Obeyed.{only_read}
+use Rattle.pid_service.specs.Registries.{connection}
+use Rattle.pid_service.proofs.Keeping.{true_not}
 use Rattle.pid_service.proofs.Questions.{asked_then, caused_since}
 use Rattle.pid_service.proofs.names.RegistryNames.name_of.Goals as goal
 
@@ -28,7 +29,7 @@ returns-in-Ok-Some-clause-found g c clean h shows =
 
 pub returns-in-Ok-Some-clause-kept : goal.returns-in-Ok-Some-clause-kept
 returns-in-Ok-Some-clause-kept g c =
-    let on : c.args.self.now.live ≡ true = search rules in
+    let on = c.if-not-self.false in
     record {
       shown = λ h shows. record {
         lives = shows.lives;
@@ -45,7 +46,7 @@ returns-in-Ok-Some-clause-kept g c =
 
 pub returns-in-Err-clause-kept : goal.returns-in-Err-clause-kept
 returns-in-Err-clause-kept g c =
-    let on : c.args.self.now.live ≡ true = search rules in
+    let on = c.if-not-self.false in
     record {
       shown = λ h shows. record {
         lives = shows.lives;
@@ -68,7 +69,7 @@ returns-in-Ok-clause-found g c clean h shows =
 
 pub returns-in-Ok-clause-kept : goal.returns-in-Ok-clause-kept
 returns-in-Ok-clause-kept g c =
-    let on : c.args.self.now.live ≡ true = search rules in
+    let on = c.if-not-self.false in
     let rests = c.item.ensures.rests in
     record {
       shown = λ h shows. record {
@@ -85,3 +86,42 @@ returns-in-Ok-clause-kept g c =
       told = (λ may. may, λ may. may);
       asked = λ start asked. asked_then g.S.Store start c.args.self.now _ on refl rests (record { text = refl; pending = refl; read = refl }) asked;
     }
+
+pub returns-in-Err-item-clause-kept : goal.returns-in-Err-item-clause-kept
+returns-in-Err-item-clause-kept g c =
+    let on = c.if-not-self.false in
+    let rests = c.item.ensures.rests in
+    record {
+      shown = λ h shows. record {
+        lives = shows.lives;
+        history = shows.history;
+        tables = rests.kept (views_of h) shows.tables;
+        kept = λ clean.
+            let kept = shows.kept (rests.clean clean) in
+            record { names = c.get.ensures.agrees (λ path. name_at path (items_of h)) kept.names; text = kept.text; pending = kept.pending };
+      };
+      was_honest = rests.clean;
+      faults = λ f. (λ may. may, λ may. may);
+      told = (λ may. may, λ may. may);
+      asked = λ start asked. asked_then g.S.Store start c.args.self.now _ on refl rests (record { text = refl; pending = refl; read = refl }) asked;
+    }
+
+-- ---- why a fault came
+
+pub returns-then-not-self-clause-fault : goal.returns-then-not-self-clause-fault
+returns-then-not-self-clause-fault g c = record { alive = λ on. true_not c.args.self.now.live on c.if-not-self.true; failed = λ off. refl }
+
+pub returns-then-not-self-clause-caused : goal.returns-then-not-self-clause-caused
+returns-then-not-self-clause-caused g c clean h shows = true_not c.args.self.now.live shows.lives c.if-not-self.true
+
+pub returns-in-Err-clause-fault : goal.returns-in-Err-clause-fault
+returns-in-Err-clause-fault g c = record { alive = λ on. inl refl; failed = true_not c.args.self.now.live c.if-not-self.false }
+
+pub returns-in-Err-item-clause-fault : goal.returns-in-Err-item-clause-fault
+returns-in-Err-item-clause-fault g c = record { alive = λ on. c.refusal_of.ensures.fault; failed = true_not c.args.self.now.live c.if-not-self.false }
+
+pub returns-in-Err-item-clause-caused : goal.returns-in-Err-item-clause-caused
+returns-in-Err-item-clause-caused g c clean h shows start asked =
+    caused_since g.S.Store (connection start) c.args.self.now.tables.conn c.item.new.self.conn c.refusal_of.result asked.rests c.item.ensures.rests clean
+    (caused_by g.S.Store c.args.self.now.tables.conn c.item.new.self.conn c.in-Err-item.fault c.refusal_of.result c.refusal_of.ensures.same
+    (c.in-Err-item.ensures.told clean (views_of h) shows.tables (c.reached_histories_are_kept.ensures.readable h shows.history)))

@@ -7,8 +7,7 @@ use Rattle.pid_moderation.specs.Writes.{tree_of}
 use Rattle.pid_file.specs.Printing.{print}
 use Rattle.pid_service.specs.declared.exporting.ExportFault.TheVariants.{Refused, Write}
 use Rattle.pid_tables_check.proofs.Asking.{nothing_read}
-use Rattle.pid_tables_lists.specs.declared.walk.EachEnd.TheVariants as ends
-use Rattle.pid_service.proofs.Exported.{front_told, lines_told, refused_not, same_write, text_told, told_cause, told_gives, whole_tree, write_not}
+use Rattle.pid_service.proofs.Exported.{same_write, text_told, told_by, told_cause, told_gives, told_tree, told_writes, whole_tree, write_not}
 use Rattle.pid_service.proofs.Keeping.{ok_not, true_not}
 use Rattle.pid_service.proofs.Obeyed.{only_read}
 use Rattle.pid_service.proofs.registry.Registry.export.Goals as goal
@@ -63,36 +62,18 @@ returns-in-Ok-export_items g c = record {
   fault = λ f. ok_not tt (Write f);
 }
 
-pub returns-in-Err-Tables : goal.returns-in-Err-Tables
-returns-in-Err-Tables g c =
-    let is : c.in-Err-Tables.field-0 ≡ ends.Tables c.in-Err-Tables.fault = search rules in
-    record {
-      failed = true_not c.args.self.now.live c.if-not-self.false;
-      lives = refl;
-      rests = c.export_items.ensures.rests;
-      leaves = refl;
-      by_text = search rules;
-      shown = λ h shows. only_read g.S.Store c.args.self.now _ h refl c.export_items.ensures.rests refl shows;
-      printed = λ clean h shows. lines_told c.in-Err-Tables.field-0 c.in-Err-Tables.fault c.refusal_of.result _ _ h is c.refusal_of.ensures.fault (c.in-Err-Tables.ensures.printed clean (views_of h) shows.tables);
-      refused = λ e asked. told_gives c.refusal_of.result e c.args.self.now.live c.if-not-self.false c.refusal_of.ensures.fault asked;
-      caused = λ clean h shows e asked.
-          told_cause g.S.Store c.args.self.now.tables.conn c.export_items.new.tables.conn c.in-Err-Tables.field-0 c.in-Err-Tables.fault c.refusal_of.result e is c.refusal_of.ensures.same asked
-          (c.in-Err-Tables.ensures.caused clean (views_of h) shows.tables (c.reached_histories_are_kept.ensures.readable h shows.history));
-      fault = λ f. refused_not c.refusal_of.result f;
-    }
-
-pub returns-in-Err-Fault : goal.returns-in-Err-Fault
-returns-in-Err-Fault g c =
-    let is : c.in-Err-Fault.field-0 ≡ ends.Fault c.in-Err-Fault.fault = search rules in
-    record {
-      failed = true_not c.args.self.now.live c.if-not-self.false;
-      lives = refl;
-      rests = c.export_items.ensures.rests;
-      leaves = refl;
-      by_text = search rules;
-      shown = λ h shows. only_read g.S.Store c.args.self.now _ h refl c.export_items.ensures.rests refl shows;
-      printed = λ clean h shows. front_told c.in-Err-Fault.field-0 c.in-Err-Fault.fault _ _ h is (c.items_print_as_their_tree.ensures h) (c.in-Err-Fault.ensures.printed clean (views_of h) shows.tables);
-      refused = λ e. write_not c.in-Err-Fault.fault e;
-      caused = λ clean h shows e. write_not c.in-Err-Fault.fault e;
-      fault = λ f told. c.in-Err-Fault.ensures.fault f (ap Err (is ∙ ap ends.Fault (same_write c.in-Err-Fault.fault f told)));
-    }
+pub returns-in-Err-export_items : goal.returns-in-Err-export_items
+returns-in-Err-export_items g c = record {
+  failed = true_not c.args.self.now.live c.if-not-self.false;
+  lives = refl;
+  rests = c.export_items.ensures.rests;
+  leaves = refl;
+  by_text = search rules;
+  shown = λ h shows. only_read g.S.Store c.args.self.now _ h refl c.export_items.ensures.rests refl shows;
+  printed = λ clean h shows. told_tree c.in-Err-export_items.end c.fault_of.result _ _ h (c.items_print_as_their_tree.ensures h) c.fault_of.ensures (c.in-Err-export_items.ensures.printed clean (views_of h) shows.tables);
+  refused = λ e is. told_gives c.in-Err-export_items.end c.fault_of.result e c.args.self.now.live c.if-not-self.false c.fault_of.ensures (told_by _ c.fault_of.result e refl is);
+  caused = λ clean h shows e is.
+      told_cause g.S.Store c.args.self.now.tables.conn c.export_items.new.tables.conn c.in-Err-export_items.end c.fault_of.result e c.fault_of.ensures (told_by _ c.fault_of.result e refl is)
+      (c.in-Err-export_items.ensures.caused clean (views_of h) shows.tables (c.reached_histories_are_kept.ensures.readable h shows.history));
+  fault = λ f is. c.in-Err-export_items.ensures.fault f (ap Err (told_writes _ c.in-Err-export_items.end c.fault_of.result f refl is c.fault_of.ensures));
+}
