@@ -1,5 +1,5 @@
 -- What comes in up to the end of a head.
-use Rattle.std.proofs.Common.{◌≡◌, ◌≢◌, ℕ, List, [], ◌++◌, Option, Some, None, take, drop, sym, ap, subst, ◌∙◌, append_assoc, inl}
+use Rattle.std.proofs.Common.{◌≡◌, ◌≢◌, ℕ, List, [], ◌++◌, Option, Some, None, ◌≤◌, length, take, drop, sym, ap, subst, ◌∙◌, append_assoc, length-append, arith, inl}
 use Rattle.std.specs.Prelude.{IfSome}
 use Rattle.std.specs.Io.KnownBytes.{Consumes, IsAtEnd}
 use Rattle.std.proofs.KnownBytes.{Consumes-nil, Consumes-trans}
@@ -19,6 +19,7 @@ use Rattle.pid_http_stream.specs.Moments.{Moment, AllSince, IsMoment}
 use Rattle.pid_http_stream.specs.Unfinished.{CanBeHead, HasNoLineEnd, IsHeadUnfinished, IsUnfinished}
 use Rattle.pid_http_stream.specs.declared.judging.StreamFault.{StreamFault}
 use Rattle.pid_http_stream.specs.declared.judging.StreamFault.TheVariants.{BadHead}
+use Rattle.pid_http_stream.proofs.BodyReads.{whole_front}
 use Rattle.pid_http_stream.proofs.Heads.{end_within_head, no_head_behind}
 
 pub nothing_came : (held : List ℕ) (input : Option (List ℕ)) → ComesIn held held input input
@@ -61,6 +62,14 @@ still_begins after n x quiet = record {
 -- what was parsed whole
 pub begins_whole : (held : List ℕ) → MayBecomeHead held → CanBeHead held
 begins_whole held may = record { front = held; line = []; is = sym (append-nil held); may = may; unended = All-nil (λ (b : ℕ). b ≢ line_feed) }
+
+-- what was held before a piece came
+pub still_wants : (held after came : List ℕ) (n : ℕ) (x y : Option (List ℕ)) → came ≡ after → ComesIn held after x y → n ≡ length held → IsHeadUnfinished held → IsHeadUnfinished (take n came)
+still_wants held after came n x y e c len wants =
+    subst IsHeadUnfinished (sym (ap (λ (l : List ℕ). take n l) (e ∙ c.kept) ∙ whole_front held c.piece n (sym len))) wants
+
+pub still_fits : (held after came : List ℕ) (n : ℕ) (x y : Option (List ℕ)) → came ≡ after → ComesIn held after x y → n ≡ length held → n ≤ length came
+still_fits held after came n x y e c len = let l = ap length (e ∙ c.kept) ∙ length-append held c.piece in omega (arith, l, len)
 
 -- only a piece is one
 pub stopped_is_none : {P : Type 0} (stop : Stop) → filled.Stopped stop ≡ filled.Piece → P

@@ -4,7 +4,7 @@ use Rattle.pid_http_stream.specs.BodyLaws.{no_turns, more_turns}
 use Rattle.pid_http_stream.specs.MomentLaws.{since_none}
 use Rattle.pid_http_stream.specs.Steps.Intakes.{IsHeadRead, WaitsForRequest}
 use Rattle.pid_http_stream.specs.Unfinished.{IsHeadUnfinished, IsUnfinished}
-use Rattle.pid_http_stream.proofs.HeadReads.{nothing_came, comes_then, any_faulty, stops_never, stops_since, waits_on}
+use Rattle.pid_http_stream.proofs.HeadReads.{nothing_came, comes_then, any_faulty, stops_never, stops_since, still_fits, still_wants, waits_on}
 use Rattle.pid_http_stream.proofs.intake.read_head.Goals as goal
 
 pub reading-init : goal.reading-init
@@ -130,3 +130,14 @@ returns-in-Faulty-clause-goes g c = c.reading.invariant.goes
 
 pub fill-requires : goal.fill-requires
 fill-requires g c = record { waits = inl (rw c.in-More.is at c.reading.invariant.judged) }
+
+pub judge_more-judged-requires-clause-wants : goal.judge_more-judged-requires-clause-wants
+judge_more-judged-requires-clause-wants g c =
+    still_wants c.reading.held.items c.fill.new.held.items c.deref-in-Piece.result.now c.len-before.result _ _ c.deref-in-Piece.ensures.value c.in-Piece.ensures.comes (c.len-before.ensures ∙ search rules) (rw c.in-More.is at c.reading.invariant.judged)
+
+pub judge_more-judged-requires-clause-before : goal.judge_more-judged-requires-clause-before
+judge_more-judged-requires-clause-before g c =
+    still_fits c.reading.held.items c.fill.new.held.items c.deref-in-Piece.result.now c.len-before.result _ _ c.deref-in-Piece.ensures.value c.in-Piece.ensures.comes (c.len-before.ensures ∙ search rules)
+
+pub judge_more-judged-requires-clause-room : goal.judge_more-judged-requires-clause-room
+judge_more-judged-requires-clause-room g c = c.reading.invariant.room
