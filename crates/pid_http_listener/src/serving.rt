@@ -9,7 +9,7 @@ use std::io::ErrorKind;
 use std::net::{TcpListener, TcpStream};
 
 /// How the serving of connections ended.
-#[derive(Clone, Copy, Debug, PartialEq, Eq)]
+#[derive(Clone, Copy, PartialEq, Eq)]
 pub enum ServingEnd {
     /// All were served that were to be, and the server is live.
     All,
@@ -20,7 +20,7 @@ pub enum ServingEnd {
 }
 
 /// What came of the serving of connections.
-#[derive(Clone, Copy, Debug, PartialEq, Eq)]
+#[derive(Clone, Copy, PartialEq, Eq)]
 pub struct Serving {
     /// How many streams were begun: each was given to the server, once.
     pub streams: u32,
