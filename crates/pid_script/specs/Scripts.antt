@@ -6,6 +6,8 @@ use Rattle.pid_file.specs.declared.io.ReadFault.{ReadFault as InputFault}
 use Rattle.pid_file.specs.declared.io.WriteFault.{WriteFault as OutputFault}
 use Rattle.std.specs.Io.KnownBytes.{Appends, Consumes}
 use Rattle.std.specs.List.{AllByRecursion}
+use Rattle.pid_file.specs.declared.io.Output as outputs
+use Rattle.pid_ident.specs.declared.incoming.Incoming as incoming
 use Rattle.pid_ident.specs.Sending.{SendsFront}
 use Rattle.pid_ident.specs.Moments.{Moment}
 use Rattle.pid_reader.specs.Lines.{lines_of}
@@ -41,6 +43,19 @@ pub record ReaderAndWriter : Type 0 where
   -- the bytes to come before the script, and after it
   pub come : Option (List ℕ)
   pub come_now : Option (List ℕ)
+
+-- the same, of a reader before and after, and of a writer after
+abbrev pub reader_and_writer : {I W : Type 0} → incoming.Ghosts I W → outputs.Ghosts W → I → I → W
+    → ℕ → ReaderAndWriter
+reader_and_writer reader writer old new out turns = record {
+  read_fault = reader.read_fault new;
+  write_fault = writer.write_fault out;
+  turns = turns;
+  reads = reader.reads old;
+  reads_now = reader.reads new;
+  come = reader.to_come old;
+  come_now = reader.to_come new;
+}
 
 -- how many reads a script made, and what they took
 pub record MakesReads (end : ScriptEnd) (s : ReaderAndWriter) : Type 0 where

@@ -35,6 +35,7 @@ ghost use Rattle.pid_script.specs.Scripts.{
   IsScript,
   IsUpToDate,
   OverText,
+  reader_and_writer,
 };
 ghost use Rattle.pid_script.specs.RegistryStates.{OverStanding};
 
@@ -219,15 +220,8 @@ pub fn run_script<R: Moderated, I: Incoming<O>, O: Output>(
     ensures caught_up { OverText R.Moderated (passage registry.old registry.new
         (O.taken output.old) (O.taken output.new)) (I.to_come input.old) (λ h p text.
         AllSince (IsUpToDate R.Moderated h p text) (I.moments input.old) (I.moments input.new)) }
-    ensures ended { EndsWith result (record {
-      read_fault = I.read_fault input.new;
-      write_fault = O.write_fault output.new;
-      turns = turns;
-      reads = I.reads input.old;
-      reads_now = I.reads input.new;
-      come = I.to_come input.old;
-      come_now = I.to_come input.new;
-    }) }
+    ensures ended { EndsWith result (reader_and_writer I.Incoming O.Output
+        input.old input.new output.new turns) }
     ensures goes { I.goes input.old input.new }
 {
     let mut buffer = [0u8; BUFFER];
