@@ -94,7 +94,7 @@ module _ {S R W : Type 0} (store : Ghosts S) (writer : outputs.Ghosts W) where
     Unheard : AsksOnce w (PortAt port.number true) → new ≡ old
         → FailsWithin (use_of writer w.output w.output_after) (listening_line port.number)
         → w.faults.after ≡ w.faults.before → w.end ≡ FileFailed → Serves port old new w
-    -- each stream was answered over the registry in turn, and nothing else was done with that
+    -- each stream was answered over the registry in turn, and that was given no other command
     Served : (between : Option (List (Opening R)))
         → AsksFor w.asked.before between (PortAt port.number true)
         → HasServed (λ streams. InTurn (AnswersStream store) old streams new) port (is_live new)

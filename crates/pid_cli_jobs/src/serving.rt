@@ -26,7 +26,7 @@ pub struct Port {
     pub connections: u32,
 }
 
-// A registry that answers the requests of one stream after the other, and does nothing else: it is
+// A registry that answers the requests of one stream after the other, and has no other use: it is
 // handed to functions that are generic over their server.
 #[derive(Drop)]
 struct Server<'r, 't, S: Alter + Drop> {

@@ -63,12 +63,12 @@ pub record MakesReads (end : ScriptEnd) (s : ReaderAndWriter) : Type 0 where
   pub made : ℕ
   pub within : made ≤ s.turns
   pub counted : s.reads < 2 ^ 64 → s.reads_now ≡ min (s.reads + made) (2 ^ 64 - 1)
-  -- each took at most 65,536 bytes, and each but the last one took some
+  -- on average each took at most 65,536 bytes, and each but one at least one byte
   pub taken : List ℕ
   pub consumed : Consumes s.come s.come_now taken
   pub room : length taken ≤ made * BUFFER_ROOM
   pub some : made ≤ length taken + 1
-  -- if they are what the script ended by, all were made, and each took some
+  -- if they are what the script ended by, all were made, and on average each took a byte
   pub spent : end ≡ TurnsSpent → (made ≡ s.turns) × (made ≤ length taken)
 
 -- a script ended so

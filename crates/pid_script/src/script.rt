@@ -189,8 +189,8 @@ fn end_of(answered: Result<(), LineEnd>) -> ScriptEnd
 /// refusal as 16, 17 or 18, nor after a line of more than 16,777,216 bytes. If the script itself is
 /// out of memory, the reply is the refusal 16, which takes none.
 ///
-/// At most `turns` reads are made, each of at most 65,536 bytes; a read that fails or finds nothing
-/// is the last one. Whenever it reads, the lines that came whole are answered, and the writer has
+/// At most `turns` reads are made, each of at most 65,536 bytes, and at most one more than bytes are
+/// read; one that fails is the last. Whenever it reads, the lines that came whole are answered, and the writer has
 /// taken their replies and nothing more. The reply to a command is written before the next line is
 /// answered. A line costs memory only while it is open. The reply to a command takes no memory.
 ///
