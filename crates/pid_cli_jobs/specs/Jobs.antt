@@ -32,8 +32,8 @@ use Rattle.pid_cli_jobs.specs.Inputs.{InputUse}
 use Rattle.pid_cli_jobs.specs.Serving.{Serves}
 use Rattle.pid_cli_jobs.specs.Wrote.{AsksNothing, IsSilent, Wrote}
 
--- what a job is to do with a registry: a script with an input, of which this becomes, and an import
--- of one that has this to come
+-- what a job is to do with a registry; of a script, what becomes of its input, and of an import,
+-- what its input has to come
 pub data Work : Type 0 where
   ToAnswer : (input : InputUse) → Work
   ToImport : (account : List ℕ) (key to_come : Option (List ℕ)) → Work

@@ -29,8 +29,8 @@ pub record Openings (R : Type 0) : Type 0 where
   pub before : Option (List (Opening R))
   pub after : Option (List (Opening R))
 
--- One stream after the other led from the first to the last of what answers them, and each as this
--- says of what answers it, before and after.
+-- The streams were answered in turn, by something that was so before the first of them and so after
+-- the last: each took it from how it was to how it was next, as `Answers` says.
 abbrev pub InTurn : {S : Type 0} → (S → S → Exchange → Type 0) → S → List Exchange → S → Type 0
 InTurn Answers first [] last = last ≡ first
 InTurn Answers first (stream ∷ streams) last = (next : _) × Answers first next stream

@@ -31,7 +31,7 @@ abbrev pub file_task_of : FileJob → InputUse → FileTask
 file_task_of (jobs.Work job) input = ToWork (work_of job input)
 file_task_of jobs.Migrate input = ToMigrate
 
--- so it is with these
+-- a job of a registry reads its input as it does on any store, and a migration reads none
 abbrev pub FileReads : {I W : Type 0} → incoming.Ghosts I W → FileJob → I → I → Type 0
 FileReads reader (jobs.Work job) old new = JobReads reader job old new
 FileReads reader jobs.Migrate old new = new ≡ old

@@ -88,7 +88,7 @@ module _ {E R W : Type 0} (files : disk.Ghosts E) (image : Image) (holds : R →
 
 module _ {E R W : Type 0} (files : disk.Ghosts E) (image : Image) (memory : Ghosts MemStore)
     (holds : R → Option (List ℕ)) (writer : outputs.Ghosts W) where
-  -- What a job does, and this becomes of its input.
+  -- what a job does, if this becomes of its input
   abbrev pub DoesPlain : PlainJob → InputUse → Wrote R W → Type 0
   DoesPlain (plain.Lookup words) input w = LooksUpInFile holds writer words.now.ids.now
       (fields_given words.now) w

@@ -62,8 +62,9 @@ pub record AnswersStream {S : Type 0} (store : Ghosts S) (old new : Registry S s
     reads_after = x.input.reads_after;
   })
 
--- Streams were served, one for each connection of so many, while the server was live, and of what
--- became of them this holds. It is reported how many.
+-- Streams of at most so many connections were served, and of what became of them this holds. The
+-- server is live after the last one, unless the serving ended because it is not. It is reported how
+-- many there were.
 pub record ReportsStreams {R : Type 0} (Holds : List Exchange → Type 0) (connections : ℕ)
     (live : Bool) (asked : Openings R) (w : Streams) (end : JobEnd) : Type 0 where
   pub serving : Serving

@@ -98,7 +98,7 @@ command_of TooLong = []
 abbrev pub calls_for : Ask → ℕ
 calls_for ask = if is_call ask then 1 else 0
 
--- and the replies to lines
+-- the same of the replies to lines
 abbrev pub calls_for_lines : List (List ℕ) → ℕ
 calls_for_lines [] = 0
 calls_for_lines (line ∷ lines) = calls_for (ask_of line) + calls_for_lines lines

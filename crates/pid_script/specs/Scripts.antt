@@ -63,12 +63,12 @@ pub record MakesReads (end : ScriptEnd) (s : ReaderAndWriter) : Type 0 where
   pub made : ℕ
   pub within : made ≤ s.turns
   pub counted : s.reads < 2 ^ 64 → s.reads_now ≡ min (s.reads + made) (2 ^ 64 - 1)
-  -- on average each took at most 65,536 bytes, and each but one at least one byte
+  -- they took at most 65,536 bytes for each of them, and at most one more was made than bytes came
   pub taken : List ℕ
   pub consumed : Consumes s.come s.come_now taken
   pub room : length taken ≤ made * BUFFER_ROOM
   pub some : made ≤ length taken + 1
-  -- if they are what the script ended by, all were made, and on average each took a byte
+  -- if they are what the script ended by, all were made, and no more than bytes came
   pub spent : end ≡ TurnsSpent → (made ≡ s.turns) × (made ≤ length taken)
 
 -- a script ended so
@@ -144,8 +144,8 @@ module _ {R : Type 0} (registry : Ghosts R) where
   OverText p known Holds = OverStanding registry p.old p.new (λ h. IfSome known (Holds h p))
 
   -- Each of the lines got its reply, and the registry shows the history after them; one that had
-  -- failed was asked nothing. The commands of the lines are those that calls sent, and no more calls
-  -- were made than the lines ask for.
+  -- failed was asked nothing. The commands of the lines are those that calls sent, and no more
+  -- calls were made than the lines ask for.
   pub record AnswersLines (h : History) (p : Passage R) (lines : List (List ℕ)) : Type 0 where
     pub fits : NoneTooLong lines
     pub told : Appends p.taken p.taken_now (replies h lines)
