@@ -14,7 +14,7 @@ ghost use Rattle.std.specs.Prelude.{
   MatchResult,
 };
 ghost use Rattle.std.specs.Io.KnownBytes.{ReadConsumes};
-ghost use Rattle.pid_ident.specs.Moments.{AllSince, IsMoment};
+ghost use Rattle.pid_ident.specs.Moments.{IsNoted};
 
 use pid_file::{Input, Output, ReadFault};
 
@@ -39,7 +39,7 @@ pub trait Incoming<W: Output> {
     /// What reads, however many, may make of it: before them and after.
     ghost goes: { Self → Self → Type 0 };
 
-    /// The moments at which it was read, in order, if it keeps account of them.
+    /// The moments at which it was read, in order, one for each read, if it keeps account of them.
     ghost moments: { Self → Option (List Moment) } = { λ _. None };
 
     /// Reads some bytes, after what the writer has taken. None into a buffer with room is the end.
@@ -51,7 +51,7 @@ pub trait Incoming<W: Output> {
         ensures kept { IfSome (read_fault self.old) (λ f. result ≡ Err f) }
         ensures count { reads self.new ≡ min (reads self.old + 1) (2 ^ 64 - 1) }
         ensures goes { goes self.old self.new }
-        ensures noted { AllSince (IsMoment (to_come self.old) (W.taken output.now))
+        ensures noted { IsNoted (to_come self.old) (W.taken output.now)
             (moments self.old) (moments self.new) };
 
     /// No read leaves it as it is.

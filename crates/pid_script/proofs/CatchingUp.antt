@@ -2,8 +2,8 @@
 use Rattle.std.proofs.Common.{◌≡◌, ℕ, List, [], Option, Some, None, sym, subst}
 use Rattle.std.specs.Prelude.{IfSome}
 use Rattle.std.specs.Io.KnownBytes.{Consumes}
-use Rattle.pid_ident.specs.Moments.{Moment, AllSince, IsMoment}
-use Rattle.pid_ident.specs.MomentLaws.{since_none, since_then, since_so}
+use Rattle.pid_ident.specs.Moments.{Moment, AllSince, IsMoment, IsNoted}
+use Rattle.pid_ident.specs.MomentLaws.{since_none, since_then, since_so, since_noted}
 use Rattle.pid_moderation.specs.History.{History}
 use Rattle.pid_script.specs.declared.moderated.Moderated.{Ghosts}
 use Rattle.pid_script.specs.Calling.{CallsGo}
@@ -42,9 +42,9 @@ one_more_so m old now start (Some text) come_now left h kept front ms ns os read
     (since_so (IsMoment come_now left.taken) (IsUpToDate m h (passage old now start left.taken) text) ns os (answered_now m old now start come_now left h text kept front read none a) noted)
 
 -- one more read
-pub read_then : {R : Type 0} (m : Ghosts R) (old now : R) (start come come_now : Option (List ℕ)) (left : Out) (kept : List ℕ) (reads reads_now turn : ℕ) (ms ns os : Option (List Moment)) → HasRead m old now start left come come_now kept reads reads_now turn → AreAnswered m old now start left.taken come ms ns → AllSince (IsMoment come_now left.taken) ns os → AreAnswered m old now start left.taken come ms os
+pub read_then : {R : Type 0} (m : Ghosts R) (old now : R) (start come come_now : Option (List ℕ)) (left : Out) (kept : List ℕ) (reads reads_now turn : ℕ) (ms ns os : Option (List Moment)) → HasRead m old now start left come come_now kept reads reads_now turn → AreAnswered m old now start left.taken come ms ns → IsNoted come_now left.taken ns os → AreAnswered m old now start left.taken come ms os
 read_then m old now start come come_now left kept reads reads_now turn ms ns os r past noted = λ honest h stands.
-    one_more_so m old now start come come_now left h kept r.front ms ns os r.consumed r.empty (r.answered honest h stands) noted (past honest h stands)
+    one_more_so m old now start come come_now left h kept r.front ms ns os r.consumed r.empty (r.answered honest h stands) (since_noted come_now left.taken ns os noted) (past honest h stands)
 
 -- calls that follow a moment
 answered_before : {R : Type 0} (m : Ghosts R) (old now next : R) (start taken taken_next : Option (List ℕ)) (h : History) (text : List ℕ) → CallsGo m.showing now next → (k : Moment) → IsUpToDate m h (passage old now start taken) text k → IsUpToDate m h (passage old next start taken_next) text k

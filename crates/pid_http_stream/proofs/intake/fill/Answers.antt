@@ -1,7 +1,7 @@
 use Rattle.std.proofs.Common.{rules, refl}
 use Rattle.std.proofs.KnownBytes.{Consumes-nil}
 use Rattle.pid_http_stream.specs.BodyLaws.{no_turns}
-use Rattle.pid_http_stream.specs.MomentLaws.{since_none}
+use Rattle.pid_http_stream.specs.MomentLaws.{since_none, since_noted}
 use Rattle.pid_http_stream.specs.Moments.{IsMoment}
 use Rattle.pid_http_stream.proofs.BodyReads.{keeps_nil, one_turn, some_of, some_told, still_good}
 use Rattle.pid_http_stream.proofs.HeadReads.{nothing_came, none_came, piece_came, stopped_is_none, end_is_none}
@@ -86,13 +86,13 @@ pub returns-in-Err-clause-stopped : goal.returns-in-Err-clause-stopped
 returns-in-Err-clause-stopped g c = some_told _ _ c.in-Err.ensures.fault
 
 pub returns-in-Err-clause-noted : goal.returns-in-Err-clause-noted
-returns-in-Err-clause-noted g c = c.in-Err.ensures.noted
+returns-in-Err-clause-noted g c = since_noted _ _ _ _ c.in-Err.ensures.noted
 
 pub returns-in-Ok-eq0-clause-noted : goal.returns-in-Ok-eq0-clause-noted
-returns-in-Ok-eq0-clause-noted g c = c.in-Ok-eq0.ensures.noted
+returns-in-Ok-eq0-clause-noted g c = since_noted _ _ _ _ c.in-Ok-eq0.ensures.noted
 
 pub returns-in-Ok-clause-noted : goal.returns-in-Ok-clause-noted
-returns-in-Ok-clause-noted g c = c.in-Ok.ensures.noted
+returns-in-Ok-clause-noted g c = since_noted _ _ _ _ c.in-Ok.ensures.noted
 
 pub returns-in-Err-clause-goes : goal.returns-in-Err-clause-goes
 returns-in-Err-clause-goes g c = c.read_behind.ensures.goes

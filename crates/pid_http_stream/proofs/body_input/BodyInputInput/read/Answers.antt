@@ -3,7 +3,7 @@ use Rattle.std.specs.Io.KnownBytes.{Consumes}
 use Rattle.std.proofs.KnownBytes.{Consumes-nil}
 use Rattle.std.proofs.lemmas.List.{length-take-le, take-append-drop, take-append-le}
 use Rattle.pid_http_stream.specs.BodyLaws.{no_body_reads, no_turns}
-use Rattle.pid_http_stream.specs.MomentLaws.{since_none}
+use Rattle.pid_http_stream.specs.MomentLaws.{since_none, since_noted}
 use Rattle.pid_http_stream.specs.Moments.{IsMoment}
 use Rattle.pid_http_stream.specs.declared.body_input.BodyFault.TheVariants.{Short, ReadFault, TurnsSpent}
 use Rattle.pid_http_stream.proofs.BodyReads.{held_given, read_given, whole_front, nothing, keeps_same, none_left, keeps_padded, keeps_nil, none_of, told_some, told_none, kept_told, none_kept, some_told, still_good, gave_held, gave_read, broke_off, one_turn, some_of}
@@ -55,7 +55,7 @@ returns-in-Err-clause-goes g c = (
   refl,
   c.read_behind.ensures.goes,
   broke_off c.args.self.now.fault (g.I.Incoming.to_come c.args.self.now.input.now) (g.I.Incoming.to_come c.read_behind.new.self) _ _ _ _ _ _ _ c.args.self.now.wanted c.args.self.now.held.now ReadFault
-      (none_of c.args.self.now.fault (sym c.is_some.ensures ∙ c.if-is_some.false)) (keeps_nil _ _ c.in-Err.ensures.bytes) (one_turn _ c.args.self.now.left _ (some_of _ c.if-self-eq0.false) c.read_behind.ensures.count) (omega (arith, c.min-room.ensures, c.if-room-eq0.false)) (nothing c.args.self.now.held.now (search rules)) c.in-Err.ensures.noted (some_told _ _ c.in-Err.ensures.fault) (inr refl),
+      (none_of c.args.self.now.fault (sym c.is_some.ensures ∙ c.if-is_some.false)) (keeps_nil _ _ c.in-Err.ensures.bytes) (one_turn _ c.args.self.now.left _ (some_of _ c.if-self-eq0.false) c.read_behind.ensures.count) (omega (arith, c.min-room.ensures, c.if-room-eq0.false)) (nothing c.args.self.now.held.now (search rules)) (since_noted _ _ _ _ c.in-Err.ensures.noted) (some_told _ _ c.in-Err.ensures.fault) (inr refl),
 )
 
 pub returns-else-count-eq0-clause-bytes : goal.returns-else-count-eq0-clause-bytes
@@ -70,7 +70,7 @@ returns-else-count-eq0-clause-goes g c = (
   refl,
   c.read_behind.ensures.goes,
   gave_read c.args.self.now.fault (g.I.Incoming.to_come c.args.self.now.input.now) (g.I.Incoming.to_come c.read_behind.new.self) _ _ _ _ _ _ _ c.args.self.now.wanted c.in-Ok.count c.args.self.now.held.now (take c.in-Ok.count c.read_behind.new.buffer)
-      (none_of c.args.self.now.fault (sym c.is_some.ensures ∙ c.if-is_some.false)) (nothing _ (search rules)) c.in-Ok.ensures.bytes.0 (length-take-le c.in-Ok.count c.read_behind.new.buffer c.in-Ok.ensures.room) (search rules) (one_turn _ c.args.self.now.left _ (some_of _ c.if-self-eq0.false) c.read_behind.ensures.count) (omega (arith, c.min-room.ensures, c.if-room-eq0.false)) c.in-Ok.ensures.noted (still_good _ _ _ c.in-Ok.ensures.kept c.in-Ok.ensures.fault),
+      (none_of c.args.self.now.fault (sym c.is_some.ensures ∙ c.if-is_some.false)) (nothing _ (search rules)) c.in-Ok.ensures.bytes.0 (length-take-le c.in-Ok.count c.read_behind.new.buffer c.in-Ok.ensures.room) (search rules) (one_turn _ c.args.self.now.left _ (some_of _ c.if-self-eq0.false) c.read_behind.ensures.count) (omega (arith, c.min-room.ensures, c.if-room-eq0.false)) (since_noted _ _ _ _ c.in-Ok.ensures.noted) (still_good _ _ _ c.in-Ok.ensures.kept c.in-Ok.ensures.fault),
 )
 
 pub returns-then-count-eq0-clause-goes : goal.returns-then-count-eq0-clause-goes
@@ -78,7 +78,7 @@ returns-then-count-eq0-clause-goes g c = (
   refl,
   c.read_behind.ensures.goes,
   broke_off c.args.self.now.fault (g.I.Incoming.to_come c.args.self.now.input.now) (g.I.Incoming.to_come c.read_behind.new.self) _ _ _ _ _ _ _ c.args.self.now.wanted c.args.self.now.held.now Short
-      (none_of c.args.self.now.fault (sym c.is_some.ensures ∙ c.if-is_some.false)) (subst (Consumes _ _) (ap (λ (n : ℕ). take n c.read_behind.new.buffer) c.if-count-eq0.true) c.in-Ok.ensures.bytes.0) (one_turn _ c.args.self.now.left _ (some_of _ c.if-self-eq0.false) c.read_behind.ensures.count) (omega (arith, c.min-room.ensures, c.if-room-eq0.false)) (nothing c.args.self.now.held.now (search rules)) c.in-Ok.ensures.noted
+      (none_of c.args.self.now.fault (sym c.is_some.ensures ∙ c.if-is_some.false)) (subst (Consumes _ _) (ap (λ (n : ℕ). take n c.read_behind.new.buffer) c.if-count-eq0.true) c.in-Ok.ensures.bytes.0) (one_turn _ c.args.self.now.left _ (some_of _ c.if-self-eq0.false) c.read_behind.ensures.count) (omega (arith, c.min-room.ensures, c.if-room-eq0.false)) (nothing c.args.self.now.held.now (search rules)) (since_noted _ _ _ _ c.in-Ok.ensures.noted)
       (c.in-Ok.ensures.bytes.1 c.if-count-eq0.true (search rules)) (inl (still_good _ _ _ c.in-Ok.ensures.kept c.in-Ok.ensures.fault)),
 )
 
