@@ -17,6 +17,7 @@ use Rattle.pid_script.specs.Scripts.{passage, IsCutOff, IsScript, ReaderAndWrite
 use Rattle.pid_script.specs.RegistryStates.{ShowsOrHasFailed}
 use Rattle.pid_script.proofs.Answered.{answers_out}
 use Rattle.pid_script.proofs.Pieces.{no_line}
+use Rattle.pid_script.specs.ScriptLines.{LONGEST}
 use Rattle.pid_script.proofs.Calling.{send_still, go_still, go_then}
 use Rattle.pid_script.specs.Calling.{CallsGo}
 use Rattle.pid_script.proofs.SayLemmas.{Appends-nil, none_fits}
@@ -54,7 +55,7 @@ one_more reads turn now next p q = omega arith
 
 pub cut_off : {R : Type 0} (m : Ghosts R) (h : History) (taken : Option (List ℕ)) (old new : R) (left : Out) (kept front : List ℕ) (come now next : Option (List ℕ)) → Consumes come now front → Keeps now next → left.held ≡ [] → HasAnswered m h taken old new left kept front → IfSome come (λ text. IsCutOff m h (passage old new taken left.taken) text next)
 cut_off m h taken old new left kept front None now next p q none a = tt
-cut_off m h taken old new left kept front (Some text) now next p q none a = record { front = front; read = Consumes-kept (Some text) now next front p q; answers = answers_out m h taken old new left _ a.answered none }
+cut_off m h taken old new left kept front (Some text) now next p q none a = record { front = front; read = Consumes-kept (Some text) now next front p q; short = subst (λ (l : List ℕ). length l ≤ LONGEST + 1) a.open_line a.short; answers = answers_out m h taken old new left _ a.answered none }
 
 Keeps-same : (a : Option (List ℕ)) → Keeps a a
 Keeps-same None = tt

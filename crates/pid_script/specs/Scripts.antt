@@ -11,7 +11,7 @@ use Rattle.pid_ident.specs.declared.incoming.Incoming as incoming
 use Rattle.pid_ident.specs.Sending.{SendsFront}
 use Rattle.pid_ident.specs.Moments.{Moment}
 use Rattle.pid_reader.specs.Lines.{lines_of}
-use Rattle.pid_reader.specs.WholeLines.{whole_lines}
+use Rattle.pid_reader.specs.WholeLines.{whole_lines, open_part}
 use Rattle.pid_moderation.specs.History.{History}
 use Rattle.pid_script.specs.declared.moderated.Moderated.{Ghosts}
 use Rattle.pid_script.specs.declared.script_end.ScriptEnd.{ScriptEnd}
@@ -19,7 +19,7 @@ use Rattle.pid_script.specs.declared.script_end.ScriptEnd.TheVariants.{Done, Rea
 use Rattle.pid_script.specs.declared.script_end.ScriptEnd.TheVariants.{TooLong, Stopped}
 use Rattle.pid_script.specs.declared.script_end.ScriptEnd.TheVariants.{TurnsSpent}
 use Rattle.pid_script.specs.ScriptLines as asks
-use Rattle.pid_script.specs.ScriptLines.{ask_of}
+use Rattle.pid_script.specs.ScriptLines.{LONGEST, ask_of}
 use Rattle.pid_script.specs.Calling.{CallsGo, CallsSend, CallsSendEither}
 use Rattle.pid_script.specs.Replies.{replies, command_of, calls_for_lines, commands_of_lines}
 use Rattle.pid_script.specs.Replies.{history_after, is_call}
@@ -220,7 +220,8 @@ module _ {R : Type 0} (registry : Ghosts R) where
     pub calls : CallsSendEither registry.showing p.old (commands_of_lines cut.before)
         (commands_of_lines (lines_read cut)) (calls_for_lines (lines_read cut)) p.new
 
-  -- part of the text was read, and its whole lines got their replies
+  -- part of the text was read, and its whole lines got their replies; what came after them is no
+  -- more than the longest line and its CR
   pub record IsCutOff (h : History) (p : Passage R) (text : List ℕ)
       (rest : Option (List ℕ)) : Type 0 where
     pub front : List ℕ
@@ -244,3 +245,4 @@ module _ {R : Type 0} (registry : Ghosts R) where
   IsScript WriteFault h p text rest = FailsToWrite h p (lines_of text)
   IsScript ReadFault h p text rest = IsCutOff h p text rest
   IsScript TurnsSpent h p text rest = IsCutOff h p text rest
+    pub short : length (open_part front) ≤ LONGEST + 1

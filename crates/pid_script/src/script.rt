@@ -190,9 +190,11 @@ fn end_of(answered: Result<(), LineEnd>) -> ScriptEnd
 /// out of memory, the reply is the refusal 16, which takes none.
 ///
 /// At most `turns` reads are made, each of at most 65,536 bytes, and at most one more than bytes are
-/// read; one that fails is the last. Whenever it reads, the lines that came whole are answered, and the writer has
-/// taken their replies and nothing more. The reply to a command is written before the next line is
-/// answered. A line costs memory only while it is open. The reply to a command takes no memory.
+/// read; one that fails is the last, and so is one that finds nothing to come. Whenever it reads,
+/// the lines that came whole are answered, the writer has taken their replies and nothing more, and
+/// of the line that is open at most 16,777,217 bytes were read. The reply to a command is written
+/// before the next line is answered. A line costs memory only while it is open. The reply to a
+/// command takes no memory.
 ///
 /// Over a `Registry` of `pid_service` the clauses read so, while the disk returns what was written.
 /// Let it show a history as the script begins. At `Done` it shows the history with the commands of
