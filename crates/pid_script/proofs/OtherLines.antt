@@ -57,13 +57,13 @@ own_stop : {R : Type 0} (m : Ghosts R) (r : R) (ask : Ask) (h : History) (text :
 own_stop m r ask h text is = record { begun = []; front = none_begun ask h [] refl; refusal = Memory; cause = own_cause m r h ask Memory (refl, refl); is = is }
 
 unfit_reply : {R : Type 0} (m : Ghosts R) (r : R) (bytes tail : List ℕ) (h : History) (text : List ℕ) → IsUnfit bytes text → (text ≡ line_reply (ask_of (drop_cr (bytes ++ tail))) h) ⊎ IsStopText (StoppedBy m r h (ask_of (drop_cr (bytes ++ tail)))) (IsBegun (ask_of (drop_cr (bytes ++ tail))) h) text
-unfit_reply m r bytes tail h text (inl memory) = inr (own_stop m r (ask_of (drop_cr (bytes ++ tail))) h text memory)
+unfit_reply m r bytes tail h text (inl memory) = inr (own_stop m r (ask_of (drop_cr (bytes ++ tail))) h text memory.0)
 unfit_reply m r bytes tail h text (inr long) = inl (long.0 ∙ ap (λ a. line_reply a h) (sym (long_line bytes tail long.1)))
 
 -- a line ends it that begins with bytes that are not kept
 pub unfit_ends : {R : Type 0} (m : Ghosts R) (e : LineEnd) (bytes tail : List ℕ) (h : History) (r : R) (old left : Out) → Unfit e bytes old left → AnswersLine m (Err e) (ask_of (drop_cr (bytes ++ tail))) h r old r left
 unfit_ends m Stopped bytes tail h r old left u = record {
-  tells = record { text = refused_line Memory; stop = own_stop m r (ask_of (drop_cr (bytes ++ tail))) h (refused_line Memory) refl; told = u };
+  tells = record { text = refused_line Memory; stop = own_stop m r (ask_of (drop_cr (bytes ++ tail))) h (refused_line Memory) refl; told = u.0 };
   leaves = record { shows = λ s. inl s; failed = λ f. refl };
   sends = send_still m.showing r _;
 }
@@ -87,14 +87,14 @@ memory_line : (text : List ℕ) → IsStopText (IsGivenRefusal (Some Memory)) Is
 memory_line text s = s.is ∙ ap (λ (l : List ℕ). l ++ refused_line s.refusal) s.front ∙ ap refused_line (let same : Memory ≡ s.refusal = cc s.cause.0 in sym same)
 
 -- memory is short for bytes of a line
-pub unfit_memory : (e : LineEnd) (bytes : List ℕ) (old left : Out) → ((reply : List ℕ) → TellsLine (Err e) reply (IsGivenStop (Some Memory)) old left) → (e ≡ TooLong → ⊥) → Unfit e bytes old left
-unfit_memory Stopped bytes old left told fits = let t = told [] in subst (λ l. Appends old.taken left.taken (old.held ++ l)) (memory_line t.text t.stop) t.told
-unfit_memory WriteFault bytes old left told fits = let t = told (refused_line Memory) in record { text = t.text; is = inl (by t.text t.is); front = t.front }
+pub unfit_memory : (e : LineEnd) (bytes : List ℕ) (old left : Out) → ((reply : List ℕ) → TellsLine (Err e) reply (IsGivenStop (Some Memory)) old left) → (e ≡ TooLong → ⊥) → length bytes ≤ LONGEST + 1 → Unfit e bytes old left
+unfit_memory Stopped bytes old left told fits short = let t = told [] in (subst (λ l. Appends old.taken left.taken (old.held ++ l)) (memory_line t.text t.stop) t.told, short)
+unfit_memory WriteFault bytes old left told fits short = let t = told (refused_line Memory) in record { text = t.text; is = inl (by t.text t.is, short); front = t.front }
   where
     by : (text : List ℕ) → (text ≡ refused_line Memory) ⊎ IsStopText (IsGivenRefusal (Some Memory)) IsNothing text → text ≡ refused_line Memory
     by text (inl is) = is
     by text (inr stop) = memory_line text stop
-unfit_memory TooLong bytes old left told fits = absurd (fits refl)
+unfit_memory TooLong bytes old left told fits short = absurd (fits refl)
 
 -- the line is too long already
 pub unfit_long : (e : LineEnd) (bytes : List ℕ) (old left : Out) → ((given : Option Refusal) → TellsLine (Err e) (refused_line BadText) (IsGivenStop given) old left) → (e ≡ Stopped → ⊥) → LONGEST + 1 < length bytes → Unfit e bytes old left

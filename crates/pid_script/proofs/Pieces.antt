@@ -142,12 +142,12 @@ half_whole m piece rest old now was left kept kept_now half none = half_kept m p
 
 -- with what `keep` says of it
 pub half_kept_on : {R O : Type 0} (m : Ghosts R) (took : O → Option (List ℕ)) (piece rest : List ℕ) (old now : R) (was : Out) (out_now out_next : O) (held held_next kept kept_now kept_next : List ℕ)
-    → IsHalfway m piece rest old now was (out (took out_now) held) kept kept_now → ended_pieces rest ≡ [] → kept_next ≡ kept_now ++ rest → (length kept_now ≤ LONGEST + 1 → length kept_next ≤ LONGEST + 1) → out_next ≡ out_now → held_next ≡ held
+    → IsHalfway m piece rest old now was (out (took out_now) held) kept kept_now → ended_pieces rest ≡ [] → kept_next ≡ kept_now ++ rest → length kept_next ≤ LONGEST + 1 → out_next ≡ out_now → held_next ≡ held
     → m.showing.is_clean now → (h : History) (start : Option (List ℕ)) (first : R) (text : List ℕ) → ShowsOrHasFailed m first h → HasAnswered m h start first old was kept text
     → HasAnswered m h start first now (out (took out_next) held_next) kept_next (text ++ piece)
 half_kept_on m took piece rest old now was out_now out_next held held_next kept kept_now kept_next half no_lf is short silent still t h start first text stands a =
     subst (λ o. HasAnswered m h start first now (out (took o) held_next) kept_next (text ++ piece)) (sym silent) (subst (λ l. HasAnswered m h start first now (out (took out_now) l) kept_next (text ++ piece)) (sym still)
-    (half_kept m piece rest old now was (out (took out_now) held) kept kept_now kept_next half no_lf is short t h start first text stands a))
+    (half_kept m piece rest old now was (out (took out_now) held) kept kept_now kept_next half no_lf is (λ _. short) t h start first text stands a))
 
 -- the lines of a piece were answered, and what is held goes out
 piece_flushed : {R : Type 0} (m : Ghosts R) (h : History) (start : Option (List ℕ)) (first r : R) (old : Out) (new : Option (List ℕ)) (held kept text : List ℕ) → HasAnswered m h start first r old kept text → Appends old.taken new old.held → held ≡ [] → HasAnswered m h start first r (out new held) kept text

@@ -62,15 +62,14 @@ fn keep<O: Output>(
 ) -> Result<(), LineEnd>
     ensures kept { OnOk result (kept.new.items ≡ kept.old.items ++ piece.now) }
     // No more of a line is kept than the longest and its CR, however long it goes on.
-    ensures short { length kept.old.items ≤ LONGEST_LINE + 1
-        → OnOk result (length kept.new.items ≤ LONGEST_LINE + 1) }
+    ensures short { OnOk result (length kept.new.items ≤ LONGEST_LINE + 1) }
     ensures silent { OnOk result (output.new ≡ output.old) }
     ensures still { OnOk result (held.new.items ≡ held.old.items) }
     ensures unfit { IfErr result (λ e. Unfit e (kept.old.items ++ piece.now)
         (out (O.taken output.old) held.old.items) (out (O.taken output.new) held.new.items)) }
     ensures fault { result ≡ Err LineEnd.WriteFault → IsSome (O.write_fault output.new) }
 {
-    if (LONGEST_LINE + 1).saturating_sub(kept.len()) < piece.len() {
+    if LONGEST_LINE + 1 < kept.len().saturating_add(piece.len()) {
         return Err(refuse_long(output, held));
     }
     match kept.extend_from_slice(piece) {

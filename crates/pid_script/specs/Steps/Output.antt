@@ -132,9 +132,9 @@ GoesOnAfter (Ok x) (Some refusal) = is_stop refusal ≡ false
 GoesOnAfter (Ok x) None = Unit {0}
 GoesOnAfter (Err end) given = Unit {0}
 
--- a line that can be too long already, or for which there is no memory
+-- a line that is too long already; or one that is not, for which there is no memory
 abbrev pub IsUnfit : List ℕ → List ℕ → Type 0
-IsUnfit bytes text = (text ≡ refused_line Memory)
+IsUnfit bytes text = ((text ≡ refused_line Memory) × (length bytes ≤ lines.LONGEST + 1))
     ⊎ ((text ≡ refused_line BadText) × (lines.LONGEST + 1 < length bytes))
 
 -- the writer failed within what was held and the line for bytes that do not fit
@@ -146,6 +146,7 @@ pub record UnfitFront (bytes : List ℕ) (old new : Out) : Type 0 where
 -- why bytes of a line are not kept, and what was said
 abbrev pub Unfit : LineEnd → List ℕ → Out → Out → Type 0
 Unfit Stopped bytes old new = Appends old.taken new.taken (old.held ++ refused_line Memory)
+    × (length bytes ≤ lines.LONGEST + 1)
 Unfit WriteFault bytes old new = UnfitFront bytes old new
 Unfit TooLong bytes old new = Appends old.taken new.taken (old.held ++ refused_line BadText)
     × (lines.LONGEST + 1 < length bytes)
