@@ -99,6 +99,8 @@ module _ {S : Type 0} (store : Ghosts S) where
       reads_now = input.reads_after;
       come = input.to_come;
       come_now = input.left;
+      moments = input.moments;
+      moments_now = input.moments_after;
     })
 
   -- An import of what was read of the file was obeyed.

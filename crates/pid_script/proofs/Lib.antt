@@ -11,6 +11,7 @@ mod LineFronts
 mod LineReplies
 mod NoStopLines
 mod NoStops
+mod Noting
 mod Obeyed
 mod OtherLines
 mod PathFields

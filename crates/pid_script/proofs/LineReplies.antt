@@ -69,13 +69,13 @@ none_behind [] ys is = is
 none_behind (x ∷ xs) ys is = absurd cc
 
 -- what holds of all lines holds of all but the last
-pub all_but_last : (P : List ℕ → Type 0) (lines : List (List ℕ)) → AllByRecursion P lines → AllButLast P lines
+pub all_but_last : {A : Type 0} (P : A → Type 0) (lines : List A) → AllByRecursion P lines → AllButLast P lines
 all_but_last P [] all = tt
 all_but_last P (x ∷ []) all = tt
 all_but_last P (x ∷ y ∷ lines) all = (all.0, all_but_last P (y ∷ lines) all.1)
 
 -- and so it does behind them
-pub but_one : (P : List ℕ → Type 0) (lines : List (List ℕ)) (line : List ℕ) → AllByRecursion P lines → AllButLast P (lines ++ line ∷ [])
+pub but_one : {A : Type 0} (P : A → Type 0) (lines : List A) (line : A) → AllByRecursion P lines → AllButLast P (lines ++ line ∷ [])
 but_one P [] line all = tt
 but_one P (x ∷ []) line all = (all.0, tt)
 but_one P (x ∷ y ∷ lines) line all = (all.0, but_one P (y ∷ lines) line all.1)

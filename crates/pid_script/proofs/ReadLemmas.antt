@@ -2,8 +2,10 @@
 use Rattle.std.proofs.Common.{◌≡◌, ℕ, ◌+◌, ◌*◌, ◌-◌, ◌^◌, ◌<◌, ◌≤◌, min, length, List, [], ◌∷◌, ◌++◌, take, Option, Some, None, Result, Ok, Err, refl, sym, ap, subst, ◌∙◌, append_assoc, arith}
 use Rattle.std.proofs.lemmas.List.{append-nil, length-append, length-take}
 use Rattle.std.specs.Prelude.{IfSome, IsSome}
+use Rattle.std.specs.List.{AllByRecursion}
 use Rattle.std.specs.Io.KnownBytes.{Consumes, Keeps, IsAtEnd}
 use Rattle.pid_file.specs.declared.io.ReadFault.{ReadFault as InputFault}
+use Rattle.pid_ident.specs.Moments.{Moment, IsNoted}
 use Rattle.pid_reader.specs.Lines.{lines_of}
 use Rattle.pid_moderation.specs.History.{History}
 use Rattle.pid_script.specs.declared.line_end.LineEnd.{LineEnd}
@@ -13,11 +15,12 @@ use Rattle.pid_script.specs.declared.script_end.ScriptEnd.{ScriptEnd}
 use Rattle.pid_script.specs.declared.script_end.ScriptEnd.TheVariants.{ReadFault as ReadEnd, WriteFault as WriteEnd, TurnsSpent}
 use Rattle.pid_script.specs.Steps.Progress.{HasAnswered, Ended, EndsText, script_end}
 use Rattle.pid_script.specs.Steps.Output.{Out, out}
-use Rattle.pid_script.specs.Scripts.{passage, IsCutOff, IsScript, ReaderAndWriter, MakesReads, EndsWith, BUFFER_ROOM}
+use Rattle.pid_script.specs.Scripts.{passage, IsCutOff, IsScript, ReaderAndWriter, MakesReads, EndsWith, HasMore, Notes, BUFFER_ROOM}
 use Rattle.pid_script.specs.RegistryStates.{ShowsOrHasFailed}
-use Rattle.pid_script.proofs.Answered.{answers_out}
-use Rattle.pid_script.proofs.Pieces.{no_line}
 use Rattle.pid_script.specs.ScriptLines.{LONGEST}
+use Rattle.pid_script.proofs.Answered.{answers_out}
+use Rattle.pid_script.proofs.Noting.{last_noted, all_noted}
+use Rattle.pid_script.proofs.Pieces.{no_line}
 use Rattle.pid_script.proofs.Calling.{send_still, go_still, go_then}
 use Rattle.pid_script.specs.Calling.{CallsGo}
 use Rattle.pid_script.proofs.SayLemmas.{Appends-nil, none_fits}
@@ -149,11 +152,11 @@ keeps_none (Some x) None p = absurd p
 keeps_none (Some x) (Some y) p = sym p
 
 -- one more read, which is the last one, whatever it took
-pub last_read : (end : ScriptEnd) (s : ReaderAndWriter) (turn reads_now : ℕ) (now : Option (List ℕ)) (front piece : List ℕ)
+pub last_read : (end : ScriptEnd) (s : ReaderAndWriter) (turn reads_now : ℕ) (now taken : Option (List ℕ)) (ms : Option (List Moment)) (front piece : List ℕ)
     → turn < s.turns → (s.reads < 2 ^ 64 → reads_now ≡ min (s.reads + turn) (2 ^ 64 - 1)) → s.reads_now ≡ min (reads_now + 1) (2 ^ 64 - 1)
     → Consumes s.come now front → length front ≤ turn * BUFFER_ROOM → turn ≤ length front → Consumes now s.come_now piece → length piece ≤ BUFFER_ROOM
-    → (end ≡ TurnsSpent → ⊥) → MakesReads end s
-last_read end s turn reads_now now front piece less counted more read bounded some took fits other = record {
+    → Notes turn (AllByRecursion HasMore) s.moments ms → IsNoted now taken ms s.moments_now → (end ≡ TurnsSpent → ⊥) → MakesReads end s
+last_read end s turn reads_now now taken ms front piece less counted more read bounded some took fits past noted other = record {
   made = turn + 1;
   within = omega (arith, less);
   counted = λ small. one_more s.reads turn reads_now s.reads_now (counted small) more;
@@ -161,18 +164,20 @@ last_read end s turn reads_now now front piece less counted more read bounded so
   consumed = Consumes-then s.come now s.come_now front piece read took;
   room = more_bounded front piece turn bounded fits;
   some = omega (arith, length-append front piece, some);
+  noted = last_noted turn now taken s.moments ms s.moments_now past noted;
   spent = λ e. absurd (other e);
 }
 
 -- a read that failed
-pub read_failed : (s : ReaderAndWriter) (f : InputFault) (turn reads_now : ℕ) (now : Option (List ℕ)) (front : List ℕ)
+pub read_failed : (s : ReaderAndWriter) (f : InputFault) (turn reads_now : ℕ) (now taken : Option (List ℕ)) (ms : Option (List Moment)) (front : List ℕ)
     → s.read_fault ≡ Some f → turn < s.turns → (s.reads < 2 ^ 64 → reads_now ≡ min (s.reads + turn) (2 ^ 64 - 1)) → s.reads_now ≡ min (reads_now + 1) (2 ^ 64 - 1)
-    → Consumes s.come now front → length front ≤ turn * BUFFER_ROOM → turn ≤ length front → Keeps now s.come_now → EndsWith ReadEnd s
-read_failed s f turn reads_now now front is less counted more read bounded some kept = record {
+    → Consumes s.come now front → length front ≤ turn * BUFFER_ROOM → turn ≤ length front → Keeps now s.come_now
+    → Notes turn (AllByRecursion HasMore) s.moments ms → IsNoted now taken ms s.moments_now → EndsWith ReadEnd s
+read_failed s f turn reads_now now taken ms front is less counted more read bounded some kept past noted = record {
   read_fault = λ e. some_told s.read_fault f is;
   write_fault = λ e. absurd cc;
   failed = λ few fault. refl;
-  reads = last_read ReadEnd s turn reads_now now front [] less counted more read bounded some (keeps_none now s.come_now kept) (omega arith) (λ e. absurd cc);
+  reads = last_read ReadEnd s turn reads_now now taken ms front [] less counted more read bounded some (keeps_none now s.come_now kept) (omega arith) past noted (λ e. absurd cc);
 }
 
 pub no_turn : {X : Type 0} → 0 < 0 → X
@@ -188,8 +193,8 @@ has_room buffer whole = omega (arith, whole)
 pub all_made : (s : ReaderAndWriter) (turn : ℕ) (front : List ℕ)
     → turn ≡ s.turns → (s.reads < 2 ^ 64 → s.reads_now ≡ min (s.reads + turn) (2 ^ 64 - 1))
     → Consumes s.come s.come_now front → length front ≤ turn * BUFFER_ROOM → turn ≤ length front
-    → (0 < turn → s.read_fault ≡ None) → EndsWith TurnsSpent s
-all_made s turn front all counted read bounded some none = record {
+    → (0 < turn → s.read_fault ≡ None) → Notes turn (AllByRecursion HasMore) s.moments s.moments_now → EndsWith TurnsSpent s
+all_made s turn front all counted read bounded some none noted = record {
   read_fault = λ e. absurd cc;
   write_fault = λ e. absurd cc;
   failed = λ few fault. absurd (not_some s.read_fault (none (omega (arith, few, all))) fault);
@@ -201,7 +206,8 @@ all_made s turn front all counted read bounded some none = record {
     consumed = read;
     room = bounded;
     some = omega (arith, some);
-    spent = λ e. (all, some);
+    noted = all_noted turn s.moments s.moments_now noted;
+    spent = λ e. (all, some, noted);
   };
 }
 

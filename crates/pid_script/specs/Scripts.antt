@@ -1,7 +1,7 @@
 -- What a script comes to: the replies to its lines, and how it ends. All are choices of this
 -- project.
 use Rattle.std.specs.Prelude.{◌≡◌, ◌≤◌, ◌<◌, ◌+◌, ◌-◌, ◌*◌, ◌^◌, min, length, ℕ, false}
-use Rattle.std.specs.Prelude.{List, [], ◌∷◌, ◌++◌, Some, IfSome, IsSome, Option}
+use Rattle.std.specs.Prelude.{List, [], ◌∷◌, ◌++◌, None, Some, IfSome, IsSome, Option}
 use Rattle.pid_file.specs.declared.io.ReadFault.{ReadFault as InputFault}
 use Rattle.pid_file.specs.declared.io.WriteFault.{WriteFault as OutputFault}
 use Rattle.std.specs.Io.KnownBytes.{Appends, Consumes}
@@ -43,6 +43,9 @@ pub record ReaderAndWriter : Type 0 where
   -- the bytes to come before the script, and after it
   pub come : Option (List ℕ)
   pub come_now : Option (List ℕ)
+  -- the moments at which it was read before the script, and after it, if it keeps account of them
+  pub moments : Option (List Moment)
+  pub moments_now : Option (List Moment)
 
 -- the same, of a reader before and after, and of a writer after
 abbrev pub reader_and_writer : {I W : Type 0} → incoming.Ghosts I W → outputs.Ghosts W → I → I → W
@@ -55,7 +58,27 @@ reader_and_writer reader writer old new out turns = record {
   reads_now = reader.reads new;
   come = reader.to_come old;
   come_now = reader.to_come new;
+  moments = reader.moments old;
+  moments_now = reader.moments new;
 }
+
+-- it holds of all but the last, of which nothing is said
+abbrev pub AllButLast : {A : Type 0} → (A → Type 0) → List A → Type 0
+AllButLast P [] = Unit {0}
+AllButLast P (x ∷ []) = Unit {0}
+AllButLast P (x ∷ y ∷ xs) = P x × AllButLast P (y ∷ xs)
+
+-- at this moment something was still to come, as far as that is known
+abbrev pub HasMore : Moment → Type 0
+HasMore m = m.to_come ≡ Some [] → ⊥
+
+-- So many moments came to an account, and this holds of the list of them. If none is kept any more
+-- nothing is said.
+abbrev pub Notes : ℕ → (List Moment → Type 0) → (earlier now : Option (List Moment)) → Type 0
+Notes made Holds earlier None = Unit {0}
+Notes made Holds None (Some now) = ⊥
+Notes made Holds (Some earlier) (Some now) = (later : List Moment) × (now ≡ earlier ++ later)
+    × (length later ≡ made) × Holds later
 
 -- how many reads a script made, and what they took
 pub record MakesReads (end : ScriptEnd) (s : ReaderAndWriter) : Type 0 where
@@ -68,8 +91,12 @@ pub record MakesReads (end : ScriptEnd) (s : ReaderAndWriter) : Type 0 where
   pub consumed : Consumes s.come s.come_now taken
   pub room : length taken ≤ made * BUFFER_ROOM
   pub some : made ≤ length taken + 1
-  -- if they are what the script ended by, all were made, and no more than bytes came
+  -- an account has a moment for each, and at each but the last one something was still to come
+  pub noted : Notes made (AllButLast HasMore) s.moments s.moments_now
+  -- if they are what the script ended by, all were made, no more than bytes came, and something
+  -- was still to come at each of them
   pub spent : end ≡ TurnsSpent → (made ≡ s.turns) × (made ≤ length taken)
+      × Notes made (AllByRecursion HasMore) s.moments s.moments_now
 
 -- a script ended so
 pub record EndsWith (end : ScriptEnd) (s : ReaderAndWriter) : Type 0 where
@@ -99,12 +126,6 @@ NoneTooLong lines = AllByRecursion IsNotTooLong lines
 -- none of the lines asks something of the registry
 abbrev pub NoneCalls : List (List ℕ) → Type 0
 NoneCalls lines = AllByRecursion CallsNot lines
-
--- it holds of all lines but the last, of which nothing is said
-abbrev pub AllButLast : (List ℕ → Type 0) → List (List ℕ) → Type 0
-AllButLast P [] = Unit {0}
-AllButLast P (line ∷ []) = Unit {0}
-AllButLast P (line ∷ next ∷ lines) = P line × AllButLast P (next ∷ lines)
 
 -- Lines in three parts, if a writer failed: those whose replies were out; those that wait, of
 -- which only the last may be a command; and those that were not read.
@@ -226,6 +247,7 @@ module _ {R : Type 0} (registry : Ghosts R) where
       (rest : Option (List ℕ)) : Type 0 where
     pub front : List ℕ
     pub read : Consumes (Some text) rest front
+    pub short : length (open_part front) ≤ LONGEST + 1
     pub answers : AnswersLines h p (whole_lines front)
 
   -- The text was read at this moment: the lines that had come whole had got their replies, and the
@@ -245,4 +267,3 @@ module _ {R : Type 0} (registry : Ghosts R) where
   IsScript WriteFault h p text rest = FailsToWrite h p (lines_of text)
   IsScript ReadFault h p text rest = IsCutOff h p text rest
   IsScript TurnsSpent h p text rest = IsCutOff h p text rest
-    pub short : length (open_part front) ≤ LONGEST + 1

@@ -3,12 +3,13 @@ use Rattle.pid_script.specs.Steps.Progress.{HasAnswered}
 use Rattle.pid_script.specs.Steps.Output.{out}
 use Rattle.pid_script.specs.Scripts.{passage, IsScript}
 use Rattle.pid_script.proofs.CatchingUp.{unread, read_then, calls_then}
+use Rattle.pid_script.proofs.Noting.{none_noted, more_noted}
 use Rattle.pid_script.proofs.ReadLemmas.{none_read, read_more, cut_off, turns_over, all_read, ended, ended_by, not_spent, consumed_none, piece_fits, piece_some, last_read, last_turn, read_failed, no_turn, has_room, all_made}
 use Rattle.pid_script.proofs.Calling.{go_then}
 use Rattle.pid_script.proofs.script.run_script.Goals as goal
 
 pub loop-turn-init : goal.loop-turn-init
-loop-turn-init g c = (none_read g.R.Moderated c.args.registry.now (g.O.Output.taken c.args.output.now) (g.I.Incoming.to_come c.args.input.now) (g.I.Incoming.reads c.args.input.now) c.new-held.result.items c.new-kept.result.items c.new-held.ensures.items c.new-kept.ensures.items, (g.met.I.Incoming.stays _, (unread g.R.Moderated c.args.registry.now (g.O.Output.taken c.args.output.now) (g.I.Incoming.to_come c.args.input.now) (g.I.Incoming.moments c.args.input.now), (no_turn, search rules))))
+loop-turn-init g c = (none_read g.R.Moderated c.args.registry.now (g.O.Output.taken c.args.output.now) (g.I.Incoming.to_come c.args.input.now) (g.I.Incoming.reads c.args.input.now) c.new-held.result.items c.new-kept.result.items c.new-held.ensures.items c.new-kept.ensures.items, (g.met.I.Incoming.stays _, (unread g.R.Moderated c.args.registry.now (g.O.Output.taken c.args.output.now) (g.I.Incoming.to_come c.args.input.now) (g.I.Incoming.moments c.args.input.now), ((no_turn, none_noted (g.I.Incoming.moments c.args.input.now)), search rules))))
 
 pub loop-turn-preserved : goal.loop-turn-preserved
 loop-turn-preserved g c = (
@@ -23,7 +24,14 @@ loop-turn-preserved g c = (
     (
       calls_then g.R.Moderated c.args.registry.now c.loop-turn.registry c.take_piece.new.registry (g.O.Output.taken c.args.output.now) (g.O.Output.taken c.loop-turn.output) (g.O.Output.taken c.take_piece.new.output) (g.I.Incoming.to_come c.args.input.now) (g.I.Incoming.moments c.args.input.now) (g.I.Incoming.moments c.read_behind.new.self) c.take_piece.ensures.calls
           (read_then g.R.Moderated c.args.registry.now c.loop-turn.registry (g.O.Output.taken c.args.output.now) (g.I.Incoming.to_come c.args.input.now) (g.I.Incoming.to_come c.loop-turn.input) (out (g.O.Output.taken c.loop-turn.output) c.loop-turn.held.items) c.loop-turn.kept.items (g.I.Incoming.reads c.args.input.now) (g.I.Incoming.reads c.loop-turn.input) c.loop-turn._turn (g.I.Incoming.moments c.args.input.now) (g.I.Incoming.moments c.loop-turn.input) (g.I.Incoming.moments c.read_behind.new.self) c.loop-turn.invariant.0 c.loop-turn.invariant.1.1.0 c.read_behind.ensures.noted),
-      (λ some. c.in-Ok.ensures.fault, c.read_behind.auto.buffer ∙ c.loop-turn.invariant.1.1.1.1),
+      (
+        (
+          λ some. c.in-Ok.ensures.fault,
+          more_noted c.loop-turn._turn (g.I.Incoming.to_come c.loop-turn.input) (g.I.Incoming.to_come c.read_behind.new.self) (g.O.Output.taken c.loop-turn.output) (take c.in-Ok.count c.read_behind.new.buffer) (g.I.Incoming.moments c.args.input.now) (g.I.Incoming.moments c.loop-turn.input) (g.I.Incoming.moments c.read_behind.new.self)
+              c.in-Ok.ensures.bytes.0 (piece_some c.in-Ok.count c.read_behind.new.buffer c.if-count-eq0.false c.in-Ok.ensures.room) c.loop-turn.invariant.1.1.1.0.1 c.read_behind.ensures.noted,
+        ),
+        c.read_behind.auto.buffer ∙ c.loop-turn.invariant.1.1.1.1,
+      ),
     ),
   ),
 )
@@ -35,7 +43,7 @@ returns-in_default-clause-script g c = λ honest h stands.
 
 pub returns-in_default-clause-ended : goal.returns-in_default-clause-ended
 returns-in_default-clause-ended g c =
-    read_failed _ _ c.loop-turn._turn (g.I.Incoming.reads c.loop-turn.input) (g.I.Incoming.to_come c.loop-turn.input) c.loop-turn.invariant.0.front c.in_default.ensures.fault c.loop-turn-test.true c.loop-turn.invariant.0.counted c.read_behind.ensures.count c.loop-turn.invariant.0.consumed c.loop-turn.invariant.0.bounded c.loop-turn.invariant.0.some c.in_default.ensures.bytes
+    read_failed _ _ c.loop-turn._turn (g.I.Incoming.reads c.loop-turn.input) (g.I.Incoming.to_come c.loop-turn.input) (g.O.Output.taken c.loop-turn.output) (g.I.Incoming.moments c.loop-turn.input) c.loop-turn.invariant.0.front c.in_default.ensures.fault c.loop-turn-test.true c.loop-turn.invariant.0.counted c.read_behind.ensures.count c.loop-turn.invariant.0.consumed c.loop-turn.invariant.0.bounded c.loop-turn.invariant.0.some c.in_default.ensures.bytes c.loop-turn.invariant.1.1.1.0.1 c.read_behind.ensures.noted
 
 pub returns-in_default-clause-goes : goal.returns-in_default-clause-goes
 returns-in_default-clause-goes g c = g.met.I.Incoming.joins _ _ _ c.loop-turn.invariant.1.0 c.read_behind.ensures.goes
@@ -57,7 +65,7 @@ returns-then-count-eq0-clause-script g c = λ honest h stands.
 pub returns-then-count-eq0-clause-ended : goal.returns-then-count-eq0-clause-ended
 returns-then-count-eq0-clause-ended g c = let whole : length c.read_behind.new.buffer ≡ 65536 = c.read_behind.auto.buffer ∙ c.loop-turn.invariant.1.1.1.1 in
     ended_by c.end_text.result c.end_of.result _ c.end_of.ensures c.in-Ok.ensures.fault c.end_text.ensures.fault
-    (last_read _ _ c.loop-turn._turn (g.I.Incoming.reads c.loop-turn.input) (g.I.Incoming.to_come c.loop-turn.input) c.loop-turn.invariant.0.front (take c.in-Ok.count c.read_behind.new.buffer) c.loop-turn-test.true c.loop-turn.invariant.0.counted c.read_behind.ensures.count c.loop-turn.invariant.0.consumed c.loop-turn.invariant.0.bounded c.loop-turn.invariant.0.some c.in-Ok.ensures.bytes.0 (piece_fits c.in-Ok.count c.read_behind.new.buffer whole) (λ e. not_spent c.end_text.result (sym c.end_of.ensures ∙ e)))
+    (last_read _ _ c.loop-turn._turn (g.I.Incoming.reads c.loop-turn.input) (g.I.Incoming.to_come c.loop-turn.input) (g.O.Output.taken c.loop-turn.output) (g.I.Incoming.moments c.loop-turn.input) c.loop-turn.invariant.0.front (take c.in-Ok.count c.read_behind.new.buffer) c.loop-turn-test.true c.loop-turn.invariant.0.counted c.read_behind.ensures.count c.loop-turn.invariant.0.consumed c.loop-turn.invariant.0.bounded c.loop-turn.invariant.0.some c.in-Ok.ensures.bytes.0 (piece_fits c.in-Ok.count c.read_behind.new.buffer whole) c.loop-turn.invariant.1.1.1.0.1 c.read_behind.ensures.noted (λ e. not_spent c.end_text.result (sym c.end_of.ensures ∙ e)))
 
 pub returns-then-count-eq0-clause-goes : goal.returns-then-count-eq0-clause-goes
 returns-then-count-eq0-clause-goes g c = g.met.I.Incoming.joins _ _ _ c.loop-turn.invariant.1.0 c.read_behind.ensures.goes
@@ -77,7 +85,7 @@ returns-in-Err-clause-script g c = λ honest h stands.
 pub returns-in-Err-clause-ended : goal.returns-in-Err-clause-ended
 returns-in-Err-clause-ended g c = let whole : length c.read_behind.new.buffer ≡ 65536 = c.read_behind.auto.buffer ∙ c.loop-turn.invariant.1.1.1.1 in
     ended_by (Err c.in-Err.end) c.end_of-in-Err.result _ c.end_of-in-Err.ensures c.in-Ok.ensures.fault c.in-Err.ensures.fault
-    (last_read _ _ c.loop-turn._turn (g.I.Incoming.reads c.loop-turn.input) (g.I.Incoming.to_come c.loop-turn.input) c.loop-turn.invariant.0.front (take c.in-Ok.count c.read_behind.new.buffer) c.loop-turn-test.true c.loop-turn.invariant.0.counted c.read_behind.ensures.count c.loop-turn.invariant.0.consumed c.loop-turn.invariant.0.bounded c.loop-turn.invariant.0.some c.in-Ok.ensures.bytes.0 (piece_fits c.in-Ok.count c.read_behind.new.buffer whole) (λ e. not_spent (Err c.in-Err.end) (sym c.end_of-in-Err.ensures ∙ e)))
+    (last_read _ _ c.loop-turn._turn (g.I.Incoming.reads c.loop-turn.input) (g.I.Incoming.to_come c.loop-turn.input) (g.O.Output.taken c.loop-turn.output) (g.I.Incoming.moments c.loop-turn.input) c.loop-turn.invariant.0.front (take c.in-Ok.count c.read_behind.new.buffer) c.loop-turn-test.true c.loop-turn.invariant.0.counted c.read_behind.ensures.count c.loop-turn.invariant.0.consumed c.loop-turn.invariant.0.bounded c.loop-turn.invariant.0.some c.in-Ok.ensures.bytes.0 (piece_fits c.in-Ok.count c.read_behind.new.buffer whole) c.loop-turn.invariant.1.1.1.0.1 c.read_behind.ensures.noted (λ e. not_spent (Err c.in-Err.end) (sym c.end_of-in-Err.ensures ∙ e)))
 
 pub returns-in-Err-clause-goes : goal.returns-in-Err-clause-goes
 returns-in-Err-clause-goes g c = g.met.I.Incoming.joins _ _ _ c.loop-turn.invariant.1.0 c.read_behind.ensures.goes
@@ -88,7 +96,7 @@ returns-clause-script g c = λ honest h stands.
 
 pub returns-clause-ended : goal.returns-clause-ended
 returns-clause-ended g c =
-    all_made _ c.loop-turn._turn c.loop-turn.invariant.0.front (last_turn _ _ c.loop-turn.auto._turn-end c.loop-turn-test.false) c.loop-turn.invariant.0.counted c.loop-turn.invariant.0.consumed c.loop-turn.invariant.0.bounded c.loop-turn.invariant.0.some c.loop-turn.invariant.1.1.1.0
+    all_made _ c.loop-turn._turn c.loop-turn.invariant.0.front (last_turn _ _ c.loop-turn.auto._turn-end c.loop-turn-test.false) c.loop-turn.invariant.0.counted c.loop-turn.invariant.0.consumed c.loop-turn.invariant.0.bounded c.loop-turn.invariant.0.some c.loop-turn.invariant.1.1.1.0.0 c.loop-turn.invariant.1.1.1.0.1
 
 pub returns-in_default-clause-calls : goal.returns-in_default-clause-calls
 returns-in_default-clause-calls g c = c.loop-turn.invariant.0.calls
