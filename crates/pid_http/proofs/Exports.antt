@@ -8,7 +8,6 @@ use Rattle.pid_service.proofs.ItemLines.{last_path, text_behind, text_joined}
 use Rattle.pid_service.specs.ItemTexts.{text_of_items}
 use Rattle.pid_ident.specs.Sending.{SendsFront}
 use Rattle.pid_file.specs.declared.io.WriteFault.{WriteFault}
-use Rattle.pid_service_laws.specs.Calls.{AreNothing}
 use Rattle.pid_moderation.specs.History.{History}
 use Rattle.pid_moderation.specs.Items.{Items}
 use Rattle.pid_moderation.specs.Views.{items_of}
@@ -32,11 +31,11 @@ use Rattle.pid_http.specs.Errands.{Export}
 use Rattle.pid_http.specs.Steps.Handling.{WritesText, WritesOver}
 use Rattle.pid_http.specs.Known.{Known, Live, Between, Down, IsKnownOf, LivesOn, Told, IsToldOf}
 use Rattle.pid_http.specs.Steps.Going.{Goes, calls_join}
-use Rattle.pid_http.specs.Serving.{IsPromised}
+use Rattle.pid_http.specs.Serving.{AreQuestions, IsPromised}
 
 -- the length of the text was told
 pub length_told : {S : Type 0} (store : Ghosts S) (old new : Registry S store) (n : ℕ) (head : ReplyHead) (lives : LivesOn store old new) → head.status ≡ 200 → head.content ≡ Text
-    → Answers store old new (Ok n) (λ h n. n ≡ length (print (tree_of h))) → AreNothing lives.calls → Goes store old new (λ k calls now. IsPromised k Export head n calls now)
+    → Answers store old new (Ok n) (λ h n. n ≡ length (print (tree_of h))) → AreQuestions 1 lives.calls → Goes store old new (λ k calls now. IsPromised k Export head n calls now)
 length_told store old new n head lives status content a nothing = record { lives = lives; served = record { good = a.rests.clean; leads = leads } }
   where
     leads : HasCleanDisk store new → (k : Known) → IsKnownOf store old k → (now : Known) × IsKnownOf store new now × IsPromised k Export head n lives.calls now
@@ -78,7 +77,7 @@ pub not_all : {X : Type 0} (P : Type 0) (x : X) → ◌≡◌ {A = Result X Expo
 not_all P x is = absurd cc
 
 -- the text was written, so far
-pub written : {S : Type 0} (store : Ghosts S) (old new : Registry S store) (Took : List ℕ → Type 0) (lives : LivesOn store old new) → AreNothing lives.calls → (HasCleanDisk store new → HasCleanDisk store old)
+pub written : {S : Type 0} (store : Ghosts S) (old new : Registry S store) (Took : List ℕ → Type 0) (lives : LivesOn store old new) → AreQuestions 1 lives.calls → (HasCleanDisk store new → HasCleanDisk store old)
     → ((h : History) → Shows store old h → Shows store new h) → (HasCleanDisk store new → (h : History) → Shows store old h → Took (print (tree_of h))) → (is_live old ≡ false → Took [])
     → Leads (HasCleanDisk store) (IsToldOf store) old new (λ t u. (body : List ℕ) × WritesText store t body u × Took body)
 written store old new Took lives nothing clean shown body off_body = record { good = clean; leads = leads }

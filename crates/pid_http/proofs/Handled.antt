@@ -3,7 +3,7 @@ use Rattle.std.proofs.Common.{◌≡◌, ℕ, List, [], Option, Some, None, Resu
 use Rattle.std.specs.Prelude.{◌⊎◌, MatchOption, option_copied}
 use Rattle.std.specs.Io.KnownBytes.{IsAtEnd}
 use Rattle.sqlite_trees.specs.declared.store.Store.{Ghosts}
-use Rattle.pid_service_laws.specs.Calls.{AreNothing, Call}
+use Rattle.pid_service_laws.specs.Calls.{Call}
 use Rattle.pid_http_stream.specs.Conducts.{StandsStill}
 use Rattle.pid_http_stream.specs.Handling.{IsHandled, IsBodyFor, MayReply}
 use Rattle.pid_http_stream.specs.Replies.{Answer}
@@ -18,7 +18,7 @@ use Rattle.pid_http_requests.specs.declared.sender.Sender.{Sender}
 use Rattle.pid_http.specs.Errands.{Errand, errand_asked, errand_of}
 use Rattle.pid_http.specs.Known.{Told, ByCalls}
 use Rattle.pid_http.specs.Steps.Replying.{IsBodyMet, IsMetBehind, sending_in}
-use Rattle.pid_http.specs.Serving.{IsErrandMet, serving}
+use Rattle.pid_http.specs.Serving.{AreQuestions, IsErrandMet, serving}
 
 pub sender_is : (o : Option Sender) (x : Option Sending) → MatchOption o (x ≡ None) (λ s. x ≡ Some (record { account = s.account.now; key = option_copied s.key })) → sending_in o ≡ x
 sender_is None x e = sym e
@@ -54,6 +54,6 @@ module _ {S : Type 0} (store : Ghosts S) where
   asked_behind {E} t u request errand (Ok reply) left same m = asked_ok t u request errand reply same m
   asked_behind {E} t u request errand (Err e) left same m = by_case m.holds
     where
-      by_case : (AreNothing m.more × (t.known ≡ u.known)) ⊎ (IsAtEnd left × ((given : Answer) × IsErrandMet t.known errand given m.more u.known)) → IsHandled {E = E} (serving store) t request (Err e) left u
+      by_case : (AreQuestions 1 m.more × (t.known ≡ u.known)) ⊎ (IsAtEnd left × ((given : Answer) × IsErrandMet t.known errand given m.more u.known)) → IsHandled {E = E} (serving store) t request (Err e) left u
       by_case (inl still) = inl (inr (record { same_life = m.same_life; more = m.more; joined = m.joined; holds = still }))
       by_case (inr (end, (given, met))) = inr (end, record { same_life = m.same_life; more = m.more; joined = m.joined; holds = (given, subst (λ c. IsErrandMet t.known c given m.more u.known) same met) })

@@ -1,8 +1,8 @@
 -- How a call of the registry meets what a request comes to.
-use Rattle.std.proofs.Common.{◌≡◌, ℕ, Bool, true, false, List, [], ◌∷◌, ◌++◌, Option, Some, None, Result, Ok, Err, IfOk, refl, sym, ap, subst, ◌∙◌, inl, inr}
+use Rattle.std.proofs.Common.{◌≡◌, ◌≤◌, ℕ, Bool, true, false, List, [], ◌∷◌, ◌++◌, Option, Some, None, Result, Ok, Err, IfOk, refl, sym, ap, subst, ◌∙◌, inl, inr, arith}
 use Rattle.std.specs.Prelude.{◌⊎◌, MatchResult}
 use Rattle.sqlite_trees.specs.declared.store.Store.{Ghosts}
-use Rattle.pid_service_laws.specs.Calls.{AreNothing, Call, nothing_sent, obeyed as sends}
+use Rattle.pid_service_laws.specs.Calls.{Call, nothing_sent, obeyed as sends}
 use Rattle.pid_service_laws.specs.Registries.{Does}
 use Rattle.pid_moderation.specs.History.{Asked, History}
 use Rattle.pid_moderation.specs.Judgement.{after}
@@ -26,12 +26,12 @@ use Rattle.pid_http_requests.specs.Senders.{Sending}
 use Rattle.pid_http_requests.specs.declared.format.Format.{Format}
 use Rattle.pid_http_replies.specs.Outcomes.{outcome_answer}
 use Rattle.pid_http_replies.specs.Replying.{IsReplyOf, IsBodyOf}
-use Rattle.pid_http.specs.Answering.{answer_over, history_behind, IsErrandRefused, LacksForm, Refused, AsEver, Short}
-use Rattle.pid_http.specs.Errands.{Errand, Answered, Denied, Obeys, command_sent, command_errand, import_errand}
+use Rattle.pid_http.specs.Answering.{answer_over, history_behind, IsErrandRefused, LacksForm}
+use Rattle.pid_http.specs.Errands.{Errand, Answered, Denied, Obeys, Children, command_sent, command_errand, import_errand, known_answer}
 use Rattle.pid_http.specs.Known.{Known, Live, Between, Down, IsKnownOf, LivesOn, IsToldOf, ByCalls}
 use Rattle.pid_http.specs.Steps.Going.{Goes, calls_join}
 use Rattle.pid_http.specs.Steps.Replying.{CommandsAreCalls, QuestionsAreCalls, IsCommandMet, IsBodyMet, IsMetBy, answer_or}
-use Rattle.pid_http.specs.Serving.{IsErrandMet, IsMetOver, AnsweredOver, NotAsked, NotDone, InDoubt, AreCallsOver, AreUndone}
+use Rattle.pid_http.specs.Serving.{IsErrandMet, IsMetOver, AnsweredOver, NotAsked, NotDone, InDoubt, AreCallsOver, AreQuestions, AreUndone, IsFailedAnswer, Refused, AsEver, Short, most_questions}
 
 -- what only asks: its answer by what is found
 pub record IsQuestion {X : Type 0} (format : Format) (found : X → Answer) (Says : History → X → Type 0) (errand : Errand) : Type 0 where
@@ -43,11 +43,29 @@ pub record IsQuestion {X : Type 0} (format : Format) (found : X → Answer) (Say
 same_history : (h : History) (errand : Errand) → command_sent errand ≡ None → Live h ≡ Live (history_behind h (command_sent errand))
 same_history h errand none = ap (λ (c : Option Asked). Live (history_behind h c)) (sym none)
 
-calls_over : (h : History) (errand : Errand) (calls : List Call) → command_sent errand ≡ None → AreNothing calls → AreCallsOver h (command_sent errand) calls
-calls_over h errand calls none nothing = subst (λ (c : Option Asked). AreCallsOver h c calls) (sym none) nothing
+calls_over : (h : History) (errand : Errand) (calls : List Call) → command_sent errand ≡ None → AreQuestions (most_questions errand) calls → AreCallsOver h (command_sent errand) (most_questions errand) calls
+calls_over h errand calls none asked = subst (λ (c : Option Asked). AreCallsOver h c (most_questions errand) calls) (sym none) asked
 
-undone : (errand : Errand) (refusal : Refusal) (calls : List Call) → command_sent errand ≡ None → AreNothing calls → AreUndone (command_sent errand) refusal calls
-undone errand refusal calls none nothing = subst (λ (c : Option Asked). AreUndone c refusal calls) (sym none) nothing
+undone : (errand : Errand) (refusal : Refusal) (calls : List Call) → command_sent errand ≡ None → AreQuestions (most_questions errand) calls → AreUndone (command_sent errand) refusal (most_questions errand) calls
+undone errand refusal calls none asked = subst (λ (c : Option Asked). AreUndone c refusal (most_questions errand) calls) (sym none) asked
+
+-- no call, and one
+pub not_asked : (most : ℕ) → AreQuestions most []
+not_asked most = (tt, omega arith)
+
+pub one_question : AreQuestions 1 (nothing_sent ∷ [])
+one_question = ((refl, tt), omega arith)
+
+-- what is asked of the registry takes a question
+takes_one : (errand : Errand) → known_answer errand ≡ None → 1 ≤ most_questions errand
+takes_one (Answered given) none = absurd cc
+takes_one (Denied refusal format) none = absurd cc
+takes_one (Children None format) none = omega arith
+takes_one (Children (Some path) format) none = omega arith
+takes_one errand none = omega arith
+
+asked_once : (errand : Errand) → known_answer errand ≡ None → AreQuestions (most_questions errand) (nothing_sent ∷ [])
+asked_once errand none = ((refl, tt), takes_one errand none)
 
 -- the reply is the answer
 pub body_met : (k now : Known) (errand : Errand) (head : ReplyHead) (body : ReplyBody) (given : Answer) (calls : List Call) → IsBodyOf head body given → IsErrandMet k errand given calls now → IsBodyMet k errand head body calls now
@@ -65,22 +83,22 @@ found_is_none x e is = cc
 -- an answer for which the registry is not asked
 pub answered : (given : Answer) (k : Known) → IsErrandMet k (Answered given) given [] k
 unfolding answer_over
-answered given (Live h) = AnsweredOver refl tt refl
-answered given (Between before behind) = (AsEver refl, tt, refl)
-answered given Down = (AsEver refl, tt, refl)
+answered given (Live h) = AnsweredOver refl (not_asked 0) refl
+answered given (Between before behind) = (AsEver refl refl, refl)
+answered given Down = (AsEver refl refl, refl)
 
 -- the sender or the form is refused
 pub denied : (refusal : Refusal) (format : Format) (k : Known) → IsErrandMet k (Denied refusal format) (outcome_answer format (Err refusal)) [] k
 unfolding answer_over
-denied refusal format (Live h) = AnsweredOver refl tt refl
-denied refusal format (Between before behind) = (AsEver refl, tt, refl)
-denied refusal format Down = (AsEver refl, tt, refl)
+denied refusal format (Live h) = AnsweredOver refl (not_asked 0) refl
+denied refusal format (Between before behind) = (AsEver refl refl, refl)
+denied refusal format Down = (AsEver refl refl, refl)
 
 -- memory is short before the registry is asked
 lacks : (errand : Errand) (given : Answer) (k : Known) → LacksForm errand given → IsErrandMet k errand given [] k
-lacks errand given (Live h) short = NotAsked short tt refl
-lacks errand given (Between before behind) short = (Short short, tt, refl)
-lacks errand given Down short = (Short short, tt, refl)
+lacks errand given (Live h) short = NotAsked short refl refl
+lacks errand given (Between before behind) short = (Short short refl, refl)
+lacks errand given Down short = (Short short refl, refl)
 
 -- for the form of a command, or for its sender
 pub short : (made : Result Command Refusal) (format : Format) (k : Known) → IsErrandMet k (command_errand format made) (outcome_answer format (Err refusals.Memory)) [] k
@@ -99,8 +117,8 @@ obeyed_met c format (Live h) now result calls (inl (e, by, same)) = AnsweredOver
 obeyed_met c format (Live h) now (Ok reply) calls (inr (fault, where_now)) = absurd fault
 obeyed_met c format (Live h) now (Err e) calls (inr (fault, inl (by, same))) = NotDone e fault (refl, refl) by same
 obeyed_met c format (Live h) now (Err e) calls (inr (fault, inr (by, same))) = InDoubt e c fault (refl, refl) refl by same
-obeyed_met c format (Between before behind) now result calls (e, nothing, same) = (Refused (refl, ap (outcome_answer format) e), nothing, same)
-obeyed_met c format Down now result calls (e, nothing, same) = (Refused (refl, ap (outcome_answer format) e), nothing, same)
+obeyed_met c format (Between before behind) now result calls (e, asked, same) = (Refused (refl, ap (outcome_answer format) e) asked, same)
+obeyed_met c format Down now result calls (e, asked, same) = (Refused (refl, ap (outcome_answer format) e) asked, same)
 
 memory_or : (refusal : Refusal) (made : Result Command Refusal) → ((refusal ≡ refusals.Memory → ⊥) → made ≡ Err refusal) → (refusal ≡ refusals.Memory) ⊎ (made ≡ Err refusal)
 memory_or refusals.Memory made f = inl refl
@@ -146,8 +164,8 @@ module _ {S : Type 0} (store : Ghosts S) where
       by_case (inr (fault, inr fails)) = (Between h (after h c), fails, inr (fault, inr (at false fails.has_failed, refl)))
 
   -- one that had failed before sends nothing
-  nothing_by : (new : Registry S store) (result : Result Outcome Refusal) (c : Asked) (calls : List Call) → calls ≡ sends c result (is_live new) ∷ [] → result ≡ Err refusals.Failed → AreNothing calls
-  nothing_by new result c calls by e = subst AreNothing (sym (by ∙ ap (λ (r : Result Outcome Refusal). sends c r (is_live new) ∷ []) e)) (refl, tt)
+  nothing_by : (new : Registry S store) (result : Result Outcome Refusal) (c : Asked) (calls : List Call) → calls ≡ sends c result (is_live new) ∷ [] → result ≡ Err refusals.Failed → AreQuestions 1 calls
+  nothing_by new result c calls by e = subst (AreQuestions 1) (sym (by ∙ ap (λ (r : Result Outcome Refusal). sends c r (is_live new) ∷ []) e)) one_question
 
   -- a command, by what is told of `obey`
   pub obeys_so : (old new : Registry S store) (result : Result Outcome Refusal) (c : Asked) (lives : LivesOn store old new) → lives.calls ≡ sends c result (is_live new) ∷ []
@@ -173,46 +191,46 @@ module _ {S : Type 0} (store : Ghosts S) where
       → (result ≡ Err refusals.Failed) × IsKnownOf store new k
   down old new result Says a k off known = let f = a.failed off in (f.0, subst (λ r. IsKnownOf store r k) (sym f.1) known)
 
-  over_history : {X : Type 0} (result : Result X Refusal) (Says : History → X → Type 0) (format : Format) (found : X → Answer) (errand : Errand) (calls : List Call) → AreNothing calls → IsQuestion format found Says errand
+  over_history : {X : Type 0} (result : Result X Refusal) (Says : History → X → Type 0) (format : Format) (found : X → Answer) (errand : Errand) (calls : List Call) → AreQuestions (most_questions errand) calls → IsQuestion format found Says errand
       → (h : History) → MatchResult result (Says h) IsMemoryOrStore → IsMetOver h errand (answer_or format found result) calls (Live h)
-  over_history (Ok x) Says format found errand calls nothing q h told = AnsweredOver (q.over h x told) (calls_over h errand calls q.no_command nothing) (same_history h errand q.no_command)
-  over_history (Err e) Says format found errand calls nothing q h fault = NotDone e fault (q.refused e) (undone errand e calls q.no_command nothing) refl
+  over_history (Ok x) Says format found errand calls asked q h told = AnsweredOver (q.over h x told) (calls_over h errand calls q.no_command asked) (same_history h errand q.no_command)
+  over_history (Err e) Says format found errand calls asked q h fault = NotDone e fault (q.refused e) (undone errand e calls q.no_command asked) refl
 
   -- the answer of one that has failed
   failed_so : {X : Type 0} (result : Result X Refusal) (format : Format) (found : X → Answer) (errand : Errand) → ((e : Refusal) → IsErrandRefused errand e (outcome_answer format (Err e)))
       → result ≡ Err refusals.Failed → IsErrandRefused errand refusals.Failed (answer_or format found result)
   failed_so result format found errand refused e = let r = refused refusals.Failed in (r.0, ap (answer_or format found) e ∙ r.1)
 
-  met : {X : Type 0} (old new : Registry S store) (result : Result X Refusal) (Says : History → X → Type 0) (format : Format) (found : X → Answer) (errand : Errand) (calls : List Call) → AreNothing calls
+  met : {X : Type 0} (old new : Registry S store) (result : Result X Refusal) (Says : History → X → Type 0) (format : Format) (found : X → Answer) (errand : Errand)
       → IsQuestion format found Says errand → Answers store old new result Says → HasCleanDisk store new → (k : Known) → IsKnownOf store old k
-      → (now : Known) × IsKnownOf store new now × IsErrandMet k errand (answer_or format found result) calls now
-  met old new result Says format found errand calls nothing q a good (Live h) shows =
-      let t = a.told good h shows in (Live h, t.1, over_history result Says format found errand calls nothing q h t.0)
-  met old new result Says format found errand calls nothing q a good (Between before behind) fails =
+      → (now : Known) × IsKnownOf store new now × IsErrandMet k errand (answer_or format found result) (nothing_sent ∷ []) now
+  met old new result Says format found errand q a good (Live h) shows =
+      let t = a.told good h shows in (Live h, t.1, over_history result Says format found errand (nothing_sent ∷ []) (asked_once errand (q.refused refusals.Failed).0) q h t.0)
+  met old new result Says format found errand q a good (Between before behind) fails =
       let d = down old new result Says a (Between before behind) fails.has_failed fails in
-      (Between before behind, d.1, (Refused (failed_so result format found errand q.refused d.0), nothing, refl))
-  met old new result Says format found errand calls nothing q a good Down off =
+      (Between before behind, d.1, (Refused (failed_so result format found errand q.refused d.0) one_question, refl))
+  met old new result Says format found errand q a good Down off =
       let d = down old new result Says a Down off off in
-      (Down, d.1, (Refused (failed_so result format found errand q.refused d.0), nothing, refl))
+      (Down, d.1, (Refused (failed_so result format found errand q.refused d.0) one_question, refl))
 
   pub question_met : CallsLook → {X : Type 0} (old new : Registry S store) (result : Result X Refusal) (Says : History → X → Type 0) (format : Format) (found : X → Answer) (errand : Errand)
       → IsQuestion format found Says errand → Answers store old new result Says → Goes store old new (λ k calls now. IsErrandMet k errand (answer_or format found result) calls now)
   question_met look old new result Says format found errand q a = record {
     lives = asked_on look old new result Says a;
-    served = record { good = a.rests.clean; leads = λ good k known. met old new result Says format found errand (nothing_sent ∷ []) (refl, tt) q a good k known };
+    served = record { good = a.rests.clean; leads = λ good k known. met old new result Says format found errand q a good k known };
   }
 
   -- a call of its own kind, which sends nothing: what it comes to over a history, and where the registry had failed
-  pub from_call : (old new : Registry S store) (errand : Errand) (given : Answer) (lives : LivesOn store old new) → AreNothing lives.calls → (HasCleanDisk store new → HasCleanDisk store old)
+  pub from_call : (old new : Registry S store) (errand : Errand) (given : Answer) (lives : LivesOn store old new) → (HasCleanDisk store new → HasCleanDisk store old)
       → (HasCleanDisk store new → (h : History) → Shows store old h → (now : Known) × IsKnownOf store new now × IsMetOver h errand given lives.calls now)
-      → (is_live old ≡ false → IsErrandRefused errand refusals.Failed given) → Goes store old new (λ k calls now. IsErrandMet k errand given calls now)
-  from_call old new errand given lives nothing clean over failed = record { lives = lives; served = record { good = clean; leads = leads } }
+      → (is_live old ≡ false → IsFailedAnswer errand given lives.calls) → Goes store old new (λ k calls now. IsErrandMet k errand given calls now)
+  from_call old new errand given lives clean over failed = record { lives = lives; served = record { good = clean; leads = leads } }
     where
       leads : HasCleanDisk store new → (k : Known) → IsKnownOf store old k → (now : Known) × IsKnownOf store new now × IsErrandMet k errand given lives.calls now
       leads good (Live h) shows = over good h shows
       leads good (Between before behind) fails =
-          (Between before behind, subst (λ r. FailsBetween store r before behind) (sym (lives.rests fails.has_failed)) fails, (Refused (failed fails.has_failed), nothing, refl))
-      leads good Down off = (Down, subst (λ r. is_live r ≡ false) (sym (lives.rests off)) off, (Refused (failed off), nothing, refl))
+          (Between before behind, subst (λ r. FailsBetween store r before behind) (sym (lives.rests fails.has_failed)) fails, (failed fails.has_failed, refl))
+      leads good Down off = (Down, subst (λ r. is_live r ≡ false) (sym (lives.rests off)) off, (failed off, refl))
 
   by_found : {Y : Type 0} (result : Result Y Refusal) (P Q : Y → Type 0) (M : Refusal → Type 0) → ((y : Y) → P y → Q y) → MatchResult result P M → MatchResult result Q M
   by_found (Ok y) P Q M f m = f y m
@@ -220,19 +238,19 @@ module _ {S : Type 0} (store : Ghosts S) where
 
   -- two questions, one after the other
   pub question_then : CallsLook → {X Y : Type 0} (old mid new : Registry S store) (first : X) (result : Result Y Refusal) (Holds : History → X → Type 0) (Tells Says : History → Y → Type 0) (format : Format) (found : Y → Answer) (errand : Errand)
-      → IsQuestion format found Says errand → ((h : History) (y : Y) → Holds h first → Tells h y → Says h y) → Answers store old mid (Ok first) Holds → Answers store mid new result Tells
+      → IsQuestion format found Says errand → 2 ≤ most_questions errand → ((h : History) (y : Y) → Holds h first → Tells h y → Says h y) → Answers store old mid (Ok first) Holds → Answers store mid new result Tells
       → Goes store old new (λ k calls now. IsErrandMet k errand (answer_or format found result) calls now)
-  question_then look old mid new first result Holds Tells Says format found errand q both a b =
+  question_then look old mid new first result Holds Tells Says format found errand q twice both a b =
       let lives : LivesOn store old new = record {
         rests = λ off. found_is_none first refusals.Failed (a.failed off).0;
         calls = nothing_sent ∷ nothing_sent ∷ [];
         lead = (mid, look old mid a.rests.clean (λ off. (a.failed off).1) (λ good h shows. (a.told good h shows).1), (new, look mid new b.rests.clean (λ off. (b.failed off).1) (λ good h shows. (b.told good h shows).1), refl));
       } in
-      from_call old new errand (answer_or format found result) lives (refl, (refl, tt)) (λ clean. a.rests.clean (b.rests.clean clean))
+      from_call old new errand (answer_or format found result) lives (λ clean. a.rests.clean (b.rests.clean clean))
       (λ good h shows.
       let t = a.told (b.rests.clean good) h shows in
       let u = b.told good h t.1 in
-      (Live h, u.1, over_history result Says format found errand (nothing_sent ∷ nothing_sent ∷ []) (refl, (refl, tt)) q h (by_found result (Tells h) (Says h) IsMemoryOrStore (λ y tells. both h y t.0 tells) u.0)))
+      (Live h, u.1, over_history result Says format found errand (nothing_sent ∷ nothing_sent ∷ []) ((refl, (refl, tt)), twice) q h (by_found result (Tells h) (Says h) IsMemoryOrStore (λ y tells. both h y t.0 tells) u.0)))
       (λ off. found_is_none first refusals.Failed (a.failed off).0)
 
   -- an answer says what follows from it
@@ -278,9 +296,9 @@ module _ {S : Type 0} (store : Ghosts S) where
       → ((x : Refusal) → IsErrandRefused errand x (outcome_answer format (Err x))) → command_sent errand ≡ None → Answers store old new (Err e) Says
       → Goes store old new (λ k calls now. IsErrandMet k errand (outcome_answer format (Err e)) calls now)
   refused_call look {X} old new e Says format errand refused none a =
-      from_call old new errand (outcome_answer format (Err e)) (asked_on look old new (Err e) Says a) (refl, tt) a.rests.clean
-      (λ good h shows. let t = a.told good h shows in (Live h, t.1, NotDone e t.0 (refused e) (undone errand e (nothing_sent ∷ []) none (refl, tt)) refl))
-      (λ off. failed_so (Err e) format (λ (x : X). outcome_answer format (Err e)) errand refused (a.failed off).0)
+      from_call old new errand (outcome_answer format (Err e)) (asked_on look old new (Err e) Says a) a.rests.clean
+      (λ good h shows. let t = a.told good h shows in (Live h, t.1, NotDone e t.0 (refused e) (undone errand e (nothing_sent ∷ []) none (asked_once errand (refused e).0)) refl))
+      (λ off. Refused (failed_so (Err e) format (λ (x : X). outcome_answer format (Err e)) errand refused (a.failed off).0) one_question)
 
   -- what is told of the registry within its life
   pub told_of : (old new : Registry S store) (P : Known → List Call → Known → Type 0) → Goes store old new P → Leads (HasCleanDisk store) (IsToldOf store) old new (λ t u. ByCalls store t u (λ calls. P t.known calls u.known))

@@ -19,7 +19,7 @@ use Rattle.pid_http.specs.Errands.{Errand, command_sent, errand_of}
 use Rattle.pid_http.specs.Steps.Handling.{nothing_then}
 use Rattle.pid_http.specs.Known.{Known, Live, Between, Told, ByCalls}
 use Rattle.pid_http.specs.Sending.{AreSomeOf, SendsSome, commands_asked, if_any}
-use Rattle.pid_http.specs.Serving.{AreCallsOver, AreUndone, IsErrandMet, IsMetOver, AnsweredOver, NotAsked, NotDone, InDoubt, serving}
+use Rattle.pid_http.specs.Serving.{AreCallsOver, AreUndone, IsFailedAnswer, Refused, AsEver, Short, most_questions, IsErrandMet, IsMetOver, AnsweredOver, NotAsked, NotDone, InDoubt, serving}
 
 -- ---- calls one behind the other
 
@@ -88,9 +88,9 @@ AreOutcomes = (v : Views) (c : Asked) → is_outcome (answer (judge v c)) ≡ tr
 one_sent : (c : Asked) (r : Result Outcome Refusal) (live : Bool) → is_outcome r ≡ true → commands_in (sent_in (obeyed c r live ∷ [])) ≡ c ∷ []
 one_sent c r live e = ap (λ (b : Bool). commands_in (cond b (record { command = c; outcome = r } ∷ []) [] ++ [])) e
 
-over : AreOutcomes → (h : History) (o : Option Asked) (calls : List Call) (k : Known) → AreCallsOver h o calls → k ≡ Live (history_behind h o) → SendsSome h (if_any o) calls k
-over outcomes h None calls k nothing is = quiet h [] calls k nothing is
-over outcomes h (Some c) calls k by is =
+over : AreOutcomes → (h : History) (o : Option Asked) (most : ℕ) (calls : List Call) (k : Known) → AreCallsOver h o most calls → k ≡ Live (history_behind h o) → SendsSome h (if_any o) calls k
+over outcomes h None most calls k asked is = quiet h [] calls k asked.0 is
+over outcomes h (Some c) most calls k by is =
     live_so h (c ∷ []) (c ∷ []) calls k (ap (λ (l : List Call). commands_in (sent_in l)) by ∙ one_sent c (answer (judge (views_of h) c)) true (outcomes (views_of h) c)) (inr ([], refl, refl)) is
 
 fault_sends : (c : Asked) (refusal : Refusal) (live : Bool) → IsMemoryOrStore refusal → commands_in (sent_in (obeyed c (Err refusal) live ∷ [])) ≡ []
@@ -101,9 +101,9 @@ fault_stops : (c : Asked) (refusal : Refusal) → IsMemoryOrStore refusal → St
 fault_stops c refusal (inl e) = subst (λ (r : Refusal). StopsAt c (obeyed c (Err r) false ∷ [])) (sym e) (inl (refl, tt))
 fault_stops c refusal (inr e) = subst (λ (r : Refusal). StopsAt c (obeyed c (Err r) false ∷ [])) (sym e) (inl (refl, tt))
 
-not_done : (h : History) (o : Option Asked) (refusal : Refusal) (calls : List Call) (k : Known) → IsMemoryOrStore refusal → AreUndone o refusal calls → k ≡ Live h → SendsSome h (if_any o) calls k
-not_done h None refusal calls k fault nothing is = quiet h [] calls k nothing is
-not_done h (Some c) refusal calls k fault by is =
+not_done : (h : History) (o : Option Asked) (refusal : Refusal) (most : ℕ) (calls : List Call) (k : Known) → IsMemoryOrStore refusal → AreUndone o refusal most calls → k ≡ Live h → SendsSome h (if_any o) calls k
+not_done h None refusal most calls k fault asked is = quiet h [] calls k asked.0 is
+not_done h (Some c) refusal most calls k fault by is =
     live_so h (c ∷ []) [] calls k (ap (λ (l : List Call). commands_in (sent_in l)) by ∙ fault_sends c refusal true fault) (none_of (c ∷ [])) is
 
 in_doubt : (h : History) (c : Asked) (refusal : Refusal) (calls : List Call) (k : Known) → IsMemoryOrStore refusal → calls ≡ obeyed c (Err refusal) false ∷ [] → k ≡ Between h (after h c) → SendsSome h (if_any (Some c)) calls k
@@ -111,11 +111,17 @@ in_doubt h c refusal calls k fault by is =
     stopped_so h (c ∷ []) [] c calls k (ap (λ (l : List Call). commands_in (sent_in l)) by ∙ fault_sends c refusal false fault) (subst (StopsAt c) (sym by) (fault_stops c refusal fault)) (inr ([], refl, refl)) is
 
 met_sends : AreOutcomes → (h : History) (errand : Errand) (given : Answer) (calls : List Call) (k : Known) → IsMetOver h errand given calls k → SendsSome h (if_any (command_sent errand)) calls k
-met_sends outcomes h errand given calls k (AnsweredOver e by is) = over outcomes h (command_sent errand) calls k by is
-met_sends outcomes h errand given calls k (NotAsked short nothing is) = quiet h (if_any (command_sent errand)) calls k nothing is
-met_sends outcomes h errand given calls k (NotDone refusal fault refused undone is) = not_done h (command_sent errand) refusal calls k fault undone is
+met_sends outcomes h errand given calls k (AnsweredOver e by is) = over outcomes h (command_sent errand) (most_questions errand) calls k by is
+met_sends outcomes h errand given calls k (NotAsked short none is) = quiet h (if_any (command_sent errand)) calls k (subst AreNothing (sym none) tt) is
+met_sends outcomes h errand given calls k (NotDone refusal fault refused undone is) = not_done h (command_sent errand) refusal (most_questions errand) calls k fault undone is
 met_sends outcomes h errand given calls k (InDoubt refusal c fault refused command by is) =
     subst (λ (o : Option Asked). SendsSome h (if_any o) calls k) (sym command) (in_doubt h c refusal calls k fault by is)
+
+-- one that has failed was sent nothing
+failed_nothing : (errand : Errand) (given : Answer) (calls : List Call) → IsFailedAnswer errand given calls → AreNothing calls
+failed_nothing errand given calls (Refused refused asked) = asked.0
+failed_nothing errand given calls (AsEver known none) = subst AreNothing (sym none) tt
+failed_nothing errand given calls (Short short none) = subst AreNothing (sym none) tt
 
 -- ---- requests in turn
 
@@ -181,7 +187,7 @@ module _ {S : Type 0} (store : Ghosts S) where
     same_life = b.same_life;
     more = b.more;
     joined = b.joined;
-    holds = let m : IsErrandMet (Between x y) errand given b.more u.known = subst (λ k. IsErrandMet k errand given b.more u.known) is b.holds in (m.1, m.2);
+    holds = let m : IsErrandMet (Between x y) errand given b.more u.known = subst (λ k. IsErrandMet k errand given b.more u.known) is b.holds in (failed_nothing errand given b.more m.0, m.1);
   }
 
   -- one that has failed is sent nothing more

@@ -57,14 +57,14 @@ quiet_on h cs xs ys k next (inl (some, is)) nothing same = live_so h cs (command
 quiet_on h cs xs ys k next (inr (c, stops, some, is)) nothing same = stopped_so h cs (commands_in (sent_in xs)) c (xs ++ ys) next (first_sent xs ys nothing) (stops_then c xs ys stops nothing) some (sym same ∙ is)
 
 promised_so : (k : Known) (errand : Errand) (head : ReplyHead) (told : ℕ) (calls : List Call) (next : Known) → IsPromised k errand head told calls next → AreNothing calls × (k ≡ next)
-promised_so (Live h) errand head told calls next (asked, text, nothing, same) = (nothing, sym same)
+promised_so (Live h) errand head told calls next (export, text, asked, same) = (asked.0, sym same)
 promised_so (Between x y) errand head told calls next promised = absurd promised
 promised_so Down errand head told calls next promised = absurd promised
 
 module _ {S : Type 0} (store : Ghosts S) where
   still : (t u : Told store) → StandsStill (serving store) t u → ByCalls store t u (λ calls. AreNothing calls × (t.known ≡ u.known))
   still t u (inl same) = by_none store t u (λ v calls. AreNothing calls × (t.known ≡ v.known)) same (tt, refl)
-  still t u (inr b) = b
+  still t u (inr b) = record { same_life = b.same_life; more = b.more; joined = b.joined; holds = (b.holds.0.0, b.holds.1) }
 
   rests_still : (ending : Ending) (t u : Told store) → RestsBehind (serving store) ending t u → StandsStill (serving store) t u
   rests_still clean t u r = inl r

@@ -13,7 +13,7 @@ use Rattle.pid_moderation.specs.Judgement.{answer, judge, after}
 use Rattle.pid_moderation.specs.Views.{Remark, items_of, rank_of, views_of}
 use Rattle.pid_moderation.specs.Writes.{tree_of}
 use Rattle.pid_moderation.specs.declared.refusal.Refusal.{Refusal}
-use Rattle.pid_moderation.specs.declared.refusal.Refusal.TheVariants.{NoSubmission, Memory, Failed}
+use Rattle.pid_moderation.specs.declared.refusal.Refusal.TheVariants.{NoSubmission, Memory}
 use Rattle.pid_moderation.specs.Submissions.{Standing, discussion_in}
 use Rattle.pid_moderation.specs.ChangePages.{changes_in, start_text}
 use Rattle.pid_moderation.specs.Children.{children_of}
@@ -113,12 +113,3 @@ abbrev pub LacksForm : Errand → Answer → Type 0
 LacksForm (Denied refusal format) given = given ≡ outcome_answer format (Err Memory)
 LacksForm (Obeys command format) given = given ≡ outcome_answer format (Err Memory)
 LacksForm errand given = ⊥
-
--- the answer of a registry that has failed
-pub data IsFailedAnswer (errand : Errand) (given : Answer) : Type 0 where
-  -- what it is asked it refuses for that
-  Refused : IsErrandRefused errand Failed given → IsFailedAnswer errand given
-  -- what it is not asked is answered as ever
-  AsEver : known_answer errand ≡ Some given → IsFailedAnswer errand given
-  -- out of memory before it was asked
-  Short : LacksForm errand given → IsFailedAnswer errand given

@@ -1,6 +1,6 @@
 -- How a registry answers the requests of a stream: what is promised of the whole stream is
 -- `IsServed` over these steps.
-use Rattle.std.specs.Prelude.{◌≡◌, ℕ, true, false, List, [], ◌∷◌, length}
+use Rattle.std.specs.Prelude.{◌≡◌, ◌≤◌, ℕ, true, false, List, [], ◌∷◌, length}
 use Rattle.std.specs.Prelude.{Option, None, Some, Err}
 use Rattle.sqlite_trees.specs.declared.store.Store.{Ghosts}
 use Rattle.pid_service_laws.specs.Calls.{AreNothing, Call, obeyed}
@@ -9,6 +9,7 @@ use Rattle.pid_moderation.specs.Judgement.{after, answer, judge}
 use Rattle.pid_moderation.specs.Views.{views_of}
 use Rattle.pid_moderation.specs.Writes.{tree_of}
 use Rattle.pid_moderation.specs.declared.refusal.Refusal.{Refusal}
+use Rattle.pid_moderation.specs.declared.refusal.Refusal.TheVariants.{Failed}
 use Rattle.pid_service.specs.Histories.{IsMemoryOrStore}
 use Rattle.pid_file.specs.Printing.{print}
 use Rattle.pid_http_stream.specs.Conducts.{Conduct}
@@ -16,49 +17,73 @@ use Rattle.pid_http_stream.specs.Replies.{Answer}
 use Rattle.pid_http_stream.specs.declared.reply_head.Content.TheVariants.{Text}
 use Rattle.pid_http_stream.specs.declared.reply_head.ReplyHead.{ReplyHead}
 use Rattle.pid_http.specs.Answering.{answer_over, history_behind, IsErrandRefused, LacksForm}
-use Rattle.pid_http.specs.Answering.{IsFailedAnswer}
-use Rattle.pid_http.specs.Errands.{Errand, Export, command_sent, errand_of}
+use Rattle.pid_http.specs.Errands.{Errand, Answered, Denied, Export, Children, command_sent}
+use Rattle.pid_http.specs.Errands.{errand_of, known_answer}
 use Rattle.pid_http.specs.Known.{Known, Live, Between, Down, Told, ByCalls}
 
+-- the calls send nothing, and are at most so many; without a call the registry is as it was
+abbrev pub AreQuestions : ℕ → List Call → Type 0
+AreQuestions most calls = AreNothing calls × (length calls ≤ most)
+
+-- How many questions a request takes at most. Before the items below a path the item at the path is
+-- asked for, and before the text of all items its length.
+abbrev pub most_questions : Errand → ℕ
+most_questions (Answered given) = 0
+most_questions (Denied refusal format) = 0
+most_questions Export = 2
+most_questions (Children (Some path) format) = 2
+most_questions errand = 1
+
 -- The calls for a request that was answered over the history: a command is sent once, and has the
--- outcome of the judgement; what is no command sends nothing.
-abbrev pub AreCallsOver : History → Option Asked → List Call → Type 0
-AreCallsOver h None calls = AreNothing calls
-AreCallsOver h (Some command) calls = calls
+-- outcome of the judgement; what is no command sends nothing, by at most so many calls.
+abbrev pub AreCallsOver : History → Option Asked → ℕ → List Call → Type 0
+AreCallsOver h None most calls = AreQuestions most calls
+AreCallsOver h (Some command) most calls = calls
     ≡ obeyed command (answer (judge (views_of h) command)) true ∷ []
 
 -- The calls of a request that a fault of memory or of the store left undone: of a registry that
 -- stays live. A command was sent by one call, which has no outcome.
-abbrev pub AreUndone : Option Asked → Refusal → List Call → Type 0
-AreUndone None fault calls = AreNothing calls
-AreUndone (Some command) fault calls = calls ≡ obeyed command (Err fault) true ∷ []
+abbrev pub AreUndone : Option Asked → Refusal → ℕ → List Call → Type 0
+AreUndone None fault most calls = AreQuestions most calls
+AreUndone (Some command) fault most calls = calls ≡ obeyed command (Err fault) true ∷ []
 
 -- How a live registry that shows this history meets what a request comes to: its answer, the calls
 -- that it got, and what is known of it then.
 pub data IsMetOver (h : History) (errand : Errand) (given : Answer) (calls : List Call) (k : Known)
     : Type 0 where
   -- it is answered over the history, and the registry shows the one after it
-  AnsweredOver : given ≡ answer_over h errand → AreCallsOver h (command_sent errand) calls
+  AnsweredOver : given ≡ answer_over h errand
+      → AreCallsOver h (command_sent errand) (most_questions errand) calls
       → k ≡ Live (history_behind h (command_sent errand)) → IsMetOver h errand given calls k
   -- out of memory before the registry was asked
-  NotAsked : LacksForm errand given → AreNothing calls → k ≡ Live h
-      → IsMetOver h errand given calls k
+  NotAsked : LacksForm errand given → calls ≡ [] → k ≡ Live h → IsMetOver h errand given calls k
   -- memory or the store failed, and nothing was done
   NotDone : (fault : Refusal) → IsMemoryOrStore fault → IsErrandRefused errand fault given
-      → AreUndone (command_sent errand) fault calls → k ≡ Live h → IsMetOver h errand given calls k
+      → AreUndone (command_sent errand) fault (most_questions errand) calls → k ≡ Live h
+      → IsMetOver h errand given calls k
   -- They failed while a command was written, at which the calls then stopped: the registry has
   -- failed between the history and the one after the command.
   InDoubt : (fault : Refusal) (command : Asked) → IsMemoryOrStore fault → IsErrandRefused errand fault given
       → command_sent errand ≡ Some command → calls ≡ obeyed command (Err fault) false ∷ []
       → k ≡ Between h (after h command) → IsMetOver h errand given calls k
 
+-- the answer of a registry that has failed, and the calls that it got, which send nothing
+pub data IsFailedAnswer (errand : Errand) (given : Answer) (calls : List Call) : Type 0 where
+  -- what it is asked, by one call, it refuses for that
+  Refused : IsErrandRefused errand Failed given → AreQuestions 1 calls
+      → IsFailedAnswer errand given calls
+  -- what it is not asked is answered as ever
+  AsEver : known_answer errand ≡ Some given → calls ≡ [] → IsFailedAnswer errand given calls
+  -- out of memory before it was asked
+  Short : LacksForm errand given → calls ≡ [] → IsFailedAnswer errand given calls
+
 -- How it is answered, by what was known of the registry before it and what is known then, and by
--- which calls. One that has failed is sent nothing that has an outcome.
+-- which calls.
 abbrev pub IsErrandMet : Known → Errand → Answer → List Call → Known → Type 0
 IsErrandMet (Live h) errand given calls k = IsMetOver h errand given calls k
-IsErrandMet (Between before behind) errand given calls k = IsFailedAnswer errand given
-    × AreNothing calls × (k ≡ Between before behind)
-IsErrandMet Down errand given calls k = IsFailedAnswer errand given × AreNothing calls × (k ≡ Down)
+IsErrandMet (Between before behind) errand given calls k = IsFailedAnswer errand given calls
+    × (k ≡ Between before behind)
+IsErrandMet Down errand given calls k = IsFailedAnswer errand given calls × (k ≡ Down)
 
 -- what is said of a text before it is written: its head, and how many bytes it has
 pub record IsTextHead (h : History) (head : ReplyHead) (told : ℕ) : Type 0 where
@@ -66,22 +91,22 @@ pub record IsTextHead (h : History) (head : ReplyHead) (told : ℕ) : Type 0 whe
   pub content : head.content ≡ Text
   pub length_is : told ≡ length (print (tree_of h))
 
--- only an export is promised, and only by a registry that is live; nothing is sent for it
+-- only an export is promised, and only by a registry that is live, which was asked for the length
 abbrev pub IsPromised : Known → Errand → ReplyHead → ℕ → List Call → Known → Type 0
 IsPromised (Live h) errand head told calls k = (errand ≡ Export) × IsTextHead h head told
-    × AreNothing calls × (k ≡ Live h)
+    × AreQuestions 1 calls × (k ≡ Live h)
 IsPromised (Between before behind) errand head told calls k = ⊥
 IsPromised Down errand head told calls k = ⊥
 
 -- If memory ran out for a reply, what it is a reply to may have been done. A request that was
--- given up left the registry as it was, and sent nothing.
+-- given up sent nothing, by at most one call, that of its import; what the registry shows stays.
 abbrev pub serving : {S : Type 0} (store : Ghosts S) → Conduct (Told store)
 serving store = record {
   answers = λ t request given u. ByCalls store t u
       (λ calls. IsErrandMet t.known (errand_of request) given calls u.known);
   leaves = λ t request u. ByCalls store t u
       (λ calls. (given : Answer) × IsErrandMet t.known (errand_of request) given calls u.known);
-  gives_up = λ t u. ByCalls store t u (λ calls. AreNothing calls × (t.known ≡ u.known));
+  gives_up = λ t u. ByCalls store t u (λ calls. AreQuestions 1 calls × (t.known ≡ u.known));
   promises = λ t request head told u. ByCalls store t u
       (λ calls. IsPromised t.known (errand_of request) head told calls u.known);
 }

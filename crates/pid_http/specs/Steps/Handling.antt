@@ -1,6 +1,6 @@
 -- What the service says of itself as a handler.
-use Rattle.std.specs.Prelude.{◌≡◌, ℕ, List, [], ◌∷◌, ◌++◌}
-use Rattle.std.proofs.Common.{sym, ap, subst, ◌∙◌, append_assoc}
+use Rattle.std.specs.Prelude.{◌≡◌, ◌+◌, ℕ, List, [], ◌∷◌, ◌++◌}
+use Rattle.std.proofs.Common.{sym, ap, arith, subst, ◌∙◌, append_assoc, length-append}
 use Rattle.sqlite_trees.specs.declared.store.Store.{Ghosts}
 use Rattle.pid_service_laws.specs.Calls.{AreNothing, Call}
 use Rattle.pid_moderation.specs.History.{History}
@@ -12,7 +12,8 @@ use Rattle.pid_http_stream.specs.declared.reply_head.ReplyHead.{ReplyHead}
 use Rattle.pid_http.specs.Answering.{answer_over, text_answer}
 use Rattle.pid_http.specs.Errands.{Errand, errand_of}
 use Rattle.pid_http.specs.Known.{Known, Live, Between, Down, Told, ByCalls}
-use Rattle.pid_http.specs.Serving.{IsErrandMet, AnsweredOver, IsPromised, IsTextHead, serving}
+use Rattle.pid_http.specs.Serving.{AreQuestions, IsErrandMet, AnsweredOver, IsPromised}
+use Rattle.pid_http.specs.Serving.{IsTextHead, serving}
 
 -- the text of the history that is shown
 abbrev pub WritesOver : Known → List ℕ → Known → Type 0
@@ -20,10 +21,10 @@ WritesOver (Live h) body k = (body ≡ print (tree_of h)) × (k ≡ Live h)
 WritesOver (Between before behind) body k = k ≡ Between before behind
 WritesOver Down body k = k ≡ Down
 
--- and nothing is sent for it
+-- and nothing is sent for it, by one call
 abbrev pub WritesText : {S : Type 0} (store : Ghosts S) → Told store → List ℕ → Told store → Type 0
 WritesText store t body u = ByCalls store t u
-    (λ calls. AreNothing calls × WritesOver t.known body u.known)
+    (λ calls. AreQuestions 1 calls × WritesOver t.known body u.known)
 
 same_answer : (h : History) (head : ReplyHead) (told : ℕ) (body : List ℕ) → IsTextHead h head told
     → body ≡ print (tree_of h)
@@ -40,16 +41,23 @@ pub nothing_then : (calls more : List Call) → AreNothing calls → AreNothing 
 nothing_then [] more p q = q
 nothing_then (call ∷ calls) more (is, p) q = (is, nothing_then calls more p q)
 
+pub questions_then : (m n : ℕ) (calls more : List Call) → AreQuestions m calls
+    → AreQuestions n more → AreQuestions (m + n) (calls ++ more)
+questions_then m n calls more p q = (
+  nothing_then calls more p.0 q.0,
+  omega (arith, p.1, q.1, length-append calls more),
+)
+
 text_met : (a : Known) (errand : Errand) (head : ReplyHead) (told : ℕ) (calls : List Call)
     (b : Known) (body : List ℕ) (more : List Call) (c : Known)
-    → IsPromised a errand head told calls b → AreNothing more → WritesOver b body c
+    → IsPromised a errand head told calls b → AreQuestions 1 more → WritesOver b body c
     → IsErrandMet a errand (answer_behind head told body) (calls ++ more) c
 unfolding answer_over
 text_met (Live h) errand head told calls b body more c (asked, is, none, same) none_more writes =
     let w : WritesOver (Live h) body c = subst (λ k. WritesOver k body c) same writes in
     subst (λ x. IsErrandMet (Live h) x (answer_behind head told body) (calls ++ more) c) (sym asked)
     (AnsweredOver (same_answer h head told body is w.0)
-    (nothing_then calls more none none_more) w.1)
+    (questions_then 1 1 calls more none none_more) w.1)
 text_met (Between before behind) errand head told calls b body more c promised none_more writes =
     absurd promised
 text_met Down errand head told calls b body more c promised none_more writes = absurd promised

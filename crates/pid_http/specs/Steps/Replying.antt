@@ -4,7 +4,7 @@ use Rattle.std.specs.Prelude.{Option, Some, None, Result}
 use Rattle.std.specs.Prelude.{Ok, Err, IsErrAnd, MatchResult, option_copied}
 use Rattle.std.specs.Io.KnownBytes.{IsAtEnd}
 use Rattle.sqlite_trees.specs.declared.store.Store.{Ghosts}
-use Rattle.pid_service_laws.specs.Calls.{AreNothing, Call, nothing_sent, obeyed}
+use Rattle.pid_service_laws.specs.Calls.{Call, nothing_sent, obeyed}
 use Rattle.pid_service_laws.specs.Registries.{Does}
 use Rattle.pid_moderation.specs.History.{Asked, History}
 use Rattle.pid_moderation.specs.Judgement.{answer, judge, after}
@@ -30,7 +30,7 @@ use Rattle.pid_http_replies.specs.Outcomes.{outcome_answer}
 use Rattle.pid_http.specs.Errands.{Errand}
 use Rattle.pid_http.specs.Known.{Known, Live, Between, Down}
 use Rattle.pid_http.specs.Steps.Going.{Goes}
-use Rattle.pid_http.specs.Serving.{IsErrandMet, IsPromised}
+use Rattle.pid_http.specs.Serving.{AreQuestions, IsErrandMet, IsPromised}
 
 -- a sender by its bytes
 abbrev pub sending_of : Sender → Sending
@@ -53,8 +53,9 @@ IsCommandMet c (Live h) result calls k =
     ⊎ (IsErrAnd result IsMemoryOrStore × (((calls ≡ obeyed c result true ∷ []) × (k ≡ Live h))
     ⊎ ((calls ≡ obeyed c result false ∷ []) × (k ≡ Between h (after h c)))))
 IsCommandMet c (Between before behind) result calls k = (result ≡ Err refusals.Failed)
-    × AreNothing calls × (k ≡ Between before behind)
-IsCommandMet c Down result calls k = (result ≡ Err refusals.Failed) × AreNothing calls × (k ≡ Down)
+    × AreQuestions 1 calls × (k ≡ Between before behind)
+IsCommandMet c Down result calls k = (result ≡ Err refusals.Failed) × AreQuestions 1 calls
+    × (k ≡ Down)
 
 -- the body is that of an answer, or is promised
 abbrev pub IsBodyMet : Known → Errand → ReplyHead → ReplyBody → List Call → Known → Type 0
@@ -90,7 +91,7 @@ abbrev pub IsMetBehind : {E : Type 0} → Known → Errand → Result Reply E �
 IsMetBehind k errand result left calls now =
     MatchResult result
     (λ reply. IsBodyMet k errand reply.head reply.body calls now)
-    (λ _. (AreNothing calls × (k ≡ now))
+    (λ _. (AreQuestions 1 calls × (k ≡ now))
     ⊎ (IsAtEnd left × ((given : Answer) × IsErrandMet k errand given calls now)))
 
 -- what comes of it

@@ -1,4 +1,4 @@
-use Rattle.std.proofs.Common.{◌≡◌, ℕ, List, refl, ap, subst, ◌∙◌, map, Option, None, Some, Ok, Err}
+use Rattle.std.proofs.Common.{◌≡◌, ℕ, List, refl, ap, subst, ◌∙◌, map, Option, None, Some, Ok, Err, arith}
 use Rattle.std.specs.Prelude.{Vec, option_map}
 use Rattle.std.specs.declared.alloc.Global.{Global}
 use Rattle.pid_ident.specs.PathTexts.{path_text}
@@ -67,12 +67,12 @@ returns-in-Ok g c = λ looks.
     elim c.match-above.branch [
       | in-Top w ↦ (rw w.in-Top.is (replied _ _ _ _ _ _ is (question_met _ looks _ _ _ _ _ _ _ (question None c.args.format) (answers_by _ _ _ _ _ _ (at_top c.match-above.under w.under-is) (rw w.registry-is at c.in-Ok.ensures.answers)))))
       | in-Below+in-Ok-Some w ↦ (rw w.in-Below.is (replied _ _ _ _ _ _ is
-          (question_then _ looks _ _ _ _ _ _ _ _ _ _ _ (question (Some w.in-Below.path) c.args.format) (below w.in-Below.path c.match-above.under w.under-is _) (rw w.in-Ok-Some.field-0-is at w.in-Ok-Some.ensures.answers) (rw w.registry-is at c.in-Ok.ensures.answers))))
+          (question_then _ looks _ _ _ _ _ _ _ _ _ _ _ (question (Some w.in-Below.path) c.args.format) (omega arith) (below w.in-Below.path c.match-above.under w.under-is _) (rw w.in-Ok-Some.field-0-is at w.in-Ok-Some.ensures.answers) (rw w.registry-is at c.in-Ok.ensures.answers))))
     ]
 
 pub returns-in-Err-children : goal.returns-in-Err-children
 returns-in-Err-children g c = λ looks. elim c.match-above.branch [
   | in-Top w ↦ (rw w.in-Top.is (replied _ _ _ _ _ _ c.refusal_reply-in-Err-children.ensures (question_met _ looks _ _ _ _ _ _ _ (question None c.args.format) (answers_by _ _ _ _ _ _ (at_top c.match-above.under w.under-is) (rw w.registry-is at c.in-Err-children.ensures.answers)))))
   | in-Below+in-Ok-Some w ↦ (rw w.in-Below.is (replied _ _ _ _ _ _ c.refusal_reply-in-Err-children.ensures
-      (question_then _ looks _ _ _ _ _ _ _ _ _ _ _ (question (Some w.in-Below.path) c.args.format) (below w.in-Below.path c.match-above.under w.under-is _) (rw w.in-Ok-Some.field-0-is at w.in-Ok-Some.ensures.answers) (rw w.registry-is at c.in-Err-children.ensures.answers))))
+      (question_then _ looks _ _ _ _ _ _ _ _ _ _ _ (question (Some w.in-Below.path) c.args.format) (omega arith) (below w.in-Below.path c.match-above.under w.under-is _) (rw w.in-Ok-Some.field-0-is at w.in-Ok-Some.ensures.answers) (rw w.registry-is at c.in-Err-children.ensures.answers))))
 ]

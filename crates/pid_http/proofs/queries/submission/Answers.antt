@@ -17,17 +17,17 @@ use Rattle.pid_http.specs.Answering.{answer_over, submission_or_missing, IsErran
 use Rattle.pid_http.specs.Errands.{Answered, Submission}
 use Rattle.pid_http.specs.Steps.Going.{Goes}
 use Rattle.pid_http.specs.Steps.Replying.{answer_or}
-use Rattle.pid_http.specs.Serving.{IsErrandMet, IsMetOver, AnsweredOver, NotDone}
+use Rattle.pid_http.specs.Serving.{IsErrandMet, IsMetOver, AnsweredOver, NotDone, Refused}
 use Rattle.pid_http.specs.Known.{Live}
-use Rattle.pid_http.proofs.Meeting.{CallsLook, answered, from_call, looked, no_call, replied}
+use Rattle.pid_http.proofs.Meeting.{CallsLook, answered, from_call, looked, no_call, one_question, replied}
 use Rattle.pid_http.proofs.queries.submission.Goals as goal
 
 over : (number : ℕ) (format : Format) (h : History) (found : Result Discussion Refusal) → MatchResult found (λ d. discussion_in (views_of h) number ≡ Some (discussion_of d)) (IsMissing (discussion_in (views_of h) number))
     → IsMetOver h (Submission number format) (answer_or format (λ d. submission_answer format number (discussion_of d)) found) (nothing_sent ∷ []) (Live h)
 unfolding answer_over
-over number format h (Ok d) told = AnsweredOver (sym (ap (submission_or_missing number format) told)) (refl, tt) refl
-over number format h (Err e) (inl (missing, none)) = AnsweredOver (ap (λ (x : Refusal). outcome_answer format (Err x)) missing ∙ sym (ap (submission_or_missing number format) none)) (refl, tt) refl
-over number format h (Err e) (inr fault) = NotDone e fault (refl, refl) (refl, tt) refl
+over number format h (Ok d) told = AnsweredOver (sym (ap (submission_or_missing number format) told)) one_question refl
+over number format h (Err e) (inl (missing, none)) = AnsweredOver (ap (λ (x : Refusal). outcome_answer format (Err x)) missing ∙ sym (ap (submission_or_missing number format) none)) one_question refl
+over number format h (Err e) (inr fault) = NotDone e fault (refl, refl) one_question refl
 
 failed : (number : ℕ) (format : Format) (found : Result Discussion Refusal) → found ≡ Err HasFailed → IsErrandRefused (Submission number format) HasFailed (answer_or format (λ d. submission_answer format number (discussion_of d)) found)
 failed number format found e = (refl, ap (answer_or format (λ d. submission_answer format number (discussion_of d))) e)
@@ -37,9 +37,9 @@ met : {S : Type 0} (store : Ghosts S) → CallsLook store → (old new : Registr
     → Goes store old new (λ k calls now. IsErrandMet k (Submission number format) (answer_or format (λ d. submission_answer format number (discussion_of d)) found) calls now)
 met store look old new number format found e =
     from_call _ _ _ _ (answer_or format (λ d. submission_answer format number (discussion_of d)) found)
-    (looked _ look _ _ e.rests.clean (λ off. (e.failed off).1) (λ good h shows. (e.told good h shows).1)) (refl, tt) e.rests.clean
+    (looked _ look _ _ e.rests.clean (λ off. (e.failed off).1) (λ good h shows. (e.told good h shows).1)) e.rests.clean
     (λ clean h shows. let t = e.told clean h shows in (Live h, t.1, over number format h found t.0))
-    (λ off. failed number format found (e.failed off).0)
+    (λ off. Refused (failed number format found (e.failed off).0) one_question)
 
 pub returns-in-None : goal.returns-in-None
 returns-in-None g c = λ looks.
