@@ -1,6 +1,6 @@
 -- What each job does with a registry that is open, what it prints, and how it ends by that. Choices
 -- of this project.
-use Rattle.std.specs.Prelude.{◌≡◌, false, ℕ, List, Option, Result, Ok, Err}
+use Rattle.std.specs.Prelude.{◌≡◌, false, ℕ, List, Option, IsSome, Result, Ok, Err}
 use Rattle.sqlite_trees.specs.declared.store.Store.{Ghosts}
 use Rattle.pid_file.specs.declared.io.Output as outputs
 use Rattle.pid_file.specs.Writing.{WriterUse, use_of}
@@ -20,7 +20,7 @@ use Rattle.pid_service.specs.declared.importing.ImportEnd.{ImportEnd}
 use Rattle.pid_service.specs.declared.importing.ImportEnd.TheVariants as imports
 use Rattle.pid_service.specs.declared.registry.Registry.{Registry}
 use Rattle.pid_service.specs.Exporting.{IsExported}
-use Rattle.pid_service.specs.Importing.{HasRead, ObeysText}
+use Rattle.pid_service.specs.Importing.{EndLasts, HasRead, ObeysText}
 use Rattle.pid_service.specs.Lives.{showing}
 use Rattle.pid_service.specs.Registries.{is_live}
 use Rattle.pid_cli_jobs.specs.declared.job_end.JobEnd.{JobEnd}
@@ -32,17 +32,16 @@ use Rattle.pid_cli_jobs.specs.Inputs.{InputUse}
 use Rattle.pid_cli_jobs.specs.Serving.{Serves}
 use Rattle.pid_cli_jobs.specs.Wrote.{AsksNothing, IsSilent, Wrote}
 
--- what a job is to do with a registry; of a script, what becomes of its input, and of an import,
--- what its input has to come
+-- what a job is to do with a registry, and what becomes of the input of a script or an import
 pub data Work : Type 0 where
   ToAnswer : (input : InputUse) → Work
-  ToImport : (account : List ℕ) (key to_come : Option (List ℕ)) → Work
+  ToImport : (account : List ℕ) (key : Option (List ℕ)) (input : InputUse) → Work
   ToExport : Work
   ToServe : (port : Port) → Work
 
 abbrev pub work_of : RegistryJob → InputUse → Work
 work_of jobs.Script input = ToAnswer input
-work_of (jobs.Import account key) input = ToImport account key input.to_come
+work_of (jobs.Import account key) input = ToImport account key input
 work_of jobs.Export input = ToExport
 work_of (jobs.Serve port) input = ToServe port
 
@@ -103,13 +102,17 @@ module _ {S : Type 0} (store : Ghosts S) where
       moments_now = input.moments_after;
     })
 
-  -- An import of what was read of the file was obeyed.
+  -- An import of what was read of the file was obeyed. It ended by a fault of the file exactly if the
+  -- file's reader keeps one, and with another fault only if that has its cause.
   pub record BringsIn (old new : Registry S store) (account : List ℕ) (key : Option (List ℕ))
-      (to_come : Option (List ℕ)) (end : JobEnd) : Type 0 where
+      (input : InputUse) (end : JobEnd) : Type 0 where
     pub result : Result Reply ImportEnd
     pub ends : end ≡ end_of_import result
-    pub rest : Option (List ℕ)
-    pub obeyed : HasRead result to_come rest (ObeysText store old new result (import_of account key))
+    pub obeyed : HasRead result input.to_come input.left
+        (ObeysText store old new result (import_of account key))
+    pub fault : result ≡ Err imports.Body → IsSome input.fault
+    pub fault_first : IsSome input.fault → result ≡ Err imports.Body
+    pub lasts : EndLasts store old new (import_of account key) result
 
   -- The canonical text of the registry went to the writer, or a part of it before a fault.
   pub record PrintsAll {W : Type 0} (writer : outputs.Ghosts W) (old new : Registry S store)
@@ -125,8 +128,7 @@ module _ {S : Type 0} (store : Ghosts S) where
   DoesWork writer (ToAnswer input) old new w = RunsLines old new input
       (use_of writer w.output w.output_after) w.end
       × (w.faults.after ≡ w.faults.before) × AsksNothing w
-  DoesWork writer (ToImport account key to_come) old new w = BringsIn old new account key to_come
-      w.end
+  DoesWork writer (ToImport account key input) old new w = BringsIn old new account key input w.end
       × IsSilent w × AsksNothing w
   DoesWork writer ToExport old new w = PrintsAll writer old new w.output w.output_after w.end
       × (w.faults.after ≡ w.faults.before) × AsksNothing w

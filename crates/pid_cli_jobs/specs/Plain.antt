@@ -69,9 +69,11 @@ module _ {E R W : Type 0} (files : disk.Ghosts E) (image : Image) (holds : R →
       (w : Wrote R W) : Type 0 where
     NoFileToImport : AsksOnce w (TextAt paths.1 None) → w.end ≡ FileFailed → IsSilent w
         → ImportsAt paths account key w
+    -- the job is handed a reader of the file that has kept no fault yet
     ImportsHere : (file : R) (between : Option (List (Opening R)))
         → AsksFor w.asked.before between (TextAt paths.1 (Some file))
-        → DoesInFiles files image writer paths.0 (ToWork (ToImport account key (holds file)))
+        → (input : InputUse) → input.to_come ≡ holds file → input.fault_before ≡ None
+        → DoesInFiles files image writer paths.0 (ToWork (ToImport account key input))
         (from_there w between)
         → ImportsAt paths account key w
 

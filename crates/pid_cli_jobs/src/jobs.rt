@@ -65,7 +65,7 @@ fn bring_in<S: Alter + Drop, I: Incoming<O>, O: Output>(
 ) -> JobEnd
     ensures goes { IsPartOfSession S.Store registry.old registry.new }
     ensures imported { BringsIn S.Store registry.old registry.new account key
-        (I.to_come input.old) result }
+        (uses I.Incoming input.old input.new) result }
     ensures reads { I.goes input.old input.new }
 {
     pid_service::laws::clauses_meet_lives::<S>(); // proof only
