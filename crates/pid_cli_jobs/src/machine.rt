@@ -1,4 +1,5 @@
 //! The machine that jobs run on.
+ghost use Rattle.std.specs.Prelude.{◌≡◌, IfOk};
 ghost use Rattle.pid_cli_jobs.specs.Steps.Serving.{IsLoopback};
 
 use pid_http_listener::{Serving, StreamServer, serve_on};
@@ -14,7 +15,7 @@ use std::{fs, io};
 
 /// All that a job can ask of the machine it runs on, but for its streams.
 pub trait Machine {
-    ghost use Rattle.std.specs.Prelude.{◌≡◌, List, None, Option, IfErr, IfOk, is_some};
+    ghost use Rattle.std.specs.Prelude.{◌≡◌, ℕ, List, None, Option, IfErr, IfOk, IfSome, is_some};
     ghost use Rattle.sqlite.specs.Held.{IsNew};
     ghost use Rattle.sqlite_wal.specs.Files.{image_at};
     ghost use Rattle.pid_http_listener.specs.Servings.{CountsStreams, IsLiveAt};
@@ -36,6 +37,9 @@ pub trait Machine {
 
     /// A port that is listened on.
     type Listener: Drop;
+
+    /// The port that a listener is for.
+    ghost port_of: { Self.Listener → ℕ };
 
     /// What it was asked for so far and what came of that, in order, if it keeps that.
     ghost asked: { Self → Option (List (Opening Self.Opened)) } = { λ _. None };
@@ -63,7 +67,8 @@ pub trait Machine {
 
     /// Listens on a port, for clients on this machine and for no others.
     fn listen(&mut self, port: u16) -> Option<Self::Listener>
-        ensures { AsksFor (asked self.old) (asked self.new) (PortAt port (is_some result)) };
+        ensures asks { AsksFor (asked self.old) (asked self.new) (PortAt port (is_some result)) }
+        ensures at { IfSome result (λ listener. port_of listener ≡ port) };
 
     /// Gives the streams of so many connections to a server, one after the other. Stops if the
     /// server is not live after a stream, and if no connection can be accepted.
@@ -80,6 +85,13 @@ pub trait Machine {
             (λ streams. InTurn T.answers server.old streams server.new) };
 }
 
+/// A port of this machine that is listened on.
+#[derive(Drop)]
+pub struct PortListener {
+    listener: TcpListener,
+    port: u16,
+}
+
 /// The machine of the process. Which files its paths name is not said, nor what a socket does.
 #[derive(Drop)]
 pub struct Host<'r>(pub &'r HostRuntime);
@@ -87,7 +99,9 @@ pub struct Host<'r>(pub &'r HostRuntime);
 impl Machine for Host<'_> {
     type Opened = File;
 
-    type Listener = TcpListener;
+    type Listener = PortListener;
+
+    ghost port_of = { λ listener. listener.port };
 
     fn alloc(&self) -> Global {
         self.0.alloc()
@@ -108,17 +122,17 @@ impl Machine for Host<'_> {
         }
     }
 
-    fn listen(&mut self, port: u16) -> Option<TcpListener> {
+    fn listen(&mut self, port: u16) -> Option<PortListener> {
         listen_at(self.0, address_of(port), port).ok()
     }
 
     fn serve<T: StreamServer>(
         &mut self,
-        listener: &TcpListener,
+        listener: &PortListener,
         server: &mut T,
         connections: u32,
     ) -> Serving {
-        serve_on(self.alloc(), listener, server, connections)
+        serve_on(self.alloc(), &listener.listener, server, connections)
     }
 }
 
@@ -129,9 +143,11 @@ fn address_of(port: u16) -> SocketAddr
     SocketAddr::new(IpAddr::V4(Ipv4Addr::new(127, 0, 0, 1)), port)
 }
 
-// Listens at an address that no other machine reaches. `_port` is there for the premise alone.
-fn listen_at(rt: &HostRuntime, address: SocketAddr, _port: u16) -> io::Result<TcpListener>
-    requires { IsLoopback address _port }
+// Listens on a port, at an address of it that no other machine reaches.
+fn listen_at(rt: &HostRuntime, address: SocketAddr, port: u16) -> io::Result<PortListener>
+    requires { IsLoopback address port }
+    ensures { IfOk result (λ listener. listener.port ≡ port) }
 {
-    TcpListener::bind(rt, address)
+    let listener = TcpListener::bind(rt, address)?;
+    Ok(PortListener { listener, port })
 }

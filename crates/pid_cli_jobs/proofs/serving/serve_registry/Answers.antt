@@ -35,11 +35,11 @@ served store server held change new writer port w between each live is asks (Gav
     (served_over _ _ held each _ _ _ _ _ _ _ _ (live change.1) given))
 
 pub returns-in_default-clause-serves : goal.returns-in_default-clause-serves
-returns-in_default-clause-serves g c = Unbound c.in_default.ensures refl refl
+returns-in_default-clause-serves g c = Unbound c.in_default.ensures.asks refl refl
     c.tell_socket.ensures.told c.tell_socket.ensures.ends
 
 pub returns-in_default-new-clause-serves : goal.returns-in_default-new-clause-serves
-returns-in_default-new-clause-serves g c = Unrouted c.in-Some.ensures refl (record {
+returns-in_default-new-clause-serves g c = Unrouted c.in-Some.ensures.asks refl (record {
   silent = refl;
   told = c.tell_end.ensures.told;
   ends = ap Told c.tell_end.ensures.status;
@@ -49,4 +49,4 @@ pub returns-clause-serves : goal.returns-clause-serves
 returns-clause-serves g c =
     let name = c.give_streams.ensures.goes.0 in
     served g.S.Store _ (λ s. s.registry.now) _ _ g.O.Output c.args.port _ _ (λ a b x answers. answers)
-    (λ a. refl) (search rules) c.in-Some.ensures c.give_streams.ensures.gives
+    (λ a. refl) (search rules) c.in-Some.ensures.asks c.give_streams.ensures.gives
