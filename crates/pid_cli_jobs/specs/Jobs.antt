@@ -8,7 +8,7 @@ use Rattle.pid_ident.specs.declared.incoming.Incoming as incoming
 use Rattle.pid_ident.specs.Moments.{AllSince}
 use Rattle.pid_moderation.specs.declared.command.Reply.{Reply}
 use Rattle.pid_moderation.specs.BeforeFile.{import_of}
-use Rattle.pid_script.specs.declared.moderated.Moderated as moderated
+use Rattle.pid_service.specs.declared.moderated.Moderated as moderated
 use Rattle.pid_script.specs.declared.script_end.ScriptEnd.{ScriptEnd}
 use Rattle.pid_script.specs.declared.script_end.ScriptEnd.TheVariants as scripts
 use Rattle.pid_script.specs.EndStatus.{script_status}

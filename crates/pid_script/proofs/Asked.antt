@@ -23,10 +23,10 @@ use Rattle.pid_moderation.specs.Items.{name_at}
 use Rattle.pid_moderation.specs.Views.{items_of}
 use Rattle.pid_script.specs.declared.line_end.LineEnd.{LineEnd}
 use Rattle.pid_script.specs.declared.line_end.LineEnd.TheVariants.{Stopped, WriteFault, TooLong}
-use Rattle.pid_script.specs.declared.moderated.Moderated.{Ghosts}
+use Rattle.pid_service.specs.declared.moderated.Moderated.{Ghosts}
 use Rattle.pid_script.specs.Asking.{path_asked, lookup_in_form}
 use Rattle.pid_lookup.specs.Fields.{as_lookup as lookup_told}
-use Rattle.pid_script.specs.LookingUp.{LooksUp}
+use Rattle.pid_service.specs.Moderating.{LooksUp}
 use Rattle.pid_script.specs.Calling.{CallsSend}
 use Rattle.pid_script.specs.Replies.{line_reply, calls_for, command_of, name_reply, name_line, is_call, looked_up, answer_line, BAD_FLAGS}
 use Rattle.pid_script.specs.Steps.Output.{Out, IsGivenRefusal, IsGivenStop, IsNothing, TellsLine, IsReplyOrStop, refusal_given, refusal_of_names, GoesOnAfter, LeavesAfter, SendsFor, AnswersLine}

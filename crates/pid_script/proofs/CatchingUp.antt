@@ -5,7 +5,7 @@ use Rattle.std.specs.Io.KnownBytes.{Consumes}
 use Rattle.pid_ident.specs.Moments.{Moment, AllSince, IsMoment, IsNoted}
 use Rattle.pid_ident.specs.MomentLaws.{since_none, since_then, since_so, since_noted}
 use Rattle.pid_moderation.specs.History.{History}
-use Rattle.pid_script.specs.declared.moderated.Moderated.{Ghosts}
+use Rattle.pid_service.specs.declared.moderated.Moderated.{Ghosts}
 use Rattle.pid_script.specs.Calling.{CallsGo}
 use Rattle.pid_script.specs.RegistryStates.{OverStanding}
 use Rattle.pid_script.specs.Scripts.{passage, IsCutOff, IsUpToDate}

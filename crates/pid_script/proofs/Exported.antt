@@ -18,13 +18,13 @@ use Rattle.pid_service_laws.specs.Calls.{nothing_sent}
 use Rattle.pid_service_laws.specs.Registries.{Does}
 use Rattle.pid_script.specs.declared.line_end.LineEnd.{LineEnd}
 use Rattle.pid_script.specs.declared.line_end.LineEnd.TheVariants.{Stopped, WriteFault, TooLong}
-use Rattle.pid_script.specs.declared.moderated.Moderated.{Ghosts}
-use Rattle.pid_script.specs.Exporting.{ExportsText, TakesWholeFront}
+use Rattle.pid_service.specs.declared.moderated.Moderated.{Ghosts}
+use Rattle.pid_service.specs.Moderating.{ExportsText, TakesWholeFront}
 use Rattle.pid_script.specs.Steps.Output.{out, IsGivenRefusal, IsGivenStop, IsNothing, TellsLine, IsReplyOrStop, GoesOnAfter, AnswersLine}
 use Rattle.pid_script.specs.ScriptLines as lines
 use Rattle.pid_script.specs.RegistryStates.{ShowsOrHasFailed}
 use Rattle.pid_script.specs.StopLines.{is_stop, StoppedBy, IsStopText}
-use Rattle.pid_script.specs.WholeFronts.{IsWholeFront}
+use Rattle.pid_service.specs.WholeFronts.{IsWholeFront}
 use Rattle.pid_script.proofs.Calling.{send_still, send_none}
 use Rattle.pid_script.proofs.SayLemmas.{Appends-nil, Appends-then, front-then, front-before, out_then}
 use Rattle.pid_script.proofs.Causes.{faults_stop}

@@ -17,6 +17,5 @@ mod OtherLines
 mod PathFields
 mod Pieces
 mod ReadLemmas
-mod RegistryWords
 mod SayLemmas
 mod ScriptAsks

@@ -10,7 +10,7 @@ use Rattle.pid_moderation.specs.History.{History}
 use Rattle.pid_moderation.specs.ReplyLines.{refused_line}
 use Rattle.pid_script.specs.declared.line_end.LineEnd.{LineEnd}
 use Rattle.pid_script.specs.declared.line_end.LineEnd.TheVariants.{Stopped, WriteFault, TooLong}
-use Rattle.pid_script.specs.declared.moderated.Moderated.{Ghosts}
+use Rattle.pid_service.specs.declared.moderated.Moderated.{Ghosts}
 use Rattle.pid_script.specs.Replies.{line_reply}
 use Rattle.pid_script.specs.Steps.Output.{Out, out, IsGivenRefusal, IsGivenStop, IsNothing, TellsLine, IsUnfit, Unfit, AnswersLine}
 use Rattle.pid_script.specs.ScriptLines as lines

@@ -2,9 +2,6 @@ pub mod ScriptLines
 pub mod Asking
 pub mod Replies
 pub mod Calling
-pub mod LookingUp
-pub mod WholeFronts
-pub mod Exporting
 pub mod RegistryStates
 pub mod StopLines
 pub mod Scripts

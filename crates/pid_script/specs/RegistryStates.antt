@@ -2,7 +2,7 @@
 use Rattle.std.specs.Prelude.{◌≡◌, ◌⊎◌, List, [], ◌∷◌}
 use Rattle.pid_moderation.specs.History.{Asked, History}
 use Rattle.pid_moderation.specs.Judgement.{after}
-use Rattle.pid_script.specs.declared.moderated.Moderated.{Ghosts}
+use Rattle.pid_service.specs.declared.moderated.Moderated.{Ghosts}
 
 module _ {R : Type 0} (registry : Ghosts R) where
   -- it is live and shows the history, or it has failed earlier

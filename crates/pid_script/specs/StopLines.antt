@@ -6,12 +6,12 @@ use Rattle.pid_moderation.specs.declared.refusal.Refusal.TheVariants.{Memory, St
 use Rattle.pid_moderation.specs.History.{History}
 use Rattle.pid_moderation.specs.ReplyLines.{refused_line}
 use Rattle.pid_moderation.specs.Writes.{tree_of}
-use Rattle.pid_script.specs.declared.moderated.Moderated.{Ghosts}
+use Rattle.pid_service.specs.declared.moderated.Moderated.{Ghosts}
 use Rattle.pid_moderation.specs.Faults.{IsMemoryOrStore}
 use Rattle.pid_script.specs.Replies.{is_call}
 use Rattle.pid_script.specs.ScriptLines.{Ask, AsksNothing, AsksCommand, AsksExport, AsksName}
 use Rattle.pid_script.specs.ScriptLines.{AsksLookup, Unclear, TooLong}
-use Rattle.pid_script.specs.WholeFronts.{IsWholeFront}
+use Rattle.pid_service.specs.WholeFronts.{IsWholeFront}
 
 -- a refusal of memory, of the store, or of a registry that has failed: it judges nothing, and stops
 -- the script

@@ -11,14 +11,13 @@ use crate::fields::{read_command, read_path};
 use crate::line::{LineAsk, line_asks};
 use crate::line_end::LineEnd;
 use crate::lookup::read_lookup;
-use crate::moderated::Moderated;
 use crate::output::flush;
 use crate::reply::{
     refuse_long, send_answer, send_bad_text, send_found, send_name, stop_for_memory,
 };
 use pid_ident::Output;
 use pid_moderation::Verb;
-use pid_service::ExportFault;
+use pid_service::{ExportFault, Moderated};
 use std::alloc::Global;
 
 // Obeys the command that a form says.

@@ -7,13 +7,11 @@ pub mod laws;
 mod line;
 mod line_end;
 mod lookup;
-mod moderated;
 mod output;
-mod registry;
 mod reply;
 mod script;
 mod script_end;
 
-pub use moderated::Moderated;
+pub use pid_service::Moderated;
 pub use script::run_script;
 pub use script_end::ScriptEnd;

@@ -42,12 +42,12 @@ ghost use Rattle.pid_script.specs.RegistryStates.{OverStanding};
 use crate::answering::answer_line;
 use crate::line::LONGEST_LINE;
 use crate::line_end::LineEnd;
-use crate::moderated::Moderated;
 use crate::output::flush;
 use crate::reply::{refuse_long, stop_for_memory};
 use crate::script_end::ScriptEnd;
 use pid_ident::{Incoming, Output};
 use pid_reader::{split_line, without_cr};
+use pid_service::Moderated;
 use std::alloc::Global;
 
 /// The room of one read, in bytes.

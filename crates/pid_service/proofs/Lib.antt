@@ -21,3 +21,4 @@ pub mod CountedLines
 pub mod PendingNumbers
 pub mod KeptNumbers
 pub mod ImportCauses
+pub mod Moderating

@@ -8,6 +8,8 @@ pub mod Exporting
 pub mod FaultNumbers
 pub mod Opening
 pub mod LookingUp
+pub mod WholeFronts
+pub mod Moderating
 pub mod Asking
 pub mod Lives
 pub mod LifeLaws

@@ -12,6 +12,7 @@ mod kept_views;
 pub mod laws;
 mod lives;
 mod looking_up;
+mod moderated;
 mod names;
 mod obeying;
 mod opening;
@@ -31,6 +32,7 @@ pub use laws::{
     openings_find_histories, pages_tell_a_hundred, reached_histories_are_kept,
     reopened_registries_show_prefixes, repeats_end_doubts, taken_histories_are_reached,
 };
+pub use moderated::Moderated;
 pub use opening::{migrate, open};
 pub use registry::Registry;
 pub use running::RunReport;

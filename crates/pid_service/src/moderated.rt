@@ -1,4 +1,4 @@
-//! What a script asks of a registry.
+//! What a script asks of a registry, and the registry of this crate as such a one.
 ghost use Rattle.std.specs.Prelude.{◌≡◌, Bool, Err, IsSome, IsErrOf, MatchResult};
 ghost use Rattle.pid_ident.specs.PathTexts.{path_text};
 ghost use Rattle.pid_lookup.specs.declared.answering.LookupRefusal.TheVariants as lookups;
@@ -12,13 +12,14 @@ ghost use Rattle.pid_moderation.specs.Faults.{IsMemoryOrStore};
 ghost use Rattle.pid_service_laws.specs.Calls.{nothing_sent, obeyed};
 ghost use Rattle.pid_service_laws.specs.Registries.{CommandLeaves, Does, Showing};
 ghost use Rattle.pid_service.specs.Files.{asks};
-ghost use Rattle.pid_script.specs.Exporting.{ExportsText};
-ghost use Rattle.pid_script.specs.LookingUp.{LooksUp};
+ghost use Rattle.pid_service.specs.Moderating.{ExportsText, LooksUp};
 
+use crate::exporting::ExportFault;
+use crate::registry::Registry;
 use pid_ident::{Name, Output, Path};
 use pid_lookup::{Answer, Args, LookupRefusal};
 use pid_moderation::{Command, Refusal, Reply};
-use pid_service::ExportFault;
+use sqlite::Alter;
 
 /// A registry under moderation, as scripts ask it.
 ///
@@ -86,4 +87,42 @@ pub trait Moderated {
         ensures failed { has_failed self.old
             → (result ≡ Err (ExportFault.Refused Failed)) × (self.new ≡ self.old)
             × (O.taken out.new ≡ O.taken out.old) };
+}
+
+impl<S: Alter + Drop> Moderated for Registry<S> {
+    ghost use Rattle.std.specs.Prelude.{◌≡◌, false};
+    ghost use Rattle.pid_service.specs.Lives.{showing as registry_showing};
+    ghost use Rattle.pid_service.specs.Registries.{is_live};
+
+    ghost showing = { registry_showing S.Store };
+
+    ghost has_failed = { λ r. is_live r ≡ false };
+
+    fn obey(&mut self, command: Command) -> Result<Reply, Refusal> {
+        crate::laws::clauses_meet_lives::<S>(); // proof only
+        Registry::obey(self, command)
+    }
+
+    fn read(&mut self, path: &Path) -> Result<Option<Name>, Refusal> {
+        crate::laws::clauses_meet_lives::<S>(); // proof only
+        Registry::read(self, path)
+    }
+
+    fn lookup(
+        &mut self,
+        flags: u32,
+        args: &Args,
+        size: u32,
+    ) -> Result<Answer, LookupRefusal<Refusal>> {
+        crate::laws::clauses_meet_lives::<S>(); // proof only
+        Registry::lookup(self, flags, args, size)
+    }
+
+    fn export<O: Output>(&mut self, out: &mut O) -> Result<(), ExportFault> {
+        crate::laws::clauses_meet_lives::<S>(); // proof only
+        crate::laws::items_print_as_their_tree(); // proof only
+        // So the text is kept in memory and goes out whole. If it can't be, it goes out in parts.
+        let _ = Registry::export_length(self);
+        Registry::export(self, out)
+    }
 }

@@ -1,7 +1,7 @@
 use Rattle.std.proofs.Common.{◌∙◌, ap}
 use Rattle.pid_service.specs.Registries.{is_live}
-use Rattle.pid_script.proofs.RegistryWords.{exported}
-use Rattle.pid_script.proofs.registry.RegistryModerated.export.Goals as goal
+use Rattle.pid_service.proofs.Moderating.{exported}
+use Rattle.pid_service.proofs.moderated.RegistryModerated.export.Goals as goal
 
 pub returns-clause-told : goal.returns-clause-told
 returns-clause-told g c honest h shows =

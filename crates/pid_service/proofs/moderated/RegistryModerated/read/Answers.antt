@@ -1,4 +1,4 @@
-use Rattle.pid_script.proofs.registry.RegistryModerated.read.Goals as goal
+use Rattle.pid_service.proofs.moderated.RegistryModerated.read.Goals as goal
 
 pub returns-clause-calls : goal.returns-clause-calls
 returns-clause-calls g c =

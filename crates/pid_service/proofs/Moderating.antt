@@ -1,4 +1,4 @@
--- What a registry exports and answers to look-ups, in the words of scripts.
+-- What a registry exports and answers to look-ups, as one under moderation.
 use Rattle.std.proofs.Common.{◌≡◌, ◌↔◌, ℕ, Bool, true, false, List, [], ◌∷◌, ◌++◌, Option, Result, Ok, Err, IfOk, refl, sym, ap, subst, ◌∙◌, append_assoc}
 use Rattle.std.specs.Prelude.{IsErrOf}
 use Rattle.pid_service.proofs.ItemLines.{last_path, text_behind, text_joined}
@@ -22,9 +22,9 @@ use Rattle.pid_service.specs.declared.exporting.ExportFault.{ExportFault}
 use Rattle.pid_service.specs.declared.exporting.ExportFault.TheVariants.{Refused, Write}
 use Rattle.pid_service.specs.Exporting.{ExportsTree}
 use Rattle.pid_file.specs.Printing.{ended, header, lines_behind, print}
-use Rattle.pid_script.specs.Exporting.{ExportsText}
-use Rattle.pid_script.specs.LookingUp.{LooksUp}
-use Rattle.pid_script.specs.WholeFronts.{IsWholeFront}
+use Rattle.pid_service.specs.Moderating.{ExportsText}
+use Rattle.pid_service.specs.Moderating.{LooksUp}
+use Rattle.pid_service.specs.WholeFronts.{IsWholeFront}
 
 -- no line is open behind lines that each have their LF
 none_open : (lines : List (List ℕ)) → open_part (ended lines) ≡ []

@@ -1,6 +1,6 @@
 use Rattle.pid_service.specs.Registries.{is_live}
 use Rattle.pid_service.specs.Files.{asks}
-use Rattle.pid_script.proofs.registry.RegistryModerated.obey.Goals as goal
+use Rattle.pid_service.proofs.moderated.RegistryModerated.obey.Goals as goal
 
 pub returns-clause-calls : goal.returns-clause-calls
 returns-clause-calls g c = (

@@ -1,6 +1,6 @@
 use Rattle.pid_moderation.specs.Writes.{tree_of}
-use Rattle.pid_script.proofs.RegistryWords.{looked_up}
-use Rattle.pid_script.proofs.registry.RegistryModerated.lookup.Goals as goal
+use Rattle.pid_service.proofs.Moderating.{looked_up}
+use Rattle.pid_service.proofs.moderated.RegistryModerated.lookup.Goals as goal
 
 pub returns-clause-told : goal.returns-clause-told
 returns-clause-told g c honest h shows =
