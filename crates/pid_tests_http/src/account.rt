@@ -1,6 +1,6 @@
 //! A reader that keeps account of when it is read.
 ghost use Rattle.std.specs.Prelude.{◌≡◌, Some};
-ghost use Rattle.pid_http_stream.specs.Moments.{AllSince, IsMoment};
+ghost use Rattle.pid_http_stream.specs.Moments.{IsNoted};
 
 use pid_http_stream::Incoming;
 use pid_ident::{FaultyOutput, ReadFault};
@@ -44,7 +44,7 @@ impl<'a> Account<'a> {
 
     // Keeps what the writer has taken by now.
     fn note(&mut self, output: &FaultyOutput)
-        ensures noted { AllSince (IsMoment (Some self.old.rest.now) (Some output.now.taken.items))
+        ensures noted { IsNoted (Some self.old.rest.now) (Some output.now.taken.items)
             (moments_of self.old) (moments_of self.new) }
         ensures rest { self.new.rest ≡ self.old.rest }
         ensures reads { self.new.reads ≡ self.old.reads }
