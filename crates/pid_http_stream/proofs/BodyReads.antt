@@ -10,7 +10,8 @@ use Rattle.pid_file.specs.declared.io.ReadFault.TheVariants.{Device}
 use Rattle.pid_http_stream.specs.Bodies.{padded, fault_told, Turns, SpendsTurns, BodyState, IsCauseOf, HasBrokenOff, IsFaultCaused, IsWithinBody, HasReadBody}
 use Rattle.pid_http_stream.specs.BodyLaws.{no_turns, stays_kept}
 use Rattle.pid_http_stream.specs.MomentLaws.{since_none, since_so}
-use Rattle.pid_http_stream.specs.Moments.{Moment, AllSince, IsMoment}
+use Rattle.pid_http_stream.specs.Moments.{Moment, AllSince}
+use Rattle.pid_http_stream.specs.Steps.Intakes.{IsMoment}
 use Rattle.pid_http_stream.specs.declared.body_input.BodyFault.{BodyFault}
 use Rattle.pid_http_stream.specs.declared.body_input.BodyFault.TheVariants.{ReadFault as TheReadFault}
 

@@ -9,13 +9,13 @@ use Rattle.httparse.specs.Ascii.{line_feed}
 use Rattle.httparse.specs.Grammar.{HasNoRequest as HasNoRequestHead, MayBecomeRequest as MayBecomeHead}
 use Rattle.pid_http_stream.specs.Endings.{HasFault, IsNoHead}
 use Rattle.pid_file.specs.declared.io.ReadFault.{ReadFault}
-use Rattle.pid_http_stream.specs.Steps.Intakes.{ComesIn, HeadStops, StopsFor, WaitsForRequest}
+use Rattle.pid_http_stream.specs.Steps.Intakes.{ComesIn, HeadStops, IsMoment, StopsFor, WaitsForRequest}
 use Rattle.pid_http_stream.specs.declared.intake.Filled.TheVariants as filled
 use Rattle.pid_http_stream.specs.declared.intake.HeadRead.{HeadRead}
 use Rattle.pid_http_stream.specs.declared.intake.Stop.{Stop}
 use Rattle.pid_http_stream.specs.Leftovers.{AreLineEnds}
 use Rattle.pid_http_stream.specs.MomentLaws.{since_then, since_so}
-use Rattle.pid_http_stream.specs.Moments.{Moment, AllSince, IsMoment}
+use Rattle.pid_http_stream.specs.Moments.{Moment, AllSince}
 use Rattle.pid_http_stream.specs.Unfinished.{CanBeHead, HasNoLineEnd, IsHeadUnfinished, IsUnfinished}
 use Rattle.pid_http_stream.specs.declared.judging.StreamFault.{StreamFault}
 use Rattle.pid_http_stream.specs.declared.judging.StreamFault.TheVariants.{BadHead}

@@ -11,4 +11,5 @@ pub mod Asked
 pub mod Stepping
 pub mod Serving
 pub mod Looping
+pub mod Noting
 pub mod Uniqueness

@@ -25,10 +25,11 @@ ghost use Rattle.pid_http_stream.specs.Steps.Intakes.{
   HeadStops,
   IsHeadRead,
   IsHeadJudged,
+  IsMoment,
   WaitsForRequest,
   StaysBut,
 };
-ghost use Rattle.pid_http_stream.specs.Moments.{AllSince, IsMoment};
+ghost use Rattle.pid_http_stream.specs.Moments.{AllSince};
 ghost use Rattle.pid_http_stream.specs.Unfinished.{IsHeadUnfinished, IsUnfinished};
 
 use crate::judging::{Judged, StreamFault, are_line_ends, judge, judge_unended};

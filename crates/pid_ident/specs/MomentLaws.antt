@@ -1,10 +1,9 @@
 -- Proofs alone, no definitions: accounts of the moments at which a reader was read, one after
 -- another.
-use Rattle.std.proofs.Common.{ℕ, List, [], ◌∷◌, ◌++◌, Option, Some, None, refl, sym, ap, ◌∙◌}
-use Rattle.std.proofs.Common.{append_assoc}
+use Rattle.std.proofs.Common.{List, [], ◌++◌, Option, Some, None, sym, ap, ◌∙◌, append_assoc}
 use Rattle.std.proofs.lemmas.List.{append-nil}
-use Rattle.std.proofs.lemmas.List.Elements.{All-nil, All-push, All-append}
-use Rattle.pid_ident.specs.Moments.{Moment, AllSince, IsMoment, IsNoted}
+use Rattle.std.proofs.lemmas.List.Elements.{All-nil, All-append}
+use Rattle.pid_ident.specs.Moments.{Moment, AllSince}
 
 -- nothing was read
 pub since_none : (P : Moment → Type 0) (a : Option (List Moment)) → AllSince P a a
@@ -30,15 +29,3 @@ pub since_so : (P Q : Moment → Type 0) (a b : Option (List Moment)) → ((m : 
 since_so P Q a None f p = tt
 since_so P Q None (Some now) f p = absurd p
 since_so P Q (Some first) (Some now) f (later, e, all) = (later, e, λ k d h. f _ (all k d h))
-
--- the moment that one read notes
-pub since_noted : (to_come taken : Option (List ℕ)) (a b : Option (List Moment))
-    → IsNoted to_come taken a b → AllSince (IsMoment to_come taken) a b
-since_noted to_come taken a None p = tt
-since_noted to_come taken None (Some now) p = absurd p
-since_noted to_come taken (Some first) (Some now) p = (
-  (record { to_come = to_come; taken = taken }) ∷ [],
-  p,
-  All-push (IsMoment to_come taken) [] (record { to_come = to_come; taken = taken }) (All-nil _)
-      refl,
-)

@@ -6,10 +6,6 @@ pub record Moment : Type 0 where
   pub to_come : Option (List ℕ)
   pub taken : Option (List ℕ)
 
--- it was read with this to come, and this taken
-abbrev pub IsMoment : Option (List ℕ) → Option (List ℕ) → Moment → Type 0
-IsMoment to_come taken m = m ≡ (record { to_come = to_come; taken = taken })
-
 -- An account has one moment more, the last one, with this to come and this taken. If none is kept
 -- any more nothing is said.
 abbrev pub IsNoted : (to_come taken : Option (List ℕ)) → (earlier now : Option (List Moment))

@@ -30,6 +30,10 @@ pub record ComesIn (held held_after : List ℕ) (input input_after : Option (Lis
   pub consumed : Consumes input input_after piece
   pub kept : held_after ≡ held ++ piece
 
+-- it was read with this to come, and this taken
+abbrev pub IsMoment : Option (List ℕ) → Option (List ℕ) → Moment → Type 0
+IsMoment to_come taken m = m ≡ (record { to_come = to_come; taken = taken })
+
 -- when the reader was read, what was held and what had come after it was a request that had not
 -- come whole, and the writer had taken this
 pub record WaitsForRequest (held : List ℕ) (input taken : Option (List ℕ)) (m : Moment)

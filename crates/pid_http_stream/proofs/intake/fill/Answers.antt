@@ -1,9 +1,10 @@
 use Rattle.std.proofs.Common.{rules, refl}
 use Rattle.std.proofs.KnownBytes.{Consumes-nil}
 use Rattle.pid_http_stream.specs.BodyLaws.{no_turns}
-use Rattle.pid_http_stream.specs.MomentLaws.{since_none, since_noted}
-use Rattle.pid_http_stream.specs.Moments.{IsMoment}
+use Rattle.pid_http_stream.specs.MomentLaws.{since_none}
+use Rattle.pid_http_stream.specs.Steps.Intakes.{IsMoment}
 use Rattle.pid_http_stream.proofs.BodyReads.{keeps_nil, one_turn, some_of, some_told, still_good}
+use Rattle.pid_http_stream.proofs.Noting.{since_noted}
 use Rattle.pid_http_stream.proofs.HeadReads.{nothing_came, none_came, piece_came, stopped_is_none, end_is_none}
 use Rattle.pid_http_stream.proofs.intake.fill.Goals as goal
 

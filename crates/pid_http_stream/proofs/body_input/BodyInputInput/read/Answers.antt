@@ -3,9 +3,10 @@ use Rattle.std.specs.Io.KnownBytes.{Consumes}
 use Rattle.std.proofs.KnownBytes.{Consumes-nil}
 use Rattle.std.proofs.lemmas.List.{length-take-le, take-append-drop, take-append-le}
 use Rattle.pid_http_stream.specs.BodyLaws.{no_body_reads, no_turns}
-use Rattle.pid_http_stream.specs.MomentLaws.{since_none, since_noted}
-use Rattle.pid_http_stream.specs.Moments.{IsMoment}
+use Rattle.pid_http_stream.specs.MomentLaws.{since_none}
+use Rattle.pid_http_stream.specs.Steps.Intakes.{IsMoment}
 use Rattle.pid_http_stream.specs.declared.body_input.BodyFault.TheVariants.{Short, ReadFault, TurnsSpent}
+use Rattle.pid_http_stream.proofs.Noting.{since_noted}
 use Rattle.pid_http_stream.proofs.BodyReads.{held_given, read_given, whole_front, nothing, keeps_same, none_left, keeps_padded, keeps_nil, none_of, told_some, told_none, kept_told, none_kept, some_told, still_good, gave_held, gave_read, broke_off, one_turn, some_of}
 use Rattle.pid_http_stream.proofs.body_input.BodyInputInput.read.Goals as goal
 
