@@ -1,10 +1,11 @@
 -- The service as a handler: what was answered is an answer to what the request comes to.
-use Rattle.std.proofs.Common.{◌≡◌, ℕ, List, [], Option, Some, None, Result, Ok, Err, refl, sym, subst, inl, inr}
+use Rattle.std.proofs.Common.{◌≡◌, ℕ, List, [], Option, Some, None, Result, Ok, Err, refl, sym, subst, ◌∙◌, inl, inr}
 use Rattle.std.specs.Prelude.{◌⊎◌, MatchOption, option_copied}
 use Rattle.std.specs.Io.KnownBytes.{IsAtEnd}
 use Rattle.sqlite_trees.specs.declared.store.Store.{Ghosts}
 use Rattle.pid_service_laws.specs.Calls.{Call}
 use Rattle.pid_http_stream.specs.Conducts.{StandsStill}
+use Rattle.pid_http_stream.specs.declared.handler.Wanted.TheVariants.{Streamed}
 use Rattle.pid_http_stream.specs.Handling.{IsHandled, IsBodyFor, MayReply}
 use Rattle.pid_http_stream.specs.Replies.{Answer}
 use Rattle.pid_http_stream.specs.Requests.{Request, fields_of}
@@ -14,11 +15,12 @@ use Rattle.pid_http_stream.specs.declared.handler.ReplyBody.TheVariants.{Bytes, 
 use Rattle.pid_http_stream.specs.declared.reply_head.ReplyHead.{ReplyHead}
 use Rattle.pid_http_requests.specs.Questions.{Asking, question}
 use Rattle.pid_http_requests.specs.Senders.{Sending, sender}
+use Rattle.pid_http_requests.specs.declared.format.Format.{Format}
 use Rattle.pid_http_requests.specs.declared.sender.Sender.{Sender}
-use Rattle.pid_http.specs.Errands.{Errand, errand_asked, errand_of}
+use Rattle.pid_http.specs.Errands.{Errand, errand_asked, errand_of, import_errand}
 use Rattle.pid_http.specs.Known.{Told, ByCalls}
 use Rattle.pid_http.specs.Steps.Replying.{IsBodyMet, IsMetBehind, sending_in}
-use Rattle.pid_http.specs.Serving.{AreQuestions, IsErrandMet, serving}
+use Rattle.pid_http.specs.Serving.{AreQuestions, IsErrandMet, most_given_up, most_questions, serving}
 
 pub sender_is : (o : Option Sender) (x : Option Sending) → MatchOption o (x ≡ None) (λ s. x ≡ Some (record { account = s.account.now; key = option_copied s.key })) → sending_in o ≡ x
 sender_is None x e = sym e
@@ -29,6 +31,15 @@ pub errand_is : (request : Request) (wanted : Asking) (body : List ℕ) (s : Opt
     → s ≡ sender (fields_of request.head) → body ≡ request.body → errand_asked wanted s body ≡ errand_of request
 unfolding errand_of
 errand_is request wanted body s asked sends b = λ i. errand_asked (asked i) (sends i) (b i)
+
+-- an import that was given up takes as many questions as one that was not
+import_most : (format : Format) (s : Option Sending) (file : List ℕ) → most_questions (import_errand format s file) ≡ most_given_up (Streamed format) s
+import_most format None file = refl
+import_most format (Some s) file = refl
+
+pub given_up_most : (request : Request) (format : Format) (file : List ℕ) (s : Option Sending) → Streamed format ≡ question request.head.method request.head.target → s ≡ sender (fields_of request.head)
+    → most_questions (import_errand format s file) ≡ most_given_up (question request.head.method request.head.target) (sender (fields_of request.head))
+given_up_most request format file s asked sends = import_most format s file ∙ (λ i. most_given_up (asked i) (sends i))
 
 module _ {S : Type 0} (store : Ghosts S) where
   body_for : (t u : Told store) (request : Request) (head : ReplyHead) (body : ReplyBody) → ByCalls store t u (λ calls. IsBodyMet t.known (errand_of request) head body calls u.known) → IsBodyFor (serving store) t request head body u
@@ -46,14 +57,14 @@ module _ {S : Type 0} (store : Ghosts S) where
 
   -- and where memory lacked for it
   pub asked_err : (t u : Told store) (request : Request) (errand : Errand) → errand ≡ errand_of request → ByCalls store t u (λ calls. (given : Answer) × IsErrandMet t.known errand given calls u.known)
-      → StandsStill (serving store) t u ⊎ (IsAtEnd (Some []) × (serving store).leaves t request u)
+      → StandsStill (serving store) t request.head u ⊎ (IsAtEnd (Some []) × (serving store).leaves t request u)
   asked_err t u request errand same m = inr (refl, by_calls t u _ _ (λ calls h. (h.0, subst (λ c. IsErrandMet t.known c h.0 calls u.known) same h.1)) m)
 
   pub asked_behind : {E : Type 0} (t u : Told store) (request : Request) (errand : Errand) (result : Result Reply E) (left : Option (List ℕ)) → errand ≡ errand_of request
-      → ByCalls store t u (λ calls. IsMetBehind t.known errand result left calls u.known) → IsHandled (serving store) t request result left u
-  asked_behind {E} t u request errand (Ok reply) left same m = asked_ok t u request errand reply same m
-  asked_behind {E} t u request errand (Err e) left same m = by_case m.holds
+      → most_questions errand ≡ most_given_up (question request.head.method request.head.target) (sender (fields_of request.head)) → ByCalls store t u (λ calls. IsMetBehind t.known errand result left calls u.known) → IsHandled (serving store) t request result left u
+  asked_behind {E} t u request errand (Ok reply) left same most m = asked_ok t u request errand reply same m
+  asked_behind {E} t u request errand (Err e) left same most m = by_case m.holds
     where
-      by_case : (AreQuestions 1 m.more × (t.known ≡ u.known)) ⊎ (IsAtEnd left × ((given : Answer) × IsErrandMet t.known errand given m.more u.known)) → IsHandled {E = E} (serving store) t request (Err e) left u
-      by_case (inl still) = inl (inr (record { same_life = m.same_life; more = m.more; joined = m.joined; holds = still }))
+      by_case : (AreQuestions (most_questions errand) m.more × (t.known ≡ u.known)) ⊎ (IsAtEnd left × ((given : Answer) × IsErrandMet t.known errand given m.more u.known)) → IsHandled {E = E} (serving store) t request (Err e) left u
+      by_case (inl still) = inl (inr (record { same_life = m.same_life; more = m.more; joined = m.joined; holds = (subst (λ n. AreQuestions n m.more) most still.0, still.1) }))
       by_case (inr (end, (given, met))) = inr (end, record { same_life = m.same_life; more = m.more; joined = m.joined; holds = (given, subst (λ c. IsErrandMet t.known c given m.more u.known) same met) })

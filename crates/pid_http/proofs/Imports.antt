@@ -32,7 +32,7 @@ use Rattle.pid_http.specs.Errands.{Errand, Obeys}
 use Rattle.pid_http.specs.Known.{Known, Live, Between, Down, IsKnownOf, LivesOn}
 use Rattle.pid_http.specs.Steps.Going.{Goes}
 use Rattle.pid_http.specs.Steps.Replying.{IsCommandMet, IsMetBehind}
-use Rattle.pid_http.specs.Serving.{AreQuestions, IsErrandMet}
+use Rattle.pid_http.specs.Serving.{AreQuestions, IsErrandMet, most_questions}
 use Rattle.pid_http.proofs.Meeting.{body_met, no_call, not_asked, obeyed_met, obeys_so, one_call, one_question, turned}
 
 -- what was read of a known body to its end is all of it
@@ -138,7 +138,7 @@ module _ {S : Type 0} (store : Ghosts S) where
     where
       by_reply : (result : Result Reply E) → IfOk result (λ reply. IsReplyOf reply given) → (k : Known) (file : List ℕ) → IsMetBehind k (errand file) result left [] k
       by_reply (Ok reply) is k file = body_met k k (errand file) reply.head reply.body given [] is (met file k)
-      by_reply (Err e) is k file = inl (not_asked 1, refl)
+      by_reply (Err e) is k file = inl (not_asked (most_questions (errand file)), refl)
 
   -- by the words of the sender
   pub of_owner : {E : Type 0} (old new : Registry S store) (account said : List ℕ) (key told : Option (List ℕ)) (format : Format) (result : Result Reply E) (to_come left : Option (List ℕ)) → account ≡ said → key ≡ told
@@ -149,13 +149,13 @@ module _ {S : Type 0} (store : Ghosts S) where
 
   -- the input failed
   pub gave_up : (old new : Registry S store) (end : ImportEnd) (account : List ℕ) (key : Option (List ℕ)) (to_come left : Option (List ℕ)) (errand : List ℕ → Errand)
-      → end ≡ Body → CallsImport → (HasCleanDisk store new → HasCleanDisk store old) → (is_live old ≡ false → (IsEnd end (Refused refusals.Failed) ⊎ IsEnd end Body) × (new ≡ old)) → HasRead (Err end) to_come left (Holds old new (Err end) account key)
-      → Goes store old new (λ k calls now. (file : List ℕ) → to_come ≡ Some file → length file ≤ longest_body → (AreQuestions 1 calls × (k ≡ now)) ⊎ (IsAtEnd left × ((given : Answer) × IsErrandMet k (errand file) given calls now)))
-  gave_up old new end account key to_come left errand is law clean failed read = record {
+      → ((file : List ℕ) → 1 ≤ most_questions (errand file)) → end ≡ Body → CallsImport → (HasCleanDisk store new → HasCleanDisk store old) → (is_live old ≡ false → (IsEnd end (Refused refusals.Failed) ⊎ IsEnd end Body) × (new ≡ old)) → HasRead (Err end) to_come left (Holds old new (Err end) account key)
+      → Goes store old new (λ k calls now. (file : List ℕ) → to_come ≡ Some file → length file ≤ longest_body → (AreQuestions (most_questions (errand file)) calls × (k ≡ now)) ⊎ (IsAtEnd left × ((given : Answer) × IsErrandMet k (errand file) given calls now)))
+  gave_up old new end account key to_come left errand takes is law clean failed read = record {
     lives = imports_on law old new (Err end) account key to_come left clean failed read;
     served = record {
       good = clean;
-      leads = λ good k known. (k, still (subst (λ x. HasRead (Err x) to_come left (Holds old new (Err x) account key)) is read) good k known, λ file comes fits. inl (subst (λ x. AreQuestions 1 (import_sent (import_of account key (file_reading read.text)) (Err x) (is_live new) ∷ [])) (sym is) one_question, refl));
+      leads = λ good k known. (k, still (subst (λ x. HasRead (Err x) to_come left (Holds old new (Err x) account key)) is read) good k known, λ file comes fits. inl (subst (λ x. AreQuestions (most_questions (errand file)) (import_sent (import_of account key (file_reading read.text)) (Err x) (is_live new) ∷ [])) (sym is) (one_question.0, takes file), refl));
     };
   }
     where

@@ -6,7 +6,7 @@ use Rattle.sqlite_trees.specs.declared.store.Store.{Ghosts}
 use Rattle.pid_service_laws.specs.Calls.{AreNothing, Call, sent_in}
 use Rattle.pid_service_laws.specs.Lives.{commands_in}
 use Rattle.pid_moderation.specs.History.{Asked, History}
-use Rattle.pid_http_stream.specs.Conducts.{StandsStill}
+use Rattle.pid_http_stream.specs.Conducts.{StandsOver}
 use Rattle.pid_http_stream.specs.Laws.{RequestsStay}
 use Rattle.pid_http_stream.specs.Replies.{Answer, answer_behind}
 use Rattle.pid_http_stream.specs.Requests.{Request, IsRequest}
@@ -62,17 +62,20 @@ promised_so (Between x y) errand head told calls next promised = absurd promised
 promised_so Down errand head told calls next promised = absurd promised
 
 module _ {S : Type 0} (store : Ghosts S) where
-  still : (t u : Told store) → StandsStill (serving store) t u → ByCalls store t u (λ calls. AreNothing calls × (t.known ≡ u.known))
-  still t u (inl same) = by_none store t u (λ v calls. AreNothing calls × (t.known ≡ v.known)) same (tt, refl)
-  still t u (inr b) = record { same_life = b.same_life; more = b.more; joined = b.joined; holds = (b.holds.0.0, b.holds.1) }
+  same_still : (t u : Told store) → t ≡ u → ByCalls store t u (λ calls. AreNothing calls × (t.known ≡ u.known))
+  same_still t u same = by_none store t u (λ v calls. AreNothing calls × (t.known ≡ v.known)) same (tt, refl)
 
-  rests_still : (ending : Ending) (t u : Told store) → RestsBehind (serving store) ending t u → StandsStill (serving store) t u
-  rests_still clean t u r = inl r
-  rests_still closed t u r = inl r
-  rests_still (faulty BadHead) t u r = inl r
-  rests_still (faulty Encoding) t u r = inl r
-  rests_still (faulty BodyTooLong) t u r = inl r
-  rests_still (faulty BodyShort) t u r = r
+  still : (t : Told store) (came : List ℕ) (u : Told store) → StandsOver (serving store) t came u → ByCalls store t u (λ calls. AreNothing calls × (t.known ≡ u.known))
+  still t came u (inl same) = same_still t u same
+  still t came u (inr (head, behind, has, b)) = record { same_life = b.same_life; more = b.more; joined = b.joined; holds = (b.holds.0.0, b.holds.1) }
+
+  rests_still : (ending : Ending) (IsRest : List ℕ → Type 0) (t u : Told store) → RestsBehind (serving store) ending IsRest t u → ByCalls store t u (λ calls. AreNothing calls × (t.known ≡ u.known))
+  rests_still clean IsRest t u r = same_still t u r
+  rests_still closed IsRest t u r = same_still t u r
+  rests_still (faulty BadHead) IsRest t u r = same_still t u r
+  rests_still (faulty Encoding) IsRest t u r = same_still t u r
+  rests_still (faulty BodyTooLong) IsRest t u r = same_still t u r
+  rests_still (faulty BodyShort) IsRest t u (rest, is, stands) = still t rest u stands
 
   then_quiet : (t mid u : Told store) (h : History) (cs : List Asked) → ByCalls store t mid (λ calls. SendsSome h cs calls mid.known) → ByCalls store mid u (λ calls. AreNothing calls × (mid.known ≡ u.known))
       → ByCalls store t u (λ calls. SendsSome h cs calls u.known)
@@ -92,7 +95,7 @@ module _ {S : Type 0} (store : Ghosts S) where
     requests = a.requests;
     stand = split_in_front stream a.requests ending a.splits;
     sends = then_quiet o.handler a.last o.handler_after h (commands_asked a.requests) (replies_send store outcomes o.handler a.last h a.requests a.replies live a.answered)
-        (still a.last o.handler_after (rests_still ending a.last o.handler_after a.rests));
+        (rests_still ending _ a.last o.handler_after a.rests);
   }
 
   -- a front of it was, and nothing more was sent
@@ -118,7 +121,7 @@ module _ {S : Type 0} (store : Ghosts S) where
   stopped_sends : AreOutcomes → RequestsStay → (h : History) (o : Outside (Told store)) (stream : List ℕ) (left : Option (List ℕ)) (count : ℕ) → o.handler.known ≡ Live h → StopsReading (serving store) o stream left count
       → SendsOf store h o.handler o.handler_after stream
   stopped_sends outcomes stay h o stream left count live s =
-      let f = front_quiet outcomes h o.handler s.last o.handler_after s.read s.rest o.taken o.taken_after count live s.before (still s.last o.handler_after s.stands) in
+      let f = front_quiet outcomes h o.handler s.last o.handler_after s.read s.rest o.taken o.taken_after count live s.before (still s.last s.rest o.handler_after s.stands) in
       record { requests = f.requests; stand = read_in_front stay stream s.read left f.requests s.consumed f.stand; sends = f.sends }
 
   lacking_sends : AreOutcomes → RequestsStay → (h : History) (o : Outside (Told store)) (stream : List ℕ) (left : Option (List ℕ)) (count : ℕ) → o.handler.known ≡ Live h → LacksMemory (serving store) o stream left count
@@ -127,8 +130,8 @@ module _ {S : Type 0} (store : Ghosts S) where
       let f = by_case s.after in
       record { requests = f.requests; stand = read_in_front stay stream s.read left f.requests s.consumed f.stand; sends = f.sends }
     where
-      stood : StandsStill (serving store) s.mid o.handler_after → SendsOf store h o.handler o.handler_after s.read
-      stood stands = front_quiet outcomes h o.handler s.mid o.handler_after s.read s.rest o.taken o.taken_after count live s.before (still s.mid o.handler_after stands)
+      stood : StandsOver (serving store) s.mid s.rest o.handler_after → SendsOf store h o.handler o.handler_after s.read
+      stood stands = front_quiet outcomes h o.handler s.mid o.handler_after s.read s.rest o.taken o.taken_after count live s.before (still s.mid s.rest o.handler_after stands)
 
       by_case : RunsOut (serving store) s.mid s.rest o.handler_after → SendsOf store h o.handler o.handler_after s.read
       by_case (inl (waits, stands)) = stood stands
@@ -146,7 +149,7 @@ module _ {S : Type 0} (store : Ghosts S) where
           front_quiet outcomes h o.handler s.mid o.handler_after stream s.rest o.taken s.taken count live s.before
           (record { same_life = b.same_life; more = b.more; joined = b.joined; holds = promised_so s.mid.known (errand_of request) head told b.more o.handler_after.known b.holds })
       by_case (inr (inr (fault, has, e, rests))) =
-          front_quiet outcomes h o.handler s.mid o.handler_after stream s.rest o.taken s.taken count live s.before (still s.mid o.handler_after (rests_still (faulty fault) s.mid o.handler_after rests))
+          front_quiet outcomes h o.handler s.mid o.handler_after stream s.rest o.taken s.taken count live s.before (rests_still (faulty fault) _ s.mid o.handler_after rests)
 
   -- whichever way it ended
   pub served_sends : AreOutcomes → RequestsStay → (o : Outside (Told store)) (h : History) (stream : List ℕ) (left : Option (List ℕ)) (end : StreamEnd) (count : ℕ) → o.handler.known ≡ Live h

@@ -14,8 +14,12 @@ use Rattle.pid_service.specs.Histories.{IsMemoryOrStore}
 use Rattle.pid_file.specs.Printing.{print}
 use Rattle.pid_http_stream.specs.Conducts.{Conduct}
 use Rattle.pid_http_stream.specs.Replies.{Answer}
+use Rattle.pid_http_stream.specs.Requests.{fields_of}
+use Rattle.pid_http_stream.specs.declared.handler.Wanted.TheVariants.{Streamed}
 use Rattle.pid_http_stream.specs.declared.reply_head.Content.TheVariants.{Text}
 use Rattle.pid_http_stream.specs.declared.reply_head.ReplyHead.{ReplyHead}
+use Rattle.pid_http_requests.specs.Questions.{Asking, question}
+use Rattle.pid_http_requests.specs.Senders.{Sending, sender}
 use Rattle.pid_http.specs.Answering.{answer_over, history_behind, IsErrandRefused, LacksForm}
 use Rattle.pid_http.specs.Errands.{Errand, Answered, Denied, Export, Children, command_sent}
 use Rattle.pid_http.specs.Errands.{errand_of, known_answer}
@@ -98,15 +102,23 @@ IsPromised (Live h) errand head told calls k = (errand ≡ Export) × IsTextHead
 IsPromised (Between before behind) errand head told calls k = ⊥
 IsPromised Down errand head told calls k = ⊥
 
+-- How many questions a request takes at most whose body broke off. Only an import is obeyed as its
+-- body comes, and one without a sender is refused.
+abbrev pub most_given_up : Asking → Option Sending → ℕ
+most_given_up (Streamed format) (Some s) = 1
+most_given_up asked s = 0
+
 -- If memory ran out for a reply, what it is a reply to may have been done. A request that was
--- given up sent nothing, by at most one call, that of its import; what the registry shows stays.
+-- given up sent nothing.
 abbrev pub serving : {S : Type 0} (store : Ghosts S) → Conduct (Told store)
 serving store = record {
   answers = λ t request given u. ByCalls store t u
       (λ calls. IsErrandMet t.known (errand_of request) given calls u.known);
   leaves = λ t request u. ByCalls store t u
       (λ calls. (given : Answer) × IsErrandMet t.known (errand_of request) given calls u.known);
-  gives_up = λ t u. ByCalls store t u (λ calls. AreQuestions 1 calls × (t.known ≡ u.known));
+  gives_up = λ t head u. ByCalls store t u (λ calls. AreQuestions
+      (most_given_up (question head.method head.target) (sender (fields_of head))) calls
+      × (t.known ≡ u.known));
   promises = λ t request head told u. ByCalls store t u
       (λ calls. IsPromised t.known (errand_of request) head told calls u.known);
 }

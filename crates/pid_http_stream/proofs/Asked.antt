@@ -4,15 +4,17 @@ use Rattle.std.specs.Prelude.{option_map, min, IfSome, IfOk, ◌⊎◌, Result, 
 use Rattle.std.specs.Io.KnownBytes.{Consumes, IsAtEnd}
 use Rattle.std.proofs.lemmas.Bool.{cases_lt, eqb-true}
 use Rattle.std.proofs.lemmas.List.{take_all, drop_all, take-append-drop, append-nil, length-take-le, drop-drop}
+use Rattle.httparse.specs.Grammar.{RequestHead}
 use Rattle.httparse.specs.Spans.{IsRequestAt}
 use Rattle.httparse.specs.declared.spans.HeaderSpan.{HeaderSpan}
 use Rattle.httparse.specs.declared.spans.RequestSpans.{RequestSpans}
 use Rattle.pid_file.specs.declared.io.ReadFault.{ReadFault}
 use Rattle.pid_http_stream.specs.Bodies.{padded, BodyState, HasBrokenOff, IsWithinBody, HasReadBody}
 use Rattle.pid_http_stream.specs.BodyLengths.{longest_body}
-use Rattle.pid_http_stream.specs.Conducts.{Conduct, StandsStill}
+use Rattle.pid_http_stream.specs.Conducts.{Conduct, StandsStill, StandsOver}
 use Rattle.pid_http_stream.specs.Endings.{IsShort}
 use Rattle.pid_http_stream.specs.Handling.{MayReply, IsHandled}
+use Rattle.pid_http_stream.specs.Heads.{HasHead}
 use Rattle.pid_http_stream.specs.Steps.Intakes.{AskStops, WaitsForRequest, StandsAt}
 use Rattle.pid_http_stream.specs.MomentLaws.{since_so}
 use Rattle.pid_http_stream.specs.Moments.{AllSince}
@@ -24,7 +26,7 @@ use Rattle.pid_http_stream.specs.declared.body_input.BodyFault.{BodyFault}
 use Rattle.pid_http_stream.specs.declared.body_input.BodyFault.TheVariants as faults
 use Rattle.pid_http_stream.specs.declared.handler.Reply.{Reply}
 use Rattle.pid_http_stream.proofs.BodyReads.{whole_padded, none_wanted, nothing}
-use Rattle.pid_http_stream.proofs.Heads.{stands_request, stands_short}
+use Rattle.pid_http_stream.proofs.Heads.{HasHead-append, head_of, stands_request, stands_short}
 
 -- the bytes that came with the head and those of the reader, where all that is wanted was used
 whole_body : (d came used : List ℕ) (w n : ℕ) → n ≡ min w (length d) → take n d ++ came ≡ used → length used ≡ w → d ++ came ≡ used ++ drop w d
@@ -127,9 +129,14 @@ reply_made conduct a b held headers spans w A B r reply none told = by_known A.t
           is = (record { head = r.stands.found.0; body = body_of A s }, whole_request held headers spans w A B r s k.0 none k.2, r.stands.found.1, told_at (λ request. MayReply conduct a request reply b) held headers spans w A B r s e told);
         }
 
+-- it stands still over bytes that begin with that head
+stands_over : {H : Type 0} (conduct : Conduct H) (a b : H) (head : RequestHead) (came behind : List ℕ) → HasHead came head behind → StandsStill conduct a head b → StandsOver conduct a came b
+stands_over conduct a b head came behind has (inl same) = inl same
+stands_over conduct a b head came behind has (inr gives) = inr (head, behind, has, gives)
+
 -- the handler stands still, or lacked memory with the body read to its end
 abbrev Lacks : {H : Type 0} → Conduct H → H → H → BodyState → Request → Type 0
-Lacks conduct a b B request = StandsStill conduct a b ⊎ (IsAtEnd (option_map (λ y. padded B.wanted (B.held ++ y)) B.to_come) × conduct.leaves a request b)
+Lacks conduct a b B request = StandsStill conduct a request.head b ⊎ (IsAtEnd (option_map (λ y. padded B.wanted (B.held ++ y)) B.to_come) × conduct.leaves a request b)
 
 pub no_memory : {H : Type 0} (conduct : Conduct H) (a b : H) (held : List ℕ) (headers : List HeaderSpan) (spans : RequestSpans) (w : ℕ) (A B : BodyState) → Reading held headers spans w A B
     → B.wanted ≡ 0 → Told (Lacks conduct a b B) held headers spans A
@@ -137,7 +144,9 @@ pub no_memory : {H : Type 0} (conduct : Conduct H) (a b : H) (held : List ℕ) (
 no_memory conduct a b held headers spans w A B r none told = by_known A.to_come refl
   where
     lacks : (s more : List ℕ) → s ≡ r.read.came ++ more → Lacks conduct a b B (record { head = r.stands.found.0; body = body_of A s }) → RunsOut conduct a (held ++ r.read.came) b
-    lacks s more e (inl stands) = inr (record { head = r.stands.found.0; body = body_of A s }, drop (spans.len + w) held, whole_request held headers spans w A B r s more none e, inl stands)
+    lacks s more e (inl stands) =
+        let is = whole_request held headers spans w A B r s more none e in
+        inr (record { head = r.stands.found.0; body = body_of A s }, drop (spans.len + w) held, is, inl (stands_over conduct a b r.stands.found.0 (held ++ r.read.came) _ is.head stands))
     lacks s more e (inr (end, left)) = inr (record { head = r.stands.found.0; body = body_of A s }, drop (spans.len + w) held, whole_request held headers spans w A B r s more none e, inr left)
 
     by_known : (o : Option (List ℕ)) → A.to_come ≡ o → IfSome o (λ _. AsksHandler conduct (record { a = a; b = b; input = A.to_come; input_after = B.to_come }) (record { held = held; headers = headers; spans = spans; content_length = w }) asked.NoMemory)
@@ -152,7 +161,7 @@ not_ended B more e some end =
     let none = none_wanted B.wanted (B.held ++ more) (subst (λ (o : Option (List ℕ)). IsAtEnd (option_map (λ y. padded B.wanted (B.held ++ y)) o)) e end) in
     omega arith
 
-stands_of : {H E : Type 0} (conduct : Conduct H) (a b : H) (request : Request) (result : Result Reply E) (left : Option (List ℕ)) → IsHandled conduct a request result left b → IfOk result (λ _. IsAtEnd left) → ¬ (IsAtEnd left) → StandsStill conduct a b
+stands_of : {H E : Type 0} (conduct : Conduct H) (a b : H) (request : Request) (result : Result Reply E) (left : Option (List ℕ)) → IsHandled conduct a request result left b → IfOk result (λ _. IsAtEnd left) → ¬ (IsAtEnd left) → StandsStill conduct a request.head b
 stands_of conduct a b request (Ok reply) left is whole on = absurd (on whole)
 stands_of conduct a b request (Err x) left (inl stands) whole on = stands
 stands_of conduct a b request (Err x) left (inr (end, leaves)) whole on = absurd (on end)
@@ -161,7 +170,7 @@ stands_of conduct a b request (Err x) left (inr (end, leaves)) whole on = absurd
 pub record IsLeft {H : Type 0} (conduct : Conduct H) (a b : H) (held came more : List ℕ) (input input_after : Option (List ℕ)) : Type 0 where
   pub before : input ≡ Some (came ++ more)
   pub after : input_after ≡ Some more
-  pub stands : StandsStill conduct a b
+  pub stands : StandsOver conduct a (held ++ came) b
 
 is_left : {H E : Type 0} (conduct : Conduct H) (a b : H) (held : List ℕ) (headers : List HeaderSpan) (spans : RequestSpans) (w : ℕ) (A B : BodyState) (r : Reading held headers spans w A B) (result : Result Reply E) (s : List ℕ)
     → A.to_come ≡ Some s → 0 < B.wanted → Told (λ request. IsHandled conduct a request result (option_map (λ y. padded B.wanted (B.held ++ y)) B.to_come) b) held headers spans A → IfOk result (λ _. IsAtEnd (option_map (λ y. padded B.wanted (B.held ++ y)) B.to_come))
@@ -172,12 +181,12 @@ is_left conduct a b held headers spans w A B r result s e some told whole =
       record {
         before = e ∙ ap Some k.2;
         after = k.1;
-        stands = stands_of conduct a b (record { head = r.stands.found.0; body = body_of A s }) result (option_map (λ y. padded B.wanted (B.held ++ y)) B.to_come) (told_at (λ request. IsHandled conduct a request result (option_map (λ y. padded B.wanted (B.held ++ y)) B.to_come) b) held headers spans w A B r s e told) whole (not_ended B k.0 k.1 some);
+        stands = stands_over conduct a b r.stands.found.0 (held ++ r.read.came) _ (HasHead-append held r.stands.found.0 (drop spans.len held) r.read.came (head_of held headers spans w r.stands)) (stands_of conduct a b (record { head = r.stands.found.0; body = body_of A s }) result (option_map (λ y. padded B.wanted (B.held ++ y)) B.to_come) (told_at (λ request. IsHandled conduct a request result (option_map (λ y. padded B.wanted (B.held ++ y)) B.to_come) b) held headers spans w A B r s e told) whole (not_ended B k.0 k.1 some));
       },
     )
 
 -- what came is a request that has not come whole, or one that has and was not given whole
-came_so : {H : Type 0} (conduct : Conduct H) (a b : H) (held : List ℕ) (headers : List HeaderSpan) (spans : RequestSpans) (w : ℕ) (A B : BodyState) (r : Reading held headers spans w A B) → StandsStill conduct a b → RunsOut conduct a (held ++ r.read.came) b
+came_so : {H : Type 0} (conduct : Conduct H) (a b : H) (held : List ℕ) (headers : List HeaderSpan) (spans : RequestSpans) (w : ℕ) (A B : BodyState) (r : Reading held headers spans w A B) → StandsOver conduct a (held ++ r.read.came) b → RunsOut conduct a (held ++ r.read.came) b
 came_so conduct a b held headers spans w A B r stands = by_length (cases_lt (length B.held) B.wanted)
   where
     given : take r.n (drop spans.len held) ++ r.read.came ≡ r.read.used ++ B.held
@@ -221,7 +230,7 @@ broken_short held headers spans w A B r fault off =
     (short_body (drop spans.len held) r.read.came r.read.used w r.n r.n_is
     (ap (λ (l : List ℕ). l ++ r.read.came) (sym r.held_is) ∙ r.read.given ∙ ap (λ (l : List ℕ). r.read.used ++ l) off.none_held ∙ append-nil r.read.used) (omega arith))
 
-broken_as : {H : Type 0} (conduct : Conduct H) (a b : H) (front : FrontHead) (came : List ℕ) (B : BodyState) (fault : BodyFault) (input : Option (List ℕ)) → HasBrokenOff B fault → StandsStill conduct a b → IsShort (front.held ++ came)
+broken_as : {H : Type 0} (conduct : Conduct H) (a b : H) (front : FrontHead) (came : List ℕ) (B : BodyState) (fault : BodyFault) (input : Option (List ℕ)) → HasBrokenOff B fault → StandsOver conduct a (front.held ++ came) b → IsShort (front.held ++ came)
     → IsAskedOver conduct (record { a = a; b = b; input = input; input_after = B.to_come }) (record { front = front; came = came }) (asked.Broken fault)
 broken_as conduct a b front came B faults.Short input off stands short = (stands, off.cause, short)
 broken_as conduct a b front came B faults.ReadFault input off stands short = (stands, inr short)

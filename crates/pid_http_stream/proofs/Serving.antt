@@ -4,7 +4,7 @@ use Rattle.std.specs.Prelude.{IfSome}
 use Rattle.std.specs.Io.KnownBytes.{Appends, Consumes, IsAtEnd}
 use Rattle.std.proofs.lemmas.List.{append-nil}
 use Rattle.std.proofs.KnownBytes.{Appends-nil, Appends-trans, Consumes-trans}
-use Rattle.pid_http_stream.specs.Conducts.{Conduct, StandsStill, AreReplies}
+use Rattle.pid_http_stream.specs.Conducts.{Conduct, StandsOver, AreReplies}
 use Rattle.pid_http_stream.specs.Endings.{HasFault}
 use Rattle.pid_http_stream.specs.Steps.Intakes.{ComesIn}
 use Rattle.pid_http_stream.specs.Leftovers.{IsLeftover}
@@ -142,7 +142,7 @@ front_of conduct o stream left held more count s e =
     subst (λ (l : List ℕ). AnswersFront conduct o l (held ++ more) count) (sym (subst (λ (k : Option (List ℕ)). Consumes (Some stream) k s.read) e s.consumed)) (front_append conduct o s.read held more count s.before)
 
 all_answered : {H : Type 0} (conduct : Conduct H) (a b c : H) (t u v : Option (List ℕ)) (stream rest : List ℕ) (ending : Ending) (tail : List ℕ) (count : ℕ)
-    → AnswersFront conduct (record { handler = a; handler_after = b; taken = t; taken_after = u }) stream rest count → EndsStream rest ending → RestsBehind conduct ending b c → Appends u v tail
+    → (f : AnswersFront conduct (record { handler = a; handler_after = b; taken = t; taken_after = u }) stream rest count) → EndsStream rest ending → RestsBehind conduct ending (Fronts stream f.requests) b c → Appends u v tail
     → AnswersAll conduct (record { handler = a; handler_after = c; taken = t; taken_after = v }) stream ending tail count
 all_answered conduct a b c t u v stream rest ending tail count f ends rests written = record {
   requests = f.requests;
@@ -183,11 +183,11 @@ steps_closed conduct a b c t u v stream mid after held behind count count_after 
       counts = count_snoc f.requests r.request count count_after f.counts counts;
     }
 
-rests_same : {H : Type 0} (conduct : Conduct H) (fault : StreamFault) (a : H) → RestsBehind conduct (faulty fault) a a
-rests_same conduct BadHead a = refl
-rests_same conduct Encoding a = refl
-rests_same conduct BodyTooLong a = refl
-rests_same conduct BodyShort a = inl refl
+rests_same : {H : Type 0} (conduct : Conduct H) (fault : StreamFault) (IsRest : List ℕ → Type 0) (rest : List ℕ) → IsRest rest → (a : H) → RestsBehind conduct (faulty fault) IsRest a a
+rests_same conduct BadHead IsRest rest is a = refl
+rests_same conduct Encoding IsRest rest is a = refl
+rests_same conduct BodyTooLong IsRest rest is a = refl
+rests_same conduct BodyShort IsRest rest is a = (rest, is, inl refl)
 
 breaks_off : {H : Type 0} (conduct : Conduct H) (a b c : H) (t u v : Option (List ℕ)) (stream rest bytes : List ℕ) (count : ℕ)
     → AnswersFront conduct (record { handler = a; handler_after = b; taken = t; taken_after = u }) stream rest count → IsWrittenNext conduct b rest bytes c → WritesFront u v bytes
@@ -198,10 +198,10 @@ breaks_off conduct a b c t u v stream rest bytes count f is written = record { r
 refused : {H : Type 0} (conduct : Conduct H) (a b : H) (t u v : Option (List ℕ)) (stream rest : List ℕ) (left : Option (List ℕ)) (count : ℕ) (fault : StreamFault) (end : StreamEnd)
     → AnswersFront conduct (record { handler = a; handler_after = b; taken = t; taken_after = u }) stream rest count → HasFault rest fault → WritesRefusal fault u v end
     → IsServed conduct (record { handler = a; handler_after = b; taken = t; taken_after = v }) stream left end (count_with end count)
-refused conduct a b t u v stream rest left count fault HeadFault f has (kind, written) = (fault, kind, count, all_answered conduct a b b t u v stream rest (faulty fault) _ count f has (rests_same conduct fault b) written, refl)
-refused conduct a b t u v stream rest left count fault BodyFault f has (kind, written) = (fault, kind, count, all_answered conduct a b b t u v stream rest (faulty fault) _ count f has (rests_same conduct fault b) written, refl)
+refused conduct a b t u v stream rest left count fault HeadFault f has (kind, written) = (fault, kind, count, all_answered conduct a b b t u v stream rest (faulty fault) _ count f has (rests_same conduct fault (Fronts stream f.requests) rest f.fronts b) written, refl)
+refused conduct a b t u v stream rest left count fault BodyFault f has (kind, written) = (fault, kind, count, all_answered conduct a b b t u v stream rest (faulty fault) _ count f has (rests_same conduct fault (Fronts stream f.requests) rest f.fronts b) written, refl)
 refused conduct a b t u v stream rest left count fault WriteFault f has written =
-    breaks_off conduct a b b t u v stream rest _ count f (inr (inr (fault, has, refl, rests_same conduct fault b))) written
+    breaks_off conduct a b b t u v stream rest _ count f (inr (inr (fault, has, refl, rests_same conduct fault (λ r. r ≡ rest) rest refl b))) written
 refused conduct a b t u v stream rest left count fault Clean f has r = absurd r
 refused conduct a b t u v stream rest left count fault Closed f has r = absurd r
 refused conduct a b t u v stream rest left count fault ReadFault f has r = absurd r
@@ -219,7 +219,7 @@ ends_refused conduct a b t u v stream left held count fault end s has r =
 
 stops_reading : {H : Type 0} (conduct : Conduct H) (a b c : H) (t u v : Option (List ℕ)) (stream : List ℕ) (left : Option (List ℕ)) (held : List ℕ) (count : ℕ)
     → IsServing conduct (record { handler = a; handler_after = b; taken = t; taken_after = u }) stream left held count
-    → StandsStill conduct b c → IsUnfinished held → v ≡ u
+    → StandsOver conduct b held c → IsUnfinished held → v ≡ u
     → StopsReading conduct (record { handler = a; handler_after = c; taken = t; taken_after = v }) stream left count
 stops_reading conduct a b c t u v stream left held count s stands waits same = record {
   read = s.read;
@@ -260,7 +260,8 @@ within conduct a b c t u v stream left came behind more count StoreFault s e (re
     record { rest = came ++ more; mid = b; taken = u; before = front_of conduct _ stream left came more count s e; request = request; behind = rest; is = is; cut = cut }
 within conduct a b c t u v stream left came behind more count WriteFault s e (bytes, is, written) = breaks_off conduct a b c t u v stream (came ++ more) bytes count (front_of conduct _ stream left came more count s e) is written
 within conduct a b c t u v stream left came behind more count BodyFault s e (has, stands, written) =
-    (BodyShort, refl, count, all_answered conduct a b c t u v stream (came ++ more) (faulty BodyShort) _ count (front_of conduct _ stream left came more count s e) has stands written, refl)
+    let f = front_of conduct _ stream left came more count s e in
+    (BodyShort, refl, count, all_answered conduct a b c t u v stream (came ++ more) (faulty BodyShort) _ count f has (came ++ more, f.fronts, stands) written, refl)
 within conduct a b c t u v stream left came behind more count ReadFault s e (stands, none, same) = stops_reading conduct a b c t u v stream left came count s stands none same
 within conduct a b c t u v stream left came behind more count TurnsSpent s e (stands, none, same) = stops_reading conduct a b c t u v stream left came count s stands none same
 within conduct a b c t u v stream left came behind more count Memory s e (after, same) = lacks_memory conduct a b c t u v stream left came count s after same

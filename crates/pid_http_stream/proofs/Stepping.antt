@@ -10,7 +10,7 @@ use Rattle.httparse.specs.declared.spans.RequestSpans.{RequestSpans}
 use Rattle.pid_file.specs.declared.io.ReadFault.{ReadFault}
 use Rattle.pid_file.specs.declared.io.WriteFault.{WriteFault}
 use Rattle.pid_http_stream.specs.Causes.{LastState, HasEndCause, EndsFor}
-use Rattle.pid_http_stream.specs.Conducts.{Conduct, StandsStill}
+use Rattle.pid_http_stream.specs.Conducts.{Conduct, StandsOver}
 use Rattle.pid_http_stream.specs.Connections.{asks_to_close}
 use Rattle.pid_http_stream.specs.Endings.{IsShort}
 use Rattle.pid_http_stream.specs.Handling.{MayReply}
@@ -76,9 +76,9 @@ memory_step conduct a b input left u held headers spans told asks = if_known inp
 no_more : (left : Option (List ℕ)) (came more : List ℕ) → left ≡ Some more → IsAtEnd left → came ++ more ≡ came
 no_more left came more e end = let none : more ≡ [] = subst IsAtEnd e end in ap (λ (l : List ℕ). came ++ l) none ∙ append-nil came
 
-short_ends : {H : Type 0} (conduct : Conduct H) (a b : H) (came behind all : List ℕ) (u v : Option (List ℕ)) (end : StreamEnd) → StandsStill conduct a b → IsShort all → WritesRefusal BodyShort u v end → EndsWithin conduct (record { handler = a; handler_after = b; taken = u; taken_after = v }) (record { came = came; behind = behind; all = all }) end
+short_ends : {H : Type 0} (conduct : Conduct H) (a b : H) (came behind all : List ℕ) (u v : Option (List ℕ)) (end : StreamEnd) → StandsOver conduct a all b → IsShort all → WritesRefusal BodyShort u v end → EndsWithin conduct (record { handler = a; handler_after = b; taken = u; taken_after = v }) (record { came = came; behind = behind; all = all }) end
 short_ends conduct a b came behind all u v ends.BodyFault stands short (kind, written) = (short, stands, written)
-short_ends conduct a b came behind all u v ends.WriteFault stands short written = (reply_bytes (fault_answer BodyShort) true, inr (inr (BodyShort, short, refl, stands)), written)
+short_ends conduct a b came behind all u v ends.WriteFault stands short written = (reply_bytes (fault_answer BodyShort) true, inr (inr (BodyShort, short, refl, (all, refl, stands))), written)
 short_ends conduct a b came behind all u v ends.HeadFault stands short (kind, written) = absurd (cc kind)
 short_ends conduct a b came behind all u v ends.Clean stands short r = absurd r
 short_ends conduct a b came behind all u v ends.Closed stands short r = absurd r
@@ -97,7 +97,7 @@ broken_step conduct a b input left u v held headers spans told faults.Short end 
       more = x.more;
       before = x.before;
       after = x.after;
-      is = short_ends conduct a b (held ++ x.came) (drop (spans.len + told) held) ((held ++ x.came) ++ x.more) u v end x.is.0 (subst IsShort (sym (no_more left (held ++ x.came) x.more x.after x.is.1)) x.is.2) r;
+      is = short_ends conduct a b (held ++ x.came) (drop (spans.len + told) held) ((held ++ x.came) ++ x.more) u v end (subst (λ (l : List ℕ). StandsOver conduct a l b) (sym (no_more left (held ++ x.came) x.more x.after x.is.1)) x.is.0) (subst IsShort (sym (no_more left (held ++ x.came) x.more x.after x.is.1)) x.is.2) r;
     }) asks
 broken_step conduct a b input left u v held headers spans told faults.ReadFault end asks (e, same) = if_known input _ _ (λ x.
     record {

@@ -26,7 +26,7 @@ abbrev pub IsHandled : {H E : Type 0} → Conduct H → H → Request → Result
     → Option (List ℕ) → H → Type 0
 IsHandled conduct a request result left b =
     MatchResult result (λ reply. MayReply conduct a request reply b)
-    (λ _. StandsStill conduct a b ⊎ (IsAtEnd left × conduct.leaves a request b))
+    (λ _. StandsStill conduct a request.head b ⊎ (IsAtEnd left × conduct.leaves a request b))
 
 -- the body was written whole; or a prefix of it
 abbrev pub WritesBody : {X E : Type 0} → Result X E → Option (List ℕ) → Option (List ℕ) → List ℕ

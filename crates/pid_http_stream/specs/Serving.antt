@@ -3,7 +3,7 @@
 use Rattle.std.specs.Prelude.{◌≡◌, ℕ, ◌+◌, ◌-◌, ◌^◌, ◌≤◌, ◌⊎◌, min, Bool, true, false, List, []}
 use Rattle.std.specs.Prelude.{◌++◌, length, take, Option, Some}
 use Rattle.std.specs.Io.KnownBytes.{Appends, Consumes}
-use Rattle.pid_http_stream.specs.Conducts.{Conduct, StandsStill, AreReplies}
+use Rattle.pid_http_stream.specs.Conducts.{Conduct, StandsOver, AreReplies}
 use Rattle.pid_http_stream.specs.Endings.{HasFault}
 use Rattle.pid_http_stream.specs.Moments.{Moment}
 use Rattle.pid_http_stream.specs.Replies.{Answer, answer_behind, reply_head, reply_bytes}
@@ -39,14 +39,16 @@ outside a b old new = record { handler = a; handler_after = b; taken = old; take
 abbrev pub WritesFront : Option (List ℕ) → Option (List ℕ) → List ℕ → Type 0
 WritesFront old new bytes = (n : ℕ) × (n ≤ length bytes) × Appends old new (take n bytes)
 
--- after the last request the handler is as it was; only if a body is short may it have been asked
-abbrev pub RestsBehind : {H : Type 0} → Conduct H → Ending → H → H → Type 0
-RestsBehind conduct clean a b = a ≡ b
-RestsBehind conduct closed a b = a ≡ b
-RestsBehind conduct (faulty BadHead) a b = a ≡ b
-RestsBehind conduct (faulty Encoding) a b = a ≡ b
-RestsBehind conduct (faulty BodyTooLong) a b = a ≡ b
-RestsBehind conduct (faulty BodyShort) a b = StandsStill conduct a b
+-- After the last request the handler is as it was. Only if a body is short may it have been asked,
+-- for the request with which the rest begins; this says which bytes are the rest.
+abbrev pub RestsBehind : {H : Type 0} → Conduct H → Ending → (List ℕ → Type 0) → H → H → Type 0
+RestsBehind conduct clean IsRest a b = a ≡ b
+RestsBehind conduct closed IsRest a b = a ≡ b
+RestsBehind conduct (faulty BadHead) IsRest a b = a ≡ b
+RestsBehind conduct (faulty Encoding) IsRest a b = a ≡ b
+RestsBehind conduct (faulty BodyTooLong) IsRest a b = a ≡ b
+RestsBehind conduct (faulty BodyShort) IsRest a b = (rest : List ℕ) × IsRest rest
+    × StandsOver conduct a rest b
 
 -- the whole stream was answered, and then this was written
 pub record AnswersAll {H : Type 0} (conduct : Conduct H) (o : Outside H) (stream : List ℕ)
@@ -56,7 +58,7 @@ pub record AnswersAll {H : Type 0} (conduct : Conduct H) (o : Outside H) (stream
   pub last : H
   pub splits : Splits stream requests ending
   pub answered : AreReplies conduct o.handler requests replies last
-  pub rests : RestsBehind conduct ending last o.handler_after
+  pub rests : RestsBehind conduct ending (Fronts stream requests) last o.handler_after
   pub written : Appends o.taken o.taken_after (replies ++ tail)
   pub counts : count ≡ saturated (length requests)
 
@@ -88,7 +90,7 @@ IsHeadNext conduct a rest bytes b =
 abbrev pub IsRefusalNext : {H : Type 0} → Conduct H → H → List ℕ → List ℕ → H → Type 0
 IsRefusalNext conduct a rest bytes b =
     (fault : StreamFault) × HasFault rest fault × (bytes ≡ reply_bytes (fault_answer fault) true)
-    × RestsBehind conduct (faulty fault) a b
+    × RestsBehind conduct (faulty fault) (λ r. r ≡ rest) a b
 
 -- these bytes are what is written next
 abbrev pub IsWrittenNext : {H : Type 0} → Conduct H → H → List ℕ → List ℕ → H → Type 0
@@ -146,16 +148,16 @@ pub record StopsReading {H : Type 0} (conduct : Conduct H) (o : Outside H) (stre
   pub last : H
   pub before : AnswersFront conduct
       (outside o.handler last o.taken o.taken_after) read rest count
-  pub stands : StandsStill conduct last o.handler_after
+  pub stands : StandsOver conduct last rest o.handler_after
   pub none : HasNoRequest rest
   pub unfinished : IsUnfinished rest
 
 -- memory ran out over what had come: a request that had not come whole, or one that had, for which
 -- the handler may have run out of it
 abbrev pub RunsOut : {H : Type 0} → Conduct H → H → List ℕ → H → Type 0
-RunsOut conduct a came b = (IsUnfinished came × StandsStill conduct a b)
+RunsOut conduct a came b = (IsUnfinished came × StandsOver conduct a came b)
     ⊎ ((request : Request) × (behind : List ℕ) × IsRequest came request behind
-    × (StandsStill conduct a b ⊎ conduct.leaves a request b))
+    × (StandsOver conduct a came b ⊎ conduct.leaves a request b))
 
 -- what was read of the stream is the requests that were answered, and a rest over which memory ran
 -- out: nothing that is refused

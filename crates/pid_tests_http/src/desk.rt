@@ -78,7 +78,7 @@ impl Handler for Desk {
     ghost conduct = { record {
       answers = λ a request answer b. ⊤;
       leaves = λ a request b. ⊤;
-      gives_up = λ a b. ⊤;
+      gives_up = λ a head b. ⊤;
       promises = λ a request head told b. ⊤;
     } };
 

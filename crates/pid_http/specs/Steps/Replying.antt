@@ -30,7 +30,7 @@ use Rattle.pid_http_replies.specs.Outcomes.{outcome_answer}
 use Rattle.pid_http.specs.Errands.{Errand}
 use Rattle.pid_http.specs.Known.{Known, Live, Between, Down}
 use Rattle.pid_http.specs.Steps.Going.{Goes}
-use Rattle.pid_http.specs.Serving.{AreQuestions, IsErrandMet, IsPromised}
+use Rattle.pid_http.specs.Serving.{AreQuestions, IsErrandMet, IsPromised, most_questions}
 
 -- a sender by its bytes
 abbrev pub sending_of : Sender → Sending
@@ -91,7 +91,7 @@ abbrev pub IsMetBehind : {E : Type 0} → Known → Errand → Result Reply E �
 IsMetBehind k errand result left calls now =
     MatchResult result
     (λ reply. IsBodyMet k errand reply.head reply.body calls now)
-    (λ _. (AreQuestions 1 calls × (k ≡ now))
+    (λ _. (AreQuestions (most_questions errand) calls × (k ≡ now))
     ⊎ (IsAtEnd left × ((given : Answer) × IsErrandMet k errand given calls now)))
 
 -- what comes of it

@@ -6,7 +6,7 @@ use Rattle.httparse.specs.Spans.{IsRequestAt}
 use Rattle.httparse.specs.declared.spans.HeaderSpan.{HeaderSpan}
 use Rattle.httparse.specs.declared.spans.RequestSpans.{RequestSpans}
 use Rattle.pid_http_stream.specs.Causes.{LastState, EndsFor}
-use Rattle.pid_http_stream.specs.Conducts.{Conduct, StandsStill}
+use Rattle.pid_http_stream.specs.Conducts.{Conduct, StandsOver}
 use Rattle.pid_http_stream.specs.Endings.{HasFault, IsShort}
 use Rattle.pid_http_stream.specs.Handling.{MayReply}
 use Rattle.pid_http_stream.specs.Replies.{Answer, reply_head, reply_bytes, fault_answer}
@@ -83,12 +83,12 @@ IsAskedOver conduct o c (asked.Reply reply) = (request : Request) × HasCome c r
     × IsRequestAt c.front.held c.front.headers c.front.spans request.head
     × MayReply conduct o.a request reply o.b
 IsAskedOver conduct o c asked.NoMemory = RunsOut conduct o.a (c.front.held ++ c.came) o.b
-IsAskedOver conduct o c (asked.Broken faults.Short) = StandsStill conduct o.a o.b
-    × IsAtEnd o.input_after × IsShort (c.front.held ++ c.came)
-IsAskedOver conduct o c (asked.Broken faults.ReadFault) = StandsStill conduct o.a o.b
-    × IsUnfinished (c.front.held ++ c.came)
-IsAskedOver conduct o c (asked.Broken faults.TurnsSpent) = StandsStill conduct o.a o.b
-    × IsUnfinished (c.front.held ++ c.came)
+IsAskedOver conduct o c (asked.Broken faults.Short) =
+    StandsOver conduct o.a (c.front.held ++ c.came) o.b × IsAtEnd o.input_after × IsShort (c.front.held ++ c.came)
+IsAskedOver conduct o c (asked.Broken faults.ReadFault) =
+    StandsOver conduct o.a (c.front.held ++ c.came) o.b × IsUnfinished (c.front.held ++ c.came)
+IsAskedOver conduct o c (asked.Broken faults.TurnsSpent) =
+    StandsOver conduct o.a (c.front.held ++ c.came) o.b × IsUnfinished (c.front.held ++ c.came)
 
 -- the handler was asked, and this came for the body
 pub record AsksHandler {H : Type 0} (conduct : Conduct H) (o : Around H) (front : FrontHead)
@@ -168,8 +168,8 @@ pub record IsReplied {H : Type 0} (conduct : Conduct H) (o : Outside H) (p : Por
 
 -- no request was answered, and nothing written, while one had not come whole
 abbrev pub WaitsWithin : {H : Type 0} → Conduct H → Outside H → Portion → Type 0
-WaitsWithin conduct o p = StandsStill conduct o.handler o.handler_after × IsUnfinished p.came
-    × (o.taken_after ≡ o.taken)
+WaitsWithin conduct o p = StandsOver conduct o.handler p.came o.handler_after
+    × IsUnfinished p.came × (o.taken_after ≡ o.taken)
 
 -- the stream ends within a request
 abbrev pub EndsWithin : {H : Type 0} → Conduct H → Outside H → Portion → StreamEnd → Type 0
@@ -180,7 +180,7 @@ EndsWithin conduct o p ends.WriteFault = (bytes : List ℕ)
     × IsWrittenNext conduct o.handler p.all bytes o.handler_after
     × WritesFront o.taken o.taken_after bytes
 EndsWithin conduct o p ends.BodyFault = HasFault p.all BodyShort
-    × StandsStill conduct o.handler o.handler_after
+    × StandsOver conduct o.handler p.all o.handler_after
     × Appends o.taken o.taken_after (reply_bytes (fault_answer BodyShort) true)
 EndsWithin conduct o p ends.ReadFault = WaitsWithin conduct o p
 EndsWithin conduct o p ends.TurnsSpent = WaitsWithin conduct o p

@@ -1,3 +1,4 @@
+use Rattle.std.proofs.Common.{arith}
 use Rattle.pid_service.specs.Files.{file_reading}
 use Rattle.pid_moderation.specs.BeforeFile.{import_of}
 use Rattle.pid_http.specs.Errands.{Obeys}
@@ -17,7 +18,7 @@ returns-in-Err-Refused-clause-replied g c =
 pub returns-in-Err-Body-clause-replied : goal.returns-in-Err-Body-clause-replied
 returns-in-Err-Body-clause-replied g c =
     let e = c.in-Err-Body.ensures in
-    gave_up _ _ _ c.in-Err-Body.field-0 c.args.account c.args.key _ _ (λ file. Obeys (import_of c.args.account c.args.key (file_reading file)) c.args.format) c.in-Err-Body.field-0-is c.clauses_meet_lives.ensures.imports e.clean e.failed e.obeyed
+    gave_up _ _ _ c.in-Err-Body.field-0 c.args.account c.args.key _ _ (λ file. Obeys (import_of c.args.account c.args.key (file_reading file)) c.args.format) (λ file. omega arith) c.in-Err-Body.field-0-is c.clauses_meet_lives.ensures.imports e.clean e.failed e.obeyed
 
 pub returns-in-Ok-clause-goes : goal.returns-in-Ok-clause-goes
 returns-in-Ok-clause-goes g c = c.in-Ok.ensures.reads.goes
