@@ -111,6 +111,6 @@ goes_fault a b e r is goes = record { survives = goes.survives; was_open = goes.
 pub goes_fault_after : {X Y Z : Type 0} (a b c : State) (x : X) (e : TableFault) (r : Result Z TableFault) → IsErrAnd r (λ y. y ≡ e) → GoesOn {E = TableFault} a b (Ok x) → GoesOn {X = Y} b c (Err e) → GoesOn a c r
 goes_fault_after a b c x e r is one two = goes_fault a c e r is (goes_then a b c x (Err e) one two)
 
--- a fault of one's own, after a call that answered a value
-pub goes_lost : {X Y : Type 0} (a b : State) (x : X) (e : TableFault) (r : Result Y TableFault) → IsErrAnd r (λ y. y ≡ e) → GoesOn {E = TableFault} a b (Ok x) → GoesOn a b r
-goes_lost a b x e r is goes = record { survives = goes.survives; was_open = goes.was_open; committed = goes.committed; going = λ clean inside. not_on_ok r e _ is }
+-- whatever is answered after a call that answered a value
+pub goes_still : {X Y : Type 0} (a b : State) (x : X) (r : Result Y TableFault) → GoesOn {E = TableFault} a b (Ok x) → GoesOn a b r
+goes_still a b x r goes = record { survives = goes.survives; was_open = goes.was_open; committed = goes.committed; going = λ clean inside. known r (goes.going clean inside) }

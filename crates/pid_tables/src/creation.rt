@@ -11,7 +11,6 @@ ghost use Rattle.std.specs.Prelude.{
   IfErr,
   MatchResult,
   IsTrue,
-  codes,
 };
 ghost use Rattle.sqlite.specs.declared.types.Value.TheVariants.{Text};
 ghost use Rattle.sqlite.specs.Listing.{understood};
@@ -27,6 +26,7 @@ ghost use Rattle.pid_tables.specs.Statements.{Carries, new_label_text, registry_
 ghost use Rattle.pid_tables.specs.Steps.MakingTables.{
   making,
   Creates,
+  CreatesInTurn,
   IsMakerOf,
   IsTextRefused,
   HasOnlyMeta,
@@ -38,11 +38,7 @@ ghost use Rattle.pid_tables.specs.Steps.Making.{
   MakesRegistry,
   all_statements,
   all_tables,
-  first_statements,
-  first_tables,
   label_statements,
-  rest_statements,
-  six_tables,
 };
 ghost use Rattle.pid_tables_rows.specs.Clauses.{
   AtRest,
@@ -113,31 +109,30 @@ fn make_table<S: Alter>(tx: &mut Transaction<'_, S>, sql: &str) -> Result<(), Ta
     write_one(tx, sql, &[])
 }
 
-fn make_first<S: Alter>(tx: &mut Transaction<'_, S>) -> Result<(), TableFault>
+// Makes three tables in turn.
+fn make_three<S: Alter>(
+    tx: &mut Transaction<'_, S>,
+    first: &str,
+    second: &str,
+    third: &str,
+) -> Result<(), TableFault>
     ensures same_reference { tx.new.conn.ghost_name ≡ tx.old.conn.ghost_name }
     ensures goes { GoesOn S.Store tx.old.conn.now tx.new.conn.now result }
-    ensures made { Makes S.Store tx.old.conn.now tx.new.conn.now result [] first_tables }
-    ensures takes { Takes S.Store tx.old.conn.now tx.new.conn.now result
-        (codes "meta" ∷ codes "account" ∷ codes "item" ∷ []) }
-    ensures met { FindsTables S.Store tx.old.conn.now tx.new.conn.now result }
-    ensures carried { CarriesOut S.Store tx.old.conn.now tx.new.conn.now result first_statements }
+    ensures made { (before : List Table) (a b c : Table)
+        → CreatesInTurn before ((first.now, a) ∷ (second.now, b) ∷ (third.now, c) ∷ [])
+        → Makes S.Store tx.old.conn.now tx.new.conn.now result before
+        (((before ++ a ∷ []) ++ b ∷ []) ++ c ∷ []) }
+    ensures takes { (a b c : List ℕ) → IsMakerOf first.now a → IsMakerOf second.now b
+        → IsMakerOf third.now c
+        → Takes S.Store tx.old.conn.now tx.new.conn.now result (a ∷ b ∷ c ∷ []) }
+    ensures met { IsTextRefused (understood pid_schema first.now)
+        → FindsTables S.Store tx.old.conn.now tx.new.conn.now result }
+    ensures carried { CarriesOut S.Store tx.old.conn.now tx.new.conn.now result
+        ((first.now, []) ∷ (second.now, []) ∷ (third.now, []) ∷ []) }
 {
-    make_table(tx, META)?;
-    make_table(tx, ACCOUNT)?;
-    make_table(tx, ITEM)
-}
-
-fn make_rest<S: Alter>(tx: &mut Transaction<'_, S>) -> Result<(), TableFault>
-    ensures same_reference { tx.new.conn.ghost_name ≡ tx.old.conn.ghost_name }
-    ensures goes { GoesOn S.Store tx.old.conn.now tx.new.conn.now result }
-    ensures made { Makes S.Store tx.old.conn.now tx.new.conn.now result first_tables six_tables }
-    ensures takes { Takes S.Store tx.old.conn.now tx.new.conn.now result
-        (codes "submission" ∷ codes "remark" ∷ codes "receipt" ∷ []) }
-    ensures carried { CarriesOut S.Store tx.old.conn.now tx.new.conn.now result rest_statements }
-{
-    make_table(tx, SUBMISSION)?;
-    make_table(tx, REMARK)?;
-    make_table(tx, RECEIPT)
+    make_table(tx, first)?;
+    make_table(tx, second)?;
+    make_table(tx, third)
 }
 
 fn make_tables<S: Alter>(tx: &mut Transaction<'_, S>) -> Result<(), TableFault>
@@ -148,8 +143,8 @@ fn make_tables<S: Alter>(tx: &mut Transaction<'_, S>) -> Result<(), TableFault>
     ensures met { FindsTables S.Store tx.old.conn.now tx.new.conn.now result }
     ensures carried { CarriesOut S.Store tx.old.conn.now tx.new.conn.now result all_statements }
 {
-    make_first(tx)?;
-    make_rest(tx)?;
+    make_three(tx, META, ACCOUNT, ITEM)?;
+    make_three(tx, SUBMISSION, REMARK, RECEIPT)?;
     make_table(tx, ITEM_SINCE)
 }
 

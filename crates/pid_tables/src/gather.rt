@@ -3,12 +3,10 @@ ghost use Rattle.std.specs.Prelude.{◌≡◌, false, length};
 ghost use Rattle.pid_ident.specs.PathReading.{parent_text};
 ghost use Rattle.pid_ident.specs.PathTexts.{path_text};
 ghost use Rattle.pid_moderation.specs.FactsOfViews.{
-  kept_in as kept_for,
   named as named_in,
   known as known_of,
   looked_at,
   with_item_facts,
-  facts_at,
 };
 ghost use Rattle.pid_moderation.specs.Items.{name_at, holds_parent, has_children as are_children};
 ghost use Rattle.pid_moderation.specs.Wants.{wanted_by};
@@ -28,30 +26,16 @@ use pid_tables_rows::submission::standing;
 use sqlite::{Alter, Connection};
 use std::alloc::Global;
 
-fn kept<S: Alter>(
-    conn: &mut Connection<S>,
-    account: &Account,
-    key: &Option<Key>,
-) -> Result<Option<Reply>, TableFault>
-    requires { conn.old.in_transaction ≡ false }
-    ensures { Reads S.Store conn.old conn.new result
-        (λ v reply. reply ≡ kept_for v account.now key.now) }
-{
-    match key {
-        None => Ok(None),
-        Some(key) => kept_reply(conn, account.as_str(), key.as_str()),
-    }
-}
-
 // What is known of every command.
 #[derive(Clone, Copy)]
-struct KnownFacts {
+pub(crate) struct KnownFacts {
     rank: Option<Rank>,
     kept: Option<Reply>,
     revision: u64,
 }
 
-fn known<S: Alter>(
+/// What is known of every command of the account under the key.
+pub(crate) fn known<S: Alter>(
     conn: &mut Connection<S>,
     account: &Account,
     key: &Option<Key>,
@@ -62,7 +46,14 @@ fn known<S: Alter>(
 {
     let rank = rank(conn, account.as_str())?;
     let revision = revision(conn)?;
-    let kept = kept(conn, account, key)?;
+    let Some(key) = key else {
+        return Ok(KnownFacts {
+            rank,
+            kept: None,
+            revision,
+        });
+    };
+    let kept = kept_reply(conn, account.as_str(), key.as_str())?;
     Ok(KnownFacts {
         rank,
         kept,
@@ -222,8 +213,8 @@ fn item_facts<S: Alter>(
     }
 }
 
-// The facts by what is known and the rows that are named.
-fn with_rows<S: Alter>(
+/// The facts by what is known and the rows that are named.
+pub(crate) fn with_rows<S: Alter>(
     conn: &mut Connection<S>,
     alloc: Global,
     rows: Rows<'_>,
@@ -250,21 +241,4 @@ fn with_rows<S: Alter>(
         Rows::Item(number) => item_facts(conn, alloc, number, known),
         Rows::Nothing => Ok(plain_facts(known, None, 0, None)),
     }
-}
-
-/// The facts that a command of the account under the key is judged by, as far as they are rows.
-pub(crate) fn gather_facts<S: Alter>(
-    conn: &mut Connection<S>,
-    alloc: Global,
-    account: &Account,
-    key: &Option<Key>,
-    rows: Rows<'_>,
-) -> Result<Facts, TableFault>
-    requires { conn.old.in_transaction ≡ false }
-    ensures { Reads S.Store conn.old conn.new result
-        (λ v facts. AllItems v.items → HoldsParents v.items
-        → facts ≡ facts_at v account.now key.now (wanted_by rows.entry)) }
-{
-    let known = known(conn, account, key)?;
-    with_rows(conn, alloc, rows, known)
 }

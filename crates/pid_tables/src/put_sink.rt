@@ -99,28 +99,13 @@ fn one_more(count: u32) -> Result<u32, TableFault>
 fn tally_with(put: Put, tally: Tally) -> Result<Tally, TableFault>
     ensures { IfOk result (λ t. t ≡ tallied put tally) }
 {
-    let Tally {
-        added,
-        renamed,
-        same,
-    } = tally;
+    let mut tally = tally;
     match put {
-        Put::Added => Ok(Tally {
-            added: one_more(added)?,
-            renamed,
-            same,
-        }),
-        Put::Renamed => Ok(Tally {
-            added,
-            renamed: one_more(renamed)?,
-            same,
-        }),
-        Put::Same => Ok(Tally {
-            added,
-            renamed,
-            same: one_more(same)?,
-        }),
+        Put::Added => tally.added = one_more(tally.added)?,
+        Put::Renamed => tally.renamed = one_more(tally.renamed)?,
+        Put::Same => tally.same = one_more(tally.same)?,
     }
+    Ok(tally)
 }
 
 impl<K: Putter> Sink for PutSink<'_, K, Global> {

@@ -1,8 +1,9 @@
 //! Items of a file, put one by one within a transaction.
-ghost use Rattle.std.specs.Prelude.{◌≡◌};
+ghost use Rattle.std.specs.Prelude.{◌≡◌, ℕ, List, Ok, Option, option_map, slice_get};
 ghost use Rattle.pid_moderation.specs.Items.{name_at};
 ghost use Rattle.pid_tables.specs.Puts.{put_over};
 ghost use Rattle.pid_tables.specs.Steps.Clauses.{TellsWithin};
+ghost use Rattle.pid_tables_rows.specs.Steps.Answers.{name_row};
 ghost use Rattle.pid_tables_rows.specs.Writes.{with_name};
 ghost use Rattle.pid_tables_rows.specs.Clauses.{ChangesTo, GoesOn};
 
@@ -11,7 +12,7 @@ use pid_tables_rows::item::{add_item, rename_item};
 use pid_tables_rows::run::read_inside;
 use pid_tables_rows::value::is_text_at;
 use sqlite::types::ToSql;
-use sqlite::{Alter, Transaction};
+use sqlite::{Alter, Row, Transaction};
 
 /// What a name that was put at a path was to it.
 #[derive(Clone, Copy, PartialEq, Eq)]
@@ -22,6 +23,21 @@ pub enum Put {
     Renamed,
     /// The item had the name already.
     Same,
+}
+
+// What a name is to the row that was found at its path.
+fn put_by(rows: &[Row], name: &str) -> Result<Put, TableFault>
+    ensures { (found : Option (List ℕ)) → slice_get rows.now 0 ≡ option_map name_row found
+        → result ≡ Ok (put_over name.now found) }
+{
+    let Some(row) = rows.first() else {
+        return Ok(Put::Added);
+    };
+    match is_text_at(row, 0, name) {
+        Ok(true) => Ok(Put::Same),
+        Ok(false) => Ok(Put::Renamed),
+        Err(fault) => Err(fault),
+    }
 }
 
 fn compare<S: Alter>(
@@ -38,16 +54,7 @@ fn compare<S: Alter>(
 {
     let path = path.to_sql();
     let rows = read_inside(batch, "SELECT name FROM item WHERE path = ?1", &[path])?;
-    match rows.first() {
-        None => Ok(Put::Added),
-        Some(row) => {
-            if is_text_at(row, 0, name)? {
-                Ok(Put::Same)
-            } else {
-                Ok(Put::Renamed)
-            }
-        }
-    }
+    put_by(rows.as_slice(), name)
 }
 
 pub(crate) fn put_text<S: Alter>(

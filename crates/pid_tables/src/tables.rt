@@ -45,7 +45,7 @@ ghost use Rattle.pid_tables_rows.specs.Clauses.{
 ghost use Rattle.pid_tables_lists.specs.Clauses.{IsCausedEnd};
 ghost use Rattle.pid_tables.specs.Clauses.{TellsSchema};
 
-use crate::gather::{gather_facts, name_of};
+use crate::gather::{known, name_of, with_rows};
 use pid_ident::{Account, Key, Name, Path};
 use pid_moderation::{Changes, Discussion, Facts, Item, PAGE, Pending, Rows};
 use pid_reader::Sink;
@@ -191,7 +191,8 @@ impl<S: Alter + Drop> Tables<S> {
             (λ v facts. AllItems v.items → HoldsParents v.items
             → facts ≡ facts_at v account.now key.now (wanted_by rows.entry)) }
     {
-        gather_facts(&mut self.conn, alloc, account, key, rows)
+        let known = known(&mut self.conn, account, key)?;
+        with_rows(&mut self.conn, alloc, rows, known)
     }
 
     /// The schema of the tables, if they are those of some registry, and `None` if there is no

@@ -18,16 +18,7 @@ use Rattle.pid_tables.specs.Statements as texts
 use Rattle.pid_tables.specs.Statements.{Statement, CarriedOut, new_label_text, new_account_text}
 use Rattle.pid_tables.specs.Steps.MakingTables.{HasOnlyMeta}
 
--- the tables that are made first
-abbrev pub first_tables : List Table
-first_tables = tables.meta ∷ tables.account ∷ tables.item ∷ []
-
--- with the next ones
-abbrev pub six_tables : List Table
-six_tables = tables.meta ∷ tables.account ∷ tables.item ∷ tables.submission ∷ tables.remark
-    ∷ tables.receipt ∷ []
-
--- all of them
+-- all tables
 abbrev pub all_tables : List Table
 all_tables = tables.meta ∷ tables.account ∷ tables.item ∷ tables.submission ∷ tables.remark
     ∷ tables.receipt ∷ tables.item_since ∷ []

@@ -1,6 +1,6 @@
 -- Tables on their way: the first of the seven are made, and have no rows. Serves private functions
 -- alone; no promise rests on it.
-use Rattle.std.specs.Prelude.{◌≡◌, ℕ, true, false, List, [], None, Some, if◌then◌else◌, IsTrue}
+use Rattle.std.specs.Prelude.{◌≡◌, ℕ, true, false, List, [], ◌∷◌, ◌++◌, None, Some, if◌then◌else◌, IsTrue}
 use Rattle.std.specs.Prelude.{Result, Ok, Err, MatchResult}
 use Rattle.std.specs.Str.{bytes_eq}
 use Rattle.std.specs.List.{AllByRecursion}
@@ -39,6 +39,12 @@ pub record Creates (so_far : List Table) (text : List ℕ) (table : Table) : Typ
   pub defined : table_defined_by text ≡ Ok (record table { tree = 0 })
   pub tree : next_tree (making so_far) ≡ table.tree
   pub alone : lacks_sequence (created (making so_far) (record table { tree = 0 })) ≡ false
+
+-- the texts make these tables, one after the other
+abbrev pub CreatesInTurn : List Table → List (List ℕ × Table) → Type 0
+CreatesInTurn so_far [] = Unit {0}
+CreatesInTurn so_far ((text, table) ∷ more) = Creates so_far text table
+    × ((making so_far).tables ≡ so_far) × CreatesInTurn (so_far ++ table ∷ []) more
 
 -- A step of the making, inside a transaction: if the first of these are made it answers a value
 -- only with the others made, and a fault only if there is no memory, or if the store failed

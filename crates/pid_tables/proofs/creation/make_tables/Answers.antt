@@ -7,81 +7,88 @@ use Rattle.pid_tables_rows.proofs.GoingLemmas.{earlier, goes_then}
 use Rattle.pid_tables.specs.Creation.{IsFaultOfTaken}
 use Rattle.pid_tables.specs.Statements.{item_since_text}
 use Rattle.pid_tables.specs.Steps.Making.{first_statements, rest_statements}
+use Rattle.pid_tables.specs.Steps.MakingTables.{CreatesInTurn}
 use Rattle.pid_tables.proofs.Carrying.{carried_both, carried_then}
-use Rattle.pid_tables.proofs.CreateTexts.{item_since_creates}
-use Rattle.pid_tables.proofs.MakerTexts.{item_since_maker}
+use Rattle.pid_tables.proofs.CreateTexts.{create_meta, create_account, create_item, create_submission, create_remark, create_receipt, meta_creates, account_creates, item_creates, submission_creates, remark_creates, receipt_creates, item_since_creates}
+use Rattle.pid_tables.proofs.MakerTexts.{meta_maker, account_maker, item_maker, submission_maker, remark_maker, receipt_maker, item_since_maker, meta_met}
 use Rattle.pid_tables.proofs.MetLemmas.{took_then, took_both}
 use Rattle.pid_tables.proofs.MoveLemmas.{goes_fault, goes_fault_after, not_on_ok}
 use Rattle.pid_tables.proofs.creation.make_tables.Goals as goal
 
-pub returns-in_err-make_first-clause-made : goal.returns-in_err-make_first-clause-made
-returns-in_err-make_first-clause-made g c clean inside made = passed_on c.from_residual.result _ _ IsMemoryOrStore c.from_residual.ensures.1 (c.in_err-make_first.ensures.made clean inside made)
+first_made : CreatesInTurn [] ((create_meta, meta) ∷ (create_account, account) ∷ (create_item, item) ∷ [])
+first_made = (meta_creates, refl, (account_creates, refl, (item_creates, refl, tt)))
 
-pub returns-in_err-make_rest-clause-made : goal.returns-in_err-make_rest-clause-made
-returns-in_err-make_rest-clause-made g c clean inside made =
-    let first = earlier (state g.S.Store c.make_first.new.tx.conn.now) (state g.S.Store c.make_rest.new.tx.conn.now) c.make_rest.ensures.goes.survives clean in
-    let one = c.in_ok-make_first.ensures in
-    passed_on c.from_residual-in_err-make_rest.result _ _ IsMemoryOrStore c.from_residual-in_err-make_rest.ensures.1
-    (c.in_err-make_rest.ensures.made clean (one.goes.going first inside).1 (λ opened. one.made first inside made))
+next_made : CreatesInTurn (meta ∷ account ∷ item ∷ []) ((create_submission, submission) ∷ (create_remark, remark) ∷ (create_receipt, receipt) ∷ [])
+next_made = (submission_creates, refl, (remark_creates, refl, (receipt_creates, refl, tt)))
+
+pub returns-in_err-make_three-clause-made : goal.returns-in_err-make_three-clause-made
+returns-in_err-make_three-clause-made g c clean inside made = passed_on c.from_residual.result _ _ IsMemoryOrStore c.from_residual.ensures.1 (c.in_err-make_three.ensures.made [] meta account item first_made clean inside made)
+
+pub returns-in_err-make_three-2-clause-made : goal.returns-in_err-make_three-2-clause-made
+returns-in_err-make_three-2-clause-made g c clean inside made =
+    let first = earlier (state g.S.Store c.make_three.new.tx.conn.now) (state g.S.Store c.make_three-2.new.tx.conn.now) c.make_three-2.ensures.goes.survives clean in
+    let one = c.in_ok-make_three.ensures in
+    passed_on c.from_residual-in_err-make_three-2.result _ _ IsMemoryOrStore c.from_residual-in_err-make_three-2.ensures.1
+    (c.in_err-make_three-2.ensures.made (meta ∷ account ∷ item ∷ []) submission remark receipt next_made clean (one.goes.going first inside).1 (λ opened. one.made [] meta account item first_made first inside made))
 
 pub returns-clause-made : goal.returns-clause-made
 returns-clause-made g c clean inside made =
-    let second = earlier (state g.S.Store c.make_rest.new.tx.conn.now) (state g.S.Store c.make_table.new.tx.conn.now) c.make_table.ensures.goes.survives clean in
-    let first = earlier (state g.S.Store c.make_first.new.tx.conn.now) (state g.S.Store c.make_rest.new.tx.conn.now) c.make_rest.ensures.goes.survives second in
-    let one = c.in_ok-make_first.ensures in
-    let two = c.in_ok-make_rest.ensures in
+    let second = earlier (state g.S.Store c.make_three-2.new.tx.conn.now) (state g.S.Store c.make_table.new.tx.conn.now) c.make_table.ensures.goes.survives clean in
+    let first = earlier (state g.S.Store c.make_three.new.tx.conn.now) (state g.S.Store c.make_three-2.new.tx.conn.now) c.make_three-2.ensures.goes.survives second in
+    let one = c.in_ok-make_three.ensures in
+    let two = c.in_ok-make_three-2.ensures in
     let within = (one.goes.going first inside).1 in
     c.make_table.ensures.made (meta ∷ account ∷ item ∷ submission ∷ remark ∷ receipt ∷ []) item_since item_since_creates refl clean (two.goes.going second within).1
-    (λ opened. two.made second within (λ opened. one.made first inside made))
+    (λ opened. two.made (meta ∷ account ∷ item ∷ []) submission remark receipt next_made second within (λ opened. one.made [] meta account item first_made first inside made))
 
-pub returns-in_err-make_first-clause-takes : goal.returns-in_err-make_first-clause-takes
-returns-in_err-make_first-clause-takes g c clean inside = passed_on c.from_residual.result _ _ IsNotNewerSchema c.from_residual.ensures.1 (c.in_err-make_first.ensures.takes clean inside)
+pub returns-in_err-make_three-clause-takes : goal.returns-in_err-make_three-clause-takes
+returns-in_err-make_three-clause-takes g c clean inside = passed_on c.from_residual.result _ _ IsNotNewerSchema c.from_residual.ensures.1 (c.in_err-make_three.ensures.takes (codes "meta") (codes "account") (codes "item") meta_maker account_maker item_maker clean inside)
 
-pub returns-in_err-make_rest-clause-takes : goal.returns-in_err-make_rest-clause-takes
-returns-in_err-make_rest-clause-takes g c clean inside =
-    let first = earlier (state g.S.Store c.make_first.new.tx.conn.now) (state g.S.Store c.make_rest.new.tx.conn.now) c.make_rest.ensures.goes.survives clean in
-    passed_on c.from_residual-in_err-make_rest.result _ _ IsNotNewerSchema c.from_residual-in_err-make_rest.ensures.1 (c.in_err-make_rest.ensures.takes clean (c.in_ok-make_first.ensures.goes.going first inside).1)
+pub returns-in_err-make_three-2-clause-takes : goal.returns-in_err-make_three-2-clause-takes
+returns-in_err-make_three-2-clause-takes g c clean inside =
+    let first = earlier (state g.S.Store c.make_three.new.tx.conn.now) (state g.S.Store c.make_three-2.new.tx.conn.now) c.make_three-2.ensures.goes.survives clean in
+    passed_on c.from_residual-in_err-make_three-2.result _ _ IsNotNewerSchema c.from_residual-in_err-make_three-2.ensures.1 (c.in_err-make_three-2.ensures.takes (codes "submission") (codes "remark") (codes "receipt") submission_maker remark_maker receipt_maker clean (c.in_ok-make_three.ensures.goes.going first inside).1)
 
 pub returns-clause-takes : goal.returns-clause-takes
 returns-clause-takes g c clean inside =
     let a = state g.S.Store c.args.tx.now.conn.now in
-    let b = state g.S.Store c.make_first.new.tx.conn.now in
-    let d = state g.S.Store c.make_rest.new.tx.conn.now in
+    let b = state g.S.Store c.make_three.new.tx.conn.now in
+    let d = state g.S.Store c.make_three-2.new.tx.conn.now in
     let e = state g.S.Store c.make_table.new.tx.conn.now in
     let second = earlier d e c.make_table.ensures.goes.survives clean in
-    let first = earlier b d c.make_rest.ensures.goes.survives second in
-    let one = c.in_ok-make_first.ensures in
-    let two = c.in_ok-make_rest.ensures in
+    let first = earlier b d c.make_three-2.ensures.goes.survives second in
+    let one = c.in_ok-make_three.ensures in
+    let two = c.in_ok-make_three-2.ensures in
     let within = (one.goes.going first inside).1 in
     took_then (codes "meta" ∷ codes "account" ∷ codes "item" ∷ codes "submission" ∷ codes "remark" ∷ codes "receipt" ∷ []) (codes "item_since" ∷ []) a.now.schema d.now.schema e.now.schema
-    (took_both (codes "meta" ∷ codes "account" ∷ codes "item" ∷ []) (codes "submission" ∷ codes "remark" ∷ codes "receipt" ∷ []) a.now.schema b.now.schema d.now.schema (one.takes first inside) (two.takes second within))
+    (took_both (codes "meta" ∷ codes "account" ∷ codes "item" ∷ []) (codes "submission" ∷ codes "remark" ∷ codes "receipt" ∷ []) a.now.schema b.now.schema d.now.schema (one.takes (codes "meta") (codes "account") (codes "item") meta_maker account_maker item_maker first inside) (two.takes (codes "submission") (codes "remark") (codes "receipt") submission_maker remark_maker receipt_maker second within))
     c.make_table.result (c.make_table.ensures.takes (codes "item_since") item_since_maker clean (two.goes.going second within).1)
 
-pub returns-in_err-make_first-clause-met : goal.returns-in_err-make_first-clause-met
-returns-in_err-make_first-clause-met g c clean inside has =
-    passed_on c.from_residual.result _ _ (IsFaultOfTaken (state g.S.Store c.args.tx.now.conn.now) (state g.S.Store c.make_first.new.tx.conn.now)) c.from_residual.ensures.1 (c.in_err-make_first.ensures.met clean inside has)
+pub returns-in_err-make_three-clause-met : goal.returns-in_err-make_three-clause-met
+returns-in_err-make_three-clause-met g c clean inside has =
+    passed_on c.from_residual.result _ _ (IsFaultOfTaken (state g.S.Store c.args.tx.now.conn.now) (state g.S.Store c.make_three.new.tx.conn.now)) c.from_residual.ensures.1 (c.in_err-make_three.ensures.met meta_met clean inside has)
 
-pub returns-in_err-make_rest-clause-met : goal.returns-in_err-make_rest-clause-met
-returns-in_err-make_rest-clause-met g c clean inside has =
-    absurd (c.in_ok-make_first.ensures.met (earlier (state g.S.Store c.make_first.new.tx.conn.now) (state g.S.Store c.make_rest.new.tx.conn.now) c.make_rest.ensures.goes.survives clean) inside has)
+pub returns-in_err-make_three-2-clause-met : goal.returns-in_err-make_three-2-clause-met
+returns-in_err-make_three-2-clause-met g c clean inside has =
+    absurd (c.in_ok-make_three.ensures.met meta_met (earlier (state g.S.Store c.make_three.new.tx.conn.now) (state g.S.Store c.make_three-2.new.tx.conn.now) c.make_three-2.ensures.goes.survives clean) inside has)
 
 pub returns-clause-met : goal.returns-clause-met
 returns-clause-met g c clean inside has =
-    let b = state g.S.Store c.make_first.new.tx.conn.now in
-    let d = state g.S.Store c.make_rest.new.tx.conn.now in
+    let b = state g.S.Store c.make_three.new.tx.conn.now in
+    let d = state g.S.Store c.make_three-2.new.tx.conn.now in
     let second = earlier d (state g.S.Store c.make_table.new.tx.conn.now) c.make_table.ensures.goes.survives clean in
-    absurd (c.in_ok-make_first.ensures.met (earlier b d c.make_rest.ensures.goes.survives second) inside has)
+    absurd (c.in_ok-make_three.ensures.met meta_met (earlier b d c.make_three-2.ensures.goes.survives second) inside has)
 
 pub returns-clause-carried : goal.returns-clause-carried
 returns-clause-carried g c clean inside =
     let a = c.args.tx.now.conn.now in
-    let b = c.make_first.new.tx.conn.now in
-    let d = c.make_rest.new.tx.conn.now in
+    let b = c.make_three.new.tx.conn.now in
+    let d = c.make_three-2.new.tx.conn.now in
     let e = c.make_table.new.tx.conn.now in
     let second = earlier (state g.S.Store d) (state g.S.Store e) c.make_table.ensures.goes.survives clean in
-    let first = earlier (state g.S.Store b) (state g.S.Store d) c.make_rest.ensures.goes.survives second in
-    let one = c.in_ok-make_first.ensures in
-    let two = c.in_ok-make_rest.ensures in
+    let first = earlier (state g.S.Store b) (state g.S.Store d) c.make_three-2.ensures.goes.survives second in
+    let one = c.in_ok-make_three.ensures in
+    let two = c.in_ok-make_three-2.ensures in
     let within = (one.goes.going first inside).1 in
     carried_then g.S.Store (first_statements ++ rest_statements) ((item_since_text, []) ∷ []) a d e c.make_table.result
     (carried_both g.S.Store first_statements rest_statements a b d (one.carried first inside) (two.carried second within))
@@ -89,23 +96,23 @@ returns-clause-carried g c clean inside =
 
 -- ---- what the transaction goes on with
 
-pub returns-in_err-make_first-clause-goes : goal.returns-in_err-make_first-clause-goes
-returns-in_err-make_first-clause-goes g c =
-    goes_fault (state g.S.Store c.args.tx.now.conn.now) (state g.S.Store c.make_first.new.tx.conn.now) _ c.from_residual.result c.from_residual.ensures.1 c.in_err-make_first.ensures.goes
+pub returns-in_err-make_three-clause-goes : goal.returns-in_err-make_three-clause-goes
+returns-in_err-make_three-clause-goes g c =
+    goes_fault (state g.S.Store c.args.tx.now.conn.now) (state g.S.Store c.make_three.new.tx.conn.now) _ c.from_residual.result c.from_residual.ensures.1 c.in_err-make_three.ensures.goes
 
-pub returns-in_err-make_rest-clause-goes : goal.returns-in_err-make_rest-clause-goes
-returns-in_err-make_rest-clause-goes g c =
-    goes_fault_after (state g.S.Store c.args.tx.now.conn.now) (state g.S.Store c.make_first.new.tx.conn.now) (state g.S.Store c.make_rest.new.tx.conn.now) _ _ c.from_residual-in_err-make_rest.result c.from_residual-in_err-make_rest.ensures.1 c.in_ok-make_first.ensures.goes c.in_err-make_rest.ensures.goes
+pub returns-in_err-make_three-2-clause-goes : goal.returns-in_err-make_three-2-clause-goes
+returns-in_err-make_three-2-clause-goes g c =
+    goes_fault_after (state g.S.Store c.args.tx.now.conn.now) (state g.S.Store c.make_three.new.tx.conn.now) (state g.S.Store c.make_three-2.new.tx.conn.now) _ _ c.from_residual-in_err-make_three-2.result c.from_residual-in_err-make_three-2.ensures.1 c.in_ok-make_three.ensures.goes c.in_err-make_three-2.ensures.goes
 
 pub returns-clause-goes : goal.returns-clause-goes
 returns-clause-goes g c =
-    let a = state g.S.Store c.make_first.new.tx.conn.now in
+    let a = state g.S.Store c.make_three.new.tx.conn.now in
     let end = state g.S.Store c.make_table.new.tx.conn.now in
-    goes_then (state g.S.Store c.args.tx.now.conn.now) a end _ c.make_table.result c.in_ok-make_first.ensures.goes
-    (goes_then a (state g.S.Store c.make_rest.new.tx.conn.now) end _ c.make_table.result c.in_ok-make_rest.ensures.goes c.make_table.ensures.goes)
+    goes_then (state g.S.Store c.args.tx.now.conn.now) a end _ c.make_table.result c.in_ok-make_three.ensures.goes
+    (goes_then a (state g.S.Store c.make_three-2.new.tx.conn.now) end _ c.make_table.result c.in_ok-make_three-2.ensures.goes c.make_table.ensures.goes)
 
-pub returns-in_err-make_first-clause-carried : goal.returns-in_err-make_first-clause-carried
-returns-in_err-make_first-clause-carried g c clean inside = not_on_ok c.from_residual.result _ _ c.from_residual.ensures.1
+pub returns-in_err-make_three-clause-carried : goal.returns-in_err-make_three-clause-carried
+returns-in_err-make_three-clause-carried g c clean inside = not_on_ok c.from_residual.result _ _ c.from_residual.ensures.1
 
-pub returns-in_err-make_rest-clause-carried : goal.returns-in_err-make_rest-clause-carried
-returns-in_err-make_rest-clause-carried g c clean inside = not_on_ok c.from_residual-in_err-make_rest.result _ _ c.from_residual-in_err-make_rest.ensures.1
+pub returns-in_err-make_three-2-clause-carried : goal.returns-in_err-make_three-2-clause-carried
+returns-in_err-make_three-2-clause-carried g c clean inside = not_on_ok c.from_residual-in_err-make_three-2.result _ _ c.from_residual-in_err-make_three-2.ensures.1

@@ -1,48 +1,45 @@
-use Rattle.std.proofs.Common.{[], ◌∷◌, refl, codes}
+use Rattle.std.proofs.Common.{[], ◌∷◌, ◌++◌}
 use Rattle.sqlite.specs.Held.{state}
 use Rattle.pid_tables_rows.specs.Faults.{IsMemoryOrStore, IsNotNewerSchema}
-use Rattle.pid_tables_rows.specs.Schema.{meta, account, item, submission, remark, receipt}
 use Rattle.pid_tables_rows.proofs.CauseLemmas.{passed_on}
 use Rattle.pid_tables_rows.proofs.GoingLemmas.{earlier, goes_then}
-use Rattle.pid_tables.specs.Statements.{submission_text, remark_text, receipt_text}
+use Rattle.pid_tables.specs.Creation.{IsFaultOfTaken}
 use Rattle.pid_tables.proofs.Carrying.{carried_both, carried_then}
-use Rattle.pid_tables.proofs.CreateTexts.{submission_creates, remark_creates, receipt_creates}
-use Rattle.pid_tables.proofs.MakerTexts.{submission_maker, remark_maker, receipt_maker}
 use Rattle.pid_tables.proofs.MetLemmas.{took_then, took_both}
 use Rattle.pid_tables.proofs.MoveLemmas.{goes_fault, goes_fault_after, not_on_ok}
-use Rattle.pid_tables.proofs.creation.make_rest.Goals as goal
+use Rattle.pid_tables.proofs.creation.make_three.Goals as goal
 
 pub returns-in_err-make_table-clause-made : goal.returns-in_err-make_table-clause-made
-returns-in_err-make_table-clause-made g c clean inside made = passed_on c.from_residual.result _ _ IsMemoryOrStore c.from_residual.ensures.1 (c.in_err-make_table.ensures.made (meta ∷ account ∷ item ∷ []) submission submission_creates refl clean inside made)
+returns-in_err-make_table-clause-made g c before a b d turn clean inside made = passed_on c.from_residual.result _ _ IsMemoryOrStore c.from_residual.ensures.1 (c.in_err-make_table.ensures.made before a turn.0 turn.1 clean inside made)
 
 pub returns-in_err-make_table-2-clause-made : goal.returns-in_err-make_table-2-clause-made
-returns-in_err-make_table-2-clause-made g c clean inside made =
+returns-in_err-make_table-2-clause-made g c before a b d turn clean inside made =
     let first = earlier (state g.S.Store c.make_table.new.tx.conn.now) (state g.S.Store c.make_table-2.new.tx.conn.now) c.make_table-2.ensures.goes.survives clean in
     let one = c.in_ok-make_table.ensures in
     passed_on c.from_residual-in_err-make_table-2.result _ _ IsMemoryOrStore c.from_residual-in_err-make_table-2.ensures.1
-    (c.in_err-make_table-2.ensures.made (meta ∷ account ∷ item ∷ submission ∷ []) remark remark_creates refl clean (one.goes.going first inside).1 (λ opened. one.made (meta ∷ account ∷ item ∷ []) submission submission_creates refl first inside made))
+    (c.in_err-make_table-2.ensures.made (before ++ a ∷ []) b turn.2.0 turn.2.1 clean (one.goes.going first inside).1 (λ opened. one.made before a turn.0 turn.1 first inside made))
 
 pub returns-clause-made : goal.returns-clause-made
-returns-clause-made g c clean inside made =
+returns-clause-made g c before a b d turn clean inside made =
     let second = earlier (state g.S.Store c.make_table-2.new.tx.conn.now) (state g.S.Store c.make_table-3.new.tx.conn.now) c.make_table-3.ensures.goes.survives clean in
     let first = earlier (state g.S.Store c.make_table.new.tx.conn.now) (state g.S.Store c.make_table-2.new.tx.conn.now) c.make_table-2.ensures.goes.survives second in
     let one = c.in_ok-make_table.ensures in
     let two = c.in_ok-make_table-2.ensures in
     let within = (one.goes.going first inside).1 in
-    c.make_table-3.ensures.made (meta ∷ account ∷ item ∷ submission ∷ remark ∷ []) receipt receipt_creates refl clean (two.goes.going second within).1
-    (λ opened. two.made (meta ∷ account ∷ item ∷ submission ∷ []) remark remark_creates refl second within (λ opened. one.made (meta ∷ account ∷ item ∷ []) submission submission_creates refl first inside made))
+    c.make_table-3.ensures.made ((before ++ a ∷ []) ++ b ∷ []) d turn.2.2.0 turn.2.2.1 clean (two.goes.going second within).1
+    (λ opened. two.made (before ++ a ∷ []) b turn.2.0 turn.2.1 second within (λ opened. one.made before a turn.0 turn.1 first inside made))
 
 pub returns-in_err-make_table-clause-takes : goal.returns-in_err-make_table-clause-takes
-returns-in_err-make_table-clause-takes g c clean inside = passed_on c.from_residual.result _ _ IsNotNewerSchema c.from_residual.ensures.1 (c.in_err-make_table.ensures.takes (codes "submission") submission_maker clean inside)
+returns-in_err-make_table-clause-takes g c one_name two_name three_name one_made two_made three_made clean inside = passed_on c.from_residual.result _ _ IsNotNewerSchema c.from_residual.ensures.1 (c.in_err-make_table.ensures.takes one_name one_made clean inside)
 
 pub returns-in_err-make_table-2-clause-takes : goal.returns-in_err-make_table-2-clause-takes
-returns-in_err-make_table-2-clause-takes g c clean inside =
+returns-in_err-make_table-2-clause-takes g c one_name two_name three_name one_made two_made three_made clean inside =
     let first = earlier (state g.S.Store c.make_table.new.tx.conn.now) (state g.S.Store c.make_table-2.new.tx.conn.now) c.make_table-2.ensures.goes.survives clean in
     passed_on c.from_residual-in_err-make_table-2.result _ _ IsNotNewerSchema c.from_residual-in_err-make_table-2.ensures.1
-    (c.in_err-make_table-2.ensures.takes (codes "remark") remark_maker clean (c.in_ok-make_table.ensures.goes.going first inside).1)
+    (c.in_err-make_table-2.ensures.takes two_name two_made clean (c.in_ok-make_table.ensures.goes.going first inside).1)
 
 pub returns-clause-takes : goal.returns-clause-takes
-returns-clause-takes g c clean inside =
+returns-clause-takes g c one_name two_name three_name one_made two_made three_made clean inside =
     let a = state g.S.Store c.args.tx.now.conn.now in
     let b = state g.S.Store c.make_table.new.tx.conn.now in
     let d = state g.S.Store c.make_table-2.new.tx.conn.now in
@@ -52,9 +49,23 @@ returns-clause-takes g c clean inside =
     let one = c.in_ok-make_table.ensures in
     let two = c.in_ok-make_table-2.ensures in
     let within = (one.goes.going first inside).1 in
-    took_then (codes "submission" ∷ codes "remark" ∷ []) (codes "receipt" ∷ []) a.now.schema d.now.schema e.now.schema
-    (took_both (codes "submission" ∷ []) (codes "remark" ∷ []) a.now.schema b.now.schema d.now.schema (one.takes (codes "submission") submission_maker first inside) (two.takes (codes "remark") remark_maker second within))
-    c.make_table-3.result (c.make_table-3.ensures.takes (codes "receipt") receipt_maker clean (two.goes.going second within).1)
+    took_then (one_name ∷ two_name ∷ []) (three_name ∷ []) a.now.schema d.now.schema e.now.schema
+    (took_both (one_name ∷ []) (two_name ∷ []) a.now.schema b.now.schema d.now.schema (one.takes one_name one_made first inside) (two.takes two_name two_made second within))
+    c.make_table-3.result (c.make_table-3.ensures.takes three_name three_made clean (two.goes.going second within).1)
+
+pub returns-in_err-make_table-clause-met : goal.returns-in_err-make_table-clause-met
+returns-in_err-make_table-clause-met g c refused clean inside has =
+    let old = state g.S.Store c.args.tx.now.conn.now in
+    passed_on c.from_residual.result _ _ (IsFaultOfTaken old (state g.S.Store c.make_table.new.tx.conn.now)) c.from_residual.ensures.1 (c.in_err-make_table.ensures.met refused clean inside has)
+
+pub returns-in_err-make_table-2-clause-met : goal.returns-in_err-make_table-2-clause-met
+returns-in_err-make_table-2-clause-met g c refused clean inside has =
+    absurd (c.in_ok-make_table.ensures.met refused (earlier (state g.S.Store c.make_table.new.tx.conn.now) (state g.S.Store c.make_table-2.new.tx.conn.now) c.make_table-2.ensures.goes.survives clean) inside has)
+
+pub returns-clause-met : goal.returns-clause-met
+returns-clause-met g c refused clean inside has =
+    let second = earlier (state g.S.Store c.make_table-2.new.tx.conn.now) (state g.S.Store c.make_table-3.new.tx.conn.now) c.make_table-3.ensures.goes.survives clean in
+    absurd (c.in_ok-make_table.ensures.met refused (earlier (state g.S.Store c.make_table.new.tx.conn.now) (state g.S.Store c.make_table-2.new.tx.conn.now) c.make_table-2.ensures.goes.survives second) inside has)
 
 pub returns-clause-carried : goal.returns-clause-carried
 returns-clause-carried g c clean inside =
@@ -67,8 +78,8 @@ returns-clause-carried g c clean inside =
     let one = c.in_ok-make_table.ensures in
     let two = c.in_ok-make_table-2.ensures in
     let within = (one.goes.going first inside).1 in
-    carried_then g.S.Store ((submission_text, []) ∷ (remark_text, []) ∷ []) ((receipt_text, []) ∷ []) a d e c.make_table-3.result
-    (carried_both g.S.Store ((submission_text, []) ∷ []) ((remark_text, []) ∷ []) a b d (one.carried first inside) (two.carried second within))
+    carried_then g.S.Store ((c.args.first.now, []) ∷ (c.args.second.now, []) ∷ []) ((c.args.third.now, []) ∷ []) a d e c.make_table-3.result
+    (carried_both g.S.Store ((c.args.first.now, []) ∷ []) ((c.args.second.now, []) ∷ []) a b d (one.carried first inside) (two.carried second within))
     (c.make_table-3.ensures.carried clean (two.goes.going second within).1)
 
 -- ---- what the transaction goes on with
