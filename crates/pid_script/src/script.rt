@@ -221,6 +221,7 @@ pub fn run_script<R: Moderated, I: Incoming<O>, O: Output>(
     ensures caught_up { OverText R.Moderated (passage registry.old registry.new
         (O.taken output.old) (O.taken output.new)) (I.to_come input.old) (λ h p text.
         AllSince (IsUpToDate R.Moderated h p text) (I.moments input.old) (I.moments input.new)) }
+    // A fault that it ended by is kept, and no read but the last one found nothing to come.
     ensures ended { EndsWith result (reader_and_writer I.Incoming O.Output
         input.old input.new output.new turns) }
     ensures goes { I.goes input.old input.new }
