@@ -22,6 +22,7 @@ use Rattle.pid_tables_rows.specs.TableRows.{number, form_of, name_of, state_numb
 use Rattle.pid_moderation.specs.Submissions.{Standing, decider_of, reason_of, standing_in, standing_of}
 use Rattle.pid_tables_rows.specs.Answers.{standing_row}
 use Rattle.pid_tables_rows.specs.Steps.Answers.{name_row, rank_row, reply_row}
+use Rattle.pid_tables_rows.specs.Steps.Unread.{IsReplyOf}
 use Rattle.pid_tables_rows.specs.Shows.{AreViews}
 use Rattle.pid_tables_rows.specs.Standings.{ReadsTo}
 
@@ -80,9 +81,8 @@ replies_same (Counts x y z) Done k a b c = absurd (let bad : ⊥ = cc in bad)
 replies_same (Counts x y z) (Numbered n) k a b c = absurd (let bad : ⊥ = cc in bad)
 replies_same (Counts x y z) (Counts p q r) k a b c = λ i. Counts (a i) (b i) (c i)
 
-pub reply_read : (o : Option Reply) (row : Row) (reply : Reply) → Some row ≡ option_map reply_row o → column row 0 ≡ number (reply_kind reply) → column row 1 ≡ number (first_number reply) → column row 2 ≡ number (second_number reply)
-    → column row 3 ≡ number (third_number reply) → Some reply ≡ o
-reply_read o row reply first kind a b c =
+pub reply_read : (o : Option Reply) (row : Row) (reply : Reply) → Some row ≡ option_map reply_row o → IsReplyOf row reply → Some reply ≡ o
+reply_read o row reply first (kind, a, b, c) =
     let it = some_row reply_row o row first in
     let at = λ (i : ℕ). ap (λ r. column r i) (sym it.2) in
     ap Some (replies_same reply it.0 (sym (number_same _ _ (at 0 ∙ kind))) (sym (number_same _ _ (at 1 ∙ a))) (sym (number_same _ _ (at 2 ∙ b))) (sym (number_same _ _ (at 3 ∙ c)))) ∙ sym it.1

@@ -70,7 +70,7 @@ pub reply_written : (v : Views) (account key : List ℕ) (row : Row) → IsReada
 reply_written v account key row readable first =
     let it = some_row reply_row (v.kept account key) row first in
     let at = λ (i : ℕ). ap (λ r. column r i) it.2 in
-    (it.0, readable.replies account key it.0 it.1, at 0, at 1, at 2, at 3)
+    (it.0, readable.replies account key it.0 it.1, (at 0, at 1, at 2, at 3))
 
 -- the three labels that both schemas have are there, with numbers of 32 bits
 pub meta_there : (c : Counts) (revision : ℕ) (label : List ℕ) → IsSome (labels_of One c 0 label) → IsSome (meta_of c revision label)

@@ -18,20 +18,13 @@ ghost use Rattle.pid_tables_rows.specs.Steps.Unread.{
   IsWord,
   IsPathText,
   IsProposal,
+  IsProposalOf,
   IsState,
+  IsStateOf,
+  IsReplyOf,
   IsReplyRow,
 };
-ghost use Rattle.pid_tables_rows.specs.TableRows.{
-  number,
-  form_of,
-  name_of,
-  state_number,
-  reply_kind,
-  first_number,
-  second_number,
-  third_number,
-};
-ghost use Rattle.pid_moderation.specs.Submissions.{decider_of, reason_of};
+ghost use Rattle.pid_tables_rows.specs.TableRows.{number};
 
 use crate::fault::TableFault;
 use pid_ident::{Account, Name, Path, PathText, Text};
@@ -167,8 +160,7 @@ pub(crate) fn proposal_at(
     form: usize,
     name: usize,
 ) -> Result<Proposal, TableFault>
-    ensures form { IfOk result (λ proposal. column row.now form ≡ number (form_of proposal)) }
-    ensures name { IfOk result (λ proposal. column row.now name ≡ TextValue (name_of proposal)) }
+    ensures read { IfOk result (IsProposalOf (column row.now form) (column row.now name)) }
     ensures unread { IfErr result (IsUnreadable
         (IsProposal (column row.now form) (column row.now name))) }
 {
@@ -185,10 +177,8 @@ pub(crate) fn proposal_at(
 /// A state by its number in the first column, its decider in the next and its reason in the one
 /// after.
 pub(crate) fn state_at(row: &Row, alloc: Global, author: &Account) -> Result<State, TableFault>
-    ensures number { IfOk result (λ state. column row.now 5 ≡ number (state_number state)) }
-    ensures decider { IfOk result (λ state. column row.now 6
-        ≡ TextValue (decider_of author.now state)) }
-    ensures reason { IfOk result (λ state. column row.now 7 ≡ TextValue (reason_of state)) }
+    ensures read { IfOk result
+        (IsStateOf author.now (column row.now 5) (column row.now 6) (column row.now 7)) }
     ensures unread { IfErr result (IsUnreadable
         (IsState author.now (column row.now 5) (column row.now 6) (column row.now 7))) }
 {
@@ -220,10 +210,7 @@ pub(crate) fn state_at(row: &Row, alloc: Global, author: &Account) -> Result<Sta
 
 /// A reply by its kind and its three numbers.
 pub(crate) fn reply_at(row: &Row) -> Result<Reply, TableFault>
-    ensures kind { IfOk result (λ reply. column row.now 0 ≡ number (reply_kind reply)) }
-    ensures first { IfOk result (λ reply. column row.now 1 ≡ number (first_number reply)) }
-    ensures second { IfOk result (λ reply. column row.now 2 ≡ number (second_number reply)) }
-    ensures third { IfOk result (λ reply. column row.now 3 ≡ number (third_number reply)) }
+    ensures read { IfOk result (IsReplyOf row.now) }
     ensures unread { IfErr result (IsUnreadable (IsReplyRow row.now)) }
 {
     let kind = number_at(row, 0)?;

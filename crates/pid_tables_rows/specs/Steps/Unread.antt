@@ -23,19 +23,28 @@ abbrev pub IsPathText : Value → Type 0
 IsPathText value = (path : Path) × IsPath path × (value ≡ Text (path_text path))
 
 -- a proposal, by its form and its name
+abbrev pub IsProposalOf : Value → Value → Proposal → Type 0
+IsProposalOf form name proposal = (form ≡ number (form_of proposal))
+    × (name ≡ Text (name_of proposal))
+
 abbrev pub IsProposal : Value → Value → Type 0
 IsProposal form name = (proposal : Proposal) × ProposesName proposal
-    × (form ≡ number (form_of proposal)) × (name ≡ Text (name_of proposal))
+    × IsProposalOf form name proposal
 
 -- a state of a submission of this author, by its number, its decider and its reason
+abbrev pub IsStateOf : List ℕ → Value → Value → Value → State → Type 0
+IsStateOf author told decider reason state = (told ≡ number (state_number state))
+    × (decider ≡ Text (decider_of author state)) × (reason ≡ Text (reason_of state))
+
 abbrev pub IsState : List ℕ → Value → Value → Value → Type 0
 IsState author told decider reason = (state : State) × IsReadableState state
-    × (told ≡ number (state_number state)) × (decider ≡ Text (decider_of author state))
-    × (reason ≡ Text (reason_of state))
+    × IsStateOf author told decider reason state
 
 -- the row of a reply
-abbrev pub IsReplyRow : Row → Type 0
-IsReplyRow row =
-    (reply : Reply) × IsReadableReply reply × (column row 0 ≡ number (reply_kind reply))
+abbrev pub IsReplyOf : Row → Reply → Type 0
+IsReplyOf row reply = (column row 0 ≡ number (reply_kind reply))
     × (column row 1 ≡ number (first_number reply))
     × (column row 2 ≡ number (second_number reply)) × (column row 3 ≡ number (third_number reply))
+
+abbrev pub IsReplyRow : Row → Type 0
+IsReplyRow row = (reply : Reply) × IsReadableReply reply × IsReplyOf row reply

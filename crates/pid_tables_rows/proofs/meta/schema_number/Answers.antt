@@ -1,7 +1,5 @@
 use Rattle.std.proofs.Common.{codes, Ok, Err, Result, IfOk, IfErr, MatchResult}
-use Rattle.std.specs.Prelude.{ℕ}
 use Rattle.sqlite.specs.Held.{state}
-use Rattle.pid_tables_rows.specs.declared.fault.TableFault.{TableFault}
 use Rattle.pid_tables_rows.proofs.LabelLemmas.{told_stored, refused_stored}
 use Rattle.pid_tables_rows.proofs.meta.schema_number.Goals as goal
 

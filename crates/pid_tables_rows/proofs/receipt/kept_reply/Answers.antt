@@ -16,7 +16,7 @@ returns-in-Some g c = record {
   rests = c.in_ok-rows.ensures.rests;
   told = λ clean v rest.
       let found = reply_first g.S.Store c.args.conn.now v rest c.in_ok-rows.rows.items c.args.account.now c.args.key.now (rw (c.to_sql-account.ensures, c.to_sql-key.ensures) at (c.in_ok-rows.ensures.shown clean)) in
-      reply_read (v.kept c.args.account.now c.args.key.now) c.in-Some.row.now c.in_ok-reply_at-in-Some.field-0 (c.in-Some.ensures.value ∙ ap (λ l. slice_get l 0) c.deref.ensures.value ∙ found) c.in_ok-reply_at-in-Some.ensures.kind c.in_ok-reply_at-in-Some.ensures.first c.in_ok-reply_at-in-Some.ensures.second c.in_ok-reply_at-in-Some.ensures.third;
+      reply_read (v.kept c.args.account.now c.args.key.now) c.in-Some.row.now c.in_ok-reply_at-in-Some.field-0 (c.in-Some.ensures.value ∙ ap (λ l. slice_get l 0) c.deref.ensures.value ∙ found) c.in_ok-reply_at-in-Some.ensures.read;
 }
 
 pub returns : goal.returns
