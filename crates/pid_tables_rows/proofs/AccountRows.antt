@@ -1,5 +1,5 @@
 -- How many accounts there are: one for each row of their table.
-use Rattle.std.proofs.Common.{◌≡◌, ◌≢◌, inl, inr, ℕ, List, [], ◌∷◌, length, map, codes, Bool, true, false, not, refl, sym, ap, subst, ◌∙◌, Less, arith}
+use Rattle.std.proofs.Common.{◌≡◌, ◌≢◌, inl, inr, ℕ, List, [], ◌∷◌, length, map, codes, Bool, true, false, not, refl, sym, ap, subst, ◌∙◌, Less}
 use Rattle.std.specs.Prelude.{◌||◌, is_some}
 use Rattle.std.specs.Cmp.{both_ways}
 use Rattle.std.specs.List.{AllByRecursion, IsDistinct, list_any}
@@ -12,7 +12,7 @@ use Rattle.std.proofs.lemmas.Slice.Eq.{bytes_eq-Decides}
 use Rattle.sqlite.specs.declared.types.Value.{Value}
 use Rattle.sqlite.specs.declared.types.Value.TheVariants.{Null, Int, Real, Text, Blob}
 use Rattle.sqlite.specs.Effect.{Database, IsDatabase}
-use Rattle.sqlite.specs.Listing.{understood}
+use Rattle.sqlite.specs.Listing.{understood, reads_listing}
 use Rattle.sqlite.specs.Order.{Row, column, value_cmp}
 use Rattle.sqlite.specs.Program.{overlay}
 use Rattle.sqlite.specs.State.{State, Shown}
@@ -38,23 +38,26 @@ use Rattle.pid_tables_rows.proofs.Lengths.{some_there}
 use Rattle.pid_tables_rows.proofs.Lengths as lengths
 use Rattle.pid_tables_rows.proofs.MapLemmas.{none_over}
 use Rattle.pid_tables_rows.proofs.OneRowEach.{agrees, below_differs, none_among, rising_apart}
-use Rattle.pid_tables_rows.proofs.QueryTexts.{IsOneAs, by_key}
+use Rattle.pid_tables_rows.proofs.QueryTexts.{by_key}
 use Rattle.pid_tables_rows.proofs.Select.{passing, shown, simple_rows}
-use Rattle.pid_tables_rows.proofs.Statements.{IsSelect}
+use Rattle.pid_tables_rows.proofs.Statements.{IsSelect, SelectsAlone, select_alone}
 
 abbrev pub select_accounts : List ℕ
 select_accounts = codes "SELECT rank FROM account"
 
-select_accounts_is : (version : Version) → IsSelect (schema_of version) 2 [] (col 1 2 ∷ []) select_accounts (codes "rank" ∷ [])
+select_accounts_alone : (version : Version) → SelectsAlone (schema_of version) 2 [] (col 1 2 ∷ []) select_accounts (codes "rank" ∷ []) 0
 unfolding understood everything
-select_accounts_is version = record { is = refl; plain = (refl, refl); unlisted = refl }
+select_accounts_alone version = refl
 
-accounts_one : (version : Version) → IsOneAs select_accounts [] (understood (schema_of version) select_accounts)
+select_accounts_unlisted : (version : Version) → reads_listing (schema_of version) select_accounts ≡ false
 unfolding understood everything
-accounts_one version = record { whole = omega arith; given = refl; bare = refl; timeless = refl }
+select_accounts_unlisted version = refl
+
+select_accounts_is : (version : Version) → IsSelect (schema_of version) 2 [] (col 1 2 ∷ []) select_accounts (codes "rank" ∷ [])
+select_accounts_is version = select_alone (schema_of version) 2 [] (col 1 2 ∷ []) select_accounts (codes "rank" ∷ []) 0 (select_accounts_alone version) (select_accounts_unlisted version)
 
 pub accounts_query : (version : Version) → IsQuery (schema_of version) select_accounts []
-accounts_query version = by_key (schema_of version) select_accounts [] 2 [] (col 1 2 ∷ []) (codes "rank" ∷ []) (accounts_one version) (select_accounts_is version) refl
+accounts_query version = by_key (schema_of version) select_accounts [] 2 [] (col 1 2 ∷ []) (codes "rank" ∷ []) (select_accounts_alone version) (select_accounts_is version) refl
 
 -- a query without tests passes each row
 all_pass : (params : Row) (rows : List Row) → passing [] params rows ≡ rows

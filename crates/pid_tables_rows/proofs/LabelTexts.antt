@@ -19,7 +19,7 @@ use Rattle.sqlite_tied.specs.Compute.{everything}
 use Rattle.pid_tables_rows.specs.LabelRows.{value_text}
 use Rattle.pid_tables_rows.specs.Schema.{meta}
 use Rattle.pid_tables_rows.proofs.KeyTexts.{by_first}
-use Rattle.pid_tables_rows.proofs.Statements.{IsSelect}
+use Rattle.pid_tables_rows.proofs.Statements.{IsSelect, select_alone}
 
 -- ---- under any schema
 
@@ -84,4 +84,4 @@ meta_first others indexes views = record { tables = meta ∷ others; indexes = i
 
 pub value_is : (others : List Table) (indexes : List Index) (views : List View) → IsSelect (meta_first others indexes views) 0 by_first (col 1 2 ∷ []) value_text (codes "value" ∷ [])
 unfolding understood everything
-value_is others indexes views = record { is = refl; plain = (refl, refl); unlisted = refl }
+value_is others indexes views = select_alone (meta_first others indexes views) 0 by_first (col 1 2 ∷ []) value_text (codes "value" ∷ []) 1 refl refl

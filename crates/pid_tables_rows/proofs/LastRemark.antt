@@ -31,7 +31,7 @@ use Rattle.pid_tables_rows.proofs.Keys.{pos_same}
 use Rattle.pid_tables_rows.proofs.Select.{passing, shown, integers_equal, integer_equal}
 use Rattle.pid_tables_rows.specs.declared.version.Version.{Version}
 use Rattle.pid_tables_rows.specs.Schema.{schema_of}
-use Rattle.pid_tables_rows.proofs.Statements.{program, first_one}
+use Rattle.pid_tables_rows.proofs.Statements.{program, first_one, IsAlone, command_alone, plain_alone}
 use Rattle.pid_tables_rows.proofs.KeyTexts.{by_first}
 use Rattle.pid_tables_rows.proofs.FirstLemmas.{HasNone, IsFirst, first_found}
 
@@ -41,13 +41,15 @@ select_last = codes "SELECT seq FROM remark WHERE num = ?1 ORDER BY seq DESC LIM
 abbrev pub falling : List (Term × Key)
 falling = (col 1 2, record { collation = Binary; descending = true }) ∷ []
 
-pub select_last_is : (version : Version) → command_of (understood (schema_of version) select_last) ≡ Select (program (first_one 7 by_first (col 1 2 ∷ []) falling)) (codes "seq" ∷ [])
+pub select_last_alone : (version : Version) → IsAlone (schema_of version) select_last (Select (program (first_one 7 by_first (col 1 2 ∷ []) falling)) (codes "seq" ∷ [])) 1
 unfolding understood everything
-select_last_is version = refl
+select_last_alone version = refl
+
+pub select_last_is : (version : Version) → command_of (understood (schema_of version) select_last) ≡ Select (program (first_one 7 by_first (col 1 2 ∷ []) falling)) (codes "seq" ∷ [])
+select_last_is version = command_alone (schema_of version) select_last _ 1 (select_last_alone version)
 
 pub select_last_plain : (version : Version) → IsPlain (understood (schema_of version) select_last)
-unfolding understood everything
-select_last_plain version = (refl, refl)
+select_last_plain version = plain_alone (schema_of version) select_last _ 1 (select_last_alone version)
 
 pub select_last_unlisted : (version : Version) → reads_listing (schema_of version) select_last ≡ false
 unfolding understood everything

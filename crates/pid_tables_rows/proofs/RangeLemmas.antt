@@ -33,7 +33,7 @@ use Rattle.pid_tables_rows.specs.Schema.{schema_of}
 use Rattle.pid_tables_rows.specs.TableRows.{item_row}
 use Rattle.pid_tables_rows.specs.Shows.{Counts, Numbers, ShowsKeeping}
 use Rattle.pid_tables_rows.specs.Steps.Ranges.{is_between, holds_between}
-use Rattle.pid_tables_rows.proofs.Statements.{program, first_one}
+use Rattle.pid_tables_rows.proofs.Statements.{program, first_one, IsAlone, command_alone, plain_alone}
 use Rattle.pid_tables_rows.proofs.MapLemmas.{none_over}
 use Rattle.pid_tables_rows.proofs.SetLemmas.{tied}
 use Rattle.pid_tables_rows.proofs.Select.{passing, said}
@@ -46,13 +46,15 @@ select_between = codes "SELECT path FROM item WHERE path > ?1 AND path < ?2 LIMI
 abbrev pub in_range : List Term
 in_range = op2 (Compare Gt Binary) (col 1 1) (col 0 0) ∷ op2 (Compare Lt Binary) (col 1 1) (col 0 1) ∷ []
 
-pub select_between_is : (version : Version) → command_of (understood (schema_of version) select_between) ≡ Select (program (first_one 4 in_range (col 1 1 ∷ []) [])) (codes "path" ∷ [])
+pub select_between_alone : (version : Version) → IsAlone (schema_of version) select_between (Select (program (first_one 4 in_range (col 1 1 ∷ []) [])) (codes "path" ∷ [])) 2
 unfolding understood everything
-select_between_is version = refl
+select_between_alone version = refl
+
+pub select_between_is : (version : Version) → command_of (understood (schema_of version) select_between) ≡ Select (program (first_one 4 in_range (col 1 1 ∷ []) [])) (codes "path" ∷ [])
+select_between_is version = command_alone (schema_of version) select_between _ 2 (select_between_alone version)
 
 pub select_between_plain : (version : Version) → IsPlain (understood (schema_of version) select_between)
-unfolding understood everything
-select_between_plain version = (refl, refl)
+select_between_plain version = plain_alone (schema_of version) select_between _ 2 (select_between_alone version)
 
 pub select_between_unlisted : (version : Version) → reads_listing (schema_of version) select_between ≡ false
 unfolding understood everything

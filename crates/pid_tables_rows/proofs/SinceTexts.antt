@@ -14,24 +14,26 @@ use Rattle.sqlite.proofs.Callers.{IsPlain, command_of, statement_of}
 use Rattle.sqlite_tied.specs.Compute.{everything}
 use Rattle.pid_tables_rows.specs.declared.version.Version.TheVariants.{One, Two}
 use Rattle.pid_tables_rows.specs.Schema.{schema_of, item_since}
-use Rattle.pid_tables_rows.proofs.Statements.{simple, program}
+use Rattle.pid_tables_rows.proofs.Statements.{simple, program, IsAlone, command_alone, plain_alone}
 use Rattle.pid_tables_rows.proofs.StatementTexts.{create_since, fill_since}
 
 -- schema 2 is schema 1 with one more table
 pub since_created : created (schema_of One) (record item_since { tree = 0 }) ≡ schema_of Two
 since_created = refl
 
-pub create_is : command_of (understood (schema_of One) create_since) ≡ CreateTable
+creates : IsAlone (schema_of One) create_since CreateTable 0
 unfolding understood everything
-create_is = refl
+creates = refl
+
+pub create_is : command_of (understood (schema_of One) create_since) ≡ CreateTable
+create_is = command_alone (schema_of One) create_since CreateTable 0 creates
 
 pub create_whole : statement_of create_since (understood (schema_of One) create_since) ≡ create_since
 unfolding understood everything
 create_whole = refl
 
 pub create_plain : IsPlain (understood (schema_of One) create_since)
-unfolding understood everything
-create_plain = (refl, refl)
+create_plain = plain_alone (schema_of One) create_since CreateTable 0 creates
 
 pub create_defined : table_defined_by create_since ≡ Ok (record item_since { tree = 0 })
 unfolding understood everything
@@ -50,10 +52,12 @@ copied = lit Null ∷ col 1 1 ∷ lit (Int (pos 0)) ∷ []
 abbrev pub copying : SqlQuery
 copying = record (simple 4 [] copied) { collations = Binary ∷ Binary ∷ Binary ∷ [] }
 
-pub fill_is : command_of (understood (schema_of Two) fill_since) ≡ Insert 6 (Query (program copying))
+fills : IsAlone (schema_of Two) fill_since (Insert 6 (Query (program copying))) 0
 unfolding understood everything
-fill_is = refl
+fills = refl
+
+pub fill_is : command_of (understood (schema_of Two) fill_since) ≡ Insert 6 (Query (program copying))
+fill_is = command_alone (schema_of Two) fill_since (Insert 6 (Query (program copying))) 0 fills
 
 pub fill_plain : IsPlain (understood (schema_of Two) fill_since)
-unfolding understood everything
-fill_plain = (refl, refl)
+fill_plain = plain_alone (schema_of Two) fill_since (Insert 6 (Query (program copying))) 0 fills

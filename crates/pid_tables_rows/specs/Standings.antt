@@ -5,7 +5,7 @@ use Rattle.sqlite.specs.Order.{Row, column}
 use Rattle.pid_ident.specs.PathTexts.{IsPath, path_text}
 use Rattle.pid_moderation.specs.declared.lists.Submission.{Submission}
 use Rattle.pid_tables_rows.specs.TableRows.{number, form_of, name_of, state_number}
-use Rattle.pid_moderation.specs.Submissions.{Standing, decider_of, reason_of}
+use Rattle.pid_moderation.specs.Submissions.{decider_of, reason_of}
 
 -- the columns of the row are those of the submission
 pub record ReadsTo (row : Row) (s : Submission) : Type 0 where
