@@ -1,5 +1,7 @@
 -- What rows of meta say of the labels, and what makes them those of a registry.
-use Rattle.std.proofs.Common.{◌≡◌, inl, inr, ℕ, ◌<◌, List, [], ◌∷◌, ◌++◌, Option, Some, None, IsTrue, refl, sym, ap, subst, ◌∙◌, codes}
+use Rattle.std.proofs.Common.{◌≡◌, inl, inr, ℕ, ◌<◌, List, [], ◌∷◌, ◌++◌, length, nat_eq, true, false, Option, Some, None, IsTrue, arith, refl, sym, ap, subst, ◌∙◌, codes}
+use Rattle.std.proofs.lemmas.Bool.{false≢true}
+use Rattle.std.proofs.lemmas.Bool.Decides.{nat_tests}
 use Rattle.std.specs.Prelude.{◌↔◌, IfSome, IfNone}
 use Rattle.sqlite.specs.declared.types.Value.TheVariants.{Text}
 use Rattle.sqlite.specs.Order.{Row, column}
@@ -93,6 +95,13 @@ module _ (version : Version) (items submissions revision : ℕ) (rows : List Row
 texts : (k l : List ℕ) (m n : ℕ) → ◌≡◌ {A = List ℕ × ℕ} (k, m) (l, n) → k ≡ l
 texts k l m n same = ap (λ (x : List ℕ × ℕ). x.0) same
 
+itself : (n : ℕ) → nat_eq n n ≡ true
+itself n = grind (arith, nat_tests)
+
+-- labels of other lengths are apart
+apart : (k l : List ℕ) (m n : ℕ) → nat_eq (length k) (length l) ≡ false → ◌≡◌ {A = List ℕ × ℕ} (k, m) (l, n) → ⊥
+apart k l m n other same = false≢true (sym other ∙ ap (λ (x : List ℕ). nat_eq (length k) (length x)) (sym (texts k l m n same)) ∙ itself (length k))
+
 values : (k l : List ℕ) (m n : ℕ) → ◌≡◌ {A = List ℕ × ℕ} (k, m) (l, n) → m ≡ n
 values k l m n same = ap (λ (x : List ℕ × ℕ). x.1) same
 
@@ -103,38 +112,38 @@ module _ (items submissions revision : ℕ) where
   schema_only : (version : Version) (n : ℕ) → Listed version (codes "schema") n → n ≡ version_number version
   schema_only One n (inl same) = values (codes "schema") (codes "schema") n 1 same
   schema_only Two n (inl same) = values (codes "schema") (codes "schema") n 2 same
-  schema_only version n (inr (inl same)) = let bad = texts (codes "schema") (codes "items") n items same in cc
-  schema_only version n (inr (inr (inl same))) = let bad = texts (codes "schema") (codes "submissions") n submissions same in cc
+  schema_only version n (inr (inl same)) = absurd (apart (codes "schema") (codes "items") n items refl same)
+  schema_only version n (inr (inr (inl same))) = absurd (apart (codes "schema") (codes "submissions") n submissions refl same)
   schema_only One n (inr (inr (inr none))) = absurd none
-  schema_only Two n (inr (inr (inr (inl same)))) = let bad = texts (codes "schema") (codes "revision") n revision same in cc
+  schema_only Two n (inr (inr (inr (inl same)))) = absurd (apart (codes "schema") (codes "revision") n revision refl same)
   schema_only Two n (inr (inr (inr (inr none)))) = absurd none
 
   items_only : (version : Version) (n : ℕ) → Listed version (codes "items") n → n ≡ items
-  items_only version n (inl same) = let bad = texts (codes "items") (codes "schema") n (version_number version) same in cc
+  items_only version n (inl same) = absurd (apart (codes "items") (codes "schema") n (version_number version) refl same)
   items_only version n (inr (inl same)) = values (codes "items") (codes "items") n items same
-  items_only version n (inr (inr (inl same))) = let bad = texts (codes "items") (codes "submissions") n submissions same in cc
+  items_only version n (inr (inr (inl same))) = absurd (apart (codes "items") (codes "submissions") n submissions refl same)
   items_only One n (inr (inr (inr none))) = absurd none
-  items_only Two n (inr (inr (inr (inl same)))) = let bad = texts (codes "items") (codes "revision") n revision same in cc
+  items_only Two n (inr (inr (inr (inl same)))) = absurd (apart (codes "items") (codes "revision") n revision refl same)
   items_only Two n (inr (inr (inr (inr none)))) = absurd none
 
   submissions_only : (version : Version) (n : ℕ) → Listed version (codes "submissions") n → n ≡ submissions
-  submissions_only version n (inl same) = let bad = texts (codes "submissions") (codes "schema") n (version_number version) same in cc
-  submissions_only version n (inr (inl same)) = let bad = texts (codes "submissions") (codes "items") n items same in cc
+  submissions_only version n (inl same) = absurd (apart (codes "submissions") (codes "schema") n (version_number version) refl same)
+  submissions_only version n (inr (inl same)) = absurd (apart (codes "submissions") (codes "items") n items refl same)
   submissions_only version n (inr (inr (inl same))) = values (codes "submissions") (codes "submissions") n submissions same
   submissions_only One n (inr (inr (inr none))) = absurd none
-  submissions_only Two n (inr (inr (inr (inl same)))) = let bad = texts (codes "submissions") (codes "revision") n revision same in cc
+  submissions_only Two n (inr (inr (inr (inl same)))) = absurd (apart (codes "submissions") (codes "revision") n revision refl same)
   submissions_only Two n (inr (inr (inr (inr none)))) = absurd none
 
   no_revision : (n : ℕ) → Listed One (codes "revision") n → ⊥
-  no_revision n (inl same) = let bad = texts (codes "revision") (codes "schema") n 1 same in cc
-  no_revision n (inr (inl same)) = let bad = texts (codes "revision") (codes "items") n items same in cc
-  no_revision n (inr (inr (inl same))) = let bad = texts (codes "revision") (codes "submissions") n submissions same in cc
+  no_revision n (inl same) = apart (codes "revision") (codes "schema") n 1 refl same
+  no_revision n (inr (inl same)) = apart (codes "revision") (codes "items") n items refl same
+  no_revision n (inr (inr (inl same))) = apart (codes "revision") (codes "submissions") n submissions refl same
   no_revision n (inr (inr (inr none))) = none
 
   revision_only : (n : ℕ) → Listed Two (codes "revision") n → n ≡ revision
-  revision_only n (inl same) = let bad = texts (codes "revision") (codes "schema") n 2 same in cc
-  revision_only n (inr (inl same)) = let bad = texts (codes "revision") (codes "items") n items same in cc
-  revision_only n (inr (inr (inl same))) = let bad = texts (codes "revision") (codes "submissions") n submissions same in cc
+  revision_only n (inl same) = absurd (apart (codes "revision") (codes "schema") n 2 refl same)
+  revision_only n (inr (inl same)) = absurd (apart (codes "revision") (codes "items") n items refl same)
+  revision_only n (inr (inr (inl same))) = absurd (apart (codes "revision") (codes "submissions") n submissions refl same)
   revision_only n (inr (inr (inr (inl same)))) = values (codes "revision") (codes "revision") n revision same
   revision_only n (inr (inr (inr (inr none)))) = absurd none
 

@@ -1,6 +1,6 @@
 -- What the queries of the tables show, whatever the schema.
 use Rattle.std.specs.Prelude.{IsSome}
-use Rattle.std.proofs.Common.{◌≡◌, ℕ, List, [], true, false, cond, Option, Some, None, Ok, Err, Result, refl, sym, subst}
+use Rattle.std.proofs.Common.{◌≡◌, ℕ, List, [], true, false, cond, Option, Some, None, Ok, Err, Result, refl, sym, ap, subst}
 use Rattle.sqlite.specs.Order.{Row}
 use Rattle.sqlite.specs.Schema.{Schema}
 use Rattle.sqlite.specs.Listing.{understood, reads_listing, if_select, is_select, listing_schema}
@@ -29,19 +29,20 @@ abbrev IsPlainIfAsked : Result Compiled CompileError → Type 0
 IsPlainIfAsked (Ok c) = (c.returning ≡ None) × (c.formats ≡ [])
 IsPlainIfAsked (Err e) = Unit {0}
 
+-- in one equation, since each `refl` reads the text anew
 abbrev OnlyReads : Checked Parsed → Type 0
-OnlyReads (Ok p) = (schema : Schema) → ((base : ℕ) → returning schema base p.statement ≡ Ok None) × (timed schema p.formats p.statement ≡ [])
+OnlyReads (Ok p) = (schema : Schema) (base : ℕ) → ◌≡◌ {A = Checked (Option Returning) × List (List ℕ)} (returning schema base p.statement, timed schema p.formats p.statement) (Ok None, [])
 OnlyReads (Err e) = Unit {0}
 
 only_reads : (table : Table) → OnlyReads (first (query_of table))
 unfolding everything
-only_reads Meta = λ schema. (λ base. refl, refl)
-only_reads Account = λ schema. (λ base. refl, refl)
-only_reads Item = λ schema. (λ base. refl, refl)
-only_reads Submission = λ schema. (λ base. refl, refl)
-only_reads Remark = λ schema. (λ base. refl, refl)
-only_reads Receipt = λ schema. (λ base. refl, refl)
-only_reads Since = λ schema. (λ base. refl, refl)
+only_reads Meta = λ schema base. refl
+only_reads Account = λ schema base. refl
+only_reads Item = λ schema base. refl
+only_reads Submission = λ schema base. refl
+only_reads Remark = λ schema base. refl
+only_reads Receipt = λ schema base. refl
+only_reads Since = λ schema base. refl
 
 module _ (schema : Schema) (p : Parsed) where
   abbrev IsPlan : Checked (List (List ℕ) × (Command × Option Returning)) → Type 0
@@ -67,7 +68,7 @@ unfolding compiled
 compiled_plain table schema = go (first (query_of table)) (only_reads table)
   where
     go : (r : Checked Parsed) → OnlyReads r → IsPlainIfAsked (and_then r (λ p. and_then (planned schema p) (λ plan. Ok (with_command p plan))))
-    go (Ok p) h = with_plan schema p (planned schema p) (planned_plain schema p (h schema).0 (h schema).1)
+    go (Ok p) h = with_plan schema p (planned schema p) (planned_plain schema p (λ base. ap (λ (x : Checked (Option Returning) × List (List ℕ)). x.0) (h schema base)) (ap (λ (x : Checked (Option Returning) × List (List ℕ)). x.1) (h schema 0)))
     go (Err e) h = tt
 
 listed_plain : (r : Result Compiled CompileError) → IsPlainIfAsked r → IsPlainIfAsked (if_select r)

@@ -1,7 +1,9 @@
 -- What makes rows of submissions those of a registry.
 use Rattle.std.proofs.Common.{◌≡◌, ◌≢◌, ◌↔◌, ◌&&◌, Bool, nat_le, inl, inr, IsTrue, ℕ, ◌≤◌, List, [], ◌∷◌, ◌++◌, length, true, false, refl, sym, ap, subst, ◌∙◌, arith, le-leb}
-use Rattle.std.proofs.lemmas.Bool.{leb-true}
-use Rattle.std.specs.Prelude.{IsUtf8, String}
+use Rattle.std.proofs.lemmas.Bool.{false≢true, leb-true}
+use Rattle.std.proofs.lemmas.Slice.Eq.{bytes_eq-Decides}
+use Rattle.std.specs.Str.{bytes_eq}
+use Rattle.std.specs.Prelude.{IsUtf8, String, not}
 use Rattle.std.specs.BTreeSet.{BTreeSet}
 use Rattle.std.specs.declared.alloc.Global.{Global}
 use Rattle.sqlite.specs.declared.types.Value.TheVariants.{Text}
@@ -30,6 +32,16 @@ use Rattle.pid_tables_check.proofs.AccountFacts.{account_named}
 numbers_same : (m n : ℕ) → number m ≡ number n → m ≡ n
 numbers_same m n e = cc
 
+on_of : (b : Bool) → not b ≡ false → b ≡ true
+on_of true off = refl
+on_of false off = sym off
+
+pub differ : (a b : List ℕ) → not (bytes_eq a b) ≡ true → a ≢ b
+differ a b on same = false≢true (sym (ap not ((bytes_eq-Decides a b).1 same)) ∙ on)
+
+pub alike : (a b : List ℕ) → not (bytes_eq a b) ≡ false → a ≡ b
+alike a b off = (bytes_eq-Decides a b).0 (on_of (bytes_eq a b) off)
+
 -- ---- the parts of a row
 
 abbrev pub Proposes : Row → Type 0
@@ -45,6 +57,39 @@ name_of_form r e (Removal, form, is, good) = absurd (let bad : 0 ≡ 1 = numbers
 module _ (names : BTreeSet (String Global)) (r : Row) where
   abbrev pub IsByOther : List ℕ → Type 0
   IsByOther author = (decider : List ℕ) × (column r 7 ≡ Text decider) × (decider ≢ author) × IsAmong names decider
+
+  pub other_of : (author decider : List ℕ) → column r 7 ≡ Text decider → IsByOther author → (decider ≢ author) × IsAmong names decider
+  other_of author decider at it = subst (λ d. (d ≢ author) × IsAmong names d) (texts_same _ _ (sym it.1 ∙ at)) (it.2, it.3)
+
+  pub pending : (author : List ℕ) → column r 6 ≡ number 0 → column r 7 ≡ Text [] → column r 8 ≡ Text [] → StandsInRows names r author
+  pending author e decider none = (Pending, e, decider, none, tt)
+
+  pub withdrawn : (author : List ℕ) → column r 6 ≡ number 3 → column r 7 ≡ Text author → column r 8 ≡ Text [] → StandsInRows names r author
+  withdrawn author e decider none = (Withdrawn, e, decider, none, tt)
+
+  pub pending_parts : (author : List ℕ) → column r 6 ≡ number 0 → StandsInRows names r author → (column r 7 ≡ Text []) × (column r 8 ≡ Text [])
+  pending_parts author e (Pending, n, d, w, good) = (d, w)
+  pending_parts author e (Approved decider, n, d, w, good) = absurd (let bad : 0 ≡ 1 = numbers_same 0 1 (sym e ∙ n) in omega (arith, bad))
+  pending_parts author e (Rejected decider reason, n, d, w, good) = absurd (let bad : 0 ≡ 2 = numbers_same 0 2 (sym e ∙ n) in omega (arith, bad))
+  pending_parts author e (Withdrawn, n, d, w, good) = absurd (let bad : 0 ≡ 3 = numbers_same 0 3 (sym e ∙ n) in omega (arith, bad))
+
+  pub withdrawn_parts : (author : List ℕ) → column r 6 ≡ number 3 → StandsInRows names r author → (column r 7 ≡ Text author) × (column r 8 ≡ Text [])
+  withdrawn_parts author e (Pending, n, d, w, good) = absurd (let bad : 3 ≡ 0 = numbers_same 3 0 (sym e ∙ n) in omega (arith, bad))
+  withdrawn_parts author e (Approved decider, n, d, w, good) = absurd (let bad : 3 ≡ 1 = numbers_same 3 1 (sym e ∙ n) in omega (arith, bad))
+  withdrawn_parts author e (Rejected decider reason, n, d, w, good) = absurd (let bad : 3 ≡ 2 = numbers_same 3 2 (sym e ∙ n) in omega (arith, bad))
+  withdrawn_parts author e (Withdrawn, n, d, w, good) = (d, w)
+
+  pub approved_by : (author : List ℕ) → column r 6 ≡ number 1 → StandsInRows names r author → IsByOther author
+  approved_by author e (Pending, n, d, w, good) = absurd (let bad : 1 ≡ 0 = numbers_same 1 0 (sym e ∙ n) in omega (arith, bad))
+  approved_by author e (Approved decider, n, d, w, good) = (decider, d, good.0, good.1)
+  approved_by author e (Rejected decider reason, n, d, w, good) = (decider, d, good.0, good.1)
+  approved_by author e (Withdrawn, n, d, w, good) = absurd (let bad : 1 ≡ 3 = numbers_same 1 3 (sym e ∙ n) in omega (arith, bad))
+
+  pub rejected_by : (author : List ℕ) → column r 6 ≡ number 2 → StandsInRows names r author → IsByOther author
+  rejected_by author e (Pending, n, d, w, good) = absurd (let bad : 2 ≡ 0 = numbers_same 2 0 (sym e ∙ n) in omega (arith, bad))
+  rejected_by author e (Approved decider, n, d, w, good) = (decider, d, good.0, good.1)
+  rejected_by author e (Rejected decider reason, n, d, w, good) = (decider, d, good.0, good.1)
+  rejected_by author e (Withdrawn, n, d, w, good) = absurd (let bad : 2 ≡ 3 = numbers_same 2 3 (sym e ∙ n) in omega (arith, bad))
 
   pub approved : (author : List ℕ) → column r 6 ≡ number 1 → IsByOther author → column r 8 ≡ Text [] → StandsInRows names r author
   approved author e by none = (Approved by.0, e, by.1, none, (by.2, by.3))
