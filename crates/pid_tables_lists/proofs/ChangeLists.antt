@@ -39,10 +39,10 @@ use Rattle.pid_tables_rows.specs.TableRows.{number, since_row}
 use Rattle.pid_tables_rows.proofs.Lengths.{IsDistinct}
 use Rattle.pid_tables_rows.proofs.MapLemmas.{none_over}
 use Rattle.pid_tables_rows.proofs.OneRowEach.{below_differs, none_among, rising_apart}
-use Rattle.pid_tables_rows.proofs.QueryTexts.{IsOneAs, in_order}
+use Rattle.pid_tables_rows.proofs.QueryTexts.{IsOneAs, one_alone, in_order}
 use Rattle.pid_tables_rows.proofs.RangeLemmas.{above, found_in, found_at}
 use Rattle.pid_tables_rows.proofs.Select.{passing, out, text_equal}
-use Rattle.pid_tables_rows.proofs.Statements.{program, listing}
+use Rattle.pid_tables_rows.proofs.Statements.{program, listing, IsAlone, command_alone, plain_alone}
 use Rattle.pid_tables_rows.proofs.TurnLemmas.{hits}
 use Rattle.pid_moderation.specs.ChangePages.{changes_in, is_later, numbered_in, AreHeld}
 use Rattle.pid_tables_lists.specs.Steps.ChangeRows.{since_shown, AreNamed, held}
@@ -56,21 +56,22 @@ select_changes = codes "SELECT path, since FROM item_since WHERE path > ?1 AND s
 abbrev pub later : List Term
 later = op2 (Compare Gt Binary) (col 1 1) (col 0 0) ∷ op2 (Compare Gt Binary) (col 1 2) (col 0 1) ∷ []
 
-pub select_changes_is : command_of (understood pid_schema select_changes) ≡ Select (program (listing 11 later both_columns by_path a_hundred)) (codes "path" ∷ codes "since" ∷ [])
+select_changes_alone : IsAlone pid_schema select_changes (Select (program (listing 11 later both_columns by_path a_hundred)) (codes "path" ∷ codes "since" ∷ [])) 2
 unfolding understood everything
-select_changes_is = refl
+select_changes_alone = refl
+
+pub select_changes_is : command_of (understood pid_schema select_changes) ≡ Select (program (listing 11 later both_columns by_path a_hundred)) (codes "path" ∷ codes "since" ∷ [])
+select_changes_is = command_alone pid_schema select_changes _ 2 select_changes_alone
 
 pub select_changes_plain : IsPlain (understood pid_schema select_changes)
-unfolding understood everything
-select_changes_plain = (refl, refl)
+select_changes_plain = plain_alone pid_schema select_changes _ 2 select_changes_alone
 
 pub select_changes_unlisted : reads_listing pid_schema select_changes ≡ false
 unfolding understood everything
 select_changes_unlisted = refl
 
 changes_one : (after : List ℕ) (floor : ℕ) → IsOneAs select_changes (Text after ∷ number floor ∷ []) (understood pid_schema select_changes)
-unfolding understood everything
-changes_one after floor = record { whole = omega arith; given = refl; bare = refl; timeless = refl }
+changes_one after floor = one_alone select_changes (Text after ∷ number floor ∷ []) (understood pid_schema select_changes) _ select_changes_alone
 
 pub changes_query : (after : List ℕ) (floor : ℕ) → IsQuery pid_schema select_changes (Text after ∷ number floor ∷ [])
 changes_query after floor = in_order pid_schema select_changes (Text after ∷ number floor ∷ []) 11 later both_columns (codes "path" ∷ codes "since" ∷ []) (changes_one after floor) by_path a_hundred select_changes_is select_changes_unlisted refl

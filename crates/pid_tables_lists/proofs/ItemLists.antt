@@ -31,9 +31,9 @@ use Rattle.pid_tables_rows.specs.Schema.{pid_schema}
 use Rattle.pid_tables_rows.specs.TableRows.{item_row}
 use Rattle.pid_tables_rows.specs.Steps.Answers.{item_shown}
 use Rattle.pid_tables_rows.specs.Shows.{Counts, ShowsCounting}
-use Rattle.pid_tables_rows.proofs.Statements.{program, listing, whole}
+use Rattle.pid_tables_rows.proofs.Statements.{program, listing, whole, IsAlone, command_alone, plain_alone}
 use Rattle.pid_tables_rows.proofs.MapLemmas.{none_over}
-use Rattle.pid_tables_rows.proofs.QueryTexts.{IsOneAs, in_order}
+use Rattle.pid_tables_rows.proofs.QueryTexts.{IsOneAs, one_alone, in_order}
 use Rattle.pid_tables_rows.specs.Queries.{IsQuery}
 use Rattle.pid_tables_rows.proofs.Lengths.{IsDistinct}
 use Rattle.pid_tables_rows.proofs.OneRowEach.{item_keys_apart}
@@ -132,13 +132,15 @@ module _ (tests : List Term) (limit : Term) (params : Row) where
 abbrev pub select_all : List ℕ
 select_all = codes "SELECT path, name FROM item ORDER BY path"
 
-pub select_all_is : command_of (understood pid_schema select_all) ≡ Select (program (listing 4 [] both_columns by_path whole)) (codes "path" ∷ codes "name" ∷ [])
+select_all_alone : IsAlone pid_schema select_all (Select (program (listing 4 [] both_columns by_path whole)) (codes "path" ∷ codes "name" ∷ [])) 0
 unfolding understood everything
-select_all_is = refl
+select_all_alone = refl
+
+pub select_all_is : command_of (understood pid_schema select_all) ≡ Select (program (listing 4 [] both_columns by_path whole)) (codes "path" ∷ codes "name" ∷ [])
+select_all_is = command_alone pid_schema select_all _ 0 select_all_alone
 
 pub select_all_plain : IsPlain (understood pid_schema select_all)
-unfolding understood everything
-select_all_plain = (refl, refl)
+select_all_plain = plain_alone pid_schema select_all _ 0 select_all_alone
 
 pub select_all_unlisted : reads_listing pid_schema select_all ≡ false
 unfolding understood everything
@@ -150,8 +152,7 @@ unfolding everything
 select_all_shows = λ schema base. refl
 
 all_one : IsOneAs select_all [] (understood pid_schema select_all)
-unfolding understood everything
-all_one = record { whole = omega arith; given = refl; bare = refl; timeless = refl }
+all_one = one_alone select_all [] (understood pid_schema select_all) _ select_all_alone
 
 pub all_query : IsQuery pid_schema select_all []
 all_query = in_order pid_schema select_all [] 4 [] both_columns (codes "path" ∷ codes "name" ∷ []) all_one by_path whole select_all_is select_all_unlisted refl
@@ -181,21 +182,22 @@ module _ (db : Database) (c : Counts) (v : Views) (shows : ShowsCounting c db v)
 abbrev pub select_range : List ℕ
 select_range = codes "SELECT path, name FROM item WHERE path > ?1 AND path < ?2 ORDER BY path"
 
-pub select_range_is : command_of (understood pid_schema select_range) ≡ Select (program (listing 4 in_range both_columns by_path whole)) (codes "path" ∷ codes "name" ∷ [])
+select_range_alone : IsAlone pid_schema select_range (Select (program (listing 4 in_range both_columns by_path whole)) (codes "path" ∷ codes "name" ∷ [])) 2
 unfolding understood everything
-select_range_is = refl
+select_range_alone = refl
+
+pub select_range_is : command_of (understood pid_schema select_range) ≡ Select (program (listing 4 in_range both_columns by_path whole)) (codes "path" ∷ codes "name" ∷ [])
+select_range_is = command_alone pid_schema select_range _ 2 select_range_alone
 
 pub select_range_plain : IsPlain (understood pid_schema select_range)
-unfolding understood everything
-select_range_plain = (refl, refl)
+select_range_plain = plain_alone pid_schema select_range _ 2 select_range_alone
 
 pub select_range_unlisted : reads_listing pid_schema select_range ≡ false
 unfolding understood everything
 select_range_unlisted = refl
 
 range_one : (low high : List ℕ) → IsOneAs select_range (Text low ∷ Text high ∷ []) (understood pid_schema select_range)
-unfolding understood everything
-range_one low high = record { whole = omega arith; given = refl; bare = refl; timeless = refl }
+range_one low high = one_alone select_range (Text low ∷ Text high ∷ []) (understood pid_schema select_range) _ select_range_alone
 
 pub range_query : (low high : List ℕ) → IsQuery pid_schema select_range (Text low ∷ Text high ∷ [])
 range_query low high = in_order pid_schema select_range (Text low ∷ Text high ∷ []) 4 in_range both_columns (codes "path" ∷ codes "name" ∷ []) (range_one low high) by_path whole select_range_is select_range_unlisted refl

@@ -42,9 +42,9 @@ use Rattle.pid_tables_rows.proofs.ReadBack.{standing_readable}
 use Rattle.pid_tables_rows.specs.Causes.{IsReadable}
 use Rattle.std.proofs.lemmas.Option.{slice_get_within}
 use Rattle.pid_tables_rows.specs.Shows.{Counts, ShowsCounting, AreViews}
-use Rattle.pid_tables_rows.proofs.Statements.{program, listing}
+use Rattle.pid_tables_rows.proofs.Statements.{program, listing, IsAlone, command_alone, plain_alone}
 use Rattle.pid_tables_rows.proofs.MapLemmas.{none_over}
-use Rattle.pid_tables_rows.proofs.QueryTexts.{IsOneAs, in_order}
+use Rattle.pid_tables_rows.proofs.QueryTexts.{IsOneAs, one_alone, in_order}
 use Rattle.pid_tables_rows.specs.Queries.{IsQuery}
 use Rattle.pid_tables_rows.proofs.Keys.{pos_same}
 use Rattle.pid_tables_rows.proofs.OneRowEach.{rowids_apart}
@@ -70,22 +70,23 @@ by_number = (col 1 0, ascending Binary) ∷ []
 abbrev pub a_hundred : Term
 a_hundred = lit (Int (pos 100))
 
+select_page_alone : IsAlone pid_schema select_page (Select (program (listing 6 waiting as_it_stands by_number a_hundred)) (codes "author" ∷ codes "path" ∷ codes "form" ∷ codes "name" ∷ codes "note" ∷ codes "state" ∷ codes "decider" ∷ codes "reason" ∷ codes "num" ∷ [])) 1
+unfolding understood everything
+select_page_alone = refl
+
 pub select_page_is : command_of (understood pid_schema select_page) ≡ Select (program (listing 6 waiting as_it_stands by_number a_hundred))
     (codes "author" ∷ codes "path" ∷ codes "form" ∷ codes "name" ∷ codes "note" ∷ codes "state" ∷ codes "decider" ∷ codes "reason" ∷ codes "num" ∷ [])
-unfolding understood everything
-select_page_is = refl
+select_page_is = command_alone pid_schema select_page _ 1 select_page_alone
 
 pub select_page_plain : IsPlain (understood pid_schema select_page)
-unfolding understood everything
-select_page_plain = (refl, refl)
+select_page_plain = plain_alone pid_schema select_page _ 1 select_page_alone
 
 pub select_page_unlisted : reads_listing pid_schema select_page ≡ false
 unfolding understood everything
 select_page_unlisted = refl
 
 page_one : (after : ℕ) → IsOneAs select_page (number after ∷ []) (understood pid_schema select_page)
-unfolding understood everything
-page_one after = record { whole = omega arith; given = refl; bare = refl; timeless = refl }
+page_one after = one_alone select_page (number after ∷ []) (understood pid_schema select_page) _ select_page_alone
 
 pub page_query : (after : ℕ) → IsQuery pid_schema select_page (number after ∷ [])
 page_query after = in_order pid_schema select_page (number after ∷ []) 6 waiting as_it_stands

@@ -32,9 +32,9 @@ use Rattle.pid_tables_rows.specs.Schema.{pid_schema, remark}
 use Rattle.pid_tables_rows.specs.TableRows.{number, remark_row}
 use Rattle.pid_tables_rows.specs.Steps.Answers.{remark_shown}
 use Rattle.pid_tables_rows.specs.Shows.{Counts, ShowsCounting, counted_from_one}
-use Rattle.pid_tables_rows.proofs.Statements.{program, listing, whole}
+use Rattle.pid_tables_rows.proofs.Statements.{program, listing, whole, IsAlone, command_alone, plain_alone}
 use Rattle.pid_tables_rows.proofs.MapLemmas.{none_over}
-use Rattle.pid_tables_rows.proofs.QueryTexts.{IsOneAs, in_order}
+use Rattle.pid_tables_rows.proofs.QueryTexts.{IsOneAs, one_alone, in_order}
 use Rattle.pid_tables_rows.specs.Queries.{IsQuery}
 use Rattle.pid_tables_rows.proofs.Keys.{pos_same}
 use Rattle.pid_tables_rows.proofs.KeyTexts.{by_first}
@@ -52,21 +52,22 @@ what_is_said = col 1 3 ∷ col 1 4 ∷ []
 abbrev pub by_place : List (Term × Key)
 by_place = (col 1 2, ascending Binary) ∷ []
 
-pub select_remarks_is : command_of (understood pid_schema select_remarks) ≡ Select (program (listing 7 by_first what_is_said by_place whole)) (codes "author" ∷ codes "body" ∷ [])
+select_remarks_alone : IsAlone pid_schema select_remarks (Select (program (listing 7 by_first what_is_said by_place whole)) (codes "author" ∷ codes "body" ∷ [])) 1
 unfolding understood everything
-select_remarks_is = refl
+select_remarks_alone = refl
+
+pub select_remarks_is : command_of (understood pid_schema select_remarks) ≡ Select (program (listing 7 by_first what_is_said by_place whole)) (codes "author" ∷ codes "body" ∷ [])
+select_remarks_is = command_alone pid_schema select_remarks _ 1 select_remarks_alone
 
 pub select_remarks_plain : IsPlain (understood pid_schema select_remarks)
-unfolding understood everything
-select_remarks_plain = (refl, refl)
+select_remarks_plain = plain_alone pid_schema select_remarks _ 1 select_remarks_alone
 
 pub select_remarks_unlisted : reads_listing pid_schema select_remarks ≡ false
 unfolding understood everything
 select_remarks_unlisted = refl
 
 remarks_one : (n : ℕ) → IsOneAs select_remarks (number n ∷ []) (understood pid_schema select_remarks)
-unfolding understood everything
-remarks_one n = record { whole = omega arith; given = refl; bare = refl; timeless = refl }
+remarks_one n = one_alone select_remarks (number n ∷ []) (understood pid_schema select_remarks) _ select_remarks_alone
 
 pub remarks_query : (n : ℕ) → IsQuery pid_schema select_remarks (number n ∷ [])
 remarks_query n = in_order pid_schema select_remarks (number n ∷ []) 7 by_first what_is_said (codes "author" ∷ codes "body" ∷ []) (remarks_one n) by_place whole select_remarks_is select_remarks_unlisted refl

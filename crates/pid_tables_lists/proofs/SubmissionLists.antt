@@ -43,9 +43,9 @@ use Rattle.pid_tables_rows.specs.Queries.{IsQuery}
 use Rattle.pid_tables_rows.specs.Shows.{Counts, ShowsCounting}
 use Rattle.pid_tables_rows.proofs.MapLemmas.{none_over}
 use Rattle.pid_tables_rows.proofs.OneRowEach.{rowids_apart}
-use Rattle.pid_tables_rows.proofs.QueryTexts.{IsOneAs, in_order}
+use Rattle.pid_tables_rows.proofs.QueryTexts.{IsOneAs, one_alone, in_order}
 use Rattle.pid_tables_rows.proofs.Select.{passing, said, out}
-use Rattle.pid_tables_rows.proofs.Statements.{program, listing}
+use Rattle.pid_tables_rows.proofs.Statements.{program, listing, IsAlone, command_alone, plain_alone}
 use Rattle.pid_tables_rows.proofs.TurnLemmas.{hits, permuted}
 use Rattle.pid_tables_lists.specs.Steps.SubmissionRows.{WantedRows, is_any_or, is_asked, latest_asked, numbers_among}
 use Rattle.pid_tables_lists.proofs.ItemLists.{kept_distinct, finer_distinct}
@@ -68,13 +68,15 @@ its_number = col 1 0 ∷ []
 abbrev pub falling : List (Term × Key)
 falling = (col 1 0, record { collation = Binary; descending = true }) ∷ []
 
-pub select_numbers_is : command_of (understood pid_schema select_numbers) ≡ Select (program (listing 6 asked_for its_number falling a_hundred)) (codes "num" ∷ [])
+select_numbers_alone : IsAlone pid_schema select_numbers (Select (program (listing 6 asked_for its_number falling a_hundred)) (codes "num" ∷ [])) 4
 unfolding understood everything
-select_numbers_is = refl
+select_numbers_alone = refl
+
+pub select_numbers_is : command_of (understood pid_schema select_numbers) ≡ Select (program (listing 6 asked_for its_number falling a_hundred)) (codes "num" ∷ [])
+select_numbers_is = command_alone pid_schema select_numbers _ 4 select_numbers_alone
 
 pub select_numbers_plain : IsPlain (understood pid_schema select_numbers)
-unfolding understood everything
-select_numbers_plain = (refl, refl)
+select_numbers_plain = plain_alone pid_schema select_numbers _ 4 select_numbers_alone
 
 pub select_numbers_unlisted : reads_listing pid_schema select_numbers ≡ false
 unfolding understood everything
@@ -85,8 +87,7 @@ abbrev pub params_of : WantedRows → Row
 params_of asked = number asked.low ∷ number asked.last ∷ Text asked.path ∷ Text asked.author ∷ []
 
 numbers_one : (asked : WantedRows) → IsOneAs select_numbers (params_of asked) (understood pid_schema select_numbers)
-unfolding understood everything
-numbers_one asked = record { whole = omega arith; given = refl; bare = refl; timeless = refl }
+numbers_one asked = one_alone select_numbers (params_of asked) (understood pid_schema select_numbers) _ select_numbers_alone
 
 pub numbers_query : (asked : WantedRows) → IsQuery pid_schema select_numbers (params_of asked)
 numbers_query asked = in_order pid_schema select_numbers (params_of asked) 6 asked_for its_number (codes "num" ∷ []) (numbers_one asked) falling a_hundred select_numbers_is select_numbers_unlisted refl
