@@ -144,3 +144,7 @@ passed_from (Err y) e Q h q = subst Q (sym h) q
 pub both : {X E : Type 0} (r : Result X E) (P : X → Type 0) (Q : E → Type 0) → IfOk r P → IfErr r Q → MatchResult r P Q
 both (Ok x) P Q p q = p
 both (Err e) P Q p q = q
+
+pub no_value : {X : Type 0} (r : Result X TableFault) (e : TableFault) (P : X → Type 0) → IsErrAnd r (λ y. y ≡ e) → IfOk r P
+no_value (Ok x) e P h = absurd h
+no_value (Err y) e P h = tt

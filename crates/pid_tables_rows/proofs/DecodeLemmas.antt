@@ -22,14 +22,14 @@ use Rattle.pid_tables_rows.specs.TableRows.{number, form_of, name_of, state_numb
 use Rattle.pid_moderation.specs.Submissions.{Standing, decider_of, reason_of, standing_in, standing_of}
 use Rattle.pid_tables_rows.specs.Answers.{standing_row}
 use Rattle.pid_tables_rows.specs.Steps.Answers.{name_row, rank_row, reply_row}
-use Rattle.pid_tables_rows.specs.Steps.Unread.{IsReplyOf}
+use Rattle.pid_tables_rows.specs.Steps.Unread.{IsReplyIn}
 use Rattle.pid_tables_rows.specs.Shows.{AreViews}
 use Rattle.pid_tables_rows.specs.Standings.{ReadsTo}
 
 pub number_same : (m n : ℕ) → number m ≡ number n → m ≡ n
 number_same m n e = cc
 
-text_same : (s t : List ℕ) → Text s ≡ Text t → s ≡ t
+pub text_same : (s t : List ℕ) → Text s ≡ Text t → s ≡ t
 text_same s t e = cc
 
 pub some_row : {X : Type 0} (row_of : X → Row) (o : Option X) (row : Row) → Some row ≡ option_map row_of o → (x : X) × (o ≡ Some x) × (row ≡ row_of x)
@@ -81,7 +81,7 @@ replies_same (Counts x y z) Done k a b c = absurd (let bad : ⊥ = cc in bad)
 replies_same (Counts x y z) (Numbered n) k a b c = absurd (let bad : ⊥ = cc in bad)
 replies_same (Counts x y z) (Counts p q r) k a b c = λ i. Counts (a i) (b i) (c i)
 
-pub reply_read : (o : Option Reply) (row : Row) (reply : Reply) → Some row ≡ option_map reply_row o → IsReplyOf row reply → Some reply ≡ o
+pub reply_read : (o : Option Reply) (row : Row) (reply : Reply) → Some row ≡ option_map reply_row o → IsReplyIn row reply → Some reply ≡ o
 reply_read o row reply first (kind, a, b, c) =
     let it = some_row reply_row o row first in
     let at = λ (i : ℕ). ap (λ r. column r i) (sym it.2) in

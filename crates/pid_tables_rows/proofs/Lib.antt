@@ -27,6 +27,7 @@ pub mod CauseLemmas
 pub mod QueryTexts
 pub mod WriteFaults
 pub mod UnreadLemmas
+mod WrittenLemmas
 pub mod ReadBack
 pub mod SoundReads
 pub mod LabelTexts

@@ -21,7 +21,7 @@ ghost use Rattle.pid_tables_rows.specs.Steps.Unread.{
   IsProposalOf,
   IsState,
   IsStateOf,
-  IsReplyOf,
+  IsReplyIn,
   IsReplyRow,
 };
 ghost use Rattle.pid_tables_rows.specs.TableRows.{number};
@@ -210,7 +210,7 @@ pub(crate) fn state_at(row: &Row, alloc: Global, author: &Account) -> Result<Sta
 
 /// A reply by its kind and its three numbers.
 pub(crate) fn reply_at(row: &Row) -> Result<Reply, TableFault>
-    ensures read { IfOk result (IsReplyOf row.now) }
+    ensures read { IfOk result (IsReplyIn row.now) }
     ensures unread { IfErr result (IsUnreadable (IsReplyRow row.now)) }
 {
     let kind = number_at(row, 0)?;

@@ -41,10 +41,10 @@ IsState author told decider reason = (state : State) × IsReadableState state
     × IsStateOf author told decider reason state
 
 -- the row of a reply
-abbrev pub IsReplyOf : Row → Reply → Type 0
-IsReplyOf row reply = (column row 0 ≡ number (reply_kind reply))
+abbrev pub IsReplyIn : Row → Reply → Type 0
+IsReplyIn row reply = (column row 0 ≡ number (reply_kind reply))
     × (column row 1 ≡ number (first_number reply))
     × (column row 2 ≡ number (second_number reply)) × (column row 3 ≡ number (third_number reply))
 
 abbrev pub IsReplyRow : Row → Type 0
-IsReplyRow row = (reply : Reply) × IsReadableReply reply × IsReplyOf row reply
+IsReplyRow row = (reply : Reply) × IsReadableReply reply × IsReplyIn row reply

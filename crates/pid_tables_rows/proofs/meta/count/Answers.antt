@@ -8,6 +8,7 @@ use Rattle.pid_tables_rows.proofs.DecodeLemmas.{no_row}
 use Rattle.pid_tables_rows.proofs.ReadBack.{value_read, meta_fits, meta_there}
 use Rattle.pid_tables_rows.proofs.LabelLemmas.{number_shown, number_refused, none_shown, query_refused, unread_never}
 use Rattle.pid_tables_rows.proofs.CauseLemmas.{passed_from}
+use Rattle.pid_tables_rows.specs.Faults.{IsNotNewerSchema}
 use Rattle.pid_tables_rows.specs.LabelRows.{IsDamageOf, ShowsNoNumber}
 use Rattle.pid_tables_rows.proofs.meta.count.Goals as goal
 
@@ -44,3 +45,15 @@ returns-in_err-rows-clause-refused g c clean =
 
 pub returns-in-Some-clause-never : goal.returns-in-Some-clause-never
 returns-in-Some-clause-never g c = unread_never _ c.number_at.result c.number_at.ensures.unread
+
+pub returns-in_err-rows-clause-rests : goal.returns-in_err-rows-clause-rests
+returns-in_err-rows-clause-rests g c = c.in_err-rows.ensures.reads.rests
+
+pub returns-in-Some-clause-rests : goal.returns-in-Some-clause-rests
+returns-in-Some-clause-rests g c = c.in_ok-rows.ensures.reads.rests
+
+pub returns-clause-rests : goal.returns-clause-rests
+returns-clause-rests g c = c.in_ok-rows.ensures.reads.rests
+
+pub returns-in_err-rows-clause-never : goal.returns-in_err-rows-clause-never
+returns-in_err-rows-clause-never g c = passed_from c.from_residual.result _ IsNotNewerSchema c.from_residual.ensures.1 c.in_err-rows.ensures.never
