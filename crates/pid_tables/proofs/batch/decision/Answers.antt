@@ -1,4 +1,4 @@
-use Rattle.std.proofs.Common.{sym, subst}
+use Rattle.std.proofs.Common.{sym, subst, ◌∙◌}
 use Rattle.sqlite.specs.Held.{state}
 use Rattle.pid_tables_rows.specs.Faults.{IsMemoryOrStore}
 use Rattle.pid_tables_rows.specs.Shows.{ShowsCounting}
@@ -51,3 +51,17 @@ returns-in_ok-edit_item-in-Some-clause-goes g c =
     let end = state g.S.Store c.count_items.new.tx.conn.now in
     goes_then (state g.S.Store c.args.batch.now.conn.now) a end _ c.count_items.result c.in_ok-decide.ensures.goes
     (goes_then a (state g.S.Store c.edit_item.new.batch.conn.now) end _ c.count_items.result c.in_ok-edit_item-in-Some.ensures.goes c.count_items.ensures.goes)
+
+-- ---- the connection is lent on
+
+pub returns-in_err-decide-clause-same_reference : goal.returns-in_err-decide-clause-same_reference
+returns-in_err-decide-clause-same_reference g c = c.decide.ensures.same_reference
+
+pub returns-in-None-clause-same_reference : goal.returns-in-None-clause-same_reference
+returns-in-None-clause-same_reference g c = c.decide.ensures.same_reference
+
+pub returns-in_err-edit_item-in-Some-clause-same_reference : goal.returns-in_err-edit_item-in-Some-clause-same_reference
+returns-in_err-edit_item-in-Some-clause-same_reference g c = c.edit_item.ensures.same_reference ∙ c.decide.ensures.same_reference
+
+pub returns-in_ok-edit_item-in-Some-clause-same_reference : goal.returns-in_ok-edit_item-in-Some-clause-same_reference
+returns-in_ok-edit_item-in-Some-clause-same_reference g c = c.count_items.ensures.same_reference ∙ (c.edit_item.ensures.same_reference ∙ c.decide.ensures.same_reference)

@@ -1,3 +1,4 @@
+use Rattle.std.proofs.Common.{◌∙◌}
 use Rattle.sqlite.specs.Held.{state}
 use Rattle.pid_tables_rows.specs.Faults.{IsMemoryOrStore}
 use Rattle.pid_tables_rows.proofs.CauseLemmas.{passed_on}
@@ -24,3 +25,11 @@ returns-in_err-add_submission-clause-goes g c =
 pub returns-clause-goes : goal.returns-clause-goes
 returns-clause-goes g c =
     goes_then (state g.S.Store c.args.batch.now.conn.now) (state g.S.Store c.add_submission.new.tx.conn.now) (state g.S.Store c.count_submissions.new.tx.conn.now) _ c.count_submissions.result c.in_ok-add_submission.ensures.goes c.count_submissions.ensures.goes
+
+-- ---- the connection is lent on
+
+pub returns-in_err-add_submission-clause-same_reference : goal.returns-in_err-add_submission-clause-same_reference
+returns-in_err-add_submission-clause-same_reference g c = c.add_submission.ensures.same_reference
+
+pub returns-clause-same_reference : goal.returns-clause-same_reference
+returns-clause-same_reference g c = c.count_submissions.ensures.same_reference ∙ c.add_submission.ensures.same_reference

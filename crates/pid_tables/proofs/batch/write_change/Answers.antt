@@ -1,4 +1,4 @@
-use Rattle.std.proofs.Common.{Ok, Some, None, subst}
+use Rattle.std.proofs.Common.{Ok, Some, None, subst, ◌∙◌}
 use Rattle.sqlite.specs.Held.{state}
 use Rattle.pid_moderation.specs.Changes.{FitsReceipt}
 use Rattle.pid_tables_rows.specs.Faults.{IsMemoryOrStore}
@@ -65,3 +65,17 @@ returns-in-Some-clause-goes g c =
     let new = state g.S.Store c.keep_reply.new.tx.conn.now in
     goes_then (state g.S.Store c.args.batch.now.conn.now) mid new _ c.keep_reply.result c.in_ok-write_effect.ensures.goes
     (goes_then mid (state g.S.Store c.set_revision.new.tx.conn.now) new _ c.keep_reply.result c.in_ok-set_revision.ensures.goes c.keep_reply.ensures.goes)
+
+-- ---- the connection is lent on
+
+pub returns-in_err-write_effect-clause-same_reference : goal.returns-in_err-write_effect-clause-same_reference
+returns-in_err-write_effect-clause-same_reference g c = c.write_effect.ensures.same_reference
+
+pub returns-in_err-set_revision-clause-same_reference : goal.returns-in_err-set_revision-clause-same_reference
+returns-in_err-set_revision-clause-same_reference g c = c.set_revision.ensures.same_reference ∙ c.write_effect.ensures.same_reference
+
+pub returns-in-None-clause-same_reference : goal.returns-in-None-clause-same_reference
+returns-in-None-clause-same_reference g c = c.set_revision.ensures.same_reference ∙ c.write_effect.ensures.same_reference
+
+pub returns-in-Some-clause-same_reference : goal.returns-in-Some-clause-same_reference
+returns-in-Some-clause-same_reference g c = c.keep_reply.ensures.same_reference ∙ (c.set_revision.ensures.same_reference ∙ c.write_effect.ensures.same_reference)

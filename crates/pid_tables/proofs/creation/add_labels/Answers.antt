@@ -1,4 +1,4 @@
-use Rattle.std.proofs.Common.{ℕ, List, [], ◌∷◌, ◌++◌, None, Ok, refl, codes}
+use Rattle.std.proofs.Common.{ℕ, List, [], ◌∷◌, ◌++◌, None, Ok, refl, codes, ◌∙◌}
 use Rattle.sqlite.specs.Held.{state}
 use Rattle.sqlite.specs.declared.types.Value.TheVariants.{Text}
 use Rattle.pid_tables_rows.specs.TableRows.{number}
@@ -122,3 +122,17 @@ returns-in_err-add_label-2-clause-carried g c clean inside = not_on_ok c.from_re
 
 pub returns-in_err-add_label-3-clause-carried : goal.returns-in_err-add_label-3-clause-carried
 returns-in_err-add_label-3-clause-carried g c clean inside = not_on_ok c.from_residual-in_err-add_label-3.result _ _ c.from_residual-in_err-add_label-3.ensures.1
+
+-- ---- the connection is lent on
+
+pub returns-in_err-add_label-clause-same_reference : goal.returns-in_err-add_label-clause-same_reference
+returns-in_err-add_label-clause-same_reference g c = c.add_label.ensures.same_reference
+
+pub returns-in_err-add_label-2-clause-same_reference : goal.returns-in_err-add_label-2-clause-same_reference
+returns-in_err-add_label-2-clause-same_reference g c = c.add_label-2.ensures.same_reference ∙ c.add_label.ensures.same_reference
+
+pub returns-in_err-add_label-3-clause-same_reference : goal.returns-in_err-add_label-3-clause-same_reference
+returns-in_err-add_label-3-clause-same_reference g c = c.add_label-3.ensures.same_reference ∙ (c.add_label-2.ensures.same_reference ∙ c.add_label.ensures.same_reference)
+
+pub returns-clause-same_reference : goal.returns-clause-same_reference
+returns-clause-same_reference g c = c.add_label-4.ensures.same_reference ∙ (c.add_label-3.ensures.same_reference ∙ (c.add_label-2.ensures.same_reference ∙ c.add_label.ensures.same_reference))

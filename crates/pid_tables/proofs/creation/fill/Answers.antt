@@ -1,4 +1,4 @@
-use Rattle.std.proofs.Common.{[], ◌∷◌, ◌++◌, codes, refl}
+use Rattle.std.proofs.Common.{[], ◌∷◌, ◌++◌, codes, refl, ◌∙◌}
 use Rattle.sqlite.specs.Held.{state}
 use Rattle.sqlite.specs.declared.types.Value.TheVariants.{Text}
 use Rattle.pid_moderation.specs.declared.rank.Rank.TheVariants.{Administrator}
@@ -121,3 +121,14 @@ returns-in_err-make_tables-clause-carried g c clean inside = not_on_ok c.from_re
 
 pub returns-in_err-add_labels-clause-carried : goal.returns-in_err-add_labels-clause-carried
 returns-in_err-add_labels-clause-carried g c clean inside = not_on_ok c.from_residual-in_err-add_labels.result _ _ c.from_residual-in_err-add_labels.ensures.1
+
+-- ---- the connection is lent on
+
+pub returns-in_err-make_tables-clause-same_reference : goal.returns-in_err-make_tables-clause-same_reference
+returns-in_err-make_tables-clause-same_reference g c = c.make_tables.ensures.same_reference
+
+pub returns-in_err-add_labels-clause-same_reference : goal.returns-in_err-add_labels-clause-same_reference
+returns-in_err-add_labels-clause-same_reference g c = c.add_labels.ensures.same_reference ∙ c.make_tables.ensures.same_reference
+
+pub returns-clause-same_reference : goal.returns-clause-same_reference
+returns-clause-same_reference g c = c.write_one.ensures.same_reference ∙ (c.add_labels.ensures.same_reference ∙ c.make_tables.ensures.same_reference)

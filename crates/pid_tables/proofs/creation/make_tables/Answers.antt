@@ -1,4 +1,4 @@
-use Rattle.std.proofs.Common.{[], ◌∷◌, ◌++◌, refl, codes}
+use Rattle.std.proofs.Common.{[], ◌∷◌, ◌++◌, refl, codes, ◌∙◌}
 use Rattle.sqlite.specs.Held.{state}
 use Rattle.pid_tables_rows.specs.Faults.{IsMemoryOrStore, IsNotNewerSchema}
 use Rattle.pid_tables_rows.specs.Schema.{meta, account, item, submission, remark, receipt, item_since}
@@ -116,3 +116,14 @@ returns-in_err-make_three-clause-carried g c clean inside = not_on_ok c.from_res
 
 pub returns-in_err-make_three-2-clause-carried : goal.returns-in_err-make_three-2-clause-carried
 returns-in_err-make_three-2-clause-carried g c clean inside = not_on_ok c.from_residual-in_err-make_three-2.result _ _ c.from_residual-in_err-make_three-2.ensures.1
+
+-- ---- the connection is lent on
+
+pub returns-in_err-make_three-clause-same_reference : goal.returns-in_err-make_three-clause-same_reference
+returns-in_err-make_three-clause-same_reference g c = c.make_three.ensures.same_reference
+
+pub returns-in_err-make_three-2-clause-same_reference : goal.returns-in_err-make_three-2-clause-same_reference
+returns-in_err-make_three-2-clause-same_reference g c = c.make_three-2.ensures.same_reference ∙ c.make_three.ensures.same_reference
+
+pub returns-clause-same_reference : goal.returns-clause-same_reference
+returns-clause-same_reference g c = c.make_table.ensures.same_reference ∙ (c.make_three-2.ensures.same_reference ∙ c.make_three.ensures.same_reference)

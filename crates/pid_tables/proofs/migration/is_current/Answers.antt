@@ -94,3 +94,26 @@ returns-in-Err-Damaged-clause-named g c clean = λ is. absurd (false≢true is)
 
 pub returns-in-Err-Damaged-clause-was_open : goal.returns-in-Err-Damaged-clause-was_open
 returns-in-Err-Damaged-clause-was_open g c clean = c.in_ok-has_some_table.ensures.was_open (c.schema_number.ensures.reads.rests.clean clean)
+
+-- ---- the label cannot be read, and that is no damage
+
+pub returns-in-Err-clause-rests : goal.returns-in-Err-clause-rests
+returns-in-Err-clause-rests g c = reads_then _ _ _ c.has_some_table.ensures.reads.rests c.schema_number.ensures.reads.rests
+
+pub returns-in-Err-clause-named : goal.returns-in-Err-clause-named
+returns-in-Err-clause-named g c clean = tt
+
+pub returns-in-Err-clause-was_open : goal.returns-in-Err-clause-was_open
+returns-in-Err-clause-was_open g c clean = tt
+
+pub returns-in-Err-clause-bare : goal.returns-in-Err-clause-bare
+returns-in-Err-clause-bare g c clean none = tt
+
+pub returns-in-Ok-clause-untold : goal.returns-in-Ok-clause-untold
+returns-in-Ok-clause-untold g c = tt
+
+pub returns-in-Err-Damaged-clause-untold : goal.returns-in-Err-Damaged-clause-untold
+returns-in-Err-Damaged-clause-untold g c = tt
+
+pub returns-then-not-branch-clause-untold : goal.returns-then-not-branch-clause-untold
+returns-then-not-branch-clause-untold g c = tt

@@ -1,4 +1,4 @@
-use Rattle.std.proofs.Common.{Ok, [], ◌∷◌, codes, refl}
+use Rattle.std.proofs.Common.{Ok, [], ◌∷◌, codes, refl, ◌∙◌}
 use Rattle.sqlite.specs.Held.{state}
 use Rattle.sqlite.specs.declared.types.Value.TheVariants.{Text}
 use Rattle.pid_tables_rows.specs.Faults.{IsMemoryOrStore, IsNotNewerSchema}
@@ -139,3 +139,17 @@ returns-clause-goes g c =
     goes_then (state g.S.Store c.args.tx.now.conn.now) a end _ c.write_one-4.result c.in_ok-write_one.ensures.goes
     (goes_then a b end _ c.write_one-4.result c.in_ok-write_one-2.ensures.goes
     (goes_then b (state g.S.Store c.write_one-3.new.tx.conn.now) end _ c.write_one-4.result c.in_ok-write_one-3.ensures.goes c.write_one-4.ensures.goes))
+
+-- ---- the connection is lent on
+
+pub returns-in_err-write_one-clause-same_reference : goal.returns-in_err-write_one-clause-same_reference
+returns-in_err-write_one-clause-same_reference g c = c.write_one.ensures.same_reference
+
+pub returns-in_err-write_one-2-clause-same_reference : goal.returns-in_err-write_one-2-clause-same_reference
+returns-in_err-write_one-2-clause-same_reference g c = c.write_one-2.ensures.same_reference ∙ c.write_one.ensures.same_reference
+
+pub returns-in_err-write_one-3-clause-same_reference : goal.returns-in_err-write_one-3-clause-same_reference
+returns-in_err-write_one-3-clause-same_reference g c = c.write_one-3.ensures.same_reference ∙ (c.write_one-2.ensures.same_reference ∙ c.write_one.ensures.same_reference)
+
+pub returns-clause-same_reference : goal.returns-clause-same_reference
+returns-clause-same_reference g c = c.write_one-4.ensures.same_reference ∙ (c.write_one-3.ensures.same_reference ∙ (c.write_one-2.ensures.same_reference ∙ c.write_one.ensures.same_reference))

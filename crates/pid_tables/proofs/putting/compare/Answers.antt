@@ -47,3 +47,11 @@ returns-in_err-rows-clause-goes g c = goes_fault (state g.S.Store c.args.batch.n
 
 pub returns-in_err-rows-clause-found : goal.returns-in_err-rows-clause-found
 returns-in_err-rows-clause-found g c clean counts v shows = not_ok c.from_residual.result _ _ c.from_residual.ensures.1
+
+-- ---- the connection is lent on
+
+pub returns-in_err-rows-clause-same_reference : goal.returns-in_err-rows-clause-same_reference
+returns-in_err-rows-clause-same_reference g c = c.read_inside.ensures.same_reference
+
+pub returns-clause-same_reference : goal.returns-clause-same_reference
+returns-clause-same_reference g c = c.read_inside.ensures.same_reference

@@ -102,3 +102,23 @@ returns-in_err-rename_item-in-Renamed-clause-goes g c =
 
 pub returns-in_err-rename_item-in-Renamed-clause-told : goal.returns-in_err-rename_item-in-Renamed-clause-told
 returns-in_err-rename_item-in-Renamed-clause-told g c clean counts v shows = not_ok c.from_residual-in_err-rename_item-in-Renamed.result _ _ c.from_residual-in_err-rename_item-in-Renamed.ensures.1
+
+-- ---- the connection is lent on
+
+pub returns-in_err-compare-clause-same_reference : goal.returns-in_err-compare-clause-same_reference
+returns-in_err-compare-clause-same_reference g c = c.compare.ensures.same_reference
+
+pub returns-in_ok-add_item-in-Added-clause-same_reference : goal.returns-in_ok-add_item-in-Added-clause-same_reference
+returns-in_ok-add_item-in-Added-clause-same_reference g c = c.add_item.ensures.same_reference ∙ c.compare.ensures.same_reference
+
+pub returns-in_err-add_item-in-Added-clause-same_reference : goal.returns-in_err-add_item-in-Added-clause-same_reference
+returns-in_err-add_item-in-Added-clause-same_reference g c = c.add_item.ensures.same_reference ∙ c.compare.ensures.same_reference
+
+pub returns-in_ok-rename_item-in-Renamed-clause-same_reference : goal.returns-in_ok-rename_item-in-Renamed-clause-same_reference
+returns-in_ok-rename_item-in-Renamed-clause-same_reference g c = c.rename_item.ensures.same_reference ∙ c.compare.ensures.same_reference
+
+pub returns-in_err-rename_item-in-Renamed-clause-same_reference : goal.returns-in_err-rename_item-in-Renamed-clause-same_reference
+returns-in_err-rename_item-in-Renamed-clause-same_reference g c = c.rename_item.ensures.same_reference ∙ c.compare.ensures.same_reference
+
+pub returns-in-Same-clause-same_reference : goal.returns-in-Same-clause-same_reference
+returns-in-Same-clause-same_reference g c = c.compare.ensures.same_reference
