@@ -59,7 +59,24 @@ still_live false off = absurd (off refl)
 answered : {Y : Type 0} (y : Y) (e : Refusal) → ◌≡◌ {A = Result Y Refusal} (Ok y) (Err e) → ⊥
 answered y e is = cc
 
+-- a refusal, whatever was asked for
+abbrev refused_of : {X Y : Type 0} → Result X Refusal → Result Y Refusal
+refused_of (Ok x) = Err Failed
+refused_of (Err e) = Err e
+
 module _ {S : Type 0} (store : Ghosts S) where
+  -- a question that another one is refused by
+  pub answers_refused : {X Y : Type 0} (old new : Registry S store) (e : Refusal) (Told : History → X → Type 0) (Says : History → Y → Type 0) → Answers store old new (Err e) Told → Answers store old new (Err e) Says
+  answers_refused old new e Told Says refused = record {
+    failed = λ off. let f = refused.failed off in (ap refused_of f.0, f.1);
+    fault = refused.fault;
+    lives = refused.lives;
+    rests = refused.rests;
+    leaves = refused.leaves;
+    told = refused.told;
+    caused = refused.caused;
+  }
+
   -- a live one, with one question more
   pub asked_then : (start old new : Registry S store) → is_live old ≡ true → is_live new ≡ is_live old → OnlyReads store old new → SparesKept (kept_views old) (kept_views new) → OnlyAsked store start old → OnlyAsked store start new
   asked_then start old new on same reads spares asked = record {

@@ -25,7 +25,6 @@ const HEADER: u64 = 18;
 const BLOCK: u64 = 7;
 
 // The length of what comes before the spaces and the name in the line of an item.
-#[tactic(auto, using(crate::proofs::Labelled::label_of_text))]
 fn label_length(path: Path) -> u64
     ensures { result ≡ length (label_of (path_text path)) }
 {

@@ -1,5 +1,6 @@
 //! From the calls on registries to the crash prefix. Each law is the contract of a function that
-//! does nothing of its own.
+//! does nothing of its own, and follows from the proofs of `pid_service_laws`, which hold of any
+//! type of registries.
 //!
 //! The calls of a session each do what `clauses_meet_lives` says of their clauses. From the end of
 //! a session to the next opening leads `openings_find_histories`, over stops, failed openings and
@@ -36,9 +37,7 @@ impl<S: Alter + Drop> ShowsHistories for Registry<S> {
 /// stayed live, the command counts as not sent.
 pub fn clauses_meet_lives<S: Alter + Drop>()
     ensures { CallsMeetLives S.Store }
-{
-    pid_service_laws::calls_do::<Registry<S>>(); // proof only
-}
+{}
 
 /// The first opening. A database without tables has what the history of a new registry shows, and
 /// one that was just opened on tables has the history that they show, in whichever schema. The
@@ -94,7 +93,8 @@ pub fn histories_are_kept_between<S: Alter + Drop, T: Alter + Drop, U: Alter + D
 pub fn reopened_registries_show_prefixes<S: Alter + Drop, T: Alter + Drop>()
     ensures { ReopeningsShowPrefixes S.Store T.Store }
 {
-    pid_service_laws::openings_find_prefixes::<Registry<S>, Registry<T>>(); // proof only
+    pid_moderation::laws::keys_stand_once(); // proof only
+    pid_moderation::laws::marks_stay(); // proof only
     laws::reached_histories_are_kept(); // proof only
     pid_reader::laws::printed_trees_read_back(); // proof only
 }
@@ -104,6 +104,4 @@ pub fn reopened_registries_show_prefixes<S: Alter + Drop, T: Alter + Drop>()
 /// and the registry shows the history after the one command, whichever way the doubt went.
 pub fn repeats_end_doubts<S: Alter + Drop, T: Alter + Drop>()
     ensures { RepeatsEndDoubts S.Store T.Store }
-{
-    pid_service_laws::doubts_end_when_sent_again::<Registry<S>, Registry<T>>(); // proof only
-}
+{}

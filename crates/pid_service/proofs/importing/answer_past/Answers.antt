@@ -1,7 +1,10 @@
-use Rattle.std.proofs.Common.{◌≡◌, ℕ, List, Option, Err, inl, inr, refl, rules, subst}
+use Rattle.std.proofs.Common.{◌≡◌, ℕ, List, Option, Err, IfErr, Result, inl, inr, refl, rules, subst}
 use Rattle.pid_file.specs.declared.whole_input.SkipEnd.{SkipEnd}
 use Rattle.pid_file.specs.declared.whole_input.SkipEnd.TheVariants as skips
 use Rattle.pid_file.specs.WholeInputs.{SkipsInput}
+use Rattle.pid_moderation.specs.declared.command.Reply.{Reply}
+use Rattle.pid_moderation.specs.declared.refusal.Refusal.{Refusal}
+use Rattle.pid_moderation.specs.declared.refusal.Refusal.TheVariants.{BadText, Failed}
 use Rattle.pid_service.proofs.importing.answer_past.Goals as goal
 
 ended_so : (limit : ℕ) (rest : Option (List ℕ)) (text : List ℕ) (end so : SkipEnd) → end ≡ so → SkipsInput {X = Unit {0}} limit (Err end) rest text → SkipsInput {X = Unit {0}} limit (Err so) rest text
@@ -29,3 +32,20 @@ pub returns-in-Err-clause-past : goal.returns-in-Err-clause-past
 returns-in-Err-clause-past g c =
     let r = c.in-Ok.ensures.read in
     record { text = r.0; consumed = r.1; read = inl r.2; holds = inl (c.in-Err.is, r.2.short) }
+
+-- ---- only an answer that was `Failed` is answered so
+
+text_lives : BadText ≡ Failed → ⊥
+text_lives is = cc
+
+pub returns-in-Err-ReadFault-clause-alive : goal.returns-in-Err-ReadFault-clause-alive
+returns-in-Err-ReadFault-clause-alive g c answer = tt
+
+pub returns-in-Err-TooLong-clause-alive : goal.returns-in-Err-TooLong-clause-alive
+returns-in-Err-TooLong-clause-alive g c answer = text_lives
+
+pub returns-in-Ok-answer-clause-alive : goal.returns-in-Ok-answer-clause-alive
+returns-in-Ok-answer-clause-alive g c answer = tt
+
+pub returns-in-Err-clause-alive : goal.returns-in-Err-clause-alive
+returns-in-Err-clause-alive g c answer = subst (λ (r : Result Reply Refusal). IfErr r (λ e. e ≡ Failed → ⊥)) c.in-Err.is answer

@@ -30,3 +30,8 @@ returns-in-Ok-clause-printed g c clean v rest =
     let told : WritesItems c.each_item.result (taken c.args.out.now) (taken end.out.now) v.items =
     exported taken write_fault (taken c.args.out.now) start c.new-sink.ensures.first head c.each_item.result end v.items (c.each_item.ensures.told clean v rest) in
     search rules
+
+-- ---- what its call gives as it is
+
+pub returns-in-Ok-clause-rests : goal.returns-in-Ok-clause-rests
+returns-in-Ok-clause-rests g c = c.each_item.ensures.rests

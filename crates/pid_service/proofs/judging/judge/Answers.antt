@@ -24,3 +24,20 @@ pub returns-in-Err-clause-caused : goal.returns-in-Err-clause-caused
 returns-in-Err-clause-caused g c clean h reading reached rest other =
     inr (caused_by g.S.Store c.args.tables.now.conn c.gather.new.self.conn c.in-Err.fault c.refusal_of.result c.refusal_of.ensures.same
     (c.in-Err.ensures.told clean (views_of h) rest (c.reached_histories_are_kept.ensures.readable h reached)))
+
+-- ---- what its calls give as it is
+
+pub returns-in-Ok-clause-rests : goal.returns-in-Ok-clause-rests
+returns-in-Ok-clause-rests g c = c.gather.ensures.rests
+
+pub returns-in-Ok-clause-alive : goal.returns-in-Ok-clause-alive
+returns-in-Ok-clause-alive g c = c.judged_by-judged.ensures.alive
+
+pub returns-in-Err-clause-rests : goal.returns-in-Err-clause-rests
+returns-in-Err-clause-rests g c = c.gather.ensures.rests
+
+pub returns-in-Err-clause-alive : goal.returns-in-Err-clause-alive
+returns-in-Err-clause-alive g c = c.refusal_of.ensures.alive
+
+pub returns-in-Err-clause-judged : goal.returns-in-Err-clause-judged
+returns-in-Err-clause-judged g c clean h reading reached rest other = inr c.refusal_of.ensures.fault

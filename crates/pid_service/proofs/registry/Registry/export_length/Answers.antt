@@ -40,3 +40,23 @@ pub returns-in-Err-clause-answers : goal.returns-in-Err-clause-answers
 returns-in-Err-clause-answers g c =
     answers_fault g.S.Store c.args.self.now _ c.in-Err.fault c.refusal_of.result _ c.if-not-self.false refl refl c.items_text.ensures.rests c.refusal_of.ensures.same c.refusal_of.ensures.fault
     (λ clean h shows. c.in-Err.ensures.told clean (views_of h) shows.tables (c.reached_histories_are_kept.ensures.readable h shows.history))
+
+-- ---- what stays, and what a text that is kept tells
+
+pub returns-then-not-self-clause-by_text : goal.returns-then-not-self-clause-by_text
+returns-then-not-self-clause-by_text g c on there = (refl, true_not c.args.self.now.live on c.if-not-self.true)
+
+pub returns-then-not-self-clause-stays : goal.returns-then-not-self-clause-stays
+returns-then-not-self-clause-stays g c = refl
+
+pub returns-in-Some-clause-by_text : goal.returns-in-Some-clause-by_text
+returns-in-Some-clause-by_text g c on there = (refl, tt)
+
+pub returns-in-Some-clause-stays : goal.returns-in-Some-clause-stays
+returns-in-Some-clause-stays g c = refl
+
+pub returns-in-Ok-clause-stays : goal.returns-in-Ok-clause-stays
+returns-in-Ok-clause-stays g c = refl
+
+pub returns-in-Err-clause-stays : goal.returns-in-Err-clause-stays
+returns-in-Err-clause-stays g c = refl

@@ -78,3 +78,23 @@ returns-in-Open-clause-caused g c clean h shows reading import =
     let early = c.in-Open.ensures.judged (c.carry_in-end.ensures.clean clean) h (c.reached_histories_are_kept.ensures.sound h shows.history) shows.tables in
     open_faults g.S.Store c.args.self.now.tables.conn c.carry_in-end.new.self.tables.conn c.carry_in-end.new.self.live h c.args.command.now reading _ c.carry_in-end.result early.0
     (c.carry_in-end.ensures.caused clean h (only_read g.S.Store c.args.self.now _ h refl c.judge_import.ensures.rests refl shows) shows.history.marked import early.0 early.1)
+
+-- ---- what its calls give as it is
+
+pub returns-in-Answered-clause-clean : goal.returns-in-Answered-clause-clean
+returns-in-Answered-clause-clean g c = c.judge_import.ensures.rests.clean
+
+pub returns-in-Answered-clause-none : goal.returns-in-Answered-clause-none
+returns-in-Answered-clause-none g c none = none
+
+pub returns-in-Answered-clause-reads : goal.returns-in-Answered-clause-reads
+returns-in-Answered-clause-reads g c = c.answer_past.ensures.reads
+
+pub returns-in-Open-clause-clean : goal.returns-in-Open-clause-clean
+returns-in-Open-clause-clean g c clean = c.judge_import.ensures.rests.clean (c.carry_in-end.ensures.clean clean)
+
+pub returns-in-Open-clause-none : goal.returns-in-Open-clause-none
+returns-in-Open-clause-none g c none = c.carry_in-end.ensures.forgets
+
+pub returns-in-Open-clause-reads : goal.returns-in-Open-clause-reads
+returns-in-Open-clause-reads g c = c.carry_in-end.ensures.reads

@@ -25,3 +25,14 @@ pub returns-clause-caused : goal.returns-clause-caused
 returns-clause-caused g c clean h shows reading import =
     plain_faults (Faults g.S.Store c.args.self.now.tables.conn c.import_act-end.new.self.tables.conn c.import_act-end.new.self.live h (asked c.args.command.now reading)) c.import_act-end.result c.plain.result c.plain.ensures.same
     (λ e. absurd (false≢true (c.import_act-end.ensures.reads.fault e))) (c.import_act-end.ensures.caused clean h shows reading import)
+
+-- ---- what its call gives as it is
+
+pub returns-clause-clean : goal.returns-clause-clean
+returns-clause-clean g c = c.import_act-end.ensures.clean
+
+pub returns-clause-forgets : goal.returns-clause-forgets
+returns-clause-forgets g c = c.import_act-end.ensures.forgets
+
+pub returns-clause-none : goal.returns-clause-none
+returns-clause-none g c = c.import_act-end.ensures.none

@@ -5,6 +5,7 @@ use Rattle.pid_moderation.specs.History.{asked, is_import}
 use Rattle.pid_tables.specs.Files.{file_reading}
 use Rattle.pid_service.specs.Importing.{ObeysImport, OfRefusal}
 use Rattle.pid_service.proofs.ImportCauses.{Faults}
+use Rattle.pid_service.proofs.Keeping.{true_not}
 use Rattle.pid_service.proofs.Lasting.{end_lasting}
 use Rattle.pid_service.proofs.registry.Registry.import_from.Goals as goal
 
@@ -26,3 +27,17 @@ returns-clause-lasts g c =
     (λ clean h shows reading.
     subst (λ (k : Command). IfErr c.import_act-end.result (OfRefusal (Faults g.S.Store c.args.self.now.tables.conn c.import_act-end.new.self.tables.conn c.import_act-end.new.self.live h (asked k reading)))) c.import_command-command.ensures
     (c.import_act-end.ensures.caused clean h shows reading import))
+
+-- ---- what the call gives as it is
+
+pub returns-then-not-self-clause-clean : goal.returns-then-not-self-clause-clean
+returns-then-not-self-clause-clean g c clean = clean
+
+pub returns-clause-clean : goal.returns-clause-clean
+returns-clause-clean g c = c.import_act-end.ensures.clean
+
+pub returns-clause-failed : goal.returns-clause-failed
+returns-clause-failed g c = true_not c.args.self.now.live c.if-not-self.false
+
+pub returns-clause-reads : goal.returns-clause-reads
+returns-clause-reads g c = c.import_act-end.ensures.reads

@@ -178,3 +178,14 @@ returns-in-Ok-clause-spares g c clean h shows =
       reached = c.commands_lead_on.ensures h (asks c.args.command.now) shows.history (well_made c.args.command.now reading other c.command_is_well_made.ensures);
       comes = c.in-Ok.ensures.judged (c.carry_out-answer.ensures.clean clean) h reading shows.history shows.tables other;
     }))
+
+-- ---- what is kept
+
+pub returns-in-Import-clause-none : goal.returns-in-Import-clause-none
+returns-in-Import-clause-none g c = c.import_bytes.ensures.none
+
+pub returns-in-Err-clause-none : goal.returns-in-Err-clause-none
+returns-in-Err-clause-none g c none = none
+
+pub returns-in-Ok-clause-none : goal.returns-in-Ok-clause-none
+returns-in-Ok-clause-none g c = c.carry_out-answer.ensures.none

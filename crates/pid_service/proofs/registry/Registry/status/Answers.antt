@@ -1,8 +1,18 @@
 use Rattle.std.proofs.Common.{refl}
 use Rattle.pid_moderation.specs.RegistryStatus.{registry_status_of}
-use Rattle.pid_service.proofs.Questions.{answers_behind}
+use Rattle.pid_tables.proofs.MoveLemmas.{known}
+use Rattle.pid_service.proofs.Questions.{answers_behind, answers_refused}
 use Rattle.pid_service.proofs.registry.Registry.status.Goals as goal
 
 pub returns-in-Ok-clause-answers : goal.returns-in-Ok-clause-answers
 returns-in-Ok-clause-answers g c =
     answers_behind g.S.Store c.args.self.now c.keep_pending.new.self _ _ c.status_by.result c.or_refusal.result _ _ _ c.in-Ok.ensures.answers refl refl c.status_by.ensures c.or_refusal.ensures c.reached_histories_are_kept.ensures.readable (λ h status shows clean told. (c.views_tell_status.ensures h (registry_status_of status)).0 (told (shows.kept clean).pending))
+
+pub returns-in-Ok-clause-counted : goal.returns-in-Ok-clause-counted
+returns-in-Ok-clause-counted g c = known c.or_refusal.result c.in-Ok.ensures.counted
+
+pub returns-in-Err-clause-answers : goal.returns-in-Err-clause-answers
+returns-in-Err-clause-answers g c = answers_refused g.S.Store c.args.self.now c.keep_pending.new.self c.in-Err.refusal _ _ c.in-Err.ensures.answers
+
+pub returns-in-Err-clause-counted : goal.returns-in-Err-clause-counted
+returns-in-Err-clause-counted g c = tt
