@@ -1,5 +1,5 @@
 -- The numbers of what is pending, after each change and page by page.
-use Rattle.std.proofs.Common.{◌≡◌, ℕ, zero, suc, ◌+◌, ◌-◌, ◌≤◌, ◌<◌, List, [], ◌∷◌, ◌++◌, length, map, filter, take, drop, get_or, Bool, true, false, cond, None, Some, Option, IfSome, refl, sym, ap, subst, ◌∙◌, arith, add-one, length-append}
+use Rattle.std.proofs.Common.{◌≡◌, ℕ, zero, suc, ◌+◌, ◌-◌, ◌≤◌, ◌<◌, List, [], ◌∷◌, ◌++◌, length, map, filter, take, drop, get_or, Bool, true, false, cond, None, Some, Option, refl, sym, ap, subst, ◌∙◌, arith, add-one, length-append}
 use Rattle.std.specs.Prelude.{◌&&◌, ◌==◌, nat_lt, not, slice_get, option_map, if◌then◌else◌, Vec}
 use Rattle.std.specs.declared.alloc.Global.{Global}
 use Rattle.std.specs.List.{cons_option}
