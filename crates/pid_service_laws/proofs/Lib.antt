@@ -4,6 +4,7 @@ pub mod Holding
 pub mod Keeping
 pub mod Joining
 pub mod Settling
+pub mod SessionLaws
 pub mod Calling
 pub mod WorkedLives
 pub mod WorkedRegistry

@@ -5,7 +5,7 @@ use Rattle.pid_moderation.specs.declared.command.Reply.TheVariants.{Done}
 use Rattle.pid_moderation.specs.declared.refusal.Refusal.TheVariants.{Memory, NoSubmission, Store}
 use Rattle.pid_moderation.specs.History.{History, Approves, new_history}
 use Rattle.pid_moderation.specs.Judgement.{after}
-use Rattle.pid_service_laws.specs.CallLaws.{OneLifeMore}
+use Rattle.pid_service_laws.proofs.SessionLaws.{OneLifeMore}
 use Rattle.pid_service_laws.specs.CrashPrefix.{IsAfterPrefixes}
 use Rattle.pid_service_laws.specs.Calls.{Call, nothing_sent, obeyed}
 use Rattle.pid_service_laws.specs.Doubts.{left_at_stop}

@@ -9,7 +9,5 @@
 mod calls;
 mod laws;
 
-pub use calls::{
-    ShowsHistories, calls_do, calls_make_a_life, doubts_end_when_sent_again, openings_find_prefixes,
-};
+pub use calls::{ShowsHistories, calls_make_a_life};
 pub use laws::{doubts_end, judgements_are_outcomes, lives_are_prefixes, refusals_change_nothing};

@@ -28,6 +28,7 @@ use pid_reader::{CutEnd, InputEnd, ReadRefusal, cut_input};
 use pid_tables_rows::TableFault;
 use sqlite::{Alter, Connection};
 use std::alloc::Global;
+use thiserror::Error;
 
 /// Why a file was not imported.
 ///
@@ -35,10 +36,13 @@ use std::alloc::Global;
 /// - `Refused`: the import is refused for this reason. The tables are as before.
 /// - `Failed`: out of memory, or the store failed within the transaction. Of the tables no more is
 ///   known than that what a crash may leave shows the history before the import, or with it.
-#[derive(Clone, Copy)]
+#[derive(Clone, Copy, Debug, Error)]
 pub enum Stop {
+    #[error("the input failed")]
     Body,
+    #[error("{0}")]
     Refused(Refusal),
+    #[error("{0}")]
     Failed(Refusal),
 }
 
