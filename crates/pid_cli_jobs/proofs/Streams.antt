@@ -1,6 +1,7 @@
 -- What streams in turn make of a registry, by what they make of its server.
 use Rattle.std.specs.Prelude.{◌≡◌, ℕ, Bool, List, [], ◌∷◌, Option, Some, None}
 use Rattle.std.proofs.Common.{ap, subst}
+use Rattle.pid_http_listener.specs.declared.serving.Serving.{Serving}
 use Rattle.pid_http_listener.specs.Servings.{IsLiveAt}
 use Rattle.pid_http_listener.specs.Streams.{Exchange}
 use Rattle.pid_cli_jobs.specs.declared.job_end.JobEnd.{JobEnd}
@@ -20,11 +21,11 @@ in_turn P Q held each first last (x ∷ xs) (next, answers, turn) =
     (held next, each first next x answers, in_turn P Q held each next last xs turn)
 
 -- what holds of the streams that were given, so that another fact does
-pub given : {R : Type 0} (before after : Option (List (Opening R))) (count : ℕ)
+pub given : {R : Type 0} (before after : Option (List (Opening R))) (connections : ℕ) (serving : Serving)
     {Holds Then : List Exchange → Type 0} → ((xs : List Exchange) → Holds xs → Then xs)
-    → GivesStreams before after count Holds → GivesStreams before after count Then
-given None after count turn gives = tt
-given (Some all) after count turn (streams, counted, is, holds) =
+    → GivesStreams before after connections serving Holds → GivesStreams before after connections serving Then
+given None after connections serving turn gives = tt
+given (Some all) after connections serving turn (streams, counted, is, holds) =
     (streams, counted, is, turn streams holds)
 
 -- what was served by a server was served over what it holds
@@ -41,7 +42,7 @@ served_over P Q held each first last port live now asked w end same has = record
     serving = has.streams.serving;
     counted = has.streams.counted;
     lasts = subst (IsLiveAt has.streams.serving.end has.streams.serving.streams) same has.streams.lasts;
-    given = given asked.before asked.after has.streams.serving.streams
+    given = given asked.before asked.after port.connections has.streams.serving
         (λ xs. in_turn P Q held each first last xs) has.streams.given;
     reports = has.streams.reports;
   };

@@ -17,6 +17,6 @@ pub record ExportsThrough {E R W : Type 0} (files : disk.Ghosts E) (image : Imag
   pub exports : DoesInFiles files image buffer path (ToWork ToExport) into
   pub begins : buffer.taken into.output ≡ w.output
   pub reports : (into.faults ≡ w.faults) × (into.asked ≡ w.asked)
-  -- only a fault of the writer makes it end otherwise
-  pub ends : (w.end ≡ into.end) ⊎ (w.end ≡ FileFailed)
+  -- one that went to the buffer may end as a failed file, and no other ends otherwise
+  pub ends : (w.end ≡ into.end) ⊎ ((into.end ≡ Told 0) × (w.end ≡ FileFailed))
   pub sent : w.end ≡ Told 0 → Keeps (buffer.taken into.output_after) w.output_after

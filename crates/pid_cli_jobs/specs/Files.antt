@@ -1,8 +1,8 @@
 -- Runs of the program on the files of a database, each with a store of its own. Choices of this
 -- project.
-use Rattle.std.specs.Prelude.{List, [], ◌∷◌, ◌++◌, IsTrue, Ok}
+use Rattle.std.specs.Prelude.{◌≡◌, false, List, [], ◌∷◌, ◌++◌, IsTrue, Ok}
 use Rattle.sqlite.specs.Closing.{IsCopied}
-use Rattle.sqlite.specs.Files.{IsClosed, IsOpened, file_state, over_files}
+use Rattle.sqlite.specs.Files.{IsBlankAs, IsClosed, IsOpened, file_state, over_files}
 use Rattle.sqlite.specs.Held.{AreDatabases, Held}
 use Rattle.sqlite.specs.Start.{FindsIn}
 use Rattle.sqlite.specs.State as states
@@ -22,11 +22,14 @@ use Rattle.pid_service.specs.Lives.{IsAfterStop, ShowsPrefixes, showing}
 use Rattle.pid_service.specs.Opening.{OpensTo}
 use Rattle.pid_service.specs.Registries.{HasCleanDisk, connection}
 
--- while the disk returns what was written, the connection is open on what the files held
+-- While the disk returns what was written, the connection is open on what the files held; and a new
+-- file is as `sqlite3` makes it, whose pages have no sums.
 pub record OpensFiles {E : Type 0} {k : disk.Ghosts E} (image : Image) (conn : Held (FileStore E k))
     : Type 0 where
   pub opened : states.HasCleanDisk (file_state conn) → IsOpened conn
   pub found : states.HasCleanDisk (file_state conn) → FindsIn image (file_state conn)
+  pub plain : states.HasCleanDisk (file_state conn) → IsBlankAs false image
+      → (view conn.store).has_sums ≡ false
 
 -- What the files hold at the next start, after a run with this connection, if nobody else wrote to
 -- them. A store numbers the objects of its database, as each one does that is opened.

@@ -1,6 +1,8 @@
 -- What a job asks of the machine that it runs on. Choices of this project.
 use Rattle.std.specs.Prelude.{◌≡◌, ℕ, Bool, List, [], ◌∷◌, ◌++◌, length}
 use Rattle.std.specs.Prelude.{Option, None, Some, IfSome, Result, Ok, Err}
+use Rattle.pid_http_listener.specs.declared.serving.Serving.{Serving}
+use Rattle.pid_http_listener.specs.declared.serving.ServingEnd.{ServingEnd}
 use Rattle.pid_http_listener.specs.Streams.{Exchange}
 use Rattle.pid_tables_rows.specs.declared.fault.TableFault.{TableFault}
 
@@ -12,8 +14,9 @@ pub data Opening (R : Type 0) : Type 0 where
   DatabaseAt : (path : List ℕ) (fault : Option TableFault) → Opening R
   -- a port of this machine: whether it could be had
   PortAt : (port : ℕ) (is_bound : Bool) → Opening R
-  -- the streams of connections to a port, which were given to a server: what became of each
-  StreamsOf : (streams : List Exchange) → Opening R
+  -- the streams of so many connections to a port, which were to be given to a server: how that
+  -- ended, and what became of each that was given
+  StreamsOf : (connections : ℕ) (end : ServingEnd) (streams : List Exchange) → Opening R
 
 abbrev pub why_unopened : {X : Type 0} → Result X TableFault → Option TableFault
 why_unopened (Ok opened) = None
@@ -36,9 +39,10 @@ InTurn Answers first [] last = last ≡ first
 InTurn Answers first (stream ∷ streams) last = (next : _) × Answers first next stream
     × InTurn Answers next streams last
 
--- so many streams were given to a server, once, by what was asked for before and after, if that is
--- kept, and of these this holds
+-- The streams of so many connections were to be given to a server, once, and it was told how that
+-- came out, by what was asked for before and after, if that is kept. Of those given this holds.
 abbrev pub GivesStreams : {R : Type 0} → Option (List (Opening R)) → Option (List (Opening R))
-    → ℕ → (List Exchange → Type 0) → Type 0
-GivesStreams before after count Holds = IfSome before (λ all. (streams : List Exchange)
-    × (length streams ≡ count) × (after ≡ Some (all ++ StreamsOf streams ∷ [])) × Holds streams)
+    → (connections : ℕ) → Serving → (List Exchange → Type 0) → Type 0
+GivesStreams before after connections serving Holds = IfSome before (λ all.
+    (streams : List Exchange) × (length streams ≡ serving.streams)
+    × (after ≡ Some (all ++ StreamsOf connections serving.end streams ∷ [])) × Holds streams)

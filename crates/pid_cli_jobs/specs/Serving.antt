@@ -70,7 +70,7 @@ pub record ReportsStreams {R : Type 0} (Holds : List Exchange → Type 0) (conne
   pub serving : Serving
   pub counted : CountsStreams serving.end connections serving.streams
   pub lasts : IsLiveAt serving.end serving.streams live
-  pub given : GivesStreams asked.before asked.after serving.streams Holds
+  pub given : GivesStreams asked.before asked.after connections serving Holds
   pub reports : ReportsServing serving.end serving.streams w end
 
 -- the same, after the line of where it listens

@@ -19,6 +19,7 @@ pub trait Machine {
     ghost use Rattle.sqlite.specs.Held.{IsNew};
     ghost use Rattle.sqlite_wal.specs.Files.{image_at};
     ghost use Rattle.pid_http_listener.specs.Servings.{CountsStreams, IsLiveAt};
+    ghost use Rattle.pid_http_listener.specs.Streams.{IsGivenMore};
     ghost use Rattle.pid_tables_rows.specs.Faults.{IsMemoryOrStore};
     ghost use Rattle.pid_cli_jobs.specs.Files.{OpensFiles};
     ghost use Rattle.pid_cli_jobs.specs.Machines.{
@@ -81,7 +82,8 @@ pub trait Machine {
         ensures goes { T.goes server.old server.new }
         ensures streams { CountsStreams result.end connections result.streams }
         ensures live { IsLiveAt result.end result.streams (T.live server.new) }
-        ensures gives { GivesStreams (asked self.old) (asked self.new) result.streams
+        ensures counted { IsGivenMore result.streams (T.given server.old) (T.given server.new) }
+        ensures gives { GivesStreams (asked self.old) (asked self.new) connections result
             (λ streams. InTurn T.answers server.old streams server.new) };
 }
 

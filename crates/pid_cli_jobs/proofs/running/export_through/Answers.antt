@@ -1,4 +1,4 @@
-use Rattle.std.proofs.Common.{ap, refl, sym, inl, inr, ◌∙◌}
+use Rattle.std.proofs.Common.{ap, refl, rules, sym, inl, inr, ◌∙◌}
 use Rattle.std.specs.Io.Buffered.{writer_contents}
 use Rattle.pid_file.specs.Writing.{use_of}
 use Rattle.pid_cli_jobs.specs.Ends.{exit_status}
@@ -29,7 +29,7 @@ returns g c = record {
     }},
   );
   ends = elim c.match-end.branch [
-    | in-Told-eq0-Err w ↦ inr w.end-is
+    | in-Told-eq0-Err w ↦ inr (search rules, w.end-is)
     | in_default w ↦ inl w.end-is
     | in_default-2 w ↦ inl w.end-is
     | in_default-3 w ↦ inl w.end-is
