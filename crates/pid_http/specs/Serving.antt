@@ -46,7 +46,7 @@ AreCallsOver h (Some command) most calls = calls
     ≡ obeyed command (answer (judge (views_of h) command)) true ∷ []
 
 -- The calls of a request that a fault of memory or of the store left undone: of a registry that
--- stays live. A command was sent by one call, which has no outcome.
+-- stays live. A command was sent by one call, which has no outcome, and so counts as not sent.
 abbrev pub AreUndone : Option Asked → Refusal → ℕ → List Call → Type 0
 AreUndone None fault most calls = AreQuestions most calls
 AreUndone (Some command) fault most calls = calls ≡ obeyed command (Err fault) true ∷ []

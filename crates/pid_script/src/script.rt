@@ -188,8 +188,9 @@ fn end_of(answered: Result<(), LineEnd>) -> ScriptEnd
 /// refusal as 16, 17 or 18, nor after a line of more than 16,777,216 bytes. If the script itself is
 /// out of memory, the reply is the refusal 16, which takes none.
 ///
-/// At most `turns` reads are made, each of at most 65,536 bytes, and at most one more than bytes are
-/// read; one that fails is the last, and so is one that finds nothing to come. Whenever it reads,
+/// At most `turns` reads are made, which bring at most 65,536 bytes for each of them, and at most
+/// one more than bytes are read; one that fails is the last, and so is one that finds nothing to
+/// come. Whenever it reads,
 /// the lines that came whole are answered, the writer has taken their replies and nothing more, and
 /// of the line that is open at most 16,777,217 bytes were read. The reply to a command is written
 /// before the next line is answered. A line costs memory only while it is open. The reply to a
