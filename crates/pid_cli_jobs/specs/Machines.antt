@@ -39,8 +39,8 @@ InTurn Answers first [] last = last ≡ first
 InTurn Answers first (stream ∷ streams) last = (next : _) × Answers first next stream
     × InTurn Answers next streams last
 
--- The streams of so many connections were to be given to a server, once, and it was told how that
--- came out, by what was asked for before and after, if that is kept. Of those given this holds.
+-- The streams of so many connections were to be given to a server, once, and that ended so, by what
+-- was asked for before and after, if that is kept. Of those given this holds.
 abbrev pub GivesStreams : {R : Type 0} → Option (List (Opening R)) → Option (List (Opening R))
     → (connections : ℕ) → Serving → (List Exchange → Type 0) → Type 0
 GivesStreams before after connections serving Holds = IfSome before (λ all.

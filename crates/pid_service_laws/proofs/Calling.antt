@@ -15,10 +15,10 @@ use Rattle.pid_service_laws.specs.Outcomes.{IsMemoryOrStore, is_fault, is_outcom
 use Rattle.pid_service_laws.specs.Lives.{Sent, NoDoubt, InDoubt, Life, AreJudged, AreLives, after_life, after_lives, after_sent, commands_in, prefix_of}
 use Rattle.pid_service_laws.specs.Calls.{AreNothing, Call, IsLifeOf, StopsAt, life_of, nothing_sent, obeyed, paired, ran, refusal_answered, sent_in, stopped_by}
 use Rattle.pid_service_laws.specs.CallLaws.{CallsAreALife}
-use Rattle.pid_service_laws.proofs.SessionLaws.{DoubtsEndWhenSentAgain, LookingDoes, NoLifeIsAPrefix, ObeyingDoes, OneLifeMore, RunningDoes, SaysLive}
+use Rattle.pid_service_laws.proofs.SessionLaws.{DoubtsEndWhenSentAgain, ListLeaves, LookingDoes, NoLifeIsAPrefix, ObeyingDoes, OneLifeMore, RunningDoes, SaysLive}
 use Rattle.pid_service_laws.specs.CrashPrefix.{IsAfterPrefixes}
 use Rattle.pid_service_laws.specs.Doubts.{left_at_stop}
-use Rattle.pid_service_laws.specs.Registries.{CallsLead, Does, CallLeaves, CommandLeaves, ListLeaves, Showing}
+use Rattle.pid_service_laws.specs.Registries.{CallsLead, Does, CallLeaves, CommandLeaves, Showing}
 use Rattle.pid_service_laws.proofs.Joining.{after_more, after_parts, joined, joins, lives_hold, lives_keep}
 use Rattle.pid_service_laws.proofs.Keeping.{OwnKept, each_own}
 use Rattle.pid_service_laws.proofs.Judging.{outcome_of}

@@ -1,18 +1,29 @@
 -- From calls to sessions, for any type of registries: what the lemmas of `Calling` say.
-use Rattle.std.specs.Prelude.{◌≡◌, ℕ, Bool, true, false, List, [], ◌∷◌, ◌++◌, Option, Some, Err, Result}
+use Rattle.std.specs.Prelude.{◌≡◌, ◌⊎◌, ◌<◌, ◌+◌, ℕ, Bool, true, false, List, [], ◌∷◌, ◌++◌, length, take, Option, Some, IsSomeAnd, Err, Result}
 use Rattle.pid_moderation.specs.declared.command.Reply.{Reply}
 use Rattle.pid_moderation.specs.declared.refusal.Refusal.{Refusal}
 use Rattle.pid_moderation.specs.declared.refusal.Refusal.TheVariants.{Failed}
 use Rattle.pid_moderation.specs.History.{Asked, Begins, History}
-use Rattle.pid_moderation.specs.Judgement.{after, after_all, answer, judge}
+use Rattle.pid_moderation.specs.Judgement.{after, after_all, answer, answers, judge}
 use Rattle.pid_moderation.specs.Views.{views_of}
 use Rattle.pid_service_laws.specs.Calls.{Call, nothing_sent, obeyed, ran, sent_in}
 use Rattle.pid_service_laws.specs.CallLaws.{StaysClean}
 use Rattle.pid_service_laws.specs.CrashPrefix.{IsAfterPrefixes}
-use Rattle.pid_service_laws.specs.Outcomes.{is_outcome}
-use Rattle.pid_service_laws.specs.Registries.{CallsLead, CommandLeaves, Does, ListLeaves, Showing, ShowsAgain}
+use Rattle.pid_service_laws.specs.Outcomes.{IsMemoryOrStore, is_outcome}
+use Rattle.pid_service_laws.specs.Registries.{CallsLead, CommandLeaves, Does, Showing, ShowsAgain}
 
 module _ {R : Type 0} (w : Showing R) where
+  -- After a list of commands over a history: the replies are the answers to the first ones, and the
+  -- registry shows the history after these. Or memory ran out or the store failed, and it has
+  -- failed at the next one.
+  pub record ListLeaves (replies : List (Result Reply Refusal)) (fault : Option Refusal) (new : R)
+      (h : History) (commands : List Asked) : Type 0 where
+    pub replied : replies ≡ answers h (take (length replies) commands)
+    pub ends : w.shows new (after_all h (take (length replies) commands))
+        ⊎ (IsSomeAnd fault IsMemoryOrStore × (length replies < length commands)
+        × w.fails_between new (after_all h (take (length replies) commands))
+        (after_all h (take (length replies + 1) commands)))
+
   -- while the disk returns what was written, this is left of the history that was shown
   abbrev pub OverShown : R → R → (History → Type 0) → Type 0
   OverShown old new CallLeaves = w.is_clean new → (h : History) → w.shows old h → CallLeaves h
@@ -39,7 +50,7 @@ module _ {R : Type 0} (w : Showing R) where
   RunningDoes = (old new : R) (commands : List Asked) (replies : List (Result Reply Refusal))
       (fault : Option Refusal) (live : Bool)
       → StaysClean w old new
-      → OverShown old new (λ h. ListLeaves w replies fault new h commands)
+      → OverShown old new (λ h. ListLeaves replies fault new h commands)
       → WhereFailed old
       (λ h next. (replies ≡ []) × (fault ≡ Some Failed) × w.fails_between new h next)
       → SaysLive live new

@@ -5,12 +5,11 @@
 -- through a session `CallsLead` from the registry as it was opened to how it ended; a later
 -- opening, maybe of another type, `ShowsAgain` what the one before it showed. The laws of `calls`
 -- say, session by session, what it shows.
-use Rattle.std.specs.Prelude.{◌≡◌, ◌⊎◌, ◌<◌, ◌+◌, true, false, List, [], ◌∷◌, length, take, Option}
-use Rattle.std.specs.Prelude.{Some, Result, IsErrAnd, IsSomeAnd}
+use Rattle.std.specs.Prelude.{◌≡◌, ◌⊎◌, true, false, List, [], ◌∷◌, Some, Result, IsErrAnd}
 use Rattle.pid_moderation.specs.declared.command.Reply.{Reply}
 use Rattle.pid_moderation.specs.declared.refusal.Refusal.{Refusal}
 use Rattle.pid_moderation.specs.History.{Asked, History}
-use Rattle.pid_moderation.specs.Judgement.{answer, answers, judge, after, after_all}
+use Rattle.pid_moderation.specs.Judgement.{answer, judge, after}
 use Rattle.pid_moderation.specs.Views.{views_of}
 use Rattle.pid_service_laws.specs.Outcomes.{IsMemoryOrStore}
 use Rattle.pid_service_laws.specs.Lives.{after_sent, AreJudged, NoDoubt, InDoubt, after_life}
@@ -35,20 +34,9 @@ module _ {R : Type 0} (w : Showing R) where
       ((result ≡ answer (judge (views_of h) c)) × w.shows new (after h c))
       ⊎ (IsErrAnd result IsMemoryOrStore × (w.shows new h ⊎ w.fails_between new h (after h c)))
 
-  -- After a list of commands over a history: the replies are the answers to the first ones, and the
-  -- registry shows the history after these. Or memory ran out or the store failed, and it has
-  -- failed at the next one.
-  pub record ListLeaves (replies : List (Result Reply Refusal)) (fault : Option Refusal) (new : R)
-      (h : History) (commands : List Asked) : Type 0 where
-    pub replied : replies ≡ answers h (take (length replies) commands)
-    pub ends : w.shows new (after_all h (take (length replies) commands))
-        ⊎ (IsSomeAnd fault IsMemoryOrStore × (length replies < length commands)
-        × w.fails_between new (after_all h (take (length replies) commands))
-        (after_all h (take (length replies + 1) commands)))
-
-  -- The same for every call: each outcome is that of the judgement, over the history so far, and
-  -- the registry shows the history after them. Or it has failed between that and the history after
-  -- one command more.
+  -- After any call over a history: each outcome is that of the judgement, over the history so far,
+  -- and the registry shows the history after them. Or it has failed between that and the history
+  -- after one command more.
   abbrev pub CallLeaves : Call → R → History → Type 0
   CallLeaves call new h =
       AreJudged h call.sent
