@@ -102,8 +102,8 @@ module _ {S : Type 0} (store : Ghosts S) where
       moments_now = input.moments_after;
     })
 
-  -- An import of what was read of the file was obeyed. It ended by a fault of the file exactly if the
-  -- file's reader keeps one. Another fault has its cause, or the registry failed at it.
+  -- An import of what was read of the file was obeyed. It ended by a fault of the file exactly if
+  -- the file's reader keeps one. Another fault has its cause, or the registry failed at it.
   pub record BringsIn (old new : Registry S store) (account : List ℕ) (key : Option (List ℕ))
       (input : InputUse) (end : JobEnd) : Type 0 where
     pub result : Result Reply ImportEnd

@@ -67,13 +67,14 @@ pub data IsMetOver (h : History) (errand : Errand) (given : Answer) (calls : Lis
       → IsMetOver h errand given calls k
   -- They failed while a command was written, at which the calls then stopped: the registry has
   -- failed between the history and the one after the command.
-  InDoubt : (fault : Refusal) (command : Asked) → IsMemoryOrStore fault → IsErrandRefused errand fault given
+  InDoubt : (fault : Refusal) (command : Asked) → IsMemoryOrStore fault
+      → IsErrandRefused errand fault given
       → command_sent errand ≡ Some command → calls ≡ obeyed command (Err fault) false ∷ []
       → k ≡ Between h (after h command) → IsMetOver h errand given calls k
 
 -- the answer of a registry that has failed, and the calls that it got, which send nothing
 pub data IsFailedAnswer (errand : Errand) (given : Answer) (calls : List Call) : Type 0 where
-  -- what it is asked, by one call, it refuses for that
+  -- what it is asked, by one call at most, it refuses for that
   Refused : IsErrandRefused errand Failed given → AreQuestions 1 calls
       → IsFailedAnswer errand given calls
   -- what it is not asked is answered as ever
@@ -95,7 +96,7 @@ pub record IsTextHead (h : History) (head : ReplyHead) (told : ℕ) : Type 0 whe
   pub content : head.content ≡ Text
   pub length_is : told ≡ length (print (tree_of h))
 
--- only an export is promised, and only by a registry that is live, which was asked for the length
+-- only an export is promised, and only by a registry that is live, by at most one call
 abbrev pub IsPromised : Known → Errand → ReplyHead → ℕ → List Call → Known → Type 0
 IsPromised (Live h) errand head told calls k = (errand ≡ Export) × IsTextHead h head told
     × AreQuestions 1 calls × (k ≡ Live h)

@@ -84,7 +84,8 @@ IsAskedOver conduct o c (asked.Reply reply) = (request : Request) × HasCome c r
     × MayReply conduct o.a request reply o.b
 IsAskedOver conduct o c asked.NoMemory = RunsOut conduct o.a (c.front.held ++ c.came) o.b
 IsAskedOver conduct o c (asked.Broken faults.Short) =
-    StandsOver conduct o.a (c.front.held ++ c.came) o.b × IsAtEnd o.input_after × IsShort (c.front.held ++ c.came)
+    StandsOver conduct o.a (c.front.held ++ c.came) o.b × IsAtEnd o.input_after
+    × IsShort (c.front.held ++ c.came)
 IsAskedOver conduct o c (asked.Broken faults.ReadFault) =
     StandsOver conduct o.a (c.front.held ++ c.came) o.b × IsUnfinished (c.front.held ++ c.came)
 IsAskedOver conduct o c (asked.Broken faults.TurnsSpent) =
