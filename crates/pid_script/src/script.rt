@@ -190,11 +190,10 @@ fn end_of(answered: Result<(), LineEnd>) -> ScriptEnd
 ///
 /// At most `turns` reads are made, which bring at most 65,536 bytes for each of them, and at most
 /// one more than bytes are read; one that fails is the last, and so is one that finds nothing to
-/// come. Whenever it reads,
-/// the lines that came whole are answered, the writer has taken their replies and nothing more, and
-/// of the line that is open at most 16,777,217 bytes were read. The reply to a command is written
-/// before the next line is answered. A line costs memory only while it is open. The reply to a
-/// command takes no memory.
+/// come. Whenever it reads, the lines that came whole are answered, the writer has taken their
+/// replies and nothing more, and of the line that is open at most 16,777,217 bytes were read. The
+/// reply to a command is written before the next line is answered. A line costs memory only while
+/// it is open. The reply to a command takes no memory.
 ///
 /// Over a `Registry` of `pid_service` the clauses read so, while the disk returns what was written.
 /// Let it show a history as the script begins. At `Done` it shows the history with the commands of

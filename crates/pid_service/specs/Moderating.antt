@@ -27,7 +27,8 @@ abbrev pub ExportsText : {X : Type 0} → Result X ExportFault → Option (List 
     → List ℕ → Type 0
 ExportsText (Ok x) old new text = Appends old new text
 ExportsText (Err (Write fault)) old new text = SendsFront old new text
-ExportsText (Err (Refused refusal)) old new text = IsMemoryOrStore refusal × TakesWholeFront old new text
+ExportsText (Err (Refused refusal)) old new text =
+    IsMemoryOrStore refusal × TakesWholeFront old new text
 
 -- the answer over the tree, if the flags are not bad; that they are bad; or out of memory or a
 -- fault of the store
