@@ -1,5 +1,6 @@
 -- What a writer took of the text of a registry's items.
-use Rattle.std.specs.Prelude.{◌≡◌, ◌≢◌, ℕ, List, true, false, Option, Some, IsSome, Result, Ok, Err}
+use Rattle.std.specs.Prelude.{◌≡◌, ◌≢◌, ℕ, List, length, true, false, Option, Some, IsSome}
+use Rattle.std.specs.Prelude.{Result, Ok, Err, IfErr}
 use Rattle.std.specs.Io.KnownBytes.{Appends}
 use Rattle.sqlite_trees.specs.declared.store.Store.{Ghosts}
 use Rattle.pid_file.specs.declared.io.Output as outputs
@@ -16,7 +17,7 @@ use Rattle.pid_file.specs.Printing.{print}
 use Rattle.pid_service.specs.declared.exporting.ExportFault.{ExportFault}
 use Rattle.pid_service.specs.declared.exporting.ExportFault.TheVariants.{Refused, Write}
 use Rattle.pid_service.specs.declared.registry.Registry.{Registry}
-use Rattle.pid_service.specs.Asking.{FaultIsCaused, MayGive}
+use Rattle.pid_service.specs.Asking.{Answers, FaultIsCaused, MayGive}
 use Rattle.pid_service.specs.Histories.{OverHistory, Shows}
 use Rattle.pid_service.specs.KeptViews.{kept_by, kept_views}
 use Rattle.pid_service.specs.Registries.{OnlyReads, is_live}
@@ -51,3 +52,13 @@ pub record IsExported {S W : Type 0} (store : Ghosts S) (writer : outputs.Ghosts
       (λ h. (e : Refusal) → result ≡ Err (Refused e) → FaultIsCaused store old new e)
   -- a fault of the writer is the one that it keeps
   pub fault : (f : WriteFault) → result ≡ Err (Write f) → writer.write_fault after ≡ Some f
+
+-- A registry was asked how long the text of its items is, which it may keep from then on.
+pub record IsMeasured {S : Type 0} (store : Ghosts S) (old new : Registry S store)
+    (result : Result ℕ Refusal) : Type 0 where
+  pub answers : Answers store old new result (λ h n. n ≡ length (print (tree_of h)))
+  -- The length of a text that is kept is known, with no question to the tables.
+  pub by_text : is_live old ≡ true → IsSome (kept_by old).text
+      → (new ≡ old) × IfErr result (λ e. ⊥)
+  -- numbers of what is pending count as read only if they did before
+  pub stays : (kept_views new).pending_read ≡ (kept_views old).pending_read

@@ -1,11 +1,6 @@
 //! The items of a registry as the text of their tree.
-ghost use Rattle.std.specs.Prelude.{◌≡◌, true, length, IfErr, IsSome};
-ghost use Rattle.pid_moderation.specs.Writes.{tree_of};
-ghost use Rattle.pid_file.specs.Printing.{print};
-ghost use Rattle.pid_service.specs.Asking.{Answers};
-ghost use Rattle.pid_service.specs.Exporting.{IsExported};
-ghost use Rattle.pid_service.specs.KeptViews.{kept_by, kept_views};
-ghost use Rattle.pid_service.specs.Registries.{is_live as lives};
+ghost use Rattle.std.specs.Prelude.{◌≡◌};
+ghost use Rattle.pid_service.specs.Exporting.{IsExported, IsMeasured};
 ghost use Rattle.pid_service.specs.Steps.Exporting.{IsToldAs};
 
 use crate::item_text::export_items;
@@ -85,12 +80,7 @@ impl<S: Alter + Drop> Registry<S> {
     /// How many bytes `export` would write. If the text is not kept in memory the items are read
     /// one by one, and it is kept from then on: up to 16,777,216 bytes, if memory is there for them.
     pub fn export_length(&mut self) -> Result<u64, Refusal>
-        ensures answers { Answers S.Store self.old self.new result
-            (λ h n. n ≡ length (print (tree_of h))) }
-        // The length of a text that is kept is known, with no question to the tables.
-        ensures by_text { lives self.old ≡ true → IsSome (kept_by self.old).text
-            → (self.new ≡ self.old) × IfErr result (λ e. ⊥) }
-        ensures stays { (kept_views self.new).pending_read ≡ (kept_views self.old).pending_read }
+        ensures { IsMeasured S.Store self.old self.new result }
     {
         if !self.live {
             return Err(Refusal::Failed);

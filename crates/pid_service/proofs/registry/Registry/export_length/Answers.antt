@@ -7,56 +7,58 @@ use Rattle.pid_service.proofs.Keeping.{left_same, true_not}
 use Rattle.pid_service.proofs.Questions.{answers_fault, failed_here}
 use Rattle.pid_service.proofs.registry.Registry.export_length.Goals as goal
 
-pub returns-then-not-self-clause-answers : goal.returns-then-not-self-clause-answers
-returns-then-not-self-clause-answers g c = failed_here g.S.Store c.args.self.now _ c.if-not-self.true c.args.self.now.settled
+-- ---- it has failed
 
-pub returns-in-Some-clause-answers : goal.returns-in-Some-clause-answers
-returns-in-Some-clause-answers g c = record {
-  failed = true_not c.args.self.now.live c.if-not-self.false;
-  fault = tt;
-  lives = refl;
-  rests = nothing_read (state g.S.Store c.args.self.now.tables.conn) c.args.self.now.settled;
-  leaves = left_same _;
-  told = λ clean h shows.
-      let many : c.len.result ≡ length c.in-Some.text.items = search rules in
-      (many ∙ ap length (text_told g.S.Store c.args.self.now h c.in-Some.text c.in-Some.is clean shows (c.items_print_as_their_tree.ensures h)), shows);
-  caused = λ clean h shows. tt;
+pub returns-then-not-self : goal.returns-then-not-self
+returns-then-not-self g c = record {
+  answers = failed_here g.S.Store c.args.self.now _ c.if-not-self.true c.args.self.now.settled;
+  by_text = λ on there. (refl, true_not c.args.self.now.live on c.if-not-self.true);
+  stays = refl;
 }
 
-pub returns-in-Ok-clause-answers : goal.returns-in-Ok-clause-answers
-returns-in-Ok-clause-answers g c = record {
-  failed = true_not c.args.self.now.live c.if-not-self.false;
-  fault = tt;
-  lives = refl;
-  rests = c.items_text.ensures.rests;
-  leaves = record { names = refl; text = search rules; pending = λ some. refl; read = λ was. (was, refl) };
-  told = λ clean h shows.
-      let told = c.in-Ok.ensures.told clean (views_of h) shows.tables (c.reached_histories_are_kept.ensures.readable h shows.history) in
-      (told.counted ∙ ap length (c.items_print_as_their_tree.ensures h), text_kept g.S.Store c.args.self.now _ h shows refl refl refl c.items_text.ensures.rests told.kept);
-  caused = λ clean h shows. tt;
+-- ---- the text is kept
+
+pub returns-in-Some : goal.returns-in-Some
+returns-in-Some g c = record {
+  answers = record {
+    failed = true_not c.args.self.now.live c.if-not-self.false;
+    fault = tt;
+    lives = refl;
+    rests = nothing_read (state g.S.Store c.args.self.now.tables.conn) c.args.self.now.settled;
+    leaves = left_same _;
+    told = λ clean h shows.
+        let many : c.len.result ≡ length c.in-Some.text.items = search rules in
+        (many ∙ ap length (text_told g.S.Store c.args.self.now h c.in-Some.text c.in-Some.is clean shows (c.items_print_as_their_tree.ensures h)), shows);
+    caused = λ clean h shows. tt;
+  };
+  by_text = λ on there. (refl, tt);
+  stays = refl;
 }
 
-pub returns-in-Err-clause-answers : goal.returns-in-Err-clause-answers
-returns-in-Err-clause-answers g c =
-    answers_fault g.S.Store c.args.self.now _ c.in-Err.fault c.refusal_of.result _ c.if-not-self.false refl refl c.items_text.ensures.rests c.refusal_of.ensures.same c.refusal_of.ensures.fault
-    (λ clean h shows. c.in-Err.ensures.told clean (views_of h) shows.tables (c.reached_histories_are_kept.ensures.readable h shows.history))
+-- ---- the items are read
 
--- ---- what stays, and what a text that is kept tells
+pub returns-in-Ok : goal.returns-in-Ok
+returns-in-Ok g c = record {
+  answers = record {
+    failed = true_not c.args.self.now.live c.if-not-self.false;
+    fault = tt;
+    lives = refl;
+    rests = c.items_text.ensures.rests;
+    leaves = record { names = refl; text = search rules; pending = λ some. refl; read = λ was. (was, refl) };
+    told = λ clean h shows.
+        let told = c.in-Ok.ensures.told clean (views_of h) shows.tables (c.reached_histories_are_kept.ensures.readable h shows.history) in
+        (told.counted ∙ ap length (c.items_print_as_their_tree.ensures h), text_kept g.S.Store c.args.self.now _ h shows refl refl refl c.items_text.ensures.rests told.kept);
+    caused = λ clean h shows. tt;
+  };
+  by_text = search rules;
+  stays = refl;
+}
 
-pub returns-then-not-self-clause-by_text : goal.returns-then-not-self-clause-by_text
-returns-then-not-self-clause-by_text g c on there = (refl, true_not c.args.self.now.live on c.if-not-self.true)
-
-pub returns-then-not-self-clause-stays : goal.returns-then-not-self-clause-stays
-returns-then-not-self-clause-stays g c = refl
-
-pub returns-in-Some-clause-by_text : goal.returns-in-Some-clause-by_text
-returns-in-Some-clause-by_text g c on there = (refl, tt)
-
-pub returns-in-Some-clause-stays : goal.returns-in-Some-clause-stays
-returns-in-Some-clause-stays g c = refl
-
-pub returns-in-Ok-clause-stays : goal.returns-in-Ok-clause-stays
-returns-in-Ok-clause-stays g c = refl
-
-pub returns-in-Err-clause-stays : goal.returns-in-Err-clause-stays
-returns-in-Err-clause-stays g c = refl
+pub returns-in-Err : goal.returns-in-Err
+returns-in-Err g c = record {
+  answers =
+      answers_fault g.S.Store c.args.self.now _ c.in-Err.fault c.refusal_of.result _ c.if-not-self.false refl refl c.items_text.ensures.rests c.refusal_of.ensures.same c.refusal_of.ensures.fault
+      (λ clean h shows. c.in-Err.ensures.told clean (views_of h) shows.tables (c.reached_histories_are_kept.ensures.readable h shows.history));
+  by_text = search rules;
+  stays = refl;
+}
