@@ -62,3 +62,12 @@ pub record IsMeasured {S : Type 0} (store : Ghosts S) (old new : Registry S stor
       → (new ≡ old) × IfErr result (λ e. ⊥)
   -- numbers of what is pending count as read only if they did before
   pub stays : (kept_views new).pending_read ≡ (kept_views old).pending_read
+
+-- It was asked that, whatever it answered, and then the text was exported.
+pub record IsMeasuredAndExported {S W : Type 0} (store : Ghosts S) (writer : outputs.Ghosts W)
+    (old new : Registry S store) (before after : W) (result : Result (Unit {0}) ExportFault)
+    : Type 0 where
+  pub between : Registry S store
+  pub answer : Result ℕ Refusal
+  pub measured : IsMeasured store old between answer
+  pub exported : IsExported store writer between new before after result

@@ -11,8 +11,15 @@ ghost use Rattle.pid_moderation.specs.declared.refusal.Refusal.TheVariants.{Fail
 ghost use Rattle.pid_moderation.specs.Faults.{IsMemoryOrStore};
 ghost use Rattle.pid_service_laws.specs.Calls.{nothing_sent, obeyed};
 ghost use Rattle.pid_service_laws.specs.Registries.{CommandLeaves, Does, Showing};
+ghost use Rattle.pid_service.specs.Asking.{Answers};
+ghost use Rattle.pid_service.specs.Exporting.{IsMeasuredAndExported};
 ghost use Rattle.pid_service.specs.Files.{asks};
+ghost use Rattle.pid_service.specs.Histories.{OverHistory};
+ghost use Rattle.pid_service.specs.KeptViews.{kept_views};
+ghost use Rattle.pid_service.specs.Lives.{showing as registry_showing};
+ghost use Rattle.pid_service.specs.LookingUp.{IsLookedUp};
 ghost use Rattle.pid_service.specs.Moderating.{ExportsText, LooksUp};
+ghost use Rattle.pid_service.specs.Obeying.{IsObeyed};
 
 use crate::exporting::ExportFault;
 use crate::registry::Registry;
@@ -89,21 +96,31 @@ pub trait Moderated {
             × (O.taken out.new ≡ O.taken out.old) };
 }
 
+// Each call is one of the registry itself, and promises what that one does (`own`): more than any
+// registry under moderation. Callers that know the type see it.
 impl<S: Alter + Drop> Moderated for Registry<S> {
     ghost use Rattle.std.specs.Prelude.{◌≡◌, false};
-    ghost use Rattle.pid_service.specs.Lives.{showing as registry_showing};
     ghost use Rattle.pid_service.specs.Registries.{is_live};
 
     ghost showing = { registry_showing S.Store };
 
     ghost has_failed = { λ r. is_live r ≡ false };
 
-    fn obey(&mut self, command: Command) -> Result<Reply, Refusal> {
+    fn obey(&mut self, command: Command) -> Result<Reply, Refusal>
+        ensures calls { (live : Bool) × Does (registry_showing S.Store) self.old
+            (obeyed (asks command) result live) self.new }
+        ensures own { IsObeyed S.Store self.old self.new command result }
+    {
         crate::laws::clauses_meet_lives::<S>(); // proof only
         Registry::obey(self, command)
     }
 
-    fn read(&mut self, path: &Path) -> Result<Option<Name>, Refusal> {
+    fn read(&mut self, path: &Path) -> Result<Option<Name>, Refusal>
+        ensures calls { Does (registry_showing S.Store) self.old nothing_sent self.new }
+        ensures own { Answers S.Store self.old self.new result
+            (λ h name. name ≡ name_at (path_text path.now) (items_of h)) }
+        ensures stays { kept_views self.new ≡ kept_views self.old }
+    {
         crate::laws::clauses_meet_lives::<S>(); // proof only
         Registry::read(self, path)
     }
@@ -113,12 +130,23 @@ impl<S: Alter + Drop> Moderated for Registry<S> {
         flags: u32,
         args: &Args,
         size: u32,
-    ) -> Result<Answer, LookupRefusal<Refusal>> {
+    ) -> Result<Answer, LookupRefusal<Refusal>>
+        ensures calls { Does (registry_showing S.Store) self.old nothing_sent self.new }
+        ensures told { OverHistory S.Store self.old self.new
+            (λ h. LooksUp result (tree_of h) flags args.now size) }
+        ensures own { IsLookedUp S.Store self.old self.new flags args.now size result }
+    {
         crate::laws::clauses_meet_lives::<S>(); // proof only
         Registry::lookup(self, flags, args, size)
     }
 
-    fn export<O: Output>(&mut self, out: &mut O) -> Result<(), ExportFault> {
+    fn export<O: Output>(&mut self, out: &mut O) -> Result<(), ExportFault>
+        ensures calls { Does (registry_showing S.Store) self.old nothing_sent self.new }
+        ensures told { OverHistory S.Store self.old self.new
+            (λ h. ExportsText result (O.taken out.old) (O.taken out.new) (print (tree_of h))) }
+        ensures own { IsMeasuredAndExported S.Store O.Output
+            self.old self.new out.old out.new result }
+    {
         crate::laws::clauses_meet_lives::<S>(); // proof only
         crate::laws::items_print_as_their_tree(); // proof only
         // So the text is kept in memory and goes out whole. If it can't be, it goes out in parts.

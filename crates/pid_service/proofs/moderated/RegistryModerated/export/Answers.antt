@@ -16,6 +16,3 @@ returns-clause-calls g c =
     c.clauses_meet_lives.ensures.looks c.args.self.now c.export.new.self (λ clean. first.rests.clean (e.rests.clean clean))
     (λ failed. (e.failed (ap is_live (first.failed failed).1 ∙ failed)).1 ∙ (first.failed failed).1)
     (λ clean h shows. e.shown h (first.told (e.rests.clean clean) h shows).1)
-
-pub returns-clause-kept : goal.returns-clause-kept
-returns-clause-kept g c = λ clean h shows. c.export.ensures.shown h (c.export_length.ensures.answers.told (c.export.ensures.rests.clean clean) h shows).1
