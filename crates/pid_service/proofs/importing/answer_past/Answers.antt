@@ -1,10 +1,13 @@
-use Rattle.std.proofs.Common.{◌≡◌, ℕ, List, Option, Err, IfErr, Result, inl, inr, refl, rules, subst}
+use Rattle.std.proofs.Common.{◌≡◌, ℕ, List, Option, Err, IfErr, Result, inl, inr, refl, rules, ap, subst}
 use Rattle.pid_file.specs.declared.whole_input.SkipEnd.{SkipEnd}
 use Rattle.pid_file.specs.declared.whole_input.SkipEnd.TheVariants as skips
 use Rattle.pid_file.specs.WholeInputs.{SkipsInput}
 use Rattle.pid_moderation.specs.declared.command.Reply.{Reply}
 use Rattle.pid_moderation.specs.declared.refusal.Refusal.{Refusal}
 use Rattle.pid_moderation.specs.declared.refusal.Refusal.TheVariants.{BadText, Failed}
+use Rattle.pid_service.specs.declared.importing.ImportEnd.{ImportEnd}
+use Rattle.pid_service.specs.declared.importing.ImportEnd.TheVariants.{Refused, Body}
+use Rattle.pid_service.proofs.Keeping.{ok_not}
 use Rattle.pid_service.proofs.importing.answer_past.Goals as goal
 
 ended_so : (limit : ℕ) (rest : Option (List ℕ)) (text : List ℕ) (end so : SkipEnd) → end ≡ so → SkipsInput {X = Unit {0}} limit (Err end) rest text → SkipsInput {X = Unit {0}} limit (Err so) rest text
@@ -49,3 +52,39 @@ returns-in-Ok-answer-clause-alive g c answer = tt
 
 pub returns-in-Err-clause-alive : goal.returns-in-Err-clause-alive
 returns-in-Err-clause-alive g c answer = subst (λ (r : Result Reply Refusal). IfErr r (λ e. e ≡ Failed → ⊥)) c.in-Err.is answer
+
+-- ---- what became of the input
+
+no_body : (e : Refusal) → ◌≡◌ {A = Result Reply ImportEnd} (Err (Refused e)) (Err Body) → ⊥
+no_body e is = cc
+
+not_read : (end : SkipEnd) → end ≡ skips.TooLong → ◌≡◌ {A = Result (Unit {0}) SkipEnd} (Err end) (Err skips.ReadFault) → ⊥
+not_read end is fault = cc
+
+pub returns-in-Err-ReadFault-clause-reads : goal.returns-in-Err-ReadFault-clause-reads
+returns-in-Err-ReadFault-clause-reads g c = record {
+  goes = c.in-Err-ReadFault.ensures.goes;
+  fault = λ is. c.in-Err-ReadFault.ensures.fault (ap Err c.in-Err-ReadFault.field-0-is);
+  fault_first = λ some. refl;
+}
+
+pub returns-in-Err-TooLong-clause-reads : goal.returns-in-Err-TooLong-clause-reads
+returns-in-Err-TooLong-clause-reads g c = record {
+  goes = c.in-Err-TooLong.ensures.goes;
+  fault = λ is. absurd (no_body BadText is);
+  fault_first = λ some. absurd (not_read c.in-Err-TooLong.field-0 c.in-Err-TooLong.field-0-is (c.in-Err-TooLong.ensures.fault_first some));
+}
+
+pub returns-in-Ok-answer-clause-reads : goal.returns-in-Ok-answer-clause-reads
+returns-in-Ok-answer-clause-reads g c = record {
+  goes = c.in-Ok.ensures.goes;
+  fault = ok_not c.in-Ok-answer.reply Body;
+  fault_first = λ some. ok_not tt skips.ReadFault (c.in-Ok.ensures.fault_first some);
+}
+
+pub returns-in-Err-clause-reads : goal.returns-in-Err-clause-reads
+returns-in-Err-clause-reads g c = record {
+  goes = c.in-Ok.ensures.goes;
+  fault = λ is. absurd (no_body c.in-Err.refusal is);
+  fault_first = λ some. ok_not tt skips.ReadFault (c.in-Ok.ensures.fault_first some);
+}

@@ -1,4 +1,4 @@
-use Rattle.std.proofs.Common.{◌≡◌, IfErr, refl, subst, true}
+use Rattle.std.proofs.Common.{◌≡◌, IfErr, inl, inr, refl, subst, true}
 use Rattle.pid_moderation.specs.BeforeFile.{import_of}
 use Rattle.pid_moderation.specs.declared.command.Command.{Command}
 use Rattle.pid_moderation.specs.History.{asked, is_import}
@@ -8,6 +8,7 @@ use Rattle.pid_service.proofs.ImportCauses.{Faults}
 use Rattle.pid_service.proofs.Keeping.{true_not}
 use Rattle.pid_service.proofs.Lasting.{end_lasting}
 use Rattle.pid_service.proofs.registry.Registry.import_from.Goals as goal
+use Rattle.pid_service.proofs.registry.Registry.import_from.Goals.{in-Err-ReadFault, in-Ok, in-Ok-2}
 
 pub returns-clause-obeyed : goal.returns-clause-obeyed
 returns-clause-obeyed g c = let r = c.import_act-end.ensures.taken in
@@ -41,3 +42,21 @@ returns-clause-failed g c = true_not c.args.self.now.live c.if-not-self.false
 
 pub returns-clause-reads : goal.returns-clause-reads
 returns-clause-reads g c = c.import_act-end.ensures.reads
+
+-- ---- it has failed
+
+pub returns-then-not-self-clause-failed : goal.returns-then-not-self-clause-failed
+returns-then-not-self-clause-failed g c off = (
+  elim c.match-skip_input.branch [ in-Err-ReadFault w ↦ inr w.result-is | in-Ok w ↦ inl w.result-is | in-Ok-2 w ↦ inl w.result-is ],
+  refl,
+)
+
+pub returns-then-not-self-clause-lasts : goal.returns-then-not-self-clause-lasts
+returns-then-not-self-clause-lasts g c = record {
+  forgets = λ h shows. inr shows;
+  alive = λ on. true_not c.args.self.now.live on c.if-not-self.true;
+  stays = λ on. true_not c.args.self.now.live on c.if-not-self.true;
+  fails = λ on. true_not c.args.self.now.live on c.if-not-self.true;
+  limit = refl;
+  caused = λ clean h shows. true_not c.args.self.now.live shows.lives c.if-not-self.true;
+}
