@@ -27,9 +27,6 @@ module _ {S : Type 0} (store : Ghosts S) where
   abbrev pub IsNameTaken : Held S → Type 0
   IsNameTaken conn = creation.IsNameTaken (state store conn)
 
-  abbrev pub IsFaultOfTaken : Held S → Held S → TableFault → Type 0
-  IsFaultOfTaken old new fault = creation.IsFaultOfTaken (state store old) (state store new) fault
-
   abbrev pub EndsCommit : {X : Type 0} → Held S → Held S → Result X TableFault → Type 0
   EndsCommit old new result = creation.EndsCommit (state store old) (state store new) result
 

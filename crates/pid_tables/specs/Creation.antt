@@ -104,3 +104,8 @@ pub record MakesNothing {X : Type 0} (old new : State) (result : Result X TableF
   pub shut : HasCleanDisk new → old.is_open ≡ false
       → MatchResult result (λ _. ⊥) IsMemoryOrStore
   pub kept : (v : Views) → AtRest old v → AtRest new v
+  -- Where views are shown, their tables have the names.
+  pub met : HasCleanDisk new → (v : Views) → AtRest old v
+      → MatchResult result (λ _. ⊥) (IsFaultOfTaken old new)
+  -- Whatever there is, no later schema is named.
+  pub never : HasCleanDisk new → IfErr result IsNotNewerSchema

@@ -1,11 +1,11 @@
 -- What is answered as the number of the schema.
-use Rattle.std.specs.Prelude.{◌≡◌, ℕ, codes, Result, IfErr, IfOk, MatchResult}
+use Rattle.std.specs.Prelude.{◌≡◌, ℕ, codes, Result, IfErr, IfOk, IsTrue, MatchResult, OnOk}
 use Rattle.sqlite.specs.State.{State, HasCleanDisk}
 use Rattle.pid_moderation.specs.Views.{Views}
 use Rattle.pid_tables_rows.specs.declared.fault.TableFault.{TableFault}
 use Rattle.pid_tables_rows.specs.declared.version.Version.{Version}
 use Rattle.pid_tables_rows.specs.declared.version.Version.TheVariants.{One}
-use Rattle.pid_tables_rows.specs.Faults.{IsMemoryOrStore}
+use Rattle.pid_tables_rows.specs.Faults.{IsMemoryOrStore, IsNotNewerSchema}
 use Rattle.pid_tables_rows.specs.LabelRows.{ExplainsNumber, HasLabel}
 use Rattle.pid_tables_rows.specs.LabelRows.{IsDamageOf, ShowsNoNumber, ShowsNumber}
 use Rattle.pid_tables_rows.specs.Leaves.{RestsIn}
@@ -27,3 +27,7 @@ pub record TellsSchema (old new : State) (result : Result ℕ TableFault) : Type
       → IfOk result (HasLabel old.now.trees (codes "schema"))
   pub refused : HasCleanDisk new → (schema : Version) → IsMadeFirst schema old.now.schema
       → IfErr result (ExplainsNumber old.now.trees (codes "schema"))
+  -- A number is answered by a connection that was open.
+  pub was_open : HasCleanDisk new → OnOk result (IsTrue old.is_open)
+  -- Whatever number the labels have, no fault names it.
+  pub never : IfErr result IsNotNewerSchema

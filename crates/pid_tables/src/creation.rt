@@ -15,7 +15,6 @@ ghost use Rattle.std.specs.Prelude.{
 ghost use Rattle.sqlite.specs.declared.types.Value.TheVariants.{Text};
 ghost use Rattle.sqlite.specs.Listing.{understood};
 ghost use Rattle.sqlite.specs.Table.{Table};
-ghost use Rattle.pid_moderation.specs.Views.{Views};
 ghost use Rattle.pid_tables_rows.specs.Schema.{pid_schema};
 ghost use Rattle.pid_tables_rows.specs.Faults.{IsMemoryOrStore, IsNotNewerSchema};
 ghost use Rattle.pid_tables_rows.specs.PairRows.{Map};
@@ -41,14 +40,12 @@ ghost use Rattle.pid_tables.specs.Steps.Making.{
   label_statements,
 };
 ghost use Rattle.pid_tables_rows.specs.Clauses.{
-  AtRest,
   GoesOn,
   HasCleanDisk,
   is_open,
   seen,
 };
 ghost use Rattle.pid_tables.specs.Clauses.{
-  IsFaultOfTaken,
   IsNameTaken,
   MakesNew,
   MakesNothing,
@@ -229,9 +226,6 @@ pub fn create<S: Alter>(conn: &mut Connection<S>) -> Result<(), TableFault>
     ensures statements { Carries S.Store registry_statements conn.old conn.new result }
     ensures makes { MakesNew S.Store conn.old conn.new result }
     ensures spares { MakesNothing S.Store conn.old conn.new result }
-    ensures met { HasCleanDisk S.Store conn.new → (v : Views) → AtRest S.Store conn.old v
-        → MatchResult result (λ _. ⊥) (IsFaultOfTaken S.Store conn.old conn.new) }
-    ensures never { HasCleanDisk S.Store conn.new → IfErr result IsNotNewerSchema }
 {
     let mut batch = conn.transaction();
     fill(&mut batch)?;

@@ -2,16 +2,13 @@
 ghost use Rattle.std.specs.Prelude.{
   ◌≡◌,
   ◌≤◌,
-  ◌↔◌,
   false,
   Some,
   length,
   map,
-  IsTrue,
   option_map,
   IfErr,
   MatchResult,
-  OnOk,
 };
 ghost use Rattle.std.specs.Option.{option_copied};
 ghost use Rattle.pid_moderation.specs.History.{History};
@@ -23,10 +20,9 @@ ghost use Rattle.pid_moderation.specs.FactsOfViews.{facts_at};
 ghost use Rattle.pid_moderation.specs.Items.{name_at};
 ghost use Rattle.pid_moderation.specs.Wants.{wanted_by};
 ghost use Rattle.pid_moderation.specs.WellMade.{AllItems, HoldsParents};
-ghost use Rattle.pid_tables_check.specs.Checking.{Explains, FindsVersion, IsRegistry};
-ghost use Rattle.pid_tables_check.specs.Shapes.{IsMadeFirst};
+ghost use Rattle.pid_tables_check.specs.Checking.{Explains, FindsVersion};
 ghost use Rattle.pid_tables_rows.specs.Causes.{IsReadable};
-ghost use Rattle.pid_tables_rows.specs.Faults.{IsMemoryOrStore, IsNotNewerSchema};
+ghost use Rattle.pid_tables_rows.specs.Faults.{IsMemoryOrStore};
 ghost use Rattle.pid_moderation.specs.ChangePages.{AreHeld, changes_in, page_of, start_text};
 ghost use Rattle.pid_tables_lists.specs.Children.{AreChildren};
 ghost use Rattle.pid_moderation.specs.Submissions.{discussion_in, discussion_of};
@@ -207,17 +203,10 @@ impl<S: Alter + Drop> Tables<S> {
         ensures shut { HasCleanDisk S.Store self.new.conn → is_open S.Store self.old.conn ≡ false
             → MatchResult result (λ x. ⊥) IsMemoryOrStore }
         // Whatever the schema: what it answers is so of the rows that the queries of the tables
-        // answer.
+        // answer, and by `judgements_hold_of_storage` of those that storage has.
         ensures told { HasCleanDisk S.Store self.new.conn
             → MatchResult result (FindsVersion (seen S.Store self.old.conn))
             (Explains (seen S.Store self.old.conn)) }
-        // If the tables of a schema were made first, whatever else comes after them: it finds
-        // the schema exactly when storage has a registry in it.
-        ensures stored { HasCleanDisk S.Store self.new.conn → (schema : Version)
-            → IsMadeFirst schema (seen S.Store self.old.conn).schema
-            → MatchResult result (λ found. (found ≡ Some schema)
-            ↔ IsRegistry schema (seen S.Store self.old.conn))
-            (λ fault. IsRegistry schema (seen S.Store self.old.conn) → IsMemoryOrStore fault) }
         // Tables that show a sound history, whose revision is within its limit, are neither damaged
         // nor of a later schema.
         ensures good { HasCleanDisk S.Store self.new.conn → (h : History) → IsSound h
@@ -239,9 +228,6 @@ impl<S: Alter + Drop> Tables<S> {
         ensures rests { OnlyReads S.Store self.old.conn self.new.conn }
         ensures told { Tells S.Store self.old.conn self.new.conn result (λ v n. n ≡ 2) }
         ensures shown { TellsSchema S.Store self.old.conn self.new.conn result }
-        ensures was_open { HasCleanDisk S.Store self.new.conn
-            → OnOk result (IsTrue (is_open S.Store self.old.conn)) }
-        ensures never { IfErr result IsNotNewerSchema }
     {
         if has_some_table(&mut self.conn)? {
             schema_number(&mut self.conn)

@@ -1,18 +1,12 @@
 //! The check of all tables: first which are there, and then their rows.
-ghost use Rattle.std.specs.Prelude.{◌≡◌, ◌↔◌, false, None, Some, MatchResult};
+ghost use Rattle.std.specs.Prelude.{◌≡◌, false, None, Some, MatchResult};
 ghost use Rattle.pid_tables_rows.specs.Faults.{IsMemoryOrStore};
-ghost use Rattle.pid_tables_rows.specs.declared.version.Version.{Version as Schema};
 ghost use Rattle.pid_tables_rows.specs.Clauses.{HasCleanDisk, OnlyReads, is_open, seen};
-ghost use Rattle.pid_tables_check.specs.Checking.{
-  Explains,
-  FindsVersion,
-  IsRegistry,
-  ShowsRegistry,
-};
+ghost use Rattle.pid_tables_check.specs.Checking.{Explains, FindsVersion, ShowsRegistry};
 ghost use Rattle.pid_tables_check.specs.Steps.Clauses.{JudgesRows};
 ghost use Rattle.pid_tables_check.specs.Steps.Labels.{ShowsLabels};
 ghost use Rattle.pid_tables_check.specs.Steps.Reading.{TellsDamage};
-ghost use Rattle.pid_tables_check.specs.Shapes.{HasEachTable, HasTables, IsMadeFirst};
+ghost use Rattle.pid_tables_check.specs.Shapes.{HasEachTable, HasTables};
 
 use crate::lacking::check_lacking;
 use crate::meta::{Labels, are_labels, read_labels, revision_told};
@@ -86,17 +80,11 @@ pub fn check<S: Alter>(
     ensures rests { OnlyReads S.Store conn.old conn.new }
     ensures shut { HasCleanDisk S.Store conn.new → is_open S.Store conn.old ≡ false
         → MatchResult result (λ x. ⊥) IsMemoryOrStore }
-    // Whatever the schema: what it answers is so of the rows that the queries of the tables answer.
+    // Whatever the schema: what it answers is so of the rows that the queries of the tables answer,
+    // and by `judgements_hold_of_storage` of those that storage has.
     ensures told { HasCleanDisk S.Store conn.new
         → MatchResult result (FindsVersion (seen S.Store conn.old))
         (Explains (seen S.Store conn.old)) }
-    // If the tables of a schema were made first, whatever else comes after them: it finds the
-    // schema exactly when storage has a registry in it.
-    ensures stored { HasCleanDisk S.Store conn.new → (version : Schema)
-        → IsMadeFirst version (seen S.Store conn.old).schema
-        → MatchResult result (λ found. (found ≡ Some version)
-        ↔ IsRegistry version (seen S.Store conn.old))
-        (λ fault. IsRegistry version (seen S.Store conn.old) → IsMemoryOrStore fault) }
 {
     if !some_can(conn, &SIX, false)? {
         return check_tables(conn, alloc);

@@ -1,5 +1,5 @@
 //! Laws of the definitions. Each is the contract of a function that does nothing.
-ghost use Rattle.std.specs.Prelude.{◌≤◌, ℕ, List};
+ghost use Rattle.std.specs.Prelude.{◌≡◌, ◌↔◌, ◌≤◌, ℕ, List, Option, Some, Result, MatchResult};
 ghost use Rattle.sqlite.specs.Effect.{Database};
 ghost use Rattle.pid_moderation.specs.CheckTables.{most_revision};
 ghost use Rattle.pid_moderation.specs.History.{Asked, Begins, History};
@@ -7,10 +7,12 @@ ghost use Rattle.pid_moderation.specs.Judgement.{after_all};
 ghost use Rattle.pid_moderation.specs.Sound.{IsSound};
 ghost use Rattle.pid_moderation.specs.Views.{revision_of, views_of};
 ghost use Rattle.pid_moderation.specs.WellMade.{AreWellMade};
+ghost use Rattle.pid_tables_rows.specs.Faults.{IsMemoryOrStore};
+ghost use Rattle.pid_tables_rows.specs.declared.fault.TableFault.{TableFault};
 ghost use Rattle.pid_tables_rows.specs.declared.version.Version.{Version};
 ghost use Rattle.pid_tables_rows.specs.Schema.{no_schema, schema_of};
 ghost use Rattle.pid_tables_rows.specs.Shows.{ShowsIn};
-ghost use Rattle.pid_tables_check.specs.Checking.{IsRegistry};
+ghost use Rattle.pid_tables_check.specs.Checking.{Explains, FindsVersion, IsRegistry};
 ghost use Rattle.pid_tables_check.specs.Shapes.{HasNoTable, HasEachTable, HasTables, IsMadeFirst};
 
 /// Every database that shows a sound history whose revision is within its limit, in either schema,
@@ -34,6 +36,17 @@ pub fn shown_tables_are_registries()
     pid_moderation::laws::revisions_are_within(); // proof only
     crate::laws::sound_histories_are_registries(); // proof only
 }
+
+/// What is answered of the rows that the queries of the tables answer is so of those that storage
+/// has, if the tables of a schema were made first, whatever else comes after them: the schema is
+/// found exactly when storage has a registry in it, and a fault is none of that registry.
+pub fn judgements_hold_of_storage()
+    ensures { (db : Database) (result : Result (Option Version) TableFault)
+        → MatchResult result (FindsVersion db) (Explains db)
+        → (version : Version) → IsMadeFirst version db.schema
+        → MatchResult result (λ found. (found ≡ Some version) ↔ IsRegistry version db)
+        (λ fault. IsRegistry version db → IsMemoryOrStore fault) }
+{}
 
 /// A database without any table has none of the seven. Those of each schema have all tables of the
 /// schema, which were made first.

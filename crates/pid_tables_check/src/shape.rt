@@ -19,7 +19,8 @@ ghost use Rattle.pid_tables_rows.specs.declared.fault.TableFault.TheVariants.{Da
 ghost use Rattle.pid_moderation.specs.Views.{Views};
 ghost use Rattle.pid_tables_rows.specs.Queries.{IsQuery};
 ghost use Rattle.pid_tables_rows.specs.Schema.{pid_schema};
-ghost use Rattle.pid_tables_check.specs.Shapes.{CanBeAsked, HasEachTable, HasSomeTable};
+ghost use Rattle.pid_tables_check.specs.Asking.{AsksTables};
+ghost use Rattle.pid_tables_check.specs.Shapes.{CanBeAsked, HasEachTable};
 ghost use Rattle.pid_tables_check.specs.Steps.Shapes.{HasTablesOf};
 ghost use Rattle.pid_tables_check.specs.Queries.{query_of};
 ghost use Rattle.pid_tables_rows.specs.Clauses.{
@@ -152,13 +153,7 @@ pub(crate) fn some_can<S: Alter>(
 pub fn has_some_table<S: Alter>(conn: &mut Connection<S>) -> Result<bool, TableFault>
     requires { conn.old.in_transaction ≡ false }
     ensures reads { Reads S.Store conn.old conn.new result (λ v some. some ≡ true) }
-    ensures same { HasCleanDisk S.Store conn.new
-        → IfOk result (λ some. (seen S.Store conn.new) ≡ (seen S.Store conn.old)) }
-    ensures asked { HasCleanDisk S.Store conn.new
-        → IfOk result (λ some. IsTrue some ↔ HasSomeTable (seen S.Store conn.old).schema) }
-    ensures was_open { HasCleanDisk S.Store conn.new
-        → OnOk result (IsTrue (is_open S.Store conn.old)) }
-    ensures untold { IfErr result IsMemoryOrStore }
+    ensures found { AsksTables S.Store conn.old conn.new result }
 {
     some_can(conn, &SEVEN, true)
 }

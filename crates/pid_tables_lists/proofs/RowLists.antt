@@ -1,5 +1,5 @@
 -- Rows that are read one after the other.
-use Rattle.std.proofs.Common.{◌≡◌, inl, inr, ℕ, zero, suc, ◌+◌, ◌<◌, List, [], ◌∷◌, ◌++◌, length, map, take, get_or, Ok, Err, Result, MatchResult, refl, ap, ◌∙◌, arith, add-one}
+use Rattle.std.proofs.Common.{◌≡◌, inl, inr, ℕ, zero, suc, ◌+◌, ◌<◌, List, [], ◌∷◌, ◌++◌, length, map, take, get_or, Ok, Err, Result, IsErrAnd, MatchResult, refl, ap, ◌∙◌, arith, add-one}
 use Rattle.sqlite.specs.State.{State}
 use Rattle.pid_moderation.specs.Views.{Views}
 use Rattle.pid_tables_rows.specs.declared.fault.TableFault.{TableFault}
@@ -38,3 +38,15 @@ module _ {X : Type 0} (f : X → Row) where
 pub read_or_caused : {X W : Type 0} (old new : State) (v : Views) (r : Result X TableFault) (P Q : X → Type 0) → (IsReadable v → W) → ((x : X) → P x → Q x) → MatchResult r P (IsUnreadable W) → MatchResult r Q (λ fault. IsReadable v → IsCaused old new fault)
 read_or_caused old new v (Ok x) P Q written more h = more x h
 read_or_caused old new v (Err e) P Q written more h = λ readable. caused_unread old new e (written readable) h
+
+-- ---- a second clause over the same read
+
+-- what a value implies is so where the value is
+pub on_value : {X : Type 0} (r : Result X TableFault) (P Q : X → Type 0) (R : TableFault → Type 0) → ((x : X) → P x → Q x) → MatchResult r P R → MatchResult r Q R
+on_value (Ok x) P Q R says h = says x h
+on_value (Err e) P Q R says h = h
+
+-- a fault that is passed on is why, whatever a value would say
+pub on_fault : {X : Type 0} (r : Result X TableFault) (e : TableFault) (P Q : X → Type 0) (R : TableFault → Type 0) → IsErrAnd r (λ y. y ≡ e) → MatchResult r P R → MatchResult r Q R
+on_fault (Ok x) e P Q R bad h = absurd bad
+on_fault (Err y) e P Q R bad h = h

@@ -15,7 +15,7 @@ use Rattle.sqlite_trees.specs.declared.store.Store.{Ghosts}
 use Rattle.pid_moderation.specs.Views.{Views}
 use Rattle.pid_tables_rows.specs.declared.fault.TableFault.{TableFault}
 use Rattle.pid_tables_rows.specs.Causes as causes
-use Rattle.pid_tables_rows.specs.Faults.{fault_of_sql, IsMemoryOrStore}
+use Rattle.pid_tables_rows.specs.Faults.{fault_of_sql, IsMemoryOrStore, IsNotNewerSchema}
 use Rattle.pid_tables_rows.specs.Leaves as leaves
 use Rattle.pid_tables_rows.specs.Leaves.{Turn}
 use Rattle.pid_tables_rows.specs.Queries.{IsQuery, IsWriteAs}
@@ -88,7 +88,7 @@ module _ {S : Type 0} (store : Ghosts S) where
         → IfErr result (λ fault. (e : Error) × (fault ≡ fault_of_sql e)
         × ExecutesInside 0 sql params old new (Err e))
 
-  -- Why a query with these parameters, inside a transaction, is answered with a fault.
+  -- Why a query with these parameters is answered with a fault.
   pub record FaultsQuery {X : Type 0} (sql : List ℕ) (params : Row) (old new : Held S)
       (result : Result X TableFault) : Type 0 where
     -- a text that is understood in the schema is not damage
@@ -98,6 +98,8 @@ module _ {S : Type 0} (store : Ghosts S) where
     pub caused : HasCleanDisk new → (schema : Schema)
         → (IsTrue (is_open old) → (seen old).schema ≡ schema)
         → IsQuery schema sql params → IfErr result (IsCaused old new)
+    -- whatever it is, it reports no later schema
+    pub never : IfErr result IsNotNewerSchema
 
   abbrev pub OnlyReads : Held S → Held S → Type 0
   OnlyReads old new = leaves.OnlyReads (state store old) (state store new)

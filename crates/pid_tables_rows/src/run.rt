@@ -1,24 +1,15 @@
 //! One statement at a time.
 ghost use Rattle.std.specs.Prelude.{◌≡◌, false, true, IfOk, IfErr};
-ghost use Rattle.sqlite.specs.Given.{IsPlain};
-ghost use Rattle.sqlite.specs.Listing.{understood};
-ghost use Rattle.sqlite.specs.Schema.{Schema};
 ghost use Rattle.sqlite.specs.Values.{bound};
 ghost use Rattle.sqlite.specs.Held.{Held};
-ghost use Rattle.pid_tables_rows.specs.Faults.{IsMemoryOrStore, IsNotNewerSchema};
-ghost use Rattle.pid_moderation.specs.Views.{Views};
-ghost use Rattle.pid_tables_rows.specs.Queries.{IsQuery};
-ghost use Rattle.pid_tables_rows.specs.Schema.{pid_schema};
+ghost use Rattle.pid_tables_rows.specs.Faults.{IsNotNewerSchema};
 ghost use Rattle.pid_tables_rows.specs.Clauses.{
-  AtRest,
   FaultsQuery,
   GoesOn,
   HasCleanDisk,
-  IsCaused,
   OnlyReads,
   RunsWrite,
   Shown,
-  seen,
 };
 
 use crate::fault::TableFault;
@@ -56,7 +47,6 @@ pub fn read_inside<S: Alter>(
         (bound params.now) tx.old.conn.now tx.new.conn.now rows.items) }
     ensures faults { FaultsQuery S.Store sql.now (bound params.now) tx.old.conn.now tx.new.conn.now
         result }
-    ensures never { IfErr result IsNotNewerSchema }
 {
     Ok(tx.query_all(sql, params)?)
 }
@@ -75,13 +65,7 @@ pub fn read_rows<S: Alter>(
         → IfOk result (λ rows. (mid : Held S)
         × Shown S.Store sql.now (bound params.now)
         (record conn.old { in_transaction = true }) mid rows.items) }
-    ensures untold { HasCleanDisk S.Store conn.new → (schema : Schema)
-        → (seen S.Store conn.old).schema ≡ schema → IsPlain (understood schema sql.now)
-        → IfErr result IsMemoryOrStore }
-    ensures never { IfErr result IsNotNewerSchema }
-    ensures caused { HasCleanDisk S.Store conn.new → (v : Views) → AtRest S.Store conn.old v
-        → IsQuery pid_schema sql.now (bound params.now)
-        → IfErr result (IsCaused S.Store conn.old conn.new) }
+    ensures faults { FaultsQuery S.Store sql.now (bound params.now) conn.old conn.new result }
 {
     let mut tx = conn.transaction();
     read_inside(&mut tx, sql, params)

@@ -83,6 +83,8 @@ returns-in_err-fill-clause-spares g c =
     let goes = rw c.transaction-batch.ensures.begun at c.fill.ensures.goes in
     let filled = rw c.transaction-batch.ensures.begun at c.in_err-fill.ensures.filled in
     let refused = rw c.transaction-batch.ensures.begun at c.in_err-fill.ensures.refused in
+    let met = rw c.transaction-batch.ensures.begun at c.in_err-fill.ensures.met in
+    let never = rw c.transaction-batch.ensures.begun at c.in_err-fill.ensures.never in
     let reads = (reads_begun g.S.Store c.args.conn.now first end c.fill.result (clean_if_open (g.S.Store.view first.store) (g.met.S.Store.shut_if_dirty first.store))
     (clean_if_open (g.S.Store.view end.store) (g.met.S.Store.shut_if_dirty end.store)) goes c.drop-batch.ensures.ended c.drop-batch.ensures.undone c.drop-batch.ensures.survives) in
     subst (λ h. MakesNothing old (state g.S.Store h) c.from_residual.result) same (record {
@@ -92,16 +94,12 @@ returns-in_err-fill-clause-spares g c =
           passed_on c.from_residual.result _ _ IsMemoryOrStore c.from_residual.ensures.1
           (filled (earlier (state g.S.Store first) (state g.S.Store end) c.drop-batch.ensures.survives clean) refl (λ opened. absurd (never_open _ closed opened)));
       kept = λ v rest. reads.kept v rest;
+      met = λ clean v rest.
+          passed_on c.from_residual.result _ _ (IsFaultOfTaken old (state g.S.Store end)) c.from_residual.ensures.1
+          (met_first old (state g.S.Store first) (state g.S.Store end) _ c.drop-batch.ensures.survives.counts
+          (met (earlier (state g.S.Store first) (state g.S.Store end) c.drop-batch.ensures.survives clean) refl (λ opened. (rest.shows opened).schema)));
+      never = λ clean. passed_from c.from_residual.result _ IsNotNewerSchema c.from_residual.ensures.1 (never (earlier (state g.S.Store first) (state g.S.Store end) c.drop-batch.ensures.survives clean) refl);
     })
-
-pub returns-in_err-fill-clause-never : goal.returns-in_err-fill-clause-never
-returns-in_err-fill-clause-never g c clean =
-    let end = c.drop-batch.new.self.0 in
-    let same = same_undone g c in
-    let late = subst (λ h. HasCleanDisk (state g.S.Store h)) (sym same) clean in
-    let mid = earlier (state g.S.Store c.fill.new.tx.conn.now) (state g.S.Store end) c.drop-batch.ensures.survives late in
-    let never = rw c.transaction-batch.ensures.begun at c.in_err-fill.ensures.never in
-    passed_from c.from_residual.result _ IsNotNewerSchema c.from_residual.ensures.1 (never mid refl)
 
 -- ---- all was made, and the commit answers
 
@@ -166,6 +164,7 @@ returns-clause-spares g c =
     let same = same_ended g c in
     let goes = rw c.transaction-batch.ensures.begun at c.in_ok-fill.ensures.goes in
     let refused = rw c.transaction-batch.ensures.begun at c.in_ok-fill.ensures.refused in
+    let met = rw c.transaction-batch.ensures.begun at c.in_ok-fill.ensures.met in
     let begun = state g.S.Store (record c.args.conn.now { in_transaction = true }) in
     let reads : (IsTrue old.is_open → IsNameTaken old) → OnlyReads old (state g.S.Store end) = λ met.
     reads_if_never old (state g.S.Store end) (λ db. db ≡ mid.now.trees)
@@ -181,37 +180,8 @@ returns-clause-spares g c =
           let early = earlier mid (state g.S.Store end) c.commit.ensures.survives clean in
           absurd (never_open _ closed (goes.was_open early (goes.going early refl).0));
       kept = λ v rest. (reads (met_at_rest old v rest)).kept v rest;
+      met = λ clean v rest. absurd (met (earlier mid (state g.S.Store end) c.commit.ensures.survives clean) refl (λ opened. (rest.shows opened).schema));
+      never = λ clean.
+          let early = earlier mid (state g.S.Store end) c.commit.ensures.survives clean in
+          all_never c.commit.result (all_untold mid (state g.S.Store end) c.commit.result (c.commit.ensures.ends.caused clean (goes.going early refl).1));
     })
-
-pub returns-clause-never : goal.returns-clause-never
-returns-clause-never g c clean =
-    let first = c.fill.new.tx.conn.now in
-    let end = c.commit.new.batch.0 in
-    let same = same_ended g c in
-    let late = subst (λ h. HasCleanDisk (state g.S.Store h)) (sym same) clean in
-    let goes = rw c.transaction-batch.ensures.begun at c.in_ok-fill.ensures.goes in
-    all_never c.commit.result (all_untold (state g.S.Store first) (state g.S.Store end) c.commit.result
-    (c.commit.ensures.ends.caused late (goes.going (earlier (state g.S.Store first) (state g.S.Store end) c.commit.ensures.survives late) refl).1))
-
--- ---- where a registry is
-
-pub returns-in_err-fill-clause-met : goal.returns-in_err-fill-clause-met
-returns-in_err-fill-clause-met g c clean v rest =
-    let old = state g.S.Store c.args.conn.now in
-    let first = c.fill.new.tx.conn.now in
-    let end = c.drop-batch.new.self.0 in
-    let same = same_undone g c in
-    let late = subst (λ h. HasCleanDisk (state g.S.Store h)) (sym same) clean in
-    let met = rw c.transaction-batch.ensures.begun at c.in_err-fill.ensures.met in
-    subst (λ h. MatchResult c.from_residual.result (λ _. ⊥) (IsFaultOfTaken old (state g.S.Store h))) same
-    (passed_on c.from_residual.result _ _ (IsFaultOfTaken old (state g.S.Store end)) c.from_residual.ensures.1
-    (met_first old (state g.S.Store first) (state g.S.Store end) _ c.drop-batch.ensures.survives.counts
-    (met (earlier (state g.S.Store first) (state g.S.Store end) c.drop-batch.ensures.survives late) refl (λ opened. (rest.shows opened).schema))))
-
-pub returns-clause-met : goal.returns-clause-met
-returns-clause-met g c clean v rest =
-    let first = c.fill.new.tx.conn.now in
-    let end = c.commit.new.batch.0 in
-    let late = subst (λ h. HasCleanDisk (state g.S.Store h)) (sym (same_ended g c)) clean in
-    let met = rw c.transaction-batch.ensures.begun at c.in_ok-fill.ensures.met in
-    absurd (met (earlier (state g.S.Store first) (state g.S.Store end) c.commit.ensures.survives late) refl (λ opened. (rest.shows opened).schema))

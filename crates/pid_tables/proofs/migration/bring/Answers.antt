@@ -37,7 +37,7 @@ returns-in-Err-clause-brings g c =
     })
 
 pub returns-in-Err-clause-never : goal.returns-in-Err-clause-never
-returns-in-Err-clause-never g c clean = c.in-Err.ensures.never clean
+returns-in-Err-clause-never g c clean = c.in-Err.ensures.spares.never clean
 
 -- ---- schema 1: the tables are moved
 

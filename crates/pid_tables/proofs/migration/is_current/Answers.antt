@@ -16,14 +16,14 @@ use Rattle.pid_tables.proofs.migration.is_current.Goals as goal
 
 pub returns-then-not-branch-clause-shown : goal.returns-then-not-branch-clause-shown
 returns-then-not-branch-clause-shown g c clean version counts numbers v shows =
-    let found = c.in_ok-has_some_table.ensures in
+    let found = c.in_ok-has_some_table.ensures.found in
     let some = tables_some version _ (c.schemas_have_tables.ensures.tables version) in
     let on = (found.asked clean).1 (subst HasSomeTable (sym (shows (found.was_open clean)).schema) some) in
     absurd (true≢false (sym on ∙ c.if-not-branch.true))
 
 pub returns-in-Ok-clause-shown : goal.returns-in-Ok-clause-shown
 returns-in-Ok-clause-shown g c clean version counts numbers v shows =
-    let found = c.in_ok-has_some_table.ensures in
+    let found = c.in_ok-has_some_table.ensures.found in
     let early = c.schema_number.ensures.reads.rests.clean clean in
     let db = (state g.S.Store c.has_some_table.new.conn).now in
     let there = subst (λ (d : Database). ShowsKeeping version counts numbers d v) (sym (found.same early)) (shows (found.was_open early)) in
@@ -31,7 +31,7 @@ returns-in-Ok-clause-shown g c clean version counts numbers v shows =
 
 pub returns-in-Err-Damaged-clause-shown : goal.returns-in-Err-Damaged-clause-shown
 returns-in-Err-Damaged-clause-shown g c clean version counts numbers v shows =
-    let found = c.in_ok-has_some_table.ensures in
+    let found = c.in_ok-has_some_table.ensures.found in
     let early = c.schema_number.ensures.reads.rests.clean clean in
     let db = (state g.S.Store c.has_some_table.new.conn).now in
     let there = subst (λ (d : Database). ShowsKeeping version counts numbers d v) (sym (found.same early)) (shows (found.was_open early)) in
@@ -40,10 +40,10 @@ returns-in-Err-Damaged-clause-shown g c clean version counts numbers v shows =
 pub returns-in-Ok-clause-named : goal.returns-in-Ok-clause-named
 returns-in-Ok-clause-named g c clean is =
     let db = (state g.S.Store c.has_some_table.new.conn).now in
-    subst NamesLatest (c.in_ok-has_some_table.ensures.same (c.schema_number.ensures.reads.rests.clean clean)) (names_latest db (inl (shown_second db c.in-Ok.number is (c.in-Ok.ensures.shown clean))))
+    subst NamesLatest (c.in_ok-has_some_table.ensures.found.same (c.schema_number.ensures.reads.rests.clean clean)) (names_latest db (inl (shown_second db c.in-Ok.number is (c.in-Ok.ensures.shown clean))))
 
 pub returns-in-Ok-clause-bare : goal.returns-in-Ok-clause-bare
-returns-in-Ok-clause-bare g c clean none = absurd (none ((c.in_ok-has_some_table.ensures.asked (c.schema_number.ensures.reads.rests.clean clean)).0 c.if-not-branch.false))
+returns-in-Ok-clause-bare g c clean none = absurd (none ((c.in_ok-has_some_table.ensures.found.asked (c.schema_number.ensures.reads.rests.clean clean)).0 c.if-not-branch.false))
 
 -- ---- what goes through
 
@@ -63,7 +63,7 @@ pub returns-in_err-has_some_table-clause-was_open : goal.returns-in_err-has_some
 returns-in_err-has_some_table-clause-was_open g c clean = not_on_ok c.from_residual.result _ _ c.from_residual.ensures.1
 
 pub returns-in_err-has_some_table-clause-untold : goal.returns-in_err-has_some_table-clause-untold
-returns-in_err-has_some_table-clause-untold g c = passed_from c.from_residual.result _ IsMemoryOrStore c.from_residual.ensures.1 c.in_err-has_some_table.ensures.untold
+returns-in_err-has_some_table-clause-untold g c = passed_from c.from_residual.result _ IsMemoryOrStore c.from_residual.ensures.1 c.in_err-has_some_table.ensures.found.untold
 
 pub returns-then-not-branch-clause-rests : goal.returns-then-not-branch-clause-rests
 returns-then-not-branch-clause-rests g c = c.has_some_table.ensures.reads.rests
@@ -75,13 +75,13 @@ pub returns-then-not-branch-clause-named : goal.returns-then-not-branch-clause-n
 returns-then-not-branch-clause-named g c clean = λ is. absurd (false≢true is)
 
 pub returns-then-not-branch-clause-was_open : goal.returns-then-not-branch-clause-was_open
-returns-then-not-branch-clause-was_open g c clean = c.in_ok-has_some_table.ensures.was_open clean
+returns-then-not-branch-clause-was_open g c clean = c.in_ok-has_some_table.ensures.found.was_open clean
 
 pub returns-in-Ok-clause-rests : goal.returns-in-Ok-clause-rests
 returns-in-Ok-clause-rests g c = reads_then _ _ _ c.has_some_table.ensures.reads.rests c.schema_number.ensures.reads.rests
 
 pub returns-in-Ok-clause-was_open : goal.returns-in-Ok-clause-was_open
-returns-in-Ok-clause-was_open g c clean = c.in_ok-has_some_table.ensures.was_open (c.schema_number.ensures.reads.rests.clean clean)
+returns-in-Ok-clause-was_open g c clean = c.in_ok-has_some_table.ensures.found.was_open (c.schema_number.ensures.reads.rests.clean clean)
 
 pub returns-in-Err-Damaged-clause-rests : goal.returns-in-Err-Damaged-clause-rests
 returns-in-Err-Damaged-clause-rests g c = reads_then _ _ _ c.has_some_table.ensures.reads.rests c.schema_number.ensures.reads.rests
@@ -93,7 +93,7 @@ pub returns-in-Err-Damaged-clause-named : goal.returns-in-Err-Damaged-clause-nam
 returns-in-Err-Damaged-clause-named g c clean = λ is. absurd (false≢true is)
 
 pub returns-in-Err-Damaged-clause-was_open : goal.returns-in-Err-Damaged-clause-was_open
-returns-in-Err-Damaged-clause-was_open g c clean = c.in_ok-has_some_table.ensures.was_open (c.schema_number.ensures.reads.rests.clean clean)
+returns-in-Err-Damaged-clause-was_open g c clean = c.in_ok-has_some_table.ensures.found.was_open (c.schema_number.ensures.reads.rests.clean clean)
 
 -- ---- the label cannot be read, and that is no damage
 

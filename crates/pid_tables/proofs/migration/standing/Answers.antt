@@ -9,6 +9,7 @@ use Rattle.pid_tables_rows.specs.Shows.{counts_of, numbers_in}
 use Rattle.pid_tables_rows.proofs.CauseLemmas.{passed_on}
 use Rattle.pid_tables_rows.proofs.OnlyReading.{reads_then, rests_in_still}
 use Rattle.pid_tables_check.specs.Checking.{Explains}
+use Rattle.pid_tables_check.proofs.Telling.{told_stored}
 use Rattle.pid_tables.specs.Steps.Bringing.{Named}
 use Rattle.pid_tables.proofs.StandLemmas.{seen_still, untold_explains, told_before, as_standing, none_found, none_within, good_found}
 use Rattle.pid_tables.proofs.migration.standing.Goals as goal
@@ -60,7 +61,7 @@ returns-clause-shown g c =
       shut = λ clean closed. absurd (true≢false (sym (c.in_ok-is_current.ensures.was_open (c.check.ensures.rests.clean clean)) ∙ closed));
       bare = λ clean none. none_found old.now c.check.result none (told_before old mid c.check.result still (c.check.ensures.shut clean) (c.check.ensures.told clean));
       earlier = λ clean h sound rest.
-          good_found One mid (views_of h) c.check.result (rests_in_still old mid (views_of h) c.is_current.ensures.rests rest) (λ shows. c.sound_histories_are_registries.ensures h sound (none_within _ shows.sinces.0) One mid.now shows) (c.check.ensures.shut clean) (c.check.ensures.stored clean);
+          good_found One mid (views_of h) c.check.result (rests_in_still old mid (views_of h) c.is_current.ensures.rests rest) (λ shows. c.sound_histories_are_registries.ensures h sound (none_within _ shows.sinces.0) One mid.now shows) (c.check.ensures.shut clean) (told_stored mid.now c.check.result (c.check.ensures.told clean));
       latest = λ clean v rest.
           absurd (false≢true (sym c.if-branch.false ∙ c.in_ok-is_current.ensures.shown (c.check.ensures.rests.clean clean) Two (counts_of v) (numbers_in v) v rest.shows));
     }

@@ -9,7 +9,7 @@ use Rattle.pid_tables_check.specs.Steps.Lacking.{ExplainsLater}
 use Rattle.pid_tables_check.specs.Shapes.{HasEachTable, HasSomeTable}
 use Rattle.pid_tables_check.proofs.Asking.{each_table}
 use Rattle.pid_tables_check.proofs.Judged.{not_both}
-use Rattle.pid_tables_check.proofs.Telling.{lacked, told_stored, untold, off_on}
+use Rattle.pid_tables_check.proofs.Telling.{lacked, untold, off_on}
 use Rattle.pid_tables_check.proofs.checking.check.Goals as goal
 
 pub returns-then-not-branch-clause-rests : goal.returns-then-not-branch-clause-rests
@@ -25,9 +25,6 @@ returns-then-not-branch-clause-told g c clean =
     let one = c.in_ok-some_can.ensures.same mid in
     let each = (each_table c.args.conn.now.schema _ (c.in_ok-some_can.ensures.asked mid)).0 (ap not c.if-not-branch.true) in
     subst (λ d. MatchResult c.check_tables.result (FindsVersion d) (Explains d)) one (c.check_tables.ensures.told clean (subst (λ (d : Database). HasEachTable d.schema) (sym one) each))
-
-pub returns-then-not-branch-clause-stored : goal.returns-then-not-branch-clause-stored
-returns-then-not-branch-clause-stored g c clean = told_stored (state g.S.Store c.args.conn.now).now c.check_tables.result (returns-then-not-branch-clause-told g c clean)
 
 pub returns-then-branch-clause-rests : goal.returns-then-branch-clause-rests
 returns-then-branch-clause-rests g c =
@@ -45,20 +42,14 @@ returns-then-branch-clause-told g c clean =
     let late = c.check_lacking.ensures.rests.clean clean in
     let mid = c.in_ok-has_some_table.ensures.reads.rests.clean late in
     let one = c.in_ok-some_can.ensures.same mid in
-    let two = c.in_ok-has_some_table.ensures.same late in
-    let some = subst (λ (x : Database). HasSomeTable x.schema) one ((c.in_ok-has_some_table.ensures.asked late).0 c.if-branch.true) in
+    let two = c.in_ok-has_some_table.ensures.found.same late in
+    let some = subst (λ (x : Database). HasSomeTable x.schema) one ((c.in_ok-has_some_table.ensures.found.asked late).0 c.if-branch.true) in
     lacked a c.check_lacking.result some (λ each. not_both _ ((each_table c.args.conn.now.schema _ (c.in_ok-some_can.ensures.asked mid)).1 each) c.if-not-branch.false) (subst (λ (x : Database). MatchResult c.check_lacking.result (λ found. ⊥) (ExplainsLater x)) (two ∙ one) (c.check_lacking.ensures.told clean))
-
-pub returns-then-branch-clause-stored : goal.returns-then-branch-clause-stored
-returns-then-branch-clause-stored g c clean = told_stored (state g.S.Store c.args.conn.now).now c.check_lacking.result (returns-then-branch-clause-told g c clean)
 
 pub returns-in_err-some_can-clause-told : goal.returns-in_err-some_can-clause-told
 returns-in_err-some_can-clause-told g c clean =
     let a = (state g.S.Store c.args.conn.now).now in
     passed_on c.from_residual.result _ _ (Explains a) c.from_residual.ensures.1 (untold a _ c.in_err-some_can.ensures.untold)
-
-pub returns-in_err-some_can-clause-stored : goal.returns-in_err-some_can-clause-stored
-returns-in_err-some_can-clause-stored g c clean = told_stored (state g.S.Store c.args.conn.now).now c.from_residual.result (returns-in_err-some_can-clause-told g c clean)
 
 pub returns-in_err-has_some_table-clause-rests : goal.returns-in_err-has_some_table-clause-rests
 returns-in_err-has_some_table-clause-rests g c =
@@ -70,10 +61,7 @@ returns-in_err-has_some_table-clause-shut g c clean shut = absurd (off_on _ shut
 pub returns-in_err-has_some_table-clause-told : goal.returns-in_err-has_some_table-clause-told
 returns-in_err-has_some_table-clause-told g c clean =
     let a = (state g.S.Store c.args.conn.now).now in
-    passed_on c.from_residual-in_err-has_some_table.result _ _ (Explains a) c.from_residual-in_err-has_some_table.ensures.1 (untold a _ c.in_err-has_some_table.ensures.untold)
-
-pub returns-in_err-has_some_table-clause-stored : goal.returns-in_err-has_some_table-clause-stored
-returns-in_err-has_some_table-clause-stored g c clean = told_stored (state g.S.Store c.args.conn.now).now c.from_residual-in_err-has_some_table.result (returns-in_err-has_some_table-clause-told g c clean)
+    passed_on c.from_residual-in_err-has_some_table.result _ _ (Explains a) c.from_residual-in_err-has_some_table.ensures.1 (untold a _ c.in_err-has_some_table.ensures.found.untold)
 
 pub returns-clause-rests : goal.returns-clause-rests
 returns-clause-rests g c =
@@ -85,7 +73,4 @@ returns-clause-shut g c clean shut = absurd (off_on _ shut (c.in_ok-some_can.ens
 pub returns-clause-told : goal.returns-clause-told
 returns-clause-told g c clean = λ some.
     let one = c.in_ok-some_can.ensures.same (c.in_ok-has_some_table.ensures.reads.rests.clean clean) in
-    off_on _ c.if-branch.false ((c.in_ok-has_some_table.ensures.asked clean).1 (subst (λ (x : Database). HasSomeTable x.schema) (sym one) some))
-
-pub returns-clause-stored : goal.returns-clause-stored
-returns-clause-stored g c clean = told_stored (state g.S.Store c.args.conn.now).now (Ok None) (returns-clause-told g c clean)
+    off_on _ c.if-branch.false ((c.in_ok-has_some_table.ensures.found.asked clean).1 (subst (λ (x : Database). HasSomeTable x.schema) (sym one) some))

@@ -12,8 +12,13 @@ use Rattle.pid_tables_check.proofs.Asking.{some_table}
 use Rattle.pid_tables_check.proofs.Complete.{complete, each_some}
 use Rattle.pid_tables_check.proofs.shape.has_some_table.Goals as goal
 
-pub returns-clause-asked : goal.returns-clause-asked
-returns-clause-asked g c clean = if_ok c.some_can.result (λ asked judged. some_table c.args.conn.now.schema asked judged) (c.some_can.ensures.asked clean)
+pub returns-clause-found : goal.returns-clause-found
+returns-clause-found g c = record {
+  asked = λ clean. if_ok c.some_can.result (λ asked judged. some_table c.args.conn.now.schema asked judged) (c.some_can.ensures.asked clean);
+  was_open = λ clean. c.some_can.ensures.was_open clean (omega arith);
+  same = c.some_can.ensures.same;
+  untold = c.some_can.ensures.untold;
+}
 
 -- where views are shown some table is there
 told : (old new : State) (v : Views) (r : Result Bool TableFault) → AtRest old v → OnOk r (IsTrue old.is_open) → IfOk r (λ some. IsTrue some ↔ HasSomeTable old.now.schema) → IfErr r (IsCaused old new)

@@ -12,11 +12,13 @@ use Rattle.pid_tables_rows.specs.Causes.{IsCaused, IsReadable}
 use Rattle.pid_tables_rows.specs.Leaves.{AtRest}
 use Rattle.pid_tables_rows.specs.Shows.{counts_of}
 use Rattle.pid_tables_rows.specs.TableRows.{number}
+use Rattle.pid_tables_rows.specs.Schema.{pid_schema}
 use Rattle.pid_tables_rows.proofs.CauseLemmas.{caused_later, passed_on}
 use Rattle.pid_tables_rows.proofs.FindLemmas.{rows_at_rest}
 use Rattle.pid_tables_rows.proofs.OnlyReading.{reads_then}
 use Rattle.pid_tables_lists.specs.Steps.ChangeRows.{AreChangesIn, held}
 use Rattle.pid_tables_lists.proofs.ChangeLists.{select_changes, changes_found, changes_held, changes_named, changes_query}
+use Rattle.pid_tables_lists.proofs.RowLists.{on_fault}
 use Rattle.pid_tables_lists.proofs.changes.changes_page.Goals as goal
 
 -- what the rows that were asked for have
@@ -44,22 +46,15 @@ returns-clause-page g c =
           (λ i. record { revision = revision i; items = all i }) ∙ changes_held v 100 c.args.since start low;
     }
 
+-- how many they are follows from which they are
 pub returns-clause-most_listed : goal.returns-clause-most_listed
 returns-clause-most_listed g c =
-    let one = c.in_ok-revision.ensures in
-    let two = c.in_ok-rows.ensures in
-    let three = c.in_ok-items.ensures in
-    let floor = held c.args.since in
+    let page = returns-clause-page g c in
     let start = start_text (option_copied c.args.after) in
     record {
-      rests = reads_then _ _ _ (reads_then _ _ _ one.rests two.rests) three.rests;
+      rests = page.rests;
       told = λ clean v rest low.
-          let later = three.rests.clean clean in
-          let then = one.rests.kept v rest in
-          let text = c.as_str.ensures.value ∙ c.in_ok-start.ensures in
-          let found = asked g.S.Store c.revision.new.conn v floor c.as_str.result.now c.in_ok-rows.rows.items then (rw (c.to_sql-after.ensures, c.held-since.ensures) at (two.shown later)) in
-          let all = three.told clean v (changes_in 100 floor c.as_str.result.now v).items (two.rests.kept v then) (found.0, c.as_slice.ensures.value ∙ found.1) ∙ ap (λ t. (changes_in 100 floor t v).items) text in
-          sym (length-map c.in_ok-items.items.items changed_of) ∙ ap length all ∙ ap (λ (p : ChangePage). length p.items) (changes_held v 100 c.args.since start low) ∙ length-take 100 (changed_behind c.args.since start v);
+          sym (length-map c.in_ok-items.items.items changed_of) ∙ ap (λ (p : ChangePage). length p.items) (page.told clean v rest low) ∙ length-take 100 (changed_behind c.args.since start v);
     }
 
 pub returns-in_err-items-clause-page : goal.returns-in_err-items-clause-page
@@ -84,23 +79,8 @@ returns-in_err-items-clause-page g c =
 
 pub returns-in_err-items-clause-most_listed : goal.returns-in_err-items-clause-most_listed
 returns-in_err-items-clause-most_listed g c =
-    let one = c.in_ok-revision.ensures in
-    let two = c.in_ok-rows.ensures in
-    let three = c.in_err-items.ensures in
-    let both = reads_then _ _ _ one.rests two.rests in
-    let old = state g.S.Store c.args.conn.now in
-    let mid = state g.S.Store c.read_rows.new.conn in
-    let new = state g.S.Store c.changed_items.new.conn in
-    let floor = held c.args.since in
-    record {
-      rests = reads_then _ _ _ both three.rests;
-      told = λ clean v rest.
-          let later = three.rests.clean clean in
-          let found = asked g.S.Store c.revision.new.conn v floor c.as_str.result.now c.in_ok-rows.rows.items (one.rests.kept v rest) (rw (c.to_sql-after.ensures, c.held-since.ensures) at (two.shown later)) in
-          passed_on c.from_residual-in_err-items.result _ _ (λ fault. IsReadable v → IsCaused old new fault) c.from_residual-in_err-items.ensures.1
-          (λ readable. caused_later old mid new (λ _. ⊥) c.in_err-items.field-0.0 both.survives three.rests.survives.counts later
-          (three.told clean v (changes_in 100 floor c.as_str.result.now v).items (both.kept v rest) (found.0, c.as_slice.ensures.value ∙ found.1) readable));
-    }
+    let page = returns-in_err-items-clause-page g c in
+    record { rests = page.rests; told = λ clean v rest. on_fault c.from_residual-in_err-items.result _ _ _ _ c.from_residual-in_err-items.ensures.1 (page.told clean v rest) }
 
 pub returns-in_err-rows-clause-page : goal.returns-in_err-rows-clause-page
 returns-in_err-rows-clause-page g c =
@@ -114,20 +94,10 @@ returns-in_err-rows-clause-page g c =
       told = λ clean v rest.
           passed_on c.from_residual-in_err-rows.result _ _ (λ fault. IsReadable v → IsCaused old new fault) c.from_residual-in_err-rows.ensures.1
           (λ readable. caused_later old mid new (λ _. ⊥) c.in_err-rows.field-0.0 one.rests.survives two.rests.survives.counts (two.rests.clean clean)
-          ((rw (c.to_sql-after.ensures, c.held-since.ensures) at (two.caused clean v (one.rests.kept v rest))) (changes_query c.as_str.result.now (held c.args.since))));
+          ((rw (c.to_sql-after.ensures, c.held-since.ensures) at (two.faults.caused clean pid_schema (λ opened. ((one.rests.kept v rest).shows opened).schema))) (changes_query c.as_str.result.now (held c.args.since))));
     }
 
 pub returns-in_err-rows-clause-most_listed : goal.returns-in_err-rows-clause-most_listed
 returns-in_err-rows-clause-most_listed g c =
-    let one = c.in_ok-revision.ensures in
-    let two = c.in_err-rows.ensures in
-    let old = state g.S.Store c.args.conn.now in
-    let mid = state g.S.Store c.revision.new.conn in
-    let new = state g.S.Store c.read_rows.new.conn in
-    record {
-      rests = reads_then _ _ _ one.rests two.rests;
-      told = λ clean v rest.
-          passed_on c.from_residual-in_err-rows.result _ _ (λ fault. IsReadable v → IsCaused old new fault) c.from_residual-in_err-rows.ensures.1
-          (λ readable. caused_later old mid new (λ _. ⊥) c.in_err-rows.field-0.0 one.rests.survives two.rests.survives.counts (two.rests.clean clean)
-          ((rw (c.to_sql-after.ensures, c.held-since.ensures) at (two.caused clean v (one.rests.kept v rest))) (changes_query c.as_str.result.now (held c.args.since))));
-    }
+    let page = returns-in_err-rows-clause-page g c in
+    record { rests = page.rests; told = λ clean v rest. on_fault c.from_residual-in_err-rows.result _ _ _ _ c.from_residual-in_err-rows.ensures.1 (page.told clean v rest) }

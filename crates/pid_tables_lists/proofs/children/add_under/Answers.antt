@@ -5,6 +5,7 @@ use Rattle.pid_tables_rows.specs.Causes.{IsCaused, IsReadable}
 use Rattle.pid_tables_rows.specs.Shows.{AreViews, counts_of}
 use Rattle.pid_tables_rows.specs.Steps.Answers.{item_shown}
 use Rattle.pid_tables_rows.specs.Steps.Ranges.{is_between}
+use Rattle.pid_tables_rows.specs.Schema.{pid_schema}
 use Rattle.pid_tables_rows.proofs.CauseLemmas.{passed_on}
 use Rattle.pid_tables_rows.proofs.FindLemmas.{at_rest}
 use Rattle.pid_tables_lists.specs.Steps.Children.{between, children_among}
@@ -34,5 +35,5 @@ returns-in_err-rows g c = record {
   rests = c.in_err-rows.ensures.rests;
   told = λ clean v rest.
       passed_on c.from_residual-in_err-rows.result _ _ (λ fault. IsReadable v → IsCaused (state g.S.Store c.args.conn.now) (state g.S.Store c.read_rows.new.conn) fault) c.from_residual-in_err-rows.ensures.1
-      (λ readable. c.in_err-rows.ensures.caused clean v rest (rw (c.as_slice.ensures.value, c.as_slice-2.ensures.value) (range_query c.in_ok-range.range.low.items c.in_ok-range.range.high.items)));
+      (λ readable. c.in_err-rows.ensures.faults.caused clean pid_schema (λ opened. (rest.shows opened).schema) (rw (c.as_slice.ensures.value, c.as_slice-2.ensures.value) (range_query c.in_ok-range.range.low.items c.in_ok-range.range.high.items)));
 }

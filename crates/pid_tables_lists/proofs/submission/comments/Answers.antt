@@ -3,6 +3,7 @@ use Rattle.sqlite.specs.Held.{state}
 use Rattle.pid_tables_rows.specs.Causes.{IsCaused, IsReadable}
 use Rattle.pid_tables_rows.specs.Shows.{counts_of}
 use Rattle.pid_tables_rows.specs.Steps.Answers.{remark_shown}
+use Rattle.pid_tables_rows.specs.Schema.{pid_schema}
 use Rattle.pid_tables_rows.proofs.CauseLemmas.{passed_on}
 use Rattle.pid_tables_rows.proofs.FindLemmas.{at_rest}
 use Rattle.pid_tables_lists.proofs.RemarkLists.{select_remarks, remarks_found, remarks_query}
@@ -26,5 +27,5 @@ returns-in_err-rows g c = record {
   rests = c.in_err-rows.ensures.rests;
   told = λ clean v rest.
       passed_on c.from_residual.result _ _ (λ fault. IsReadable v → IsCaused (state g.S.Store c.args.conn.now) (state g.S.Store c.read_rows.new.conn) fault) c.from_residual.ensures.1
-      (λ readable. (rw c.to_sql-number.ensures at (c.in_err-rows.ensures.caused clean v rest)) (remarks_query c.args.number));
+      (λ readable. (rw c.to_sql-number.ensures at (c.in_err-rows.ensures.faults.caused clean pid_schema (λ opened. (rest.shows opened).schema))) (remarks_query c.args.number));
 }

@@ -1,6 +1,7 @@
 use Rattle.std.proofs.Common.{refl}
 use Rattle.sqlite.specs.Held.{state}
 use Rattle.pid_tables_rows.specs.Shows.{counts_of}
+use Rattle.pid_tables_rows.specs.Schema.{pid_schema}
 use Rattle.pid_tables_rows.proofs.FindLemmas.{at_rest}
 use Rattle.pid_tables_lists.specs.Steps.SubmissionRows.{WantedRows}
 use Rattle.pid_tables_lists.proofs.SubmissionLists.{select_numbers, numbers_found, numbers_query}
@@ -14,5 +15,5 @@ returns g c = record {
       at_rest g.S.Store c.args.conn.now (state g.S.Store c.read_rows.new.conn) v select_numbers _ c.read_rows.result (λ rows. rows.items) _ rest
       (λ new rows shows h. numbers_found _ (counts_of v) v shows asked _ new refl rows.items h)
       (rw (c.to_sql-low.ensures, c.to_sql-last.ensures, c.to_sql-path.ensures, c.to_sql-author.ensures) at (c.read_rows.ensures.shown clean))
-      ((rw (c.to_sql-low.ensures, c.to_sql-last.ensures, c.to_sql-path.ensures, c.to_sql-author.ensures) at (c.read_rows.ensures.caused clean v rest)) (numbers_query asked));
+      ((rw (c.to_sql-low.ensures, c.to_sql-last.ensures, c.to_sql-path.ensures, c.to_sql-author.ensures) at (c.read_rows.ensures.faults.caused clean pid_schema (λ opened. (rest.shows opened).schema))) (numbers_query asked));
 }

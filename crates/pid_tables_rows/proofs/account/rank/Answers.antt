@@ -2,6 +2,7 @@ use Rattle.std.proofs.Common.{◌∙◌, ap, slice_get}
 use Rattle.sqlite.specs.Held.{state}
 use Rattle.pid_tables_rows.specs.declared.version.Version.TheVariants.{Two}
 use Rattle.pid_tables_rows.specs.Causes.{IsCaused, IsReadable}
+use Rattle.pid_tables_rows.specs.Schema.{pid_schema}
 use Rattle.pid_tables_rows.proofs.CauseLemmas.{passed_on}
 use Rattle.pid_tables_rows.specs.Steps.Answers.{rank_row}
 use Rattle.pid_tables_rows.proofs.DecodeLemmas.{no_row, rank_read}
@@ -43,5 +44,5 @@ returns-in_err-rows g c = record {
   rests = c.in_err-rows.ensures.rests;
   told = λ clean v rest.
       passed_on c.from_residual.result _ _ (λ fault. IsReadable v → IsCaused (state g.S.Store c.args.conn.now) (state g.S.Store c.read_rows.new.conn) fault) c.from_residual.ensures.1
-      (λ readable. (rw c.to_sql-name.ensures at (c.in_err-rows.ensures.caused clean v rest)) (account_query Two c.args.name.now));
+      (λ readable. (rw c.to_sql-name.ensures at (c.in_err-rows.ensures.faults.caused clean pid_schema (λ opened. (rest.shows opened).schema))) (account_query Two c.args.name.now));
 }

@@ -1,6 +1,7 @@
 use Rattle.std.proofs.Common.{true, refl}
 use Rattle.pid_tables_rows.specs.declared.version.Version.TheVariants.{Two}
 use Rattle.pid_tables_rows.specs.Shows.{counts_of}
+use Rattle.pid_tables_rows.specs.Schema.{pid_schema}
 use Rattle.pid_tables_rows.proofs.StatementTexts.{select_meta}
 use Rattle.sqlite.specs.Held.{state}
 use Rattle.pid_tables_rows.proofs.QueryTexts.{meta_query}
@@ -14,7 +15,7 @@ returns-clause-reads g c = record {
   rests = c.read_rows.ensures.rests;
   told = λ clean v rest.
       at_rest g.S.Store c.args.conn.now (state g.S.Store c.read_rows.new.conn) v select_meta _ c.read_rows.result (λ rows. rows.items) _ rest (λ new rows shows h. value_found _ new (counts_of v) v shows rows.items c.args.label.now h)
-      (rw (c.to_sql-label.ensures) at (c.read_rows.ensures.shown clean)) ((rw c.to_sql-label.ensures at (c.read_rows.ensures.caused clean v rest)) (meta_query Two c.args.label.now));
+      (rw (c.to_sql-label.ensures) at (c.read_rows.ensures.shown clean)) ((rw c.to_sql-label.ensures at (c.read_rows.ensures.faults.caused clean pid_schema (λ opened. (rest.shows opened).schema))) (meta_query Two c.args.label.now));
 }
 
 pub returns-clause-shows : goal.returns-clause-shows
@@ -22,4 +23,7 @@ returns-clause-shows g c clean =
     values_shown g.S.Store c.args.label.now (state g.S.Store (record c.args.conn.now { in_transaction = true })) c.read_rows.result (rw (c.to_sql-label.ensures) at (c.read_rows.ensures.shown clean))
 
 pub returns-clause-untold : goal.returns-clause-untold
-returns-clause-untold g c clean query is = c.read_rows.ensures.untold clean _ refl (asked_plain _ query is)
+returns-clause-untold g c clean query is = c.read_rows.ensures.faults.untold clean _ refl (asked_plain _ query is)
+
+pub returns-clause-never : goal.returns-clause-never
+returns-clause-never g c = c.read_rows.ensures.faults.never

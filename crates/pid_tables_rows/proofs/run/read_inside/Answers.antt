@@ -38,9 +38,8 @@ returns-in_err-query_all-clause-faults g c =
     record {
       untold = λ clean schema has plain. subst (λ r. IfErr r IsMemoryOrStore) (sym p.1) (subst IsMemoryOrStore (sym p.2) (untold c.args.sql.now (bound c.args.params.now) _ _ has plain _ (c.in_err-query_all.ensures.err clean)));
       caused = λ clean schema has query. subst (λ r. IfErr r (IsCaused old new)) (sym p.1) (subst (IsCaused old new) (sym p.2) (caused c.args.sql.now (bound c.args.params.now) old new has query _ (c.in_err-query_all.ensures.err clean)));
+      never = subst (λ r. IfErr r IsNotNewerSchema) (sym p.1) (subst IsNotNewerSchema (sym p.2) (not_later _));
     }
 
-pub returns-in_err-query_all-clause-never : goal.returns-in_err-query_all-clause-never
-returns-in_err-query_all-clause-never g c =
-    let p = err_from_is_err_and c.from_residual.result c.from_residual.ensures.1 in
-    subst (λ r. IfErr r IsNotNewerSchema) (sym p.1) (subst IsNotNewerSchema (sym p.2) (not_later _))
+pub returns-clause-faults : goal.returns-clause-faults
+returns-clause-faults g c = record { untold = λ clean schema has plain. tt; caused = λ clean schema has query. tt; never = tt }

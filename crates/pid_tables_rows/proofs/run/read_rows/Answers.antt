@@ -1,4 +1,4 @@
-use Rattle.std.proofs.Common.{◌≡◌, true, rules, arith, subst, Ok, Err, Result, IfOk, IfErr, List, ◌≤◌}
+use Rattle.std.proofs.Common.{◌≡◌, ℕ, true, rules, arith, subst, Ok, Err, Result, IfOk, IfErr, List, ◌≤◌}
 use Rattle.sqlite.specs.Order.{Row}
 use Rattle.sqlite.specs.Values.{bound}
 use Rattle.sqlite.specs.Held.{Held, state}
@@ -10,9 +10,9 @@ use Rattle.pid_tables_rows.specs.Causes.{IsCaused}
 use Rattle.pid_tables_rows.specs.declared.fault.TableFault.{TableFault}
 use Rattle.pid_tables_rows.specs.declared.fault.TableFault.TheVariants.{Memory, Store, NewerSchema, Damaged}
 use Rattle.pid_tables_rows.proofs.CauseLemmas.{caused_first}
+use Rattle.pid_tables_rows.proofs.GoingLemmas.{earlier}
 use Rattle.pid_tables_rows.proofs.OnlyReading.{reads_begun}
-use Rattle.pid_tables_rows.specs.Faults.{IsMemoryOrStore}
-use Rattle.pid_tables_rows.specs.Schema.{pid_schema}
+use Rattle.pid_tables_rows.specs.Clauses.{FaultsQuery}
 use Rattle.pid_tables_rows.proofs.run.read_rows.Goals as goal
 
 there : {S : Type 0} (g : Ghosts S) {X E : Type 0} (sql : List _) (params : Row) (old : State) (mid : Held S) (r : Result X E) (rows : X → List Row) → IfOk r (λ v. Shown sql params old (state g mid) (rows v))
@@ -38,32 +38,30 @@ returns-clause-shown g c clean =
     let mid : HasCleanDisk (state g.S.Store c.read_inside.new.tx.conn.now) = omega (arith, c.drop-tx.ensures.survives.clean) in
     there g.S.Store c.args.sql.now (bound c.args.params.now) _ c.read_inside.new.tx.conn.now c.read_inside.result (λ v. v.items) (rw c.transaction-tx.ensures.begun at (c.read_inside.ensures.shown mid))
 
-later : {S : Type 0} (g : Ghosts S) {X : Type 0} (old : Held S) (mid end : State) (r : Result X TableFault) → mid.faults ≤ end.faults → IfErr r (IsCaused (state g (record old { in_transaction = true })) mid) → IfErr r (IsCaused (state g old) end)
-later g old mid end (Ok x) more h = tt
-later g old mid end (Err e) more h = caused_first (state g old) mid end e more (same e h)
-  where
-    same : (e : TableFault) → IsCaused (state g (record old { in_transaction = true })) mid e → IsCaused (state g old) mid e
-    same Memory h = h
-    same Store h = h
-    same (NewerSchema n) h = h
-    same Damaged h = h
+-- why the query faults, once the transaction is over
+module _ {S : Type 0} (g : Ghosts S) {X : Type 0} (sql : List ℕ) (params : Row) (old mid end : Held S) (r : Result X TableFault) (before : HasCleanDisk (state g end) → HasCleanDisk (state g mid)) (more : (state g mid).faults ≤ (state g end).faults) where
+  later : (r : Result X TableFault) → IfErr r (IsCaused (state g (record old { in_transaction = true })) (state g mid)) → IfErr r (IsCaused (state g old) (state g end))
+  later (Ok x) h = tt
+  later (Err e) h = caused_first (state g old) (state g mid) (state g end) e more (same e h)
+    where
+      same : (e : TableFault) → IsCaused (state g (record old { in_transaction = true })) (state g mid) e → IsCaused (state g old) (state g mid) e
+      same Memory h = h
+      same Store h = h
+      same (NewerSchema n) h = h
+      same Damaged h = h
 
-pub returns-clause-caused : goal.returns-clause-caused
-returns-clause-caused g c clean v rest query =
+  faults_later : FaultsQuery g sql params (record old { in_transaction = true }) mid r → FaultsQuery g sql params old end r
+  faults_later h = record {
+    untold = λ clean schema has plain. h.untold (before clean) schema has plain;
+    caused = λ clean schema has query. later r (h.caused (before clean) schema has query);
+    never = h.never;
+  }
+
+pub returns-clause-faults : goal.returns-clause-faults
+returns-clause-faults g c =
+    let first = c.read_inside.new.tx.conn.now in
     let end = c.drop-tx.new.self.0 in
     let same : end ≡ c.conn-1.given.0 = search rules in
-    let late : HasCleanDisk (state g.S.Store end) = search rules in
-    let mid : HasCleanDisk (state g.S.Store c.read_inside.new.tx.conn.now) = omega (arith, c.drop-tx.ensures.survives.clean) in
-    let begun = state g.S.Store (record c.args.conn.now { in_transaction = true }) in
-    let told : IfErr c.read_inside.result (IsCaused begun (state g.S.Store c.read_inside.new.tx.conn.now)) = rw c.transaction-tx.ensures.begun at (c.read_inside.ensures.faults.caused mid) pid_schema (λ opened. (rest.shows opened).schema) query in
-    subst (λ h. IfErr c.read_inside.result (IsCaused (state g.S.Store c.args.conn.now) (state g.S.Store h))) same
-    (later g.S.Store c.args.conn.now (state g.S.Store c.read_inside.new.tx.conn.now) (state g.S.Store end) c.read_inside.result c.drop-tx.ensures.survives.counts told)
-
-pub returns-clause-untold : goal.returns-clause-untold
-returns-clause-untold g c clean schema has plain =
-    let end = c.drop-tx.new.self.0 in
-    let same : end ≡ c.conn-1.given.0 = search rules in
-    let late : HasCleanDisk (state g.S.Store end) = search rules in
-    let mid : HasCleanDisk (state g.S.Store c.read_inside.new.tx.conn.now) = omega (arith, c.drop-tx.ensures.survives.clean) in
-    let told : IfErr c.read_inside.result IsMemoryOrStore = rw c.transaction-tx.ensures.begun at (c.read_inside.ensures.faults.untold mid) schema has plain in
-    told
+    let told = rw c.transaction-tx.ensures.begun at c.read_inside.ensures.faults in
+    subst (λ h. FaultsQuery g.S.Store c.args.sql.now (bound c.args.params.now) c.args.conn.now h c.read_inside.result) same
+    (faults_later g.S.Store c.args.sql.now (bound c.args.params.now) c.args.conn.now first end c.read_inside.result (earlier (state g.S.Store first) (state g.S.Store end) c.drop-tx.ensures.survives) c.drop-tx.ensures.survives.counts told)

@@ -19,10 +19,10 @@ use Rattle.pid_tables.proofs.tables.Tables.version.Goals as goal
 
 pub returns-then-branch-clause-told : goal.returns-then-branch-clause-told
 returns-then-branch-clause-told g c clean v rest =
-    let found = c.in_ok-has_some_table.ensures in
+    let found = c.in_ok-has_some_table.ensures.found in
     let reads = c.schema_number.ensures.reads in
     caused_all (state g.S.Store c.args.self.now.conn) (state g.S.Store c.has_some_table.new.conn) (state g.S.Store c.schema_number.new.conn) (IsReadable v) (λ n. n ≡ 2) c.schema_number.result
-    (found.reads.rests, found.same) reads.rests clean (reads.told clean v (found.reads.rests.kept v rest))
+    (c.in_ok-has_some_table.ensures.reads.rests, found.same) reads.rests clean (reads.told clean v (c.in_ok-has_some_table.ensures.reads.rests.kept v rest))
 
 -- ---- what the label shows
 
@@ -30,19 +30,21 @@ pub returns-in_err-has_some_table-clause-shown : goal.returns-in_err-has_some_ta
 returns-in_err-has_some_table-clause-shown g c =
     let lacks = LacksNumber (state g.S.Store c.args.self.now.conn).now.trees (codes "schema") in
     let hides = ShowsNoNumber (state g.S.Store c.args.self.now.conn).now (codes "schema") in
-    let untold = c.in_err-has_some_table.ensures.untold in
+    let untold = c.in_err-has_some_table.ensures.found.untold in
     record {
       earlier = λ clean v rest. passed_on c.from_residual.result _ _ IsMemoryOrStore c.from_residual.ensures.1 untold;
       none = λ clean none. passed_on c.from_residual.result _ _ IsMemoryOrStore c.from_residual.ensures.1 untold;
       shown = λ clean some. passed_on c.from_residual.result _ _ (IsDamageOf hides) c.from_residual.ensures.1 (untold_damage hides _ untold);
       labelled = λ clean version first. not_ok c.from_residual.result _ _ c.from_residual.ensures.1;
       refused = λ clean version first. passed_from c.from_residual.result _ (IsDamageOf lacks) c.from_residual.ensures.1 (untold_damage lacks _ untold);
+      was_open = λ clean. not_on_ok c.from_residual.result _ _ c.from_residual.ensures.1;
+      never = passed_from c.from_residual.result _ IsNotNewerSchema c.from_residual.ensures.1 (untold_never _ untold);
     }
 
 -- some table is there
 pub returns-then-branch-clause-shown : goal.returns-then-branch-clause-shown
 returns-then-branch-clause-shown g c =
-    let found = c.in_ok-has_some_table.ensures in
+    let found = c.in_ok-has_some_table.ensures.found in
     let read = c.schema_number.ensures in
     let db = (state g.S.Store c.has_some_table.new.conn).now in
     record {
@@ -61,22 +63,23 @@ returns-then-branch-clause-shown g c =
       refused = λ clean version first.
           let same = found.same (read.reads.rests.clean clean) in
           subst (λ (d : Database). IfErr c.schema_number.result (ExplainsNumber d.trees (codes "schema"))) same (bad_of _ _ c.schema_number.result (read.stored clean (meta_first version db.schema (subst (λ (d : Database). IsMadeFirst version d.schema) (sym same) first))));
+      was_open = λ clean. known c.schema_number.result (found.was_open (read.reads.rests.clean clean));
+      never = read.never;
     }
 
 -- none is there
 pub returns-else-branch-clause-shown : goal.returns-else-branch-clause-shown
 returns-else-branch-clause-shown g c =
-    let found = c.in_ok-has_some_table.ensures in
+    let found = c.in_ok-has_some_table.ensures.found in
     record {
       earlier = λ clean v rest. let on = (found.asked clean).1 (each_some _ (complete One _ (rest.shows (found.was_open clean)).schema)) in absurd (true≢false (sym on ∙ c.if-branch.false));
       none = λ clean none. refl;
       shown = λ clean some. let on = (found.asked clean).1 some in absurd (true≢false (sym on ∙ c.if-branch.false));
       labelled = λ clean version first. let on = (found.asked clean).1 (each_some _ (complete_first version _ first)) in absurd (true≢false (sym on ∙ c.if-branch.false));
       refused = λ clean version first. tt;
+      was_open = found.was_open;
+      never = tt;
     }
-
-pub returns-in_err-has_some_table-clause-never : goal.returns-in_err-has_some_table-clause-never
-returns-in_err-has_some_table-clause-never g c = passed_from c.from_residual.result _ IsNotNewerSchema c.from_residual.ensures.1 (untold_never _ c.in_err-has_some_table.ensures.untold)
 
 -- ---- what goes through
 
@@ -87,23 +90,11 @@ pub returns-in_err-has_some_table-clause-told : goal.returns-in_err-has_some_tab
 returns-in_err-has_some_table-clause-told g c clean v rest =
     passed_on c.from_residual.result _ _ (λ fault. IsReadable v → IsCaused (state g.S.Store c.args.self.now.conn) (state g.S.Store c.has_some_table.new.conn) fault) c.from_residual.ensures.1 (c.in_err-has_some_table.ensures.reads.told clean v rest)
 
-pub returns-in_err-has_some_table-clause-was_open : goal.returns-in_err-has_some_table-clause-was_open
-returns-in_err-has_some_table-clause-was_open g c clean = not_on_ok c.from_residual.result _ _ c.from_residual.ensures.1
-
 pub returns-then-branch-clause-rests : goal.returns-then-branch-clause-rests
 returns-then-branch-clause-rests g c = reads_then _ _ _ c.has_some_table.ensures.reads.rests c.schema_number.ensures.reads.rests
-
-pub returns-then-branch-clause-was_open : goal.returns-then-branch-clause-was_open
-returns-then-branch-clause-was_open g c clean = known c.schema_number.result (c.in_ok-has_some_table.ensures.was_open (c.schema_number.ensures.reads.rests.clean clean))
-
-pub returns-then-branch-clause-never : goal.returns-then-branch-clause-never
-returns-then-branch-clause-never g c = c.schema_number.ensures.never
 
 pub returns-else-branch-clause-rests : goal.returns-else-branch-clause-rests
 returns-else-branch-clause-rests g c = c.has_some_table.ensures.reads.rests
 
 pub returns-else-branch-clause-told : goal.returns-else-branch-clause-told
 returns-else-branch-clause-told g c clean v rest = absurd (true≢false (sym (c.in_ok-has_some_table.ensures.reads.told clean v rest) ∙ c.if-branch.false))
-
-pub returns-else-branch-clause-was_open : goal.returns-else-branch-clause-was_open
-returns-else-branch-clause-was_open g c clean = c.in_ok-has_some_table.ensures.was_open clean
