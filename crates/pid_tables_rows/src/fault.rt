@@ -17,7 +17,7 @@ use thiserror::Error;
 ///   row that another needs, or a number that it does not hold.
 /// - `NewerSchema`: the tables are of a later schema, of this number.
 /// - `Damaged`: a table, a row or a value is not one that this program writes.
-#[derive(Clone, Copy, Debug, Error)]
+#[derive(Clone, Copy, Debug, PartialEq, Error)]
 pub enum TableFault {
     #[error("no memory")]
     Memory,

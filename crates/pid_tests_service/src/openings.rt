@@ -31,13 +31,6 @@ fn step_of<S: Alter + Drop>(
     }
 }
 
-fn is_same(found: TableFault, expected: TableFault) -> bool {
-    match (found, expected) {
-        (TableFault::NewerSchema(found), TableFault::NewerSchema(expected)) => found == expected,
-        _ => found.number() == expected.number(),
-    }
-}
-
 fn expect_fault<S: Alter + Drop>(
     rt: &impl Abort,
     alloc: Global,
@@ -47,7 +40,7 @@ fn expect_fault<S: Alter + Drop>(
     assert!(rt; conn.is_autocommit(), "a transaction is left");
     let (found, conn) = fault_of(alloc, conn);
     let is_told = match found {
-        Some(found) => is_same(found, expected),
+        Some(found) => found == expected,
         None => false,
     };
     assert!(rt; is_told);
@@ -64,7 +57,7 @@ fn expect_step<S: Alter + Drop>(
     let (found, conn) = step_of(alloc, conn);
     let is_told = match (found, expected) {
         (Ok(found), Ok(expected)) => found == expected,
-        (Err(found), Err(expected)) => is_same(found, expected),
+        (Err(found), Err(expected)) => found == expected,
         _ => false,
     };
     assert!(rt; is_told);
@@ -144,7 +137,9 @@ fn expect_handed_back<S: Alter + Drop>(
 ) -> Result<(), Fail> {
     let conn = expect_damage(rt, alloc, conn, TableFault::Damaged, TAKEN)?;
     let conn = expect_rows(rt, alloc, conn, RUN)?;
-    let conn = expect_damage(rt, alloc, conn, TableFault::NewerSchema(3), LATER)?;
+    let newer = TableFault::NewerSchema(3);
+    assert!(rt; newer.number() == 3);
+    let conn = expect_damage(rt, alloc, conn, newer, LATER)?;
     expect_rows(rt, alloc, conn, AGAIN)?;
     Ok(())
 }
