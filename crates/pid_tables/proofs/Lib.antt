@@ -1,10 +1,10 @@
-pub mod CreateTexts
 pub mod ApplyLemmas
 pub mod PutLemmas
 pub mod CreateLemmas
 pub mod SoundLemmas
 pub mod CommitLemmas
 pub mod MakerTexts
+pub mod CreateTexts
 pub mod MetLemmas
 pub mod AtOnceLemmas
 pub mod OpenLemmas

@@ -70,15 +70,12 @@ pub(crate) fn put_text<S: Alter>(
     ensures told { TellsWithin S.Store batch.old.conn.now batch.new.conn.now result
         (λ v put. put ≡ put_over name.now (name_at path.now v.items)) }
 {
-    match compare(batch, path, name)? {
-        Put::Added => {
-            add_item(batch, path, name, revision)?;
-            Ok(Put::Added)
-        }
-        Put::Renamed => {
-            rename_item(batch, path, name, revision)?;
-            Ok(Put::Renamed)
-        }
-        Put::Same => Ok(Put::Same),
-    }
+    let put = compare(batch, path, name)?;
+    let written = match put {
+        Put::Added => add_item(batch, path, name, revision),
+        Put::Renamed => rename_item(batch, path, name, revision),
+        Put::Same => Ok(()),
+    };
+    written?;
+    Ok(put)
 }

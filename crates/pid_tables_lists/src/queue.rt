@@ -26,18 +26,28 @@ fn add_queued<S: Alter>(
     ensures { Reads S.Store conn.old conn.new result
         (λ v _. Adds queued_of queue.old.items queue.new.items (entry_in v (told_of pending) ∷ [])) }
 {
-    let remarks = remark_count(conn, pending.number)?;
-    let now = name_of(conn, alloc, pending.submission.path)?;
-    let Pending { number, submission } = pending;
-    put_last(
-        queue,
-        Queued {
-            number,
-            submission,
-            now,
-            remarks,
+    match remark_count(conn, pending.number) {
+        Err(fault) => {
+            drop(pending);
+            Err(fault)
+        }
+        Ok(remarks) => match name_of(conn, alloc, pending.submission.path) {
+            Err(fault) => {
+                drop(pending);
+                Err(fault)
+            }
+            Ok(now) => {
+                let Pending { number, submission } = pending;
+                let queued = Queued {
+                    number,
+                    submission,
+                    now,
+                    remarks,
+                };
+                put_last(queue, queued)
+            }
         },
-    )
+    }
 }
 
 // Pending submissions, each with the rest.

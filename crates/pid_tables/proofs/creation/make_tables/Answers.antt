@@ -9,8 +9,8 @@ use Rattle.pid_tables.specs.Statements.{item_since_text}
 use Rattle.pid_tables.specs.Steps.Making.{first_statements, rest_statements}
 use Rattle.pid_tables.specs.Steps.MakingTables.{CreatesInTurn}
 use Rattle.pid_tables.proofs.Carrying.{carried_both, carried_then}
-use Rattle.pid_tables.proofs.CreateTexts.{create_meta, create_account, create_item, create_submission, create_remark, create_receipt, meta_creates, account_creates, item_creates, submission_creates, remark_creates, receipt_creates, item_since_creates}
-use Rattle.pid_tables.proofs.MakerTexts.{meta_maker, account_maker, item_maker, submission_maker, remark_maker, receipt_maker, item_since_maker, meta_met}
+use Rattle.pid_tables.proofs.CreateTexts.{meta_creates, account_creates, item_creates, submission_creates, remark_creates, receipt_creates, item_since_creates}
+use Rattle.pid_tables.proofs.MakerTexts.{create_meta, create_account, create_item, create_submission, create_remark, create_receipt, meta_maker, account_maker, item_maker, submission_maker, remark_maker, receipt_maker, item_since_maker, meta_met}
 use Rattle.pid_tables.proofs.MetLemmas.{took_then, took_both}
 use Rattle.pid_tables.proofs.MoveLemmas.{goes_fault, goes_fault_after, not_on_ok}
 use Rattle.pid_tables.proofs.creation.make_tables.Goals as goal

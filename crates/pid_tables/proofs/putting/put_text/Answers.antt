@@ -1,124 +1,137 @@
-use Rattle.std.proofs.Common.{Ok, sym, ◌∙◌}
+use Rattle.std.proofs.Common.{◌≡◌, ℕ, List, Ok, Result, sym, subst, ◌∙◌}
 use Rattle.sqlite.specs.Held.{state}
+use Rattle.sqlite.specs.State.{State, HasCleanDisk}
 use Rattle.pid_moderation.specs.Items.{name_at}
-use Rattle.pid_tables_rows.proofs.GoingLemmas.{earlier, goes_then}
-use Rattle.pid_tables.proofs.MoveLemmas.{goes_fault, goes_fault_after, goes_value, not_ok}
-use Rattle.pid_tables.proofs.PutLemmas.{none_there, other_there, same_there, still_with}
+use Rattle.pid_tables_rows.specs.declared.fault.TableFault.{TableFault}
 use Rattle.pid_tables_rows.specs.Faults.{IsMemoryOrStore}
+use Rattle.pid_tables_rows.specs.Leaves.{GoesOn, LeadsTo, Turn}
+use Rattle.pid_tables_rows.specs.Writes.{with_name}
 use Rattle.pid_tables_rows.proofs.CauseLemmas.{passed_on}
+use Rattle.pid_tables_rows.proofs.GoingLemmas.{earlier, goes_then}
+use Rattle.pid_tables.proofs.MoveLemmas.{goes_fault, goes_value, not_ok}
+use Rattle.pid_tables.proofs.PutLemmas.{none_there, other_there, same_there, still_with}
+use Rattle.pid_tables.proofs.putting.put_text.Goals.{in-Added, in-Renamed, in-Same}
 use Rattle.pid_tables.proofs.putting.put_text.Goals as goal
 
-pub returns-in_ok-add_item-in-Added-clause-shows : goal.returns-in_ok-add_item-in-Added-clause-shows
-returns-in_ok-add_item-in-Added-clause-shows g c clean inside counts v shows _ =
-    let early = earlier (state g.S.Store c.compare.new.batch.conn.now) _ c.add_item.ensures.goes.survives clean in
-    let first = c.in_ok-compare.ensures in
-    c.in_ok-add_item-in-Added.ensures.shows clean (first.goes.going early inside).1 counts v (first.shows early inside counts v shows tt)
-    (none_there c.args.name.now (name_at c.args.path.now v.items) (sym c.in-Added.is ∙ first.found early counts v shows))
+-- the path has the name afterwards
+abbrev naming : ℕ → List ℕ → List ℕ → Turn
+naming n path name = record { IsFor = λ c v. Unit {0}; recount = λ c. c; next = with_name n path name }
 
-pub returns-in_ok-add_item-in-Added-clause-told : goal.returns-in_ok-add_item-in-Added-clause-told
-returns-in_ok-add_item-in-Added-clause-told g c clean counts v shows =
-    let early = earlier (state g.S.Store c.compare.new.batch.conn.now) _ c.add_item.ensures.goes.survives clean in
-    sym c.in-Added.is ∙ c.in_ok-compare.ensures.found early counts v shows
+-- what a way through the writes leaves
+record Wrote (old mid new : State) (r : Result (Unit {0}) TableFault) (n : ℕ) (path name : List ℕ) : Type 0 where
+  goes : GoesOn old new r
+  back : HasCleanDisk new → HasCleanDisk mid
+  shows : LeadsTo old new r (naming n path name)
 
-pub returns-in_ok-rename_item-in-Renamed-clause-shows : goal.returns-in_ok-rename_item-in-Renamed-clause-shows
-returns-in_ok-rename_item-in-Renamed-clause-shows g c clean inside counts v shows _ =
-    let early = earlier (state g.S.Store c.compare.new.batch.conn.now) _ c.rename_item.ensures.goes.survives clean in
-    let first = c.in_ok-compare.ensures in
-    c.in_ok-rename_item-in-Renamed.ensures.shows clean (first.goes.going early inside).1 counts v (first.shows early inside counts v shows tt)
-    (other_there c.args.name.now (name_at c.args.path.now v.items) (sym c.in-Renamed.is ∙ first.found early counts v shows))
+pub returns-in_err-put-clause-shows : goal.returns-in_err-put-clause-shows
+returns-in_err-put-clause-shows g c clean inside counts v shows _ =
+    passed_on c.from_residual.result _ _ IsMemoryOrStore c.from_residual.ensures.1 (c.in_err-put.ensures.shows clean inside counts v shows tt)
 
-pub returns-in_ok-rename_item-in-Renamed-clause-told : goal.returns-in_ok-rename_item-in-Renamed-clause-told
-returns-in_ok-rename_item-in-Renamed-clause-told g c clean counts v shows =
-    let early = earlier (state g.S.Store c.compare.new.batch.conn.now) _ c.rename_item.ensures.goes.survives clean in
-    sym c.in-Renamed.is ∙ c.in_ok-compare.ensures.found early counts v shows
+pub returns-in_err-put-clause-goes : goal.returns-in_err-put-clause-goes
+returns-in_err-put-clause-goes g c =
+    goes_fault (state g.S.Store c.args.batch.now.conn.now) (state g.S.Store c.compare.new.batch.conn.now) _ c.from_residual.result c.from_residual.ensures.1 c.in_err-put.ensures.goes
 
-pub returns-in-Same-clause-shows : goal.returns-in-Same-clause-shows
-returns-in-Same-clause-shows g c clean inside counts v shows _ =
-    let first = c.in_ok-compare.ensures in
-    still_with c.args.revision c.args.path.now c.args.name.now counts v (state g.S.Store c.compare.new.batch.conn.now)
-    (same_there c.args.name.now (name_at c.args.path.now v.items) (sym c.in-Same.is ∙ first.found clean counts v shows)) (first.shows clean inside counts v shows tt)
+pub returns-in_err-put-clause-told : goal.returns-in_err-put-clause-told
+returns-in_err-put-clause-told g c clean counts v shows = not_ok c.from_residual.result _ _ c.from_residual.ensures.1
 
-pub returns-in-Same-clause-told : goal.returns-in-Same-clause-told
-returns-in-Same-clause-told g c clean counts v shows = sym c.in-Same.is ∙ c.in_ok-compare.ensures.found clean counts v shows
+pub returns-in_err-put-clause-same_reference : goal.returns-in_err-put-clause-same_reference
+returns-in_err-put-clause-same_reference g c = c.compare.ensures.same_reference
 
-pub returns-in_err-compare-clause-shows : goal.returns-in_err-compare-clause-shows
-returns-in_err-compare-clause-shows g c clean inside counts v shows _ =
-    passed_on c.from_residual.result _ _ IsMemoryOrStore c.from_residual.ensures.1 (c.in_err-compare.ensures.shows clean inside counts v shows tt)
-
-pub returns-in_err-add_item-in-Added-clause-shows : goal.returns-in_err-add_item-in-Added-clause-shows
-returns-in_err-add_item-in-Added-clause-shows g c clean inside counts v shows _ =
-    let early = earlier (state g.S.Store c.compare.new.batch.conn.now) _ c.add_item.ensures.goes.survives clean in
-    let first = c.in_ok-compare.ensures in
-    passed_on c.from_residual-in_err-add_item-in-Added.result _ _ IsMemoryOrStore c.from_residual-in_err-add_item-in-Added.ensures.1
-    (c.in_err-add_item-in-Added.ensures.shows clean (first.goes.going early inside).1 counts v (first.shows early inside counts v shows tt)
-    (none_there c.args.name.now (name_at c.args.path.now v.items) (sym c.in-Added.is ∙ first.found early counts v shows)))
-
-pub returns-in_err-rename_item-in-Renamed-clause-shows : goal.returns-in_err-rename_item-in-Renamed-clause-shows
-returns-in_err-rename_item-in-Renamed-clause-shows g c clean inside counts v shows _ =
-    let early = earlier (state g.S.Store c.compare.new.batch.conn.now) _ c.rename_item.ensures.goes.survives clean in
-    let first = c.in_ok-compare.ensures in
-    passed_on c.from_residual-in_err-rename_item-in-Renamed.result _ _ IsMemoryOrStore c.from_residual-in_err-rename_item-in-Renamed.ensures.1
-    (c.in_err-rename_item-in-Renamed.ensures.shows clean (first.goes.going early inside).1 counts v (first.shows early inside counts v shows tt)
-    (other_there c.args.name.now (name_at c.args.path.now v.items) (sym c.in-Renamed.is ∙ first.found early counts v shows)))
-
--- ---- what the transaction goes on with
-
-pub returns-in_ok-add_item-in-Added-clause-goes : goal.returns-in_ok-add_item-in-Added-clause-goes
-returns-in_ok-add_item-in-Added-clause-goes g c =
+pub returns : goal.returns
+returns g c =
     let old = state g.S.Store c.args.batch.now.conn.now in
     let mid = state g.S.Store c.compare.new.batch.conn.now in
-    let new = state g.S.Store c.add_item.new.tx.conn.now in
-    goes_value old new _ _ (goes_then old mid new _ (Ok c.in_ok-add_item-in-Added.field-0) c.in_ok-compare.ensures.goes c.in_ok-add_item-in-Added.ensures.goes)
+    let new = state g.S.Store c.match-put.batch.conn.now in
+    let first = c.in_ok-put.ensures in
+    let n = c.args.revision in
+    let path = c.args.path.now in
+    let name = c.args.name.now in
+    let wrote : Wrote old mid new c.match-put.written n path name = elim c.match-put.branch [
+      | in-Added w ↦
+          let end = state g.S.Store w.add_item-written.new.tx.conn.now in
+          let second = w.add_item-written.ensures in
+          subst (λ b. Wrote old mid (state g.S.Store b.conn.now) c.match-put.written n path name) (sym w.batch-is) (subst (λ r. Wrote old mid end r n path name) (sym w.written-is) (record {
+            goes = goes_then old mid end _ w.add_item-written.result first.goes second.goes;
+            back = earlier mid end second.goes.survives;
+            shows = λ clean inside counts v shows _.
+                let early = earlier mid end second.goes.survives clean in
+                second.shows clean (first.goes.going early inside).1 counts v (first.shows early inside counts v shows tt) (none_there name (name_at path v.items) (sym w.in-Added.is ∙ first.found early counts v shows));
+          }))
+      | in-Renamed w ↦
+          let end = state g.S.Store w.rename_item-written.new.tx.conn.now in
+          let second = w.rename_item-written.ensures in
+          subst (λ b. Wrote old mid (state g.S.Store b.conn.now) c.match-put.written n path name) (sym w.batch-is) (subst (λ r. Wrote old mid end r n path name) (sym w.written-is) (record {
+            goes = goes_then old mid end _ w.rename_item-written.result first.goes second.goes;
+            back = earlier mid end second.goes.survives;
+            shows = λ clean inside counts v shows _.
+                let early = earlier mid end second.goes.survives clean in
+                second.shows clean (first.goes.going early inside).1 counts v (first.shows early inside counts v shows tt) (other_there name (name_at path v.items) (sym w.in-Renamed.is ∙ first.found early counts v shows));
+          }))
+      | in-Same w ↦
+          subst (λ b. Wrote old mid (state g.S.Store b.conn.now) c.match-put.written n path name) (sym w.batch-is) (subst (λ r. Wrote old mid mid r n path name) (sym w.written-is) (record {
+            goes = goes_value old mid _ _ first.goes;
+            back = λ clean. clean;
+            shows = λ clean inside counts v shows _. still_with n path name counts v mid (same_there name (name_at path v.items) (sym w.in-Same.is ∙ first.found clean counts v shows)) (first.shows clean inside counts v shows tt);
+          }))
+    ] in
+    let same : c.match-put.batch.conn.ghost_name ≡ c.args.batch.now.conn.ghost_name = elim c.match-put.branch [
+      | in-Added w ↦ subst (λ b. b.conn.ghost_name ≡ c.args.batch.now.conn.ghost_name) (sym w.batch-is) (w.add_item-written.ensures.same_reference ∙ c.compare.ensures.same_reference)
+      | in-Renamed w ↦ subst (λ b. b.conn.ghost_name ≡ c.args.batch.now.conn.ghost_name) (sym w.batch-is) (w.rename_item-written.ensures.same_reference ∙ c.compare.ensures.same_reference)
+      | in-Same w ↦ subst (λ b. b.conn.ghost_name ≡ c.args.batch.now.conn.ghost_name) (sym w.batch-is) c.compare.ensures.same_reference
+    ] in
+    record {
+      same_reference = same;
+      goes = goes_value old new _ _ (subst (λ r. GoesOn old new r) c.in_ok-written.was wrote.goes);
+      shows = subst (λ r. LeadsTo old new r (naming n path name)) c.in_ok-written.was wrote.shows;
+      told = λ clean counts v shows. first.found (wrote.back clean) counts v shows;
+    }
 
-pub returns-in_ok-rename_item-in-Renamed-clause-goes : goal.returns-in_ok-rename_item-in-Renamed-clause-goes
-returns-in_ok-rename_item-in-Renamed-clause-goes g c =
+pub returns-in_err-written : goal.returns-in_err-written
+returns-in_err-written g c =
     let old = state g.S.Store c.args.batch.now.conn.now in
     let mid = state g.S.Store c.compare.new.batch.conn.now in
-    let new = state g.S.Store c.rename_item.new.tx.conn.now in
-    goes_value old new _ _ (goes_then old mid new _ (Ok c.in_ok-rename_item-in-Renamed.field-0) c.in_ok-compare.ensures.goes c.in_ok-rename_item-in-Renamed.ensures.goes)
-
-pub returns-in-Same-clause-goes : goal.returns-in-Same-clause-goes
-returns-in-Same-clause-goes g c = goes_value (state g.S.Store c.args.batch.now.conn.now) (state g.S.Store c.compare.new.batch.conn.now) _ _ c.in_ok-compare.ensures.goes
-
-pub returns-in_err-compare-clause-goes : goal.returns-in_err-compare-clause-goes
-returns-in_err-compare-clause-goes g c =
-    goes_fault (state g.S.Store c.args.batch.now.conn.now) (state g.S.Store c.compare.new.batch.conn.now) _ c.from_residual.result c.from_residual.ensures.1 c.in_err-compare.ensures.goes
-
-pub returns-in_err-compare-clause-told : goal.returns-in_err-compare-clause-told
-returns-in_err-compare-clause-told g c clean counts v shows = not_ok c.from_residual.result _ _ c.from_residual.ensures.1
-
-pub returns-in_err-add_item-in-Added-clause-goes : goal.returns-in_err-add_item-in-Added-clause-goes
-returns-in_err-add_item-in-Added-clause-goes g c =
-    goes_fault_after (state g.S.Store c.args.batch.now.conn.now) (state g.S.Store c.compare.new.batch.conn.now) (state g.S.Store c.add_item.new.tx.conn.now) _ _
-    c.from_residual-in_err-add_item-in-Added.result c.from_residual-in_err-add_item-in-Added.ensures.1 c.in_ok-compare.ensures.goes c.in_err-add_item-in-Added.ensures.goes
-
-pub returns-in_err-add_item-in-Added-clause-told : goal.returns-in_err-add_item-in-Added-clause-told
-returns-in_err-add_item-in-Added-clause-told g c clean counts v shows = not_ok c.from_residual-in_err-add_item-in-Added.result _ _ c.from_residual-in_err-add_item-in-Added.ensures.1
-
-pub returns-in_err-rename_item-in-Renamed-clause-goes : goal.returns-in_err-rename_item-in-Renamed-clause-goes
-returns-in_err-rename_item-in-Renamed-clause-goes g c =
-    goes_fault_after (state g.S.Store c.args.batch.now.conn.now) (state g.S.Store c.compare.new.batch.conn.now) (state g.S.Store c.rename_item.new.tx.conn.now) _ _
-    c.from_residual-in_err-rename_item-in-Renamed.result c.from_residual-in_err-rename_item-in-Renamed.ensures.1 c.in_ok-compare.ensures.goes c.in_err-rename_item-in-Renamed.ensures.goes
-
-pub returns-in_err-rename_item-in-Renamed-clause-told : goal.returns-in_err-rename_item-in-Renamed-clause-told
-returns-in_err-rename_item-in-Renamed-clause-told g c clean counts v shows = not_ok c.from_residual-in_err-rename_item-in-Renamed.result _ _ c.from_residual-in_err-rename_item-in-Renamed.ensures.1
-
--- ---- the connection is lent on
-
-pub returns-in_err-compare-clause-same_reference : goal.returns-in_err-compare-clause-same_reference
-returns-in_err-compare-clause-same_reference g c = c.compare.ensures.same_reference
-
-pub returns-in_ok-add_item-in-Added-clause-same_reference : goal.returns-in_ok-add_item-in-Added-clause-same_reference
-returns-in_ok-add_item-in-Added-clause-same_reference g c = c.add_item.ensures.same_reference ∙ c.compare.ensures.same_reference
-
-pub returns-in_err-add_item-in-Added-clause-same_reference : goal.returns-in_err-add_item-in-Added-clause-same_reference
-returns-in_err-add_item-in-Added-clause-same_reference g c = c.add_item.ensures.same_reference ∙ c.compare.ensures.same_reference
-
-pub returns-in_ok-rename_item-in-Renamed-clause-same_reference : goal.returns-in_ok-rename_item-in-Renamed-clause-same_reference
-returns-in_ok-rename_item-in-Renamed-clause-same_reference g c = c.rename_item.ensures.same_reference ∙ c.compare.ensures.same_reference
-
-pub returns-in_err-rename_item-in-Renamed-clause-same_reference : goal.returns-in_err-rename_item-in-Renamed-clause-same_reference
-returns-in_err-rename_item-in-Renamed-clause-same_reference g c = c.rename_item.ensures.same_reference ∙ c.compare.ensures.same_reference
-
-pub returns-in-Same-clause-same_reference : goal.returns-in-Same-clause-same_reference
-returns-in-Same-clause-same_reference g c = c.compare.ensures.same_reference
+    let new = state g.S.Store c.match-put.batch.conn.now in
+    let first = c.in_ok-put.ensures in
+    let n = c.args.revision in
+    let path = c.args.path.now in
+    let name = c.args.name.now in
+    let wrote : Wrote old mid new c.match-put.written n path name = elim c.match-put.branch [
+      | in-Added w ↦
+          let end = state g.S.Store w.add_item-written.new.tx.conn.now in
+          let second = w.add_item-written.ensures in
+          subst (λ b. Wrote old mid (state g.S.Store b.conn.now) c.match-put.written n path name) (sym w.batch-is) (subst (λ r. Wrote old mid end r n path name) (sym w.written-is) (record {
+            goes = goes_then old mid end _ w.add_item-written.result first.goes second.goes;
+            back = earlier mid end second.goes.survives;
+            shows = λ clean inside counts v shows _.
+                let early = earlier mid end second.goes.survives clean in
+                second.shows clean (first.goes.going early inside).1 counts v (first.shows early inside counts v shows tt) (none_there name (name_at path v.items) (sym w.in-Added.is ∙ first.found early counts v shows));
+          }))
+      | in-Renamed w ↦
+          let end = state g.S.Store w.rename_item-written.new.tx.conn.now in
+          let second = w.rename_item-written.ensures in
+          subst (λ b. Wrote old mid (state g.S.Store b.conn.now) c.match-put.written n path name) (sym w.batch-is) (subst (λ r. Wrote old mid end r n path name) (sym w.written-is) (record {
+            goes = goes_then old mid end _ w.rename_item-written.result first.goes second.goes;
+            back = earlier mid end second.goes.survives;
+            shows = λ clean inside counts v shows _.
+                let early = earlier mid end second.goes.survives clean in
+                second.shows clean (first.goes.going early inside).1 counts v (first.shows early inside counts v shows tt) (other_there name (name_at path v.items) (sym w.in-Renamed.is ∙ first.found early counts v shows));
+          }))
+      | in-Same w ↦
+          subst (λ b. Wrote old mid (state g.S.Store b.conn.now) c.match-put.written n path name) (sym w.batch-is) (subst (λ r. Wrote old mid mid r n path name) (sym w.written-is) (record {
+            goes = goes_value old mid _ _ first.goes;
+            back = λ clean. clean;
+            shows = λ clean inside counts v shows _. still_with n path name counts v mid (same_there name (name_at path v.items) (sym w.in-Same.is ∙ first.found clean counts v shows)) (first.shows clean inside counts v shows tt);
+          }))
+    ] in
+    let same : c.match-put.batch.conn.ghost_name ≡ c.args.batch.now.conn.ghost_name = elim c.match-put.branch [
+      | in-Added w ↦ subst (λ b. b.conn.ghost_name ≡ c.args.batch.now.conn.ghost_name) (sym w.batch-is) (w.add_item-written.ensures.same_reference ∙ c.compare.ensures.same_reference)
+      | in-Renamed w ↦ subst (λ b. b.conn.ghost_name ≡ c.args.batch.now.conn.ghost_name) (sym w.batch-is) (w.rename_item-written.ensures.same_reference ∙ c.compare.ensures.same_reference)
+      | in-Same w ↦ subst (λ b. b.conn.ghost_name ≡ c.args.batch.now.conn.ghost_name) (sym w.batch-is) c.compare.ensures.same_reference
+    ] in
+    record {
+      same_reference = same;
+      goes = goes_fault old new _ c.from_residual-in_err-written.result c.from_residual-in_err-written.ensures.1 (subst (λ r. GoesOn old new r) c.in_err-written.was wrote.goes);
+      shows = λ clean inside counts v shows _.
+          passed_on c.from_residual-in_err-written.result _ _ IsMemoryOrStore c.from_residual-in_err-written.ensures.1 (subst (λ r. LeadsTo old new r (naming n path name)) c.in_err-written.was wrote.shows clean inside counts v shows tt);
+      told = λ clean counts v shows. not_ok c.from_residual-in_err-written.result _ _ c.from_residual-in_err-written.ensures.1;
+    }
