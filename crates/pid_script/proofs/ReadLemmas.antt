@@ -207,7 +207,7 @@ all_made s turn front all counted read bounded some none noted = record {
     room = bounded;
     some = omega (arith, some);
     noted = all_noted turn s.moments s.moments_now noted;
-    spent = λ e. (all, some, noted);
+    spent = λ e. record { all = all; each = some; noted = noted };
   };
 }
 

@@ -80,6 +80,14 @@ Notes made Holds None (Some now) = ⊥
 Notes made Holds (Some earlier) (Some now) = (later : List Moment) × (now ≡ earlier ++ later)
     × (length later ≡ made) × Holds later
 
+-- a script made all the reads that it might, and each of them found something to come
+pub record SpendsReads (made : ℕ) (taken : List ℕ) (s : ReaderAndWriter) : Type 0 where
+  pub all : made ≡ s.turns
+  -- no more were made than bytes came
+  pub each : made ≤ length taken
+  -- an account has a moment for each, at which something was still to come
+  pub noted : Notes made (AllByRecursion HasMore) s.moments s.moments_now
+
 -- how many reads a script made, and what they took
 pub record MakesReads (end : ScriptEnd) (s : ReaderAndWriter) : Type 0 where
   -- they are no more than might be, and the reader counts them, up to its greatest number
@@ -93,10 +101,8 @@ pub record MakesReads (end : ScriptEnd) (s : ReaderAndWriter) : Type 0 where
   pub some : made ≤ length taken + 1
   -- an account has a moment for each, and at each but the last one something was still to come
   pub noted : Notes made (AllButLast HasMore) s.moments s.moments_now
-  -- if they are what the script ended by, all were made, no more than bytes came, and something
-  -- was still to come at each of them
-  pub spent : end ≡ TurnsSpent → (made ≡ s.turns) × (made ≤ length taken)
-      × Notes made (AllByRecursion HasMore) s.moments s.moments_now
+  -- if the script ended by its reads, they were all that it might make
+  pub spent : end ≡ TurnsSpent → SpendsReads made taken s
 
 -- a script ended so
 pub record EndsWith (end : ScriptEnd) (s : ReaderAndWriter) : Type 0 where
