@@ -1,9 +1,10 @@
 -- Lines that were answered, and one more behind them.
-use Rattle.std.proofs.Common.{◌≡◌, ◌+◌, ℕ, List, [], ◌∷◌, ◌++◌, Option, Ok, Err, refl, sym, ap, ◌∙◌, subst, inl, inr, append_assoc}
+use Rattle.std.proofs.Common.{◌≡◌, ◌+◌, ℕ, List, [], ◌∷◌, ◌++◌, Option, Some, Ok, Err, refl, sym, ap, ◌∙◌, subst, inl, inr, append_assoc}
 use Rattle.std.proofs.lemmas.List.{append-nil}
 use Rattle.std.specs.Io.KnownBytes.{Appends}
 use Rattle.std.specs.Prelude.{◌⊎◌}
 use Rattle.pid_ident.specs.Sending.{SendsFront}
+use Rattle.pid_reader.specs.Lines.{lines_of}
 use Rattle.pid_moderation.specs.declared.refusal.Refusal.{Refusal}
 use Rattle.pid_moderation.specs.History.{History, Asked}
 use Rattle.pid_moderation.specs.Judgement.{after_all}
@@ -12,12 +13,12 @@ use Rattle.pid_script.specs.declared.line_end.LineEnd.TheVariants.{Stopped, Writ
 use Rattle.pid_service.specs.declared.moderated.Moderated.{Ghosts}
 use Rattle.pid_script.specs.Calling.{CallsSend, CallsSendEither}
 use Rattle.pid_script.specs.Replies.{line_reply, calls_for, calls_for_lines, command_of, commands_of_lines, history_after, replies}
-use Rattle.pid_script.specs.Steps.Output.{Out, out, HasSaid, AnswersLine}
+use Rattle.pid_script.specs.Steps.Output.{Out, out, HasSaid, SaysStop, AnswersLine}
 use Rattle.pid_script.specs.ScriptLines.{Ask, ask_of}
 use Rattle.pid_script.specs.RegistryStates.{ShowsOrHasFailed, Becomes, BecomesEither, StopsBehind}
-use Rattle.pid_script.specs.StopLines.{IsBegun, StoppedBy, IsStopText}
+use Rattle.pid_script.specs.StopLines.{IsBegun, StoppedBy, IsStopInPlace, IsStopText}
 use Rattle.pid_script.specs.Steps.Progress.{Answered, Ended}
-use Rattle.pid_script.specs.Scripts.{NoneTooLong, NoneCalls, AllButLast, IsNotTooLong, CallsNot, passage, AnswersLines, IsTextFor, Replied, StoppedLast, FailsToWrite}
+use Rattle.pid_script.specs.Scripts.{NoneTooLong, NoneCalls, AllButLast, IsNotTooLong, CallsNot, passage, AnswersLines, EndsTooLong, EndsStopped, IsTextFor, Replied, StoppedLast, FailsToWrite}
 use Rattle.pid_script.proofs.SayLemmas.{none_fits, Appends-nil, Appends-then, front-then}
 use Rattle.pid_script.proofs.Calling.{send_then, send_either}
 use Rattle.pid_script.proofs.LineReplies.{counts_then, commands_more, commands_one, commands_then, history_on, history_more, replies_on, replies_one, fits_more, calls_more, quiet_lines, quiet_before, all_but_last, but_one, history_waits, reply_more}
@@ -205,24 +206,38 @@ either_sent m first r new lines line p q =
     (subst (λ cs. CallsSendEither m.showing first cs (commands_of_lines (lines ++ line ∷ [])) both new) (append-nil (commands_of_lines lines))
     (subst (λ cs. CallsSendEither m.showing first (commands_of_lines lines ++ []) cs both new) (sym (commands_then lines line)) (send_either m.showing first r new (commands_of_lines lines) [] (command_of (ask_of line)) _ _ p q)))
 
--- a line ended it
-pub ends_at : {R : Type 0} (m : Ghosts R) (end : LineEnd) (h : History) (start : Option (List ℕ)) (first r new : R) (old left : Out) (all lines : List (List ℕ)) (line : List ℕ) (behind : List (List ℕ))
-    → all ≡ lines ++ line ∷ behind → Answered m h start first r old lines → AnswersLine m (Err end) (ask_of line) (history_after h lines) r old new left
-    → Ended m end h start first new left all
-ends_at m Stopped h start first r new old left all lines line behind parts a e = record {
-  before = lines;
-  line = line;
-  behind = behind;
-  parts = parts;
-  fits = a.fits;
-  lives = a.lives;
-  text = e.tells.text;
-  stop = stop_then m first r h (history_after h lines) (ask_of line) (IsBegun (ask_of line) (history_after h lines)) e.tells.text a.leaves e.tells.stop;
-  told = all_told m h start first r old left.taken lines e.tells.text a e.tells.told;
-  leaves = stops_then m first r new h (history_after h lines) (command_of (ask_of line)) a.leaves e.leaves;
-  calls = none_sent m first r new lines line a.calls e.sends;
+-- a line stopped it, of which this part was read
+pub stopped_at : {R : Type 0} (m : Ghosts R) (h : History) (start : Option (List ℕ)) (first r new : R) (old left : Out) (text rest front : List ℕ) (lines : List (List ℕ)) (line part : List ℕ) (behind more : List (List ℕ))
+    → lines_of text ≡ lines ++ line ∷ behind → text ≡ front ++ rest → lines_of front ≡ lines ++ part ∷ more → IsNotTooLong part → Answered m h start first r old lines
+    → SaysStop (IsStopInPlace m r (history_after h lines) (history_after h lines) (ask_of line)) old left → StopsBehind m r (history_after h lines) new (history_after h lines) (command_of (ask_of line)) → CallsSend m.showing r [] (calls_for (ask_of line)) new
+    → EndsStopped m h (passage first new start left.taken) text (Some rest)
+stopped_at m h start first r new old left text rest front lines line part behind more parts read is fits a tells leaves sends = record {
+  stops = record {
+    before = lines;
+    line = line;
+    behind = behind;
+    parts = parts;
+    fits = a.fits;
+    lives = a.lives;
+    text = tells.text;
+    stop = stop_then m first r h (history_after h lines) (ask_of line) (IsBegun (ask_of line) (history_after h lines)) tells.text a.leaves tells.stop;
+    told = all_told m h start first r old left.taken lines tells.text a tells.told;
+    leaves = stops_then m first r new h (history_after h lines) (command_of (ask_of line)) a.leaves leaves;
+    calls = none_sent m first r new lines line a.calls sends;
+  };
+  front = front;
+  read = read;
+  part = part;
+  behind = more;
+  parts = is;
+  fits = fits;
 }
-ends_at m TooLong h start first r new old left all lines line behind parts a e = record {
+
+-- a line is too long
+pub long_at : {R : Type 0} (m : Ghosts R) (h : History) (start : Option (List ℕ)) (first r new : R) (old left : Out) (all lines : List (List ℕ)) (line : List ℕ) (behind : List (List ℕ))
+    → all ≡ lines ++ line ∷ behind → Answered m h start first r old lines → AnswersLine m (Err TooLong) (ask_of line) (history_after h lines) r old new left
+    → EndsTooLong m h (passage first new start left.taken) all
+long_at m h start first r new old left all lines line behind parts a e = record {
   before = lines;
   line = line;
   behind = behind;
@@ -234,7 +249,12 @@ ends_at m TooLong h start first r new old left all lines line behind parts a e =
   leaves = becomes_then m first r new h (history_after h lines) (history_after h lines) a.leaves e.leaves.becomes;
   calls = none_sent m first r new lines line a.calls e.sends;
 }
-ends_at m WriteFault h start first r new old left all lines line behind parts a e =
+
+-- the writer failed at a line
+pub broken_at : {R : Type 0} (m : Ghosts R) (h : History) (start : Option (List ℕ)) (first r new : R) (old left : Out) (all lines : List (List ℕ)) (line : List ℕ) (behind : List (List ℕ))
+    → all ≡ lines ++ line ∷ behind → Answered m h start first r old lines → AnswersLine m (Err WriteFault) (ask_of line) (history_after h lines) r old new left
+    → FailsToWrite m h (passage first new start left.taken) all
+broken_at m h start first r new old left all lines line behind parts a e =
     let at = history_after h a.before in
     let same : history_after h lines ≡ history_after at a.waiting = ap (history_after h) a.parts ∙ history_on h a.before a.waiting in
     let stays : history_after h lines ≡ at = ap (history_after h) a.parts ∙ history_waits h a.before a.waiting a.asked in
@@ -262,3 +282,11 @@ ends_at m WriteFault h start first r new old left all lines line behind parts a 
           (ap commands_of_lines a.parts ∙ commands_more a.before a.waiting ∙ ap (λ (l : List Asked). commands_of_lines a.before ++ l) a.asked ∙ append-nil (commands_of_lines a.before))
           (subst (λ ls. CallsSendEither m.showing first (commands_of_lines lines) (commands_of_lines ls) (calls_for_lines ls) new) whole (either_sent m first r new lines line a.calls e.sends));
     }
+
+-- a line ended it that was read whole
+pub ends_at : {R : Type 0} (m : Ghosts R) (end : LineEnd) (h : History) (start : Option (List ℕ)) (first r new : R) (old left : Out) (text rest front : List ℕ) (lines : List (List ℕ)) (line : List ℕ) (behind more : List (List ℕ))
+    → lines_of text ≡ lines ++ line ∷ behind → text ≡ front ++ rest → lines_of front ≡ lines ++ line ∷ more → Answered m h start first r old lines → AnswersLine m (Err end) (ask_of line) (history_after h lines) r old new left
+    → Ended m end h start first new left text rest
+ends_at m Stopped h start first r new old left text rest front lines line behind more parts read is a e = stopped_at m h start first r new old left text rest front lines line line behind more parts read is e.leaves.fits a e.tells e.leaves.stops e.sends
+ends_at m WriteFault h start first r new old left text rest front lines line behind more parts read is a e = broken_at m h start first r new old left (lines_of text) lines line behind parts a e
+ends_at m TooLong h start first r new old left text rest front lines line behind more parts read is a e = long_at m h start first r new old left (lines_of text) lines line behind parts a e

@@ -1,6 +1,6 @@
 -- The answer to a question.
-use Rattle.std.proofs.Common.{◌≡◌, ◌≢◌, ℕ, true, false, cond, List, [], Option, Some, None, Result, Ok, Err, refl, sym, ap, ◌∙◌, subst, inl, inr}
-use Rattle.std.specs.Prelude.{◌⊎◌, IsErrOf, is_ok, is_some, OnOk, IfOk, IfErr, MatchResult}
+use Rattle.std.proofs.Common.{◌≡◌, ◌≢◌, ℕ, false, cond, List, [], Option, Some, None, Result, Ok, Err, refl, sym, ap, ◌∙◌, subst, inl, inr}
+use Rattle.std.specs.Prelude.{◌⊎◌, IsErrAnd, is_ok, is_some, OnOk, IfErr, MatchResult}
 use Rattle.pid_ident.specs.Trees.{TreeMap}
 use Rattle.pid_lookup.specs.declared.answer.Answer.{Answer}
 use Rattle.pid_lookup.specs.declared.args.Args.{Args}
@@ -29,7 +29,7 @@ use Rattle.pid_lookup.specs.Fields.{as_lookup as lookup_told}
 use Rattle.pid_service.specs.Moderating.{LooksUp}
 use Rattle.pid_script.specs.Calling.{CallsSend}
 use Rattle.pid_script.specs.Replies.{line_reply, calls_for, command_of, name_reply, name_line, is_call, looked_up, answer_line, BAD_FLAGS}
-use Rattle.pid_script.specs.Steps.Output.{Out, IsGivenRefusal, IsGivenStop, IsNothing, TellsLine, IsReplyOrStop, refusal_given, refusal_of_names, GoesOnAfter, LeavesAfter, SendsFor, AnswersLine}
+use Rattle.pid_script.specs.Steps.Output.{Out, IsGivenRefusal, IsGivenStop, IsNothing, SaysMemory, TellsFound, TellsLine, TellsName, IsReplyOrStop, refusal_given, refusal_of_names, GoesOnAfter, LeavesAfter, SendsFor, AnswersLine}
 use Rattle.pid_script.specs.ScriptLines as lines
 use Rattle.pid_script.specs.ScriptLines.{Ask}
 use Rattle.pid_script.specs.RegistryStates.{ShowsOrHasFailed, Becomes}
@@ -55,7 +55,7 @@ question_leaves m (Ok x) ask h r new left given none short becomes called goes f
     by : (is_call ask ≡ false) ⊎ (given ≡ Some Failed) → is_call ask ≡ false
     by (inl off) = off
     by (inr is) = absurd (failed_goes x given is goes)
-question_leaves m (Err Stopped) ask h r new left given none short becomes called goes fits = record { shows = λ s. inl (becomes.shows s); failed = becomes.failed }
+question_leaves m (Err Stopped) ask h r new left given none short becomes called goes fits = record { stops = record { shows = λ s. inl (becomes.shows s); failed = becomes.failed }; fits = short }
 question_leaves m (Err WriteFault) ask h r new left given none short becomes called goes fits = record { shows = λ s. inl (becomes.shows s); failed = becomes.failed }
 question_leaves m (Err TooLong) ask h r new left given none short becomes called goes fits = absurd (fits refl)
 
@@ -96,7 +96,7 @@ form_refused m result ask said h r old left e told none reply command call short
     leaves (Ok x) g f =
         let is : said ≡ Err e = told (no_memory e g) in
         record { becomes = subst (λ cs. Becomes m r h r (after_all h cs)) (sym (command is)) (same m r h); lives = λ _. call is; flushed = inl (command is); fits = short }
-    leaves (Err Stopped) g f = record { shows = λ s. inl s; failed = λ _. refl }
+    leaves (Err Stopped) g f = record { stops = record { shows = λ s. inl s; failed = λ _. refl }; fits = short }
     leaves (Err WriteFault) g f = record { shows = λ s. inl s; failed = λ _. refl }
     leaves (Err TooLong) g f = absurd (f refl)
 
@@ -128,31 +128,45 @@ pub only_fault : (r : Result (Unit {0}) LineEnd) → IfErr r (λ e. e ≡ WriteF
 only_fault (Ok x) end is = absurd cc
 only_fault (Err e) end is = let other : WriteFault ≡ TooLong = sym end ∙ cc is in absurd cc
 
--- the two cases of an answer
-if_ok : {X : Type 0} (a : Result X Refusal) (P : X → Type 0) (F : Refusal → Type 0) → MatchResult a P F → IfOk a P
-if_ok (Ok x) P F s = s
-if_ok (Err e) P F s = tt
-
+-- the refusal of an answer
 if_err : {X : Type 0} (a : Result X Refusal) (P : X → Type 0) (F : Refusal → Type 0) → MatchResult a P F → (e : Refusal) → a ≡ Err e → F e
 if_err (Ok x) P F s e is = absurd cc
 if_err (Err f) P F s e is = let same : f ≡ e = cc in subst F same s
 
-err_stops : {X : Type 0} (a : Result X Refusal) → ((e : Refusal) → a ≡ Err e → is_stop e ≡ true) → IfErr a (λ e. is_stop e ≡ true)
-err_stops (Ok x) all = tt
-err_stops (Err e) all = all e refl
+-- that memory ran out is said in place of any reply
+memory_stop : IsGivenStop (Some Memory) (refused_line Memory)
+memory_stop = record { begun = []; front = refl; refusal = Memory; cause = (refl, refl); is = refl }
 
--- a look-up was answered
-lookup_facts : {R : Type 0} (m : Ghosts R) (found : Result Answer (LookupRefusal Refusal)) (h : History) (r : R) (flags size : ℕ) (args : Args) → (m.showing.shows r h → LooksUp found (tree_of h) flags args size) → (m.has_failed r → found ≡ Err (lookups.Names Failed)) → ShowsOrHasFailed m r h
-    → IfOk found (λ a. (is_bad flags ≡ false) × (a ≡ answer_of (tree_of h) flags args size)) × (IsErrOf found lookups.BadFlags → is_bad flags ≡ true) × ((e : Refusal) → IsErrOf found (lookups.Names e) → is_stop e ≡ true)
-lookup_facts m found h r flags size args told failed (inl s) = by found (told s)
-  where
-    by : (f : Result Answer (LookupRefusal Refusal)) → LooksUp f (tree_of h) flags args size → IfOk f (λ a. (is_bad flags ≡ false) × (a ≡ answer_of (tree_of h) flags args size)) × (IsErrOf f lookups.BadFlags → is_bad flags ≡ true) × ((e : Refusal) → IsErrOf f (lookups.Names e) → is_stop e ≡ true)
-    by (Ok a) t = (t, (λ is. absurd cc), (λ e is. absurd cc))
-    by (Err lookups.BadFlags) t = (tt, (λ is. t), (λ e is. absurd cc))
-    by (Err (lookups.Names g)) t = (tt, (λ is. absurd cc), (λ e is. let same : g ≡ e = cc in faults_stop e (subst IsMemoryOrStore same t)))
-    by (Err lookups.Memory) t = (tt, (λ is. absurd cc), (λ e is. absurd cc))
-lookup_facts m found h r flags size args told failed (inr f) = subst (λ g. IfOk g (λ a. (is_bad flags ≡ false) × (a ≡ answer_of (tree_of h) flags args size)) × (IsErrOf g lookups.BadFlags → is_bad flags ≡ true) × ((e : Refusal) → IsErrOf g (lookups.Names e) → is_stop e ≡ true)) (sym (failed f))
-    (tt, (λ is. absurd cc), (λ e is. let same : Failed ≡ e = cc in ap is_stop (sym same)))
+memory_told : (e : LineEnd) (reply : List ℕ) (old left : Out) → SaysMemory e old left → TellsLine (Err e) reply (IsGivenStop (Some Memory)) old left
+memory_told Stopped reply old left says = record { text = refused_line Memory; stop = memory_stop; told = says }
+memory_told WriteFault reply old left says = record { text = refused_line Memory; is = inr memory_stop; front = says }
+memory_told TooLong reply old left says = absurd says
+
+-- and the line is not called too long
+pub memory_fits : (e : LineEnd) (old left : Out) → SaysMemory e old left → ◌≡◌ {A = Result (Unit {0}) LineEnd} (Err e) (Err TooLong) → ⊥
+memory_fits e old left says is = let same : e ≡ TooLong = cc is in subst (λ x. SaysMemory x old left) same says
+
+memory_said : (result : Result (Unit {0}) LineEnd) (reply : List ℕ) (old left : Out) → IsErrAnd result (λ e. SaysMemory e old left) → TellsLine result reply (IsGivenStop (Some Memory)) old left
+memory_said (Ok x) reply old left says = absurd says
+memory_said (Err e) reply old left says = memory_told e reply old left says
+
+-- what was found is right, so what was said of it is the reply
+found_told : (result : Result (Unit {0}) LineEnd) (found : Result Answer (LookupRefusal Refusal)) (tree : TreeMap) (flags size : ℕ) (args : Args) (old left : Out) → LooksUp found tree flags args size → TellsFound result found old left
+    → TellsLine result (cond (is_bad flags) BAD_FLAGS (answer_line (answer_of tree flags args size))) (IsGivenStop (refusal_of_names found)) old left
+found_told result (Ok a) tree flags size args old left is told =
+    subst (λ b. TellsLine result (cond b BAD_FLAGS (answer_line (answer_of tree flags args size))) (IsGivenStop None) old left) (sym is.0) (subst (λ x. TellsLine result (answer_line x) (IsGivenStop None) old left) is.1 told)
+found_told result (Err lookups.BadFlags) tree flags size args old left is told =
+    subst (λ b. TellsLine result (cond b BAD_FLAGS (answer_line (answer_of tree flags args size))) (IsGivenStop None) old left) (sym is) told
+found_told result (Err (lookups.Names e)) tree flags size args old left is told = told (cond (is_bad flags) BAD_FLAGS (answer_line (answer_of tree flags args size))) (inr (e, faults_stop e is, refl))
+found_told result (Err lookups.Memory) tree flags size args old left is told = memory_said result (cond (is_bad flags) BAD_FLAGS (answer_line (answer_of tree flags args size))) old left told
+
+-- so it is of a registry that shows the history, or has failed
+found_by : {R : Type 0} (m : Ghosts R) (result : Result (Unit {0}) LineEnd) (found : Result Answer (LookupRefusal Refusal)) (h : History) (r : R) (flags size : ℕ) (args : Args) (old left : Out) → (m.showing.shows r h → LooksUp found (tree_of h) flags args size) → (m.has_failed r → found ≡ Err (lookups.Names Failed)) → ShowsOrHasFailed m r h → TellsFound result found old left
+    → TellsLine result (cond (is_bad flags) BAD_FLAGS (answer_line (answer_of (tree_of h) flags args size))) (IsGivenStop (refusal_of_names found)) old left
+found_by m result found h r flags size args old left is failed (inl s) told = found_told result found (tree_of h) flags size args old left (is s) told
+found_by m result found h r flags size args old left is failed (inr f) told =
+    let reply = cond (is_bad flags) BAD_FLAGS (answer_line (answer_of (tree_of h) flags args size)) in
+    subst (λ g. TellsLine result reply (IsGivenStop (refusal_of_names g)) old left) (sym (failed f)) (subst (λ g. TellsFound result g old left) (failed f) told reply (inr (Failed, refl, refl)))
 
 faults_named : (found : Result Answer (LookupRefusal Refusal)) (tree : TreeMap) (flags size : ℕ) (args : Args) → LooksUp found tree flags args size → (e : Refusal) → found ≡ Err (lookups.Names e) → IsMemoryOrStore e
 faults_named (Ok a) tree flags size args t e is = absurd cc
@@ -162,16 +176,14 @@ faults_named (Err lookups.Memory) tree flags size args t e is = absurd cc
 
 pub looked_for : {R : Type 0} (m : Ghosts R) (result : Result (Unit {0}) LineEnd) (found : Result Answer (LookupRefusal Refusal)) (form : List ℕ) (l : ℕ × Args × ℕ) (h : History) (r new : R) (old left : Out)
     → lookup_in_form form ≡ Some (lookup_told l) → (m.showing.shows r h → LooksUp found (tree_of h) l.0 l.1 l.2) → (m.showing.shows r h → m.showing.shows new h) → (m.has_failed r → (found ≡ Err (lookups.Names Failed)) × (new ≡ r))
-    → ((flags : ℕ) (good : Answer) → IfOk found (λ a. (is_bad flags ≡ false) × (a ≡ good)) → (IsErrOf found lookups.BadFlags → is_bad flags ≡ true) → ((e : Refusal) → IsErrOf found (lookups.Names e) → is_stop e ≡ true)
-    → TellsLine result (cond (is_bad flags) BAD_FLAGS (answer_line good)) (IsGivenStop (refusal_of_names found)) old left)
+    → TellsFound result found old left
     → GoesOnAfter result (refusal_of_names found) → (result ≡ Err TooLong → ⊥) → Does m.showing r nothing_sent new → ShowsOrHasFailed m r h → AnswersLine m result (lines.AsksLookup form) h r old new left
 looked_for m result found form l h r new old left is told kept failed sends goes fits does stands =
-    let facts = lookup_facts m found h r l.0 l.2 l.1 told (λ f. (failed f).0) stands in
     asked m result (lines.AsksLookup form) h r new old left (refusal_of_names found) refl (λ e. cc) (record { shows = kept; failed = λ f. (failed f).1 })
     (names_cause m found r h (lines.AsksLookup form) (ap is_some is) (λ s. faults_named found (tree_of h) l.0 l.2 l.1 (told s)) (λ f. (failed f).0))
     (always result (m.has_failed r → (is_call (lines.AsksLookup form) ≡ false) ⊎ (refusal_of_names found ≡ Some Failed)) (λ f. inr (ap refusal_of_names (failed f).0)))
     goes fits (send_none m.showing r new _ (one_call (lines.AsksLookup form) (ap is_some is)) does)
-    (subst (λ o. TellsLine result (looked_up o h) (IsGivenStop (refusal_of_names found)) old left) (sym is) (sends l.0 (answer_of (tree_of h) l.0 l.1 l.2) facts.0 facts.1 facts.2))
+    (subst (λ o. TellsLine result (looked_up o h) (IsGivenStop (refusal_of_names found)) old left) (sym is) (found_by m result found h r l.0 l.2 l.1 old left told (λ f. (failed f).0) stands sends))
 
 -- a look-up whose fields are bad
 pub bad_lookup : {R : Type 0} (m : Ghosts R) (result : Result (Unit {0}) LineEnd) (form : List ℕ) (h : History) (r : R) (old left : Out) → lookup_in_form form ≡ None → ((given : Option Refusal) → TellsLine result (refused_line BadText) (IsGivenStop given) old left) → IfErr result (λ e. e ≡ WriteFault) → AnswersLine m result (lines.AsksLookup form) h r old r left
@@ -180,23 +192,28 @@ bad_lookup m result form h r old left is told end =
     (subst (λ o. TellsLine result (looked_up o h) (IsGivenStop None) old left) (sym is) (told None))
 
 -- memory is short for a look-up
-pub no_lookup : {R : Type 0} (m : Ghosts R) (e : LineEnd) (form : List ℕ) (h : History) (r : R) (old left : Out) → ((reply : List ℕ) → TellsLine (Err e) reply (IsGivenStop (Some Memory)) old left) → (e ≡ TooLong → ⊥) → AnswersLine m (Err e) (lines.AsksLookup form) h r old r left
-no_lookup m e form h r old left told fits =
-    asked m (Err e) (lines.AsksLookup form) h r r old left (Some Memory) refl (λ e. cc) (same m r h) (own_cause m r h (lines.AsksLookup form)) tt tt (λ is. fits (cc is)) (send_still m.showing r _) (told (line_reply (lines.AsksLookup form) h))
+pub no_lookup : {R : Type 0} (m : Ghosts R) (e : LineEnd) (form : List ℕ) (h : History) (r : R) (old left : Out) → SaysMemory e old left → AnswersLine m (Err e) (lines.AsksLookup form) h r old r left
+no_lookup m e form h r old left says =
+    asked m (Err e) (lines.AsksLookup form) h r r old left (Some Memory) refl (λ e. cc) (same m r h) (own_cause m r h (lines.AsksLookup form)) tt tt (memory_fits e old left says) (send_still m.showing r _) (memory_told e (line_reply (lines.AsksLookup form) h) old left says)
 
 -- the name of a path was asked
-name_facts : {R X : Type 0} (m : Ghosts R) (answer : Result X Refusal) (h : History) (r : R) (P : X → Type 0) → (m.showing.shows r h → MatchResult answer P IsMemoryOrStore) → (m.has_failed r → answer ≡ Err Failed) → ShowsOrHasFailed m r h → IfOk answer P × IfErr answer (λ e. is_stop e ≡ true)
-name_facts m answer h r P told failed (inl s) = (if_ok answer P IsMemoryOrStore (told s), err_stops answer (λ e is. faults_stop e (if_err answer P IsMemoryOrStore (told s) e is)))
-name_facts m answer h r P told failed (inr f) = subst (λ a. IfOk a P × IfErr a (λ e. is_stop e ≡ true)) (sym (failed f)) (tt, refl)
+name_told : (result : Result (Unit {0}) LineEnd) (answer : Result (Option (List ℕ)) Refusal) (good : Option (List ℕ)) (old left : Out) → MatchResult answer (λ n. n ≡ good) IsMemoryOrStore → TellsName result answer old left → TellsLine result (name_line good) (IsGivenStop (refusal_given answer)) old left
+name_told result (Ok n) good old left is told = subst (λ x. TellsLine result (name_line x) (IsGivenStop None) old left) is told
+name_told result (Err e) good old left is told = told (name_line good) (inr (e, faults_stop e is, refl))
 
-pub named : {R X : Type 0} (m : Ghosts R) (result : Result (Unit {0}) LineEnd) (answer : Result X Refusal) (form : List ℕ) (path : Path) (h : History) (r new : R) (old left : Out) (P : X → Type 0)
-    → path_asked form ≡ Ok path → (m.showing.shows r h → MatchResult answer P IsMemoryOrStore) → (m.showing.shows r h → m.showing.shows new h) → (m.has_failed r → (answer ≡ Err Failed) × (new ≡ r))
-    → (IfOk answer P → IfErr answer (λ e. is_stop e ≡ true) → TellsLine result (name_line (name_at (path_text path) (items_of h))) (IsGivenStop (refusal_given answer)) old left)
-    → GoesOnAfter result (refusal_given answer) → (result ≡ Err TooLong → ⊥) → Does m.showing r nothing_sent new → ShowsOrHasFailed m r h → AnswersLine m result (lines.AsksName form) h r old new left
-named m result answer form path h r new old left P is told kept failed sends goes fits does stands =
-    let facts = name_facts m answer h r P told (λ f. (failed f).0) stands in
+name_by : {R : Type 0} (m : Ghosts R) (result : Result (Unit {0}) LineEnd) (answer : Result (Option (List ℕ)) Refusal) (good : Option (List ℕ)) (h : History) (r : R) (old left : Out) → (m.showing.shows r h → MatchResult answer (λ n. n ≡ good) IsMemoryOrStore) → (m.has_failed r → answer ≡ Err Failed) → ShowsOrHasFailed m r h → TellsName result answer old left
+    → TellsLine result (name_line good) (IsGivenStop (refusal_given answer)) old left
+name_by m result answer good h r old left is failed (inl s) told = name_told result answer good old left (is s) told
+name_by m result answer good h r old left is failed (inr f) told =
+    subst (λ a. TellsLine result (name_line good) (IsGivenStop (refusal_given a)) old left) (sym (failed f)) (subst (λ a. TellsName result a old left) (failed f) told (name_line good) (inr (Failed, refl, refl)))
+
+pub named : {R : Type 0} (m : Ghosts R) (result : Result (Unit {0}) LineEnd) (answer : Result (Option (List ℕ)) Refusal) (form : List ℕ) (path : Path) (h : History) (r new : R) (old left : Out)
+    → path_asked form ≡ Ok path → (m.showing.shows r h → MatchResult answer (λ name. name ≡ name_at (path_text path) (items_of h)) IsMemoryOrStore) → (m.showing.shows r h → m.showing.shows new h) → (m.has_failed r → (answer ≡ Err Failed) × (new ≡ r))
+    → TellsName result answer old left → GoesOnAfter result (refusal_given answer) → (result ≡ Err TooLong → ⊥) → Does m.showing r nothing_sent new → ShowsOrHasFailed m r h → AnswersLine m result (lines.AsksName form) h r old new left
+named m result answer form path h r new old left is told kept failed sends goes fits does stands =
+    let good = name_at (path_text path) (items_of h) in
     asked m result (lines.AsksName form) h r new old left (refusal_given answer) refl (λ e. cc) (record { shows = kept; failed = λ f. (failed f).1 })
-    (fault_cause m answer r h (lines.AsksName form) (ap is_ok is) (λ s. if_err answer P IsMemoryOrStore (told s)) (λ f. (failed f).0))
+    (fault_cause m answer r h (lines.AsksName form) (ap is_ok is) (λ s. if_err answer (λ name. name ≡ good) IsMemoryOrStore (told s)) (λ f. (failed f).0))
     (always result (m.has_failed r → (is_call (lines.AsksName form) ≡ false) ⊎ (refusal_given answer ≡ Some Failed)) (λ f. inr (ap refusal_given (failed f).0)))
     goes fits (send_none m.showing r new _ (one_call (lines.AsksName form) (ap is_ok is)) does)
-    (subst (λ a. TellsLine result (name_reply a h) (IsGivenStop (refusal_given answer)) old left) (sym is) (sends facts.0 facts.1))
+    (subst (λ a. TellsLine result (name_reply a h) (IsGivenStop (refusal_given answer)) old left) (sym is) (name_by m result answer good h r old left told (λ f. (failed f).0) stands sends))

@@ -107,7 +107,7 @@ behind_begun m (Err Stopped) e h r new a b c d was now left went none begun caus
     };
     told = Appends-then a b d was (begun.front ++ t.text) went (Appends-then b c d begun.front t.text begun.told (subst (λ (l : List ℕ). Appends c d (l ++ t.text)) none t.told));
   };
-  leaves = record { shows = λ s. inl (kept s); failed = failed };
+  leaves = record { stops = record { shows = λ s. inl (kept s); failed = failed }; fits = λ e. cc };
   sends = send_none m.showing r new 1 (omega arith) does;
 }
 behind_begun m (Err WriteFault) e h r new a b c d was now left went none begun cause stop kept failed t goes fits does = record {

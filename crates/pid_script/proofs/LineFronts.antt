@@ -3,7 +3,7 @@ use Rattle.std.proofs.Common.{◌≡◌, ℕ, true, false, cond, eqb, List, [], 
 use Rattle.std.proofs.lemmas.List.{append-nil}
 use Rattle.pid_reader.specs.Lines.{drop_cr, pieces_of, onto_first, lines_of}
 use Rattle.pid_reader.specs.WholeLines.{ended_pieces, open_part, whole_lines, onto_ended}
-use Rattle.pid_file.proofs.Cuts.{lines_split, last_line, lines_more, open_no_lf, open_then, piece_first}
+use Rattle.pid_file.proofs.Cuts.{lines_split, last_line, lines_more, open_longer, open_no_lf, open_then, piece_first, whole_same}
 
 -- of bytes without LF, one more at the front
 no_lf_cases : (b : ℕ) (bs : List ℕ) → ended_pieces (b ∷ bs) ≡ [] → (eqb b 10 ≡ false) × (ended_pieces bs ≡ [])
@@ -74,3 +74,9 @@ all_lines text kept is none = lines_split text ∙ ap (λ (l : List ℕ). whole_
 -- and where one is
 pub and_last : (text kept : List ℕ) → kept ≡ open_part text → (kept ≡ [] → ⊥) → lines_of text ≡ whole_lines text ++ drop_cr kept ∷ []
 and_last text kept is some = lines_split text ∙ ap (λ (l : List ℕ). whole_lines text ++ lines_of l) (sym is) ∙ ap (λ ls. whole_lines text ++ ls) (last_line kept (no_lf_kept text kept is) some)
+
+-- a text that ends within a line
+pub within : (text rest : List ℕ) → ended_pieces rest ≡ [] → (rest ≡ [] → ⊥) → lines_of (text ++ rest) ≡ whole_lines text ++ drop_cr (open_part text ++ rest) ∷ []
+within text rest h some =
+    and_last (text ++ rest) (open_part text ++ rest) (sym (open_longer text rest h)) (some_more (open_part text) rest some)
+    ∙ ap (λ (ls : List (List ℕ)). ls ++ drop_cr (open_part text ++ rest) ∷ []) (whole_same text rest h)

@@ -149,8 +149,11 @@ obey_leaves m (Ok x) answer c asked verb account form h r new left is obeys fail
   fits = λ e. cc;
 }
 obey_leaves m (Err Stopped) answer c asked verb account form h r new left is obeys failed goes empty stop fits = record {
-  shows = λ s. let by = stop refl in subst (λ a. m.showing.shows new h ⊎ FailsAt m new h (those_sent a)) (sym is) (obey_undone m answer c h new by.0 by.1 by.2 (obeys s));
-  failed = λ f. (failed f).1;
+  stops = record {
+    shows = λ s. let by = stop refl in subst (λ a. m.showing.shows new h ⊎ FailsAt m new h (those_sent a)) (sym is) (obey_undone m answer c h new by.0 by.1 by.2 (obeys s));
+    failed = λ f. (failed f).1;
+  };
+  fits = λ e. cc;
 }
 obey_leaves m (Err WriteFault) answer c asked verb account form h r new left is obeys failed goes empty stop fits = record {
   shows = λ s. subst (λ a. m.showing.shows new h ⊎ (m.showing.shows new (after_all h (those_sent a)) ⊎ m.showing.fails_between new h (after_all h (those_sent a)))) (sym is) (obey_either m answer c h new (obeys s));

@@ -21,7 +21,7 @@ use Rattle.pid_script.specs.Calling.{CallsGo}
 use Rattle.pid_script.proofs.Calling.{go_still, go_then}
 use Rattle.pid_script.proofs.OtherLines.{unfit_ends}
 use Rattle.pid_script.proofs.Answered.{stands_then, answered_out, flushed, broken, more_answered, ends_at}
-use Rattle.pid_script.proofs.LineFronts.{line_at, begun, all_lines, and_last}
+use Rattle.pid_script.proofs.LineFronts.{line_at, begun, within, all_lines, and_last}
 
 -- part of the piece was answered
 pub record IsHalfway {R : Type 0} (m : Ghosts R) (piece rest : List ℕ) (old now : R) (was left : Out) (kept kept_now : List ℕ) : Type 0 where
@@ -98,12 +98,15 @@ pub half_stop : {R : Type 0} (m : Ghosts R) (e : LineEnd) (piece rest front behi
     → IsHalfway m piece rest old now was left kept kept_now → rest ≡ front ++ 10 ∷ behind → ended_pieces front ≡ [] → (m.showing.is_clean next → m.showing.is_clean now)
     → (m.showing.is_clean next → (h : History) → ShowsOrHasFailed m now h → AnswersLine m (Err e) (ask_of (drop_cr (kept_now ++ front))) h now left next left_next)
     → m.showing.is_clean next → (h : History) (start : Option (List ℕ)) (first : R) (text more : List ℕ) → ShowsOrHasFailed m first h → HasAnswered m h start first old was kept text
-    → Ended m e h start first next left_next (lines_of ((text ++ piece) ++ more))
+    → Ended m e h start first next left_next ((text ++ piece) ++ more) more
 half_stop m e piece rest front behind old now next was left left_next kept kept_now half parts no_lf honest ends t h start first text more stands a =
     let b = half.answered (honest t) h start first text stands a in
-    let whole : (text ++ piece) ++ more ≡ (text ++ half.gone) ++ (front ++ 10 ∷ (behind ++ more)) = ap (λ (l : List ℕ). (text ++ l) ++ more) (half.parts ∙ ap (λ (l : List ℕ). half.gone ++ l) parts) ∙ simp append_assoc refl in
-    ends_at m e h start first now next left left_next (lines_of ((text ++ piece) ++ more)) (whole_lines (text ++ half.gone)) (drop_cr (kept_now ++ front)) (lines_of (behind ++ more))
+    let read : text ++ piece ≡ (text ++ half.gone) ++ (front ++ 10 ∷ behind) = ap (λ (l : List ℕ). text ++ l) (half.parts ∙ ap (λ (l : List ℕ). half.gone ++ l) parts) ∙ sym (append_assoc text half.gone (front ++ 10 ∷ behind)) in
+    let whole : (text ++ piece) ++ more ≡ (text ++ half.gone) ++ (front ++ 10 ∷ (behind ++ more)) = ap (λ (l : List ℕ). l ++ more) read ∙ simp append_assoc refl in
+    ends_at m e h start first now next left left_next ((text ++ piece) ++ more) more (text ++ piece) (whole_lines (text ++ half.gone)) (drop_cr (kept_now ++ front)) (lines_of (behind ++ more)) (lines_of behind)
     (ap lines_of whole ∙ line_at (text ++ half.gone) front (behind ++ more) no_lf ∙ ap (λ (l : List ℕ). whole_lines (text ++ half.gone) ++ drop_cr (l ++ front) ∷ lines_of (behind ++ more)) (sym b.open_line))
+    refl
+    (ap lines_of read ∙ line_at (text ++ half.gone) front behind no_lf ∙ ap (λ (l : List ℕ). whole_lines (text ++ half.gone) ++ drop_cr (l ++ front) ∷ lines_of behind) (sym b.open_line))
     b.answered (ends t (history_after h (whole_lines (text ++ half.gone))) (stands_now m h start first now left kept_now (text ++ half.gone) stands b))
 
 -- what is left of the piece has no LF, and is kept
@@ -124,14 +127,17 @@ half_kept m piece rest old now was left kept kept_now kept_next half no_lf is sh
 pub half_unfit : {R : Type 0} (m : Ghosts R) (e : LineEnd) (piece rest : List ℕ) (old now : R) (was left left_next : Out) (kept kept_now : List ℕ)
     → IsHalfway m piece rest old now was left kept kept_now → ended_pieces rest ≡ [] → (rest ≡ [] → ⊥) → Unfit e (kept_now ++ rest) left left_next
     → m.showing.is_clean now → (h : History) (start : Option (List ℕ)) (first : R) (text more : List ℕ) → ShowsOrHasFailed m first h → HasAnswered m h start first old was kept text
-    → Ended m e h start first now left_next (lines_of ((text ++ piece) ++ more))
+    → Ended m e h start first now left_next ((text ++ piece) ++ more) more
 half_unfit m e piece rest old now was left left_next kept kept_now half no_lf some unfit t h start first text more stands a =
     let b = half.answered t h start first text stands a in
-    let whole : (text ++ piece) ++ more ≡ (text ++ half.gone) ++ (rest ++ more) = ap (λ (l : List ℕ). (text ++ l) ++ more) half.parts ∙ simp append_assoc refl in
+    let read : text ++ piece ≡ (text ++ half.gone) ++ rest = ap (λ (l : List ℕ). text ++ l) half.parts ∙ sym (append_assoc text half.gone rest) in
+    let whole : (text ++ piece) ++ more ≡ (text ++ half.gone) ++ (rest ++ more) = ap (λ (l : List ℕ). l ++ more) read ∙ append_assoc (text ++ half.gone) rest more in
     let line = begun (text ++ half.gone) rest more no_lf some in
-    ends_at m e h start first now now left left_next (lines_of ((text ++ piece) ++ more)) (whole_lines (text ++ half.gone)) (drop_cr ((kept_now ++ rest) ++ line.tail)) line.behind
+    unfit_ends m e (kept_now ++ rest) line.tail h start first now left left_next ((text ++ piece) ++ more) more (text ++ piece) (whole_lines (text ++ half.gone)) line.behind [] unfit
     (ap lines_of whole ∙ line.is ∙ ap (λ (l : List ℕ). whole_lines (text ++ half.gone) ++ drop_cr ((l ++ rest) ++ line.tail) ∷ line.behind) (sym b.open_line))
-    b.answered (unfit_ends m e (kept_now ++ rest) line.tail (history_after h (whole_lines (text ++ half.gone))) now left left_next unfit)
+    refl
+    (ap lines_of read ∙ within (text ++ half.gone) rest no_lf some ∙ ap (λ (l : List ℕ). whole_lines (text ++ half.gone) ++ drop_cr (l ++ rest) ∷ []) (sym b.open_line))
+    b.answered
 
 -- nothing is left of the piece
 pub half_whole : {R : Type 0} (m : Ghosts R) (piece rest : List ℕ) (old now : R) (was left : Out) (kept kept_now : List ℕ)
@@ -154,7 +160,7 @@ piece_flushed : {R : Type 0} (m : Ghosts R) (h : History) (start : Option (List 
 piece_flushed m h start first r old new held kept text a went none = record { open_line = a.open_line; short = a.short; answered = answered_out m h start first r new held (whole_lines text) (flushed m h start first r old new (whole_lines text) a.answered went) none }
 
 -- or not
-piece_broken : {R : Type 0} (m : Ghosts R) (h : History) (start : Option (List ℕ)) (first r : R) (old left : Out) (kept text more : List ℕ) → HasAnswered m h start first r old kept text → SendsFront old.taken left.taken old.held → Ended m WriteFault h start first r left (lines_of (text ++ more))
+piece_broken : {R : Type 0} (m : Ghosts R) (h : History) (start : Option (List ℕ)) (first r : R) (old left : Out) (kept text more : List ℕ) → HasAnswered m h start first r old kept text → SendsFront old.taken left.taken old.held → Ended m WriteFault h start first r left (text ++ more) more
 piece_broken m h start first r old left kept text more a front = broken m h start first r old left.taken (lines_of (text ++ more)) (whole_lines text) (lines_of (open_part text ++ more)) (lines_more text more) a.answered front
 
 pub at_end : {R : Type 0} (m : Ghosts R) (h : History) (start : Option (List ℕ)) (first r : R) (now : Out) (kept text : List ℕ) → HasAnswered m h start first r now kept text → kept ≡ [] → Answered m h start first r now (lines_of text)
@@ -168,20 +174,20 @@ at_last m (Ok x) h start first was new old left kept text a some stands ends =
 at_last m (Err e) h start first was new old left kept text a some stands ends = tt
 
 pub stop_last : {R : Type 0} (m : Ghosts R) (r : Result (Unit {0}) LineEnd) (h : History) (start : Option (List ℕ)) (first was new : R) (old left : Out) (kept text : List ℕ) → HasAnswered m h start first was old kept text → (kept ≡ [] → ⊥) → ShowsOrHasFailed m first h
-    → ((g : History) → ShowsOrHasFailed m was g → AnswersLine m r (ask_of (drop_cr kept)) g was old new left) → IfErr r (λ e. Ended m e h start first new left (lines_of text))
+    → ((g : History) → ShowsOrHasFailed m was g → AnswersLine m r (ask_of (drop_cr kept)) g was old new left) → IfErr r (λ e. Ended m e h start first new left text [])
 stop_last m (Ok x) h start first was new old left kept text a some stands ends = tt
 stop_last m (Err e) h start first was new old left kept text a some stands ends =
-    ends_at m e h start first was new old left (lines_of text) (whole_lines text) (drop_cr kept) [] (and_last text kept a.open_line some) a.answered (ends (history_after h (whole_lines text)) (stands_now m h start first was old kept text stands a))
+    ends_at m e h start first was new old left text [] text (whole_lines text) (drop_cr kept) [] [] (and_last text kept a.open_line some) (sym (append-nil text)) (and_last text kept a.open_line some) a.answered (ends (history_after h (whole_lines text)) (stands_now m h start first was old kept text stands a))
 
 pub piece_flushed_on : {R : Type 0} (m : Ghosts R) (r : Result (Unit {0}) LineEnd) (h : History) (start : Option (List ℕ)) (first now : R) (old : Out) (new : Option (List ℕ)) (held kept text : List ℕ) → HasAnswered m h start first now old kept text → OnOk r (Appends old.taken new old.held) → OnOk r (held ≡ []) → OnOk r (HasAnswered m h start first now (out new held) kept text)
 piece_flushed_on m (Ok x) h start first now old new held kept text a went none = piece_flushed m h start first now old new held kept text a went none
 piece_flushed_on m (Err e) h start first now old new held kept text a went none = tt
 
-pub piece_broken_on : {R : Type 0} (m : Ghosts R) (r : Result (Unit {0}) LineEnd) (h : History) (start : Option (List ℕ)) (first now : R) (old left : Out) (kept text more : List ℕ) → HasAnswered m h start first now old kept text → IfErr r (λ e. e ≡ WriteFault) → OnErr r (SendsFront old.taken left.taken old.held) → IfErr r (λ e. Ended m e h start first now left (lines_of (text ++ more)))
+pub piece_broken_on : {R : Type 0} (m : Ghosts R) (r : Result (Unit {0}) LineEnd) (h : History) (start : Option (List ℕ)) (first now : R) (old left : Out) (kept text more : List ℕ) → HasAnswered m h start first now old kept text → IfErr r (λ e. e ≡ WriteFault) → OnErr r (SendsFront old.taken left.taken old.held) → IfErr r (λ e. Ended m e h start first now left (text ++ more) more)
 piece_broken_on m (Ok x) h start first now old left kept text more a end front = tt
-piece_broken_on m (Err e) h start first now old left kept text more a end front = subst (λ x. Ended m x h start first now left (lines_of (text ++ more))) (sym end) (piece_broken m h start first now old left kept text more a front)
+piece_broken_on m (Err e) h start first now old left kept text more a end front = subst (λ x. Ended m x h start first now left (text ++ more) more) (sym end) (piece_broken m h start first now old left kept text more a front)
 
 -- all lines were answered, and what is held goes out, or not
 pub end_on : {R : Type 0} (m : Ghosts R) (r : Result (Unit {0}) LineEnd) (h : History) (start : Option (List ℕ)) (first now : R) (old left : Out) (text : List ℕ) → Answered m h start first now old (lines_of text) → IfErr r (λ e. e ≡ WriteFault) → OnOk r (Appends old.taken left.taken old.held) → OnErr r (SendsFront old.taken left.taken old.held) → EndsText m r h start first now left text
 end_on m (Ok x) h start first now old left text a end sent front = flushed m h start first now old left.taken (lines_of text) a sent
-end_on m (Err e) h start first now old left text a end sent front = subst (λ x. Ended m x h start first now left (lines_of text)) (sym end) (broken m h start first now old left.taken (lines_of text) (lines_of text) [] (sym (append-nil (lines_of text))) a front)
+end_on m (Err e) h start first now old left text a end sent front = subst (λ x. Ended m x h start first now left text []) (sym end) (broken m h start first now old left.taken (lines_of text) (lines_of text) [] (sym (append-nil (lines_of text))) a front)

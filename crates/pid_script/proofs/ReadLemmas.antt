@@ -6,7 +6,6 @@ use Rattle.std.specs.List.{AllByRecursion}
 use Rattle.std.specs.Io.KnownBytes.{Consumes, Keeps, IsAtEnd}
 use Rattle.pid_file.specs.declared.io.ReadFault.{ReadFault as InputFault}
 use Rattle.pid_ident.specs.Moments.{Moment, IsNoted}
-use Rattle.pid_reader.specs.Lines.{lines_of}
 use Rattle.pid_moderation.specs.History.{History}
 use Rattle.pid_script.specs.declared.line_end.LineEnd.{LineEnd}
 use Rattle.pid_script.specs.declared.line_end.LineEnd.TheVariants as line_ends
@@ -67,11 +66,14 @@ Keeps-same (Some x) = refl
 pub turns_over : {R : Type 0} (m : Ghosts R) (h : History) (taken : Option (List ℕ)) (old new : R) (left : Out) (kept front : List ℕ) (come now : Option (List ℕ)) → Consumes come now front → left.held ≡ [] → HasAnswered m h taken old new left kept front → IfSome come (λ text. IsCutOff m h (passage old new taken left.taken) text now)
 turns_over m h taken old new left kept front come now p none a = cut_off m h taken old new left kept front come now now p (Keeps-same now) none a
 
-is_script : {R : Type 0} (m : Ghosts R) (r : Result (Unit {0}) LineEnd) (h : History) (taken : Option (List ℕ)) (old new : R) (left : Out) (text : List ℕ) (rest : Option (List ℕ)) → EndsText m r h taken old new left text → IsScript m (script_end r) h (passage old new taken left.taken) text rest
-is_script m (Ok x) h taken old new left text rest e = e
-is_script m (Err line_ends.Stopped) h taken old new left text rest e = e
-is_script m (Err line_ends.WriteFault) h taken old new left text rest e = e
-is_script m (Err line_ends.TooLong) h taken old new left text rest e = e
+is_script : {R : Type 0} (m : Ghosts R) (e : LineEnd) (h : History) (taken : Option (List ℕ)) (old new : R) (left : Out) (text rest : List ℕ) → Ended m e h taken old new left text rest → IsScript m (script_end (Err e)) h (passage old new taken left.taken) text (Some rest)
+is_script m line_ends.Stopped h taken old new left text rest e = e
+is_script m line_ends.WriteFault h taken old new left text rest e = e
+is_script m line_ends.TooLong h taken old new left text rest e = e
+
+whole_script : {R : Type 0} (m : Ghosts R) (r : Result (Unit {0}) LineEnd) (h : History) (taken : Option (List ℕ)) (old new : R) (left : Out) (text : List ℕ) → EndsText m r h taken old new left text → IsScript m (script_end r) h (passage old new taken left.taken) text (Some [])
+whole_script m (Ok x) h taken old new left text e = e
+whole_script m (Err end) h taken old new left text e = is_script m end h taken old new left text [] e
 
 pub not_spent : (r : Result (Unit {0}) LineEnd) → script_end r ≡ TurnsSpent → ⊥
 not_spent (Ok x) e = absurd cc
@@ -234,14 +236,15 @@ all_read m r h taken old new left front None now next p q end e = tt
 all_read m r h taken old new left front (Some text) now None p q end e = absurd (Consumes-then (Some text) now None front [] p q)
 all_read m r h taken old new left front (Some text) now (Some rest) p q end e =
     let whole : text ≡ front = Consumes-then (Some text) now (Some rest) front [] p q ∙ ap (λ (l : List ℕ). (front ++ []) ++ l) end ∙ append-nil (front ++ []) ∙ append-nil front in
-    is_script m r h taken old new left text (Some rest) (subst (EndsText m r h taken old new left) (sym whole) e)
+    let none : rest ≡ [] = end in
+    subst (λ (l : List ℕ). IsScript m (script_end r) h (passage old new taken left.taken) text (Some l)) (sym none) (whole_script m r h taken old new left text (subst (EndsText m r h taken old new left) (sym whole) e))
 
 -- a line ended it
-pub ended : {R : Type 0} (m : Ghosts R) (e : LineEnd) (h : History) (taken : Option (List ℕ)) (old new : R) (left : Out) (front piece : List ℕ) (come now next : Option (List ℕ)) → Consumes come now front → Consumes now next piece → ((more : List ℕ) → Ended m e h taken old new left (lines_of ((front ++ piece) ++ more))) → IfSome come (λ text. IsScript m (script_end (Err e)) h (passage old new taken left.taken) text next)
+pub ended : {R : Type 0} (m : Ghosts R) (e : LineEnd) (h : History) (taken : Option (List ℕ)) (old new : R) (left : Out) (front piece : List ℕ) (come now next : Option (List ℕ)) → Consumes come now front → Consumes now next piece → ((more : List ℕ) → Ended m e h taken old new left ((front ++ piece) ++ more) more) → IfSome come (λ text. IsScript m (script_end (Err e)) h (passage old new taken left.taken) text next)
 ended m e h taken old new left front piece None now next p q ends = tt
 ended m e h taken old new left front piece (Some text) now None p q ends = absurd (Consumes-then (Some text) now None front piece p q)
 ended m e h taken old new left front piece (Some text) now (Some rest) p q ends =
-    is_script m (Err e) h taken old new left text (Some rest) (subst (λ (l : List ℕ). Ended m e h taken old new left (lines_of l)) (sym (Consumes-then (Some text) now (Some rest) front piece p q)) (ends rest))
+    is_script m e h taken old new left text rest (subst (λ (l : List ℕ). Ended m e h taken old new left l rest) (sym (Consumes-then (Some text) now (Some rest) front piece p q)) (ends rest))
 
 pub consumed_none : (now new : Option (List ℕ)) (count : ℕ) (buffer : List ℕ) → count ≡ 0 → Consumes now new (take count buffer) → Consumes now new []
 consumed_none now new count buffer zero_is p = subst (Consumes now new) (ap (λ n. take n buffer) zero_is ∙ take_none buffer) p

@@ -200,6 +200,18 @@ module _ {R : Type 0} (registry : Ghosts R) where
     pub calls : CallsSend registry.showing p.old (commands_of_lines before)
         (calls_for_lines (before ++ line ∷ [])) p.new
 
+  -- A line stopped the script, and it is not too long as far as it was read: the lines of what was
+  -- read are those that got their replies, then this part of it, or all of it, and maybe more.
+  pub record EndsStopped (h : History) (p : Passage R) (text : List ℕ)
+      (rest : Option (List ℕ)) : Type 0 where
+    pub stops : StopsAtLine h p (lines_of text)
+    pub front : List ℕ
+    pub read : Consumes (Some text) rest front
+    pub part : List ℕ
+    pub behind : List (List ℕ)
+    pub parts : lines_of front ≡ stops.before ++ part ∷ behind
+    pub fits : IsNotTooLong part
+
   -- the lines before one got their replies, and that one is too long, and was refused as such
   pub record EndsTooLong (h : History) (p : Passage R) (lines : List (List ℕ)) : Type 0 where
     pub before : List (List ℕ)
@@ -269,7 +281,7 @@ module _ {R : Type 0} (registry : Ghosts R) where
   abbrev pub IsScript : ScriptEnd → History → Passage R → List ℕ → Option (List ℕ) → Type 0
   IsScript Done h p text rest = AnswersLines h p (lines_of text)
   IsScript TooLong h p text rest = EndsTooLong h p (lines_of text)
-  IsScript Stopped h p text rest = StopsAtLine h p (lines_of text)
+  IsScript Stopped h p text rest = EndsStopped h p text rest
   IsScript WriteFault h p text rest = FailsToWrite h p (lines_of text)
   IsScript ReadFault h p text rest = IsCutOff h p text rest
   IsScript TurnsSpent h p text rest = IsCutOff h p text rest

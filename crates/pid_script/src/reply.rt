@@ -3,8 +3,6 @@ ghost use Rattle.std.specs.Prelude.{
   ◌≡◌,
   ◌++◌,
   ◌∷◌,
-  ℕ,
-  List,
   [],
   Option,
   true,
@@ -24,12 +22,14 @@ ghost use Rattle.pid_moderation.specs.declared.refusal.Refusal.TheVariants as re
 ghost use Rattle.pid_script.specs.StopLines.{is_stop as is_stopping};
 ghost use Rattle.pid_script.specs.Steps.Output.{
   out,
+  SaysMemory,
+  SaysTooLong,
+  TellsAnswer,
   TellsFound,
   TellsLine,
   TellsName,
   SaysText,
   IsGivenStop,
-  IsReplyOrStop,
   GoesOnAfter,
   refusal_given,
   refusal_of_names,
@@ -43,11 +43,9 @@ use pid_moderation::{Refusal, Reply, write_reply_line};
 
 /// Says that memory ran out, which takes none.
 pub fn stop_for_memory<O: Output>(output: &mut O, held: &mut Vec<u8>) -> LineEnd
-    ensures told { (reply : List ℕ)
-        → TellsLine (Err result) reply (IsGivenStop (Some Refusal.Memory))
-        (out (O.taken output.old) held.old.items) (out (O.taken output.new) held.new.items) }
+    ensures told { SaysMemory result (out (O.taken output.old) held.old.items)
+        (out (O.taken output.new) held.new.items) }
     ensures fault { result ≡ LineEnd.WriteFault → IsSome (O.write_fault output.new) }
-    ensures fits { result ≡ LineEnd.TooLong → ⊥ }
 {
     match say_all(output, held, b"refused 16 Memory\n") {
         Ok(()) => LineEnd::Stopped,
@@ -57,11 +55,9 @@ pub fn stop_for_memory<O: Output>(output: &mut O, held: &mut Vec<u8>) -> LineEnd
 
 /// Says that a line is too long.
 pub fn refuse_long<O: Output>(output: &mut O, held: &mut Vec<u8>) -> LineEnd
-    ensures told { (given : Option Refusal)
-        → TellsLine (Err result) (refused_line refusals.BadText) (IsGivenStop given)
-        (out (O.taken output.old) held.old.items) (out (O.taken output.new) held.new.items) }
+    ensures told { SaysTooLong result (out (O.taken output.old) held.old.items)
+        (out (O.taken output.new) held.new.items) }
     ensures fault { result ≡ LineEnd.WriteFault → IsSome (O.write_fault output.new) }
-    ensures goes { result ≡ LineEnd.Stopped → ⊥ }
 {
     match say_all(output, held, b"refused 3 BadText\n") {
         Ok(()) => LineEnd::TooLong,
@@ -109,9 +105,8 @@ pub fn send_answer<O: Output>(
     held: &mut Vec<u8>,
     answer: Result<Reply, Refusal>,
 ) -> Result<(), LineEnd>
-    ensures told { (reply : List ℕ) → IsReplyOrStop reply answer
-        → TellsLine result reply (IsGivenStop (refusal_given answer))
-        (out (O.taken output.old) held.old.items) (out (O.taken output.new) held.new.items) }
+    ensures told { TellsAnswer result answer (out (O.taken output.old) held.old.items)
+        (out (O.taken output.new) held.new.items) }
     ensures goes_on { GoesOnAfter result (refusal_given answer) }
     ensures empty { OnOk result (held.new.items ≡ []) }
     ensures fault { result ≡ Err LineEnd.WriteFault → IsSome (O.write_fault output.new) }

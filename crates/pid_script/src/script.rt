@@ -20,7 +20,7 @@ ghost use Rattle.std.specs.Prelude.{
 };
 ghost use Rattle.pid_ident.specs.Moments.{AllSince};
 ghost use Rattle.pid_reader.specs.Lines.{drop_cr};
-ghost use Rattle.pid_script.specs.ScriptLines.{ask_of};
+ghost use Rattle.pid_script.specs.ScriptLines.{LONGEST, ask_of};
 ghost use Rattle.pid_script.specs.Steps.Progress.{
   AnswersPiece,
   EndsInPiece,
@@ -40,7 +40,7 @@ ghost use Rattle.pid_script.specs.Scripts.{
 ghost use Rattle.pid_script.specs.RegistryStates.{OverStanding};
 
 use crate::answering::answer_line;
-use crate::line::LONGEST_LINE;
+use crate::line::is_too_long;
 use crate::line_end::LineEnd;
 use crate::output::flush;
 use crate::reply::{refuse_long, stop_for_memory};
@@ -62,14 +62,14 @@ fn keep<O: Output>(
 ) -> Result<(), LineEnd>
     ensures kept { OnOk result (kept.new.items ≡ kept.old.items ++ piece.now) }
     // No more of a line is kept than the longest and its CR, however long it goes on.
-    ensures short { OnOk result (length kept.new.items ≤ LONGEST_LINE + 1) }
+    ensures short { OnOk result (length kept.new.items ≤ LONGEST + 1) }
     ensures silent { OnOk result (output.new ≡ output.old) }
     ensures still { OnOk result (held.new.items ≡ held.old.items) }
     ensures unfit { IfErr result (λ e. Unfit e (kept.old.items ++ piece.now)
         (out (O.taken output.old) held.old.items) (out (O.taken output.new) held.new.items)) }
     ensures fault { result ≡ Err LineEnd.WriteFault → IsSome (O.write_fault output.new) }
 {
-    if LONGEST_LINE + 1 < kept.len().saturating_add(piece.len()) {
+    if is_too_long(kept, piece) {
         return Err(refuse_long(output, held));
     }
     match kept.extend_from_slice(piece) {
@@ -186,7 +186,8 @@ fn end_of(answered: Result<(), LineEnd>) -> ScriptEnd
 /// command (`VERB ACCOUNT FIELDS`), `export`, `read FIELDS` or `lookup FIELDS`; an empty line and a
 /// comment (`#`) get no reply, and any other line is refused as 3. Nothing more is answered after a
 /// refusal as 16, 17 or 18, nor after a line of more than 16,777,216 bytes. If the script itself is
-/// out of memory, the reply is the refusal 16, which takes none.
+/// out of memory, the reply is the refusal 16, which takes none; a line that is too long as far as it
+/// was read is refused as 3 all the same.
 ///
 /// At most `turns` reads are made, which bring at most 65,536 bytes for each of them, and at most
 /// one more than bytes are read; one that fails is the last, and so is one that finds nothing to

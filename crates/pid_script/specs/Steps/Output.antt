@@ -1,14 +1,13 @@
 -- What the functions that answer one line leave of the writer, of what is held for it, and of the
 -- registry.
-use Rattle.std.specs.Prelude.{◌≡◌, ◌⊎◌, ℕ, ◌+◌, ◌<◌, ◌≤◌, true, false, List, [], ◌++◌, length}
-use Rattle.std.specs.Prelude.{Option, Some, None, Result, Ok, Err, MatchResult, IfOk, IfErr}
-use Rattle.std.specs.Prelude.{IsErrOf, if◌then◌else◌}
+use Rattle.std.specs.Prelude.{◌≡◌, ◌⊎◌, ℕ, ◌<◌, ◌≤◌, true, false, List, [], ◌++◌, length, Option}
+use Rattle.std.specs.Prelude.{Some, None, Result, Ok, Err, MatchResult, IsErrAnd}
 use Rattle.std.specs.Io.KnownBytes.{Appends}
 use Rattle.pid_ident.specs.Sending.{SendsFront}
 use Rattle.pid_lookup.specs.declared.answer.Answer.{Answer}
 use Rattle.pid_lookup.specs.declared.answering.LookupRefusal.{LookupRefusal}
 use Rattle.pid_lookup.specs.declared.answering.LookupRefusal.TheVariants as lookups
-use Rattle.pid_lookup.specs.Flags.{is_bad}
+use Rattle.pid_reader.specs.Lines.{drop_cr}
 use Rattle.pid_moderation.specs.declared.refusal.Refusal.{Refusal}
 use Rattle.pid_moderation.specs.declared.refusal.Refusal.TheVariants.{BadText, Memory}
 use Rattle.pid_moderation.specs.History.{History}
@@ -102,29 +101,47 @@ refusal_of_names (Err lookups.BadFlags) = None
 refusal_of_names (Err (lookups.Names refusal)) = Some refusal
 refusal_of_names (Err lookups.Memory) = Some Memory
 
--- What was said to a look-up, if what was found is right: an answer is the good one, flags are
--- called bad only if they are, and a refusal is one that stops a script.
-abbrev pub TellsFound : Result (Unit {0}) LineEnd → Result Answer (LookupRefusal Refusal)
-    → (old new : Out) → Type 0
-TellsFound result found old new = (flags : ℕ) (good : Answer)
-    → IfOk found (λ answer. (is_bad flags ≡ false) × (answer ≡ good))
-    → (IsErrOf found lookups.BadFlags → is_bad flags ≡ true)
-    → ((e : Refusal) → IsErrOf found (lookups.Names e) → is_stop e ≡ true)
-    → TellsLine result (if is_bad flags then BAD_FLAGS else answer_line good)
-    (IsGivenStop (refusal_of_names found)) old new
-
--- What was said of the name at a path, or that it has none, if that is right; a refusal is one that
--- stops a script.
-abbrev pub TellsName : Result (Unit {0}) LineEnd → Result (Option (List ℕ)) Refusal
-    → (old new : Out) → Type 0
-TellsName result name old new = (good : Option (List ℕ)) → IfOk name (λ n. n ≡ good)
-    → IfErr name (λ e. is_stop e ≡ true)
-    → TellsLine result (name_line good) (IsGivenStop (refusal_given name)) old new
-
 -- the line of an answer is a reply; or the answer is a stop
 abbrev pub IsReplyOrStop : List ℕ → Result Reply Refusal → Type 0
 IsReplyOrStop reply answer = (outcome_line answer ≡ reply)
     ⊎ ((refusal : Refusal) × (is_stop refusal ≡ true) × (answer ≡ Err refusal))
+
+-- What was said to an answer: the reply that its line is, or the line of its refusal, which stops
+-- the script in place of any reply.
+abbrev pub TellsAnswer : Result (Unit {0}) LineEnd → Result Reply Refusal → (old new : Out) → Type 0
+TellsAnswer result answer old new = (reply : List ℕ) → IsReplyOrStop reply answer
+    → TellsLine result reply (IsGivenStop (refusal_given answer)) old new
+
+-- a reply was said that no refusal stops
+abbrev pub TellsReply : Result (Unit {0}) LineEnd → (reply : List ℕ) → (old new : Out) → Type 0
+TellsReply result reply old new = TellsLine result reply (IsGivenStop None) old new
+
+-- what was said of the name at a path: its line, or that it has none, or what a refusal is answered
+abbrev pub TellsName : Result (Unit {0}) LineEnd → Result (Option (List ℕ)) Refusal
+    → (old new : Out) → Type 0
+TellsName result (Ok name) old new = TellsReply result (name_line name) old new
+TellsName result (Err refusal) old new = TellsAnswer result (Err refusal) old new
+
+-- that memory ran out was said, with all that was held; or the writer failed within that
+abbrev pub SaysMemory : LineEnd → (old new : Out) → Type 0
+SaysMemory Stopped old new = Appends old.taken new.taken (old.held ++ refused_line Memory)
+SaysMemory WriteFault old new = SaysFront old new (refused_line Memory)
+SaysMemory TooLong old new = ⊥
+
+-- the same of a line that is too long
+abbrev pub SaysTooLong : LineEnd → (old new : Out) → Type 0
+SaysTooLong Stopped old new = ⊥
+SaysTooLong WriteFault old new = SaysFront old new (refused_line BadText)
+SaysTooLong TooLong old new = Appends old.taken new.taken (old.held ++ refused_line BadText)
+
+-- what was said of what was found: the line of the answer, that the flags are bad, what a refusal
+-- of the holder of names is answered, or that memory ran out
+abbrev pub TellsFound : Result (Unit {0}) LineEnd → Result Answer (LookupRefusal Refusal)
+    → (old new : Out) → Type 0
+TellsFound result (Ok answer) old new = TellsReply result (answer_line answer) old new
+TellsFound result (Err lookups.BadFlags) old new = TellsReply result BAD_FLAGS old new
+TellsFound result (Err (lookups.Names refusal)) old new = TellsAnswer result (Err refusal) old new
+TellsFound result (Err lookups.Memory) old new = IsErrAnd result (λ end. SaysMemory end old new)
 
 -- what was answered goes on if it is no stop
 abbrev pub GoesOnAfter : Result (Unit {0}) LineEnd → Option Refusal → Type 0
@@ -132,24 +149,13 @@ GoesOnAfter (Ok x) (Some refusal) = is_stop refusal ≡ false
 GoesOnAfter (Ok x) None = Unit {0}
 GoesOnAfter (Err end) given = Unit {0}
 
--- a line that is too long already; or one that is not, for which there is no memory
-abbrev pub IsUnfit : List ℕ → List ℕ → Type 0
-IsUnfit bytes text = ((text ≡ refused_line Memory) × (length bytes ≤ lines.LONGEST + 1))
-    ⊎ ((text ≡ refused_line BadText) × (lines.LONGEST + 1 < length bytes))
-
--- the writer failed within what was held and the line for bytes that do not fit
-pub record UnfitFront (bytes : List ℕ) (old new : Out) : Type 0 where
-  pub text : List ℕ
-  pub is : IsUnfit bytes text
-  pub front : SaysFront old new text
-
--- why bytes of a line are not kept, and what was said
-abbrev pub Unfit : LineEnd → List ℕ → Out → Out → Type 0
-Unfit Stopped bytes old new = Appends old.taken new.taken (old.held ++ refused_line Memory)
-    × (length bytes ≤ lines.LONGEST + 1)
-Unfit WriteFault bytes old new = UnfitFront bytes old new
-Unfit TooLong bytes old new = Appends old.taken new.taken (old.held ++ refused_line BadText)
-    × (lines.LONGEST + 1 < length bytes)
+-- Why bytes of a line are not kept, and what was said: as far as they go the line is not too long,
+-- and there is no memory for them; or it is too long already.
+pub data Unfit (end : LineEnd) (bytes : List ℕ) (old new : Out) : Type 0 where
+  NoMemory : length (drop_cr bytes) ≤ lines.LONGEST → SaysMemory end old new
+      → Unfit end bytes old new
+  AlreadyLong : lines.LONGEST < length (drop_cr bytes) → SaysTooLong end old new
+      → Unfit end bytes old new
 
 module _ {R : Type 0} (registry : Ghosts R) where
   -- the line was answered, and nothing is held any more if it was a command
@@ -164,11 +170,16 @@ module _ {R : Type 0} (registry : Ghosts R) where
     pub becomes : Becomes registry r h new h
     pub long : ask ≡ lines.TooLong
 
+  -- the line was stopped, and is not too long
+  pub record IsStoppedAt (r : R) (h : History) (new : R) (ask : Ask) : Type 0 where
+    pub stops : StopsBehind registry r h new h (command_of ask)
+    pub fits : ask ≡ lines.TooLong → ⊥
+
   -- what is left of the registry
   abbrev pub LeavesAfter : Result (Unit {0}) LineEnd → R → History → R → Ask → Out → Type 0
   LeavesAfter (Ok x) r h new ask left = GoesBehind r h new ask left
   LeavesAfter (Err TooLong) r h new ask left = EndsBehind r h new ask
-  LeavesAfter (Err Stopped) r h new ask left = StopsBehind registry r h new h (command_of ask)
+  LeavesAfter (Err Stopped) r h new ask left = IsStoppedAt r h new ask
   LeavesAfter (Err WriteFault) r h new ask left = BecomesEither registry r h new h
       (after_all h (command_of ask))
 

@@ -1,5 +1,5 @@
 -- How far a script has come within the text that was read.
-use Rattle.std.specs.Prelude.{◌≡◌, ◌≤◌, ◌+◌, ℕ, List, [], ◌++◌, length, Option, Result, Ok, Err}
+use Rattle.std.specs.Prelude.{◌≡◌, ◌≤◌, ◌+◌, ℕ, List, [], ◌++◌, length, Option, Some, Result, Ok, Err}
 use Rattle.std.specs.Prelude.{IfErr, OnOk}
 use Rattle.std.specs.Io.KnownBytes.{Appends}
 use Rattle.pid_reader.specs.Lines.{lines_of}
@@ -16,7 +16,7 @@ use Rattle.pid_script.specs.Replies.{replies, calls_for_lines, commands_of_lines
 use Rattle.pid_script.specs.Replies.{history_after}
 use Rattle.pid_script.specs.ScriptLines.{LONGEST}
 use Rattle.pid_script.specs.Steps.Output.{MOST_HELD, Out}
-use Rattle.pid_script.specs.Scripts.{NoneTooLong, NoneCalls, passage, AnswersLines, StopsAtLine}
+use Rattle.pid_script.specs.Scripts.{NoneTooLong, NoneCalls, passage, AnswersLines, EndsStopped}
 use Rattle.pid_script.specs.Scripts.{EndsTooLong, FailsToWrite}
 use Rattle.pid_script.specs.RegistryStates.{Becomes, ShowsOrHasFailed}
 
@@ -48,21 +48,22 @@ module _ {R : Type 0} (registry : Ghosts R) where
     pub short : length kept ≤ LONGEST + 1
     pub answered : Answered h start old new now (whole_lines front)
 
-  -- a line ended it
-  abbrev pub Ended : LineEnd → History → Option (List ℕ) → R → R → Out → List (List ℕ) → Type 0
-  Ended line_ends.Stopped h start old new now lines = StopsAtLine registry h
-      (passage old new start now.taken) lines
-  Ended line_ends.WriteFault h start old new now lines = FailsToWrite registry h
-      (passage old new start now.taken) lines
-  Ended line_ends.TooLong h start old new now lines = EndsTooLong registry h
-      (passage old new start now.taken) lines
+  -- a line of a text ended it, of which this rest was not read
+  abbrev pub Ended : LineEnd → History → Option (List ℕ) → R → R → Out → (text rest : List ℕ)
+      → Type 0
+  Ended line_ends.Stopped h start old new now text rest = EndsStopped registry h
+      (passage old new start now.taken) text (Some rest)
+  Ended line_ends.WriteFault h start old new now text rest = FailsToWrite registry h
+      (passage old new start now.taken) (lines_of text)
+  Ended line_ends.TooLong h start old new now text rest = EndsTooLong registry h
+      (passage old new start now.taken) (lines_of text)
 
   -- a text was answered, or why not
   abbrev pub EndsText : Result (Unit {0}) LineEnd → History → Option (List ℕ) → R → R → Out → List ℕ
       → Type 0
   EndsText (Ok x) h start old new now text =
       AnswersLines registry h (passage old new start now.taken) (lines_of text)
-  EndsText (Err end) h start old new now text = Ended end h start old new now (lines_of text)
+  EndsText (Err end) h start old new now text = Ended end h start old new now text []
 
   -- whatever the text before is that was answered so far, over whatever history
   abbrev pub FromAnswered : R → R → Out → List ℕ
@@ -84,7 +85,7 @@ module _ {R : Type 0} (registry : Ghosts R) where
   EndsInPiece result old new was now kept piece = registry.showing.is_clean new → (h : History)
       (start : Option (List ℕ)) (first : R) (text more : List ℕ)
       → ShowsOrHasFailed registry first h → HasAnswered h start first old was kept text
-      → IfErr result (λ e. Ended e h start first new now (lines_of ((text ++ piece) ++ more)))
+      → IfErr result (λ e. Ended e h start first new now ((text ++ piece) ++ more) more)
 
   -- the text has ended, and its last line is answered, or ended it
   abbrev pub EndsAll : Result (Unit {0}) LineEnd → R → R → Out → Out → List ℕ → Type 0

@@ -14,7 +14,7 @@ returns-in-Unclear-clause-ends g c = λ honest h stands. subst (λ a. AnswersLin
 
 pub returns-in-TooLong-clause-ends : goal.returns-in-TooLong-clause-ends
 returns-in-TooLong-clause-ends g c = λ honest h stands. subst (λ a. AnswersLine g.R.Moderated (Err c.refuse_long.result) a h c.args.registry.now (out (g.O.Output.taken c.args.output.now) c.args.held.now.items) c.args.registry.now (out (g.O.Output.taken c.refuse_long.new.output) c.refuse_long.new.held.items)) c.in-TooLong.ensures
-    (long g.R.Moderated c.refuse_long.result h c.args.registry.now (out (g.O.Output.taken c.args.output.now) c.args.held.now.items) (out (g.O.Output.taken c.refuse_long.new.output) c.refuse_long.new.held.items) c.refuse_long.ensures.told c.refuse_long.ensures.goes)
+    (long g.R.Moderated c.refuse_long.result h c.args.registry.now (out (g.O.Output.taken c.args.output.now) c.args.held.now.items) (out (g.O.Output.taken c.refuse_long.new.output) c.refuse_long.new.held.items) c.refuse_long.ensures.told)
 
 pub returns-in-Nothing-clause-calls : goal.returns-in-Nothing-clause-calls
 returns-in-Nothing-clause-calls g c = go_still g.R.Moderated.showing c.args.registry.now

@@ -24,7 +24,7 @@ pub returns-in-Err-clause-ends : goal.returns-in-Err-clause-ends
 returns-in-Err-clause-ends g c = λ honest h stands.
     no_lookup g.R.Moderated c.stop_for_memory.result c.args.form.now h c.args.registry.now
     (out (g.O.Output.taken c.args.output.now) c.args.held.now.items) (out (g.O.Output.taken c.stop_for_memory.new.output) c.stop_for_memory.new.held.items)
-    c.stop_for_memory.ensures.told c.stop_for_memory.ensures.fits
+    c.stop_for_memory.ensures.told
 
 pub returns-in-Ok-Some-clause-calls : goal.returns-in-Ok-Some-clause-calls
 returns-in-Ok-Some-clause-calls g c = go_one g.R.Moderated.showing c.args.registry.now c.lookup-found.new.self nothing_sent c.lookup-found.ensures.calls

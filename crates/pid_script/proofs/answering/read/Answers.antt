@@ -1,8 +1,5 @@
-use Rattle.std.proofs.Common.{◌≡◌, ap, refl}
+use Rattle.std.proofs.Common.{ap, refl}
 use Rattle.std.specs.Prelude.{is_ok}
-use Rattle.pid_ident.specs.PathTexts.{path_text}
-use Rattle.pid_moderation.specs.Items.{name_at}
-use Rattle.pid_moderation.specs.Views.{items_of}
 use Rattle.pid_script.specs.Asking.{path_asked}
 use Rattle.pid_script.specs.Replies.{name_reply}
 use Rattle.pid_script.specs.Steps.Output.{out}
@@ -29,9 +26,9 @@ returns-in-Err-clause-calls g c = go_still g.R.Moderated.showing c.args.registry
 pub returns-in-Ok-clause-ends : goal.returns-in-Ok-clause-ends
 returns-in-Ok-clause-ends g c = λ honest h stands.
     named g.R.Moderated c.send_name.result c.read-name.result c.args.form.now c.in-Ok.path h c.args.registry.now c.read-name.new.self
-    (out (g.O.Output.taken c.args.output.now) c.args.held.now.items) (out (g.O.Output.taken c.send_name.new.output) c.send_name.new.held.items) (λ name. name ≡ name_at (path_text c.in-Ok.path) (items_of h))
+    (out (g.O.Output.taken c.args.output.now) c.args.held.now.items) (out (g.O.Output.taken c.send_name.new.output) c.send_name.new.held.items)
     c.in-Ok.ensures.ok (c.read-name.ensures.told honest h) (c.read-name.ensures.kept honest h) c.read-name.ensures.failed
-    (c.send_name.ensures.told (name_at (path_text c.in-Ok.path) (items_of h))) c.send_name.ensures.goes_on c.send_name.ensures.fits c.read-name.ensures.calls stands
+    c.send_name.ensures.told c.send_name.ensures.goes_on c.send_name.ensures.fits c.read-name.ensures.calls stands
 
 pub returns-in-Ok-clause-fault : goal.returns-in-Ok-clause-fault
 returns-in-Ok-clause-fault g c = c.send_name.ensures.fault

@@ -1,21 +1,27 @@
-use Rattle.std.proofs.Common.{◌++◌, arith, length-append}
-use Rattle.pid_script.specs.Steps.Output.{out}
+use Rattle.std.proofs.Common.{◌≤◌, ℕ, List, ◌++◌, length, ap, ◌∙◌}
+use Rattle.std.specs.Prelude.{nat_lt}
+use Rattle.pid_reader.specs.Lines.{drop_cr}
+use Rattle.pid_script.specs.ScriptLines.{LONGEST}
+use Rattle.pid_script.specs.Steps.Output.{NoMemory, AlreadyLong}
 use Rattle.pid_script.proofs.Asked.{err_fault}
-use Rattle.pid_script.proofs.OtherLines.{unfit_memory, unfit_long}
+use Rattle.pid_script.proofs.ScriptAsks.{is_longer, is_shorter, kept_short}
 use Rattle.pid_script.proofs.script.keep.Goals as goal
 
-pub returns-then-saturating_add-clause-unfit : goal.returns-then-saturating_add-clause-unfit
-returns-then-saturating_add-clause-unfit g c =
-    unfit_long c.refuse_long.result (c.args.kept.now.items ++ c.args.piece.now) (out (g.O.Output.taken c.args.output.now) c.args.held.now.items) (out (g.O.Output.taken c.refuse_long.new.output) c.refuse_long.new.held.items)
-    c.refuse_long.ensures.told c.refuse_long.ensures.goes (omega (arith, length-append c.args.kept.now.items c.args.piece.now))
+pub returns-then-is_too_long-clause-unfit : goal.returns-then-is_too_long-clause-unfit
+returns-then-is_too_long-clause-unfit g c =
+    AlreadyLong (is_longer _ (c.if-is_too_long.ensures ∙ ap (λ (k : List ℕ). nat_lt LONGEST (length (drop_cr (k ++ c.args.piece.now)))) c.deref.ensures.value)) c.refuse_long.ensures.told
 
 pub returns-in-Err-clause-unfit : goal.returns-in-Err-clause-unfit
 returns-in-Err-clause-unfit g c =
-    unfit_memory c.stop_for_memory.result (c.args.kept.now.items ++ c.args.piece.now) (out (g.O.Output.taken c.args.output.now) c.args.held.now.items) (out (g.O.Output.taken c.stop_for_memory.new.output) c.stop_for_memory.new.held.items)
-    c.stop_for_memory.ensures.told c.stop_for_memory.ensures.fits (omega (arith, length-append c.args.kept.now.items c.args.piece.now))
+    NoMemory (is_shorter _ (c.if-is_too_long.ensures ∙ ap (λ (k : List ℕ). nat_lt LONGEST (length (drop_cr (k ++ c.args.piece.now)))) c.deref.ensures.value)) c.stop_for_memory.ensures.told
 
-pub returns-then-saturating_add-clause-fault : goal.returns-then-saturating_add-clause-fault
-returns-then-saturating_add-clause-fault g c = err_fault c.refuse_long.result c.refuse_long.ensures.fault
+pub returns-in-Ok-clause-short : goal.returns-in-Ok-clause-short
+returns-in-Ok-clause-short g c =
+    let fits : length (drop_cr (c.args.kept.now.items ++ c.args.piece.now)) ≤ LONGEST = is_shorter _ (c.if-is_too_long.ensures ∙ ap (λ (k : List ℕ). nat_lt LONGEST (length (drop_cr (k ++ c.args.piece.now)))) c.deref.ensures.value) in
+    kept_short (c.args.kept.now.items ++ c.args.piece.now) c.extend_from_slice.new.self.items c.in-Ok.ensures.items fits
+
+pub returns-then-is_too_long-clause-fault : goal.returns-then-is_too_long-clause-fault
+returns-then-is_too_long-clause-fault g c = err_fault c.refuse_long.result c.refuse_long.ensures.fault
 
 pub returns-in-Err-clause-fault : goal.returns-in-Err-clause-fault
 returns-in-Err-clause-fault g c = err_fault c.stop_for_memory.result c.stop_for_memory.ensures.fault
