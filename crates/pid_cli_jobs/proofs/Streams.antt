@@ -7,7 +7,7 @@ use Rattle.pid_http_listener.specs.Streams.{Exchange}
 use Rattle.pid_cli_jobs.specs.declared.job_end.JobEnd.{JobEnd}
 use Rattle.pid_cli_jobs.specs.declared.serving.Port.{Port}
 use Rattle.pid_cli_jobs.specs.Lines.{Streams}
-use Rattle.pid_cli_jobs.specs.Machines.{GivesStreams, InTurn, Opening, Openings}
+use Rattle.pid_cli_jobs.specs.Machines.{GivesStreams, InTurn, MachineCall, MachineCalls}
 use Rattle.pid_cli_jobs.specs.Serving.{HasServed}
 
 -- if each leads on from one server to the next, it does so from what the one holds to what the
@@ -21,7 +21,7 @@ in_turn P Q held each first last (x ∷ xs) (next, answers, turn) =
     (held next, each first next x answers, in_turn P Q held each next last xs turn)
 
 -- what holds of the streams that were given, so that another fact does
-pub given : {R : Type 0} (before after : Option (List (Opening R))) (connections : ℕ) (serving : Serving)
+pub given : {R : Type 0} (before after : Option (List (MachineCall R))) (connections : ℕ) (serving : Serving)
     {Holds Then : List Exchange → Type 0} → ((xs : List Exchange) → Holds xs → Then xs)
     → GivesStreams before after connections serving Holds → GivesStreams before after connections serving Then
 given None after connections serving turn gives = tt
@@ -31,7 +31,7 @@ given (Some all) after connections serving turn (streams, counted, is, holds) =
 -- what was served by a server was served over what it holds
 pub served_over : {S T R : Type 0} (P : S → S → Exchange → Type 0) (Q : T → T → Exchange → Type 0)
     (held : S → T) → ((a b : S) (x : Exchange) → P a b x → Q (held a) (held b) x)
-    → (first last : S) (port : Port) (live now : Bool) (asked : Openings R) (w : Streams)
+    → (first last : S) (port : Port) (live now : Bool) (asked : MachineCalls R) (w : Streams)
     (end : JobEnd) → live ≡ now
     → HasServed (λ xs. InTurn P first xs last) port live asked w end
     → HasServed (λ xs. InTurn Q (held first) xs (held last)) port now asked w end

@@ -18,7 +18,7 @@ use Rattle.pid_cli_jobs.specs.declared.on_files.FileJob.TheVariants as jobs
 use Rattle.pid_cli_jobs.specs.Files.{OpensFiles}
 use Rattle.pid_cli_jobs.specs.Inputs.{InputUse}
 use Rattle.pid_cli_jobs.specs.Jobs.{JobReads, Work, work_of}
-use Rattle.pid_cli_jobs.specs.Machines.{AsksFor, DatabaseAt, Opening}
+use Rattle.pid_cli_jobs.specs.Machines.{AsksFor, DatabaseAt, MachineCall}
 use Rattle.pid_cli_jobs.specs.Sessions.{Migrates, TellsUnopened, WorksOn}
 use Rattle.pid_cli_jobs.specs.Wrote.{AsksNothing, AsksOnce, Wrote, from_there}
 
@@ -53,7 +53,7 @@ module _ {E R W : Type 0} (files : disk.Ghosts E) (image : Image) (writer : outp
   -- the database at the path was asked for, a new connection was opened on what the files held, and
   -- the task was done there
   pub record OpensAndDoes (path : List ℕ) (task : FileTask) (w : Wrote R W) : Type 0 where
-    pub between : Option (List (Opening R))
+    pub between : Option (List (MachineCall R))
     pub asks : AsksFor w.asked.before between (DatabaseAt path None)
     pub conn : Held (FileStore E files)
     pub opens : OpensFiles image conn

@@ -21,7 +21,7 @@ use Rattle.pid_cli_jobs.specs.Ends.{PrintsReply}
 use Rattle.pid_cli_jobs.specs.Inputs.{InputUse}
 use Rattle.pid_cli_jobs.specs.Jobs.{ToAnswer, ToImport, ToServe}
 use Rattle.pid_cli_jobs.specs.Lookups.{IsReadFrom, LooksUpText, fields_given}
-use Rattle.pid_cli_jobs.specs.Machines.{AsksFor, Opening, TextAt}
+use Rattle.pid_cli_jobs.specs.Machines.{AsksFor, MachineCall, TextAt}
 use Rattle.pid_cli_jobs.specs.OnFiles.{DoesInFiles, ToMigrate, ToWork, WorksOnNew}
 use Rattle.pid_cli_jobs.specs.Wrote.{AsksNothing, AsksOnce, IsSilent, TellsMemory, Wrote}
 use Rattle.pid_cli_jobs.specs.Wrote.{from_there, streams_of}
@@ -70,7 +70,7 @@ module _ {E R W : Type 0} (files : disk.Ghosts E) (image : Image) (holds : R →
     NoFileToImport : AsksOnce w (TextAt paths.1 None) → w.end ≡ FileFailed → IsSilent w
         → ImportsAt paths account key w
     -- the job is handed a reader of the file that has kept no fault yet
-    ImportsHere : (file : R) (between : Option (List (Opening R)))
+    ImportsHere : (file : R) (between : Option (List (MachineCall R)))
         → AsksFor w.asked.before between (TextAt paths.1 (Some file))
         → (input : InputUse) → input.to_come ≡ holds file → input.fault_before ≡ None
         → DoesInFiles files image writer paths.0 (ToWork (ToImport account key input))

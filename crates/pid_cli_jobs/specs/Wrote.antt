@@ -7,7 +7,7 @@ use Rattle.pid_file.specs.Writing.{TriesLine, WriterUse, use_of}
 use Rattle.pid_cli_jobs.specs.declared.job_end.JobEnd.{JobEnd}
 use Rattle.pid_cli_jobs.specs.declared.job_end.JobEnd.TheVariants.{Told}
 use Rattle.pid_cli_jobs.specs.Lines.{Streams}
-use Rattle.pid_cli_jobs.specs.Machines.{AsksFor, Opening, Openings}
+use Rattle.pid_cli_jobs.specs.Machines.{AsksFor, MachineCall, MachineCalls}
 
 -- The writer of a job before it and after it, what became of the writer of faults, what was asked
 -- of the machine, and how the job ended.
@@ -15,12 +15,12 @@ pub record Wrote (R W : Type 0) : Type 0 where
   pub output : W
   pub output_after : W
   pub faults : WriterUse
-  pub asked : Openings R
+  pub asked : MachineCalls R
   pub end : JobEnd
 
 -- the same, of what was before and after
 abbrev pub job_wrote : {R W : Type 0} → W × W → WriterUse
-    → Option (List (Opening R)) × Option (List (Opening R)) → JobEnd → Wrote R W
+    → Option (List (MachineCall R)) × Option (List (MachineCall R)) → JobEnd → Wrote R W
 job_wrote output faults asked end = record {
   output = output.0;
   output_after = output.1;
@@ -50,9 +50,9 @@ pub record TellsMemory {R W : Type 0} (w : Wrote R W) : Type 0 where
 abbrev pub AsksNothing : {R W : Type 0} → Wrote R W → Type 0
 AsksNothing w = w.asked.after ≡ w.asked.before
 
-abbrev pub AsksOnce : {R W : Type 0} → Wrote R W → Opening R → Type 0
+abbrev pub AsksOnce : {R W : Type 0} → Wrote R W → MachineCall R → Type 0
 AsksOnce w one = AsksFor w.asked.before w.asked.after one
 
 -- the same job, of which the first part had asked for so much
-abbrev pub from_there : {R W : Type 0} → Wrote R W → Option (List (Opening R)) → Wrote R W
+abbrev pub from_there : {R W : Type 0} → Wrote R W → Option (List (MachineCall R)) → Wrote R W
 from_there w between = record w { asked = record w.asked { before = between } }

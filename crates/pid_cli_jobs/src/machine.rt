@@ -27,7 +27,7 @@ pub trait Machine {
       DatabaseAt,
       GivesStreams,
       InTurn,
-      Opening,
+      MachineCall,
       PortAt,
       TextAt,
       why_unopened,
@@ -43,7 +43,7 @@ pub trait Machine {
     ghost port_of: { Self.Listener → ℕ };
 
     /// What it was asked for so far and what came of that, in order, if it keeps that.
-    ghost asked: { Self → Option (List (Opening Self.Opened)) } = { λ _. None };
+    ghost asked: { Self → Option (List (MachineCall Self.Opened)) } = { λ _. None };
 
     fn alloc(&self) -> Global;
 

@@ -11,7 +11,7 @@ use Rattle.pid_cli_jobs.specs.declared.job_end.JobEnd.{JobEnd}
 use Rattle.pid_cli_jobs.specs.declared.job_end.JobEnd.TheVariants.{FileFailed}
 use Rattle.pid_cli_jobs.specs.declared.serving.Port.{Port}
 use Rattle.pid_cli_jobs.specs.Lines.{Streams}
-use Rattle.pid_cli_jobs.specs.Machines.{InTurn, Opening}
+use Rattle.pid_cli_jobs.specs.Machines.{InTurn, MachineCall}
 use Rattle.pid_cli_jobs.specs.Serving.{HasServed, listening_line}
 
 -- 127.0.0.1 (RFC 1122, 3.2.1.3) and this port: no other machine reaches it
@@ -24,7 +24,8 @@ pub record IsLoopback (address : SocketAddr) (port : ℕ) : Type 0 where
 module _ {S R : Type 0} (server : servers.Ghosts S) (change : S × S) where
   -- After the line of where it listens a server was given streams in turn, and it is reported how
   -- many; or that line did not go out whole, and it was given none.
-  pub data GivesTo (port : Port) (asked : Option (List (Opening R)) × Option (List (Opening R)))
+  pub data GivesTo (port : Port)
+      (asked : Option (List (MachineCall R)) × Option (List (MachineCall R)))
       (w : Streams) (end : JobEnd) : Type 0 where
     GaveNone : FailsWithin w.output (listening_line port.number) → w.faults.after ≡ w.faults.before
         → asked.1 ≡ asked.0 → end ≡ FileFailed → change.1 ≡ change.0

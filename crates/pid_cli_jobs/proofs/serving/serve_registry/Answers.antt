@@ -8,7 +8,7 @@ use Rattle.pid_service.specs.declared.registry.Registry.{Registry}
 use Rattle.pid_service.specs.Registries.{is_live}
 use Rattle.pid_cli_jobs.specs.declared.job_end.JobEnd.TheVariants.{Told}
 use Rattle.pid_cli_jobs.specs.declared.serving.Port.{Port}
-use Rattle.pid_cli_jobs.specs.Machines.{AsksFor, Opening, PortAt}
+use Rattle.pid_cli_jobs.specs.Machines.{AsksFor, MachineCall, PortAt}
 use Rattle.pid_cli_jobs.specs.Serving.{AnswersStream, Served, Serves, Unbound, Unheard, Unrouted}
 use Rattle.pid_cli_jobs.specs.Steps.Serving.{Gave, GaveNone, GivesTo}
 use Rattle.pid_cli_jobs.specs.Wrote.{Wrote, streams_of}
@@ -19,7 +19,7 @@ use Rattle.pid_cli_jobs.proofs.serving.serve_registry.Goals as goal
 served : {S R W T : Type 0} (store : Ghosts S) (server : servers.Ghosts T)
     (held : T → Registry S store) (change : T × T) (new : Registry S store)
     (writer : outputs.Ghosts W) (port : Port) (w : Wrote R W)
-    (between : Option (List (Opening R)))
+    (between : Option (List (MachineCall R)))
     → ((a b : T) (x : Exchange) → server.answers a b x → AnswersStream store (held a) (held b) x)
     → ((a : T) → server.live a ≡ is_live (held a))
     → held change.1 ≡ new
