@@ -31,7 +31,7 @@ given (Some all) after connections serving turn (streams, counted, is, holds) =
 -- what was served by a server was served over what it holds
 pub served_over : {S T R : Type 0} (P : S → S → Exchange → Type 0) (Q : T → T → Exchange → Type 0)
     (held : S → T) → ((a b : S) (x : Exchange) → P a b x → Q (held a) (held b) x)
-    → (first last : S) (port : Port) (live now : Bool) (asked : MachineCalls R) (w : Streams)
+    → (first last : S) (port : Port) (live now : Bool × Bool) (asked : MachineCalls R) (w : Streams)
     (end : JobEnd) → live ≡ now
     → HasServed (λ xs. InTurn P first xs last) port live asked w end
     → HasServed (λ xs. InTurn Q (held first) xs (held last)) port now asked w end

@@ -1,5 +1,5 @@
 -- What a job asks of the machine that it runs on. Choices of this project.
-use Rattle.std.specs.Prelude.{◌≡◌, ℕ, Bool, List, [], ◌∷◌, ◌++◌, length}
+use Rattle.std.specs.Prelude.{◌≡◌, ℕ, Bool, true, List, [], ◌∷◌, ◌++◌, length}
 use Rattle.std.specs.Prelude.{Option, None, Some, IfSome, Result, Ok, Err}
 use Rattle.pid_http_listener.specs.declared.serving.Serving.{Serving}
 use Rattle.pid_http_listener.specs.declared.serving.ServingEnd.{ServingEnd}
@@ -38,6 +38,11 @@ abbrev pub InTurn : {S : Type 0} → (S → S → Exchange → Type 0) → S →
 InTurn Answers first [] last = last ≡ first
 InTurn Answers first (stream ∷ streams) last = (next : _) × Answers first next stream
     × InTurn Answers next streams last
+
+-- a stream came to something that was live, and was answered as `Answers` says
+abbrev pub WhileLive : {S : Type 0} → (S → Bool) → (S → S → Exchange → Type 0) → S → S → Exchange
+    → Type 0
+WhileLive live Answers old new stream = (live old ≡ true) × Answers old new stream
 
 -- The streams of so many connections were to be given to a server, once, and that ended so, by what
 -- was asked for before and after, if that is kept. Of those given this holds.

@@ -20,7 +20,7 @@ use Rattle.pid_cli_jobs.specs.declared.job_end.JobEnd.{JobEnd}
 use Rattle.pid_cli_jobs.specs.declared.job_end.JobEnd.TheVariants.{Told, FileFailed}
 use Rattle.pid_cli_jobs.specs.declared.serving.Port.{Port}
 use Rattle.pid_cli_jobs.specs.Lines.{PrintsLine, Streams, count_line}
-use Rattle.pid_cli_jobs.specs.Machines.{AsksFor, GivesStreams, InTurn, PortAt}
+use Rattle.pid_cli_jobs.specs.Machines.{AsksFor, GivesStreams, InTurn, PortAt, WhileLive}
 use Rattle.pid_cli_jobs.specs.Machines.{MachineCall, MachineCalls}
 use Rattle.pid_cli_jobs.specs.Wrote.{AsksOnce, TellsMemory, Wrote, streams_of}
 
@@ -64,10 +64,10 @@ pub record AnswersStream {S : Type 0} (store : Ghosts S) (old new : Registry S s
   })
 
 -- Streams of at most so many connections were served, and of what became of them this holds. The
--- server is live after the last one, unless the serving ended because it is not. It is reported how
--- many there were.
+-- server was live before them and is live after them, unless the serving ended because it is not.
+-- It is reported how many there were.
 pub record ReportsStreams {R : Type 0} (Holds : List Exchange → Type 0) (connections : ℕ)
-    (live : Bool) (asked : MachineCalls R) (w : Streams) (end : JobEnd) : Type 0 where
+    (live : Bool × Bool) (asked : MachineCalls R) (w : Streams) (end : JobEnd) : Type 0 where
   pub serving : Serving
   pub counted : CountsStreams serving.end connections serving.streams
   pub lasts : IsLiveAt serving.end serving.streams live
@@ -75,8 +75,8 @@ pub record ReportsStreams {R : Type 0} (Holds : List Exchange → Type 0) (conne
   pub reports : ReportsServing serving.end serving.streams w end
 
 -- the same, after the line of where it listens
-pub record HasServed {R : Type 0} (Holds : List Exchange → Type 0) (port : Port) (live : Bool)
-    (asked : MachineCalls R) (w : Streams) (end : JobEnd) : Type 0 where
+pub record HasServed {R : Type 0} (Holds : List Exchange → Type 0) (port : Port)
+    (live : Bool × Bool) (asked : MachineCalls R) (w : Streams) (end : JobEnd) : Type 0 where
   -- what the output had taken before the first of them
   pub between : Option (List ℕ)
   pub listens : Appends w.output.before between (listening_line port.number)
@@ -96,9 +96,11 @@ module _ {S R W : Type 0} (store : Ghosts S) (writer : outputs.Ghosts W) where
     Unheard : AsksOnce w (PortAt port.number true) → new ≡ old
         → FailsWithin (use_of writer w.output w.output_after) (listening_line port.number)
         → w.faults.after ≡ w.faults.before → w.end ≡ FileFailed → Serves port old new w
-    -- each stream was answered over the registry in turn, and that was given no other command
+    -- each stream was answered in turn over the registry, which was live before it and was given
+    -- no other command
     Served : (between : Option (List (MachineCall R)))
         → AsksFor w.asked.before between (PortAt port.number true)
-        → HasServed (λ streams. InTurn (AnswersStream store) old streams new) port (is_live new)
-        (record w.asked { before = between }) (streams_of writer w) w.end
+        → HasServed (λ streams. InTurn (WhileLive is_live (AnswersStream store)) old streams new)
+        port (is_live old, is_live new) (record w.asked { before = between }) (streams_of writer w)
+        w.end
         → Serves port old new w

@@ -30,6 +30,7 @@ pub trait Machine {
       MachineCall,
       PortAt,
       TextAt,
+      WhileLive,
       why_unopened,
     };
 
@@ -71,8 +72,8 @@ pub trait Machine {
         ensures asks { AsksFor (asked self.old) (asked self.new) (PortAt port (is_some result)) }
         ensures at { IfSome result (λ listener. port_of listener ≡ port) };
 
-    /// Gives the streams of so many connections to a server, one after the other. Stops if the
-    /// server is not live after a stream, and if no connection can be accepted.
+    /// Gives the streams of so many connections to a server, one after the other, each while it is
+    /// live. Stops if it is not, and if no connection can be accepted.
     fn serve<T: StreamServer>(
         &mut self,
         listener: &Self::Listener,
@@ -81,10 +82,10 @@ pub trait Machine {
     ) -> Serving
         ensures goes { T.goes server.old server.new }
         ensures streams { CountsStreams result.end connections result.streams }
-        ensures live { IsLiveAt result.end result.streams (T.live server.new) }
+        ensures live { IsLiveAt result.end result.streams (T.live server.old, T.live server.new) }
         ensures counted { IsGivenMore result.streams (T.given server.old) (T.given server.new) }
         ensures gives { GivesStreams (asked self.old) (asked self.new) connections result
-            (λ streams. InTurn T.answers server.old streams server.new) };
+            (λ streams. InTurn (WhileLive T.live T.answers) server.old streams server.new) };
 }
 
 /// A port of this machine that is listened on.

@@ -119,9 +119,8 @@ fn give_streams<M: Machine, T: StreamServer, O: Output, F: Output>(
 /// Listens on a port of this machine and serves a registry to so many connections, one at a time.
 ///
 /// Prints where it listens before it accepts the first connection, and the number of streams that
-/// were started at the end. The exit status is 0 if both lines went out, all connections were
-/// served, and the registry is live after the last one; else it is 3. With no connections it is 0
-/// if both lines went out, even if the registry had failed before.
+/// were started at the end. A registry that has failed is given no stream. The exit status is 0 if
+/// both lines went out, all connections were served, and the registry is live; else it is 3.
 pub fn serve_registry<M: Machine, S: Alter + Drop, O: Output, F: Output>(
     machine: &mut M,
     registry: &mut Registry<S>,

@@ -1,4 +1,5 @@
 //! One connection.
+ghost use Rattle.std.specs.Prelude.{◌≡◌, true};
 ghost use Rattle.pid_http_listener.specs.Streams.{IsGivenMore};
 
 use crate::closing::close;
@@ -38,6 +39,7 @@ fn serve_buffered<S: StreamServer, R: Read + Drop, W: Write + Drop>(
     writer: BufWriter<W>,
     server: &mut S,
 ) -> io::Result<()>
+    requires { S.live server.old ≡ true }
     ensures goes { S.goes server.old server.new }
     ensures counted { IsGivenMore 1 (S.given server.old) (S.given server.new) }
 {
@@ -57,6 +59,7 @@ fn serve_bare<S: StreamServer, R: Read + Drop, W: Write + Drop>(
     writer: W,
     server: &mut S,
 )
+    requires { S.live server.old ≡ true }
     ensures goes { S.goes server.old server.new }
     ensures counted { IsGivenMore 1 (S.given server.old) (S.given server.new) }
 {
@@ -69,6 +72,7 @@ fn serve_bare<S: StreamServer, R: Read + Drop, W: Write + Drop>(
 /// replies, and no one else does; if memory for its buffers is refused the stream is served
 /// without them.
 pub(crate) fn serve_connection<S: StreamServer>(alloc: Global, stream: &TcpStream, server: &mut S)
+    requires { S.live server.old ≡ true }
     ensures goes { S.goes server.old server.new }
     ensures counted { IsGivenMore 1 (S.given server.old) (S.given server.new) }
 {

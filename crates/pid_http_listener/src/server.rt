@@ -1,5 +1,5 @@
 //! What serves the streams of connections.
-ghost use Rattle.std.specs.Prelude.{◌≡◌, ◌+◌, ◌≤◌};
+ghost use Rattle.std.specs.Prelude.{◌≡◌, true, ◌+◌, ◌≤◌};
 ghost use Rattle.pid_file.specs.Writing.{use_of};
 ghost use Rattle.pid_http_listener.specs.Streams.{IsGivenMore, exchange, use_of_reader};
 
@@ -30,6 +30,7 @@ pub trait StreamServer {
 
     /// Serves the stream of one connection, in at most so many reads.
     fn serve<I: Input, O: Output>(&mut self, input: &mut I, output: &mut O, turns: u64) -> Served
+        requires { live self.old ≡ true }
         ensures goes { goes self.old self.new }
         ensures answers { answers self.old self.new
             (exchange (use_of_reader I.Input input.old input.new)

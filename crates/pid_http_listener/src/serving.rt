@@ -13,7 +13,7 @@ use std::net::{TcpListener, TcpStream};
 pub enum ServingEnd {
     /// All were served that were to be, and the server is live.
     All,
-    /// The server is not live after the last one.
+    /// The server is not live.
     NotLive,
     /// No further connection could be accepted.
     AcceptFault,
@@ -44,8 +44,8 @@ fn next_connection(listener: &TcpListener) -> Option<TcpStream> {
 
 /// Serves the streams of so many connections, one after the other, 1,000,000 reads each.
 ///
-/// Whatever ends one stream leaves the next ones to be served. It stops if the server is not live
-/// after a stream, and if no connection can be accepted.
+/// Whatever ends one stream leaves the next ones to be served. It stops if the server is not live,
+/// before the first stream or after one, and if no connection can be accepted.
 pub fn serve_on<S: StreamServer>(
     alloc: Global,
     listener: &TcpListener,
@@ -55,8 +55,14 @@ pub fn serve_on<S: StreamServer>(
     ensures goes { S.goes server.old server.new }
     ensures counted { IsGivenMore result.streams (S.given server.old) (S.given server.new) }
     ensures streams { CountsStreams result.end connections result.streams }
-    ensures live { IsLiveAt result.end result.streams (S.live server.new) }
+    ensures live { IsLiveAt result.end result.streams (S.live server.old, S.live server.new) }
 {
+    if !server.is_live() {
+        return Serving {
+            streams: 0,
+            end: ServingEnd::NotLive,
+        };
+    }
     for begun in 0..connections {
         let Some(stream) = next_connection(listener) else {
             return Serving {

@@ -11,7 +11,7 @@ use Rattle.pid_cli_jobs.specs.declared.job_end.JobEnd.{JobEnd}
 use Rattle.pid_cli_jobs.specs.declared.job_end.JobEnd.TheVariants.{FileFailed}
 use Rattle.pid_cli_jobs.specs.declared.serving.Port.{Port}
 use Rattle.pid_cli_jobs.specs.Lines.{Streams}
-use Rattle.pid_cli_jobs.specs.Machines.{InTurn, MachineCall}
+use Rattle.pid_cli_jobs.specs.Machines.{InTurn, MachineCall, WhileLive}
 use Rattle.pid_cli_jobs.specs.Serving.{HasServed, listening_line}
 
 -- 127.0.0.1 (RFC 1122, 3.2.1.3) and this port: no other machine reaches it
@@ -30,6 +30,8 @@ module _ {S R : Type 0} (server : servers.Ghosts S) (change : S × S) where
     GaveNone : FailsWithin w.output (listening_line port.number) → w.faults.after ≡ w.faults.before
         → asked.1 ≡ asked.0 → end ≡ FileFailed → change.1 ≡ change.0
         → GivesTo port asked w end
-    Gave : HasServed (λ streams. InTurn server.answers change.0 streams change.1) port
-        (server.live change.1) (record { before = asked.0; after = asked.1 }) w end
+    Gave : HasServed
+        (λ streams. InTurn (WhileLive server.live server.answers) change.0 streams change.1) port
+        (server.live change.0, server.live change.1)
+        (record { before = asked.0; after = asked.1 }) w end
         → GivesTo port asked w end

@@ -8,7 +8,7 @@ use Rattle.pid_service.specs.declared.registry.Registry.{Registry}
 use Rattle.pid_service.specs.Registries.{is_live}
 use Rattle.pid_cli_jobs.specs.declared.job_end.JobEnd.TheVariants.{Told}
 use Rattle.pid_cli_jobs.specs.declared.serving.Port.{Port}
-use Rattle.pid_cli_jobs.specs.Machines.{AsksFor, MachineCall, PortAt}
+use Rattle.pid_cli_jobs.specs.Machines.{AsksFor, MachineCall, PortAt, WhileLive}
 use Rattle.pid_cli_jobs.specs.Serving.{AnswersStream, Served, Serves, Unbound, Unheard, Unrouted}
 use Rattle.pid_cli_jobs.specs.Steps.Serving.{Gave, GaveNone, GivesTo}
 use Rattle.pid_cli_jobs.specs.Wrote.{Wrote, streams_of}
@@ -32,7 +32,9 @@ served store server held change new writer port w between each live is asks
     (sym is ∙ ap held same) fails silent ends
 served store server held change new writer port w between each live is asks (Gave given) =
     subst (λ r. Serves store writer port (held change.0) r w) is (Served between asks
-    (served_over _ _ held each _ _ _ _ _ _ _ _ (live change.1) given))
+    (served_over (WhileLive server.live server.answers) (WhileLive is_live (AnswersStream store)) held
+    (λ a b x found. (sym (live a) ∙ found.0, each a b x found.1))
+    _ _ _ _ _ _ _ _ (λ i. (live change.0 i, live change.1 i)) given))
 
 pub returns-in_default-clause-serves : goal.returns-in_default-clause-serves
 returns-in_default-clause-serves g c = Unbound c.in_default.ensures.asks refl refl

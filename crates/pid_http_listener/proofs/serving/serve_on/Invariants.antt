@@ -1,4 +1,4 @@
-use Rattle.std.proofs.Common.{◌≡◌, ◌<◌, true}
+use Rattle.std.proofs.Common.{◌≡◌, true}
 use Rattle.pid_http_listener.specs.Streams.{IsGivenMore}
 use Rattle.pid_http_listener.proofs.serving.serve_on.Given as goal
 
@@ -6,5 +6,6 @@ abbrev pub invariant-loop-begun : goal.invariant-loop-begun
 invariant-loop-begun g l = record {
   goes : g.S.StreamServer.goes l.initial.server l.server;
   counted : IsGivenMore l.begun (g.S.StreamServer.given l.initial.server) (g.S.StreamServer.given l.server);
-  live : 0 < l.begun → g.S.StreamServer.live l.server ≡ true;
+  before : g.S.StreamServer.live l.initial.server ≡ true;
+  live : g.S.StreamServer.live l.server ≡ true;
 }
