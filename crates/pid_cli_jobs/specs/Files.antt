@@ -1,17 +1,20 @@
 -- Runs of the program on the files of a database, each with a store of its own. Choices of this
 -- project.
-use Rattle.std.specs.Prelude.{◌≡◌, false, List, [], ◌∷◌, ◌++◌, IsTrue, Ok}
+use Rattle.std.specs.Prelude.{◌≡◌, Bool, true, false, List, [], ◌∷◌, ◌++◌, IsTrue, Ok}
 use Rattle.sqlite.specs.Closing.{IsCopied}
-use Rattle.sqlite.specs.Files.{IsBlankAs, IsClosed, IsOpened, file_state, over_files}
+use Rattle.sqlite.specs.Files.{FailsToClose, IsBlankAs, IsClosed, IsOpened, file_state, over_files}
 use Rattle.sqlite.specs.Held.{AreDatabases, Held}
 use Rattle.sqlite.specs.Start.{FindsIn}
 use Rattle.sqlite.specs.State as states
+use Rattle.sqlite.specs.declared.error.Error.{Error}
 use Rattle.sqlite_disk.specs.declared.Disk as disk
 use Rattle.sqlite_disk.specs.declared.Files.{Files}
 use Rattle.sqlite_store.specs.FileStore.{recovers, state, view}
 use Rattle.sqlite_store.specs.declared.store.FileStore.{FileStore}
+use Rattle.sqlite_trees.specs.View.{IsClean}
 use Rattle.sqlite_trees.specs.declared.store.Store.{Ghosts}
 use Rattle.sqlite_wal.specs.Files.{outcomes}
+use Rattle.sqlite_wal.specs.Reads.{AreClean}
 use Rattle.sqlite_wal.specs.Recovery.{Image}
 use Rattle.pid_moderation.specs.History.{History}
 use Rattle.pid_service_laws.specs.Calls.{Call}
@@ -44,6 +47,15 @@ pub data IsLeftIn {D : Type 0} {g : disk.Ghosts D} (earlier : Held (FileStore D 
   -- what closing left, maybe after a stop
   Closed : (files : Files D) → IsCopied earlier files → outcomes g files.log files.db image
       → IsLeftIn earlier image
+
+-- A connection to files was closed. The log was copied: if the disk returned what was written, the
+-- last commit is in the database file. Or it was not: a stop leaves nothing new, and if the disk
+-- returned what was written, it failed, or memory ran out.
+abbrev pub ClosesFiles : {D : Type 0} {g : disk.Ghosts D} → Held (FileStore D g) → Bool → Type 0
+ClosesFiles {D} {g} conn true = (files : Files D)
+    × (AreClean g files.log files.db → IsCopied conn files)
+ClosesFiles {D} {g} conn false = (last : FileStore D g) × IsClosed conn last
+    × (IsClean (view last) → (error : Error) × FailsToClose conn last error)
 
 module _ {D E : Type 0} {g : disk.Ghosts D} {k : disk.Ghosts E} where
   -- The next run: its connection was opened on what an earlier one left. The earlier disk returned

@@ -6,7 +6,7 @@ use Rattle.pid_http_listener.specs.declared.serving.ServingEnd.{ServingEnd}
 use Rattle.pid_http_listener.specs.Streams.{Exchange}
 use Rattle.pid_tables_rows.specs.declared.fault.TableFault.{TableFault}
 
--- what was to be opened or served, and what came of that
+-- what was to be opened, served or closed, and what came of that
 pub data MachineCall (R : Type 0) : Type 0 where
   -- the pci.ids file at a path: the open file, if it could be opened
   TextAt : (path : List ℕ) (file : Option R) → MachineCall R
@@ -17,6 +17,8 @@ pub data MachineCall (R : Type 0) : Type 0 where
   -- the streams of so many connections to a port, which were to be given to a server: how that
   -- ended, and what became of each that was given
   StreamsOf : (connections : ℕ) (end : ServingEnd) (streams : List Exchange) → MachineCall R
+  -- a database that was opened: whether its log was copied into the file as it was closed
+  CloseOf : (is_copied : Bool) → MachineCall R
 
 abbrev pub why_unopened : {X : Type 0} → Result X TableFault → Option TableFault
 why_unopened (Ok opened) = None

@@ -1,5 +1,5 @@
 -- Jobs on the files of a registry, or on a new one in memory. Choices of this project.
-use Rattle.std.specs.Prelude.{◌≡◌, ℕ, List, Option, None, Some}
+use Rattle.std.specs.Prelude.{◌≡◌, ℕ, Bool, List, Option, None, Some}
 use Rattle.sqlite.specs.Files.{over_files}
 use Rattle.sqlite.specs.Held.{Held, IsNew, state}
 use Rattle.sqlite.specs.Steps.{IsEmpty, over_memory}
@@ -15,12 +15,12 @@ use Rattle.pid_tables_rows.specs.declared.fault.TableFault.{TableFault}
 use Rattle.pid_tables_rows.specs.declared.fault.TableFault.TheVariants.{Memory}
 use Rattle.pid_cli_jobs.specs.declared.on_files.FileJob.{FileJob}
 use Rattle.pid_cli_jobs.specs.declared.on_files.FileJob.TheVariants as jobs
-use Rattle.pid_cli_jobs.specs.Files.{OpensFiles}
+use Rattle.pid_cli_jobs.specs.Files.{ClosesFiles, OpensFiles}
 use Rattle.pid_cli_jobs.specs.Inputs.{InputUse}
 use Rattle.pid_cli_jobs.specs.Jobs.{JobReads, Work, work_of}
-use Rattle.pid_cli_jobs.specs.Machines.{AsksFor, DatabaseAt, MachineCall}
+use Rattle.pid_cli_jobs.specs.Machines.{AsksFor, CloseOf, DatabaseAt, MachineCall, MachineCalls}
 use Rattle.pid_cli_jobs.specs.Sessions.{Migrates, TellsUnopened, WorksOn}
-use Rattle.pid_cli_jobs.specs.Wrote.{AsksNothing, AsksOnce, Wrote, from_there}
+use Rattle.pid_cli_jobs.specs.Wrote.{AsksNothing, AsksOnce, Wrote, from_there, up_to_there}
 
 -- what a job is to do on files
 pub data FileTask : Type 0 where
@@ -43,11 +43,19 @@ DoesOn store writer conn (ToWork work) w back = WorksOn store writer conn work w
 DoesOn store writer conn ToMigrate w back = Migrates store writer conn w back
 
 module _ {E R W : Type 0} (files : disk.Ghosts E) (writer : outputs.Ghosts W) where
-  -- the same, on a connection to files, and something came back
+  -- what came back was closed, and nothing else was asked of the machine
+  abbrev pub ClosesLast : Option (Held (FileStore E files)) → MachineCalls R → Type 0
+  ClosesLast None asked = asked.after ≡ asked.before
+  ClosesLast (Some conn) asked = (is_copied : Bool) × ClosesFiles conn is_copied
+      × AsksFor asked.before asked.after (CloseOf is_copied)
+
+  -- the same, on a connection to files, and after it what came back was closed
   pub record DoesThere (conn : Held (FileStore E files)) (task : FileTask) (w : Wrote R W)
       : Type 0 where
+    pub between : Option (List (MachineCall R))
     pub back : Option (Held (FileStore E files))
-    pub does : DoesOn over_files writer conn task w back
+    pub does : DoesOn over_files writer conn task (up_to_there w between) back
+    pub closes : ClosesLast back (record w.asked { before = between })
 
 module _ {E R W : Type 0} (files : disk.Ghosts E) (image : Image) (writer : outputs.Ghosts W) where
   -- the database at the path was asked for, a new connection was opened on what the files held, and

@@ -5,7 +5,7 @@ ghost use Rattle.pid_cli_jobs.specs.Steps.Serving.{IsLoopback};
 use pid_http_listener::{Serving, StreamServer, serve_on};
 use pid_service::TableFault;
 use sqlite::{Connection, FileStore};
-use sqlite_disk::Start;
+use sqlite_disk::{Disk, Start};
 use sqlite_std_file::FileFrom;
 use std::alloc::Global;
 use std::fs::File;
@@ -21,9 +21,10 @@ pub trait Machine {
     ghost use Rattle.pid_http_listener.specs.Servings.{CountsStreams, IsLiveAt};
     ghost use Rattle.pid_http_listener.specs.Streams.{IsGivenMore};
     ghost use Rattle.pid_tables_rows.specs.Faults.{IsMemoryOrStore};
-    ghost use Rattle.pid_cli_jobs.specs.Files.{OpensFiles};
+    ghost use Rattle.pid_cli_jobs.specs.Files.{ClosesFiles, OpensFiles};
     ghost use Rattle.pid_cli_jobs.specs.Machines.{
       AsksFor,
+      CloseOf,
       DatabaseAt,
       GivesStreams,
       InTurn,
@@ -66,6 +67,12 @@ pub trait Machine {
         ensures opened { IfOk result (λ conn. OpensFiles (image_at S.Start) conn) }
         ensures fresh { IfOk result IsNew }
         ensures fault { IfErr result IsMemoryOrStore };
+
+    /// Closes a database. Its log is copied into the file, and the answer says whether it could be;
+    /// if not, it stays next to the file for the next opening.
+    fn close_database<D: Disk + Drop>(&mut self, conn: Connection<FileStore<D>>) -> bool
+        ensures asks { AsksFor (asked self.old) (asked self.new) (CloseOf result) }
+        ensures closes { ClosesFiles conn result };
 
     /// Listens on a port, for clients on this machine and for no others.
     fn listen(&mut self, port: u16) -> Option<Self::Listener>
@@ -122,6 +129,16 @@ impl Machine for Host<'_> {
         match Connection::open_from(self.0, path, false, start) {
             Ok(conn) => Ok(conn),
             Err((error, _)) => Err(TableFault::from(error)),
+        }
+    }
+
+    fn close_database<D: Disk + Drop>(&mut self, conn: Connection<FileStore<D>>) -> bool {
+        match conn.close_files() {
+            Ok(_) => true,
+            Err((_, store)) => {
+                drop(store.close());
+                false
+            }
         }
     }
 

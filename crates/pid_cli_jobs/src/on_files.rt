@@ -53,8 +53,8 @@ fn do_on<M: Machine, S: Alter + Drop, I: Incoming<O>, O: Output, F: Output>(
     }
 }
 
-// Does a job on a connection to files, and closes it if it came back. No other function names a
-// store of files together with a drop, since each one that does takes half a minute to prove.
+// Does a job on a connection to files, and has it closed if it came back. No other function calls
+// one that is generic over its store at a store of files: that takes half a minute to prove.
 fn do_there<M: Machine, D: Disk + Drop, I: Incoming<O>, O: Output, F: Output>(
     machine: &mut M,
     conn: Connection<FileStore<D>>,
@@ -70,15 +70,17 @@ fn do_there<M: Machine, D: Disk + Drop, I: Incoming<O>, O: Output, F: Output>(
     ensures reads { FileReads I.Incoming job input.old input.new }
 {
     let (end, back) = do_on(machine, conn, job, input, output, faults);
-    if let Some(conn) = back {
-        // If the log cannot be copied into the file, it stays for the next opening.
-        let _ = conn.close();
+    match back {
+        Some(conn) => {
+            let _is_copied = machine.close_database(conn);
+            end
+        }
+        None => end,
     }
-    end
 }
 
-/// Does the job on the files of a registry, which are created if they do not exist. Afterwards, all
-/// that was committed is in the file or in the log next to it. `start` is as for `open_database`.
+/// Does the job on the files of a registry, which are created if they do not exist. Their connection
+/// is closed last, if the registry has not failed. `start` is as for `open_database`.
 pub fn do_in_files<M: Machine, S: Start, I: Incoming<O>, O: Output, F: Output>(
     machine: &mut M,
     start: S,
