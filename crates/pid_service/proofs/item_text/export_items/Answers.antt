@@ -1,6 +1,8 @@
 use Rattle.std.proofs.Common.{◌≡◌, rules, [], ◌∷◌, Some}
 use Rattle.std.specs.Io.KnownBytes.{Appends}
+use Rattle.sqlite.specs.Held.{state}
 use Rattle.pid_file.specs.Printing.{ended, header}
+use Rattle.pid_tables_check.proofs.Asking.{nothing_read}
 use Rattle.pid_service.specs.Steps.Exports.{WritesItems}
 use Rattle.pid_service.proofs.WalkEnds.{exported, fault_told, header_stopped, walk_same}
 use Rattle.pid_service.proofs.item_text.export_items.Goals as goal
@@ -35,3 +37,6 @@ returns-in-Ok-clause-printed g c clean v rest =
 
 pub returns-in-Ok-clause-rests : goal.returns-in-Ok-clause-rests
 returns-in-Ok-clause-rests g c = c.each_item.ensures.rests
+
+pub returns-in-Err-clause-rests : goal.returns-in-Err-clause-rests
+returns-in-Err-clause-rests g c = nothing_read (state g.S.Store c.args.tables.now.conn) c.requires

@@ -125,3 +125,17 @@ returns-in-Err-item-clause-caused g c clean h shows start asked =
     caused_since g.S.Store (connection start) c.args.self.now.tables.conn c.item.new.self.conn c.refusal_of.result asked.rests c.item.ensures.rests clean
     (caused_by g.S.Store c.args.self.now.tables.conn c.item.new.self.conn c.in-Err-item.fault c.refusal_of.result c.refusal_of.ensures.same
     (c.in-Err-item.ensures.told clean (views_of h) shows.tables (c.reached_histories_are_kept.ensures.readable h shows.history)))
+
+pub returns-in-Err-clause-caused : goal.returns-in-Err-clause-caused
+returns-in-Err-clause-caused g c clean h shows start asked = tt
+
+-- ---- what is left as it is, and who may answer
+
+pub returns-then-not-self-clause-kept : goal.returns-then-not-self-clause-kept
+returns-then-not-self-clause-kept g c = record { shown = λ h shows. shows; was_honest = λ clean. clean; faults = λ f. (λ may. may, λ may. may); told = (λ may. may, λ may. may); asked = λ start asked. asked }
+
+pub returns-in-Ok-Some-clause-told : goal.returns-in-Ok-Some-clause-told
+returns-in-Ok-Some-clause-told g c = c.if-not-self.false
+
+pub returns-in-Ok-clause-told : goal.returns-in-Ok-clause-told
+returns-in-Ok-clause-told g c = c.if-not-self.false

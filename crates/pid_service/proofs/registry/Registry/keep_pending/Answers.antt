@@ -1,4 +1,4 @@
-use Rattle.std.proofs.Common.{inr, refl, sym, ◌∙◌}
+use Rattle.std.proofs.Common.{inl, inr, refl, sym, ◌∙◌}
 use Rattle.std.specs.Prelude.{is_some}
 use Rattle.pid_moderation.specs.Views.{views_of}
 use Rattle.pid_service.proofs.Keeping.{true_not}
@@ -65,3 +65,11 @@ returns-in-Err-clause-answers g c =
 
 pub returns-in-Err-clause-counted : goal.returns-in-Err-clause-counted
 returns-in-Err-clause-counted g c = tt
+
+-- ---- the numbers were read before
+
+pub returns-then-is_some-clause-counted : goal.returns-then-is_some-clause-counted
+returns-then-is_some-clause-counted g c = inl (sym c.is_some.ensures ∙ c.if-is_some.true)
+
+pub returns-then-self-clause-counted : goal.returns-then-self-clause-counted
+returns-then-self-clause-counted g c = inr c.if-self.true
