@@ -1,5 +1,5 @@
 -- What serving a registry prints, and how it ends by that. Choices of this project.
-use Rattle.std.specs.Prelude.{◌≡◌, ℕ, Bool, true, false, List, codes, Option, ⊤}
+use Rattle.std.specs.Prelude.{◌≡◌, ℕ, Bool, true, false, List, codes, Option, None, ⊤}
 use Rattle.std.specs.Io.KnownBytes.{Appends}
 use Rattle.sqlite_trees.specs.declared.store.Store.{Ghosts}
 use Rattle.pid_file.specs.declared.io.Output as outputs
@@ -54,13 +54,21 @@ pub record AnswersStream {S : Type 0} (store : Ghosts S) (old new : Registry S s
       (outside t u x.output.before x.output.after)
       stream x.input.left x.served.end x.served.answered)
   pub ended : EndsFor x.served.end (record {
-    fault_before = x.input.fault_before;
-    read_fault = x.input.fault;
+    before = record {
+      reads = x.input.reads;
+      come = x.input.to_come;
+      fault = x.input.fault_before;
+      moments = None;
+    };
+    after = record {
+      reads = x.input.reads_after;
+      come = x.input.left;
+      fault = x.input.fault;
+      moments = None;
+    };
     write_fault = x.output.fault;
     stuck = ⊤;
     turns = x.turns;
-    reads = x.input.reads;
-    reads_after = x.input.reads_after;
   })
 
 -- Streams of at most so many connections were served, and of what became of them this holds. The

@@ -8,9 +8,10 @@ use Rattle.pid_service.specs.declared.registry.Registry.{Registry}
 use Rattle.pid_http_stream.specs.Leading.{Leads}
 use Rattle.pid_http_stream.specs.MomentLaws.{since_none}
 use Rattle.pid_http_stream.specs.Moments.{AllSince, Moment}
+use Rattle.pid_http_stream.specs.ReadLaws.{reads_none}
+use Rattle.pid_http_stream.specs.Reads.{ReaderState}
 use Rattle.pid_http_stream.specs.Serving.{IsCaughtUp, IsServed}
 use Rattle.pid_http_stream.specs.declared.stream.StreamEnd.TheVariants.{Memory}
-use Rattle.pid_file.specs.declared.io.ReadFault.{ReadFault}
 use Rattle.pid_file.specs.declared.io.WriteFault.{WriteFault}
 use Rattle.pid_http_stream.specs.Causes.{EndsFor}
 use Rattle.pid_http_stream.proofs.Heads.{nothing_yet}
@@ -18,9 +19,9 @@ use Rattle.pid_http.specs.Serving.{serving}
 use Rattle.pid_http.specs.Known.{Told, IsToldOf}
 
 -- no read was made
-pub memory_ends : (reads turns : ℕ) (read_fault : Option ReadFault) (write_fault : Option WriteFault)
-    → EndsFor Memory (record { fault_before = read_fault; read_fault = read_fault; write_fault = write_fault; stuck = ⊤; turns = turns; reads = reads; reads_after = reads })
-memory_ends reads turns read_fault write_fault = record { within = omega arith; cause = tt; failed = inl refl }
+pub memory_ends : (reader : ReaderState) (turns : ℕ) (write_fault : Option WriteFault)
+    → EndsFor Memory (record { before = reader; after = reader; write_fault = write_fault; stuck = ⊤; turns = turns })
+memory_ends reader turns write_fault = record { made = 0; within = omega arith; spent = λ e. cc; reads = reads_none 0 reader; cause = tt; failed = inl refl }
 
 module _ {S : Type 0} (store : Ghosts S) where
   none : (t : Told store) (taken to_come : Option (List ℕ)) → IfSome to_come (λ stream. IsServed (serving store) (record { handler = t; handler_after = t; taken = taken; taken_after = taken }) stream to_come Memory 0)

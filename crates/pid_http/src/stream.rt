@@ -2,6 +2,7 @@
 ghost use Rattle.std.specs.Prelude.{⊤};
 ghost use Rattle.pid_http_stream.specs.Causes.{EndsFor};
 ghost use Rattle.pid_http_stream.specs.Moments.{AllSince};
+ghost use Rattle.pid_http_stream.specs.Reads.{reader_at};
 ghost use Rattle.pid_http_stream.specs.Serving.{IsCaughtUp, IsServed, outside};
 ghost use Rattle.pid_http.specs.Known.{LivesOn};
 ghost use Rattle.pid_http.specs.Serving.{serving};
@@ -64,13 +65,11 @@ pub fn serve_stream<S: Alter + Drop, I: Incoming<W>, W: Output>(
     // one that has failed stays as it is.
     ensures lives { LivesOn S.Store registry.old registry.new }
     ensures ended { EndsFor result.end (record {
-      fault_before = I.read_fault reader.old;
-      read_fault = I.read_fault reader.new;
+      before = reader_at I.Incoming reader.old;
+      after = reader_at I.Incoming reader.new;
       write_fault = W.write_fault writer.new;
       stuck = ⊤;
       turns = turns;
-      reads = I.reads reader.old;
-      reads_after = I.reads reader.new;
     }) }
     ensures goes { I.goes reader.old reader.new }
 {
@@ -101,13 +100,11 @@ pub fn serve_with<S: Alter + Drop, I: Incoming<W>, W: Output>(
         (I.moments reader.old) (I.moments reader.new)) }
     ensures lives { LivesOn S.Store registry.old registry.new }
     ensures ended { EndsFor result.end (record {
-      fault_before = I.read_fault reader.old;
-      read_fault = I.read_fault reader.new;
+      before = reader_at I.Incoming reader.old;
+      after = reader_at I.Incoming reader.new;
       write_fault = W.write_fault writer.new;
       stuck = ⊤;
       turns = turns;
-      reads = I.reads reader.old;
-      reads_after = I.reads reader.new;
     }) }
     ensures goes { I.goes reader.old reader.new }
 {

@@ -9,13 +9,13 @@ use Rattle.httparse.specs.Spans.{IsRequestAt}
 use Rattle.httparse.specs.declared.spans.HeaderSpan.{HeaderSpan}
 use Rattle.httparse.specs.declared.spans.RequestSpans.{RequestSpans}
 use Rattle.pid_file.specs.declared.io.ReadFault.{ReadFault}
-use Rattle.pid_http_stream.specs.Bodies.{padded, BodyState, HasBrokenOff, IsWithinBody, HasReadBody}
+use Rattle.pid_http_stream.specs.Bodies.{padded, BodyState, HasBrokenOff, IsWithinBody, HasReadBody, Turns, SpendsTurns, idle_at}
 use Rattle.pid_http_stream.specs.BodyLengths.{longest_body}
 use Rattle.pid_http_stream.specs.Conducts.{Conduct, StandsStill, StandsOver}
 use Rattle.pid_http_stream.specs.Endings.{IsShort}
 use Rattle.pid_http_stream.specs.Handling.{MayReply, IsHandled}
 use Rattle.pid_http_stream.specs.Heads.{HasHead}
-use Rattle.pid_http_stream.specs.Steps.Intakes.{AskStops, WaitsForRequest, StandsAt}
+use Rattle.pid_http_stream.specs.Steps.Intakes.{AskStops, WaitsForRequest, StandsAt, idle_asked}
 use Rattle.pid_http_stream.specs.MomentLaws.{since_so}
 use Rattle.pid_http_stream.specs.Moments.{AllSince}
 use Rattle.pid_http_stream.specs.Requests.{Request, IsRequest}
@@ -102,10 +102,10 @@ length-padded (suc n) (b ∷ bytes) = ap suc (length-padded n bytes)
 
 -- what holds of each request with this head, and the body that its reader was to give
 abbrev Told : (Request → Type 0) → List ℕ → List HeaderSpan → RequestSpans → BodyState → Type 0
-Told P held headers spans A = (request : Request) → IsRequestAt held headers spans request.head → option_map (λ s. padded A.wanted (A.held ++ s)) A.to_come ≡ Some request.body → length request.body ≤ longest_body → P request
+Told P held headers spans A = (request : Request) → IsRequestAt held headers spans request.head → option_map (λ s. padded A.wanted (A.held ++ s)) A.turns.reader.come ≡ Some request.body → length request.body ≤ longest_body → P request
 
 told_at : (P : Request → Type 0) (held : List ℕ) (headers : List HeaderSpan) (spans : RequestSpans) (w : ℕ) (A B : BodyState) (r : Reading held headers spans w A B) (s : List ℕ)
-    → A.to_come ≡ Some s → Told P held headers spans A → P (record { head = r.stands.found.0; body = body_of A s })
+    → A.turns.reader.come ≡ Some s → Told P held headers spans A → P (record { head = r.stands.found.0; body = body_of A s })
 told_at P held headers spans w A B r s e told =
     let sized = length-padded A.wanted (A.held ++ s) in
     let wanted = r.wanted_is in
@@ -114,13 +114,13 @@ told_at P held headers spans w A B r s e told =
 
 pub reply_made : {H : Type 0} (conduct : Conduct H) (a b : H) (held : List ℕ) (headers : List HeaderSpan) (spans : RequestSpans) (w : ℕ) (A B : BodyState) → Reading held headers spans w A B → (reply : Reply)
     → B.wanted ≡ 0 → Told (λ request. MayReply conduct a request reply b) held headers spans A
-    → IfSome A.to_come (λ _. AsksHandler conduct (record { a = a; b = b; input = A.to_come; input_after = B.to_come }) (record { held = held; headers = headers; spans = spans; content_length = w }) (asked.Reply reply))
-reply_made conduct a b held headers spans w A B r reply none told = by_known A.to_come refl
+    → IfSome A.turns.reader.come (λ _. AsksHandler conduct (record { a = a; b = b; input = A.turns.reader.come; input_after = B.turns.reader.come }) (record { held = held; headers = headers; spans = spans; content_length = w }) (asked.Reply reply))
+reply_made conduct a b held headers spans w A B r reply none told = by_known A.turns.reader.come refl
   where
-    by_known : (o : Option (List ℕ)) → A.to_come ≡ o → IfSome o (λ _. AsksHandler conduct (record { a = a; b = b; input = A.to_come; input_after = B.to_come }) (record { held = held; headers = headers; spans = spans; content_length = w }) (asked.Reply reply))
+    by_known : (o : Option (List ℕ)) → A.turns.reader.come ≡ o → IfSome o (λ _. AsksHandler conduct (record { a = a; b = b; input = A.turns.reader.come; input_after = B.turns.reader.come }) (record { held = held; headers = headers; spans = spans; content_length = w }) (asked.Reply reply))
     by_known None e = tt
     by_known (Some s) e =
-        let k = known s B.to_come r.read.came (subst (λ (x : Option (List ℕ)). Consumes x B.to_come r.read.came) e r.read.consumed) in
+        let k = known s B.turns.reader.come r.read.came (subst (λ (x : Option (List ℕ)). Consumes x B.turns.reader.come r.read.came) e r.read.consumed) in
         record {
           came = r.read.came;
           more = k.0;
@@ -136,12 +136,12 @@ stands_over conduct a b head came behind has (inr gives) = inr (head, behind, ha
 
 -- the handler stands still, or lacked memory with the body read to its end
 abbrev Lacks : {H : Type 0} → Conduct H → H → H → BodyState → Request → Type 0
-Lacks conduct a b B request = StandsStill conduct a request.head b ⊎ (IsAtEnd (option_map (λ y. padded B.wanted (B.held ++ y)) B.to_come) × conduct.leaves a request b)
+Lacks conduct a b B request = StandsStill conduct a request.head b ⊎ (IsAtEnd (option_map (λ y. padded B.wanted (B.held ++ y)) B.turns.reader.come) × conduct.leaves a request b)
 
 pub no_memory : {H : Type 0} (conduct : Conduct H) (a b : H) (held : List ℕ) (headers : List HeaderSpan) (spans : RequestSpans) (w : ℕ) (A B : BodyState) → Reading held headers spans w A B
     → B.wanted ≡ 0 → Told (Lacks conduct a b B) held headers spans A
-    → IfSome A.to_come (λ _. AsksHandler conduct (record { a = a; b = b; input = A.to_come; input_after = B.to_come }) (record { held = held; headers = headers; spans = spans; content_length = w }) asked.NoMemory)
-no_memory conduct a b held headers spans w A B r none told = by_known A.to_come refl
+    → IfSome A.turns.reader.come (λ _. AsksHandler conduct (record { a = a; b = b; input = A.turns.reader.come; input_after = B.turns.reader.come }) (record { held = held; headers = headers; spans = spans; content_length = w }) asked.NoMemory)
+no_memory conduct a b held headers spans w A B r none told = by_known A.turns.reader.come refl
   where
     lacks : (s more : List ℕ) → s ≡ r.read.came ++ more → Lacks conduct a b B (record { head = r.stands.found.0; body = body_of A s }) → RunsOut conduct a (held ++ r.read.came) b
     lacks s more e (inl stands) =
@@ -149,14 +149,14 @@ no_memory conduct a b held headers spans w A B r none told = by_known A.to_come 
         inr (record { head = r.stands.found.0; body = body_of A s }, drop (spans.len + w) held, is, inl (stands_over conduct a b r.stands.found.0 (held ++ r.read.came) _ is.head stands))
     lacks s more e (inr (end, left)) = inr (record { head = r.stands.found.0; body = body_of A s }, drop (spans.len + w) held, whole_request held headers spans w A B r s more none e, inr left)
 
-    by_known : (o : Option (List ℕ)) → A.to_come ≡ o → IfSome o (λ _. AsksHandler conduct (record { a = a; b = b; input = A.to_come; input_after = B.to_come }) (record { held = held; headers = headers; spans = spans; content_length = w }) asked.NoMemory)
+    by_known : (o : Option (List ℕ)) → A.turns.reader.come ≡ o → IfSome o (λ _. AsksHandler conduct (record { a = a; b = b; input = A.turns.reader.come; input_after = B.turns.reader.come }) (record { held = held; headers = headers; spans = spans; content_length = w }) asked.NoMemory)
     by_known None e = tt
     by_known (Some s) e =
-        let k = known s B.to_come r.read.came (subst (λ (y : Option (List ℕ)). Consumes y B.to_come r.read.came) e r.read.consumed) in
+        let k = known s B.turns.reader.come r.read.came (subst (λ (y : Option (List ℕ)). Consumes y B.turns.reader.come r.read.came) e r.read.consumed) in
         record { came = r.read.came; more = k.0; before = e ∙ ap Some k.2; after = k.1; is = lacks s k.0 k.2 (told_at (Lacks conduct a b B) held headers spans w A B r s e told) }
 
 -- where bytes are still wanted, their reader is not at its end
-not_ended : (B : BodyState) (more : List ℕ) → B.to_come ≡ Some more → 0 < B.wanted → ¬ (IsAtEnd (option_map (λ y. padded B.wanted (B.held ++ y)) B.to_come))
+not_ended : (B : BodyState) (more : List ℕ) → B.turns.reader.come ≡ Some more → 0 < B.wanted → ¬ (IsAtEnd (option_map (λ y. padded B.wanted (B.held ++ y)) B.turns.reader.come))
 not_ended B more e some end =
     let none = none_wanted B.wanted (B.held ++ more) (subst (λ (o : Option (List ℕ)). IsAtEnd (option_map (λ y. padded B.wanted (B.held ++ y)) o)) e end) in
     omega arith
@@ -173,15 +173,15 @@ pub record IsLeft {H : Type 0} (conduct : Conduct H) (a b : H) (held came more :
   pub stands : StandsOver conduct a (held ++ came) b
 
 is_left : {H E : Type 0} (conduct : Conduct H) (a b : H) (held : List ℕ) (headers : List HeaderSpan) (spans : RequestSpans) (w : ℕ) (A B : BodyState) (r : Reading held headers spans w A B) (result : Result Reply E) (s : List ℕ)
-    → A.to_come ≡ Some s → 0 < B.wanted → Told (λ request. IsHandled conduct a request result (option_map (λ y. padded B.wanted (B.held ++ y)) B.to_come) b) held headers spans A → IfOk result (λ _. IsAtEnd (option_map (λ y. padded B.wanted (B.held ++ y)) B.to_come))
-    → (more : List ℕ) × IsLeft conduct a b held r.read.came more A.to_come B.to_come
+    → A.turns.reader.come ≡ Some s → 0 < B.wanted → Told (λ request. IsHandled conduct a request result (option_map (λ y. padded B.wanted (B.held ++ y)) B.turns.reader.come) b) held headers spans A → IfOk result (λ _. IsAtEnd (option_map (λ y. padded B.wanted (B.held ++ y)) B.turns.reader.come))
+    → (more : List ℕ) × IsLeft conduct a b held r.read.came more A.turns.reader.come B.turns.reader.come
 is_left conduct a b held headers spans w A B r result s e some told whole =
-    let k = known s B.to_come r.read.came (subst (λ (y : Option (List ℕ)). Consumes y B.to_come r.read.came) e r.read.consumed) in (
+    let k = known s B.turns.reader.come r.read.came (subst (λ (y : Option (List ℕ)). Consumes y B.turns.reader.come r.read.came) e r.read.consumed) in (
       k.0,
       record {
         before = e ∙ ap Some k.2;
         after = k.1;
-        stands = stands_over conduct a b r.stands.found.0 (held ++ r.read.came) _ (HasHead-append held r.stands.found.0 (drop spans.len held) r.read.came (head_of held headers spans w r.stands)) (stands_of conduct a b (record { head = r.stands.found.0; body = body_of A s }) result (option_map (λ y. padded B.wanted (B.held ++ y)) B.to_come) (told_at (λ request. IsHandled conduct a request result (option_map (λ y. padded B.wanted (B.held ++ y)) B.to_come) b) held headers spans w A B r s e told) whole (not_ended B k.0 k.1 some));
+        stands = stands_over conduct a b r.stands.found.0 (held ++ r.read.came) _ (HasHead-append held r.stands.found.0 (drop spans.len held) r.read.came (head_of held headers spans w r.stands)) (stands_of conduct a b (record { head = r.stands.found.0; body = body_of A s }) result (option_map (λ y. padded B.wanted (B.held ++ y)) B.turns.reader.come) (told_at (λ request. IsHandled conduct a request result (option_map (λ y. padded B.wanted (B.held ++ y)) B.turns.reader.come) b) held headers spans w A B r s e told) whole (not_ended B k.0 k.1 some));
       },
     )
 
@@ -207,11 +207,11 @@ came_so conduct a b held headers spans w A B r stands = by_length (cases_lt (len
         inr (record { head = r.stands.found.0; body = r.read.used ++ B.held }, drop w (drop spans.len held), stands_request held headers spans w r.stands r.read.came (r.read.used ++ B.held) (drop w (drop spans.len held)) (whole_body (drop spans.len held) r.read.came (r.read.used ++ B.held) w r.n r.n_is given sized) sized, inl stands)
 
 pub left_unread : {H E : Type 0} (conduct : Conduct H) (a b : H) (held : List ℕ) (headers : List HeaderSpan) (spans : RequestSpans) (w : ℕ) (A B : BodyState) (r : Reading held headers spans w A B) (result : Result Reply E)
-    → 0 < B.wanted → Told (λ request. IsHandled conduct a request result (option_map (λ y. padded B.wanted (B.held ++ y)) B.to_come) b) held headers spans A → IfOk result (λ _. IsAtEnd (option_map (λ y. padded B.wanted (B.held ++ y)) B.to_come))
-    → IfSome A.to_come (λ _. AsksHandler conduct (record { a = a; b = b; input = A.to_come; input_after = B.to_come }) (record { held = held; headers = headers; spans = spans; content_length = w }) asked.NoMemory)
-left_unread {H} conduct a b held headers spans w A B r result some told whole = by_known A.to_come refl
+    → 0 < B.wanted → Told (λ request. IsHandled conduct a request result (option_map (λ y. padded B.wanted (B.held ++ y)) B.turns.reader.come) b) held headers spans A → IfOk result (λ _. IsAtEnd (option_map (λ y. padded B.wanted (B.held ++ y)) B.turns.reader.come))
+    → IfSome A.turns.reader.come (λ _. AsksHandler conduct (record { a = a; b = b; input = A.turns.reader.come; input_after = B.turns.reader.come }) (record { held = held; headers = headers; spans = spans; content_length = w }) asked.NoMemory)
+left_unread {H} conduct a b held headers spans w A B r result some told whole = by_known A.turns.reader.come refl
   where
-    by_known : (o : Option (List ℕ)) → A.to_come ≡ o → IfSome o (λ _. AsksHandler conduct (record { a = a; b = b; input = A.to_come; input_after = B.to_come }) (record { held = held; headers = headers; spans = spans; content_length = w }) asked.NoMemory)
+    by_known : (o : Option (List ℕ)) → A.turns.reader.come ≡ o → IfSome o (λ _. AsksHandler conduct (record { a = a; b = b; input = A.turns.reader.come; input_after = B.turns.reader.come }) (record { held = held; headers = headers; spans = spans; content_length = w }) asked.NoMemory)
     by_known None e = tt
     by_known (Some s) e =
         let l = is_left conduct a b held headers spans w A B r result s e some told whole in
@@ -231,35 +231,35 @@ broken_short held headers spans w A B r fault off =
     (ap (λ (l : List ℕ). l ++ r.read.came) (sym r.held_is) ∙ r.read.given ∙ ap (λ (l : List ℕ). r.read.used ++ l) off.none_held ∙ append-nil r.read.used) (omega arith))
 
 broken_as : {H : Type 0} (conduct : Conduct H) (a b : H) (front : FrontHead) (came : List ℕ) (B : BodyState) (fault : BodyFault) (input : Option (List ℕ)) → HasBrokenOff B fault → StandsOver conduct a (front.held ++ came) b → IsShort (front.held ++ came)
-    → IsAskedOver conduct (record { a = a; b = b; input = input; input_after = B.to_come }) (record { front = front; came = came }) (asked.Broken fault)
+    → IsAskedOver conduct (record { a = a; b = b; input = input; input_after = B.turns.reader.come }) (record { front = front; came = came }) (asked.Broken fault)
 broken_as conduct a b front came B faults.Short input off stands short = (stands, off.cause, short)
 broken_as conduct a b front came B faults.ReadFault input off stands short = (stands, inr short)
 broken_as conduct a b front came B faults.TurnsSpent input off stands short = (stands, inr short)
 
 -- the body broke off
 pub broken : {H E : Type 0} (conduct : Conduct H) (a b : H) (held : List ℕ) (headers : List HeaderSpan) (spans : RequestSpans) (w : ℕ) (A B : BodyState) (r : Reading held headers spans w A B) (result : Result Reply E) (fault : BodyFault)
-    → B.fault ≡ Some fault → Told (λ request. IsHandled conduct a request result (option_map (λ y. padded B.wanted (B.held ++ y)) B.to_come) b) held headers spans A → IfOk result (λ _. IsAtEnd (option_map (λ y. padded B.wanted (B.held ++ y)) B.to_come))
-    → IfSome A.to_come (λ _. AsksHandler conduct (record { a = a; b = b; input = A.to_come; input_after = B.to_come }) (record { held = held; headers = headers; spans = spans; content_length = w }) (asked.Broken fault))
-broken {H} conduct a b held headers spans w A B r result fault f told whole = by_known A.to_come refl
+    → B.fault ≡ Some fault → Told (λ request. IsHandled conduct a request result (option_map (λ y. padded B.wanted (B.held ++ y)) B.turns.reader.come) b) held headers spans A → IfOk result (λ _. IsAtEnd (option_map (λ y. padded B.wanted (B.held ++ y)) B.turns.reader.come))
+    → IfSome A.turns.reader.come (λ _. AsksHandler conduct (record { a = a; b = b; input = A.turns.reader.come; input_after = B.turns.reader.come }) (record { held = held; headers = headers; spans = spans; content_length = w }) (asked.Broken fault))
+broken {H} conduct a b held headers spans w A B r result fault f told whole = by_known A.turns.reader.come refl
   where
-    by_known : (o : Option (List ℕ)) → A.to_come ≡ o → IfSome o (λ _. AsksHandler conduct (record { a = a; b = b; input = A.to_come; input_after = B.to_come }) (record { held = held; headers = headers; spans = spans; content_length = w }) (asked.Broken fault))
+    by_known : (o : Option (List ℕ)) → A.turns.reader.come ≡ o → IfSome o (λ _. AsksHandler conduct (record { a = a; b = b; input = A.turns.reader.come; input_after = B.turns.reader.come }) (record { held = held; headers = headers; spans = spans; content_length = w }) (asked.Broken fault))
     by_known None e = tt
     by_known (Some s) e =
         let off = broken_told held headers spans w A B r fault f in
         let l = is_left conduct a b held headers spans w A B r result s e off.wants told whole in
-        record { came = r.read.came; more = l.0; before = l.1.before; after = l.1.after; is = broken_as conduct a b (record { held = held; headers = headers; spans = spans; content_length = w }) r.read.came B fault A.to_come off l.1.stands (broken_short held headers spans w A B r fault off) }
+        record { came = r.read.came; more = l.0; before = l.1.before; after = l.1.after; is = broken_as conduct a b (record { held = held; headers = headers; spans = spans; content_length = w }) r.read.came B fault A.turns.reader.come off l.1.stands (broken_short held headers spans w A B r fault off) }
 
 -- ---- all of it, by what the code tells
 
 asked_whole : {H E : Type 0} (conduct : Conduct H) (a b : H) (held : List ℕ) (headers : List HeaderSpan) (spans : RequestSpans) (w : ℕ) (A B : BodyState) (r : Reading held headers spans w A B) (result : Result Reply E)
-    → B.wanted ≡ 0 → Told (λ request. IsHandled conduct a request result (option_map (λ y. padded B.wanted (B.held ++ y)) B.to_come) b) held headers spans A
-    → IfSome A.to_come (λ _. AsksHandler conduct (record { a = a; b = b; input = A.to_come; input_after = B.to_come }) (record { held = held; headers = headers; spans = spans; content_length = w }) (whole_so result))
+    → B.wanted ≡ 0 → Told (λ request. IsHandled conduct a request result (option_map (λ y. padded B.wanted (B.held ++ y)) B.turns.reader.come) b) held headers spans A
+    → IfSome A.turns.reader.come (λ _. AsksHandler conduct (record { a = a; b = b; input = A.turns.reader.come; input_after = B.turns.reader.come }) (record { held = held; headers = headers; spans = spans; content_length = w }) (whole_so result))
 asked_whole conduct a b held headers spans w A B r (Ok reply) none told = reply_made conduct a b held headers spans w A B r reply none told
 asked_whole conduct a b held headers spans w A B r (Err x) none told = no_memory conduct a b held headers spans w A B r none told
 
 asked_broken : {H E : Type 0} (conduct : Conduct H) (a b : H) (held : List ℕ) (headers : List HeaderSpan) (spans : RequestSpans) (w : ℕ) (A B : BodyState) (r : Reading held headers spans w A B) (result : Result Reply E) (fault : Option BodyFault)
-    → B.fault ≡ fault → 0 < B.wanted → Told (λ request. IsHandled conduct a request result (option_map (λ y. padded B.wanted (B.held ++ y)) B.to_come) b) held headers spans A → IfOk result (λ _. IsAtEnd (option_map (λ y. padded B.wanted (B.held ++ y)) B.to_come))
-    → IfSome A.to_come (λ _. AsksHandler conduct (record { a = a; b = b; input = A.to_come; input_after = B.to_come }) (record { held = held; headers = headers; spans = spans; content_length = w }) (broken_so fault))
+    → B.fault ≡ fault → 0 < B.wanted → Told (λ request. IsHandled conduct a request result (option_map (λ y. padded B.wanted (B.held ++ y)) B.turns.reader.come) b) held headers spans A → IfOk result (λ _. IsAtEnd (option_map (λ y. padded B.wanted (B.held ++ y)) B.turns.reader.come))
+    → IfSome A.turns.reader.come (λ _. AsksHandler conduct (record { a = a; b = b; input = A.turns.reader.come; input_after = B.turns.reader.come }) (record { held = held; headers = headers; spans = spans; content_length = w }) (broken_so fault))
 asked_broken conduct a b held headers spans w A B r result None e some told whole = left_unread conduct a b held headers spans w A B r result some told whole
 asked_broken conduct a b held headers spans w A B r result (Some fault) e some told whole = broken conduct a b held headers spans w A B r result fault e told whole
 
@@ -268,11 +268,11 @@ some_left zero e = cc
 some_left (suc n) e = omega arith
 
 pub asked_is : {H E : Type 0} (conduct : Conduct H) (a b : H) (held : List ℕ) (headers : List HeaderSpan) (spans : RequestSpans) (w : ℕ) (A B : BodyState) (r : Reading held headers spans w A B) (result : Result Reply E)
-    → Told (λ request. IsHandled conduct a request result (option_map (λ y. padded B.wanted (B.held ++ y)) B.to_come) b) held headers spans A → IfOk result (λ _. IsAtEnd (option_map (λ y. padded B.wanted (B.held ++ y)) B.to_come))
-    → IfSome A.to_come (λ _. AsksHandler conduct (record { a = a; b = b; input = A.to_come; input_after = B.to_come }) (record { held = held; headers = headers; spans = spans; content_length = w }) (asked_so result B.wanted B.fault))
+    → Told (λ request. IsHandled conduct a request result (option_map (λ y. padded B.wanted (B.held ++ y)) B.turns.reader.come) b) held headers spans A → IfOk result (λ _. IsAtEnd (option_map (λ y. padded B.wanted (B.held ++ y)) B.turns.reader.come))
+    → IfSome A.turns.reader.come (λ _. AsksHandler conduct (record { a = a; b = b; input = A.turns.reader.come; input_after = B.turns.reader.come }) (record { held = held; headers = headers; spans = spans; content_length = w }) (asked_so result B.wanted B.fault))
 asked_is {H} {E} conduct a b held headers spans w A B r result told whole = by_test (B.wanted == 0) refl
   where
-    by_test : (t : Bool) → (B.wanted == 0) ≡ t → IfSome A.to_come (λ _. AsksHandler conduct (record { a = a; b = b; input = A.to_come; input_after = B.to_come }) (record { held = held; headers = headers; spans = spans; content_length = w }) (if t then whole_so result else broken_so B.fault))
+    by_test : (t : Bool) → (B.wanted == 0) ≡ t → IfSome A.turns.reader.come (λ _. AsksHandler conduct (record { a = a; b = b; input = A.turns.reader.come; input_after = B.turns.reader.come }) (record { held = held; headers = headers; spans = spans; content_length = w }) (if t then whole_so result else broken_so B.fault))
     by_test true e = asked_whole conduct a b held headers spans w A B r result (eqb-true B.wanted 0 e) told
     by_test false e = asked_broken conduct a b held headers spans w A B r result B.fault refl (some_left B.wanted e) told whole
 
@@ -287,23 +287,43 @@ whole_stops : {E : Type 0} (result : Result Reply E) (before now : Option ReadFa
 whole_stops (Ok reply) before now left same = same
 whole_stops (Err x) before now left same = same
 
-broken_stops : (before : Option ReadFault) (B : BodyState) (fault : BodyFault) → HasBrokenOff B fault → (B.kept ≡ before) ⊎ (Some fault ≡ Some faults.ReadFault) → AskStops (asked.Broken fault) before B.kept B.turns.left
+broken_stops : (before : Option ReadFault) (B : BodyState) (fault : BodyFault) → HasBrokenOff B fault → (B.turns.reader.fault ≡ before) ⊎ (Some fault ≡ Some faults.ReadFault) → AskStops (asked.Broken fault) before B.turns.reader.fault B.turns.left
 broken_stops before B faults.Short off kept = unfailed _ (Some faults.Short) kept (λ e. cc)
 broken_stops before B faults.ReadFault off kept = off.cause
 broken_stops before B faults.TurnsSpent off kept = (off.cause, unfailed _ (Some faults.TurnsSpent) kept (λ e. cc))
 
-pub asked_stops : {E : Type 0} (held : List ℕ) (headers : List HeaderSpan) (spans : RequestSpans) (w : ℕ) (A B : BodyState) → Reading held headers spans w A B → (result : Result Reply E) → AskStops (asked_so result B.wanted B.fault) A.kept B.kept B.turns.left
+pub asked_stops : {E : Type 0} (held : List ℕ) (headers : List HeaderSpan) (spans : RequestSpans) (w : ℕ) (A B : BodyState) → Reading held headers spans w A B → (result : Result Reply E) → AskStops (asked_so result B.wanted B.fault) A.turns.reader.fault B.turns.reader.fault B.turns.left
 asked_stops held headers spans w A B r result = by_test (B.wanted == 0) refl
   where
-    by_fault : (f : Option BodyFault) → B.fault ≡ f → (B.kept ≡ A.kept) ⊎ (f ≡ Some faults.ReadFault) → AskStops (broken_so f) A.kept B.kept B.turns.left
+    by_fault : (f : Option BodyFault) → B.fault ≡ f → (B.turns.reader.fault ≡ A.turns.reader.fault) ⊎ (f ≡ Some faults.ReadFault) → AskStops (broken_so f) A.turns.reader.fault B.turns.reader.fault B.turns.left
     by_fault None e kept = unfailed _ None kept (λ x. cc)
-    by_fault (Some fault) e kept = broken_stops A.kept B fault (broken_told held headers spans w A B r fault e) kept
+    by_fault (Some fault) e kept = broken_stops A.turns.reader.fault B fault (broken_told held headers spans w A B r fault e) kept
 
-    by_test : (t : Bool) → (B.wanted == 0) ≡ t → AskStops (if t then whole_so result else broken_so B.fault) A.kept B.kept B.turns.left
-    by_test true e = whole_stops result A.kept B.kept B.turns.left (unfailed _ B.fault r.read.failed (λ f.
+    by_test : (t : Bool) → (B.wanted == 0) ≡ t → AskStops (if t then whole_so result else broken_so B.fault) A.turns.reader.fault B.turns.reader.fault B.turns.left
+    by_test true e = whole_stops result A.turns.reader.fault B.turns.reader.fault B.turns.left (unfailed _ B.fault r.read.failed (λ f.
         let wants = (broken_told held headers spans w A B r faults.ReadFault f).wants in
         let none : B.wanted ≡ 0 = eqb-true B.wanted 0 e in absurd (omega arith)))
     by_test false e = by_fault B.fault refl r.read.failed
+
+whole_turns : {E : Type 0} (result : Result Reply E) (a b : Turns) → SpendsTurns 0 a b → SpendsTurns (idle_asked (whole_so result)) a b
+whole_turns (Ok reply) a b spent = spent
+whole_turns (Err x) a b spent = spent
+
+broken_turns : (f : Option BodyFault) (a b : Turns) → SpendsTurns (idle_at f) a b → SpendsTurns (idle_asked (broken_so f)) a b
+broken_turns None a b spent = spent
+broken_turns (Some fault) a b spent = spent
+
+-- where the body is whole each read brought something
+pub asked_turns : {E : Type 0} (held : List ℕ) (headers : List HeaderSpan) (spans : RequestSpans) (w : ℕ) (A B : BodyState) → Reading held headers spans w A B → (result : Result Reply E) → SpendsTurns (idle_asked (asked_so result B.wanted B.fault)) A.turns B.turns
+asked_turns held headers spans w A B r result = by_test (B.wanted == 0) refl
+  where
+    no_fault : (f : Option BodyFault) → B.fault ≡ f → B.wanted ≡ 0 → SpendsTurns (idle_at f) A.turns B.turns → SpendsTurns 0 A.turns B.turns
+    no_fault None e none spent = spent
+    no_fault (Some fault) e none spent = let wants = (broken_told held headers spans w A B r fault e).wants in absurd (omega arith)
+
+    by_test : (t : Bool) → (B.wanted == 0) ≡ t → SpendsTurns (idle_asked (if t then whole_so result else broken_so B.fault)) A.turns B.turns
+    by_test true e = whole_turns result A.turns B.turns (no_fault B.fault refl (eqb-true B.wanted 0 e) r.read.turns)
+    by_test false e = broken_turns B.fault A.turns B.turns r.read.turns
 
 still_short : (held : List ℕ) (headers : List HeaderSpan) (spans : RequestSpans) (w : ℕ) (A B : BodyState) (r : Reading held headers spans w A B) (came : List ℕ) → length A.held + length came < A.wanted → length (drop spans.len held ++ came) < w
 still_short held headers spans w A B r came wants =
@@ -316,8 +336,8 @@ still_short held headers spans w A B r came wants =
     omega (arith, wants, held_is, first, n_is, wanted, both)
 
 -- while its body was read the request was not whole
-pub body_waits : (held : List ℕ) (headers : List HeaderSpan) (spans : RequestSpans) (w : ℕ) (A B : BodyState) → Reading held headers spans w A B → AllSince (WaitsForRequest held A.to_come A.taken) A.moments B.moments
-body_waits held headers spans w A B r = since_so (IsWithinBody A) (WaitsForRequest held A.to_come A.taken) A.moments B.moments (λ m x. record {
+pub body_waits : (held : List ℕ) (headers : List HeaderSpan) (spans : RequestSpans) (w : ℕ) (A B : BodyState) → Reading held headers spans w A B → AllSince (WaitsForRequest held A.turns.reader.come A.taken) A.turns.reader.moments B.turns.reader.moments
+body_waits held headers spans w A B r = since_so (IsWithinBody A) (WaitsForRequest held A.turns.reader.come A.taken) A.turns.reader.moments B.turns.reader.moments (λ m x. record {
   rest = held ++ x.came;
   comes = record { piece = x.came; consumed = x.consumed; kept = refl };
   waits = inr (stands_short held headers spans w r.stands x.came (still_short held headers spans w A B r x.came x.wants));

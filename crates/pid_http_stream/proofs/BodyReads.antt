@@ -3,17 +3,19 @@ use Rattle.std.proofs.Common.{◌≡◌, ℕ, zero, suc, ◌+◌, ◌-◌, ◌^�
 use Rattle.std.specs.Prelude.{◌⊎◌, option_map, min, IfSome, IsSome, is_some, is_ok, is_err, true, false, if◌then◌else◌}
 use Rattle.std.specs.Io.KnownBytes.{Consumes, IsAtEnd, Keeps}
 use Rattle.std.proofs.KnownBytes.{Consumes-nil, Consumes-trans}
-use Rattle.std.proofs.lemmas.List.{take-append-le, take_all, append-nil}
+use Rattle.std.proofs.lemmas.List.{take-append-le, length-take-le, take_all, append-nil}
 use Rattle.pid_ident.specs.InputCalls.{StaysKept}
 use Rattle.pid_file.specs.declared.io.ReadFault.{ReadFault}
 use Rattle.pid_file.specs.declared.io.ReadFault.TheVariants.{Device}
-use Rattle.pid_http_stream.specs.Bodies.{padded, fault_told, Turns, SpendsTurns, BodyState, IsCauseOf, HasBrokenOff, IsFaultCaused, IsWithinBody, HasReadBody}
+use Rattle.pid_http_stream.specs.Bodies.{padded, fault_told, Turns, SpendsTurns, BodyState, IsCauseOf, HasBrokenOff, IsFaultCaused, IsWithinBody, HasReadBody, idle_at}
 use Rattle.pid_http_stream.specs.BodyLaws.{no_turns, stays_kept}
 use Rattle.pid_http_stream.specs.MomentLaws.{since_none, since_so}
-use Rattle.pid_http_stream.specs.Moments.{Moment, AllSince}
+use Rattle.pid_http_stream.specs.Moments.{Moment, AllSince, IsNoted}
+use Rattle.pid_http_stream.specs.Reads.{ReaderState}
 use Rattle.pid_http_stream.specs.Steps.Intakes.{IsMoment}
 use Rattle.pid_http_stream.specs.declared.body_input.BodyFault.{BodyFault}
 use Rattle.pid_http_stream.specs.declared.body_input.BodyFault.TheVariants.{ReadFault as TheReadFault}
+use Rattle.pid_http_stream.proofs.OneRead.{one_read, last_read, with_idle}
 
 -- bytes given from the front leave the others
 padded_front : (piece rest : List ℕ) (w n : ℕ) → length piece ≡ n → n ≤ w → padded w (piece ++ rest) ≡ piece ++ padded (w - n) rest
@@ -128,55 +130,76 @@ untold : (f : Option BodyFault) (s : BodyState) → f ≡ None → s.fault ≡ f
 untold f s e same = subst (λ (x : Option BodyFault). IfSome x (HasBrokenOff s)) (sym (same ∙ e)) tt
 
 -- some of what was held was given
-pub gave_held : (f : Option BodyFault) (known : Option (List ℕ)) (kept : Option ReadFault) (turns : Turns) (ms : Option (List Moment)) (u : Option (List ℕ)) (wanted n : ℕ) (held behind piece : List ℕ) → f ≡ None → held ≡ piece ++ behind → length piece ≡ n → n ≤ wanted
-    → HasReadBody (record { held = held; wanted = wanted; fault = f; to_come = known; kept = kept; turns = turns; moments = ms; taken = u }) (record { held = behind; wanted = wanted - n; fault = f; to_come = known; kept = kept; turns = turns; moments = ms; taken = u })
-gave_held f known kept turns ms u wanted n held behind piece none e l h = record {
+pub gave_held : (f : Option BodyFault) (turns : Turns) (u : Option (List ℕ)) (wanted n : ℕ) (held behind piece : List ℕ) → f ≡ None → held ≡ piece ++ behind → length piece ≡ n → n ≤ wanted
+    → HasReadBody (record { held = held; wanted = wanted; fault = f; turns = turns; taken = u }) (record { held = behind; wanted = wanted - n; fault = f; turns = turns; taken = u })
+gave_held f turns u wanted n held behind piece none e l h = record {
   used = piece;
   came = [];
-  consumed = Consumes-nil known;
+  consumed = Consumes-nil turns.reader.come;
   given = append-nil held ∙ e;
   counted = omega arith;
-  turns = no_turns turns;
+  turns = no_turns (idle_at f) turns;
+  unread = λ some. refl;
   fault = stays_kept f;
-  told = λ t. untold f (record { held = behind; wanted = wanted - n; fault = f; to_come = known; kept = kept; turns = turns; moments = ms; taken = u }) none refl;
+  told = λ t. untold f (record { held = behind; wanted = wanted - n; fault = f; turns = turns; taken = u }) none refl;
   failed = inl refl;
   taken = refl;
-  moments = since_none (IsWithinBody (record { held = held; wanted = wanted; fault = f; to_come = known; kept = kept; turns = turns; moments = ms; taken = u })) ms;
+  moments = since_none (IsWithinBody (record { held = held; wanted = wanted; fault = f; turns = turns; taken = u })) turns.reader.moments;
 }
 
 pub some_of : (n : ℕ) → ¬ (n ≡ 0) → 0 < n
 some_of zero e = absurd (e refl)
 some_of (suc n) e = omega arith
 
--- a turn was spent
-pub one_turn : (reads left reads_after : ℕ) → 0 < left → reads_after ≡ min (reads + 1) (2 ^ 64 - 1) → SpendsTurns (record { reads = reads; left = left }) (record { reads = reads_after; left = left - 1 })
-one_turn reads left reads_after some count = record { spent = omega arith; exact = λ h. omega arith; fewer = omega arith }
+-- where no read is idle, so many may be
+pub idle_turns : (n : ℕ) (a b : Turns) → SpendsTurns 0 a b → SpendsTurns n a b
+idle_turns n a b p = record { made = p.made; spent = p.spent; reads = with_idle p.made n a.reader b.reader p.reads }
+
+-- so many bytes of a buffer are some
+pub some_taken : (n : ℕ) (buffer : List ℕ) → ¬ (n ≡ 0) → n ≤ length buffer → 0 < length (take n buffer)
+some_taken n buffer some fits = let sized = length-take-le n buffer fits in let more = some_of n some in omega (arith, sized, more)
+
+-- a turn was spent on a read that brought something
+pub one_turn : (a b : ReaderState) (left : ℕ) (u : Option (List ℕ)) (piece : List ℕ) → 0 < left → b.reads ≡ min (a.reads + 1) (2 ^ 64 - 1) → Consumes a.come b.come piece → 0 < length piece → IsNoted a.come u a.moments b.moments
+    → SpendsTurns 0 (record { reader = a; left = left }) (record { reader = b; left = left - 1 })
+one_turn a b left u piece more count read some noted = record { made = 1; spent = omega arith; reads = one_read a b u piece count read some noted }
+
+-- and on one that brought nothing
+pub last_turn : (a b : ReaderState) (left : ℕ) (u : Option (List ℕ)) → 0 < left → b.reads ≡ min (a.reads + 1) (2 ^ 64 - 1) → Consumes a.come b.come [] → IsNoted a.come u a.moments b.moments
+    → SpendsTurns 1 (record { reader = a; left = left }) (record { reader = b; left = left - 1 })
+last_turn a b left u more count read noted = record { made = 1; spent = omega arith; reads = last_read a b u [] count read noted }
 
 -- the reader was read where bytes were wanted and none were held
-read_within : (s : BodyState) (ns : Option (List Moment)) → s.held ≡ [] → 0 < s.wanted → AllSince (IsMoment s.to_come s.taken) s.moments ns → AllSince (IsWithinBody s) s.moments ns
-read_within s ns none wants noted = since_so (IsMoment s.to_come s.taken) (IsWithinBody s) s.moments ns (λ m is. record {
+read_within : (s : BodyState) (ns : Option (List Moment)) → s.held ≡ [] → 0 < s.wanted → AllSince (IsMoment s.turns.reader.come s.taken) s.turns.reader.moments ns → AllSince (IsWithinBody s) s.turns.reader.moments ns
+read_within s ns none wants noted = since_so (IsMoment s.turns.reader.come s.taken) (IsWithinBody s) s.turns.reader.moments ns (λ m is. record {
   came = [];
-  consumed = subst (λ (x : Moment). Consumes s.to_come x.to_come []) (sym is) (Consumes-nil s.to_come);
+  consumed = subst (λ (x : Moment). Consumes s.turns.reader.come x.to_come []) (sym is) (Consumes-nil s.turns.reader.come);
   wants = let empty : length s.held ≡ 0 = ap length none in omega (arith, empty, wants);
   taken = ap (λ (x : Moment). x.taken) is;
 }) noted
 
+-- there was no fault
+no_fault : {P : Type 0} (f : Option BodyFault) → f ≡ None → IsSome f → P
+no_fault None none some = cc
+no_fault (Some x) none some = cc
+
 -- some of the reader's bytes were given
-pub gave_read : (f : Option BodyFault) (known left : Option (List ℕ)) (kept still : Option ReadFault) (a b : Turns) (ms ns : Option (List Moment)) (u : Option (List ℕ)) (wanted n : ℕ) (held piece : List ℕ) → f ≡ None → held ≡ [] → Consumes known left piece → length piece ≡ n → n ≤ wanted → SpendsTurns a b
-    → 0 < wanted → AllSince (IsMoment known u) ms ns → still ≡ kept
-    → HasReadBody (record { held = held; wanted = wanted; fault = f; to_come = known; kept = kept; turns = a; moments = ms; taken = u }) (record { held = held; wanted = wanted - n; fault = f; to_come = left; kept = still; turns = b; moments = ns; taken = u })
-gave_read f known left kept still a b ms ns u wanted n held piece none e c l h spent wants noted good = record {
+pub gave_read : (f : Option BodyFault) (a b : Turns) (u : Option (List ℕ)) (wanted n : ℕ) (held piece : List ℕ) → f ≡ None → held ≡ [] → Consumes a.reader.come b.reader.come piece → length piece ≡ n → n ≤ wanted → SpendsTurns 0 a b
+    → 0 < wanted → AllSince (IsMoment a.reader.come u) a.reader.moments b.reader.moments → b.reader.fault ≡ a.reader.fault
+    → HasReadBody (record { held = held; wanted = wanted; fault = f; turns = a; taken = u }) (record { held = held; wanted = wanted - n; fault = f; turns = b; taken = u })
+gave_read f a b u wanted n held piece none e c l h spent wants noted good = record {
   used = piece;
   came = piece;
   consumed = c;
   given = ap (λ (x : List ℕ). x ++ piece) e ∙ sym (append-nil piece) ∙ ap (λ (x : List ℕ). piece ++ x) (sym e);
   counted = omega arith;
-  turns = spent;
+  turns = subst (λ (x : Option BodyFault). SpendsTurns (idle_at x) a b) (sym none) spent;
+  unread = λ some. no_fault f none some;
   fault = stays_kept f;
-  told = λ t. untold f (record { held = held; wanted = wanted - n; fault = f; to_come = left; kept = still; turns = b; moments = ns; taken = u }) none refl;
+  told = λ t. untold f (record { held = held; wanted = wanted - n; fault = f; turns = b; taken = u }) none refl;
   failed = inl good;
   taken = refl;
-  moments = read_within (record { held = held; wanted = wanted; fault = f; to_come = known; kept = kept; turns = a; moments = ms; taken = u }) ns e wants noted;
+  moments = read_within (record { held = held; wanted = wanted; fault = f; turns = a; taken = u }) b.reader.moments e wants noted;
 }
 
 told_failed : (still kept : Option ReadFault) (fault : BodyFault) → (still ≡ kept) ⊎ (fault ≡ TheReadFault) → (still ≡ kept) ⊎ (Some fault ≡ Some TheReadFault)
@@ -184,22 +207,23 @@ told_failed still kept fault (inl e) = inl e
 told_failed still kept fault (inr e) = inr (ap Some e)
 
 -- no byte was given, and this is the fault now
-pub broke_off : (f : Option BodyFault) (known left : Option (List ℕ)) (kept still : Option ReadFault) (a b : Turns) (ms ns : Option (List Moment)) (u : Option (List ℕ)) (wanted : ℕ) (held : List ℕ) (fault : BodyFault) → f ≡ None → Consumes known left [] → SpendsTurns a b
-    → 0 < wanted → held ≡ [] → AllSince (IsMoment known u) ms ns → IsCauseOf fault (record { held = held; wanted = wanted; fault = Some fault; to_come = left; kept = still; turns = b; moments = ns; taken = u })
-    → (still ≡ kept) ⊎ (fault ≡ TheReadFault)
-    → HasReadBody (record { held = held; wanted = wanted; fault = f; to_come = known; kept = kept; turns = a; moments = ms; taken = u }) (record { held = held; wanted = wanted; fault = Some fault; to_come = left; kept = still; turns = b; moments = ns; taken = u })
-broke_off f known left kept still a b ms ns u wanted held fault none c spent wants none_held noted cause failed = record {
+pub broke_off : (f : Option BodyFault) (a b : Turns) (u : Option (List ℕ)) (wanted : ℕ) (held : List ℕ) (fault : BodyFault) → f ≡ None → Consumes a.reader.come b.reader.come [] → SpendsTurns (idle_at (Some fault)) a b
+    → 0 < wanted → held ≡ [] → AllSince (IsMoment a.reader.come u) a.reader.moments b.reader.moments → IsCauseOf fault (record { held = held; wanted = wanted; fault = Some fault; turns = b; taken = u })
+    → (b.reader.fault ≡ a.reader.fault) ⊎ (fault ≡ TheReadFault)
+    → HasReadBody (record { held = held; wanted = wanted; fault = f; turns = a; taken = u }) (record { held = held; wanted = wanted; fault = Some fault; turns = b; taken = u })
+broke_off f a b u wanted held fault none c spent wants none_held noted cause failed = record {
   used = [];
   came = [];
   consumed = c;
   given = append-nil held;
   counted = omega arith;
   turns = spent;
+  unread = λ some. no_fault f none some;
   fault = subst (λ (x : Option BodyFault). StaysKept x (Some fault)) (sym none) tt;
   told = λ t. record { wants = wants; none_held = none_held; cause = cause };
-  failed = told_failed still kept fault failed;
+  failed = told_failed b.reader.fault a.reader.fault fault failed;
   taken = refl;
-  moments = read_within (record { held = held; wanted = wanted; fault = f; to_come = known; kept = kept; turns = a; moments = ms; taken = u }) ns none_held wants noted;
+  moments = read_within (record { held = held; wanted = wanted; fault = f; turns = a; taken = u }) b.reader.moments none_held wants noted;
 }
 
 -- what came is no longer than what was to come

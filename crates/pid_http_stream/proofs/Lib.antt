@@ -13,3 +13,4 @@ pub mod Serving
 pub mod Looping
 pub mod Noting
 pub mod Uniqueness
+pub mod OneRead

@@ -1,5 +1,5 @@
 -- One request, from what its handler was asked to what was written.
-use Rattle.std.proofs.Common.{◌≡◌, ℕ, ◌+◌, ◌-◌, ◌^◌, ◌≤◌, Bool, true, false, List, [], ◌++◌, Option, Some, None, drop, refl, sym, ap, subst, ◌∙◌, arith, inl, inr}
+use Rattle.std.proofs.Common.{◌≡◌, ℕ, ◌+◌, ◌≤◌, Bool, true, false, List, [], ◌++◌, Option, Some, None, drop, refl, sym, ap, subst, ◌∙◌, arith, inl, inr}
 use Rattle.std.specs.Prelude.{IfSome, IsSome, ◌⊎◌}
 use Rattle.std.specs.Io.KnownBytes.{Appends, IsAtEnd}
 use Rattle.std.proofs.lemmas.List.{append-nil}
@@ -9,17 +9,18 @@ use Rattle.httparse.specs.declared.spans.HeaderSpan.{HeaderSpan}
 use Rattle.httparse.specs.declared.spans.RequestSpans.{RequestSpans}
 use Rattle.pid_file.specs.declared.io.ReadFault.{ReadFault}
 use Rattle.pid_file.specs.declared.io.WriteFault.{WriteFault}
-use Rattle.pid_http_stream.specs.Causes.{LastState, HasEndCause, EndsFor}
+use Rattle.pid_http_stream.specs.Causes.{LastState, HasEndCause, EndsFor, idle_reads}
 use Rattle.pid_http_stream.specs.Conducts.{Conduct, StandsOver}
 use Rattle.pid_http_stream.specs.Connections.{asks_to_close}
 use Rattle.pid_http_stream.specs.Endings.{IsShort}
 use Rattle.pid_http_stream.specs.Handling.{MayReply}
 use Rattle.pid_http_stream.specs.Replies.{reply_head, reply_bytes, fault_answer}
 use Rattle.pid_http_stream.specs.Requests.{Request, IsRequest, fields_of}
-use Rattle.pid_http_stream.specs.Steps.Intakes.{AskStops, StopsFor}
-use Rattle.pid_http_stream.specs.Steps.Loop.{AsksHandler, IsSent, SendsText, WritesRefusal, IsStep, EndsSo, EndsWithin, Steps, EndsBroken, answered_so, stop_end}
+use Rattle.pid_http_stream.specs.Steps.Intakes.{AskStops, StopsFor, idle_stop}
+use Rattle.pid_http_stream.specs.Steps.Loop.{AsksHandler, IsSent, SendsText, WritesRefusal, IsStep, EndsSo, EndsWhy, EndsWithin, Steps, EndsBroken, answered_so, idle_answered, stop_end}
 use Rattle.pid_http_stream.specs.Streams.{closes}
-use Rattle.pid_http_stream.specs.Bodies.{Turns, SpendsTurns}
+use Rattle.pid_http_stream.specs.Bodies.{Turns, SpendsTurns, idle_at}
+use Rattle.pid_http_stream.specs.Reads.{ReaderState}
 use Rattle.pid_http_stream.specs.declared.one_request.Asked.TheVariants as asked
 use Rattle.pid_http_stream.specs.declared.body_input.BodyFault.{BodyFault}
 use Rattle.pid_http_stream.specs.declared.body_input.BodyFault.TheVariants as faults
@@ -33,6 +34,7 @@ use Rattle.pid_http_stream.specs.declared.sending.Sent.TheVariants as sent
 use Rattle.pid_http_stream.specs.declared.stream.Answered.TheVariants as answered
 use Rattle.pid_http_stream.specs.declared.stream.StreamEnd.{StreamEnd}
 use Rattle.pid_http_stream.specs.declared.stream.StreamEnd.TheVariants as ends
+use Rattle.pid_http_stream.proofs.BodyReads.{idle_turns}
 use Rattle.pid_http_stream.proofs.Heads.{IsRequest-append}
 
 -- a reply that was sent so far is this step
@@ -119,12 +121,18 @@ broken_step conduct a b input left u v held headers spans told faults.TurnsSpent
 -- ---- why the stream ends
 
 -- where the reply was sent so far
-pub sent_ends : (x : LastState) (s : Sent) (closing : Bool) → x.reads_after ≤ x.reads + x.turns → x.read_fault ≡ x.fault_before → (s ≡ sent.WriteFault → IsSome x.write_fault) → (s ≡ sent.StoreFault → x.write_fault ≡ None) → (s ≡ sent.StoreFault → x.stuck)
-    → EndsSo (answered_so s closing) x
-sent_ends x sent.Whole true few same failed good stuck = same
-sent_ends x sent.Whole false few same failed good stuck = same
-sent_ends x sent.WriteFault closing few same failed good stuck = record { within = few; cause = failed refl; failed = inl same }
-sent_ends x sent.StoreFault closing few same failed good stuck = record { within = few; cause = (good refl, stuck refl); failed = inl same }
+pub sent_ends : (x : LastState) (left : ℕ) (s : Sent) (closing : Bool) → x.after.fault ≡ x.before.fault → (s ≡ sent.WriteFault → IsSome x.write_fault) → (s ≡ sent.StoreFault → x.write_fault ≡ None) → (s ≡ sent.StoreFault → x.stuck)
+    → EndsSo (answered_so s closing) left x
+sent_ends x left sent.Whole true same failed good stuck = same
+sent_ends x left sent.Whole false same failed good stuck = same
+sent_ends x left sent.WriteFault closing same failed good stuck = record { cause = failed refl; failed = inl same; spent = λ e. cc }
+sent_ends x left sent.StoreFault closing same failed good stuck = record { cause = (good refl, stuck refl); failed = inl same; spent = λ e. cc }
+
+pub sent_turns : (s : Sent) (closing : Bool) (a b : Turns) → SpendsTurns 0 a b → SpendsTurns (idle_answered (answered_so s closing)) a b
+sent_turns sent.Whole true a b spent = spent
+sent_turns sent.Whole false a b spent = spent
+sent_turns sent.WriteFault closing a b spent = idle_turns 1 a b spent
+sent_turns sent.StoreFault closing a b spent = spent
 
 -- bytes that are there are no body of the handler's own
 pub never_stuck : (s : Sent) (u v : Option (List ℕ)) (bytes : List ℕ) → SendsText s u v bytes → ¬ (s ≡ sent.StoreFault)
@@ -145,64 +153,96 @@ fault_is_not_stuck e = cc
 pub stuck_is_no_fault : {P : Type 0} → sent.StoreFault ≡ sent.WriteFault → P
 stuck_is_no_fault e = cc
 
+pub memory_is_not_spent : {P : Type 0} → ends.Memory ≡ ends.TurnsSpent → P
+memory_is_not_spent e = cc
+
+pub clean_is_not_spent : {P : Type 0} → ends.Clean ≡ ends.TurnsSpent → P
+clean_is_not_spent e = cc
+
+pub closed_is_not_spent : {P : Type 0} → ends.Closed ≡ ends.TurnsSpent → P
+closed_is_not_spent e = cc
+
 -- where a refusal was written
-pub refused_ends : (x : LastState) (fault : StreamFault) (u v : Option (List ℕ)) (end : StreamEnd) → x.reads_after ≤ x.reads + x.turns → x.read_fault ≡ x.fault_before → WritesRefusal fault u v end → (end ≡ ends.WriteFault → IsSome x.write_fault) → EndsFor end x
-refused_ends x fault u v ends.HeadFault few same r failed = record { within = few; cause = tt; failed = inl same }
-refused_ends x fault u v ends.BodyFault few same r failed = record { within = few; cause = tt; failed = inl same }
-refused_ends x fault u v ends.WriteFault few same r failed = record { within = few; cause = failed refl; failed = inl same }
-refused_ends x fault u v ends.Clean few same r failed = absurd r
-refused_ends x fault u v ends.Closed few same r failed = absurd r
-refused_ends x fault u v ends.ReadFault few same r failed = absurd r
-refused_ends x fault u v ends.StoreFault few same r failed = absurd r
-refused_ends x fault u v ends.Memory few same r failed = absurd r
-refused_ends x fault u v ends.TurnsSpent few same r failed = absurd r
+pub refused_ends : (x : LastState) (left : ℕ) (fault : StreamFault) (u v : Option (List ℕ)) (end : StreamEnd) → x.after.fault ≡ x.before.fault → WritesRefusal fault u v end → (end ≡ ends.WriteFault → IsSome x.write_fault) → EndsWhy end left x
+refused_ends x left fault u v ends.HeadFault same r failed = record { cause = tt; failed = inl same; spent = λ e. cc }
+refused_ends x left fault u v ends.BodyFault same r failed = record { cause = tt; failed = inl same; spent = λ e. cc }
+refused_ends x left fault u v ends.WriteFault same r failed = record { cause = failed refl; failed = inl same; spent = λ e. cc }
+refused_ends x left fault u v ends.Clean same r failed = absurd r
+refused_ends x left fault u v ends.Closed same r failed = absurd r
+refused_ends x left fault u v ends.ReadFault same r failed = absurd r
+refused_ends x left fault u v ends.StoreFault same r failed = absurd r
+refused_ends x left fault u v ends.Memory same r failed = absurd r
+refused_ends x left fault u v ends.TurnsSpent same r failed = absurd r
+
+pub refused_idle : (fault : StreamFault) (u v : Option (List ℕ)) (end : StreamEnd) → WritesRefusal fault u v end → idle_reads end ≡ 1
+refused_idle fault u v ends.HeadFault r = refl
+refused_idle fault u v ends.BodyFault r = refl
+refused_idle fault u v ends.WriteFault r = refl
+refused_idle fault u v ends.Clean r = absurd r
+refused_idle fault u v ends.Closed r = absurd r
+refused_idle fault u v ends.ReadFault r = absurd r
+refused_idle fault u v ends.StoreFault r = absurd r
+refused_idle fault u v ends.Memory r = absurd r
+refused_idle fault u v ends.TurnsSpent r = absurd r
 
 -- where a body broke off
-pub broken_ends : (x : LastState) (fault : BodyFault) (left : ℕ) (u v : Option (List ℕ)) (end : StreamEnd) → x.reads_after ≤ x.reads + x.turns → EndsBroken fault u v end → AskStops (asked.Broken fault) x.fault_before x.read_fault left → (left ≡ 0 → HasEndCause ends.TurnsSpent x)
-    → (end ≡ ends.WriteFault → IsSome x.write_fault) → EndsFor end x
-broken_ends x faults.Short left u v end few r why spent failed = refused_ends x BodyShort u v end few why r failed
-broken_ends x faults.ReadFault left u v end few (e, same) why spent failed = subst (λ k. EndsFor k x) (sym e) (record { within = few; cause = why; failed = inr refl })
-broken_ends x faults.TurnsSpent left u v end few (e, same) why spent failed = subst (λ k. EndsFor k x) (sym e) (record { within = few; cause = spent why.0; failed = inl why.1 })
+pub broken_ends : (x : LastState) (fault : BodyFault) (left : ℕ) (u v : Option (List ℕ)) (end : StreamEnd) → EndsBroken fault u v end → AskStops (asked.Broken fault) x.before.fault x.after.fault left → (end ≡ ends.WriteFault → IsSome x.write_fault) → EndsWhy end left x
+broken_ends x faults.Short left u v end r why failed = refused_ends x left BodyShort u v end why r failed
+broken_ends x faults.ReadFault left u v end (e, same) why failed = subst (λ k. EndsWhy k left x) (sym e) (record { cause = why; failed = inr refl; spent = λ f. cc })
+broken_ends x faults.TurnsSpent left u v end (e, same) why failed = subst (λ k. EndsWhy k left x) (sym e) (record { cause = tt; failed = inl why.1; spent = λ f. why.0 })
+
+pub broken_idle : (fault : BodyFault) (u v : Option (List ℕ)) (end : StreamEnd) → EndsBroken fault u v end → idle_reads end ≡ idle_at (Some fault)
+broken_idle faults.Short u v end r = refused_idle BodyShort u v end r
+broken_idle faults.ReadFault u v end (e, same) = ap idle_reads e
+broken_idle faults.TurnsSpent u v end (e, same) = ap idle_reads e
+
+-- no turn came back
+pub fewer_turns : (n : ℕ) (a b : Turns) → SpendsTurns n a b → b.left ≤ a.left
+fewer_turns n a b spends = omega (arith, spends.spent)
 
 -- where reading stopped
-pub stopped_ends : (x : LastState) (stop : Stop) (left : ℕ) → x.reads_after ≤ x.reads + x.turns → StopsFor stop x.fault_before x.read_fault left → (left ≡ 0 → HasEndCause ends.TurnsSpent x) → EndsFor (stop_end stop) x
-stopped_ends x stops.ReadFault left few why spent = record { within = few; cause = why; failed = inr refl }
-stopped_ends x stops.TurnsSpent left few why spent = record { within = few; cause = spent why.0; failed = inl why.1 }
-stopped_ends x stops.Memory left few why spent = record { within = few; cause = tt; failed = inl why }
+pub stopped_ends : (x : LastState) (stop : Stop) (left : ℕ) → StopsFor stop x.before.fault x.after.fault left → EndsWhy (stop_end stop) left x
+stopped_ends x stops.ReadFault left why = record { cause = why; failed = inr refl; spent = λ e. cc }
+stopped_ends x stops.TurnsSpent left why = record { cause = tt; failed = inl why.1; spent = λ e. why.0 }
+stopped_ends x stops.Memory left why = record { cause = tt; failed = inl why; spent = λ e. cc }
 
-pub turns_within : (a b : Turns) → SpendsTurns a b → b.reads ≤ a.reads + a.left
-turns_within a b s = let e = s.spent in omega (arith, e)
+pub stopped_idle : (stop : Stop) → idle_reads (stop_end stop) ≡ idle_stop stop
+stopped_idle stops.ReadFault = refl
+stopped_idle stops.TurnsSpent = refl
+stopped_idle stops.Memory = refl
 
--- some turns were spent before
-cause_later : (bf mf rf : Option ReadFault) (wf : Option WriteFault) (stuck : Type 0) (a b : Turns) (n : ℕ) → SpendsTurns a b → (end : StreamEnd)
-    → HasEndCause end (record { fault_before = mf; read_fault = rf; write_fault = wf; stuck = stuck; turns = b.left; reads = b.reads; reads_after = n })
-    → HasEndCause end (record { fault_before = bf; read_fault = rf; write_fault = wf; stuck = stuck; turns = a.left; reads = a.reads; reads_after = n })
-cause_later bf mf rf wf stuck a b n s ends.Clean why = tt
-cause_later bf mf rf wf stuck a b n s ends.Closed why = tt
-cause_later bf mf rf wf stuck a b n s ends.HeadFault why = tt
-cause_later bf mf rf wf stuck a b n s ends.BodyFault why = tt
-cause_later bf mf rf wf stuck a b n s ends.ReadFault why = why
-cause_later bf mf rf wf stuck a b n s ends.WriteFault why = why
-cause_later bf mf rf wf stuck a b n s ends.StoreFault why = why
-cause_later bf mf rf wf stuck a b n s ends.Memory why = tt
-cause_later bf mf rf wf stuck a b n s ends.TurnsSpent why = λ few.
-    let e = s.exact few in
-    let room : b.reads + b.left ≤ 2 ^ 64 - 1 = omega (arith, e, few) in
-    why room ∙ e
+-- by the reads from the start, and by why it ends then
+pub ends_for : (x : LastState) (end : StreamEnd) (left : ℕ) → SpendsTurns (idle_reads end) (record { reader = x.before; left = x.turns }) (record { reader = x.after; left = left }) → EndsWhy end left x → EndsFor end x
+ends_for x end left spends why = record {
+  made = spends.made;
+  within = omega (arith, spends.spent);
+  spent = λ e. let none = why.spent e in omega (arith, spends.spent, none);
+  reads = spends.reads;
+  cause = why.cause;
+  failed = why.failed;
+}
+
+-- the same, if the reader was read before and had not failed
+cause_later : (x y : LastState) → y.after ≡ x.after → y.write_fault ≡ x.write_fault → (x.stuck → y.stuck) → (end : StreamEnd) → HasEndCause end x → HasEndCause end y
+cause_later x y after write stuck ends.Clean why = tt
+cause_later x y after write stuck ends.Closed why = tt
+cause_later x y after write stuck ends.HeadFault why = tt
+cause_later x y after write stuck ends.BodyFault why = tt
+cause_later x y after write stuck ends.ReadFault why = subst (λ (r : ReaderState). IsSome r.fault) (sym after) why
+cause_later x y after write stuck ends.WriteFault why = subst (λ (f : Option WriteFault). IsSome f) (sym write) why
+cause_later x y after write stuck ends.StoreFault why = (write ∙ why.0, stuck why.1)
+cause_later x y after write stuck ends.Memory why = tt
+cause_later x y after write stuck ends.TurnsSpent why = tt
 
 failed_later : (bf mf rf : Option ReadFault) (P : Type 0) → mf ≡ bf → (rf ≡ mf) ⊎ P → (rf ≡ bf) ⊎ P
 failed_later bf mf rf P e (inl same) = inl (same ∙ e)
 failed_later bf mf rf P e (inr p) = inr p
 
-pub ends_later : (bf mf rf : Option ReadFault) (wf : Option WriteFault) (stuck : Type 0) (a b : Turns) (n : ℕ) → mf ≡ bf → SpendsTurns a b → (end : StreamEnd)
-    → EndsFor end (record { fault_before = mf; read_fault = rf; write_fault = wf; stuck = stuck; turns = b.left; reads = b.reads; reads_after = n })
-    → EndsFor end (record { fault_before = bf; read_fault = rf; write_fault = wf; stuck = stuck; turns = a.left; reads = a.reads; reads_after = n })
-ends_later bf mf rf wf stuck a b n e s end x = record {
-  within = let few = x.within in let spent = s.spent in omega (arith, few, spent);
-  cause = cause_later bf mf rf wf stuck a b n s end x.cause;
-  failed = failed_later bf mf rf (end ≡ ends.ReadFault) e x.failed;
+pub why_later : (first mid last : ReaderState) (wf : Option WriteFault) (stuck : Type 0) (turns later left : ℕ) → mid.fault ≡ first.fault → (end : StreamEnd)
+    → EndsWhy end left (record { before = mid; after = last; write_fault = wf; stuck = stuck; turns = later })
+    → EndsWhy end left (record { before = first; after = last; write_fault = wf; stuck = stuck; turns = turns })
+why_later first mid last wf stuck turns later left e end x = record {
+  cause = cause_later (record { before = mid; after = last; write_fault = wf; stuck = stuck; turns = later }) (record { before = first; after = last; write_fault = wf; stuck = stuck; turns = turns }) refl refl (λ s. s) end x.cause;
+  failed = failed_later first.fault mid.fault last.fault (end ≡ ends.ReadFault) e x.failed;
+  spent = x.spent;
 }
-
--- all turns were spent, each on a read
-pub spent_exactly : (a b : Turns) → SpendsTurns a b → b.left ≡ 0 → a.reads + a.left ≤ 2 ^ 64 - 1 → b.reads ≡ a.reads + a.left
-spent_exactly a b s none h = let e = s.exact h in omega (arith, e, none)

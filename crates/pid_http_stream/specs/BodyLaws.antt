@@ -2,27 +2,30 @@
 -- `Input`.
 use Rattle.std.proofs.Common.{◌≡◌, ℕ, ◌+◌, List, [], ◌++◌, Option, Some, None, refl, sym, ap, ◌∙◌}
 use Rattle.std.proofs.Common.{append_assoc, length, length-append, arith, subst, inl, inr}
-use Rattle.std.specs.Prelude.{◌⊎◌}
+use Rattle.std.specs.Prelude.{◌⊎◌, IsSome}
 use Rattle.std.proofs.lemmas.List.{append-nil}
 use Rattle.std.proofs.KnownBytes.{Consumes-nil, Consumes-trans}
 use Rattle.pid_file.specs.declared.io.ReadFault.{ReadFault as ReaderFault}
 use Rattle.pid_ident.specs.InputCalls.{StaysKept}
 use Rattle.pid_http_stream.specs.Bodies.{Turns, SpendsTurns, BodyState, IsWithinBody, HasReadBody}
+use Rattle.pid_http_stream.specs.Bodies.{idle_at}
 use Rattle.pid_http_stream.specs.MomentLaws.{since_none, since_then, since_so}
 use Rattle.pid_http_stream.specs.Moments.{Moment}
+use Rattle.pid_http_stream.specs.ReadLaws.{reads_none, reads_then}
 use Rattle.pid_http_stream.specs.declared.body_input.BodyFault.{BodyFault}
 use Rattle.pid_http_stream.specs.declared.body_input.BodyFault.TheVariants.{ReadFault}
 
 -- no read costs nothing
-pub no_turns : (a : Turns) → SpendsTurns a a
-no_turns a = record { spent = omega arith; exact = λ h. refl; fewer = omega arith }
+pub no_turns : (n : ℕ) (a : Turns) → SpendsTurns n a a
+no_turns n a = record { made = 0; spent = omega arith; reads = reads_none n a.reader }
 
--- reads and then others are reads
-pub more_turns : (a b c : Turns) → SpendsTurns a b → SpendsTurns b c → SpendsTurns a c
-more_turns a b c p q = record {
+-- reads that brought something each and then others are reads
+pub more_turns : (n : ℕ) (a b c : Turns) → SpendsTurns 0 a b → SpendsTurns n b c
+    → SpendsTurns n a c
+more_turns n a b c p q = record {
+  made = p.made + q.made;
   spent = omega (arith, p.spent, q.spent);
-  exact = λ h. let e = p.exact h in q.exact (omega (arith, e, h)) ∙ e;
-  fewer = omega (arith, p.fewer, q.fewer);
+  reads = reads_then p.made q.made n a.reader b.reader c.reader p.reads q.reads;
 }
 
 -- a fault is kept if nothing is done
@@ -34,6 +37,18 @@ kept_then : (f g h : Option BodyFault) → StaysKept f g → StaysKept g h → S
 kept_then None g h p q = tt
 kept_then (Some x) None h p q = absurd cc
 kept_then (Some x) (Some y) h p q = q ∙ p
+
+-- with a fault it is read no more
+turns_then : (f g : Option BodyFault) (a b c : Turns) → StaysKept f g → (IsSome f → c ≡ b)
+    → SpendsTurns (idle_at f) a b → SpendsTurns (idle_at g) b c → SpendsTurns (idle_at g) a c
+turns_then None g a b c kept unread p q = more_turns (idle_at g) a b c p q
+turns_then (Some f) g a b c kept unread p q =
+    subst (λ (h : Option BodyFault). SpendsTurns (idle_at h) a c) (sym kept)
+    (subst (λ (t : Turns). SpendsTurns (idle_at (Some f)) a t) (sym (unread refl)) p)
+
+some_then : (f g : Option BodyFault) → StaysKept f g → IsSome f → IsSome g
+some_then None g kept some = absurd cc
+some_then (Some f) g kept some = subst IsSome (sym kept) refl
 
 -- the reader under it failed in the first reads or in the others
 failed_then : (a b c : Option ReaderFault) (f g : Option BodyFault) → (b ≡ a) ⊎ (f ≡ Some ReadFault)
@@ -48,22 +63,24 @@ pub no_body_reads : (s : BodyState) → HasReadBody s s
 no_body_reads s = record {
   used = [];
   came = [];
-  consumed = Consumes-nil s.to_come;
+  consumed = Consumes-nil s.turns.reader.come;
   given = append-nil s.held;
   counted = omega arith;
-  turns = no_turns s.turns;
+  turns = no_turns (idle_at s.fault) s.turns;
+  unread = λ h. refl;
   fault = stays_kept s.fault;
   told = λ h. h;
   failed = inl refl;
   taken = refl;
-  moments = since_none (IsWithinBody s) s.moments;
+  moments = since_none (IsWithinBody s) s.turns.reader.moments;
 }
 
 within_first : (a b c : BodyState) → HasReadBody a b → (m : Moment) → IsWithinBody b m
     → IsWithinBody a m
 within_first a b c p m x = record {
   came = p.came ++ x.came;
-  consumed = Consumes-trans a.to_come b.to_come m.to_come p.came x.came p.consumed x.consumed;
+  consumed = Consumes-trans a.turns.reader.come b.turns.reader.come m.to_come p.came x.came
+      p.consumed x.consumed;
   wants =
       let given : length a.held + length p.came
       ≡ length p.used + length b.held = sym
@@ -77,17 +94,20 @@ pub more_body_reads : (a b c : BodyState) → HasReadBody a b → HasReadBody b 
 more_body_reads a b c p q = record {
   used = p.used ++ q.used;
   came = p.came ++ q.came;
-  consumed = Consumes-trans a.to_come b.to_come c.to_come p.came q.came p.consumed q.consumed;
+  consumed = Consumes-trans a.turns.reader.come b.turns.reader.come c.turns.reader.come p.came
+      q.came p.consumed q.consumed;
   given = sym (append_assoc a.held p.came q.came) ∙ ap
       (λ (l : List ℕ). l ++ q.came) p.given ∙ append_assoc p.used b.held q.came ∙ ap
       (λ (l : List ℕ). p.used ++ l) q.given ∙ sym (append_assoc p.used q.used c.held);
   counted = omega (arith, length-append p.used q.used, p.counted, q.counted);
-  turns = more_turns a.turns b.turns c.turns p.turns q.turns;
+  turns = turns_then b.fault c.fault a.turns b.turns c.turns q.fault q.unread p.turns q.turns;
+  unread = λ h. q.unread (some_then a.fault b.fault p.fault h) ∙ p.unread h;
   fault = kept_then a.fault b.fault c.fault p.fault q.fault;
   told = λ h. q.told (p.told h);
-  failed = failed_then a.kept b.kept c.kept b.fault c.fault p.failed q.failed q.fault;
+  failed = failed_then a.turns.reader.fault b.turns.reader.fault
+      c.turns.reader.fault b.fault c.fault p.failed q.failed q.fault;
   taken = q.taken ∙ p.taken;
-  moments = since_then (IsWithinBody a) a.moments b.moments c.moments p.moments
-      (since_so (IsWithinBody b) (IsWithinBody a) b.moments c.moments
-      (within_first a b c p) q.moments);
+  moments = since_then (IsWithinBody a) a.turns.reader.moments b.turns.reader.moments
+      c.turns.reader.moments p.moments (since_so (IsWithinBody b) (IsWithinBody a)
+      b.turns.reader.moments c.turns.reader.moments (within_first a b c p) q.moments);
 }

@@ -55,53 +55,23 @@ impl<I: Incoming<W>, W: Output> Input for BodyInput<'_, '_, '_, I, W> {
           held = a.held.now;
           wanted = a.wanted;
           fault = a.fault;
-          to_come = I.to_come a.input.now;
-          kept = I.read_fault a.input.now;
-          turns = turns_at (I.reads a.input.now) a.left;
-          moments = I.moments a.input.now;
+          turns = turns_at I.Incoming a.input.now a.left;
           taken = W.taken a.output.now;
         })
         (record {
           held = b.held.now;
           wanted = b.wanted;
           fault = b.fault;
-          to_come = I.to_come b.input.now;
-          kept = I.read_fault b.input.now;
-          turns = turns_at (I.reads b.input.now) b.left;
-          moments = I.moments b.input.now;
+          turns = turns_at I.Incoming b.input.now b.left;
           taken = W.taken b.output.now;
         }) };
 
-    ghost stays = { λ a. (
-      refl,
-      I.stays a.input.now,
-      no_body_reads
-          (record {
-            held = a.held.now;
-            wanted = a.wanted;
-            fault = a.fault;
-            to_come = I.to_come a.input.now;
-            kept = I.read_fault a.input.now;
-            turns = turns_at (I.reads a.input.now) a.left;
-            moments = I.moments a.input.now;
-            taken = W.taken a.output.now;
-          }),
-    ) };
+    ghost stays = { λ a. (refl, I.stays a.input.now, no_body_reads _) };
 
     ghost joins = { λ a b c p q. (
       q.0 ∙ p.0,
       I.joins a.input.now b.input.now c.input.now p.1 q.1,
-      more_body_reads _
-          (record {
-            held = b.held.now;
-            wanted = b.wanted;
-            fault = b.fault;
-            to_come = I.to_come b.input.now;
-            kept = I.read_fault b.input.now;
-            turns = turns_at (I.reads b.input.now) b.left;
-            moments = I.moments b.input.now;
-            taken = W.taken b.output.now;
-          }) _ p.2 q.2,
+      more_body_reads _ _ _ p.2 q.2,
     ) };
 
     fn read(&mut self, buffer: &mut [u8]) -> Result<usize, ReadFault> {

@@ -28,6 +28,8 @@ ghost use Rattle.pid_http_stream.specs.Steps.Intakes.{
   IsMoment,
   WaitsForRequest,
   StaysBut,
+  idle_filled,
+  idle_head,
 };
 ghost use Rattle.pid_http_stream.specs.Moments.{AllSince};
 ghost use Rattle.pid_http_stream.specs.Unfinished.{IsHeadUnfinished, IsUnfinished};
@@ -90,8 +92,9 @@ fn fill<I: Incoming<W>, W: Output>(
     ensures stays { StaysBut held.old.items held.new.items (I.to_come input.new) result }
     ensures piece { result ≡ Filled.Piece → (turns_left.new + 1 ≡ turns_left.old)
         × (length held.new.items ≤ length held.old.items + READ_SIZE) }
-    ensures turns { SpendsTurns (turns_at (I.reads input.old) turns_left.old)
-        (turns_at (I.reads input.new) turns_left.new) }
+    ensures turns { SpendsTurns (idle_filled result)
+        (turns_at I.Incoming input.old turns_left.old)
+        (turns_at I.Incoming input.new turns_left.new) }
     ensures noted { AllSince (IsMoment (I.to_come input.old) (W.taken output.now))
         (I.moments input.old) (I.moments input.new) }
     ensures stopped { FillStops result (I.read_fault input.old) (I.read_fault input.new)
@@ -120,6 +123,7 @@ fn judge_end(held: &[u8]) -> HeadRead
     ensures judged { (fields : List FieldSpan) → (left : Option (List ℕ)) → IsAtEnd left
         → IsHeadRead held.now fields left result }
     ensures stopped { (fault : Option ReadFault) (left : ℕ) → HeadStops result fault fault left }
+    ensures idle { idle_head result ≡ 1 }
 {
     if are_line_ends(held) {
         HeadRead::Nothing
@@ -156,8 +160,9 @@ pub(crate) fn read_head<I: Incoming<W>, W: Output>(
     ensures comes { ComesIn held.old.items held.new.items (I.to_come input.old)
         (I.to_come input.new) }
     ensures head { IsHeadRead held.new.items fields.new (I.to_come input.new) result }
-    ensures turns { SpendsTurns (turns_at (I.reads input.old) turns_left.old)
-        (turns_at (I.reads input.new) turns_left.new) }
+    ensures turns { SpendsTurns (idle_head result)
+        (turns_at I.Incoming input.old turns_left.old)
+        (turns_at I.Incoming input.new turns_left.new) }
     ensures pace { turns_left.new * READ_SIZE + length held.new.items
         ≤ turns_left.old * READ_SIZE + length held.old.items }
     ensures waits { AllSince

@@ -19,7 +19,7 @@ ghost use Rattle.httparse.specs.Grammar.{RequestHead};
 ghost use Rattle.pid_http_stream.specs.Bodies.{SpendsTurns, turns_at};
 ghost use Rattle.pid_http_stream.specs.BodyLengths.{longest_body};
 ghost use Rattle.pid_http_stream.specs.Handling.{IsHandled};
-ghost use Rattle.pid_http_stream.specs.Steps.Intakes.{AskStops, WaitsForRequest};
+ghost use Rattle.pid_http_stream.specs.Steps.Intakes.{AskStops, WaitsForRequest, idle_asked};
 ghost use Rattle.pid_http_stream.specs.HeadParts.{IsHeadOf};
 ghost use Rattle.pid_http_stream.specs.Leading.{Leads};
 ghost use Rattle.pid_http_stream.specs.Moments.{AllSince};
@@ -165,8 +165,9 @@ pub(crate) fn ask_over<H: Handler, I: Incoming<W>, W: Output>(
         (λ v w. IfSome (I.to_come input.old) (λ _. AsksHandler H.conduct
         (around v w (I.to_come input.old) (I.to_come input.new))
         (front_head head.now content_length) result)) }
-    ensures turns { SpendsTurns (turns_at (I.reads input.old) turns_left.old)
-        (turns_at (I.reads input.new) turns_left.new) }
+    ensures turns { SpendsTurns (idle_asked result)
+        (turns_at I.Incoming input.old turns_left.old)
+        (turns_at I.Incoming input.new turns_left.new) }
     ensures waits { AllSince (WaitsForRequest head.now.bytes.now (I.to_come input.old)
         (W.taken output.now)) (I.moments input.old) (I.moments input.new) }
     ensures stopped { AskStops result (I.read_fault input.old) (I.read_fault input.new)

@@ -21,6 +21,7 @@ ghost use Rattle.pid_http_stream.specs.Causes.{EndsFor, LastState};
 ghost use Rattle.pid_http_stream.specs.Steps.Intakes.{WaitsForRequest};
 ghost use Rattle.pid_http_stream.specs.Leading.{Leads};
 ghost use Rattle.pid_http_stream.specs.Moments.{AllSince};
+ghost use Rattle.pid_http_stream.specs.Reads.{reader_at};
 ghost use Rattle.pid_http_stream.specs.Serving.{IsCaughtUp, IsServed, outside};
 ghost use Rattle.pid_http_stream.specs.Steps.Loop.{
   EndsBroken,
@@ -30,6 +31,7 @@ ghost use Rattle.pid_http_stream.specs.Steps.Loop.{
   Steps,
   answered_so,
   count_with,
+  idle_answered,
   stop_end,
   taken_of,
 };
@@ -164,19 +166,18 @@ fn serve_request<H: Handler, I: Incoming<W>, W: Output>(
         (outside v w (W.taken out.old) (W.taken out.new))
         (taken_of head.now content_length (I.to_come input.old) (I.to_come input.new))
         result)) }
-    ensures turns { SpendsTurns (turns_at (I.reads input.old) turns_left.old)
-        (turns_at (I.reads input.new) turns_left.new) }
+    ensures turns { SpendsTurns (idle_answered result)
+        (turns_at I.Incoming input.old turns_left.old)
+        (turns_at I.Incoming input.new turns_left.new) }
     ensures waits { AllSince
         (WaitsForRequest head.now.bytes.now (I.to_come input.old) (W.taken out.old))
         (I.moments input.old) (I.moments input.new) }
-    ensures ended { EndsSo result (record {
-      fault_before = I.read_fault input.old;
-      read_fault = I.read_fault input.new;
+    ensures ended { EndsSo result turns_left.new (record {
+      before = reader_at I.Incoming input.old;
+      after = reader_at I.Incoming input.new;
       write_fault = W.write_fault out.new;
       stuck = H.cannot_go_on handler.new;
       turns = turns_left.old;
-      reads = I.reads input.old;
-      reads_after = I.reads input.new;
     }) }
     ensures goes { I.goes input.old input.new }
 {
@@ -236,13 +237,11 @@ fn serve_held<H: Handler, I: Incoming<W>, W: Output>(
         (IsCaughtUp H.conduct v (W.taken output.old) stream)
         (I.moments input.old) (I.moments input.new))) }
     ensures ended { EndsFor result.end (record {
-      fault_before = I.read_fault input.old;
-      read_fault = I.read_fault input.new;
+      before = reader_at I.Incoming input.old;
+      after = reader_at I.Incoming input.new;
       write_fault = W.write_fault output.new;
       stuck = H.cannot_go_on handler.new;
       turns = turns;
-      reads = I.reads input.old;
-      reads_after = I.reads input.new;
     }) }
     ensures goes { I.goes input.old input.new }
 {
@@ -298,6 +297,9 @@ fn serve_held<H: Handler, I: Incoming<W>, W: Output>(
 /// turns nor the store fail, the bytes written are the replies to the requests of the whole stream,
 /// in their order, in whatever chunks the bytes come; then the one refusal, if the stream ends with
 /// a fault.
+///
+/// No read follows one that finds the end or fails, and each other one brings a byte or more. A
+/// stream that ends as `Closed`, `StoreFault`, `Memory` or `TurnsSpent` has no such last read.
 pub fn serve_stream<H: Handler, I: Incoming<W>, W: Output>(
     alloc: Global,
     handler: &mut H,
@@ -315,13 +317,11 @@ pub fn serve_stream<H: Handler, I: Incoming<W>, W: Output>(
         (IsCaughtUp H.conduct v (W.taken output.old) stream)
         (I.moments input.old) (I.moments input.new))) }
     ensures ended { EndsFor result.end (record {
-      fault_before = I.read_fault input.old;
-      read_fault = I.read_fault input.new;
+      before = reader_at I.Incoming input.old;
+      after = reader_at I.Incoming input.new;
       write_fault = W.write_fault output.new;
       stuck = H.cannot_go_on handler.new;
       turns = turns;
-      reads = I.reads input.old;
-      reads_after = I.reads input.new;
     }) }
     ensures goes { I.goes input.old input.new }
 {

@@ -1,10 +1,12 @@
 -- What comes in from a reader, and what the bytes that came begin with.
-use Rattle.std.specs.Prelude.{◌≡◌, ℕ, ◌<◌, ◌≤◌, List, ◌++◌, take, map, Option, IfSome, IsSome, ⊤}
+use Rattle.std.specs.Prelude.{◌≡◌, ℕ, ◌<◌, ◌≤◌, List, ◌++◌, take, map, Option, Some, IfSome}
+use Rattle.std.specs.Prelude.{IsSome, ⊤}
 use Rattle.std.specs.Io.KnownBytes.{Consumes, IsAtEnd}
 use Rattle.httparse.specs.Spans.{header_bytes, IsRequestWithin, IsRequestOf}
 use Rattle.httparse.specs.declared.spans.HeaderSpan.{HeaderSpan}
 use Rattle.httparse.specs.declared.spans.RequestSpans.{RequestSpans}
 use Rattle.pid_file.specs.declared.io.ReadFault.{ReadFault}
+use Rattle.pid_http_stream.specs.Bodies.{idle_at}
 use Rattle.pid_http_stream.specs.BodyLengths.{body_length, longest_body}
 use Rattle.pid_http_stream.specs.Endings.{HasFault}
 use Rattle.pid_http_stream.specs.Heads.{longest_head, most_fields}
@@ -76,6 +78,29 @@ AskStops asked.NoMemory before now left = now ≡ before
 AskStops (asked.Broken faults.Short) before now left = now ≡ before
 AskStops (asked.Broken faults.ReadFault) before now left = IsSome now
 AskStops (asked.Broken faults.TurnsSpent) before now left = (left ≡ 0) × (now ≡ before)
+
+-- how many reads may be idle: if reading stops so, if this came of a read or for a head, and if this
+-- came of asking a handler
+abbrev pub idle_stop : Stop → ℕ
+idle_stop stops.ReadFault = 1
+idle_stop stops.TurnsSpent = 0
+idle_stop stops.Memory = 0
+
+abbrev pub idle_filled : Filled → ℕ
+idle_filled filled.Piece = 0
+idle_filled filled.End = 1
+idle_filled (filled.Stopped stop) = idle_stop stop
+
+abbrev pub idle_head : HeadRead → ℕ
+idle_head (heads.Head spans body) = 0
+idle_head heads.Nothing = 1
+idle_head (heads.Faulty why) = 1
+idle_head (heads.Stopped stop) = idle_stop stop
+
+abbrev pub idle_asked : Asked → ℕ
+idle_asked (asked.Reply reply) = 0
+idle_asked asked.NoMemory = 0
+idle_asked (asked.Broken fault) = idle_at (Some fault)
 
 -- the spans are those of a head that begins the bytes, which says that its body has so many bytes
 pub record StandsAt (held : List ℕ) (headers : List HeaderSpan) (spans : RequestSpans)

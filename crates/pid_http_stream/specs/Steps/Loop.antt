@@ -5,7 +5,7 @@ use Rattle.std.specs.Io.KnownBytes.{Appends, IsAtEnd}
 use Rattle.httparse.specs.Spans.{IsRequestAt}
 use Rattle.httparse.specs.declared.spans.HeaderSpan.{HeaderSpan}
 use Rattle.httparse.specs.declared.spans.RequestSpans.{RequestSpans}
-use Rattle.pid_http_stream.specs.Causes.{LastState, EndsFor}
+use Rattle.pid_http_stream.specs.Causes.{LastState, HasEndCause, idle_reads}
 use Rattle.pid_http_stream.specs.Conducts.{Conduct, StandsOver}
 use Rattle.pid_http_stream.specs.Endings.{HasFault, IsShort}
 use Rattle.pid_http_stream.specs.Handling.{MayReply}
@@ -227,11 +227,24 @@ pub record Steps {H : Type 0} (conduct : Conduct H) (o : Outside H) (t : Taken)
   pub after : t.input_after ≡ Some more
   pub is : IsStep conduct o (portion_of t came more) result
 
--- if the stream ends within the request, there is a cause; if not, the reader has not failed
-abbrev pub EndsSo : Answered → LastState → Type 0
-EndsSo answered.Open s = s.read_fault ≡ s.fault_before
-EndsSo answered.Closed s = s.read_fault ≡ s.fault_before
-EndsSo (answered.Ended end) s = EndsFor end s
+-- why the stream ends: there is a cause, a reader that failed ends it so, and no turn is left if it
+-- ends by them
+pub record EndsWhy (end : StreamEnd) (left : ℕ) (s : LastState) : Type 0 where
+  pub cause : HasEndCause end s
+  pub failed : (s.after.fault ≡ s.before.fault) ⊎ (end ≡ ends.ReadFault)
+  pub spent : end ≡ ends.TurnsSpent → left ≡ 0
+
+-- if the stream ends within the request, it is known why; if not, the reader has not failed
+abbrev pub EndsSo : Answered → ℕ → LastState → Type 0
+EndsSo answered.Open left s = s.after.fault ≡ s.before.fault
+EndsSo answered.Closed left s = s.after.fault ≡ s.before.fault
+EndsSo (answered.Ended end) left s = EndsWhy end left s
+
+-- how many reads may be idle if this became of a request
+abbrev pub idle_answered : Answered → ℕ
+idle_answered answered.Open = 0
+idle_answered answered.Closed = 0
+idle_answered (answered.Ended end) = idle_reads end
 
 -- what becomes of a request whose reply was sent so far
 abbrev pub answered_so : Sent → Bool → Answered

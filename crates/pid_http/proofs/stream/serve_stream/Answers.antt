@@ -12,7 +12,7 @@ pub returns-in_default-clause-lives : goal.returns-in_default-clause-lives
 returns-in_default-clause-lives g c = lives_still _
 
 pub returns-in_default-clause-ended : goal.returns-in_default-clause-ended
-returns-in_default-clause-ended g c = memory_ends (g.I.Incoming.reads c.args.reader.now) c.args.turns _ _
+returns-in_default-clause-ended g c = memory_ends _ c.args.turns _
 
 pub returns-clause-served : goal.returns-clause-served
 returns-clause-served g c = c.serve_with.ensures.served

@@ -2,8 +2,9 @@ use Rattle.std.proofs.Common.{rules, length, refl, sym, ap, subst, ◌∙◌, ar
 use Rattle.httparse.specs.Grammar.{HasNoRequest as HasNoHeadYet}
 use Rattle.pid_http_stream.specs.BodyLaws.{no_turns, more_turns}
 use Rattle.pid_http_stream.specs.MomentLaws.{since_none}
-use Rattle.pid_http_stream.specs.Steps.Intakes.{IsHeadRead, WaitsForRequest}
+use Rattle.pid_http_stream.specs.Steps.Intakes.{IsHeadRead, WaitsForRequest, idle_stop}
 use Rattle.pid_http_stream.specs.Unfinished.{IsHeadUnfinished, IsUnfinished}
+use Rattle.pid_http_stream.proofs.BodyReads.{idle_turns}
 use Rattle.pid_http_stream.proofs.HeadReads.{nothing_came, comes_then, any_faulty, stops_never, stops_since, still_fits, still_wants, waits_on}
 use Rattle.pid_http_stream.proofs.intake.read_head.Goals as goal
 
@@ -11,7 +12,7 @@ pub reading-init : goal.reading-init
 reading-init g c = record {
   comes = nothing_came _ _;
   judged = search rules;
-  turns = no_turns _;
+  turns = no_turns 0 _;
   failed = refl;
   pace = omega arith;
   room = search rules;
@@ -23,7 +24,7 @@ pub reading-preserved : goal.reading-preserved
 reading-preserved g c = record {
   comes = comes_then _ _ _ _ _ _ c.reading.invariant.comes c.in-Piece.ensures.comes;
   judged = search rules;
-  turns = more_turns _ _ _ c.reading.invariant.turns c.in-Piece.ensures.turns;
+  turns = more_turns 0 _ _ _ c.reading.invariant.turns c.in-Piece.ensures.turns;
   failed = c.in-Piece.ensures.stopped ∙ c.reading.invariant.failed;
   pace = let p = c.in-Piece.ensures.piece refl in omega (arith, c.reading.invariant.pace, p.0, p.1);
   room = search rules;
@@ -44,13 +45,13 @@ pub returns-in-Stopped-clause-comes : goal.returns-in-Stopped-clause-comes
 returns-in-Stopped-clause-comes g c = comes_then _ _ _ _ _ _ c.reading.invariant.comes c.in-Stopped.ensures.comes
 
 pub returns-in-Stopped-clause-turns : goal.returns-in-Stopped-clause-turns
-returns-in-Stopped-clause-turns g c = more_turns _ _ _ c.reading.invariant.turns c.in-Stopped.ensures.turns
+returns-in-Stopped-clause-turns g c = more_turns (idle_stop c.in-Stopped.stop) _ _ _ c.reading.invariant.turns c.in-Stopped.ensures.turns
 
 pub returns-in-End-clause-comes : goal.returns-in-End-clause-comes
 returns-in-End-clause-comes g c = comes_then _ _ _ _ _ _ c.reading.invariant.comes c.in-End.ensures.comes
 
 pub returns-in-End-clause-turns : goal.returns-in-End-clause-turns
-returns-in-End-clause-turns g c = more_turns _ _ _ c.reading.invariant.turns c.in-End.ensures.turns
+returns-in-End-clause-turns g c = rw c.judge_end.ensures.idle (more_turns 1 _ _ _ c.reading.invariant.turns c.in-End.ensures.turns)
 
 pub returns-in-End-clause-head : goal.returns-in-End-clause-head
 returns-in-End-clause-head g c = subst (λ l. IsHeadRead l c.reading.fields (g.I.Incoming.to_come c.fill.new.input) c.judge_end.result) c.deref-in-End.ensures.value (c.judge_end.ensures.judged _ _ c.in-End.ensures.stays.1)
@@ -71,10 +72,10 @@ pub returns-in-End-clause-goes : goal.returns-in-End-clause-goes
 returns-in-End-clause-goes g c = g.met.I.Incoming.joins _ _ _ c.reading.invariant.goes c.in-End.ensures.goes
 
 pub returns-in-Stopped-clause-pace : goal.returns-in-Stopped-clause-pace
-returns-in-Stopped-clause-pace g c = omega (arith, c.reading.invariant.pace, c.in-Stopped.ensures.turns.fewer, ap length c.in-Stopped.ensures.stays)
+returns-in-Stopped-clause-pace g c = omega (arith, c.reading.invariant.pace, c.in-Stopped.ensures.turns.spent, ap length c.in-Stopped.ensures.stays)
 
 pub returns-in-End-clause-pace : goal.returns-in-End-clause-pace
-returns-in-End-clause-pace g c = omega (arith, c.reading.invariant.pace, c.in-End.ensures.turns.fewer, ap length c.in-End.ensures.stays.0)
+returns-in-End-clause-pace g c = omega (arith, c.reading.invariant.pace, c.in-End.ensures.turns.spent, ap length c.in-End.ensures.stays.0)
 
 pub reading-smaller : goal.reading-smaller
 reading-smaller g c = let p = c.in-Piece.ensures.piece refl in omega (arith, p.0)
@@ -114,7 +115,7 @@ pub returns-in-Faulty-clause-comes : goal.returns-in-Faulty-clause-comes
 returns-in-Faulty-clause-comes g c = c.reading.invariant.comes
 
 pub returns-in-Faulty-clause-turns : goal.returns-in-Faulty-clause-turns
-returns-in-Faulty-clause-turns g c = c.reading.invariant.turns
+returns-in-Faulty-clause-turns g c = idle_turns 1 _ _ c.reading.invariant.turns
 
 pub returns-in-Faulty-clause-pace : goal.returns-in-Faulty-clause-pace
 returns-in-Faulty-clause-pace g c = c.reading.invariant.pace

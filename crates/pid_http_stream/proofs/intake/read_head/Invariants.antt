@@ -1,5 +1,5 @@
 use Rattle.std.proofs.Common.{◌≡◌, ◌+◌, ◌*◌, ◌≤◌, length}
-use Rattle.pid_http_stream.specs.Bodies.{SpendsTurns}
+use Rattle.pid_http_stream.specs.Bodies.{SpendsTurns, turns_at}
 use Rattle.pid_http_stream.specs.Steps.Intakes.{ComesIn, IsHeadJudged, WaitsForRequest}
 use Rattle.pid_http_stream.specs.Moments.{AllSince}
 use Rattle.pid_http_stream.specs.declared.limits.TheConstants.{READ_SIZE}
@@ -10,7 +10,7 @@ abbrev pub invariant-reading : goal.invariant-reading
 invariant-reading g l = record {
   comes : ComesIn l.fn.held.items l.held.items (g.I.Incoming.to_come l.fn.input) (g.I.Incoming.to_come l.input);
   judged : IsHeadJudged l.held.items l.fields l.judged;
-  turns : SpendsTurns (record { reads = g.I.Incoming.reads l.fn.input; left = l.fn.turns_left }) (record { reads = g.I.Incoming.reads l.input; left = l.turns_left });
+  turns : SpendsTurns 0 (turns_at g.I.Incoming l.fn.input l.fn.turns_left) (turns_at g.I.Incoming l.input l.turns_left);
   failed : g.I.Incoming.read_fault l.input ≡ g.I.Incoming.read_fault l.fn.input;
   pace : l.turns_left * READ_SIZE + length l.held.items ≤ l.fn.turns_left * READ_SIZE + length l.fn.held.items;
   room : length l.fields ≡ MOST_FIELDS;

@@ -1,11 +1,15 @@
 use Rattle.std.proofs.Common.{rules, arith, refl, sym, subst, ◌∙◌, inl}
 use Rattle.std.specs.Prelude.{IfSome}
+use Rattle.pid_http_stream.specs.Bodies.{turns_at}
 use Rattle.pid_http_stream.specs.BodyLaws.{no_turns, more_turns}
+use Rattle.pid_http_stream.specs.Causes.{idle_reads}
+use Rattle.pid_http_stream.specs.Steps.Intakes.{idle_stop}
+use Rattle.pid_http_stream.specs.Steps.Loop.{stop_end}
 use Rattle.pid_http_stream.proofs.HeadReads.{stops_since}
 use Rattle.pid_http_stream.proofs.Leading.{stays, turned, joined, beside}
 use Rattle.pid_http_stream.proofs.Looping.{loop_unread, loop_nothing, loop_faulty, loop_stopped, loop_open, loop_closed, loop_ended, loop_waits, loop_waits_within, less_left}
 use Rattle.pid_http_stream.proofs.Serving.{IsServing, begins}
-use Rattle.pid_http_stream.proofs.Stepping.{refused_ends, stopped_ends, ends_later, spent_exactly, turns_within}
+use Rattle.pid_http_stream.proofs.Stepping.{clean_is_not_spent, closed_is_not_spent, ends_for, fewer_turns, refused_ends, refused_idle, stopped_ends, stopped_idle, why_later}
 use Rattle.pid_http_stream.proofs.stream.serve_held.Goals as goal
 
 pub serving-init : goal.serving-init
@@ -16,7 +20,7 @@ serving-init g c = record {
   caught_up = stays _ _ (λ v. loop_unread g.H.Handler.conduct v (g.W.Output.taken c.args.output.now) (g.I.Incoming.to_come c.args.input.now) (g.I.Incoming.moments c.args.input.now));
   becomes = g.met.H.Handler.stays _;
   room = search rules;
-  turns = no_turns _;
+  turns = no_turns 0 _;
   failed = refl;
   goes = g.met.I.Incoming.stays _;
 }
@@ -57,7 +61,7 @@ serving-preserved g c = record {
   caught_up = joined _ _ _ _ _ _ (λ u v w past step. past) (beside _ _ _ _ _ (λ u v w serving past. loop_waits_within _ _ _ _ _ _ _ _ _ _ _ _ _ _ _ _ serving past c.in-Head.ensures.waits c.in-Head.ensures.comes c.deref.ensures.value c.in-Open.ensures.waits) c.serving.invariant.serving c.serving.invariant.caught_up) c.in-Open.ensures.stepped;
   becomes = g.met.H.Handler.joins _ _ _ c.serving.invariant.becomes c.serve_request.ensures.becomes;
   room = search rules;
-  turns = more_turns _ _ _ c.serving.invariant.turns (more_turns _ _ _ c.read_head.ensures.turns c.serve_request.ensures.turns);
+  turns = more_turns 0 _ _ _ c.serving.invariant.turns (more_turns 0 _ _ _ c.in-Head.ensures.turns c.in-Open.ensures.turns);
   failed = c.in-Open.ensures.ended ∙ c.in-Head.ensures.stopped ∙ c.serving.invariant.failed;
   goes = g.met.I.Incoming.joins _ _ _ (g.met.I.Incoming.joins _ _ _ c.serving.invariant.goes c.read_head.ensures.goes) c.serve_request.ensures.goes;
 }
@@ -87,20 +91,27 @@ pub returns-in-Ended-clause-caught_up : goal.returns-in-Ended-clause-caught_up
 returns-in-Ended-clause-caught_up g c = joined _ _ _ _ _ _ (λ u v w past step. past) (beside _ _ _ _ _ (λ u v w serving past. loop_waits_within _ _ _ _ _ _ _ _ _ _ _ _ _ _ _ _ serving past c.in-Head.ensures.waits c.in-Head.ensures.comes c.deref.ensures.value c.in-Ended.ensures.waits) c.serving.invariant.serving c.serving.invariant.caught_up) c.in-Ended.ensures.stepped
 
 pub returns-in-Nothing-clause-ended : goal.returns-in-Nothing-clause-ended
-returns-in-Nothing-clause-ended g c = record { within = turns_within _ _ (more_turns _ _ _ c.serving.invariant.turns c.in-Nothing.ensures.turns); cause = tt; failed = inl (c.in-Nothing.ensures.stopped ∙ c.serving.invariant.failed) }
+returns-in-Nothing-clause-ended g c = ends_for _ _ _ (more_turns 1 _ _ _ c.serving.invariant.turns c.in-Nothing.ensures.turns) (record { cause = tt; failed = inl (c.in-Nothing.ensures.stopped ∙ c.serving.invariant.failed); spent = λ e. clean_is_not_spent e })
 
 pub returns-in-Faulty-clause-ended : goal.returns-in-Faulty-clause-ended
-returns-in-Faulty-clause-ended g c = refused_ends _ _ _ _ _ (turns_within _ _ (more_turns _ _ _ c.serving.invariant.turns c.in-Faulty.ensures.turns)) (c.in-Faulty.ensures.stopped ∙ c.serving.invariant.failed) c.refuse-end.ensures.refused c.refuse-end.ensures.fault
+returns-in-Faulty-clause-ended g c =
+    ends_for _ c.refuse-end.result c.read_head.new.turns_left (rw (refused_idle _ _ _ _ c.refuse-end.ensures.refused) (more_turns 1 _ _ _ c.serving.invariant.turns c.in-Faulty.ensures.turns))
+    (refused_ends _ _ _ _ _ _ (c.in-Faulty.ensures.stopped ∙ c.serving.invariant.failed) c.refuse-end.ensures.refused c.refuse-end.ensures.fault)
 
 pub returns-in-Stopped-clause-ended : goal.returns-in-Stopped-clause-ended
 returns-in-Stopped-clause-ended g c =
-    rw c.end_of-end.ensures (stopped_ends _ c.in-Stopped.stop _ (turns_within _ _ (more_turns _ _ _ c.serving.invariant.turns c.in-Stopped.ensures.turns)) (stops_since c.in-Stopped.stop _ _ _ _ c.serving.invariant.failed c.in-Stopped.ensures.stopped) (spent_exactly _ _ (more_turns _ _ _ c.serving.invariant.turns c.in-Stopped.ensures.turns)))
+    rw c.end_of-end.ensures (ends_for _ (stop_end c.in-Stopped.stop) c.read_head.new.turns_left (rw (stopped_idle c.in-Stopped.stop) (more_turns (idle_stop c.in-Stopped.stop) _ _ _ c.serving.invariant.turns c.in-Stopped.ensures.turns))
+    (stopped_ends _ c.in-Stopped.stop _ (stops_since c.in-Stopped.stop _ _ _ _ c.serving.invariant.failed c.in-Stopped.ensures.stopped)))
 
 pub returns-in-Closed-clause-ended : goal.returns-in-Closed-clause-ended
-returns-in-Closed-clause-ended g c = record { within = turns_within _ _ (more_turns _ _ _ c.serving.invariant.turns (more_turns _ _ _ c.read_head.ensures.turns c.serve_request.ensures.turns)); cause = tt; failed = inl (c.in-Closed.ensures.ended ∙ c.in-Head.ensures.stopped ∙ c.serving.invariant.failed) }
+returns-in-Closed-clause-ended g c =
+    ends_for _ _ _ (more_turns 0 _ _ _ c.serving.invariant.turns (more_turns 0 _ _ _ c.in-Head.ensures.turns c.in-Closed.ensures.turns))
+    (record { cause = tt; failed = inl (c.in-Closed.ensures.ended ∙ c.in-Head.ensures.stopped ∙ c.serving.invariant.failed); spent = λ e. closed_is_not_spent e })
 
 pub returns-in-Ended-clause-ended : goal.returns-in-Ended-clause-ended
-returns-in-Ended-clause-ended g c = ends_later _ _ _ _ _ _ _ _ (c.in-Head.ensures.stopped ∙ c.serving.invariant.failed) (more_turns _ _ _ c.serving.invariant.turns c.read_head.ensures.turns) _ c.in-Ended.ensures.ended
+returns-in-Ended-clause-ended g c =
+    ends_for _ c.in-Ended.end _ (more_turns (idle_reads c.in-Ended.end) _ _ _ c.serving.invariant.turns (more_turns (idle_reads c.in-Ended.end) _ _ _ c.in-Head.ensures.turns c.in-Ended.ensures.turns))
+    (why_later _ _ _ _ _ _ _ _ (c.in-Head.ensures.stopped ∙ c.serving.invariant.failed) c.in-Ended.end c.in-Ended.ensures.ended)
 
 pub returns-in-Nothing-clause-becomes : goal.returns-in-Nothing-clause-becomes
 returns-in-Nothing-clause-becomes g c = c.serving.invariant.becomes
@@ -114,4 +125,4 @@ returns-in-Stopped-clause-becomes g c = c.serving.invariant.becomes
 pub serving-smaller : goal.serving-smaller
 serving-smaller g c =
     let stands = c.in-Head.ensures.head in
-    less_left _ _ c.serve_request.new.turns_left _ _ _ _ _ c.read_head.ensures.pace c.serve_request.ensures.turns.fewer stands.some stands.within.section.len_fits c.drop_front.ensures
+    less_left _ _ c.serve_request.new.turns_left _ _ _ _ _ c.read_head.ensures.pace (fewer_turns 0 (turns_at g.I.Incoming c.read_head.new.input c.read_head.new.turns_left) (turns_at g.I.Incoming c.serve_request.new.input c.serve_request.new.turns_left) c.in-Open.ensures.turns) stands.some stands.within.section.len_fits c.drop_front.ensures

@@ -1,6 +1,6 @@
 use Rattle.std.proofs.Common.{◌≡◌, ◌+◌, ◌*◌, length}
 use Rattle.std.specs.Prelude.{IfSome}
-use Rattle.pid_http_stream.specs.Bodies.{SpendsTurns}
+use Rattle.pid_http_stream.specs.Bodies.{SpendsTurns, turns_at}
 use Rattle.pid_http_stream.specs.Leading.{Leads}
 use Rattle.pid_http_stream.specs.Moments.{AllSince}
 use Rattle.pid_http_stream.specs.Serving.{IsCaughtUp}
@@ -17,7 +17,7 @@ invariant-serving g l = record {
       v (g.W.Output.taken l.fn.output) s) (g.I.Incoming.moments l.fn.input) (g.I.Incoming.moments l.input)));
   becomes : g.H.Handler.becomes l.fn.handler l.handler;
   room : length l.fields ≡ MOST_FIELDS;
-  turns : SpendsTurns (record { reads = g.I.Incoming.reads l.fn.input; left = l.turns }) (record { reads = g.I.Incoming.reads l.input; left = l.turns_left });
+  turns : SpendsTurns 0 (turns_at g.I.Incoming l.fn.input l.turns) (turns_at g.I.Incoming l.input l.turns_left);
   failed : g.I.Incoming.read_fault l.input ≡ g.I.Incoming.read_fault l.fn.input;
   goes : g.I.Incoming.goes l.fn.input l.input;
 }

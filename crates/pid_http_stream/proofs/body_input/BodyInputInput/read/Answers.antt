@@ -7,7 +7,7 @@ use Rattle.pid_http_stream.specs.MomentLaws.{since_none}
 use Rattle.pid_http_stream.specs.Steps.Intakes.{IsMoment}
 use Rattle.pid_http_stream.specs.declared.body_input.BodyFault.TheVariants.{Short, ReadFault, TurnsSpent}
 use Rattle.pid_http_stream.proofs.Noting.{since_noted}
-use Rattle.pid_http_stream.proofs.BodyReads.{held_given, read_given, whole_front, nothing, keeps_same, none_left, keeps_padded, keeps_nil, none_of, told_some, told_none, kept_told, none_kept, some_told, still_good, gave_held, gave_read, broke_off, one_turn, some_of}
+use Rattle.pid_http_stream.proofs.BodyReads.{held_given, read_given, whole_front, nothing, keeps_same, none_left, keeps_padded, keeps_nil, none_of, told_some, told_none, kept_told, none_kept, some_told, still_good, gave_held, gave_read, broke_off, one_turn, last_turn, some_of, some_taken}
 use Rattle.pid_http_stream.proofs.body_input.BodyInputInput.read.Goals as goal
 
 pub returns-then-is_some-clause-goes : goal.returns-then-is_some-clause-goes
@@ -39,7 +39,7 @@ returns-then-not-is_empty-clause-goes g c =
     let s = c.split_at.ensures in (
       refl,
       g.met.I.Incoming.stays c.args.self.now.input.now,
-      gave_held c.args.self.now.fault (g.I.Incoming.to_come c.args.self.now.input.now) (g.I.Incoming.read_fault c.args.self.now.input.now) _ _ _ c.args.self.now.wanted c.min-count.result c.args.self.now.held.now c.split_at.result.1.now c.split_at.result.0.now
+      gave_held c.args.self.now.fault _ _ c.args.self.now.wanted c.min-count.result c.args.self.now.held.now c.split_at.result.1.now c.split_at.result.0.now
           (none_of c.args.self.now.fault (sym c.is_some.ensures ∙ c.if-is_some.false)) (sym (take-append-drop c.min-count.result c.args.self.now.held.now) ∙ (λ i. sym s.front i ++ sym s.back i)) s.front_len (omega (arith, c.min-count.ensures, c.min-room.ensures)),
     )
 
@@ -47,16 +47,16 @@ pub returns-then-self-eq0-clause-goes : goal.returns-then-self-eq0-clause-goes
 returns-then-self-eq0-clause-goes g c = (
   refl,
   g.met.I.Incoming.stays c.args.self.now.input.now,
-  broke_off c.args.self.now.fault (g.I.Incoming.to_come c.args.self.now.input.now) (g.I.Incoming.to_come c.args.self.now.input.now) _ _ _ _ _ _ _ c.args.self.now.wanted c.args.self.now.held.now TurnsSpent
-      (none_of c.args.self.now.fault (sym c.is_some.ensures ∙ c.if-is_some.false)) (Consumes-nil _) (no_turns _) (omega (arith, c.min-room.ensures, c.if-room-eq0.false)) (nothing c.args.self.now.held.now (search rules)) (since_none (IsMoment _ _) _) c.if-self-eq0.true (inl refl),
+  broke_off c.args.self.now.fault _ _ _ c.args.self.now.wanted c.args.self.now.held.now TurnsSpent
+      (none_of c.args.self.now.fault (sym c.is_some.ensures ∙ c.if-is_some.false)) (Consumes-nil _) (no_turns 0 _) (omega (arith, c.min-room.ensures, c.if-room-eq0.false)) (nothing c.args.self.now.held.now (search rules)) (since_none (IsMoment _ _) _) c.if-self-eq0.true (inl refl),
 )
 
 pub returns-in-Err-clause-goes : goal.returns-in-Err-clause-goes
 returns-in-Err-clause-goes g c = (
   refl,
   c.read_behind.ensures.goes,
-  broke_off c.args.self.now.fault (g.I.Incoming.to_come c.args.self.now.input.now) (g.I.Incoming.to_come c.read_behind.new.self) _ _ _ _ _ _ _ c.args.self.now.wanted c.args.self.now.held.now ReadFault
-      (none_of c.args.self.now.fault (sym c.is_some.ensures ∙ c.if-is_some.false)) (keeps_nil _ _ c.in-Err.ensures.bytes) (one_turn _ c.args.self.now.left _ (some_of _ c.if-self-eq0.false) c.read_behind.ensures.count) (omega (arith, c.min-room.ensures, c.if-room-eq0.false)) (nothing c.args.self.now.held.now (search rules)) (since_noted _ _ _ _ c.in-Err.ensures.noted) (some_told _ _ c.in-Err.ensures.fault) (inr refl),
+  broke_off c.args.self.now.fault _ _ _ c.args.self.now.wanted c.args.self.now.held.now ReadFault
+      (none_of c.args.self.now.fault (sym c.is_some.ensures ∙ c.if-is_some.false)) (keeps_nil _ _ c.in-Err.ensures.bytes) (last_turn _ _ c.args.self.now.left _ (some_of _ c.if-self-eq0.false) c.read_behind.ensures.count (keeps_nil _ _ c.in-Err.ensures.bytes) c.in-Err.ensures.noted) (omega (arith, c.min-room.ensures, c.if-room-eq0.false)) (nothing c.args.self.now.held.now (search rules)) (since_noted _ _ _ _ c.in-Err.ensures.noted) (some_told _ _ c.in-Err.ensures.fault) (inr refl),
 )
 
 pub returns-else-count-eq0-clause-bytes : goal.returns-else-count-eq0-clause-bytes
@@ -70,16 +70,16 @@ pub returns-else-count-eq0-clause-goes : goal.returns-else-count-eq0-clause-goes
 returns-else-count-eq0-clause-goes g c = (
   refl,
   c.read_behind.ensures.goes,
-  gave_read c.args.self.now.fault (g.I.Incoming.to_come c.args.self.now.input.now) (g.I.Incoming.to_come c.read_behind.new.self) _ _ _ _ _ _ _ c.args.self.now.wanted c.in-Ok.count c.args.self.now.held.now (take c.in-Ok.count c.read_behind.new.buffer)
-      (none_of c.args.self.now.fault (sym c.is_some.ensures ∙ c.if-is_some.false)) (nothing _ (search rules)) c.in-Ok.ensures.bytes.0 (length-take-le c.in-Ok.count c.read_behind.new.buffer c.in-Ok.ensures.room) (search rules) (one_turn _ c.args.self.now.left _ (some_of _ c.if-self-eq0.false) c.read_behind.ensures.count) (omega (arith, c.min-room.ensures, c.if-room-eq0.false)) (since_noted _ _ _ _ c.in-Ok.ensures.noted) (still_good _ _ _ c.in-Ok.ensures.kept c.in-Ok.ensures.fault),
+  gave_read c.args.self.now.fault _ _ _ c.args.self.now.wanted c.in-Ok.count c.args.self.now.held.now (take c.in-Ok.count c.read_behind.new.buffer)
+      (none_of c.args.self.now.fault (sym c.is_some.ensures ∙ c.if-is_some.false)) (nothing _ (search rules)) c.in-Ok.ensures.bytes.0 (length-take-le c.in-Ok.count c.read_behind.new.buffer c.in-Ok.ensures.room) (search rules) (one_turn _ _ c.args.self.now.left _ (take c.in-Ok.count c.read_behind.new.buffer) (some_of _ c.if-self-eq0.false) c.read_behind.ensures.count c.in-Ok.ensures.bytes.0 (some_taken c.in-Ok.count c.read_behind.new.buffer c.if-count-eq0.false c.in-Ok.ensures.room) c.in-Ok.ensures.noted) (omega (arith, c.min-room.ensures, c.if-room-eq0.false)) (since_noted _ _ _ _ c.in-Ok.ensures.noted) (still_good _ _ _ c.in-Ok.ensures.kept c.in-Ok.ensures.fault),
 )
 
 pub returns-then-count-eq0-clause-goes : goal.returns-then-count-eq0-clause-goes
 returns-then-count-eq0-clause-goes g c = (
   refl,
   c.read_behind.ensures.goes,
-  broke_off c.args.self.now.fault (g.I.Incoming.to_come c.args.self.now.input.now) (g.I.Incoming.to_come c.read_behind.new.self) _ _ _ _ _ _ _ c.args.self.now.wanted c.args.self.now.held.now Short
-      (none_of c.args.self.now.fault (sym c.is_some.ensures ∙ c.if-is_some.false)) (subst (Consumes _ _) (ap (λ (n : ℕ). take n c.read_behind.new.buffer) c.if-count-eq0.true) c.in-Ok.ensures.bytes.0) (one_turn _ c.args.self.now.left _ (some_of _ c.if-self-eq0.false) c.read_behind.ensures.count) (omega (arith, c.min-room.ensures, c.if-room-eq0.false)) (nothing c.args.self.now.held.now (search rules)) (since_noted _ _ _ _ c.in-Ok.ensures.noted)
+  broke_off c.args.self.now.fault _ _ _ c.args.self.now.wanted c.args.self.now.held.now Short
+      (none_of c.args.self.now.fault (sym c.is_some.ensures ∙ c.if-is_some.false)) (subst (Consumes _ _) (ap (λ (n : ℕ). take n c.read_behind.new.buffer) c.if-count-eq0.true) c.in-Ok.ensures.bytes.0) (last_turn _ _ c.args.self.now.left _ (some_of _ c.if-self-eq0.false) c.read_behind.ensures.count (subst (Consumes _ _) (ap (λ (n : ℕ). take n c.read_behind.new.buffer) c.if-count-eq0.true) c.in-Ok.ensures.bytes.0) c.in-Ok.ensures.noted) (omega (arith, c.min-room.ensures, c.if-room-eq0.false)) (nothing c.args.self.now.held.now (search rules)) (since_noted _ _ _ _ c.in-Ok.ensures.noted)
       (c.in-Ok.ensures.bytes.1 c.if-count-eq0.true (search rules)) (inl (still_good _ _ _ c.in-Ok.ensures.kept c.in-Ok.ensures.fault)),
 )
 
