@@ -14,8 +14,8 @@ pub mod Replies
 pub mod Leading
 pub use Rattle.pid_ident.specs.Moments
 pub use Rattle.pid_ident.specs.MomentLaws
-pub mod Reads
-pub mod ReadLaws
+pub use Rattle.pid_ident.specs.Reads
+pub use Rattle.pid_ident.specs.ReadLaws
 pub mod Conducts
 pub mod Serving
 pub mod Causes

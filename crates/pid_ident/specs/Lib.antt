@@ -13,3 +13,5 @@ pub mod Doubles
 pub use Rattle.pid_file.specs.Wrapping
 pub mod Moments
 pub mod MomentLaws
+pub mod Reads
+pub mod ReadLaws

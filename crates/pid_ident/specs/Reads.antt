@@ -22,15 +22,6 @@ reader_at ghosts reader = record {
   moments = ghosts.moments reader;
 }
 
--- it holds of each that has so many more after it: of all but the last ones
-abbrev pub AllBut : {A : Type 0} → ℕ → (A → Type 0) → List A → Type 0
-AllBut last P [] = Unit {0}
-AllBut last P (x ∷ xs) = (last ≤ length xs → P x) × AllBut last P xs
-
--- at this moment something was still to come, as far as that is known
-abbrev pub IsBeforeEnd : Moment → Type 0
-IsBeforeEnd m = m.to_come ≡ Some [] → ⊥
-
 -- So many moments came to an account, and this holds of the list of them. If none is kept any more
 -- nothing is said.
 abbrev pub AddsMoments : ℕ → (List Moment → Type 0) → (earlier now : Option (List Moment)) → Type 0
@@ -39,15 +30,27 @@ AddsMoments made Holds None (Some now) = ⊥
 AddsMoments made Holds (Some earlier) (Some now) = (later : List Moment) × (now ≡ earlier ++ later)
     × (length later ≡ made) × Holds later
 
--- So many reads were made. Each brought a byte or more, except that the last ones, so many, may be
--- idle: an idle read finds the end, or fails.
+-- a read brought a byte or more: what was to come before it, and what is to come after it
+abbrev pub BringsSome : Option (List ℕ) → Option (List ℕ) → Type 0
+BringsSome now next = (piece : List ℕ) × Consumes now next piece × (0 < length piece)
+
+-- The moments of reads, from what is to come before them to what is to come after them. At each
+-- moment what the read before it left is to come. Each read brought something, except that the last
+-- ones, so many, may be idle: an idle read finds the end, or fails.
+abbrev pub AreNoted : ℕ → Option (List ℕ) → List Moment → Option (List ℕ) → Type 0
+AreNoted idle now [] last = now ≡ last
+AreNoted idle now (m ∷ ms) last = (next : Option (List ℕ)) × (m.to_come ≡ now)
+    × (idle ≤ length ms → BringsSome now next) × AreNoted idle next ms last
+
+-- so many reads were made, and the last ones, so many, may be idle
 pub record AreReads (made idle : ℕ) (before after : ReaderState) : Type 0 where
   -- the reader counts them, up to its greatest number
   pub most : after.reads ≤ before.reads + made
   pub counted : before.reads < 2 ^ 64 → after.reads ≡ min (before.reads + made) (2 ^ 64 - 1)
-  -- these bytes came
+  -- these bytes came, one or more by each read that is not idle
   pub brought : List ℕ
   pub consumed : Consumes before.come after.come brought
   pub some : made ≤ length brought + idle
-  -- an account has a moment for each, and at each but the idle ones something was still to come
-  pub noted : AddsMoments made (AllBut idle IsBeforeEnd) before.moments after.moments
+  -- an account has a moment for each
+  pub noted : AddsMoments made (λ ms. AreNoted idle before.come ms after.come)
+      before.moments after.moments
