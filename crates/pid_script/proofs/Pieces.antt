@@ -60,8 +60,8 @@ no_open_line v e some =
     absurd (omega (arith, some))
 
 -- no open line is short enough
-pub no_line : (kept : List ℕ) → kept ≡ [] → length kept ≤ LONGEST + 1
-no_line kept none = subst (λ (l : List ℕ). length l ≤ LONGEST + 1) (sym none) (omega arith)
+pub no_line : (kept : List ℕ) → kept ≡ [] → length (drop_cr kept) ≤ LONGEST
+no_line kept none = subst (λ (l : List ℕ). length (drop_cr l) ≤ LONGEST) (sym none) (omega arith)
 
 line_answered : {R : Type 0} (m : Ghosts R) (x : Unit {0}) (h : History) (start : Option (List ℕ)) (first r new : R) (old left : Out) (text front kept kept_next : List ℕ)
     → HasAnswered m h start first r old kept text → ended_pieces front ≡ [] → kept_next ≡ []
@@ -111,7 +111,7 @@ half_stop m e piece rest front behind old now next was left left_next kept kept_
 
 -- what is left of the piece has no LF, and is kept
 half_kept : {R : Type 0} (m : Ghosts R) (piece rest : List ℕ) (old now : R) (was left : Out) (kept kept_now kept_next : List ℕ)
-    → IsHalfway m piece rest old now was left kept kept_now → ended_pieces rest ≡ [] → kept_next ≡ kept_now ++ rest → (length kept_now ≤ LONGEST + 1 → length kept_next ≤ LONGEST + 1)
+    → IsHalfway m piece rest old now was left kept kept_now → ended_pieces rest ≡ [] → kept_next ≡ kept_now ++ rest → (length (drop_cr kept_now) ≤ LONGEST → length (drop_cr kept_next) ≤ LONGEST)
     → m.showing.is_clean now → (h : History) (start : Option (List ℕ)) (first : R) (text : List ℕ) → ShowsOrHasFailed m first h → HasAnswered m h start first old was kept text
     → HasAnswered m h start first now left kept_next (text ++ piece)
 half_kept m piece rest old now was left kept kept_now kept_next half no_lf is short t h start first text stands a =
@@ -148,7 +148,7 @@ half_whole m piece rest old now was left kept kept_now half none = half_kept m p
 
 -- with what `keep` says of it
 pub half_kept_on : {R O : Type 0} (m : Ghosts R) (took : O → Option (List ℕ)) (piece rest : List ℕ) (old now : R) (was : Out) (out_now out_next : O) (held held_next kept kept_now kept_next : List ℕ)
-    → IsHalfway m piece rest old now was (out (took out_now) held) kept kept_now → ended_pieces rest ≡ [] → kept_next ≡ kept_now ++ rest → length kept_next ≤ LONGEST + 1 → out_next ≡ out_now → held_next ≡ held
+    → IsHalfway m piece rest old now was (out (took out_now) held) kept kept_now → ended_pieces rest ≡ [] → kept_next ≡ kept_now ++ rest → length (drop_cr kept_next) ≤ LONGEST → out_next ≡ out_now → held_next ≡ held
     → m.showing.is_clean now → (h : History) (start : Option (List ℕ)) (first : R) (text : List ℕ) → ShowsOrHasFailed m first h → HasAnswered m h start first old was kept text
     → HasAnswered m h start first now (out (took out_next) held_next) kept_next (text ++ piece)
 half_kept_on m took piece rest old now was out_now out_next held held_next kept kept_now kept_next half no_lf is short silent still t h start first text stands a =

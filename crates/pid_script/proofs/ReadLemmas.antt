@@ -6,6 +6,7 @@ use Rattle.std.specs.List.{AllByRecursion}
 use Rattle.std.specs.Io.KnownBytes.{Consumes, Keeps, IsAtEnd}
 use Rattle.pid_file.specs.declared.io.ReadFault.{ReadFault as InputFault}
 use Rattle.pid_ident.specs.Moments.{Moment, IsNoted}
+use Rattle.pid_reader.specs.Lines.{drop_cr}
 use Rattle.pid_moderation.specs.History.{History}
 use Rattle.pid_script.specs.declared.line_end.LineEnd.{LineEnd}
 use Rattle.pid_script.specs.declared.line_end.LineEnd.TheVariants as line_ends
@@ -57,7 +58,7 @@ one_more reads turn now next p q = omega arith
 
 pub cut_off : {R : Type 0} (m : Ghosts R) (h : History) (taken : Option (List ℕ)) (old new : R) (left : Out) (kept front : List ℕ) (come now next : Option (List ℕ)) → Consumes come now front → Keeps now next → left.held ≡ [] → HasAnswered m h taken old new left kept front → IfSome come (λ text. IsCutOff m h (passage old new taken left.taken) text next)
 cut_off m h taken old new left kept front None now next p q none a = tt
-cut_off m h taken old new left kept front (Some text) now next p q none a = record { front = front; read = Consumes-kept (Some text) now next front p q; short = subst (λ (l : List ℕ). length l ≤ LONGEST + 1) a.open_line a.short; answers = answers_out m h taken old new left _ a.answered none }
+cut_off m h taken old new left kept front (Some text) now next p q none a = record { front = front; read = Consumes-kept (Some text) now next front p q; short = subst (λ (l : List ℕ). length (drop_cr l) ≤ LONGEST) a.open_line a.short; answers = answers_out m h taken old new left _ a.answered none }
 
 Keeps-same : (a : Option (List ℕ)) → Keeps a a
 Keeps-same None = tt

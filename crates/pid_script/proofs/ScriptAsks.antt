@@ -66,16 +66,6 @@ is_shorter n e = grind (arith, nat_tests, e)
 pub cut_sum : (m n : ℕ) → m ≡ min n (2 ^ 64 - 1) → nat_lt LONGEST m ≡ nat_lt LONGEST n
 cut_sum m n is = grind (arith, nat_tests, is)
 
--- dropping the CR takes one byte at most
-dropped : (line : List ℕ) → length line ≤ length (drop_cr line) + 1
-dropped [] = omega arith
-dropped (b ∷ []) = elim (eqb b 13) as (λ t. 1 ≤ length (cond t [] (b ∷ [])) + 1) [ true ↦ omega arith | false ↦ omega arith ]
-dropped (b ∷ c ∷ bs) = let rest = dropped (c ∷ bs) in omega arith
-
--- bytes that are kept of a line that is not too long
-pub kept_short : (bytes now : List ℕ) → now ≡ bytes → length (drop_cr bytes) ≤ LONGEST → length now ≤ LONGEST + 1
-kept_short bytes now is fits = let d = dropped bytes in subst (λ (l : List ℕ). length l ≤ LONGEST + 1) (sym is) (omega (arith, d, fits))
-
 never_longer : (line : List ℕ) → length (drop_cr line) ≤ length line
 never_longer [] = omega arith
 never_longer (b ∷ []) = elim (eqb b 13) as (λ t. length (cond t [] (b ∷ [])) ≤ 1) [ true ↦ omega arith | false ↦ omega arith ]

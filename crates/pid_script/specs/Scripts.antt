@@ -10,7 +10,7 @@ use Rattle.pid_file.specs.declared.io.Output as outputs
 use Rattle.pid_ident.specs.declared.incoming.Incoming as incoming
 use Rattle.pid_ident.specs.Sending.{SendsFront}
 use Rattle.pid_ident.specs.Moments.{Moment}
-use Rattle.pid_reader.specs.Lines.{lines_of}
+use Rattle.pid_reader.specs.Lines.{drop_cr, lines_of}
 use Rattle.pid_reader.specs.WholeLines.{whole_lines, open_part}
 use Rattle.pid_moderation.specs.History.{History}
 use Rattle.pid_service.specs.declared.moderated.Moderated.{Ghosts}
@@ -80,7 +80,7 @@ Notes made Holds None (Some now) = ⊥
 Notes made Holds (Some earlier) (Some now) = (later : List Moment) × (now ≡ earlier ++ later)
     × (length later ≡ made) × Holds later
 
--- a script made all the reads that it might, and each of them found something to come
+-- a script made all the reads that it might, and none of them is known to have found the end
 pub record SpendsReads (made : ℕ) (taken : List ℕ) (s : ReaderAndWriter) : Type 0 where
   pub all : made ≡ s.turns
   -- no more were made than bytes came
@@ -171,8 +171,8 @@ module _ {R : Type 0} (registry : Ghosts R) where
   OverText p known Holds = OverStanding registry p.old p.new (λ h. IfSome known (Holds h p))
 
   -- Each of the lines got its reply, and the registry shows the history after them; one that had
-  -- failed was asked nothing. The commands of the lines are those that calls sent, and no more
-  -- calls were made than the lines ask for.
+  -- failed was asked nothing. The commands of the lines are those that calls sent, and what was done
+  -- is no more than that many calls do for which the lines ask.
   pub record AnswersLines (h : History) (p : Passage R) (lines : List (List ℕ)) : Type 0 where
     pub fits : NoneTooLong lines
     pub told : Appends p.taken p.taken_now (replies h lines)
@@ -184,7 +184,8 @@ module _ {R : Type 0} (registry : Ghosts R) where
   -- The lines before one got their replies. In place of its reply, or after what was begun of it,
   -- the line of a refusal comes last; and the registry shows the history before the line, or has
   -- failed at its command, which may have been written. The commands that calls sent are those of
-  -- the lines before, and no more calls were made than these and the line ask for.
+  -- the lines before, and what was done is no more than that many calls do for which these and the
+  -- line ask.
   pub record StopsAtLine (h : History) (p : Passage R) (lines : List (List ℕ)) : Type 0 where
     pub before : List (List ℕ)
     pub line : List ℕ
@@ -260,12 +261,12 @@ module _ {R : Type 0} (registry : Ghosts R) where
         (commands_of_lines (lines_read cut)) (calls_for_lines (lines_read cut)) p.new
 
   -- part of the text was read, and its whole lines got their replies; what came after them is no
-  -- more than the longest line and its CR
+  -- more than the longest line, a CR at its end not counted
   pub record IsCutOff (h : History) (p : Passage R) (text : List ℕ)
       (rest : Option (List ℕ)) : Type 0 where
     pub front : List ℕ
     pub read : Consumes (Some text) rest front
-    pub short : length (open_part front) ≤ LONGEST + 1
+    pub short : length (drop_cr (open_part front)) ≤ LONGEST
     pub answers : AnswersLines h p (whole_lines front)
 
   -- The text was read at this moment: the lines that had come whole had got their replies, and the

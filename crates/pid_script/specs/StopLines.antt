@@ -45,9 +45,9 @@ pub record IsStopText (Cause : Refusal → Type 0) (Begun : List ℕ → Type 0)
   pub is : text ≡ begun ++ refused_line refusal
 
 module _ {R : Type 0} (registry : Ghosts R) where
-  -- Which answer stops a script: a live registry refuses because memory ran out or its store
-  -- failed, one that has failed refuses all; and memory may run out for the script itself, which is
-  -- all that stops it if the registry is not asked.
+  -- Which answer stops a script: of a live registry, that memory ran out or that its store failed;
+  -- of one that has failed, that it has; and of the script itself, that memory ran out, which is all
+  -- that stops it at a line that asks nothing of the registry.
   pub record StoppedBy (r : R) (h : History) (ask : Ask) (refusal : Refusal) : Type 0 where
     pub stops : is_stop refusal ≡ true
     pub live : registry.showing.shows r h → IsMemoryOrStore refusal

@@ -61,8 +61,8 @@ fn keep<O: Output>(
     piece: &[u8],
 ) -> Result<(), LineEnd>
     ensures kept { OnOk result (kept.new.items ≡ kept.old.items ++ piece.now) }
-    // No more of a line is kept than the longest and its CR, however long it goes on.
-    ensures short { OnOk result (length kept.new.items ≤ LONGEST + 1) }
+    // No more of a line is kept than the longest, a CR at its end not counted.
+    ensures short { OnOk result (length (drop_cr kept.new.items) ≤ LONGEST) }
     ensures silent { OnOk result (output.new ≡ output.old) }
     ensures still { OnOk result (held.new.items ≡ held.old.items) }
     ensures unfit { IfErr result (λ e. Unfit e (kept.old.items ++ piece.now)
@@ -78,7 +78,7 @@ fn keep<O: Output>(
     }
 }
 
-// Answers the open line, which ends with these bytes. A line that came whole is not kept.
+// Answers the open line, which ends with these bytes.
 fn end_line<R: Moderated, O: Output>(
     alloc: Global,
     registry: &mut R,

@@ -150,7 +150,7 @@ GoesOnAfter (Ok x) None = Unit {0}
 GoesOnAfter (Err end) given = Unit {0}
 
 -- Why bytes of a line are not kept, and what was said: as far as they go the line is not too long,
--- and there is no memory for them; or it is too long already.
+-- and that memory ran out was said; or it is too long already.
 pub data Unfit (end : LineEnd) (bytes : List ℕ) (old new : Out) : Type 0 where
   NoMemory : length (drop_cr bytes) ≤ lines.LONGEST → SaysMemory end old new
       → Unfit end bytes old new

@@ -2,7 +2,7 @@
 use Rattle.std.specs.Prelude.{◌≡◌, ◌≤◌, ◌+◌, ℕ, List, [], ◌++◌, length, Option, Some, Result, Ok, Err}
 use Rattle.std.specs.Prelude.{IfErr, OnOk}
 use Rattle.std.specs.Io.KnownBytes.{Appends}
-use Rattle.pid_reader.specs.Lines.{lines_of}
+use Rattle.pid_reader.specs.Lines.{drop_cr, lines_of}
 use Rattle.pid_reader.specs.WholeLines.{whole_lines, open_part}
 use Rattle.pid_moderation.specs.History.{History}
 use Rattle.pid_script.specs.declared.line_end.LineEnd.{LineEnd}
@@ -45,7 +45,7 @@ module _ {R : Type 0} (registry : Ghosts R) where
   pub record HasAnswered (h : History) (start : Option (List ℕ)) (old new : R) (now : Out)
       (kept front : List ℕ) : Type 0 where
     pub open_line : kept ≡ open_part front
-    pub short : length kept ≤ LONGEST + 1
+    pub short : length (drop_cr kept) ≤ LONGEST
     pub answered : Answered h start old new now (whole_lines front)
 
   -- a line of a text ended it, of which this rest was not read

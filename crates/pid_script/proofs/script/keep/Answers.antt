@@ -1,10 +1,10 @@
-use Rattle.std.proofs.Common.{◌≤◌, ℕ, List, ◌++◌, length, ap, ◌∙◌}
+use Rattle.std.proofs.Common.{◌≤◌, ℕ, List, ◌++◌, length, ap, ◌∙◌, subst, sym}
 use Rattle.std.specs.Prelude.{nat_lt}
 use Rattle.pid_reader.specs.Lines.{drop_cr}
 use Rattle.pid_script.specs.ScriptLines.{LONGEST}
 use Rattle.pid_script.specs.Steps.Output.{NoMemory, AlreadyLong}
 use Rattle.pid_script.proofs.Asked.{err_fault}
-use Rattle.pid_script.proofs.ScriptAsks.{is_longer, is_shorter, kept_short}
+use Rattle.pid_script.proofs.ScriptAsks.{is_longer, is_shorter}
 use Rattle.pid_script.proofs.script.keep.Goals as goal
 
 pub returns-then-is_too_long-clause-unfit : goal.returns-then-is_too_long-clause-unfit
@@ -18,7 +18,7 @@ returns-in-Err-clause-unfit g c =
 pub returns-in-Ok-clause-short : goal.returns-in-Ok-clause-short
 returns-in-Ok-clause-short g c =
     let fits : length (drop_cr (c.args.kept.now.items ++ c.args.piece.now)) ≤ LONGEST = is_shorter _ (c.if-is_too_long.ensures ∙ ap (λ (k : List ℕ). nat_lt LONGEST (length (drop_cr (k ++ c.args.piece.now)))) c.deref.ensures.value) in
-    kept_short (c.args.kept.now.items ++ c.args.piece.now) c.extend_from_slice.new.self.items c.in-Ok.ensures.items fits
+    subst (λ (l : List ℕ). length (drop_cr l) ≤ LONGEST) (sym c.in-Ok.ensures.items) fits
 
 pub returns-then-is_too_long-clause-fault : goal.returns-then-is_too_long-clause-fault
 returns-then-is_too_long-clause-fault g c = err_fault c.refuse_long.result c.refuse_long.ensures.fault
