@@ -509,6 +509,21 @@ def test_clients(cases, folder):
             cases.equal("http: 5,000 requests on one connection", told, {(200, b"[]")})
 
 
+def test_pauses(cases, folder):
+    """A client that stops for seconds within a head, and then within a body."""
+    with Server(os.path.join(folder, "pauses")) as server, server.connect() as client:
+        client.sendall(b"POST /submit?format=text HTTP/1.1\r\nX-Acc")
+        time.sleep(2.5)
+        client.sendall(b"ount: root\r\nContent-Length: 22\r\n\r\npath=PC/8086&")
+        time.sleep(2.5)
+        client.sendall(b"name=Test")
+        cases.equal(
+            "http: a client that pauses",
+            client.recv(65536),
+            reply("200 OK", TEXT, b"ok 1\n"),
+        )
+
+
 def test_many_connections(cases, folder):
     """More connections than the server may have files open, of which deploy/systemd/pciids.service
     allows as many: each is closed once it was served."""

@@ -1,5 +1,5 @@
 -- What serving a registry prints, and how it ends by that. Choices of this project.
-use Rattle.std.specs.Prelude.{◌≡◌, ℕ, Bool, true, false, List, codes, Option, None, ⊤}
+use Rattle.std.specs.Prelude.{◌≡◌, ℕ, Bool, true, false, List, codes, Option, ⊤}
 use Rattle.std.specs.Io.KnownBytes.{Appends}
 use Rattle.sqlite_trees.specs.declared.store.Store.{Ghosts}
 use Rattle.pid_file.specs.declared.io.Output as outputs
@@ -13,7 +13,8 @@ use Rattle.pid_http_listener.specs.Streams.{Exchange}
 use Rattle.pid_http.specs.Serving.{serving}
 use Rattle.pid_http.specs.Streams.{OverStream}
 use Rattle.pid_http_stream.specs.Causes.{EndsFor}
-use Rattle.pid_http_stream.specs.Serving.{IsServed, outside}
+use Rattle.pid_http_stream.specs.Moments.{AllSince}
+use Rattle.pid_http_stream.specs.Serving.{IsCaughtUp, IsServed, outside}
 use Rattle.pid_service.specs.declared.registry.Registry.{Registry}
 use Rattle.pid_service.specs.Registries.{is_live}
 use Rattle.pid_cli_jobs.specs.declared.job_end.JobEnd.{JobEnd}
@@ -45,27 +46,21 @@ ReportsServing AcceptFault streams w end = (end ≡ Told 3)
     × TriesLine w.output (served_line streams)
     × TriesLine w.faults socket_line
 
--- A stream was answered over a registry, before it and after it: what `served` and `ended` of
--- `serve_stream` of `pid_http` say, of the reader and the writer of this exchange. So if the bytes
--- of the stream are known, such calls led on as its requests make.
+-- A stream was answered over a registry, before it and after it: what `served`, `caught_up` and
+-- `ended` of `serve_stream` of `pid_http` say, of the reader and the writer of this exchange. So if
+-- the bytes of the stream are known, such calls led on as its requests make; and if the reader kept
+-- account of its reads, the replies to what had come were out at each of them.
 pub record AnswersStream {S : Type 0} (store : Ghosts S) (old new : Registry S store)
     (x : Exchange) : Type 0 where
-  pub served : OverStream store old new x.input.to_come (λ t u stream. IsServed (serving store)
-      (outside t u x.output.before x.output.after)
-      stream x.input.left x.served.end x.served.answered)
+  pub served : OverStream store old new x.input.before.come (λ t u stream.
+      IsServed (serving store) (outside t u x.output.before x.output.after)
+      stream x.input.after.come x.served.end x.served.answered)
+  pub caught_up : OverStream store old new x.input.before.come (λ t u stream.
+      AllSince (IsCaughtUp (serving store) t x.output.before stream)
+      x.input.before.moments x.input.after.moments)
   pub ended : EndsFor x.served.end (record {
-    before = record {
-      reads = x.input.reads;
-      come = x.input.to_come;
-      fault = x.input.fault_before;
-      moments = None;
-    };
-    after = record {
-      reads = x.input.reads_after;
-      come = x.input.left;
-      fault = x.input.fault;
-      moments = None;
-    };
+    before = x.input.before;
+    after = x.input.after;
     write_fault = x.output.fault;
     stuck = ⊤;
     turns = x.turns;

@@ -14,7 +14,7 @@ use pid_file::{FAILED, TextEnd, tell_end};
 use pid_http::{Routes, serve_with};
 use pid_http_listener::{Serving, ServingEnd, StreamServer};
 use pid_http_stream::Served;
-use pid_ident::{Input, Output, WriteFault, write_all};
+use pid_ident::{Incoming, Output, WriteFault, write_all};
 use pid_service::Registry;
 use sqlite::Alter;
 use std::alloc::Global;
@@ -61,7 +61,12 @@ impl<S: Alter + Drop> StreamServer for Server<'_, '_, S> {
         self.registry.is_live()
     }
 
-    fn serve<I: Input, O: Output>(&mut self, input: &mut I, output: &mut O, turns: u64) -> Served {
+    fn serve<I: Incoming<O>, O: Output>(
+        &mut self,
+        input: &mut I,
+        output: &mut O,
+        turns: u64,
+    ) -> Served {
         serve_with(self.alloc, self.routes, self.registry, input, output, turns)
     }
 }

@@ -1,29 +1,19 @@
 -- What becomes of a stream that is served, and how many a server was given.
-use Rattle.std.specs.Prelude.{◌≡◌, ℕ, ◌+◌, ◌^◌, ◌<◌, List, Option, Some, IfSome}
-use Rattle.pid_file.specs.declared.io.Input.{Ghosts}
-use Rattle.pid_file.specs.declared.io.ReadFault.{ReadFault}
+use Rattle.std.specs.Prelude.{◌≡◌, ℕ, ◌+◌, ◌^◌, ◌<◌, Option, Some, IfSome}
 use Rattle.pid_file.specs.Writing.{WriterUse}
+use Rattle.pid_ident.specs.declared.incoming.Incoming.{Ghosts}
+use Rattle.pid_ident.specs.Reads.{ReaderState, reader_at}
 use Rattle.pid_http_stream.specs.declared.stream.Served.{Served}
 
--- what a reader had to come before it was used and after that, the fault that it kept before and
--- keeps then, and its count of reads
+-- what is known of a reader before it was used and after that
 pub record ReaderUse : Type 0 where
-  pub to_come : Option (List ℕ)
-  pub left : Option (List ℕ)
-  pub fault_before : Option ReadFault
-  pub fault : Option ReadFault
-  pub reads : ℕ
-  pub reads_after : ℕ
+  pub before : ReaderState
+  pub after : ReaderState
 
--- the same, of a reader before and after
-abbrev pub use_of_reader : {R : Type 0} → Ghosts R → R → R → ReaderUse
+abbrev pub use_of_reader : {I W : Type 0} → Ghosts I W → I → I → ReaderUse
 use_of_reader reader old new = record {
-  to_come = reader.to_come old;
-  left = reader.to_come new;
-  fault_before = reader.read_fault old;
-  fault = reader.read_fault new;
-  reads = reader.reads old;
-  reads_after = reader.reads new;
+  before = reader_at reader old;
+  after = reader_at reader new;
 }
 
 -- What became of the two sides of a stream that was served in at most so many reads, and what the

@@ -4,7 +4,7 @@ ghost use Rattle.pid_file.specs.Writing.{use_of};
 ghost use Rattle.pid_http_listener.specs.Streams.{IsGivenMore, exchange, use_of_reader};
 
 use pid_http_stream::Served;
-use pid_ident::{Input, Output};
+use pid_ident::{Incoming, Output};
 
 /// What serves the streams of connections, one after another.
 pub trait StreamServer {
@@ -28,12 +28,18 @@ pub trait StreamServer {
     fn is_live(&self) -> bool
         ensures { result ≡ live self.now };
 
-    /// Serves the stream of one connection, in at most so many reads.
-    fn serve<I: Input, O: Output>(&mut self, input: &mut I, output: &mut O, turns: u64) -> Served
+    /// Serves the stream of one connection, in at most so many reads. The reader may keep account
+    /// of what the writer had taken whenever it was read.
+    fn serve<I: Incoming<O>, O: Output>(
+        &mut self,
+        input: &mut I,
+        output: &mut O,
+        turns: u64,
+    ) -> Served
         requires { live self.old ≡ true }
         ensures goes { goes self.old self.new }
         ensures answers { answers self.old self.new
-            (exchange (use_of_reader I.Input input.old input.new)
+            (exchange (use_of_reader I.Incoming input.old input.new)
             (use_of O.Output output.old output.new) turns result) }
         ensures counted { IsGivenMore 1 (given self.old) (given self.new) }
         ensures reads { I.reads input.new ≤ I.reads input.old + turns };

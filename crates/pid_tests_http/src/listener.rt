@@ -3,17 +3,17 @@ ghost use Rattle.std.specs.Prelude.{◌+◌, ◌≤◌};
 
 use pid_http_listener::{Serving, ServingEnd, StreamServer, serve_on};
 use pid_http_stream::{Served, StreamEnd};
-use pid_ident::{Input, Output, write_all};
+use pid_ident::{Incoming, Output, write_all};
 use std::io::{Read, Write};
 use std::net::{Shutdown, SocketAddr, TcpListener, TcpStream};
 use std::test::Fail;
 
-fn give_back<I: Input, O: Output>(input: &mut I, output: &mut O, turns: u64)
+fn give_back<I: Incoming<O>, O: Output>(input: &mut I, output: &mut O, turns: u64)
     ensures { I.reads input.new ≤ I.reads input.old + turns }
 {
     let mut piece = [0u8; 1000];
     for _ in 0..turns {
-        match input.read(&mut piece) {
+        match input.read_behind(output, &mut piece) {
             Ok(count) if count > 0 => {
                 let _ = write_all(output, &piece[..count]);
             }
@@ -59,7 +59,12 @@ impl StreamServer for Echo {
         self.streams_left > 0
     }
 
-    fn serve<I: Input, O: Output>(&mut self, input: &mut I, output: &mut O, turns: u64) -> Served {
+    fn serve<I: Incoming<O>, O: Output>(
+        &mut self,
+        input: &mut I,
+        output: &mut O,
+        turns: u64,
+    ) -> Served {
         self.streams_left = self.streams_left.saturating_sub(1);
         self.given = self.given.saturating_add(1);
         give_back(input, output, turns.min(self.reads));

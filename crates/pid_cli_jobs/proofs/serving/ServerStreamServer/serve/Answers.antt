@@ -4,6 +4,7 @@ use Rattle.pid_cli_jobs.proofs.serving.ServerStreamServer.serve.Goals as goal
 pub returns-clause-answers : goal.returns-clause-answers
 returns-clause-answers g c = record {
   served = c.serve_with.ensures.served;
+  caught_up = c.serve_with.ensures.caught_up;
   ended = c.serve_with.ensures.ended;
 }
 
