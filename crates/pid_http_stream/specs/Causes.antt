@@ -49,7 +49,7 @@ pub record EndsFor (end : StreamEnd) (s : LastState) : Type 0 where
   pub made : ℕ
   pub within : made ≤ s.turns
   pub spent : end ≡ ends.TurnsSpent → made ≡ s.turns
-  -- the reader counts them, and all brought something, but for the last one at some ends
+  -- the reader counts them, and none is idle but for the last one at some ends
   pub reads : AreReads made (idle_reads end) s.before s.after
   -- a fault is kept by who has it
   pub cause : HasEndCause end s

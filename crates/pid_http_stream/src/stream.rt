@@ -68,7 +68,7 @@ pub enum StreamEnd {
     /// The handler could not go on with a body that it wrote itself, and the writer is good; the
     /// head of the reply was written, and a prefix of the body.
     StoreFault,
-    /// Memory was refused; the reader is good, and nothing that came is refused.
+    /// Memory was refused; the reader has not failed meanwhile, and nothing that came is refused.
     Memory,
     /// All reads were made that might be.
     TurnsSpent,
@@ -293,13 +293,14 @@ fn serve_held<H: Handler, I: Incoming<W>, W: Output>(
 /// Answers the requests of a stream, one after another, in at most so many reads.
 ///
 /// Whenever it reads, the requests that came whole are answered, the writer has taken their
-/// replies, and nothing that is refused follows them. If the writer takes all and neither memory,
-/// turns nor the store fail, the bytes written are the replies to the requests of the whole stream,
-/// in their order, in whatever chunks the bytes come; then the one refusal, if the stream ends with
-/// a fault.
+/// replies, and nothing that is refused follows them. If the writer takes all, the reader does not
+/// fail, and neither memory, turns nor the store do, the bytes written are the replies to the
+/// requests of the whole stream, in their order, in whatever chunks the bytes come; then the one
+/// refusal, if the stream ends with a fault.
 ///
-/// No read follows one that finds the end or fails, and each other one brings a byte or more. A
-/// stream that ends as `Closed`, `StoreFault`, `Memory` or `TurnsSpent` has no such last read.
+/// There are no more reads than bytes that came, but for a last one that finds the end or fails. Of
+/// a reader that keeps account of them, each brings a byte or more, but for that one. A stream that
+/// ends as `Closed`, `StoreFault`, `Memory` or `TurnsSpent` has no such last read.
 pub fn serve_stream<H: Handler, I: Incoming<W>, W: Output>(
     alloc: Global,
     handler: &mut H,

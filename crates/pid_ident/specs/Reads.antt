@@ -47,7 +47,7 @@ pub record AreReads (made idle : ℕ) (before after : ReaderState) : Type 0 wher
   -- the reader counts them, up to its greatest number
   pub most : after.reads ≤ before.reads + made
   pub counted : before.reads < 2 ^ 64 → after.reads ≡ min (before.reads + made) (2 ^ 64 - 1)
-  -- these bytes came, one or more by each read that is not idle
+  -- these bytes came, and there are no more reads than bytes, but for the idle ones
   pub brought : List ℕ
   pub consumed : Consumes before.come after.come brought
   pub some : made ≤ length brought + idle
