@@ -80,7 +80,7 @@ fn do_there<M: Machine, D: Disk + Drop, I: Incoming<O>, O: Output, F: Output>(
 }
 
 /// Does the job on the files of a registry, which are created if they do not exist. Their connection
-/// is closed last, if the registry has not failed. `start` is as for `open_database`.
+/// is closed last, if the job hands it back. `start` is as for `open_database`.
 pub fn do_in_files<M: Machine, S: Start, I: Incoming<O>, O: Output, F: Output>(
     machine: &mut M,
     start: S,
