@@ -13,10 +13,10 @@ use Rattle.pid_http_stream.specs.declared.handler.Reply.{Reply}
 use Rattle.pid_http_stream.specs.declared.handler.ReplyBody.{ReplyBody}
 use Rattle.pid_http_stream.specs.declared.handler.ReplyBody.TheVariants.{Bytes, Written}
 use Rattle.pid_http_stream.specs.declared.reply_head.ReplyHead.{ReplyHead}
-use Rattle.pid_http_requests.specs.Questions.{Asking, question}
-use Rattle.pid_http_requests.specs.Senders.{Sending, sender}
-use Rattle.pid_http_requests.specs.declared.format.Format.{Format}
-use Rattle.pid_http_requests.specs.declared.sender.Sender.{Sender}
+use Rattle.pid_http_api.specs.Questions.{Asking, question}
+use Rattle.pid_http_api.specs.Senders.{Sending, sender}
+use Rattle.pid_http_api.specs.declared.format.Format.{Format}
+use Rattle.pid_http_api.specs.declared.sender.Sender.{Sender}
 use Rattle.pid_http.specs.Errands.{Errand, errand_asked, errand_of, import_errand}
 use Rattle.pid_http.specs.Known.{Told, ByCalls}
 use Rattle.pid_http.specs.Steps.Replying.{IsBodyMet, IsMetBehind, sending_in}

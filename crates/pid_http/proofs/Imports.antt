@@ -22,9 +22,9 @@ use Rattle.pid_service.specs.declared.registry.Registry.{Registry}
 use Rattle.pid_http_stream.specs.Replies.{Answer}
 use Rattle.pid_http_stream.specs.BodyLengths.{longest_body}
 use Rattle.pid_http_stream.specs.declared.handler.Reply.{Reply}
-use Rattle.pid_http_requests.specs.declared.format.Format.{Format}
-use Rattle.pid_http_replies.specs.Outcomes.{outcome_answer}
-use Rattle.pid_http_replies.specs.Replying.{IsReplyOf}
+use Rattle.pid_http_api.specs.declared.format.Format.{Format}
+use Rattle.pid_http_api.specs.Outcomes.{outcome_answer}
+use Rattle.pid_http_api.specs.Replying.{IsReplyOf}
 use Rattle.pid_service_laws.specs.Calls.{Call, obeyed}
 use Rattle.pid_service_laws.specs.Registries.{Does}
 use Rattle.pid_service.specs.Lives.{import_sent, showing}

@@ -22,10 +22,10 @@ use Rattle.pid_http_stream.specs.declared.handler.Reply.{Reply}
 use Rattle.pid_http_stream.specs.declared.handler.ReplyBody.{ReplyBody}
 use Rattle.pid_http_stream.specs.declared.handler.ReplyBody.TheVariants.{Bytes, Written}
 use Rattle.pid_http_stream.specs.declared.reply_head.ReplyHead.{ReplyHead}
-use Rattle.pid_http_requests.specs.Senders.{Sending}
-use Rattle.pid_http_requests.specs.declared.format.Format.{Format}
-use Rattle.pid_http_replies.specs.Outcomes.{outcome_answer}
-use Rattle.pid_http_replies.specs.Replying.{IsReplyOf, IsBodyOf}
+use Rattle.pid_http_api.specs.Senders.{Sending}
+use Rattle.pid_http_api.specs.declared.format.Format.{Format}
+use Rattle.pid_http_api.specs.Outcomes.{outcome_answer}
+use Rattle.pid_http_api.specs.Replying.{IsReplyOf, IsBodyOf}
 use Rattle.pid_http.specs.Answering.{answer_over, history_behind, IsErrandRefused, LacksForm}
 use Rattle.pid_http.specs.Errands.{Errand, Answered, Denied, Obeys, Children, command_sent, command_errand, import_errand, known_answer}
 use Rattle.pid_http.specs.Known.{Known, Live, Between, Down, IsKnownOf, LivesOn, IsToldOf, ByCalls}

@@ -18,8 +18,8 @@ use Rattle.pid_http_stream.specs.Requests.{fields_of}
 use Rattle.pid_http_stream.specs.declared.handler.Wanted.TheVariants.{Streamed}
 use Rattle.pid_http_stream.specs.declared.reply_head.Content.TheVariants.{Text}
 use Rattle.pid_http_stream.specs.declared.reply_head.ReplyHead.{ReplyHead}
-use Rattle.pid_http_requests.specs.Questions.{Asking, question}
-use Rattle.pid_http_requests.specs.Senders.{Sending, sender}
+use Rattle.pid_http_api.specs.Questions.{Asking, question}
+use Rattle.pid_http_api.specs.Senders.{Sending, sender}
 use Rattle.pid_http.specs.Answering.{answer_over, history_behind, IsErrandRefused, LacksForm}
 use Rattle.pid_http.specs.Errands.{Errand, Answered, Denied, Export, Children, command_sent}
 use Rattle.pid_http.specs.Errands.{errand_of, known_answer}

@@ -1,11 +1,10 @@
 //! Commands, each with its reply.
 ghost use Rattle.std.specs.Prelude.{◌≡◌, Err};
-ghost use Rattle.pid_http_requests.specs.Commands.{command_made};
+ghost use Rattle.pid_http_api.specs.Commands.{command_made};
 ghost use Rattle.pid_http.specs.Errands.{sent};
 ghost use Rattle.pid_http.specs.Steps.Replying.{Commands, sending_in};
 
-use pid_http_replies::{outcome_reply, refusal_reply};
-use pid_http_requests::{Format, Sender, command_in};
+use pid_http_api::{Format, Sender, command_in, outcome_reply, refusal_reply};
 use pid_http_stream::Reply;
 use pid_moderation::{Refusal, Verb};
 use pid_service::Registry;

@@ -4,8 +4,7 @@ ghost use Rattle.pid_http.specs.Errands as errands;
 ghost use Rattle.pid_http.specs.Steps.Replying.{Asks};
 
 use http::StatusCode;
-use pid_http_replies::refusal_reply;
-use pid_http_requests::Format;
+use pid_http_api::{Format, refusal_reply};
 use pid_http_stream::{Content, Reply, ReplyBody, ReplyHead};
 use pid_service::Registry;
 use sqlite::Alter;

@@ -4,7 +4,7 @@ ghost use Rattle.std.specs.Prelude.{◌≡◌, IfOk};
 use crate::dispatch::answer;
 use crate::importing::import;
 use crate::service::Service;
-use pid_http_requests::{Format, Question, question_of, sender_of};
+use pid_http_api::{Format, Question, question_of, sender_of};
 use pid_http_stream::{BodyStop, Handler, Head, NoReply, Reply, Wanted};
 use pid_ident::{Input, Output};
 use pid_service::ExportFault;
@@ -16,7 +16,7 @@ impl<S: Alter + Drop> Handler for Service<'_, '_, S> {
     ghost use Rattle.pid_http.specs.Known.{IsToldOf, LivesOn, Told};
     ghost use Rattle.pid_http.specs.Steps.Going.{lives_further, lives_still};
     ghost use Rattle.pid_http.specs.Serving.{serving};
-    ghost use Rattle.pid_http_requests.specs.Questions.{question};
+    ghost use Rattle.pid_http_api.specs.Questions.{question};
     ghost use Rattle.pid_service.specs.Registries.{HasCleanDisk};
 
     type Question = Question;

@@ -3,14 +3,13 @@ ghost use Rattle.std.specs.Prelude.{◌≡◌, [], Some, Err, IfOk, IfSome, opti
 ghost use Rattle.std.specs.Io.KnownBytes.{IsAtEnd};
 ghost use Rattle.pid_service.specs.Files.{file_reading};
 ghost use Rattle.pid_moderation.specs.BeforeFile.{import_of};
-ghost use Rattle.pid_http_replies.specs.Outcomes.{outcome_answer};
-ghost use Rattle.pid_http_replies.specs.Replying.{MakesReply};
+ghost use Rattle.pid_http_api.specs.Outcomes.{outcome_answer};
+ghost use Rattle.pid_http_api.specs.Replying.{MakesReply};
 ghost use Rattle.pid_http.specs.Errands as errands;
 ghost use Rattle.pid_http.specs.Errands.{import_errand};
 ghost use Rattle.pid_http.specs.Steps.Replying.{RepliesToFile, sending_in};
 
-use pid_http_replies::outcome_reply;
-use pid_http_requests::{Format, Sender};
+use pid_http_api::{Format, Sender, outcome_reply};
 use pid_http_stream::{LONGEST_BODY, NoReply, Reply};
 use pid_ident::{Account, Input, Key};
 use pid_moderation::{Refusal, Reply as Outcome};

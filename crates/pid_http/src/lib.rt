@@ -14,5 +14,5 @@ mod service;
 mod stream;
 
 pub use laws::streams_send_their_commands;
-pub use pid_http_requests::Routes;
+pub use pid_http_api::Routes;
 pub use stream::{serve_stream, serve_with};

@@ -4,8 +4,7 @@ ghost use Rattle.pid_http.specs.Errands as errands;
 ghost use Rattle.pid_http.specs.Errands.{submissions_for};
 ghost use Rattle.pid_http.specs.Steps.Replying.{Asks};
 
-use pid_http_replies::{queue_reply, refusal_reply, status_reply, submissions_reply};
-use pid_http_requests::{Format, Sought};
+use pid_http_api::{Format, Sought, queue_reply, refusal_reply, status_reply, submissions_reply};
 use pid_http_stream::Reply;
 use pid_ident::Account;
 use pid_moderation::Refusal;

@@ -4,11 +4,10 @@ ghost use Rattle.pid_http.specs.Errands as errands;
 ghost use Rattle.pid_http.specs.Errands.{changes_for, children_for, read_for, submission_for};
 ghost use Rattle.pid_http.specs.Steps.Replying.{Asks};
 
-use pid_http_replies::{
-    changes_reply, children_reply, item_reply, lookup_reply, missing_reply, pending_reply,
-    rank_reply, refusal_reply, submission_reply,
+use pid_http_api::{
+    Above, Format, LookupQuery, Start, changes_reply, children_reply, item_reply, lookup_reply,
+    missing_reply, pending_reply, rank_reply, refusal_reply, submission_reply,
 };
-use pid_http_requests::{Above, Format, LookupQuery, Start};
 use pid_http_stream::Reply;
 use pid_ident::{Account, Path};
 use pid_moderation::Refusal;

@@ -1,5 +1,5 @@
 //! A registry and the routes to it.
-use pid_http_requests::Routes;
+use pid_http_api::Routes;
 use pid_service::Registry;
 use sqlite::Alter;
 use std::alloc::Global;

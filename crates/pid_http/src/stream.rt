@@ -9,7 +9,7 @@ ghost use Rattle.pid_http.specs.Serving.{serving};
 ghost use Rattle.pid_http.specs.Streams.{OverStream};
 
 use crate::service::Service;
-use pid_http_requests::Routes;
+use pid_http_api::Routes;
 use pid_http_stream::{Incoming, Served, StreamEnd, serve_stream as serve_requests};
 use pid_ident::Output;
 use pid_service::Registry;

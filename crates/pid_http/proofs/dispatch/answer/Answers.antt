@@ -1,5 +1,5 @@
-use Rattle.pid_http_replies.specs.EarlyAnswers.{early_answer}
-use Rattle.pid_http_replies.specs.declared.early.Early.TheVariants as early
+use Rattle.pid_http_api.specs.EarlyAnswers.{early_answer}
+use Rattle.pid_http_api.specs.declared.early.Early.TheVariants as early
 use Rattle.pid_http.specs.Errands.{Answered}
 use Rattle.pid_http.proofs.Meeting.{answered, no_call, replied}
 use Rattle.pid_http.proofs.dispatch.answer.Goals as goal

@@ -1,5 +1,5 @@
 use Rattle.std.proofs.Common.{refl}
-use Rattle.pid_http_requests.specs.declared.format.Format.TheVariants.{Json}
+use Rattle.pid_http_api.specs.declared.format.Format.TheVariants.{Json}
 use Rattle.pid_http.specs.Errands.{Export}
 use Rattle.pid_http.proofs.Exports.{length_told}
 use Rattle.pid_http.proofs.Meeting.{asked_on, one_question, refused_call, replied}

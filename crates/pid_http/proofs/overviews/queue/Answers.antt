@@ -5,9 +5,9 @@ use Rattle.pid_moderation.specs.Views.{views_of}
 use Rattle.pid_moderation.specs.QueuePages.{queue_in, queued_of}
 use Rattle.pid_moderation.specs.declared.lists.Queued.{Queued}
 use Rattle.pid_moderation.specs.declared.lists.TheConstants.{PAGE}
-use Rattle.pid_http_requests.specs.declared.format.Format.{Format}
-use Rattle.pid_http_replies.specs.QueueAnswers.{queue_answer}
-use Rattle.pid_http_replies.specs.Replying.{MakesReply}
+use Rattle.pid_http_api.specs.declared.format.Format.{Format}
+use Rattle.pid_http_api.specs.QueueAnswers.{queue_answer}
+use Rattle.pid_http_api.specs.Replying.{MakesReply}
 use Rattle.pid_http.specs.Answering.{answer_over}
 use Rattle.pid_http.specs.Errands as errands
 use Rattle.pid_http.proofs.Meeting.{IsQuestion, question_met, replied}

@@ -1,8 +1,8 @@
 use Rattle.std.proofs.Common.{◌≡◌, refl, ap}
 use Rattle.pid_moderation.specs.RegistryStatus.{status_of_registry, registry_status_of}
 use Rattle.pid_moderation.specs.declared.lists.Status.{Status}
-use Rattle.pid_http_requests.specs.declared.format.Format.{Format}
-use Rattle.pid_http_replies.specs.StatusAnswers.{status_answer}
+use Rattle.pid_http_api.specs.declared.format.Format.{Format}
+use Rattle.pid_http_api.specs.StatusAnswers.{status_answer}
 use Rattle.pid_http.specs.Answering.{answer_over}
 use Rattle.pid_http.specs.Errands as errands
 use Rattle.pid_http.proofs.Meeting.{IsQuestion, question_met, replied}

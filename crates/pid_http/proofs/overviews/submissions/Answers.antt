@@ -2,15 +2,15 @@ use Rattle.std.proofs.Common.{◌≡◌, ℕ, List, Option, None, Some, Err, ref
 use Rattle.pid_file.specs.declared.path.Path.{Path}
 use Rattle.pid_moderation.specs.History.{History}
 use Rattle.pid_moderation.specs.declared.refusal.Refusal.TheVariants.{BadPath}
-use Rattle.pid_http_replies.specs.Outcomes.{outcome_answer}
+use Rattle.pid_http_api.specs.Outcomes.{outcome_answer}
 use Rattle.pid_http.specs.Errands.{Answered}
 use Rattle.std.specs.Option.{option_copied}
 use Rattle.pid_moderation.specs.Views.{views_of}
 use Rattle.pid_moderation.specs.SubmissionPages.{Search, submissions_of, submission_page_of}
 use Rattle.pid_moderation.specs.declared.lists.SubmissionPage.{SubmissionPage}
 use Rattle.pid_moderation.specs.declared.lists.TheConstants.{PAGE, SEARCHED}
-use Rattle.pid_http_requests.specs.declared.format.Format.{Format}
-use Rattle.pid_http_replies.specs.SubmissionPageAnswers.{submissions_answer}
+use Rattle.pid_http_api.specs.declared.format.Format.{Format}
+use Rattle.pid_http_api.specs.SubmissionPageAnswers.{submissions_answer}
 use Rattle.pid_http.specs.Answering.{answer_over}
 use Rattle.pid_http.specs.Errands as errands
 use Rattle.pid_http.proofs.Meeting.{IsQuestion, answered, answers_by, no_call, question_met, replied}

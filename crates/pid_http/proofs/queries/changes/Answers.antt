@@ -1,15 +1,15 @@
 use Rattle.std.proofs.Common.{◌≡◌, ℕ, Option, None, Some, Err, refl, ap, ◌∙◌}
 use Rattle.pid_moderation.specs.History.{History}
 use Rattle.pid_moderation.specs.declared.refusal.Refusal.TheVariants.{BadPath}
-use Rattle.pid_http_replies.specs.Outcomes.{outcome_answer}
+use Rattle.pid_http_api.specs.Outcomes.{outcome_answer}
 use Rattle.pid_http.specs.Errands.{Answered}
 use Rattle.pid_file.specs.declared.path.Path.{Path}
 use Rattle.pid_moderation.specs.Views.{views_of}
 use Rattle.pid_moderation.specs.ChangePages.{changes_in, page_of, start_text}
 use Rattle.pid_moderation.specs.declared.lists.Changes.{Changes}
 use Rattle.pid_moderation.specs.declared.lists.TheConstants.{PAGE}
-use Rattle.pid_http_requests.specs.declared.format.Format.{Format}
-use Rattle.pid_http_replies.specs.ChangeAnswers.{changes_answer}
+use Rattle.pid_http_api.specs.declared.format.Format.{Format}
+use Rattle.pid_http_api.specs.ChangeAnswers.{changes_answer}
 use Rattle.pid_http.specs.Answering.{answer_over}
 use Rattle.pid_http.specs.Errands as errands
 use Rattle.pid_http.proofs.Meeting.{IsQuestion, answered, answers_by, no_call, question_met, replied}

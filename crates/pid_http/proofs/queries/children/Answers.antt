@@ -10,10 +10,10 @@ use Rattle.pid_moderation.specs.Views.{items_of}
 use Rattle.pid_moderation.specs.ItemPairs.{pair_of}
 use Rattle.pid_moderation.specs.declared.lists.Item.{Item}
 use Rattle.pid_moderation.specs.declared.refusal.Refusal.TheVariants.{BadPath}
-use Rattle.pid_http_requests.specs.declared.format.Format.{Format}
-use Rattle.pid_http_replies.specs.ItemAnswers.{children_answer}
-use Rattle.pid_http_replies.specs.Outcomes.{outcome_answer}
-use Rattle.pid_http_replies.specs.Replying.{MakesReply}
+use Rattle.pid_http_api.specs.declared.format.Format.{Format}
+use Rattle.pid_http_api.specs.ItemAnswers.{children_answer}
+use Rattle.pid_http_api.specs.Outcomes.{outcome_answer}
+use Rattle.pid_http_api.specs.Replying.{MakesReply}
 use Rattle.pid_http.specs.Answering.{answer_over, children_below, children_or_missing, items_if}
 use Rattle.pid_http.specs.Errands.{Answered, Children}
 use Rattle.pid_http.proofs.Meeting.{IsQuestion, answered, answers_by, answers_so, no_call, question_met, question_then, refused_call, replied}

@@ -11,8 +11,8 @@ use Rattle.pid_moderation.specs.Writes.{tree_of}
 use Rattle.pid_moderation.specs.declared.refusal.Refusal.{Refusal}
 use Rattle.pid_moderation.specs.declared.refusal.Refusal.TheVariants.{Memory, Failed as HasFailed}
 use Rattle.pid_service.specs.Asking.{MayGive}
-use Rattle.pid_http_requests.specs.declared.lookup.LookupQuery.{LookupQuery}
-use Rattle.pid_http_replies.specs.LookupAnswers.{lookup_answer}
+use Rattle.pid_http_api.specs.declared.lookup_query.LookupQuery.{LookupQuery}
+use Rattle.pid_http_api.specs.LookupAnswers.{lookup_answer}
 use Rattle.pid_http.specs.Answering.{answer_over, lookup_in, IsErrandRefused}
 use Rattle.pid_http.specs.Errands.{Lookup}
 use Rattle.pid_http.specs.Serving.{IsMetOver, AnsweredOver, NotDone, Refused}

@@ -3,11 +3,11 @@ use Rattle.std.specs.Prelude.{Vec}
 use Rattle.std.specs.declared.alloc.Global.{Global}
 use Rattle.pid_moderation.specs.Views.{views_of}
 use Rattle.pid_moderation.specs.declared.lists.Pending.{Pending}
-use Rattle.pid_http_requests.specs.declared.format.Format.{Format}
-use Rattle.pid_http_replies.specs.PendingAnswers.{pending_answer}
+use Rattle.pid_http_api.specs.declared.format.Format.{Format}
+use Rattle.pid_http_api.specs.PendingAnswers.{pending_answer}
 use Rattle.pid_moderation.specs.PendingPages.{pending_in, told_of}
 use Rattle.pid_moderation.specs.declared.lists.TheConstants.{PAGE}
-use Rattle.pid_http_replies.specs.Replying.{MakesReply}
+use Rattle.pid_http_api.specs.Replying.{MakesReply}
 use Rattle.pid_http.specs.Answering.{answer_over}
 use Rattle.pid_http.specs.Errands as errands
 use Rattle.pid_http.proofs.Meeting.{IsQuestion, question_met, replied}

@@ -1,8 +1,8 @@
 use Rattle.std.proofs.Common.{◌≡◌, refl, ap, ℕ, List, Option}
 use Rattle.pid_moderation.specs.Views.{rank_of}
 use Rattle.pid_moderation.specs.declared.rank.Rank.{Rank}
-use Rattle.pid_http_requests.specs.declared.format.Format.{Format}
-use Rattle.pid_http_replies.specs.RankAnswers.{rank_answer}
+use Rattle.pid_http_api.specs.declared.format.Format.{Format}
+use Rattle.pid_http_api.specs.RankAnswers.{rank_answer}
 use Rattle.pid_http.specs.Answering.{answer_over}
 use Rattle.pid_http.specs.Errands as errands
 use Rattle.pid_http.proofs.Meeting.{IsQuestion, question_met, replied}

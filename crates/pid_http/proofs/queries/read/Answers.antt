@@ -3,10 +3,10 @@ use Rattle.pid_ident.specs.PathTexts.{path_text}
 use Rattle.pid_file.specs.declared.path.Path.{Path}
 use Rattle.pid_moderation.specs.Items.{name_at}
 use Rattle.pid_moderation.specs.Views.{items_of}
-use Rattle.pid_http_requests.specs.declared.format.Format.{Format}
+use Rattle.pid_http_api.specs.declared.format.Format.{Format}
 use Rattle.std.specs.Prelude.{Err}
 use Rattle.pid_moderation.specs.declared.refusal.Refusal.TheVariants.{BadPath}
-use Rattle.pid_http_replies.specs.Outcomes.{outcome_answer}
+use Rattle.pid_http_api.specs.Outcomes.{outcome_answer}
 use Rattle.pid_http.specs.Answering.{answer_over, item_or_missing}
 use Rattle.pid_http.specs.Errands.{Answered, Read}
 use Rattle.pid_http.proofs.Meeting.{IsQuestion, answered, no_call, question_met, replied}

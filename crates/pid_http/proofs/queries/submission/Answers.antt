@@ -10,9 +10,9 @@ use Rattle.pid_service.specs.Asking.{AnswersIfThere, IsMissing}
 use Rattle.pid_service.specs.declared.registry.Registry.{Registry}
 use Rattle.pid_moderation.specs.Submissions.{discussion_in, discussion_of}
 use Rattle.pid_moderation.specs.declared.lists.Discussion.{Discussion}
-use Rattle.pid_http_requests.specs.declared.format.Format.{Format}
-use Rattle.pid_http_replies.specs.Outcomes.{outcome_answer}
-use Rattle.pid_http_replies.specs.SubmissionAnswers.{submission_answer}
+use Rattle.pid_http_api.specs.declared.format.Format.{Format}
+use Rattle.pid_http_api.specs.Outcomes.{outcome_answer}
+use Rattle.pid_http_api.specs.SubmissionAnswers.{submission_answer}
 use Rattle.pid_http.specs.Answering.{answer_over, submission_or_missing, IsErrandRefused}
 use Rattle.pid_http.specs.Errands.{Answered, Submission}
 use Rattle.pid_http.specs.Steps.Going.{Goes}
