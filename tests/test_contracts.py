@@ -62,7 +62,7 @@ def test_calls_of_laws(cases):
     for path in contracts.sources():
         with open(path, encoding="utf-8") as file:
             for number, line in enumerate(file, 1):
-                is_law = re.match(r"\s*(?:(?:crate|pid_\w+)::)?(?:laws|pid_service_laws)::", line)
+                is_law = re.match(r"\s*(?:\w+::)*?(?:laws|pid_service_laws)::", line)
                 is_marked = line.rstrip().endswith("; // proof only")
                 if is_marked != bool(is_law) and not line.strip().startswith("let _"):
                     other.append(f"{path}:{number}: {line.strip()}")

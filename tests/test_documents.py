@@ -221,7 +221,7 @@ def missing_rooms():
 def misplaced_definitions():
     """How many definitions docs/PROMISES.md lists with files, and those that are not there."""
     count, missing = 0, []
-    for names, file in re.findall(r"^\| (`.*`) \| `(pid_\w+/specs/\w+)` \|",
+    for names, file in re.findall(r"^\| (`.*`) \| `(pid_\w+/specs/[\w/]+)` \|",
                                   text_of("docs/PROMISES.md"), re.M):
         spec = text_of(os.path.join("crates", file + ".antt"))
         for name in re.findall(r"\w+", names):
@@ -310,8 +310,8 @@ def test_reading_list(cases):
     count, missing = misplaced_definitions()
     cases.equal("PROMISES.md: definitions that are not in their files", missing, [])
     cases.equal("PROMISES.md: it lists some", count > 30, True)
-    steps = set(re.findall(r"`(Steps/\w+)`", shown))
-    named = set(re.findall(r"`(Steps/\w+)`", text_of("docs/ARCHITECTURE.md")))
+    steps = set(re.findall(r"`((?:\w+/)?Steps/\w+)`", shown))
+    named = set(re.findall(r"`((?:\w+/)?Steps/\w+)`", text_of("docs/ARCHITECTURE.md")))
     cases.equal("ARCHITECTURE.md: the steps that promises rest on", named, steps)
 
 

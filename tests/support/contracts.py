@@ -90,7 +90,7 @@ def not_promised(specs):
         cited |= specs.cited("\n".join(said), reading_list.used_names(text))
     promised = specs.reached(cited)
     return [".".join(key).removeprefix("Rattle.") for key in specs.definitions
-            if key not in promised and ".specs.Steps." not in key[0] + "."]
+            if key not in promised and ".Steps." not in key[0] + "."]
 
 
 def in_two_crates(specs):

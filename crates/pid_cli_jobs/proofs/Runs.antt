@@ -19,10 +19,10 @@ use Rattle.pid_moderation.specs.Views.{Views, views_of}
 use Rattle.pid_service_laws.specs.Calls.{Call, StopsAt, life_of}
 use Rattle.pid_service_laws.specs.Lives.{InDoubt, NoDoubt, after_life}
 use Rattle.pid_service_laws.specs.Registries.{EndsLife}
-use Rattle.pid_tables_rows.specs.Clauses as clauses
-use Rattle.pid_tables_rows.specs.Leaves.{as_found}
-use Rattle.pid_tables_rows.specs.Schema.{pid_schema}
-use Rattle.pid_tables_rows.specs.Shows.{Shows as ShowsViews}
+use Rattle.pid_tables.specs.Rows.Clauses as clauses
+use Rattle.pid_tables.specs.Rows.Leaves.{as_found}
+use Rattle.pid_tables.specs.Rows.Schema.{pid_schema}
+use Rattle.pid_tables.specs.Rows.Shows.{Shows as ShowsViews}
 use Rattle.pid_service.specs.declared.registry.Registry.{Registry}
 use Rattle.pid_service.specs.Histories.{FailsBetween, Shows}
 use Rattle.pid_service.specs.Lives.{IsAfterStop, showing}

@@ -10,7 +10,7 @@ use Rattle.pid_service.specs.Lives.{showing}
 use Rattle.pid_service.specs.Opening.{MovesAtOnce, OpensAtOnce, connection_left, moved_to, opening_end}
 use Rattle.pid_service.specs.Registries.{connection}
 use Rattle.pid_tables.specs.declared.migration.Step.{Step}
-use Rattle.pid_tables_rows.specs.declared.fault.TableFault.{TableFault}
+use Rattle.pid_tables.specs.declared.rows.fault.TableFault.{TableFault}
 use Rattle.pid_script.specs.declared.script_end.ScriptEnd.{ScriptEnd}
 use Rattle.pid_script.specs.declared.script_end.ScriptEnd.TheVariants as scripts
 use Rattle.pid_script.specs.EndStatus.{script_status}

@@ -4,7 +4,7 @@ use Rattle.std.specs.Prelude.{Option, None, Some, IfSome, Result, Ok, Err}
 use Rattle.pid_http_listener.specs.declared.serving.Serving.{Serving}
 use Rattle.pid_http_listener.specs.declared.serving.ServingEnd.{ServingEnd}
 use Rattle.pid_http_listener.specs.Streams.{Exchange}
-use Rattle.pid_tables_rows.specs.declared.fault.TableFault.{TableFault}
+use Rattle.pid_tables.specs.declared.rows.fault.TableFault.{TableFault}
 
 -- what was to be opened, served or closed, and what came of that
 pub data MachineCall (R : Type 0) : Type 0 where

@@ -10,9 +10,9 @@ use Rattle.sqlite_trees.specs.declared.store.Store.{Ghosts}
 use Rattle.sqlite_wal.specs.Recovery.{Image}
 use Rattle.pid_file.specs.declared.io.Output as outputs
 use Rattle.pid_ident.specs.declared.incoming.Incoming as incoming
-use Rattle.pid_tables_rows.specs.Faults.{IsMemoryOrStore}
-use Rattle.pid_tables_rows.specs.declared.fault.TableFault.{TableFault}
-use Rattle.pid_tables_rows.specs.declared.fault.TableFault.TheVariants.{Memory}
+use Rattle.pid_tables.specs.Rows.Faults.{IsMemoryOrStore}
+use Rattle.pid_tables.specs.declared.rows.fault.TableFault.{TableFault}
+use Rattle.pid_tables.specs.declared.rows.fault.TableFault.TheVariants.{Memory}
 use Rattle.pid_cli_jobs.specs.declared.on_files.FileJob.{FileJob}
 use Rattle.pid_cli_jobs.specs.declared.on_files.FileJob.TheVariants as jobs
 use Rattle.pid_cli_jobs.specs.Files.{ClosesFiles, OpensFiles}

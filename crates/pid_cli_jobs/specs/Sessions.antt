@@ -11,7 +11,7 @@ use Rattle.pid_service.specs.Lives.{showing}
 use Rattle.pid_service.specs.Opening.{MovesTo, OpensTo}
 use Rattle.pid_service.specs.Registries.{connection, is_live}
 use Rattle.pid_tables.specs.declared.migration.Step.{Step}
-use Rattle.pid_tables_rows.specs.declared.fault.TableFault.{TableFault}
+use Rattle.pid_tables.specs.declared.rows.fault.TableFault.{TableFault}
 use Rattle.pid_cli_jobs.specs.declared.job_end.JobEnd.TheVariants.{Told}
 use Rattle.pid_cli_jobs.specs.Jobs.{DoesWork, Work}
 use Rattle.pid_cli_jobs.specs.Lines.{PrintsLine, step_line, unopened_line}

@@ -20,7 +20,7 @@ pub trait Machine {
     ghost use Rattle.sqlite_wal.specs.Files.{image_at};
     ghost use Rattle.pid_http_listener.specs.Servings.{CountsStreams, IsLiveAt};
     ghost use Rattle.pid_http_listener.specs.Streams.{IsGivenMore};
-    ghost use Rattle.pid_tables_rows.specs.Faults.{IsMemoryOrStore};
+    ghost use Rattle.pid_tables.specs.Rows.Faults.{IsMemoryOrStore};
     ghost use Rattle.pid_cli_jobs.specs.Files.{ClosesFiles, OpensFiles};
     ghost use Rattle.pid_cli_jobs.specs.Machines.{
       AsksFor,

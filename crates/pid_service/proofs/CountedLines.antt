@@ -13,7 +13,7 @@ use Rattle.pid_moderation.specs.Items.{Items}
 use Rattle.pid_moderation.specs.WellMade.{AllItems, IsItem}
 use Rattle.pid_reader.specs.Numbered.{Numbered, item_in}
 use Rattle.pid_reader.specs.Sinks.{Took}
-use Rattle.pid_tables_lists.specs.EachItem.{placed_from}
+use Rattle.pid_tables.specs.Lists.EachItem.{placed_from}
 use Rattle.pid_file.specs.Labels.{label}
 use Rattle.pid_file.specs.Printing.{block_line, ended, header, item_line, label_of, opens_block, text_or_none}
 use Rattle.pid_service.proofs.Labelled.{label_of_text}

@@ -5,9 +5,9 @@ use Rattle.std.specs.Prelude.{Vec}
 use Rattle.std.specs.declared.alloc.Global.{Global}
 use Rattle.pid_ident.specs.Sending.{SendsFront}
 use Rattle.pid_file.specs.declared.io.WriteFault.{WriteFault}
-use Rattle.pid_tables_lists.specs.Clauses.{IsCausedEnd}
-use Rattle.pid_tables_lists.specs.declared.walk.EachEnd.{EachEnd}
-use Rattle.pid_tables_lists.specs.declared.walk.EachEnd.TheVariants as ends
+use Rattle.pid_tables.specs.Lists.Clauses.{IsCausedEnd}
+use Rattle.pid_tables.specs.declared.lists.walk.EachEnd.{EachEnd}
+use Rattle.pid_tables.specs.declared.lists.walk.EachEnd.TheVariants as ends
 use Rattle.pid_service.specs.Steps.Exports.{WritesItems}
 use Rattle.pid_service.specs.ItemTexts.{text_of_items}
 use Rattle.pid_moderation.specs.History.{History}

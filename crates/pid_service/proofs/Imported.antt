@@ -13,7 +13,7 @@ use Rattle.pid_moderation.specs.CheckTables.{is_broken, most_file_bytes}
 use Rattle.pid_moderation.specs.History.{Asked, Deed, History, Imports, Reading, TooLong, asked, deed_of, is_import}
 use Rattle.pid_moderation.specs.Judgement.{judge, answer, after}
 use Rattle.pid_moderation.specs.Views.{items_of, views_of}
-use Rattle.pid_tables_rows.specs.Clauses.{AtRest}
+use Rattle.pid_tables.specs.Rows.Clauses.{AtRest}
 use Rattle.pid_tables.specs.declared.put_file.Stop.{Stop}
 use Rattle.pid_tables.specs.declared.put_file.Stop.TheVariants as stops
 use Rattle.pid_tables.specs.ImportClauses.{EndsImport}

@@ -26,7 +26,7 @@ use Rattle.pid_moderation.specs.Judgement.{judge, answer, after}
 use Rattle.pid_moderation.specs.Judgement as Outcomes
 use Rattle.pid_moderation.specs.Views.{Views, items_of, views_of}
 use Rattle.pid_moderation.specs.WellMade.{HasGoodFile, IsWellMade}
-use Rattle.pid_tables_rows.specs.Clauses.{AtRest, LeavesEither}
+use Rattle.pid_tables.specs.Rows.Clauses.{AtRest, LeavesEither}
 use Rattle.pid_service.specs.declared.judging.Judged.{Judged}
 use Rattle.pid_service.specs.declared.judging.Judged.TheVariants.{Kept, Accepted}
 use Rattle.pid_service.specs.declared.registry.Registry.{Registry}
@@ -38,7 +38,7 @@ use Rattle.pid_service.specs.KeptViews.{CarriesOn, IsRightFor, KeepsNothing, kep
 use Rattle.pid_service.specs.declared.kept_views.KeptViews.{KeptViews}
 use Rattle.pid_service.specs.Obeying.{Forgets, IsAccepted, IsRefusedFor, Obeys}
 use Rattle.pid_service.specs.Registries.{HasCleanDisk, OnlyReads, connection, is_live}
-use Rattle.pid_tables_rows.proofs.SetLemmas.{name_left, name_put}
+use Rattle.pid_tables.proofs.OfRows.SetLemmas.{name_left, name_put}
 use Rattle.pid_service.proofs.Judged.{refused_stays}
 
 module _ {S : Type 0} (store : Ghosts S) where

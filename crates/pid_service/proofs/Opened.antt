@@ -8,14 +8,14 @@ use Rattle.sqlite.specs.Effect.{Database}
 use Rattle.sqlite.specs.Tree.{Trees}
 use Rattle.pid_moderation.specs.History.{History, new_history}
 use Rattle.pid_moderation.specs.Views.{views_of}
-use Rattle.pid_tables_rows.specs.declared.fault.TableFault.{TableFault}
-use Rattle.pid_tables_rows.specs.declared.fault.TableFault.TheVariants.{Memory, Store, NewerSchema, Damaged}
-use Rattle.pid_tables_rows.specs.declared.version.Version.TheVariants.{One, Two}
-use Rattle.pid_tables_rows.specs.Faults.{IsMemoryOrStore}
-use Rattle.pid_tables_rows.specs.Clauses as clauses
-use Rattle.pid_tables_rows.specs.Leaves.{AtRest, OnlyReads, RestsIn}
-use Rattle.pid_tables_check.specs.Checking.{Explains, FindsVersion}
-use Rattle.pid_tables_check.specs.Shapes.{HasSomeTable}
+use Rattle.pid_tables.specs.declared.rows.fault.TableFault.{TableFault}
+use Rattle.pid_tables.specs.declared.rows.fault.TableFault.TheVariants.{Memory, Store, NewerSchema, Damaged}
+use Rattle.pid_tables.specs.declared.rows.version.Version.TheVariants.{One, Two}
+use Rattle.pid_tables.specs.Rows.Faults.{IsMemoryOrStore}
+use Rattle.pid_tables.specs.Rows.Clauses as clauses
+use Rattle.pid_tables.specs.Rows.Leaves.{AtRest, OnlyReads, RestsIn}
+use Rattle.pid_tables.specs.Check.Checking.{Explains, FindsVersion}
+use Rattle.pid_tables.specs.Check.Shapes.{HasSomeTable}
 use Rattle.pid_tables.specs.AtOnce.{IsCommitted, IsOneStep, IsTakenBack}
 use Rattle.pid_tables.specs.Clauses as tables
 use Rattle.pid_tables.proofs.AtOnceLemmas.{reads_back}
@@ -25,7 +25,7 @@ use Rattle.pid_tables.specs.declared.migration.Step.{Step}
 use Rattle.pid_tables.specs.declared.migration.Step.TheVariants.{Created, Moved, Already}
 use Rattle.pid_tables.specs.ShowsOrBlank.{ShowsOrBlank}
 use Rattle.pid_service.specs.Opening.{ExplainsNow, ExplainsOpening, HasWritten, KeepsTables, OpensAtOnce, IsFound, MayHaveMade, KeepsViews}
-use Rattle.pid_tables_rows.proofs.OnlyReading.{reads_then, rests_in_still}
+use Rattle.pid_tables.proofs.OfRows.OnlyReading.{reads_then, rests_in_still}
 
 -- what a step tells where the tables were not there, were in schema 1, and were in the schema of today
 pub record Steps (s : State) (h : History) (New : Type 0) (Old : Type 0) (Today : Type 0) : Type 0 where

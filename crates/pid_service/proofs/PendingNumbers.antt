@@ -21,13 +21,13 @@ use Rattle.pid_moderation.specs.CheckTables.{is_pending}
 use Rattle.pid_moderation.specs.PendingPages.{standings_from, waits_above, waiting_above, pending_in, told_of}
 use Rattle.pid_moderation.specs.Submissions.{Standing}
 use Rattle.pid_moderation.specs.Views.{Views, Submitted, submission_at}
-use Rattle.pid_tables_rows.specs.Shows.{AreViews}
-use Rattle.pid_tables_lists.specs.Laws.{PendingGoOn, pending_number}
-use Rattle.pid_tables_lists.specs.Pages.{last_of}
-use Rattle.pid_tables_lists.specs.Steps.PendingRows.{AreStandingIn}
-use Rattle.pid_tables_lists.proofs.PendingLists.{page_in}
+use Rattle.pid_tables.specs.Rows.Shows.{AreViews}
+use Rattle.pid_tables.specs.Lists.Laws.{PendingGoOn, pending_number}
+use Rattle.pid_tables.specs.Lists.Pages.{last_of}
+use Rattle.pid_tables.specs.Lists.Steps.PendingRows.{AreStandingIn}
+use Rattle.pid_tables.proofs.OfLists.PendingLists.{page_in}
 use Rattle.pid_service.specs.KeptViews.{HoldsWaiting, numbers_waiting}
-use Rattle.pid_tables_lists.specs.ByNumber.{standings_at}
+use Rattle.pid_tables.specs.Lists.ByNumber.{standings_at}
 use Rattle.pid_service.specs.Steps.Waiting.{its_number}
 
 -- ---- what a change does

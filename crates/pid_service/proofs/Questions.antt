@@ -15,13 +15,13 @@ use Rattle.pid_moderation.specs.Views.{Views, views_of}
 use Rattle.pid_moderation.specs.declared.refusal.Refusal.{Refusal}
 use Rattle.pid_moderation.specs.declared.refusal.Refusal.TheVariants.{Failed, Memory, Store}
 use Rattle.pid_tables.specs.Faults.{refusal_for}
-use Rattle.pid_tables_check.proofs.Asking.{nothing_read}
-use Rattle.pid_tables_rows.proofs.CauseLemmas.{caused_later, passed_on}
-use Rattle.pid_tables_rows.proofs.OnlyReading.{reads_then}
-use Rattle.pid_tables_rows.specs.Causes.{IsReadable}
-use Rattle.pid_tables_rows.specs.Clauses as clauses
-use Rattle.pid_tables_rows.specs.declared.fault.TableFault.{TableFault}
-use Rattle.pid_tables_rows.specs.declared.fault.TableFault.TheVariants as faults
+use Rattle.pid_tables.proofs.OfCheck.Asking.{nothing_read}
+use Rattle.pid_tables.proofs.OfRows.CauseLemmas.{caused_later, passed_on}
+use Rattle.pid_tables.proofs.OfRows.OnlyReading.{reads_then}
+use Rattle.pid_tables.specs.Rows.Causes.{IsReadable}
+use Rattle.pid_tables.specs.Rows.Clauses as clauses
+use Rattle.pid_tables.specs.declared.rows.fault.TableFault.{TableFault}
+use Rattle.pid_tables.specs.declared.rows.fault.TableFault.TheVariants as faults
 use Rattle.pid_service.specs.declared.registry.Registry.{Registry}
 use Rattle.pid_service.specs.Asking.{Answers, IsCausedAs, MayGive}
 use Rattle.pid_service.specs.Histories.{IsMemoryOrStore, IsReached, Shows}

@@ -7,12 +7,12 @@ use Rattle.pid_file.specs.declared.io.WriteFault.{WriteFault}
 use Rattle.pid_file.specs.declared.path.Path.{Path}
 use Rattle.pid_file.proofs.SendingLemmas.{Appends-nil, Appends-then, stopped}
 use Rattle.pid_moderation.specs.Items.{Items}
-use Rattle.pid_tables_rows.specs.declared.fault.TableFault.{TableFault}
+use Rattle.pid_tables.specs.declared.rows.fault.TableFault.{TableFault}
 use Rattle.pid_reader.specs.Numbered.{Numbered, item_in}
 use Rattle.pid_reader.specs.Sinks.{Took}
-use Rattle.pid_tables_lists.specs.EachItem.{Walks, WalksSome, placed_from}
-use Rattle.pid_tables_lists.specs.declared.walk.EachEnd.{EachEnd}
-use Rattle.pid_tables_lists.specs.declared.walk.EachEnd.TheVariants.{Tables, Fault}
+use Rattle.pid_tables.specs.Lists.EachItem.{Walks, WalksSome, placed_from}
+use Rattle.pid_tables.specs.declared.lists.walk.EachEnd.{EachEnd}
+use Rattle.pid_tables.specs.declared.lists.walk.EachEnd.TheVariants.{Tables, Fault}
 use Rattle.pid_file.specs.Printing.{ended, header, text_or_none}
 use Rattle.pid_service.specs.Steps.Exports.{WritesItems}
 use Rattle.pid_service.specs.ExportSinks.{PrintsItem, StopsWithin, lines_of_entry}

@@ -3,7 +3,7 @@ use Rattle.std.proofs.Common.{refl}
 use Rattle.pid_moderation.specs.declared.change.Effect.{Effect}
 use Rattle.pid_moderation.specs.declared.change.Effect.TheVariants.{Nothing, Ranked, Submitted, Remarked, Decided, Imported}
 use Rattle.pid_moderation.specs.Views.{Views}
-use Rattle.pid_tables_rows.specs.Shows.{counts_of}
+use Rattle.pid_tables.specs.Rows.Shows.{counts_of}
 use Rattle.pid_tables.specs.Applies.{CountsFit}
 
 pub counted : (e : Effect) (v : Views) → CountsFit e (counts_of v) v

@@ -7,8 +7,8 @@ use Rattle.pid_moderation.specs.declared.refusal.Refusal.{Refusal}
 use Rattle.pid_moderation.specs.declared.refusal.Refusal.TheVariants.{Failed, Memory, Store}
 use Rattle.pid_moderation.specs.declared.refusal.Refusal.TheVariants.{NoSubmission}
 use Rattle.pid_moderation.specs.History.{History}
-use Rattle.pid_tables_rows.specs.Clauses as clauses
-use Rattle.pid_tables_rows.specs.declared.fault.TableFault.TheVariants as faults
+use Rattle.pid_tables.specs.Rows.Clauses as clauses
+use Rattle.pid_tables.specs.declared.rows.fault.TableFault.TheVariants as faults
 use Rattle.pid_service.specs.declared.registry.Registry.{Registry}
 use Rattle.pid_service.specs.Histories.{Shows, IsMemoryOrStore, OverHistory}
 use Rattle.pid_service.specs.KeptViews.{LeavesKept, kept_views}

@@ -8,7 +8,7 @@ use Rattle.pid_moderation.specs.Revisions.{IsMarked}
 use Rattle.pid_moderation.specs.Views.{views_of}
 use Rattle.pid_moderation.specs.WellMade.{AreWellMade}
 use Rattle.pid_service_laws.specs.Registries.{Showing}
-use Rattle.pid_tables_rows.specs.Clauses.{AtRest, LeavesEither}
+use Rattle.pid_tables.specs.Rows.Clauses.{AtRest, LeavesEither}
 use Rattle.pid_service.specs.declared.registry.Registry.{Registry}
 use Rattle.pid_service.specs.Registries.{HasCleanDisk, connection, is_live}
 use Rattle.pid_service.specs.KeptViews.{KeepsNothing, KeepsRight, kept_views}

@@ -13,13 +13,13 @@ use Rattle.pid_moderation.specs.Views.{Views, views_of, without_numbers}
 use Rattle.pid_service_laws.specs.Calls.{Call, nothing_sent, obeyed, ran, sent_in}
 use Rattle.pid_service_laws.specs.Outcomes.{is_outcome}
 use Rattle.pid_service_laws.specs.Registries.{CallsLead, Does, ShowsAgain}
-use Rattle.pid_tables_rows.specs.declared.fault.TableFault.{TableFault}
-use Rattle.pid_tables_rows.specs.Clauses as clauses
-use Rattle.pid_tables_rows.specs.Faults.{IsMemoryOrStore}
-use Rattle.pid_tables_rows.specs.Leaves.{IsShown, found_in}
-use Rattle.pid_tables_rows.specs.Schema.{schema_of}
-use Rattle.pid_tables_rows.specs.Shows.{ShowsIn}
-use Rattle.pid_tables_rows.specs.declared.version.Version.TheVariants.{One}
+use Rattle.pid_tables.specs.declared.rows.fault.TableFault.{TableFault}
+use Rattle.pid_tables.specs.Rows.Clauses as clauses
+use Rattle.pid_tables.specs.Rows.Faults.{IsMemoryOrStore}
+use Rattle.pid_tables.specs.Rows.Leaves.{IsShown, found_in}
+use Rattle.pid_tables.specs.Rows.Schema.{schema_of}
+use Rattle.pid_tables.specs.Rows.Shows.{ShowsIn}
+use Rattle.pid_tables.specs.declared.rows.version.Version.TheVariants.{One}
 use Rattle.pid_tables.specs.declared.migration.Step.{Step}
 use Rattle.pid_tables.specs.Clauses.{IsOpened, ShowsOrBlank}
 use Rattle.pid_tables.specs.Creation.{ListsNoTable}

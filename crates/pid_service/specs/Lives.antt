@@ -12,7 +12,7 @@ use Rattle.pid_moderation.specs.Sound.{IsSound}
 use Rattle.pid_moderation.specs.Writes.{tree_of}
 use Rattle.pid_service_laws.specs.Calls.{Call, nothing_sent, obeyed}
 use Rattle.pid_service_laws.specs.CrashPrefix.{IsAfterPrefixes}
-use Rattle.pid_tables_rows.specs.Clauses as clauses
+use Rattle.pid_tables.specs.Rows.Clauses as clauses
 use Rattle.pid_tables.specs.Clauses.{IsOpened, ShowsOrBlank}
 use Rattle.pid_service.specs.declared.importing.ImportEnd.{ImportEnd}
 use Rattle.pid_service.specs.declared.importing.ImportEnd.TheVariants.{Refused, Body}

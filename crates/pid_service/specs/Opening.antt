@@ -7,14 +7,14 @@ use Rattle.sqlite.specs.Tree.{Trees}
 use Rattle.sqlite_trees.specs.declared.store.Store.{Ghosts}
 use Rattle.pid_moderation.specs.History.{History, new_history}
 use Rattle.pid_moderation.specs.Views.{Views, views_of}
-use Rattle.pid_tables_rows.specs.declared.fault.TableFault.{TableFault}
-use Rattle.pid_tables_rows.specs.declared.version.Version.{Version}
-use Rattle.pid_tables_rows.specs.declared.version.Version.TheVariants.{One, Two}
-use Rattle.pid_tables_rows.specs.Clauses as clauses
-use Rattle.pid_tables_rows.specs.Clauses.{seen}
-use Rattle.pid_tables_rows.specs.Faults.{IsMemoryOrStore, IsNotNewerSchema}
-use Rattle.pid_tables_check.specs.Checking.{Explains, FindsVersion}
-use Rattle.pid_tables_check.specs.Shapes.{HasNoTable, HasSomeTable}
+use Rattle.pid_tables.specs.declared.rows.fault.TableFault.{TableFault}
+use Rattle.pid_tables.specs.declared.rows.version.Version.{Version}
+use Rattle.pid_tables.specs.declared.rows.version.Version.TheVariants.{One, Two}
+use Rattle.pid_tables.specs.Rows.Clauses as clauses
+use Rattle.pid_tables.specs.Rows.Clauses.{seen}
+use Rattle.pid_tables.specs.Rows.Faults.{IsMemoryOrStore, IsNotNewerSchema}
+use Rattle.pid_tables.specs.Check.Checking.{Explains, FindsVersion}
+use Rattle.pid_tables.specs.Check.Shapes.{HasNoTable, HasSomeTable}
 use Rattle.pid_tables.specs.declared.migration.Step.{Step}
 use Rattle.pid_tables.specs.declared.migration.Step.TheVariants.{Created, Moved, Already}
 use Rattle.pid_tables.specs.AtOnce.{IsCommitted}

@@ -2,7 +2,7 @@
 ghost use Rattle.std.specs.Prelude.{◌≡◌, ◌≤◌, false, length};
 ghost use Rattle.pid_moderation.specs.History.{History};
 ghost use Rattle.pid_moderation.specs.Views.{views_of};
-ghost use Rattle.pid_tables_rows.specs.Clauses.{AtRest};
+ghost use Rattle.pid_tables.specs.Rows.Clauses.{AtRest};
 ghost use Rattle.pid_service.specs.Histories.{Shows};
 ghost use Rattle.pid_service.specs.KeptViews.{kept_by};
 ghost use Rattle.pid_service.specs.Registries.{connection, is_live as lives};

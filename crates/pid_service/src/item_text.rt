@@ -1,11 +1,11 @@
 //! All items of the tables, written as a canonical text.
 ghost use Rattle.std.specs.Prelude.{◌≡◌, false, Err, IfErr, Some};
 ghost use Rattle.pid_service.specs.Steps.Exports.{WritesItems};
-ghost use Rattle.pid_tables_lists.specs.declared.walk.EachEnd.TheVariants as ends;
+ghost use Rattle.pid_tables.specs.declared.lists.walk.EachEnd.TheVariants as ends;
 ghost use Rattle.pid_file.specs.declared.io.WriteFault.{WriteFault as OutputFault};
-ghost use Rattle.pid_tables_lists.specs.Clauses.{IsCausedEnd, OverViews};
-ghost use Rattle.pid_tables_rows.specs.Causes.{IsReadable};
-ghost use Rattle.pid_tables_rows.specs.Clauses.{OnlyReads};
+ghost use Rattle.pid_tables.specs.Lists.Clauses.{IsCausedEnd, OverViews};
+ghost use Rattle.pid_tables.specs.Rows.Causes.{IsReadable};
+ghost use Rattle.pid_tables.specs.Rows.Clauses.{OnlyReads};
 
 use crate::export_sink::ExportSink;
 use pid_file::write_header;

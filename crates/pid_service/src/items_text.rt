@@ -3,9 +3,9 @@ ghost use Rattle.std.specs.Prelude.{◌≡◌, ◌∷◌, [], false, length, Err
 ghost use Rattle.pid_service.specs.Steps.TextSinks.{Lengthens, block_behind, text_in};
 ghost use Rattle.pid_service.specs.Steps.ItemTexts.{IsKeptText};
 ghost use Rattle.pid_ident.specs.PathTexts.{path_text};
-ghost use Rattle.pid_tables_rows.specs.Causes.{IsReadable};
-ghost use Rattle.pid_tables_rows.specs.Clauses.{Reads};
-ghost use Rattle.pid_tables_lists.specs.declared.walk.EachEnd.TheVariants as walks;
+ghost use Rattle.pid_tables.specs.Rows.Causes.{IsReadable};
+ghost use Rattle.pid_tables.specs.Rows.Clauses.{Reads};
+ghost use Rattle.pid_tables.specs.declared.lists.walk.EachEnd.TheVariants as walks;
 ghost use Rattle.pid_file.specs.Printing.{ended, header, label_of, lines_behind, text_or_none};
 
 use pid_file::{opened_block, write_behind, write_header};

@@ -4,7 +4,7 @@ ghost use Rattle.pid_moderation.specs.History.{is_import};
 ghost use Rattle.pid_moderation.specs.Judgement.{answer, judge as judgement};
 ghost use Rattle.pid_moderation.specs.Revisions.{IsMarked};
 ghost use Rattle.pid_moderation.specs.Views.{views_of};
-ghost use Rattle.pid_tables_rows.specs.Clauses.{OnlyReads};
+ghost use Rattle.pid_tables.specs.Rows.Clauses.{OnlyReads};
 ghost use Rattle.pid_service.specs.Steps.Judging.{IsJudgedFor, JudgesCommand, OverFacts, OverTables};
 
 use crate::laws;

@@ -14,7 +14,7 @@ ghost use Rattle.std.specs.Prelude.{
 ghost use Rattle.pid_moderation.specs.Changes.{FitsEffect, FitsViews, affected, changed};
 ghost use Rattle.pid_moderation.specs.CheckTables.{is_pending};
 ghost use Rattle.pid_moderation.specs.Views.{Views};
-ghost use Rattle.pid_tables_rows.specs.Shows.{AreViews};
+ghost use Rattle.pid_tables.specs.Rows.Shows.{AreViews};
 ghost use Rattle.pid_service.specs.KeptViews.{HoldsWaiting, IsRightFor, KeepsNothing, nothing};
 ghost use Rattle.pid_service.specs.Steps.Obeying.{Follows, adds_number, writes_items as writes};
 

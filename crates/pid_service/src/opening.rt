@@ -2,10 +2,10 @@
 ghost use Rattle.std.specs.Prelude.{◌≡◌, ◌↔◌, true, false, Some, Err, IfErr, IsTrue, MatchResult};
 ghost use Rattle.pid_moderation.specs.History.{History};
 ghost use Rattle.pid_moderation.specs.Views.{views_of};
-ghost use Rattle.pid_tables_rows.specs.declared.version.Version.TheVariants.{Two};
-ghost use Rattle.pid_tables_rows.specs.Clauses.{AtRest, HasCleanDisk, OnlyReads, is_open, seen};
-ghost use Rattle.pid_tables_rows.specs.Faults.{IsMemoryOrStore};
-ghost use Rattle.pid_tables_check.specs.Checking.{Explains, FindsVersion};
+ghost use Rattle.pid_tables.specs.declared.rows.version.Version.TheVariants.{Two};
+ghost use Rattle.pid_tables.specs.Rows.Clauses.{AtRest, HasCleanDisk, OnlyReads, is_open, seen};
+ghost use Rattle.pid_tables.specs.Rows.Faults.{IsMemoryOrStore};
+ghost use Rattle.pid_tables.specs.Check.Checking.{Explains, FindsVersion};
 ghost use Rattle.pid_service.specs.Histories.{IsReached};
 ghost use Rattle.pid_service.specs.Opening.{
   ExplainsOpening,

@@ -3,7 +3,7 @@ ghost use Rattle.std.specs.Prelude.{◌≡◌, false, OnOk, map};
 ghost use Rattle.pid_moderation.specs.Views.{views_of};
 ghost use Rattle.pid_moderation.specs.PendingPages.{pending_in, told_of};
 ghost use Rattle.pid_moderation.specs.QueuePages.{queue_in, queued_of};
-ghost use Rattle.pid_tables_rows.specs.Clauses.{Reads};
+ghost use Rattle.pid_tables.specs.Rows.Clauses.{Reads};
 ghost use Rattle.pid_service.specs.Asking.{Answers};
 ghost use Rattle.pid_service.specs.KeptViews.{AreRead, HoldsWaiting, kept_views};
 
@@ -12,8 +12,8 @@ use crate::reading::or_refusal;
 use crate::registry::Registry;
 use crate::waiting::{numbers_above, waiting_numbers};
 use pid_moderation::{PAGE, Pending, Queued, Refusal};
+use pid_tables::lists::{pending_at, queue_at, queue_page};
 use pid_tables::{TableFault, Tables, refusal_of};
-use pid_tables_lists::{pending_at, queue_at, queue_page};
 use sqlite::Alter;
 use std::alloc::Global;
 

@@ -16,10 +16,10 @@ use crate::laws;
 use crate::registry::Registry;
 use pid_ident::{Account, Name, Path};
 use pid_moderation::{Changes, Discussion, Item, PAGE, Rank, Refusal, SEARCHED, SubmissionPage};
+use pid_tables::lists::submissions_page;
+use pid_tables::rows::account::rank;
+use pid_tables::rows::meta::revision;
 use pid_tables::{TableFault, refusal_of};
-use pid_tables_lists::submissions_page;
-use pid_tables_rows::account::rank;
-use pid_tables_rows::meta::revision;
 use sqlite::Alter;
 
 /// What was found in the tables, or the refusal that their fault is answered as.

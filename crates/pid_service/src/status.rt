@@ -5,7 +5,7 @@ ghost use Rattle.pid_moderation.specs.RegistryStatus.{
   registry_status_of,
   status_of_registry,
 };
-ghost use Rattle.pid_tables_rows.specs.Clauses.{Reads};
+ghost use Rattle.pid_tables.specs.Rows.Clauses.{Reads};
 ghost use Rattle.pid_service.specs.Asking.{Answers};
 ghost use Rattle.pid_service.specs.KeptViews.{AreRead, HoldsWaiting, kept_views};
 
@@ -14,9 +14,9 @@ use crate::reading::or_refusal;
 use crate::registry::Registry;
 use crate::waiting::count_waiting;
 use pid_moderation::{Refusal, Status};
+use pid_tables::rows::account::accounts;
+use pid_tables::rows::meta::{revision, submissions};
 use pid_tables::{TableFault, Tables};
-use pid_tables_rows::account::accounts;
-use pid_tables_rows::meta::{revision, submissions};
 use sqlite::Alter;
 use std::alloc::Global;
 

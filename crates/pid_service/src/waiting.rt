@@ -15,9 +15,9 @@ ghost use Rattle.std.specs.Prelude.{
   take,
 };
 ghost use Rattle.pid_moderation.specs.PendingPages.{told_of, waiting_above};
-ghost use Rattle.pid_tables_rows.specs.Clauses.{Reads};
-ghost use Rattle.pid_tables_lists.specs.Laws.{pending_number};
-ghost use Rattle.pid_tables_lists.specs.Pages.{last_of};
+ghost use Rattle.pid_tables.specs.Rows.Clauses.{Reads};
+ghost use Rattle.pid_tables.specs.Lists.Laws.{pending_number};
+ghost use Rattle.pid_tables.specs.Lists.Pages.{last_of};
 ghost use Rattle.pid_service.specs.KeptViews.{HoldsWaiting};
 ghost use Rattle.pid_service.specs.Steps.Waiting.{its_number};
 
@@ -71,7 +71,7 @@ pub(crate) fn waiting_numbers<S: Alter + Drop>(
     ensures { Reads S.Store tables.old.conn tables.new.conn result
         (λ v numbers. HoldsWaiting numbers v) }
 {
-    pid_tables_lists::laws::pending_go_on(); // proof only
+    pid_tables::lists::laws::pending_go_on(); // proof only
     let mut numbers = Vec::new(alloc);
     let mut after = 0;
     for _ in 0..PAGES {
@@ -108,7 +108,7 @@ pub(crate) fn count_waiting<S: Alter + Drop>(
     ensures { Reads S.Store tables.old.conn tables.new.conn result
         (λ v n. HoldsWaiting numbers.now v → n ≡ length (waiting_above 0 v)) }
 {
-    pid_tables_lists::laws::pending_go_on(); // proof only
+    pid_tables::lists::laws::pending_go_on(); // proof only
     if let Some(numbers) = numbers {
         return match u32::try_from(numbers.len()) {
             Ok(count) => Ok(count),

@@ -2,7 +2,7 @@
 ghost use Rattle.std.specs.Prelude.{◌≡◌, false, OnOk, OnErr};
 ghost use Rattle.pid_moderation.specs.Changes.{changed, FitsViews};
 ghost use Rattle.pid_moderation.specs.Views.{Views};
-ghost use Rattle.pid_tables_rows.specs.Clauses.{AtRest, HasCleanDisk, LeavesEither};
+ghost use Rattle.pid_tables.specs.Rows.Clauses.{AtRest, HasCleanDisk, LeavesEither};
 
 use pid_moderation::Change;
 use pid_tables::{TableFault, apply, begin, commit};

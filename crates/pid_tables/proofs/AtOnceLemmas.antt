@@ -8,13 +8,13 @@ use Rattle.sqlite.specs.Tree.{Trees}
 use Rattle.sqlite_trees.specs.declared.store.Store.{Ghosts}
 use Rattle.pid_moderation.specs.History.{new_history}
 use Rattle.pid_moderation.specs.Views.{views_of}
-use Rattle.pid_tables_rows.specs.declared.fault.TableFault.{TableFault}
-use Rattle.pid_tables_rows.specs.Faults.{IsMemoryOrStore}
-use Rattle.pid_tables_rows.specs.Leaves.{GoesOn, OnlyReads}
-use Rattle.pid_tables_rows.specs.Shows.{Shows}
-use Rattle.pid_tables_rows.proofs.GoingLemmas.{earlier}
-use Rattle.pid_tables_rows.proofs.LeaveLemmas.{on_err, shows_found}
-use Rattle.pid_tables_rows.proofs.OnlyReading.{reads_then}
+use Rattle.pid_tables.specs.declared.rows.fault.TableFault.{TableFault}
+use Rattle.pid_tables.specs.Rows.Faults.{IsMemoryOrStore}
+use Rattle.pid_tables.specs.Rows.Leaves.{GoesOn, OnlyReads}
+use Rattle.pid_tables.specs.Rows.Shows.{Shows}
+use Rattle.pid_tables.proofs.OfRows.GoingLemmas.{earlier}
+use Rattle.pid_tables.proofs.OfRows.LeaveLemmas.{on_err, shows_found}
+use Rattle.pid_tables.proofs.OfRows.OnlyReading.{reads_then}
 use Rattle.pid_tables.specs.AtOnce.{IsCommitted, IsOneStep, IsTakenBack, WritesAtOnce}
 use Rattle.pid_tables.specs.Creation.{AreMade, IsUndone, RestsBare}
 use Rattle.pid_tables.proofs.MoveLemmas.{all_err, never_told, or_never}

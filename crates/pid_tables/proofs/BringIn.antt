@@ -19,8 +19,8 @@ use Rattle.pid_moderation.specs.declared.refusal.Refusal.TheVariants as refusals
 use Rattle.pid_moderation.specs.CheckTables.{most_file_bytes}
 use Rattle.pid_moderation.specs.History.{Asked, History, asked, is_import}
 use Rattle.pid_moderation.specs.Views.{Views, views_of}
-use Rattle.pid_tables_rows.specs.declared.fault.TableFault.{TableFault}
-use Rattle.pid_tables_rows.specs.Leaves.{AtRest, LeavesEither}
+use Rattle.pid_tables.specs.declared.rows.fault.TableFault.{TableFault}
+use Rattle.pid_tables.specs.Rows.Leaves.{AtRest, LeavesEither}
 use Rattle.pid_tables.specs.declared.putting.Put.{Put}
 use Rattle.pid_tables.specs.declared.put_file.Stop.{Stop}
 use Rattle.pid_tables.specs.declared.put_file.Stop.TheVariants as stops

@@ -10,22 +10,22 @@ use Rattle.sqlite_rules.specs.Lists.{Has}
 use Rattle.sqlite_trees.specs.declared.store.Store.{Ghosts}
 use Rattle.pid_moderation.specs.History.{new_history}
 use Rattle.pid_moderation.specs.Views.{Views, views_of}
-use Rattle.pid_tables_rows.specs.declared.fault.TableFault.{TableFault}
-use Rattle.pid_tables_rows.specs.declared.fault.TableFault.TheVariants.{Memory, Store, NewerSchema, Damaged}
-use Rattle.pid_tables_rows.specs.declared.version.Version.{Version}
-use Rattle.pid_tables_rows.specs.declared.version.Version.TheVariants.{One, Two}
-use Rattle.pid_tables_rows.specs.Faults.{IsMemoryOrStore, IsNotNewerSchema}
-use Rattle.pid_tables_rows.specs.LabelRows.{HasLabel}
-use Rattle.pid_tables_rows.specs.Leaves.{AtRest, OnlyReads, RestsIn}
-use Rattle.pid_tables_rows.specs.Schema.{no_schema, schema_of}
-use Rattle.pid_tables_rows.specs.Shows.{ShowsIn}
-use Rattle.pid_tables_rows.specs.TableRows.{meta_row}
-use Rattle.pid_tables_rows.proofs.GoingLemmas.{earlier}
-use Rattle.pid_tables_rows.proofs.LeaveLemmas.{rests_in_two}
-use Rattle.pid_tables_rows.proofs.OnlyReading.{reads_then, rests_in_still}
-use Rattle.pid_tables_check.specs.Shapes.{HasNoTable, HasSomeTable, IsMadeFirst}
-use Rattle.pid_tables_check.proofs.Asking.{nothing_read}
-use Rattle.pid_tables_check.proofs.Complete.{made_first}
+use Rattle.pid_tables.specs.declared.rows.fault.TableFault.{TableFault}
+use Rattle.pid_tables.specs.declared.rows.fault.TableFault.TheVariants.{Memory, Store, NewerSchema, Damaged}
+use Rattle.pid_tables.specs.declared.rows.version.Version.{Version}
+use Rattle.pid_tables.specs.declared.rows.version.Version.TheVariants.{One, Two}
+use Rattle.pid_tables.specs.Rows.Faults.{IsMemoryOrStore, IsNotNewerSchema}
+use Rattle.pid_tables.specs.Rows.LabelRows.{HasLabel}
+use Rattle.pid_tables.specs.Rows.Leaves.{AtRest, OnlyReads, RestsIn}
+use Rattle.pid_tables.specs.Rows.Schema.{no_schema, schema_of}
+use Rattle.pid_tables.specs.Rows.Shows.{ShowsIn}
+use Rattle.pid_tables.specs.Rows.TableRows.{meta_row}
+use Rattle.pid_tables.proofs.OfRows.GoingLemmas.{earlier}
+use Rattle.pid_tables.proofs.OfRows.LeaveLemmas.{rests_in_two}
+use Rattle.pid_tables.proofs.OfRows.OnlyReading.{reads_then, rests_in_still}
+use Rattle.pid_tables.specs.Check.Shapes.{HasNoTable, HasSomeTable, IsMadeFirst}
+use Rattle.pid_tables.proofs.OfCheck.Asking.{nothing_read}
+use Rattle.pid_tables.proofs.OfCheck.Complete.{made_first}
 use Rattle.pid_tables.specs.AtOnce.{IsCommitted, IsOneStep}
 use Rattle.pid_tables.specs.Creation.{table_names, IsNameTaken, RestsBare}
 use Rattle.pid_tables.specs.Statements.{Statement, IsMadeBy}

@@ -3,7 +3,7 @@ use Rattle.std.proofs.Common.{ℕ, List, [], ◌∷◌, ◌++◌, Ok, Err, Resul
 use Rattle.sqlite.specs.Held.{Held}
 use Rattle.sqlite.specs.Order.{Row}
 use Rattle.sqlite_trees.specs.declared.store.Store.{Ghosts}
-use Rattle.pid_tables_rows.specs.Clauses.{Executes}
+use Rattle.pid_tables.specs.Rows.Clauses.{Executes}
 use Rattle.pid_tables.specs.Statements.{Statement, CarriedOut}
 
 module _ {S : Type 0} (store : Ghosts S) where

@@ -3,9 +3,9 @@ use Rattle.std.proofs.Common.{inl, inr, IsTrue, sym, ◌∙◌}
 use Rattle.sqlite.specs.State.{State}
 use Rattle.sqlite.specs.Steps.{FailsToCommit}
 use Rattle.sqlite.specs.declared.error.Error.{Error}
-use Rattle.pid_tables_rows.specs.Causes.{IsCaused}
-use Rattle.pid_tables_rows.specs.Faults.{fault_of_sql}
-use Rattle.pid_tables_rows.proofs.CauseLemmas.{moved, of_store}
+use Rattle.pid_tables.specs.Rows.Causes.{IsCaused}
+use Rattle.pid_tables.specs.Rows.Faults.{fault_of_sql}
+use Rattle.pid_tables.proofs.OfRows.CauseLemmas.{moved, of_store}
 
 pub commit_caused : (old new : State) (e : Error) → IsTrue old.in_transaction → FailsToCommit old new e → IsCaused old new (fault_of_sql e)
 commit_caused old new e inside (inl h) = moved old new e _ h.1 (of_store old new h.0 h.2)

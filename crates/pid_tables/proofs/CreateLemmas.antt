@@ -18,29 +18,29 @@ use Rattle.sqlite.specs.Edit.{next_rowid, numbered}
 use Rattle.sqlite_rules.specs.declared.error.Rowids.TheVariants.{Chosen}
 use Rattle.pid_moderation.specs.declared.facts.State.TheVariants.{Pending}
 use Rattle.pid_moderation.specs.Views.{Views}
-use Rattle.pid_tables_rows.specs.Schema.{pid_schema, no_schema, meta, account, item, submission, remark, receipt, item_since}
-use Rattle.pid_tables_rows.specs.declared.version.Version.TheVariants.{Two}
-use Rattle.pid_tables_rows.specs.PairRows.{Map, RowsAre}
-use Rattle.pid_tables_rows.specs.TableRows.{number, meta_row}
+use Rattle.pid_tables.specs.Rows.Schema.{pid_schema, no_schema, meta, account, item, submission, remark, receipt, item_since}
+use Rattle.pid_tables.specs.declared.rows.version.Version.TheVariants.{Two}
+use Rattle.pid_tables.specs.Rows.PairRows.{Map, RowsAre}
+use Rattle.pid_tables.specs.Rows.TableRows.{number, meta_row}
 use Rattle.sqlite.specs.Order.{Row}
-use Rattle.pid_tables_rows.specs.Shows.{ShowsCounting, remark_in, counted_from_one}
-use Rattle.pid_tables_rows.specs.Steps.Shows.{meta_of}
+use Rattle.pid_tables.specs.Rows.Shows.{ShowsCounting, remark_in, counted_from_one}
+use Rattle.pid_tables.specs.Rows.Steps.Shows.{meta_of}
 use Rattle.pid_moderation.specs.Submissions.{standing_in}
-use Rattle.pid_tables_rows.proofs.MapLemmas.{map_added}
-use Rattle.pid_tables_rows.proofs.Keys.{meta_found, meta_plain, meta_cast}
-use Rattle.pid_tables_rows.proofs.KeyTexts.{by_first, pair_terms, insert_meta_is}
-use Rattle.pid_tables_rows.proofs.StatementTexts.{insert_meta}
-use Rattle.pid_tables_rows.proofs.WriteLemmas.{cast_null}
-use Rattle.pid_tables_rows.proofs.WriteRows.{Ran}
-use Rattle.pid_tables_rows.proofs.WriteFaults.{create_writes}
-use Rattle.pid_tables_rows.specs.declared.fault.TableFault.{TableFault}
-use Rattle.pid_tables_rows.specs.Faults.{IsMemoryOrStore}
-use Rattle.pid_tables_rows.specs.Leaves.{GoesOn}
-use Rattle.pid_tables_rows.specs.Queries.{IsWriteAs}
+use Rattle.pid_tables.proofs.OfRows.MapLemmas.{map_added}
+use Rattle.pid_tables.proofs.OfRows.Keys.{meta_found, meta_plain, meta_cast}
+use Rattle.pid_tables.proofs.OfRows.KeyTexts.{by_first, pair_terms, insert_meta_is}
+use Rattle.pid_tables.proofs.OfRows.StatementTexts.{insert_meta}
+use Rattle.pid_tables.proofs.OfRows.WriteLemmas.{cast_null}
+use Rattle.pid_tables.proofs.OfRows.WriteRows.{Ran}
+use Rattle.pid_tables.proofs.OfRows.WriteFaults.{create_writes}
+use Rattle.pid_tables.specs.declared.rows.fault.TableFault.{TableFault}
+use Rattle.pid_tables.specs.Rows.Faults.{IsMemoryOrStore}
+use Rattle.pid_tables.specs.Rows.Leaves.{GoesOn}
+use Rattle.pid_tables.specs.Rows.Queries.{IsWriteAs}
 use Rattle.pid_tables.specs.Creation.{AreMade}
 use Rattle.pid_tables.specs.Steps.MakingTables.{making, Creates, IsKnownDefinition, Makes, HasOnlyMeta, with_label}
-use Rattle.pid_tables_rows.proofs.SetLemmas.{all_with, text_set}
-use Rattle.pid_tables_rows.proofs.WriteLemmas.{went, same_value}
+use Rattle.pid_tables.proofs.OfRows.SetLemmas.{all_with, text_set}
+use Rattle.pid_tables.proofs.OfRows.WriteLemmas.{went, same_value}
 
 abbrev Empty : Trees → Table → Type 0
 Empty db t = db t.tree ≡ []

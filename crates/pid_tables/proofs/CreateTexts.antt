@@ -1,7 +1,7 @@
 -- What the CREATE texts make, one after the other.
 use Rattle.std.proofs.Common.{◌≡◌, List, [], ◌∷◌, codes, refl}
 use Rattle.sqlite_tied.specs.Compute.{everything}
-use Rattle.pid_tables_rows.specs.Schema.{meta, account, item, submission, remark, receipt, item_since, pid_schema}
+use Rattle.pid_tables.specs.Rows.Schema.{meta, account, item, submission, remark, receipt, item_since, pid_schema}
 use Rattle.pid_tables.specs.Steps.MakingTables.{making, Creates}
 use Rattle.pid_tables.proofs.MakerTexts.{known, create_meta, create_account, create_item, create_submission, create_remark, create_receipt, create_item_since, only_meta, only_account, only_item, only_submission, only_remark, only_receipt, only_item_since, meta_defined, account_defined, item_defined, submission_defined, remark_defined, receipt_defined, item_since_defined}
 

@@ -6,9 +6,9 @@ use Rattle.pid_moderation.specs.declared.command.Reply.{Reply}
 use Rattle.pid_moderation.specs.declared.refusal.Refusal.{Refusal}
 use Rattle.pid_moderation.specs.BeforeFile.{SettlesImport}
 use Rattle.pid_moderation.specs.History.{History}
-use Rattle.pid_tables_rows.specs.Causes.{IsCaused}
-use Rattle.pid_tables_rows.specs.declared.fault.TableFault.{TableFault}
-use Rattle.pid_tables_rows.specs.declared.fault.TableFault.TheVariants.{Memory, Store, NewerSchema, Damaged}
+use Rattle.pid_tables.specs.Rows.Causes.{IsCaused}
+use Rattle.pid_tables.specs.declared.rows.fault.TableFault.{TableFault}
+use Rattle.pid_tables.specs.declared.rows.fault.TableFault.TheVariants.{Memory, Store, NewerSchema, Damaged}
 use Rattle.pid_tables.specs.Faults.{IsCausedRefusal, refusal_for}
 use Rattle.pid_tables.specs.Judging.{HasOneOutcome, EarlyIsCaused}
 use Rattle.pid_tables.specs.declared.judging.Early.TheVariants.{Answered}

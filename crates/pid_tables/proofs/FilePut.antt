@@ -11,7 +11,7 @@ use Rattle.pid_reader.specs.Reading.{entries_of}
 use Rattle.pid_reader.specs.Sinks.{Took, TookSome, FaultedAt}
 use Rattle.pid_reader.specs.WholeInputs.{CutsInput, TookOrFaulted}
 use Rattle.pid_moderation.specs.CheckTables.{most_file_bytes}
-use Rattle.pid_tables_rows.specs.declared.fault.TableFault.{TableFault}
+use Rattle.pid_tables.specs.declared.rows.fault.TableFault.{TableFault}
 use Rattle.pid_tables.specs.declared.putting.Put.{Put}
 use Rattle.pid_tables.specs.declared.put_sink.PutSink.{PutSink}
 use Rattle.pid_tables.specs.declared.tally.Tally.{Tally}

@@ -4,11 +4,11 @@ use Rattle.sqlite.specs.State.{State, HasCleanDisk, Survives}
 use Rattle.pid_reader.specs.LookingBack.{Item}
 use Rattle.pid_moderation.specs.Items.{Items, name_at, imported}
 use Rattle.pid_moderation.specs.Views.{Views}
-use Rattle.pid_tables_rows.specs.Leaves.{KeepsCommitted, Within, Written}
-use Rattle.pid_tables_rows.specs.Shows.{Counts}
-use Rattle.pid_tables_rows.specs.Writes.{with_name}
-use Rattle.pid_tables_rows.specs.declared.fault.TableFault.{TableFault}
-use Rattle.pid_tables_rows.proofs.GoingLemmas.{earlier}
+use Rattle.pid_tables.specs.Rows.Leaves.{KeepsCommitted, Within, Written}
+use Rattle.pid_tables.specs.Rows.Shows.{Counts}
+use Rattle.pid_tables.specs.Rows.Writes.{with_name}
+use Rattle.pid_tables.specs.declared.rows.fault.TableFault.{TableFault}
+use Rattle.pid_tables.proofs.OfRows.GoingLemmas.{earlier}
 use Rattle.pid_tables.specs.declared.putting.Put.{Put}
 use Rattle.pid_tables.specs.Puts.{put_over}
 use Rattle.pid_tables.specs.declared.tally.Tally.{Tally}

@@ -1,3 +1,6 @@
+pub mod OfRows
+pub mod OfCheck
+pub mod OfLists
 pub mod ApplyLemmas
 pub mod PutLemmas
 pub mod CreateLemmas

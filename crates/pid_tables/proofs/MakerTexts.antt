@@ -16,7 +16,7 @@ use Rattle.sqlite_resolve.specs.Compile.{first, is_attached, compiled, planned, 
 use Rattle.sqlite_resolve.specs.Lowering.{Checked, and_then}
 use Rattle.sqlite_syntax.specs.declared.statement.Parsed.{Parsed}
 use Rattle.sqlite_tied.specs.Compute.{everything}
-use Rattle.pid_tables_rows.specs.Schema.{meta, account, item, submission, remark, receipt, item_since, pid_schema}
+use Rattle.pid_tables.specs.Rows.Schema.{meta, account, item, submission, remark, receipt, item_since, pid_schema}
 use Rattle.pid_tables.specs.Steps.MakingTables.{IsKnownDefinition, IsMaker, IsMakerOf, IsTextRefused}
 
 abbrev pub create_meta : List ℕ

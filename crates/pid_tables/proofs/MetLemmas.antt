@@ -22,15 +22,15 @@ use Rattle.sqlite_resolve.specs.declared.error.CompileError.{CompileError}
 use Rattle.sqlite_resolve.specs.declared.error.CompileError.TheVariants as compile
 use Rattle.sqlite_rules.specs.Lists.{Has}
 use Rattle.sqlite_schema.specs.Names.{same_name}
-use Rattle.pid_tables_rows.specs.declared.fault.TableFault.{TableFault}
-use Rattle.pid_tables_rows.specs.declared.fault.TableFault.TheVariants.{Memory, Store, NewerSchema, Damaged}
-use Rattle.pid_tables_rows.specs.Faults.{fault_of_sql, IsNotNewerSchema}
-use Rattle.pid_tables_rows.specs.Causes.{IsCaused}
+use Rattle.pid_tables.specs.declared.rows.fault.TableFault.{TableFault}
+use Rattle.pid_tables.specs.declared.rows.fault.TableFault.TheVariants.{Memory, Store, NewerSchema, Damaged}
+use Rattle.pid_tables.specs.Rows.Faults.{fault_of_sql, IsNotNewerSchema}
+use Rattle.pid_tables.specs.Rows.Causes.{IsCaused}
 use Rattle.pid_moderation.specs.Views.{Views}
-use Rattle.pid_tables_rows.specs.Leaves.{AtRest, GoesOn, OnlyReads}
-use Rattle.pid_tables_rows.specs.Schema.{pid_schema}
-use Rattle.pid_tables_rows.proofs.CauseLemmas.{of_store, caused_first}
-use Rattle.pid_tables_rows.proofs.WriteLemmas.{went, same_value}
+use Rattle.pid_tables.specs.Rows.Leaves.{AtRest, GoesOn, OnlyReads}
+use Rattle.pid_tables.specs.Rows.Schema.{pid_schema}
+use Rattle.pid_tables.proofs.OfRows.CauseLemmas.{of_store, caused_first}
+use Rattle.pid_tables.proofs.OfRows.WriteLemmas.{went, same_value}
 use Rattle.pid_tables.specs.Creation.{table_names, IsNameTaken, IsFaultOfTaken}
 use Rattle.pid_tables.specs.Steps.MakingTables.{IsMaker, IsKnownDefinition, IsMakerOf, IsTextRefused, TookNames}
 use Rattle.pid_tables.proofs.CreateLemmas.{command_is, whole_is, plain_is}

@@ -9,17 +9,17 @@ use Rattle.sqlite.specs.Steps.{FailsToCommit}
 use Rattle.sqlite.specs.declared.error.Error.{Error}
 use Rattle.sqlite_trees.specs.declared.store.Store.{Ghosts}
 use Rattle.pid_moderation.specs.Views.{Views}
-use Rattle.pid_tables_rows.specs.declared.fault.TableFault.{TableFault}
-use Rattle.pid_tables_rows.specs.declared.fault.TableFault.TheVariants.{Memory, Store, NewerSchema, Damaged}
-use Rattle.pid_tables_rows.specs.declared.version.Version.{Version}
-use Rattle.pid_tables_rows.specs.declared.version.Version.TheVariants.{Two}
-use Rattle.pid_tables_rows.specs.Causes.{IsCaused}
-use Rattle.pid_tables_rows.specs.Faults.{IsMemoryOrStore, IsNotNewerSchema}
-use Rattle.pid_tables_rows.specs.Leaves.{GoesOn, RestsIn}
-use Rattle.pid_tables_rows.specs.Shows.{Shows, ShowsIn}
-use Rattle.pid_tables_rows.proofs.GoingLemmas.{earlier, goes_then}
-use Rattle.pid_tables_rows.proofs.LeaveLemmas.{shows_found}
-use Rattle.pid_tables_check.proofs.Later.{untold_never}
+use Rattle.pid_tables.specs.declared.rows.fault.TableFault.{TableFault}
+use Rattle.pid_tables.specs.declared.rows.fault.TableFault.TheVariants.{Memory, Store, NewerSchema, Damaged}
+use Rattle.pid_tables.specs.declared.rows.version.Version.{Version}
+use Rattle.pid_tables.specs.declared.rows.version.Version.TheVariants.{Two}
+use Rattle.pid_tables.specs.Rows.Causes.{IsCaused}
+use Rattle.pid_tables.specs.Rows.Faults.{IsMemoryOrStore, IsNotNewerSchema}
+use Rattle.pid_tables.specs.Rows.Leaves.{GoesOn, RestsIn}
+use Rattle.pid_tables.specs.Rows.Shows.{Shows, ShowsIn}
+use Rattle.pid_tables.proofs.OfRows.GoingLemmas.{earlier, goes_then}
+use Rattle.pid_tables.proofs.OfRows.LeaveLemmas.{shows_found}
+use Rattle.pid_tables.proofs.OfCheck.Later.{untold_never}
 use Rattle.pid_tables.specs.Creation.{IsUndone}
 
 -- a commit that failed gives back what was committed

@@ -7,11 +7,11 @@ use Rattle.sqlite.specs.Tree.{Trees}
 use Rattle.sqlite_catalog.proofs.ReadLemmas.{lists_once}
 use Rattle.pid_moderation.specs.History.{History}
 use Rattle.pid_moderation.specs.Views.{Views}
-use Rattle.pid_tables_rows.specs.declared.version.Version.{Version}
-use Rattle.pid_tables_rows.specs.Leaves.{as_found, found_in, AtRest, RestsIn, OnlyReads}
-use Rattle.pid_tables_rows.specs.Schema.{no_schema, pid_schema, schema_of}
-use Rattle.pid_tables_rows.specs.Shows.{Shows, ShowsIn}
-use Rattle.pid_tables_rows.proofs.OnlyReading.{rests_in_still}
+use Rattle.pid_tables.specs.declared.rows.version.Version.{Version}
+use Rattle.pid_tables.specs.Rows.Leaves.{as_found, found_in, AtRest, RestsIn, OnlyReads}
+use Rattle.pid_tables.specs.Rows.Schema.{no_schema, pid_schema, schema_of}
+use Rattle.pid_tables.specs.Rows.Shows.{Shows, ShowsIn}
+use Rattle.pid_tables.proofs.OfRows.OnlyReading.{rests_in_still}
 use Rattle.pid_tables.specs.Creation.{AreMade, ListsNoTable, IsBlank, RestsBare}
 use Rattle.pid_tables.specs.ShowsOrBlank.{ShowsOrBlank}
 use Rattle.pid_tables.proofs.AtOnceLemmas.{still_bare}

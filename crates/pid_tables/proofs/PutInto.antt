@@ -9,9 +9,9 @@ use Rattle.pid_reader.specs.Lines.{lines_of}
 use Rattle.pid_reader.specs.Reading.{entries_of}
 use Rattle.pid_file.specs.declared.whole_input.InputEnd.{InputEnd}
 use Rattle.pid_moderation.specs.Views.{Views}
-use Rattle.pid_tables_rows.specs.declared.fault.TableFault.{TableFault}
-use Rattle.pid_tables_rows.specs.Leaves.{KeepsCommitted, Within}
-use Rattle.pid_tables_rows.specs.Shows.{Counts, counts_of}
+use Rattle.pid_tables.specs.declared.rows.fault.TableFault.{TableFault}
+use Rattle.pid_tables.specs.Rows.Leaves.{KeepsCommitted, Within}
+use Rattle.pid_tables.specs.Rows.Shows.{Counts, counts_of}
 use Rattle.pid_tables.specs.declared.putting.Put.{Put}
 use Rattle.pid_tables.specs.declared.tally.Tally.{Tally}
 use Rattle.pid_tables.specs.ImportClauses.{Puts, GivesUp}

@@ -7,20 +7,20 @@ use Rattle.sqlite.specs.Order.{Row, column}
 use Rattle.sqlite.specs.State.{State, HasCleanDisk}
 use Rattle.sqlite.specs.declared.types.Value.TheVariants.{Text}
 use Rattle.pid_moderation.specs.Views.{Views}
-use Rattle.pid_tables_rows.specs.declared.version.Version.{Version}
-use Rattle.pid_tables_rows.specs.declared.version.Version.TheVariants.{One, Two}
-use Rattle.pid_tables_rows.specs.declared.fault.TableFault.{TableFault}
-use Rattle.pid_tables_rows.specs.declared.fault.TableFault.TheVariants.{Memory, Store, NewerSchema, Damaged}
-use Rattle.pid_tables_rows.specs.Causes.{IsCaused}
-use Rattle.pid_tables_rows.specs.Faults.{IsMemoryOrStore}
-use Rattle.pid_tables_rows.specs.Leaves.{OnlyReads}
-use Rattle.pid_tables_rows.specs.LabelRows.{HasLabel, IsDamageOf, LacksNumber, ExplainsNumber, ShowsNumber}
-use Rattle.pid_tables_rows.specs.PairRows.{IsPairRow}
-use Rattle.pid_tables_rows.specs.Schema.{version_number}
-use Rattle.pid_tables_rows.specs.Shows.{Counts, Numbers, ShowsKeeping, labels_of}
-use Rattle.pid_tables_rows.specs.TableRows.{number, meta_row}
-use Rattle.pid_tables_rows.proofs.Keys.{pos_same}
-use Rattle.pid_tables_check.proofs.Asking.{IsSame, caused_then}
+use Rattle.pid_tables.specs.declared.rows.version.Version.{Version}
+use Rattle.pid_tables.specs.declared.rows.version.Version.TheVariants.{One, Two}
+use Rattle.pid_tables.specs.declared.rows.fault.TableFault.{TableFault}
+use Rattle.pid_tables.specs.declared.rows.fault.TableFault.TheVariants.{Memory, Store, NewerSchema, Damaged}
+use Rattle.pid_tables.specs.Rows.Causes.{IsCaused}
+use Rattle.pid_tables.specs.Rows.Faults.{IsMemoryOrStore}
+use Rattle.pid_tables.specs.Rows.Leaves.{OnlyReads}
+use Rattle.pid_tables.specs.Rows.LabelRows.{HasLabel, IsDamageOf, LacksNumber, ExplainsNumber, ShowsNumber}
+use Rattle.pid_tables.specs.Rows.PairRows.{IsPairRow}
+use Rattle.pid_tables.specs.Rows.Schema.{version_number}
+use Rattle.pid_tables.specs.Rows.Shows.{Counts, Numbers, ShowsKeeping, labels_of}
+use Rattle.pid_tables.specs.Rows.TableRows.{number, meta_row}
+use Rattle.pid_tables.proofs.OfRows.Keys.{pos_same}
+use Rattle.pid_tables.proofs.OfCheck.Asking.{IsSame, caused_then}
 use Rattle.pid_tables.specs.Steps.Bringing.{is_latest}
 
 small : (version : Version) → version_number version < 2 ^ 32

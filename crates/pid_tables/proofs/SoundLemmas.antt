@@ -9,7 +9,7 @@ use Rattle.pid_moderation.specs.History.{History}
 use Rattle.pid_moderation.specs.Sound.{IsSound, AreGoodSubmissions, IsDecidedWell}
 use Rattle.pid_moderation.specs.Views.{Submitted, views_of, items_of, submits_of, state_of}
 use Rattle.pid_moderation.specs.Writes.{tree_of}
-use Rattle.pid_tables_rows.specs.Shows.{AreViews}
+use Rattle.pid_tables.specs.Rows.Shows.{AreViews}
 
 holds : (b : Bool) → T b → b ≡ true
 holds true h = refl

@@ -10,23 +10,23 @@ use Rattle.sqlite.specs.Tree.{Trees}
 use Rattle.sqlite_rules.specs.Lists.{Has}
 use Rattle.pid_moderation.specs.CheckTables.{most_revision}
 use Rattle.pid_moderation.specs.Views.{Views}
-use Rattle.pid_tables_rows.specs.declared.fault.TableFault.{TableFault}
-use Rattle.pid_tables_rows.specs.declared.fault.TableFault.TheVariants.{Memory, Store, NewerSchema, Damaged}
-use Rattle.pid_tables_rows.specs.declared.version.Version.{Version}
-use Rattle.pid_tables_rows.specs.declared.version.Version.TheVariants.{One, Two}
-use Rattle.pid_tables_rows.specs.Faults.{IsMemoryOrStore}
-use Rattle.pid_tables_rows.specs.LabelRows.{HasLabel, IsMetaFirst}
-use Rattle.pid_tables_rows.specs.Leaves.{OnlyReads, RestsIn}
-use Rattle.pid_tables_rows.specs.Schema.{more_tables, schema_of}
-use Rattle.pid_tables_rows.specs.Shows.{ShowsIn}
-use Rattle.pid_tables_rows.proofs.LabelLemmas.{label_stored}
-use Rattle.pid_tables_rows.proofs.TurnLemmas.{has_mapped, permuted}
-use Rattle.pid_tables_check.specs.Checking.{Explains, FindsVersion, IsRegistry}
-use Rattle.pid_tables_check.specs.Conditions.{columns, label_row, rows_in}
-use Rattle.pid_tables_check.specs.Shapes.{HasNoTable, HasSomeTable, HasTables, IsMadeFirst}
-use Rattle.pid_tables_check.proofs.Complete.{as_six, made_first}
-use Rattle.pid_tables_check.proofs.Stored.{stored}
-use Rattle.pid_tables_check.proofs.WholeTexts.{meta_is}
+use Rattle.pid_tables.specs.declared.rows.fault.TableFault.{TableFault}
+use Rattle.pid_tables.specs.declared.rows.fault.TableFault.TheVariants.{Memory, Store, NewerSchema, Damaged}
+use Rattle.pid_tables.specs.declared.rows.version.Version.{Version}
+use Rattle.pid_tables.specs.declared.rows.version.Version.TheVariants.{One, Two}
+use Rattle.pid_tables.specs.Rows.Faults.{IsMemoryOrStore}
+use Rattle.pid_tables.specs.Rows.LabelRows.{HasLabel, IsMetaFirst}
+use Rattle.pid_tables.specs.Rows.Leaves.{OnlyReads, RestsIn}
+use Rattle.pid_tables.specs.Rows.Schema.{more_tables, schema_of}
+use Rattle.pid_tables.specs.Rows.Shows.{ShowsIn}
+use Rattle.pid_tables.proofs.OfRows.LabelLemmas.{label_stored}
+use Rattle.pid_tables.proofs.OfRows.TurnLemmas.{has_mapped, permuted}
+use Rattle.pid_tables.specs.Check.Checking.{Explains, FindsVersion, IsRegistry}
+use Rattle.pid_tables.specs.Check.Conditions.{columns, label_row, rows_in}
+use Rattle.pid_tables.specs.Check.Shapes.{HasNoTable, HasSomeTable, HasTables, IsMadeFirst}
+use Rattle.pid_tables.proofs.OfCheck.Complete.{as_six, made_first}
+use Rattle.pid_tables.proofs.OfCheck.Stored.{stored}
+use Rattle.pid_tables.proofs.OfCheck.WholeTexts.{meta_is}
 use Rattle.pid_tables.specs.Bringing.{NamesLatest, ShowsLatest}
 use Rattle.pid_tables.specs.Steps.Bringing.{IsStanding, Named, Found}
 

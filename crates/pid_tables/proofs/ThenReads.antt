@@ -3,11 +3,11 @@ use Rattle.std.proofs.Common.{◌≡◌, Ok, Err, Result, IsErrAnd, refl}
 use Rattle.sqlite.specs.Held.{Held, state}
 use Rattle.sqlite_trees.specs.declared.store.Store.{Ghosts}
 use Rattle.pid_moderation.specs.Views.{Views}
-use Rattle.pid_tables_rows.specs.declared.fault.TableFault.{TableFault}
-use Rattle.pid_tables_rows.specs.Causes.{IsCaused, IsReadable}
-use Rattle.pid_tables_rows.specs.Clauses.{AtRest, HasCleanDisk, OnlyReads, Reads}
-use Rattle.pid_tables_rows.proofs.CauseLemmas.{caused_later, passed_on}
-use Rattle.pid_tables_rows.proofs.OnlyReading.{reads_then}
+use Rattle.pid_tables.specs.declared.rows.fault.TableFault.{TableFault}
+use Rattle.pid_tables.specs.Rows.Causes.{IsCaused, IsReadable}
+use Rattle.pid_tables.specs.Rows.Clauses.{AtRest, HasCleanDisk, OnlyReads, Reads}
+use Rattle.pid_tables.proofs.OfRows.CauseLemmas.{caused_later, passed_on}
+use Rattle.pid_tables.proofs.OfRows.OnlyReading.{reads_then}
 
 -- the first read answers a fault, and so does the call
 pub fault_first : {S : Type 0} (store : Ghosts S) (old new : Held S) {X Y : Type 0} {Says : Views → X → Type 0} {P : Views → Y → Type 0} (e : TableFault) (r : Result Y TableFault) → IsErrAnd r (λ y. y ≡ e) → Reads store old new (Err e) Says → Reads store old new r P

@@ -4,7 +4,7 @@ use Rattle.pid_moderation.specs.declared.change.Effect.{Effect}
 use Rattle.pid_moderation.specs.declared.change.Effect.TheVariants.{Nothing, Ranked, Submitted}
 use Rattle.pid_moderation.specs.declared.change.Effect.TheVariants.{Remarked, Decided, Imported}
 use Rattle.pid_moderation.specs.Views.{Views}
-use Rattle.pid_tables_rows.specs.Shows.{Counts, counts_of}
+use Rattle.pid_tables.specs.Rows.Shows.{Counts, counts_of}
 
 -- meta has the counts of the views; of a file whose items are written one by one it has yet to
 -- learn how many there are

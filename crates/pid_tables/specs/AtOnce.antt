@@ -3,9 +3,9 @@ use Rattle.std.specs.Prelude.{◌≡◌, false, Result, IfErr, OnErr, IsTrue}
 use Rattle.sqlite.specs.Effect.{Database}
 use Rattle.sqlite.specs.State.{State, HasCleanDisk, Survives}
 use Rattle.sqlite.specs.Tree.{Trees}
-use Rattle.pid_tables_rows.specs.declared.fault.TableFault.{TableFault}
-use Rattle.pid_tables_rows.specs.Faults.{IsMemoryOrStore}
-use Rattle.pid_tables_rows.specs.Leaves.{OnlyReads, RestsOn}
+use Rattle.pid_tables.specs.declared.rows.fault.TableFault.{TableFault}
+use Rattle.pid_tables.specs.Rows.Faults.{IsMemoryOrStore}
+use Rattle.pid_tables.specs.Rows.Leaves.{OnlyReads, RestsOn}
 
 -- in one step: a crash leaves what it left before, or all that the call was to write
 pub record IsOneStep (old new : State) : Type 0 where

@@ -9,15 +9,15 @@ use Rattle.sqlite_rules.specs.Lists.{Has}
 use Rattle.pid_moderation.specs.History.{History, new_history}
 use Rattle.pid_moderation.specs.Sound.{IsSound}
 use Rattle.pid_moderation.specs.Views.{Views, views_of}
-use Rattle.pid_tables_rows.specs.declared.fault.TableFault.{TableFault}
-use Rattle.pid_tables_rows.specs.declared.version.Version.{Version}
-use Rattle.pid_tables_rows.specs.declared.version.Version.TheVariants.{One, Two}
-use Rattle.pid_tables_rows.specs.Faults.{IsMemoryOrStore, IsNotNewerSchema}
-use Rattle.pid_tables_rows.specs.LabelRows.{HasLabel, ShowsNumber}
-use Rattle.pid_tables_rows.specs.Leaves.{AtRest, OnlyReads, RestsIn}
-use Rattle.pid_tables_check.specs.Checking.{Explains, FindsVersion}
-use Rattle.pid_tables_check.specs.Conditions.{label_row}
-use Rattle.pid_tables_check.specs.Shapes.{HasNoTable, HasSomeTable, IsMadeFirst, ShowsRows}
+use Rattle.pid_tables.specs.declared.rows.fault.TableFault.{TableFault}
+use Rattle.pid_tables.specs.declared.rows.version.Version.{Version}
+use Rattle.pid_tables.specs.declared.rows.version.Version.TheVariants.{One, Two}
+use Rattle.pid_tables.specs.Rows.Faults.{IsMemoryOrStore, IsNotNewerSchema}
+use Rattle.pid_tables.specs.Rows.LabelRows.{HasLabel, ShowsNumber}
+use Rattle.pid_tables.specs.Rows.Leaves.{AtRest, OnlyReads, RestsIn}
+use Rattle.pid_tables.specs.Check.Checking.{Explains, FindsVersion}
+use Rattle.pid_tables.specs.Check.Conditions.{label_row}
+use Rattle.pid_tables.specs.Check.Shapes.{HasNoTable, HasSomeTable, IsMadeFirst, ShowsRows}
 use Rattle.pid_tables.specs.AtOnce.{IsCommitted}
 use Rattle.pid_tables.specs.Creation.{IsNameTaken, RestsBare}
 use Rattle.pid_tables.specs.declared.migration.Step.{Step}

@@ -6,7 +6,7 @@ use Rattle.sqlite.specs.State as states
 use Rattle.sqlite_trees.specs.declared.store.Store.{Ghosts}
 use Rattle.pid_moderation.specs.declared.command.Command.{Command}
 use Rattle.pid_moderation.specs.History.{History}
-use Rattle.pid_tables_rows.specs.declared.fault.TableFault.{TableFault}
+use Rattle.pid_tables.specs.declared.rows.fault.TableFault.{TableFault}
 use Rattle.pid_reader.specs.LookingBack.{Item}
 use Rattle.pid_tables.specs.declared.judging.Early.{Early}
 use Rattle.pid_tables.specs.declared.migration.Step.{Step}

@@ -11,14 +11,14 @@ use Rattle.sqlite.specs.Tree.{Trees}
 use Rattle.sqlite_rules.specs.Lists.{Has}
 use Rattle.pid_moderation.specs.History.{new_history}
 use Rattle.pid_moderation.specs.Views.{Views, views_of}
-use Rattle.pid_tables_rows.specs.declared.fault.TableFault.{TableFault}
-use Rattle.pid_tables_rows.specs.declared.fault.TableFault.TheVariants.{Memory, Store, NewerSchema}
-use Rattle.pid_tables_rows.specs.declared.fault.TableFault.TheVariants.{Damaged}
-use Rattle.pid_tables_rows.specs.Causes.{IsCaused}
-use Rattle.pid_tables_rows.specs.Faults.{IsMemoryOrStore, IsNotNewerSchema}
-use Rattle.pid_tables_rows.specs.Schema.{no_schema}
-use Rattle.pid_tables_rows.specs.Shows.{Shows, counts_of}
-use Rattle.pid_tables_rows.specs.Leaves.{AtRest, OnlyReads, Written, as_found}
+use Rattle.pid_tables.specs.declared.rows.fault.TableFault.{TableFault}
+use Rattle.pid_tables.specs.declared.rows.fault.TableFault.TheVariants.{Memory, Store, NewerSchema}
+use Rattle.pid_tables.specs.declared.rows.fault.TableFault.TheVariants.{Damaged}
+use Rattle.pid_tables.specs.Rows.Causes.{IsCaused}
+use Rattle.pid_tables.specs.Rows.Faults.{IsMemoryOrStore, IsNotNewerSchema}
+use Rattle.pid_tables.specs.Rows.Schema.{no_schema}
+use Rattle.pid_tables.specs.Rows.Shows.{Shows, counts_of}
+use Rattle.pid_tables.specs.Rows.Leaves.{AtRest, OnlyReads, Written, as_found}
 use Rattle.pid_tables.specs.AtOnce.{IsCommitted}
 
 -- the schema that the tables make, in this order

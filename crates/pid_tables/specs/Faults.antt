@@ -3,9 +3,9 @@ use Rattle.sqlite.specs.State.{State}
 use Rattle.pid_moderation.specs.declared.refusal.Refusal.{Refusal}
 use Rattle.pid_moderation.specs.declared.refusal.Refusal.TheVariants.{Memory, Store}
 pub use Rattle.pid_moderation.specs.Faults.{IsMemoryOrStore}
-use Rattle.pid_tables_rows.specs.Causes.{IsCaused}
-use Rattle.pid_tables_rows.specs.declared.fault.TableFault.{TableFault}
-use Rattle.pid_tables_rows.specs.declared.fault.TableFault.TheVariants as faults
+use Rattle.pid_tables.specs.Rows.Causes.{IsCaused}
+use Rattle.pid_tables.specs.declared.rows.fault.TableFault.{TableFault}
+use Rattle.pid_tables.specs.declared.rows.fault.TableFault.TheVariants as faults
 
 -- no memory is answered as such, every other fault as one of the store
 abbrev pub refusal_for : TableFault → Refusal

@@ -6,7 +6,7 @@ use Rattle.sqlite_trees.specs.declared.store.Store.{Ghosts}
 use Rattle.pid_moderation.specs.declared.command.Reply.{Reply}
 use Rattle.pid_moderation.specs.History.{Asked, History}
 use Rattle.pid_reader.specs.LookingBack.{Item}
-use Rattle.pid_tables_rows.specs.Clauses.{HasCleanDisk}
+use Rattle.pid_tables.specs.Rows.Clauses.{HasCleanDisk}
 use Rattle.pid_tables.specs.declared.putting.Put.{Put}
 use Rattle.pid_tables.specs.declared.put_file.Stop.{Stop}
 use Rattle.pid_tables.specs.Importing as importing

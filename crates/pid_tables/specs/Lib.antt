@@ -1,3 +1,6 @@
+pub mod Rows
+pub mod Check
+pub mod Lists
 pub mod Creation
 pub mod AtOnce
 pub mod Statements

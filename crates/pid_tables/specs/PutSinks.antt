@@ -3,7 +3,7 @@ use Rattle.std.specs.Prelude.{◌≡◌, ◌⊎◌, ℕ}
 use Rattle.std.specs.declared.alloc.Global.{Global}
 use Rattle.pid_reader.specs.LookingBack.{Item}
 use Rattle.pid_reader.specs.Numbered.{Numbered, item_in}
-use Rattle.pid_tables_rows.specs.declared.fault.TableFault.{TableFault}
+use Rattle.pid_tables.specs.declared.rows.fault.TableFault.{TableFault}
 use Rattle.pid_tables.specs.declared.putting.Put.{Put}
 use Rattle.pid_tables.specs.declared.put_sink.PutSink.{PutSink}
 use Rattle.pid_tables.specs.Tallies.{tallied}

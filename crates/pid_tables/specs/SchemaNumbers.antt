@@ -2,14 +2,14 @@
 use Rattle.std.specs.Prelude.{◌≡◌, ℕ, codes, Result, IfErr, IfOk, IsTrue, MatchResult, OnOk}
 use Rattle.sqlite.specs.State.{State, HasCleanDisk}
 use Rattle.pid_moderation.specs.Views.{Views}
-use Rattle.pid_tables_rows.specs.declared.fault.TableFault.{TableFault}
-use Rattle.pid_tables_rows.specs.declared.version.Version.{Version}
-use Rattle.pid_tables_rows.specs.declared.version.Version.TheVariants.{One}
-use Rattle.pid_tables_rows.specs.Faults.{IsMemoryOrStore, IsNotNewerSchema}
-use Rattle.pid_tables_rows.specs.LabelRows.{ExplainsNumber, HasLabel}
-use Rattle.pid_tables_rows.specs.LabelRows.{IsDamageOf, ShowsNoNumber, ShowsNumber}
-use Rattle.pid_tables_rows.specs.Leaves.{RestsIn}
-use Rattle.pid_tables_check.specs.Shapes.{HasNoTable, HasSomeTable, IsMadeFirst}
+use Rattle.pid_tables.specs.declared.rows.fault.TableFault.{TableFault}
+use Rattle.pid_tables.specs.declared.rows.version.Version.{Version}
+use Rattle.pid_tables.specs.declared.rows.version.Version.TheVariants.{One}
+use Rattle.pid_tables.specs.Rows.Faults.{IsMemoryOrStore, IsNotNewerSchema}
+use Rattle.pid_tables.specs.Rows.LabelRows.{ExplainsNumber, HasLabel}
+use Rattle.pid_tables.specs.Rows.LabelRows.{IsDamageOf, ShowsNoNumber, ShowsNumber}
+use Rattle.pid_tables.specs.Rows.Leaves.{RestsIn}
+use Rattle.pid_tables.specs.Check.Shapes.{HasNoTable, HasSomeTable, IsMadeFirst}
 
 -- The number that the labels have, or 0 if there is no table.
 pub record TellsSchema (old new : State) (result : Result ℕ TableFault) : Type 0 where

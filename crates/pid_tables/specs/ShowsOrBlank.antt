@@ -3,8 +3,8 @@ use Rattle.std.specs.Prelude.{◌≡◌, ◌⊎◌}
 use Rattle.sqlite.specs.State.{State}
 use Rattle.pid_moderation.specs.History.{History, new_history}
 use Rattle.pid_moderation.specs.Views.{views_of}
-use Rattle.pid_tables_rows.specs.declared.version.Version.TheVariants.{One}
-use Rattle.pid_tables_rows.specs.Leaves.{AtRest, RestsIn}
+use Rattle.pid_tables.specs.declared.rows.version.Version.TheVariants.{One}
+use Rattle.pid_tables.specs.Rows.Leaves.{AtRest, RestsIn}
 use Rattle.pid_tables.specs.Creation.{RestsBare}
 
 -- The tables show the history, whatever its mark, which they do not keep; or those of schema 1 show

@@ -7,9 +7,9 @@ use Rattle.sqlite.specs.Order.{Row}
 use Rattle.sqlite.specs.Tree.{Trees}
 use Rattle.sqlite.specs.declared.types.Value.TheVariants.{Text}
 use Rattle.sqlite_trees.specs.declared.store.Store.{Ghosts}
-use Rattle.pid_tables_rows.specs.Clauses.{Executes, HasCleanDisk, Survives, is_open, seen}
-use Rattle.pid_tables_rows.specs.TableRows.{number}
-use Rattle.pid_tables_rows.specs.declared.fault.TableFault.{TableFault}
+use Rattle.pid_tables.specs.Rows.Clauses.{Executes, HasCleanDisk, Survives, is_open, seen}
+use Rattle.pid_tables.specs.Rows.TableRows.{number}
+use Rattle.pid_tables.specs.declared.rows.fault.TableFault.{TableFault}
 use Rattle.pid_tables.specs.AtOnce.{IsCommitted}
 
 -- a text of SQL and its parameters, `?1` first

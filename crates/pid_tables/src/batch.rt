@@ -23,14 +23,14 @@ ghost use Rattle.pid_moderation.specs.Changes.{
   FitsWrite,
   FitsViews,
 };
-ghost use Rattle.pid_tables_rows.specs.Faults.{IsMemoryOrStore};
-ghost use Rattle.pid_tables_rows.specs.Shows.{Counts, Shows, counts_of};
-ghost use Rattle.pid_tables_rows.specs.Writes.{with_rank, with_submission};
+ghost use Rattle.pid_tables.specs.Rows.Faults.{IsMemoryOrStore};
+ghost use Rattle.pid_tables.specs.Rows.Shows.{Counts, Shows, counts_of};
+ghost use Rattle.pid_tables.specs.Rows.Writes.{with_rank, with_submission};
 ghost use Rattle.pid_tables.specs.Applies.{CountsFit};
 ghost use Rattle.pid_tables.specs.Steps.Applies.{recounted, turn_of};
 ghost use Rattle.pid_tables.specs.Steps.Clauses.{WritesChange};
 ghost use Rattle.pid_tables.specs.Clauses.{EndsCommit, PutsName};
-ghost use Rattle.pid_tables_rows.specs.Clauses.{
+ghost use Rattle.pid_tables.specs.Rows.Clauses.{
   AtRest,
   ChangesTo,
   GoesOn,
@@ -46,15 +46,15 @@ ghost use Rattle.pid_tables_rows.specs.Clauses.{
 };
 
 use crate::putting::{Put, put_text};
+use crate::rows::TableFault;
+use crate::rows::account::{add_account, change_rank};
+use crate::rows::item::{add_item, remove_item, rename_item};
+use crate::rows::meta::{count_items, count_submissions, set_revision, touch};
+use crate::rows::receipt::keep_reply;
+use crate::rows::remark::add_remark;
+use crate::rows::submission::{add_submission, decide};
 use pid_ident::{Account, Path, PathText, Text};
 use pid_moderation::{Change, Edit, Effect, Proposal, Rank, Receipt, State, Write};
-use pid_tables_rows::TableFault;
-use pid_tables_rows::account::{add_account, change_rank};
-use pid_tables_rows::item::{add_item, remove_item, rename_item};
-use pid_tables_rows::meta::{count_items, count_submissions, set_revision, touch};
-use pid_tables_rows::receipt::keep_reply;
-use pid_tables_rows::remark::add_remark;
-use pid_tables_rows::submission::{add_submission, decide};
 use sqlite::{Alter, Connection, Transaction};
 use std::alloc::Global;
 

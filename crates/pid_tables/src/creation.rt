@@ -15,11 +15,11 @@ ghost use Rattle.std.specs.Prelude.{
 ghost use Rattle.sqlite.specs.declared.types.Value.TheVariants.{Text};
 ghost use Rattle.sqlite.specs.Listing.{understood};
 ghost use Rattle.sqlite.specs.Table.{Table};
-ghost use Rattle.pid_tables_rows.specs.Schema.{pid_schema};
-ghost use Rattle.pid_tables_rows.specs.Faults.{IsMemoryOrStore, IsNotNewerSchema};
-ghost use Rattle.pid_tables_rows.specs.PairRows.{Map};
-ghost use Rattle.pid_tables_rows.specs.Steps.Shows.{meta_of};
-ghost use Rattle.pid_tables_rows.specs.TableRows.{number};
+ghost use Rattle.pid_tables.specs.Rows.Schema.{pid_schema};
+ghost use Rattle.pid_tables.specs.Rows.Faults.{IsMemoryOrStore, IsNotNewerSchema};
+ghost use Rattle.pid_tables.specs.Rows.PairRows.{Map};
+ghost use Rattle.pid_tables.specs.Rows.Steps.Shows.{meta_of};
+ghost use Rattle.pid_tables.specs.Rows.TableRows.{number};
 ghost use Rattle.pid_tables.specs.Creation.{table_names};
 ghost use Rattle.pid_tables.specs.Statements.{Carries, new_label_text, registry_statements};
 ghost use Rattle.pid_tables.specs.Steps.MakingTables.{
@@ -39,7 +39,7 @@ ghost use Rattle.pid_tables.specs.Steps.Making.{
   all_tables,
   label_statements,
 };
-ghost use Rattle.pid_tables_rows.specs.Clauses.{
+ghost use Rattle.pid_tables.specs.Rows.Clauses.{
   GoesOn,
   HasCleanDisk,
   is_open,
@@ -54,9 +54,9 @@ ghost use Rattle.pid_tables.specs.Clauses.{
 ghost use Rattle.pid_tables.specs.Steps.Clauses.{FindsTables, Makes, Takes};
 
 use crate::batch::commit;
+use crate::rows::TableFault;
+use crate::rows::run::write_one;
 use pid_moderation::Rank;
-use pid_tables_rows::TableFault;
-use pid_tables_rows::run::write_one;
 use sqlite::types::ToSql;
 use sqlite::{Alter, Connection, Transaction};
 

@@ -2,8 +2,8 @@
 ghost use Rattle.std.specs.Prelude.{◌≡◌, ◌≢◌};
 ghost use Rattle.pid_tables.specs.Faults.{IsMemoryOrStore, refusal_for};
 
+use crate::rows::TableFault;
 use pid_moderation::Refusal;
-use pid_tables_rows::TableFault;
 
 /// No memory is answered as such, and every other fault as one of the store.
 pub fn refusal_of(fault: TableFault) -> Refusal

@@ -11,18 +11,18 @@ ghost use Rattle.pid_moderation.specs.FactsOfViews.{
 ghost use Rattle.pid_moderation.specs.Items.{name_at, holds_parent, has_children as are_children};
 ghost use Rattle.pid_moderation.specs.Wants.{wanted_by};
 ghost use Rattle.pid_moderation.specs.WellMade.{AllItems, HoldsParents};
-ghost use Rattle.pid_tables_rows.specs.Clauses.{Reads};
+ghost use Rattle.pid_tables.specs.Rows.Clauses.{Reads};
 ghost use Rattle.pid_tables.specs.Steps.Gathering.{bare};
 
+use crate::rows::TableFault;
+use crate::rows::account::rank;
+use crate::rows::item::{has_children, item_name};
+use crate::rows::meta::{items, revision, submissions};
+use crate::rows::receipt::kept_reply;
+use crate::rows::remark::remark_count;
+use crate::rows::submission::standing;
 use pid_ident::{Account, Key, Name, Path, PathText};
 use pid_moderation::{Facts, Named, Rank, Reply, Rows};
-use pid_tables_rows::TableFault;
-use pid_tables_rows::account::rank;
-use pid_tables_rows::item::{has_children, item_name};
-use pid_tables_rows::meta::{items, revision, submissions};
-use pid_tables_rows::receipt::kept_reply;
-use pid_tables_rows::remark::remark_count;
-use pid_tables_rows::submission::standing;
 use sqlite::{Alter, Connection};
 use std::alloc::Global;
 

@@ -3,7 +3,7 @@ ghost use Rattle.std.specs.Prelude.{◌≡◌, false};
 ghost use Rattle.pid_moderation.specs.History.{History};
 ghost use Rattle.pid_moderation.specs.Sound.{IsSound};
 ghost use Rattle.pid_moderation.specs.Views.{views_of};
-ghost use Rattle.pid_tables_rows.specs.Clauses.{AtRest, HasCleanDisk, OnlyReads};
+ghost use Rattle.pid_tables.specs.Rows.Clauses.{AtRest, HasCleanDisk, OnlyReads};
 ghost use Rattle.pid_tables.specs.Clauses.{EarlyIsCaused};
 ghost use Rattle.pid_tables.specs.Judging.{EarlyIsNotFailed, IsJudgedEarly};
 

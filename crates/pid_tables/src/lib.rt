@@ -2,16 +2,19 @@
 #![tactic(auto)]
 
 mod batch;
+pub mod check;
 mod creation;
 mod faults;
 mod gather;
 mod judging;
 pub mod laws;
+pub mod lists;
 mod migration;
 mod moving;
 mod put_file;
 mod put_sink;
 mod putting;
+pub mod rows;
 mod tables;
 mod tally;
 
@@ -19,9 +22,9 @@ pub use batch::{Batch, apply, begin, commit, put, roll_back};
 pub use creation::create;
 pub use faults::refusal_of;
 pub use judging::{Early, judge_import};
+pub use lists::EachEnd;
 pub use migration::{Step, migrate};
-pub use pid_tables_lists::EachEnd;
-pub use pid_tables_rows::{TableFault, Version};
 pub use put_file::{Stop, bring_in};
 pub use putting::Put;
+pub use rows::{TableFault, Version};
 pub use tables::Tables;

@@ -11,7 +11,7 @@ ghost use Rattle.std.specs.Prelude.{
   OnOk,
 };
 ghost use Rattle.pid_moderation.specs.Views.{Views};
-ghost use Rattle.pid_tables_rows.specs.Clauses.{
+ghost use Rattle.pid_tables.specs.Rows.Clauses.{
   AtRest,
   HasCleanDisk,
   OnlyReads,
@@ -19,11 +19,11 @@ ghost use Rattle.pid_tables_rows.specs.Clauses.{
   is_open,
   seen,
 };
-ghost use Rattle.pid_tables_rows.specs.Faults.{IsMemoryOrStore, IsNotNewerSchema};
-ghost use Rattle.pid_tables_rows.specs.Shows.{Counts, Numbers, ShowsKeeping};
-ghost use Rattle.pid_tables_rows.specs.declared.version.Version.TheVariants.{One};
-ghost use Rattle.pid_tables_check.specs.Checking.{Explains};
-ghost use Rattle.pid_tables_check.specs.Shapes.{HasNoTable};
+ghost use Rattle.pid_tables.specs.Rows.Faults.{IsMemoryOrStore, IsNotNewerSchema};
+ghost use Rattle.pid_tables.specs.Rows.Shows.{Counts, Numbers, ShowsKeeping};
+ghost use Rattle.pid_tables.specs.declared.rows.version.Version.TheVariants.{One};
+ghost use Rattle.pid_tables.specs.Check.Checking.{Explains};
+ghost use Rattle.pid_tables.specs.Check.Shapes.{HasNoTable};
 ghost use Rattle.pid_tables.specs.Clauses.{
   MigratesJudged,
   MigratesNone,
@@ -37,11 +37,11 @@ ghost use Rattle.pid_tables.specs.Steps.Bringing.{IsStanding, is_latest, step_fo
 ghost use Rattle.pid_tables.specs.Steps.Found.{BringsFound};
 
 use crate::batch::commit;
+use crate::check::{check, has_some_table};
 use crate::creation::create;
 use crate::moving::move_tables;
-use pid_tables_check::{check, has_some_table};
-use pid_tables_rows::meta::schema_number;
-use pid_tables_rows::{TableFault, Version};
+use crate::rows::meta::schema_number;
+use crate::rows::{TableFault, Version};
 use sqlite::{Alter, Connection};
 use std::alloc::Global;
 
@@ -73,7 +73,7 @@ fn is_current<S: Alter>(conn: &mut Connection<S>) -> Result<bool, TableFault>
         → OnOk result (IsTrue (is_open S.Store conn.old)) }
     ensures untold { IfErr result IsMemoryOrStore }
 {
-    pid_tables_check::laws::schemas_have_tables(); // proof only
+    crate::check::laws::schemas_have_tables(); // proof only
     if !has_some_table(conn)? {
         return Ok(false);
     }
@@ -99,7 +99,7 @@ fn standing<S: Alter>(
         → MatchResult result (IsStanding (seen S.Store conn.old))
         (Explains (seen S.Store conn.old)) }
 {
-    pid_tables_check::laws::sound_histories_are_registries(); // proof only
+    crate::check::laws::sound_histories_are_registries(); // proof only
     // Outside a transaction nothing is uncommitted, so that all reads see the same.
     let _settled = conn.is_autocommit();
     if is_current(conn)? {
@@ -165,7 +165,7 @@ pub fn migrate<S: Alter>(conn: &mut Connection<S>, alloc: Global) -> Result<Step
     ensures judged { MigratesJudged S.Store conn.old conn.new result }
     ensures none { MigratesNone S.Store conn.old conn.new result }
 {
-    pid_tables_check::laws::schemas_have_tables(); // proof only
+    crate::check::laws::schemas_have_tables(); // proof only
     let found = standing(conn, alloc)?;
     bring(conn, found)
 }

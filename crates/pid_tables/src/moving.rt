@@ -1,13 +1,13 @@
 //! The tables of schema 1 become those of schema 2, inside a transaction.
 ghost use Rattle.std.specs.Prelude.{◌≡◌, IfErr};
-ghost use Rattle.pid_tables_rows.specs.Faults.{IsNotNewerSchema};
-ghost use Rattle.pid_tables_rows.specs.Clauses.{GoesOn};
+ghost use Rattle.pid_tables.specs.Rows.Faults.{IsNotNewerSchema};
+ghost use Rattle.pid_tables.specs.Rows.Clauses.{GoesOn};
 ghost use Rattle.pid_tables.specs.Statements.{move_statements};
 ghost use Rattle.pid_tables.specs.Steps.Clauses.{Moves};
 ghost use Rattle.pid_tables.specs.Steps.Making.{CarriesOut};
 
-use pid_tables_rows::TableFault;
-use pid_tables_rows::run::write_one;
+use crate::rows::TableFault;
+use crate::rows::run::write_one;
 use sqlite::types::ToSql;
 use sqlite::{Alter, Transaction};
 

@@ -5,8 +5,8 @@ ghost use Rattle.pid_reader.specs.Lines.{lines_of};
 ghost use Rattle.pid_reader.specs.Reading.{entries_of};
 ghost use Rattle.pid_moderation.specs.History.{History, asked};
 ghost use Rattle.pid_moderation.specs.Views.{Views, views_of};
-ghost use Rattle.pid_tables_rows.specs.Clauses.{AtRest, HasCleanDisk, KeepsCommitted, Within};
-ghost use Rattle.pid_tables_rows.specs.Shows.{Counts};
+ghost use Rattle.pid_tables.specs.Rows.Clauses.{AtRest, HasCleanDisk, KeepsCommitted, Within};
+ghost use Rattle.pid_tables.specs.Rows.Shows.{Counts};
 ghost use Rattle.pid_tables.specs.ImportClauses.{EndsImport, EndsOutside};
 ghost use Rattle.pid_tables.specs.Steps.ImportClauses.{Applies, HoldsPut};
 ghost use Rattle.pid_tables.specs.Files.{file_reading};
@@ -19,13 +19,13 @@ use crate::batch::{Batch, apply, begin, commit, roll_back};
 use crate::faults::refusal_of;
 use crate::laws;
 use crate::put_sink::{PutSink, Putter};
+use crate::rows::TableFault;
 use crate::tally::Tally;
 use pid_ident::Input;
 use pid_moderation::{
     Change, Command, FILE_BYTES, Facts, FileFault, Refusal, Reply, Verdict, decide,
 };
 use pid_reader::{CutEnd, InputEnd, ReadRefusal, cut_input};
-use pid_tables_rows::TableFault;
 use sqlite::{Alter, Connection};
 use std::alloc::Global;
 use thiserror::Error;

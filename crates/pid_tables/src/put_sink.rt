@@ -5,10 +5,10 @@ ghost use Rattle.pid_tables.specs.Steps.Tallies.{no_tally};
 
 use crate::batch::put;
 use crate::putting::Put;
+use crate::rows::TableFault;
 use crate::tally::Tally;
 use pid_ident::Path;
 use pid_reader::{Entry, Sink};
-use pid_tables_rows::TableFault;
 use sqlite::{Alter, Transaction};
 use std::alloc::Global;
 

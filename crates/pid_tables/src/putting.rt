@@ -3,14 +3,14 @@ ghost use Rattle.std.specs.Prelude.{◌≡◌, ℕ, List, Ok, Option, option_map
 ghost use Rattle.pid_moderation.specs.Items.{name_at};
 ghost use Rattle.pid_tables.specs.Puts.{put_over};
 ghost use Rattle.pid_tables.specs.Steps.Clauses.{TellsWithin};
-ghost use Rattle.pid_tables_rows.specs.Steps.Answers.{name_row};
-ghost use Rattle.pid_tables_rows.specs.Writes.{with_name};
-ghost use Rattle.pid_tables_rows.specs.Clauses.{ChangesTo, GoesOn};
+ghost use Rattle.pid_tables.specs.Rows.Steps.Answers.{name_row};
+ghost use Rattle.pid_tables.specs.Rows.Writes.{with_name};
+ghost use Rattle.pid_tables.specs.Rows.Clauses.{ChangesTo, GoesOn};
 
-use pid_tables_rows::TableFault;
-use pid_tables_rows::item::{add_item, rename_item};
-use pid_tables_rows::run::read_inside;
-use pid_tables_rows::value::is_text_at;
+use crate::rows::TableFault;
+use crate::rows::item::{add_item, rename_item};
+use crate::rows::run::read_inside;
+use crate::rows::value::is_text_at;
 use sqlite::types::ToSql;
 use sqlite::{Alter, Row, Transaction};
 

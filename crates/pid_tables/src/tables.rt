@@ -20,15 +20,15 @@ ghost use Rattle.pid_moderation.specs.FactsOfViews.{facts_at};
 ghost use Rattle.pid_moderation.specs.Items.{name_at};
 ghost use Rattle.pid_moderation.specs.Wants.{wanted_by};
 ghost use Rattle.pid_moderation.specs.WellMade.{AllItems, HoldsParents};
-ghost use Rattle.pid_tables_check.specs.Checking.{Explains, FindsVersion};
-ghost use Rattle.pid_tables_rows.specs.Causes.{IsReadable};
-ghost use Rattle.pid_tables_rows.specs.Faults.{IsMemoryOrStore};
+ghost use Rattle.pid_tables.specs.Check.Checking.{Explains, FindsVersion};
+ghost use Rattle.pid_tables.specs.Rows.Causes.{IsReadable};
+ghost use Rattle.pid_tables.specs.Rows.Faults.{IsMemoryOrStore};
 ghost use Rattle.pid_moderation.specs.ChangePages.{AreHeld, changes_in, page_of, start_text};
-ghost use Rattle.pid_tables_lists.specs.Children.{AreChildren};
+ghost use Rattle.pid_tables.specs.Lists.Children.{AreChildren};
 ghost use Rattle.pid_moderation.specs.Submissions.{discussion_in, discussion_of};
-ghost use Rattle.pid_tables_lists.specs.EachItem.{Walks, WalksSome, placed_from};
+ghost use Rattle.pid_tables.specs.Lists.EachItem.{Walks, WalksSome, placed_from};
 ghost use Rattle.pid_moderation.specs.PendingPages.{pending_in, told_of};
-ghost use Rattle.pid_tables_rows.specs.Clauses.{
+ghost use Rattle.pid_tables.specs.Rows.Clauses.{
   AtRest,
   HasCleanDisk,
   OnlyReads,
@@ -38,19 +38,19 @@ ghost use Rattle.pid_tables_rows.specs.Clauses.{
   is_open,
   seen,
 };
-ghost use Rattle.pid_tables_lists.specs.Clauses.{IsCausedEnd};
+ghost use Rattle.pid_tables.specs.Lists.Clauses.{IsCausedEnd};
 ghost use Rattle.pid_tables.specs.Clauses.{TellsSchema};
 
+use crate::check::{check, has_some_table};
 use crate::gather::{known, name_of, with_rows};
+use crate::lists::{
+    EachEnd, changes_page, children_below, each_item, pending_page, submission_with_remarks,
+};
+use crate::rows::meta::{items, schema_number};
+use crate::rows::{TableFault, Version};
 use pid_ident::{Account, Key, Name, Path};
 use pid_moderation::{Changes, Discussion, Facts, Item, PAGE, Pending, Rows};
 use pid_reader::Sink;
-use pid_tables_check::{check, has_some_table};
-use pid_tables_lists::{
-    EachEnd, changes_page, children_below, each_item, pending_page, submission_with_remarks,
-};
-use pid_tables_rows::meta::{items, schema_number};
-use pid_tables_rows::{TableFault, Version};
 use sqlite::{Alter, Connection};
 use std::alloc::Global;
 
@@ -214,7 +214,7 @@ impl<S: Alter + Drop> Tables<S> {
             → RestsIn S.Store schema self.old.conn (views_of h)
             → MatchResult result (λ found. found ≡ Some schema) IsMemoryOrStore }
     {
-        pid_tables_check::laws::sound_histories_are_registries(); // proof only
+        crate::check::laws::sound_histories_are_registries(); // proof only
         check(&mut self.conn, alloc)
     }
 

@@ -13,12 +13,12 @@ use pid_moderation::{
     Change, Command, Facts, Queued, Rank, Refusal, Reply, Rows, decide, needs, reply_line,
 };
 use pid_reader::{Entry, Sink};
+use pid_tables::check::check;
+use pid_tables::lists::{pending_at, queue_at, queue_page};
+use pid_tables::rows::Version;
 use pid_tables::{
     EachEnd, Put, Step, TableFault, Tables, apply, begin, commit, create, migrate, put, roll_back,
 };
-use pid_tables_check::check;
-use pid_tables_lists::{pending_at, queue_at, queue_page};
-use pid_tables_rows::Version;
 use sqlite::{Alter, Connection};
 use std::alloc::Global;
 use std::process::Abort;

@@ -2,7 +2,7 @@
 use Rattle.std.specs.Prelude.{Result, Ok, Err}
 use Rattle.pid_moderation.specs.declared.refusal.Refusal.{Refusal}
 use Rattle.pid_tables.specs.Faults.{refusal_for}
-use Rattle.pid_tables_rows.specs.declared.fault.TableFault.{TableFault}
+use Rattle.pid_tables.specs.declared.rows.fault.TableFault.{TableFault}
 
 -- what was found; or the refusal that a fault of the tables is answered as
 abbrev pub answered_as : {X : Type 0} → Result X TableFault → Result X Refusal

@@ -1,8 +1,8 @@
 -- Steps of Exporting.
 use Rattle.std.specs.Prelude.{◌≡◌}
 use Rattle.pid_file.specs.declared.io.WriteFault.{WriteFault}
-use Rattle.pid_tables_lists.specs.declared.walk.EachEnd.{EachEnd}
-use Rattle.pid_tables_lists.specs.declared.walk.EachEnd.TheVariants as ends
+use Rattle.pid_tables.specs.declared.lists.walk.EachEnd.{EachEnd}
+use Rattle.pid_tables.specs.declared.lists.walk.EachEnd.TheVariants as ends
 use Rattle.pid_tables.specs.Faults.{IsMemoryOrStore, refusal_for}
 use Rattle.pid_moderation.specs.declared.refusal.Refusal.{Refusal}
 use Rattle.pid_service.specs.declared.exporting.ExportFault.{ExportFault}

@@ -5,8 +5,8 @@ use Rattle.pid_ident.specs.Sending.{SendsFront}
 use Rattle.pid_moderation.specs.Items.{Items}
 use Rattle.pid_service.specs.ItemTexts.{text_of_items}
 use Rattle.pid_file.specs.declared.io.WriteFault.{WriteFault}
-use Rattle.pid_tables_lists.specs.declared.walk.EachEnd.{EachEnd}
-use Rattle.pid_tables_lists.specs.declared.walk.EachEnd.TheVariants.{Tables, Fault}
+use Rattle.pid_tables.specs.declared.lists.walk.EachEnd.{EachEnd}
+use Rattle.pid_tables.specs.declared.lists.walk.EachEnd.TheVariants.{Tables, Fault}
 use Rattle.pid_service.specs.Exports.{TakesWholeLines}
 
 -- the whole text; a prefix of it, and not all, if the writer failed; whole lines of it if the

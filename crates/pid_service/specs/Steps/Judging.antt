@@ -15,7 +15,7 @@ use Rattle.pid_moderation.specs.CheckTables.{is_pending}
 use Rattle.pid_moderation.specs.History.{Asked, History, Reading, asked, is_import}
 use Rattle.pid_moderation.specs.Judgement.{Accepts, judge, answer, after}
 use Rattle.pid_moderation.specs.Views.{views_of}
-use Rattle.pid_tables_rows.specs.Clauses.{AtRest, HasCleanDisk}
+use Rattle.pid_tables.specs.Rows.Clauses.{AtRest, HasCleanDisk}
 use Rattle.pid_service.specs.declared.judging.Judged.{Judged}
 use Rattle.pid_service.specs.declared.judging.Judged.TheVariants.{Kept, Accepted}
 use Rattle.pid_service.specs.Asking.{IsCausedAs}

@@ -4,9 +4,9 @@ use Rattle.sqlite.specs.Held.{Held}
 use Rattle.sqlite_trees.specs.declared.store.Store.{Ghosts}
 use Rattle.pid_moderation.specs.History.{History}
 use Rattle.pid_moderation.specs.Views.{views_of}
-use Rattle.pid_tables_rows.specs.declared.fault.TableFault.{TableFault}
-use Rattle.pid_tables_rows.specs.Clauses as clauses
-use Rattle.pid_tables_rows.specs.Faults.{IsMemoryOrStore}
+use Rattle.pid_tables.specs.declared.rows.fault.TableFault.{TableFault}
+use Rattle.pid_tables.specs.Rows.Clauses as clauses
+use Rattle.pid_tables.specs.Rows.Faults.{IsMemoryOrStore}
 use Rattle.pid_tables.specs.Clauses.{ShowsOrBlank}
 use Rattle.pid_service.specs.Histories.{IsReached}
 

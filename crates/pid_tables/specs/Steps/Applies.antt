@@ -5,8 +5,8 @@ use Rattle.pid_moderation.specs.declared.change.Effect.TheVariants.{Nothing, Ran
 use Rattle.pid_moderation.specs.declared.change.Effect.TheVariants.{Remarked, Decided, Imported}
 use Rattle.pid_moderation.specs.Changes.{FitsEffect}
 use Rattle.pid_moderation.specs.Views.{Views}
-use Rattle.pid_tables_rows.specs.Leaves.{Turn}
-use Rattle.pid_tables_rows.specs.Shows.{Counts}
+use Rattle.pid_tables.specs.Rows.Leaves.{Turn}
+use Rattle.pid_tables.specs.Rows.Shows.{Counts}
 
 -- the counts that an effect leaves
 abbrev pub recounted : Effect → Counts → Counts

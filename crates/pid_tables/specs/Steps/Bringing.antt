@@ -6,13 +6,13 @@ use Rattle.sqlite.specs.State.{State, HasCleanDisk}
 use Rattle.pid_moderation.specs.History.{History}
 use Rattle.pid_moderation.specs.Sound.{IsSound}
 use Rattle.pid_moderation.specs.Views.{Views, views_of}
-use Rattle.pid_tables_rows.specs.declared.fault.TableFault.{TableFault}
-use Rattle.pid_tables_rows.specs.declared.version.Version.{Version}
-use Rattle.pid_tables_rows.specs.declared.version.Version.TheVariants.{One, Two}
-use Rattle.pid_tables_rows.specs.Faults.{IsMemoryOrStore}
-use Rattle.pid_tables_rows.specs.Leaves.{RestsIn}
-use Rattle.pid_tables_check.specs.Checking.{FindsVersion}
-use Rattle.pid_tables_check.specs.Shapes.{HasNoTable}
+use Rattle.pid_tables.specs.declared.rows.fault.TableFault.{TableFault}
+use Rattle.pid_tables.specs.declared.rows.version.Version.{Version}
+use Rattle.pid_tables.specs.declared.rows.version.Version.TheVariants.{One, Two}
+use Rattle.pid_tables.specs.Rows.Faults.{IsMemoryOrStore}
+use Rattle.pid_tables.specs.Rows.Leaves.{RestsIn}
+use Rattle.pid_tables.specs.Check.Checking.{FindsVersion}
+use Rattle.pid_tables.specs.Check.Shapes.{HasNoTable}
 use Rattle.pid_tables.specs.Bringing.{NamesLatest}
 use Rattle.pid_tables.specs.declared.migration.Step.{Step}
 use Rattle.pid_tables.specs.declared.migration.Step.TheVariants.{Created, Moved, Already}

@@ -6,8 +6,8 @@ use Rattle.pid_moderation.specs.declared.command.Reply.{Reply}
 use Rattle.pid_moderation.specs.History.{Asked, History}
 use Rattle.pid_moderation.specs.Items.{Items}
 use Rattle.pid_moderation.specs.Views.{views_of}
-use Rattle.pid_tables_rows.specs.Clauses.{Within}
-use Rattle.pid_tables_rows.specs.Shows.{counts_of}
+use Rattle.pid_tables.specs.Rows.Clauses.{Within}
+use Rattle.pid_tables.specs.Rows.Shows.{counts_of}
 use Rattle.pid_tables.specs.declared.put_file.Stop.{Stop}
 use Rattle.pid_tables.specs.Steps.Importing as importing
 use Rattle.pid_tables.specs.Steps.Putting.{put_in_turn}

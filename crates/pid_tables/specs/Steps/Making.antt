@@ -6,13 +6,13 @@ use Rattle.sqlite.specs.declared.types.Value.TheVariants.{Text}
 use Rattle.sqlite_trees.specs.declared.store.Store.{Ghosts}
 use Rattle.pid_moderation.specs.History.{new_history}
 use Rattle.pid_moderation.specs.Views.{views_of}
-use Rattle.pid_tables_rows.specs.declared.fault.TableFault.{TableFault}
-use Rattle.pid_tables_rows.specs.Clauses.{HasCleanDisk, is_open, seen}
-use Rattle.pid_tables_rows.specs.Faults.{IsMemoryOrStore}
-use Rattle.pid_tables_rows.specs.PairRows.{Map}
-use Rattle.pid_tables_rows.specs.Schema as tables
-use Rattle.pid_tables_rows.specs.Shows.{Shows}
-use Rattle.pid_tables_rows.specs.TableRows.{number}
+use Rattle.pid_tables.specs.declared.rows.fault.TableFault.{TableFault}
+use Rattle.pid_tables.specs.Rows.Clauses.{HasCleanDisk, is_open, seen}
+use Rattle.pid_tables.specs.Rows.Faults.{IsMemoryOrStore}
+use Rattle.pid_tables.specs.Rows.PairRows.{Map}
+use Rattle.pid_tables.specs.Rows.Schema as tables
+use Rattle.pid_tables.specs.Rows.Shows.{Shows}
+use Rattle.pid_tables.specs.Rows.TableRows.{number}
 use Rattle.pid_tables.specs.Creation.{AreMade}
 use Rattle.pid_tables.specs.Statements as texts
 use Rattle.pid_tables.specs.Statements.{Statement, CarriedOut, new_label_text, new_account_text}

@@ -15,12 +15,12 @@ use Rattle.sqlite.specs.State.{State, HasCleanDisk, text_of}
 use Rattle.sqlite.specs.Table.{Table}
 use Rattle.sqlite_resolve.specs.declared.compiled.Compiled.{Compiled}
 use Rattle.sqlite_resolve.specs.declared.error.CompileError.{CompileError}
-use Rattle.pid_tables_rows.specs.declared.fault.TableFault.{TableFault}
-use Rattle.pid_tables_rows.specs.Faults.{IsMemoryOrStore, IsNotNewerSchema}
-use Rattle.pid_tables_rows.specs.PairRows.{Map, RowsAre}
-use Rattle.pid_tables_rows.specs.Schema.{pid_schema}
-use Rattle.pid_tables_rows.specs.Schema as tables
-use Rattle.pid_tables_rows.specs.TableRows.{meta_row}
+use Rattle.pid_tables.specs.declared.rows.fault.TableFault.{TableFault}
+use Rattle.pid_tables.specs.Rows.Faults.{IsMemoryOrStore, IsNotNewerSchema}
+use Rattle.pid_tables.specs.Rows.PairRows.{Map, RowsAre}
+use Rattle.pid_tables.specs.Rows.Schema.{pid_schema}
+use Rattle.pid_tables.specs.Rows.Schema as tables
+use Rattle.pid_tables.specs.Rows.TableRows.{meta_row}
 pub use Rattle.pid_tables.specs.Creation.{making}
 use Rattle.pid_tables.specs.Creation.{AreMade, IsFaultOfTaken}
 

@@ -10,7 +10,7 @@ use Rattle.pid_reader.specs.LookingBack.{Item}
 use Rattle.pid_reader.specs.Reading.{entries_of, refused}
 use Rattle.pid_reader.specs.WholeInputs.{IsWhole}
 use Rattle.pid_moderation.specs.CheckTables.{most_file_bytes}
-use Rattle.pid_tables_rows.specs.declared.fault.TableFault.{TableFault}
+use Rattle.pid_tables.specs.declared.rows.fault.TableFault.{TableFault}
 use Rattle.pid_tables.specs.declared.putting.Put.{Put}
 use Rattle.pid_tables.specs.declared.tally.Tally.{Tally}
 use Rattle.pid_tables.specs.Tallies.{tallied}

@@ -2,7 +2,7 @@
 use Rattle.std.specs.Prelude.{ℕ, [], ◌∷◌}
 use Rattle.pid_moderation.specs.Items.{Items}
 use Rattle.pid_moderation.specs.Views.{Views}
-use Rattle.pid_tables_rows.specs.Writes.{with_name}
+use Rattle.pid_tables.specs.Rows.Writes.{with_name}
 
 -- the pairs, put in turn with this number, of which the last is the first here
 abbrev pub put_in_turn : ℕ → Items → Views → Views

@@ -1,6 +1,6 @@
 use Rattle.std.proofs.Common.{ap, refl, subst}
 use Rattle.pid_service.specs.Opening.{OpensTo}
-use Rattle.pid_tables_rows.specs.declared.fault.TableFault.TheVariants.{Store}
+use Rattle.pid_tables.specs.declared.rows.fault.TableFault.TheVariants.{Store}
 use Rattle.pid_cli_jobs.specs.declared.job_end.JobEnd.TheVariants.{Told}
 use Rattle.pid_cli_jobs.specs.Sessions.{Session, Unopened}
 use Rattle.pid_cli_jobs.proofs.Inputs.{unread}

@@ -2,7 +2,7 @@ use Rattle.std.proofs.Common.{◌≡◌, rules, [], ◌∷◌, Some}
 use Rattle.std.specs.Io.KnownBytes.{Appends}
 use Rattle.sqlite.specs.Held.{state}
 use Rattle.pid_file.specs.Printing.{ended, header}
-use Rattle.pid_tables_check.proofs.Asking.{nothing_read}
+use Rattle.pid_tables.proofs.OfCheck.Asking.{nothing_read}
 use Rattle.pid_service.specs.Steps.Exports.{WritesItems}
 use Rattle.pid_service.proofs.WalkEnds.{exported, fault_told, header_stopped, walk_same}
 use Rattle.pid_service.proofs.item_text.export_items.Goals as goal

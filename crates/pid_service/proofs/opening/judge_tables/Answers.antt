@@ -2,11 +2,11 @@ use Rattle.std.proofs.Common.{Option, ap, subst, ◌∙◌}
 use Rattle.std.specs.Prelude.{not}
 use Rattle.sqlite.specs.Held.{state}
 use Rattle.pid_moderation.specs.Views.{views_of}
-use Rattle.pid_tables_check.specs.Checking.{FindsVersion}
-use Rattle.pid_tables_rows.specs.Clauses.{seen}
-use Rattle.pid_tables_rows.specs.declared.version.Version.{Version}
-use Rattle.pid_tables_rows.specs.declared.version.Version.TheVariants.{Two}
-use Rattle.pid_tables_rows.proofs.LeaveLemmas.{rests_in_two}
+use Rattle.pid_tables.specs.Check.Checking.{FindsVersion}
+use Rattle.pid_tables.specs.Rows.Clauses.{seen}
+use Rattle.pid_tables.specs.declared.rows.version.Version.{Version}
+use Rattle.pid_tables.specs.declared.rows.version.Version.TheVariants.{Two}
+use Rattle.pid_tables.proofs.OfRows.LeaveLemmas.{rests_in_two}
 use Rattle.pid_service.proofs.Opened.{seen_still}
 use Rattle.pid_service.proofs.opening.judge_tables.Goals as goal
 

@@ -2,11 +2,11 @@ use Rattle.std.proofs.Common.{inl, ap, ◌∙◌}
 use Rattle.std.specs.Prelude.{not}
 use Rattle.pid_moderation.specs.Views.{views_of}
 use Rattle.sqlite.specs.Held.{state}
-use Rattle.pid_tables_rows.specs.Clauses.{seen}
-use Rattle.pid_tables_rows.specs.Faults.{IsNotNewerSchema}
-use Rattle.pid_tables_check.specs.Checking.{Explains}
-use Rattle.pid_tables_rows.proofs.LeaveLemmas.{rests_in_two}
-use Rattle.pid_tables_rows.proofs.OnlyReading.{reads_then}
+use Rattle.pid_tables.specs.Rows.Clauses.{seen}
+use Rattle.pid_tables.specs.Rows.Faults.{IsNotNewerSchema}
+use Rattle.pid_tables.specs.Check.Checking.{Explains}
+use Rattle.pid_tables.proofs.OfRows.LeaveLemmas.{rests_in_two}
+use Rattle.pid_tables.proofs.OfRows.OnlyReading.{reads_then}
 use Rattle.pid_service.proofs.Opened.{back_behind, brought_reads, committed_then_reads, explained_now, explains_now, judged_now, judged_ready, kept_ok, made_then_reads, moved_then_reads, once_then_reads, refused_reads, step_shown, step_rests, still_views, told_then}
 use Rattle.pid_service.proofs.opening.make_ready.Goals as goal
 

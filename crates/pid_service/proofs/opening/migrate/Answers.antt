@@ -2,7 +2,7 @@ use Rattle.std.proofs.Common.{inl, inr, refl, sym, ap, ◌∙◌}
 use Rattle.std.specs.Prelude.{not}
 use Rattle.sqlite.specs.Held.{state}
 use Rattle.pid_moderation.specs.Views.{views_of}
-use Rattle.pid_tables_rows.proofs.LeaveLemmas.{rests_in_two}
+use Rattle.pid_tables.proofs.OfRows.LeaveLemmas.{rests_in_two}
 use Rattle.pid_tables.proofs.AtOnceLemmas.{reads_back}
 use Rattle.pid_service.proofs.Keeping.{not_false, not_true, true_not}
 use Rattle.pid_service.proofs.Opened.{seen_back}

@@ -1,12 +1,12 @@
 use Rattle.std.proofs.Common.{inl, refl, sym, subst, ◌∙◌}
 use Rattle.sqlite.specs.Held.{state}
 use Rattle.pid_moderation.specs.Views.{views_of}
-use Rattle.pid_tables_rows.specs.Clauses.{HasCleanDisk}
-use Rattle.pid_tables_rows.specs.Faults.{IsMemoryOrStore}
+use Rattle.pid_tables.specs.Rows.Clauses.{HasCleanDisk}
+use Rattle.pid_tables.specs.Rows.Faults.{IsMemoryOrStore}
 use Rattle.pid_tables.specs.Bringing.{Fails}
 use Rattle.pid_tables.specs.Clauses.{ShowsOrBlank}
 use Rattle.pid_tables.proofs.AtOnceLemmas.{reads_back, reads_once}
-use Rattle.pid_tables_check.proofs.Asking.{nothing_read}
+use Rattle.pid_tables.proofs.OfCheck.Asking.{nothing_read}
 use Rattle.pid_service.proofs.Opened.{at_once_of, explains_of, kept_of, made_by_reads, moved}
 use Rattle.pid_service.proofs.Keeping.{not_false, not_true, nothing_kept, true_not}
 use Rattle.pid_service.proofs.opening.open.Goals as goal

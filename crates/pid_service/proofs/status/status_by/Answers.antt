@@ -1,7 +1,7 @@
 use Rattle.std.proofs.Common.{◌≡◌, length}
 use Rattle.pid_moderation.specs.PendingPages.{waiting_above}
-use Rattle.pid_tables_rows.proofs.OnlyReading.{reads_then}
-use Rattle.pid_tables_rows.specs.Accounts.{HasAccounts}
+use Rattle.pid_tables.proofs.OfRows.OnlyReading.{reads_then}
+use Rattle.pid_tables.specs.Rows.Accounts.{HasAccounts}
 use Rattle.pid_service.proofs.Questions.{faults_behind}
 use Rattle.pid_service.proofs.status.status_by.Goals as goal
 

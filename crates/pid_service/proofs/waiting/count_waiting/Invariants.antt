@@ -1,7 +1,7 @@
 use Rattle.std.proofs.Common.{◌≡◌, ◌+◌, length}
 use Rattle.pid_moderation.specs.PendingPages.{waiting_above}
 use Rattle.pid_moderation.specs.Views.{Views}
-use Rattle.pid_tables_rows.specs.Clauses.{AtRest, HasCleanDisk, OnlyReads}
+use Rattle.pid_tables.specs.Rows.Clauses.{AtRest, HasCleanDisk, OnlyReads}
 use Rattle.pid_service.proofs.waiting.count_waiting.Given as goal
 
 abbrev pub invariant-loop : goal.invariant-loop

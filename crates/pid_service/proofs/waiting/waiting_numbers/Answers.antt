@@ -1,11 +1,11 @@
 use Rattle.std.proofs.Common.{◌≡◌, ◌<◌, ◌++◌, map, length, true, ap, sym, ◌∙◌, rules}
 use Rattle.sqlite.specs.Held.{state}
 use Rattle.pid_moderation.specs.PendingPages.{told_of}
-use Rattle.pid_tables_rows.specs.Causes.{IsCaused, IsReadable}
-use Rattle.pid_tables_rows.proofs.CauseLemmas.{caused_later, passed_on}
-use Rattle.pid_tables_rows.proofs.OnlyReading.{reads_then}
-use Rattle.pid_tables_lists.specs.Laws.{pending_number}
-use Rattle.pid_tables_lists.specs.Pages.{last_of}
+use Rattle.pid_tables.specs.Rows.Causes.{IsCaused, IsReadable}
+use Rattle.pid_tables.proofs.OfRows.CauseLemmas.{caused_later, passed_on}
+use Rattle.pid_tables.proofs.OfRows.OnlyReading.{reads_then}
+use Rattle.pid_tables.specs.Lists.Laws.{pending_number}
+use Rattle.pid_tables.specs.Lists.Pages.{last_of}
 use Rattle.pid_service.proofs.PendingNumbers.{last_page, next_page, waiting}
 use Rattle.pid_service.proofs.waiting.waiting_numbers.Goals as goal
 

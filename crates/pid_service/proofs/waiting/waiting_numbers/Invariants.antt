@@ -1,6 +1,6 @@
 use Rattle.std.proofs.Common.{◌≡◌, ◌++◌}
 use Rattle.pid_moderation.specs.Views.{Views}
-use Rattle.pid_tables_rows.specs.Clauses.{AtRest, HasCleanDisk, OnlyReads}
+use Rattle.pid_tables.specs.Rows.Clauses.{AtRest, HasCleanDisk, OnlyReads}
 use Rattle.pid_service.specs.KeptViews.{numbers_waiting}
 use Rattle.pid_service.proofs.PendingNumbers.{waiting}
 use Rattle.pid_service.proofs.waiting.waiting_numbers.Given as goal

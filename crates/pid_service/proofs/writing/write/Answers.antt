@@ -2,10 +2,10 @@ use Rattle.std.proofs.Common.{◌≡◌, false, OnOk, OnErr, refl, rules, sym, s
 use Rattle.sqlite.specs.Held.{state}
 use Rattle.sqlite.specs.State.{HasCleanDisk}
 use Rattle.pid_moderation.specs.Changes.{changed}
-use Rattle.pid_tables_rows.specs.Clauses.{AtRest, LeavesEither}
-use Rattle.pid_tables_rows.specs.Shows.{counts_of}
-use Rattle.pid_tables_rows.proofs.GoingLemmas.{earlier}
-use Rattle.pid_tables_rows.proofs.LeaveLemmas.{on_err}
+use Rattle.pid_tables.specs.Rows.Clauses.{AtRest, LeavesEither}
+use Rattle.pid_tables.specs.Rows.Shows.{counts_of}
+use Rattle.pid_tables.proofs.OfRows.GoingLemmas.{earlier}
+use Rattle.pid_tables.proofs.OfRows.LeaveLemmas.{on_err}
 use Rattle.pid_tables.proofs.MoveLemmas.{not_on_ok}
 use Rattle.pid_service.proofs.WriteLemmas.{counted}
 use Rattle.pid_service.proofs.writing.write.Given.{Over}

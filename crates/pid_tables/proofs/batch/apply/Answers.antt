@@ -1,8 +1,8 @@
 use Rattle.sqlite.specs.Held.{state}
 use Rattle.sqlite.proofs.StateLemmas.{clean_if_open}
-use Rattle.pid_tables_rows.specs.Shows.{counts_of}
+use Rattle.pid_tables.specs.Rows.Shows.{counts_of}
 use Rattle.pid_moderation.specs.Changes.{changed}
-use Rattle.pid_tables_rows.proofs.GoingLemmas.{earlier, holds_on, within_on}
+use Rattle.pid_tables.proofs.OfRows.GoingLemmas.{earlier, holds_on, within_on}
 use Rattle.pid_tables.proofs.ApplyLemmas.{succeeds, faults}
 use Rattle.pid_tables.proofs.batch.apply.Goals as goal
 

@@ -2,11 +2,11 @@ use Rattle.std.proofs.Common.{ap, sym, ◌∙◌}
 use Rattle.sqlite.specs.Effect.{Database}
 use Rattle.sqlite.specs.Held.{state}
 use Rattle.sqlite.proofs.StateLemmas.{clean_if_open}
-use Rattle.pid_tables_rows.proofs.LeaveLemmas.{stands, failed_back, on_err}
-use Rattle.pid_tables_rows.proofs.GoingLemmas.{earlier}
-use Rattle.pid_tables_rows.specs.Shows.{counts_of}
-use Rattle.pid_tables_rows.specs.Causes.{IsCaused}
-use Rattle.pid_tables_rows.proofs.CauseLemmas.{passed_from}
+use Rattle.pid_tables.proofs.OfRows.LeaveLemmas.{stands, failed_back, on_err}
+use Rattle.pid_tables.proofs.OfRows.GoingLemmas.{earlier}
+use Rattle.pid_tables.specs.Rows.Shows.{counts_of}
+use Rattle.pid_tables.specs.Rows.Causes.{IsCaused}
+use Rattle.pid_tables.proofs.OfRows.CauseLemmas.{passed_from}
 use Rattle.pid_tables.proofs.CommitLemmas.{commit_caused}
 use Rattle.pid_tables.proofs.MoveLemmas.{not_on_ok, undone}
 use Rattle.pid_tables.proofs.batch.commit.Goals as goal

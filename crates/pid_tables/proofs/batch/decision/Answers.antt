@@ -1,9 +1,9 @@
 use Rattle.std.proofs.Common.{sym, subst, ◌∙◌}
 use Rattle.sqlite.specs.Held.{state}
-use Rattle.pid_tables_rows.specs.Faults.{IsMemoryOrStore}
-use Rattle.pid_tables_rows.specs.Shows.{ShowsCounting}
-use Rattle.pid_tables_rows.proofs.CauseLemmas.{passed_on}
-use Rattle.pid_tables_rows.proofs.GoingLemmas.{earlier, goes_then}
+use Rattle.pid_tables.specs.Rows.Faults.{IsMemoryOrStore}
+use Rattle.pid_tables.specs.Rows.Shows.{ShowsCounting}
+use Rattle.pid_tables.proofs.OfRows.CauseLemmas.{passed_on}
+use Rattle.pid_tables.proofs.OfRows.GoingLemmas.{earlier, goes_then}
 use Rattle.pid_tables.proofs.ChangeLemmas.{undecided}
 use Rattle.pid_tables.proofs.MoveLemmas.{goes_fault, goes_fault_after}
 use Rattle.pid_tables.proofs.batch.decision.Goals as goal

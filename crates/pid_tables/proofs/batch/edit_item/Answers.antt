@@ -1,8 +1,8 @@
 use Rattle.std.proofs.Common.{sym, subst, MatchResult}
 use Rattle.sqlite.specs.Held.{state}
 use Rattle.pid_moderation.specs.Items.{name_at}
-use Rattle.pid_tables_rows.specs.Faults.{IsMemoryOrStore}
-use Rattle.pid_tables_rows.specs.Shows.{ShowsCounting}
+use Rattle.pid_tables.specs.Rows.Faults.{IsMemoryOrStore}
+use Rattle.pid_tables.specs.Rows.Shows.{ShowsCounting}
 use Rattle.pid_tables.proofs.ApplyLemmas.{none_there}
 use Rattle.pid_tables.proofs.ChangeLemmas.{removed}
 use Rattle.pid_tables.proofs.batch.edit_item.Goals as goal

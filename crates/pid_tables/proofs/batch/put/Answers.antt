@@ -1,8 +1,8 @@
 use Rattle.sqlite.specs.Held.{state}
 use Rattle.sqlite.proofs.StateLemmas.{clean_if_open}
 use Rattle.pid_ident.specs.PathTexts.{path_text}
-use Rattle.pid_tables_rows.specs.Writes.{with_name}
-use Rattle.pid_tables_rows.proofs.GoingLemmas.{earlier, holds_on, within_on, told_within}
+use Rattle.pid_tables.specs.Rows.Writes.{with_name}
+use Rattle.pid_tables.proofs.OfRows.GoingLemmas.{earlier, holds_on, within_on, told_within}
 use Rattle.pid_tables.proofs.ApplyLemmas.{succeeds, faults}
 use Rattle.pid_tables.proofs.batch.put.Goals as goal
 

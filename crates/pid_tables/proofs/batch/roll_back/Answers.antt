@@ -1,6 +1,6 @@
 use Rattle.sqlite.specs.Held.{state}
 use Rattle.sqlite.proofs.StateLemmas.{clean_if_open}
-use Rattle.pid_tables_rows.proofs.LeaveLemmas.{given_back}
+use Rattle.pid_tables.proofs.OfRows.LeaveLemmas.{given_back}
 use Rattle.pid_tables.proofs.batch.roll_back.Goals as goal
 
 pub returns-clause-given_back : goal.returns-clause-given_back

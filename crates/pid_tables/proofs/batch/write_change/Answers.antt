@@ -1,9 +1,9 @@
 use Rattle.std.proofs.Common.{Ok, Some, None, subst, ◌∙◌}
 use Rattle.sqlite.specs.Held.{state}
 use Rattle.pid_moderation.specs.Changes.{FitsReceipt}
-use Rattle.pid_tables_rows.specs.Faults.{IsMemoryOrStore}
-use Rattle.pid_tables_rows.proofs.CauseLemmas.{passed_on}
-use Rattle.pid_tables_rows.proofs.GoingLemmas.{earlier, goes_then}
+use Rattle.pid_tables.specs.Rows.Faults.{IsMemoryOrStore}
+use Rattle.pid_tables.proofs.OfRows.CauseLemmas.{passed_on}
+use Rattle.pid_tables.proofs.OfRows.GoingLemmas.{earlier, goes_then}
 use Rattle.pid_tables.specs.Steps.Applies.{recounted}
 use Rattle.pid_tables.proofs.ApplyLemmas.{receipt_still_fits, whole_with, either_side}
 use Rattle.pid_tables.proofs.MoveLemmas.{goes_fault, goes_fault_after, goes_value}

@@ -1,14 +1,14 @@
 use Rattle.std.proofs.Common.{[], ◌∷◌}
 use Rattle.sqlite.specs.Held.{state}
 use Rattle.sqlite.specs.declared.types.Value.TheVariants.{Text}
-use Rattle.pid_tables_rows.specs.TableRows.{number}
+use Rattle.pid_tables.specs.Rows.TableRows.{number}
 use Rattle.pid_tables.specs.Statements.{new_label_text}
 use Rattle.pid_tables.proofs.Carrying.{carried_one}
 use Rattle.pid_tables.proofs.CreateLemmas.{label_added}
-use Rattle.pid_tables_rows.specs.declared.version.Version.TheVariants.{Two}
-use Rattle.pid_tables_rows.specs.Schema.{pid_schema}
-use Rattle.pid_tables_rows.proofs.KeyTexts.{insert_meta_is}
-use Rattle.pid_tables_rows.proofs.WriteFaults.{led, insert_writes}
+use Rattle.pid_tables.specs.declared.rows.version.Version.TheVariants.{Two}
+use Rattle.pid_tables.specs.Rows.Schema.{pid_schema}
+use Rattle.pid_tables.proofs.OfRows.KeyTexts.{insert_meta_is}
+use Rattle.pid_tables.proofs.OfRows.WriteFaults.{led, insert_writes}
 use Rattle.pid_tables.proofs.creation.add_label.Goals as goal
 
 pub returns-clause-added : goal.returns-clause-added

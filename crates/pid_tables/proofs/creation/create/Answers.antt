@@ -5,13 +5,13 @@ use Rattle.sqlite.proofs.StateLemmas.{clean_if_open, survives_then}
 use Rattle.sqlite.proofs.Callers.{survives_begin}
 use Rattle.pid_moderation.specs.History.{new_history}
 use Rattle.pid_moderation.specs.Views.{views_of}
-use Rattle.pid_tables_rows.specs.Clauses.{seen}
-use Rattle.pid_tables_rows.specs.Leaves.{OnlyReads}
-use Rattle.pid_tables_rows.specs.Faults.{IsMemoryOrStore, IsNotNewerSchema}
-use Rattle.pid_tables_rows.proofs.CauseLemmas.{passed_on, passed_from}
-use Rattle.pid_tables_rows.proofs.LeaveLemmas.{on_err}
-use Rattle.pid_tables_rows.proofs.GoingLemmas.{earlier}
-use Rattle.pid_tables_rows.proofs.OnlyReading.{reads_begun}
+use Rattle.pid_tables.specs.Rows.Clauses.{seen}
+use Rattle.pid_tables.specs.Rows.Leaves.{OnlyReads}
+use Rattle.pid_tables.specs.Rows.Faults.{IsMemoryOrStore, IsNotNewerSchema}
+use Rattle.pid_tables.proofs.OfRows.CauseLemmas.{passed_on, passed_from}
+use Rattle.pid_tables.proofs.OfRows.LeaveLemmas.{on_err}
+use Rattle.pid_tables.proofs.OfRows.GoingLemmas.{earlier}
+use Rattle.pid_tables.proofs.OfRows.OnlyReading.{reads_begun}
 use Rattle.pid_tables.proofs.MetLemmas.{reads_if_never, met_at_rest, met_first}
 use Rattle.pid_tables.proofs.MoveLemmas.{all_never, all_untold, not_on_ok}
 use Rattle.pid_tables.proofs.AtOnceLemmas.{reads_at_once, reads_never, commit_at_once, commit_bare, committed_as, kept_as, still_bare}

@@ -2,15 +2,15 @@ use Rattle.std.proofs.Common.{[], ◌∷◌, ◌++◌, codes, refl, ◌∙◌}
 use Rattle.sqlite.specs.Held.{state}
 use Rattle.sqlite.specs.declared.types.Value.TheVariants.{Text}
 use Rattle.pid_moderation.specs.declared.rank.Rank.TheVariants.{Administrator}
-use Rattle.pid_tables_rows.specs.declared.version.Version.TheVariants.{Two}
-use Rattle.pid_tables_rows.specs.Faults.{IsNotNewerSchema}
-use Rattle.pid_tables_rows.specs.Schema.{pid_schema}
-use Rattle.pid_tables_rows.specs.TableRows.{number}
-use Rattle.pid_tables_rows.proofs.CauseLemmas.{passed_on, passed_from}
-use Rattle.pid_tables_rows.proofs.GoingLemmas.{earlier, goes_then}
-use Rattle.pid_tables_rows.proofs.KeyTexts.{insert_account_is}
-use Rattle.pid_tables_rows.proofs.WriteFaults.{led, insert_writes}
-use Rattle.pid_tables_rows.proofs.WriteRows.{account_added}
+use Rattle.pid_tables.specs.declared.rows.version.Version.TheVariants.{Two}
+use Rattle.pid_tables.specs.Rows.Faults.{IsNotNewerSchema}
+use Rattle.pid_tables.specs.Rows.Schema.{pid_schema}
+use Rattle.pid_tables.specs.Rows.TableRows.{number}
+use Rattle.pid_tables.proofs.OfRows.CauseLemmas.{passed_on, passed_from}
+use Rattle.pid_tables.proofs.OfRows.GoingLemmas.{earlier, goes_then}
+use Rattle.pid_tables.proofs.OfRows.KeyTexts.{insert_account_is}
+use Rattle.pid_tables.proofs.OfRows.WriteFaults.{led, insert_writes}
+use Rattle.pid_tables.proofs.OfRows.WriteRows.{account_added}
 use Rattle.pid_tables.specs.Creation.{IsFaultOfTaken}
 use Rattle.pid_tables.specs.Statements.{new_account_text}
 use Rattle.pid_tables.specs.Steps.Making.{all_statements, label_statements, root_statement}

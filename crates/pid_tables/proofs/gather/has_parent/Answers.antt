@@ -5,7 +5,7 @@ use Rattle.pid_ident.proofs.PathReadingLemmas.{text_of_parent}
 use Rattle.pid_ident.specs.PathTexts.{path_text, parent_of}
 use Rattle.pid_file.specs.declared.path.Path.{Path}
 use Rattle.pid_moderation.specs.Items.{holds_parent}
-use Rattle.pid_tables_check.proofs.Asking.{nothing_read}
+use Rattle.pid_tables.proofs.OfCheck.Asking.{nothing_read}
 use Rattle.pid_tables.proofs.gather.has_parent.Goals as goal
 
 pub returns-in-None : goal.returns-in-None

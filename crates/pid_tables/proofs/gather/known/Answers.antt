@@ -1,5 +1,5 @@
 use Rattle.std.proofs.Common.{None, false}
-use Rattle.pid_tables_rows.proofs.OnlyReading.{reads_then}
+use Rattle.pid_tables.proofs.OfRows.OnlyReading.{reads_then}
 use Rattle.pid_tables.proofs.ThenReads.{fault_after, fault_first, value_after}
 use Rattle.pid_tables.proofs.gather.known.Goals as goal
 

@@ -1,6 +1,6 @@
 use Rattle.std.proofs.Common.{◌∙◌}
 use Rattle.sqlite.specs.Held.{state}
-use Rattle.pid_tables_check.proofs.Asking.{nothing_read}
+use Rattle.pid_tables.proofs.OfCheck.Asking.{nothing_read}
 use Rattle.pid_tables.specs.Steps.Gathering.{bare}
 use Rattle.pid_tables.proofs.ThenReads.{fault_first}
 use Rattle.pid_tables.proofs.gather.with_rows.Goals as goal

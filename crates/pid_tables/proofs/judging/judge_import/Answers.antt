@@ -1,8 +1,8 @@
 use Rattle.std.proofs.Common.{inr}
 use Rattle.sqlite.specs.Held.{state}
 use Rattle.pid_moderation.specs.Views.{views_of}
-use Rattle.pid_tables_rows.proofs.CauseLemmas.{caused_later}
-use Rattle.pid_tables_rows.proofs.OnlyReading.{reads_then}
+use Rattle.pid_tables.proofs.OfRows.CauseLemmas.{caused_later}
+use Rattle.pid_tables.proofs.OfRows.OnlyReading.{reads_then}
 use Rattle.pid_tables.proofs.EarlyCauses.{caused_as, settled_once, settled_caused}
 use Rattle.pid_tables.proofs.judging.judge_import.Goals as goal
 

@@ -2,7 +2,7 @@ use Rattle.std.proofs.Common.{◌≤◌, length, sym, subst}
 use Rattle.pid_moderation.specs.CheckTables.{most_items}
 use Rattle.pid_moderation.specs.WellMade.{AllItems, HoldsParents}
 use Rattle.pid_moderation.specs.Writes.{tree_of}
-use Rattle.pid_tables_rows.proofs.SoundReads.{sound_reads}
+use Rattle.pid_tables.proofs.OfRows.SoundReads.{sound_reads}
 use Rattle.pid_tables.proofs.SoundLemmas.{are_views}
 use Rattle.pid_tables.proofs.laws.views_of_sound_histories.Goals as goal
 

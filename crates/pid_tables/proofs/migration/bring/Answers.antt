@@ -1,6 +1,6 @@
 use Rattle.std.proofs.Common.{◌∙◌, Some, Ok, refl, sym, ap}
 use Rattle.sqlite.specs.Held.{state}
-use Rattle.pid_tables_check.proofs.Asking.{nothing_read}
+use Rattle.pid_tables.proofs.OfCheck.Asking.{nothing_read}
 use Rattle.pid_tables.specs.Steps.Bringing.{step_for}
 use Rattle.pid_tables.specs.declared.migration.Step.TheVariants.{Already}
 use Rattle.pid_tables.proofs.AtOnceLemmas.{reads_at_once}

@@ -2,12 +2,12 @@ use Rattle.std.proofs.Common.{inl, codes, refl, sym, subst, ◌∙◌}
 use Rattle.std.proofs.lemmas.Bool.{true≢false, false≢true}
 use Rattle.sqlite.specs.Effect.{Database}
 use Rattle.sqlite.specs.Held.{state}
-use Rattle.pid_tables_rows.specs.Faults.{IsMemoryOrStore}
-use Rattle.pid_tables_rows.specs.LabelRows.{ExplainsNumber}
-use Rattle.pid_tables_rows.specs.Shows.{ShowsKeeping}
-use Rattle.pid_tables_rows.proofs.CauseLemmas.{passed_from}
-use Rattle.pid_tables_rows.proofs.OnlyReading.{reads_then}
-use Rattle.pid_tables_check.specs.Shapes.{HasSomeTable}
+use Rattle.pid_tables.specs.Rows.Faults.{IsMemoryOrStore}
+use Rattle.pid_tables.specs.Rows.LabelRows.{ExplainsNumber}
+use Rattle.pid_tables.specs.Rows.Shows.{ShowsKeeping}
+use Rattle.pid_tables.proofs.OfRows.CauseLemmas.{passed_from}
+use Rattle.pid_tables.proofs.OfRows.OnlyReading.{reads_then}
+use Rattle.pid_tables.specs.Check.Shapes.{HasSomeTable}
 use Rattle.pid_tables.specs.Bringing.{NamesLatest}
 use Rattle.pid_tables.proofs.MoveLemmas.{not_ok, not_on_ok}
 use Rattle.pid_tables.proofs.SchemaNumbers.{schema_told, schema_there, second_is_latest, shown_second}

@@ -2,13 +2,13 @@ use Rattle.std.proofs.Common.{◌≡◌, None, Some, MatchResult}
 use Rattle.sqlite.specs.Held.{state}
 use Rattle.pid_moderation.specs.History.{new_history}
 use Rattle.pid_moderation.specs.Views.{views_of}
-use Rattle.pid_tables_rows.specs.declared.version.Version.TheVariants.{One, Two}
-use Rattle.pid_tables_rows.specs.Faults.{IsMemoryOrStore, IsNotNewerSchema}
-use Rattle.pid_tables_rows.specs.Leaves.{AtRest, OnlyReads, RestsIn}
-use Rattle.pid_tables_rows.proofs.CauseLemmas.{passed_from, passed_on}
-use Rattle.pid_tables_rows.proofs.OnlyReading.{rests_in_still}
-use Rattle.pid_tables_check.proofs.Later.{untold_never}
-use Rattle.pid_tables_check.specs.Checking.{Explains}
+use Rattle.pid_tables.specs.declared.rows.version.Version.TheVariants.{One, Two}
+use Rattle.pid_tables.specs.Rows.Faults.{IsMemoryOrStore, IsNotNewerSchema}
+use Rattle.pid_tables.specs.Rows.Leaves.{AtRest, OnlyReads, RestsIn}
+use Rattle.pid_tables.proofs.OfRows.CauseLemmas.{passed_from, passed_on}
+use Rattle.pid_tables.proofs.OfRows.OnlyReading.{rests_in_still}
+use Rattle.pid_tables.proofs.OfCheck.Later.{untold_never}
+use Rattle.pid_tables.specs.Check.Checking.{Explains}
 use Rattle.pid_tables.specs.Bringing.{Refuses, Fails}
 use Rattle.pid_tables.specs.Creation.{RestsBare}
 use Rattle.pid_tables.specs.Steps.Found.{BringsNone, BringsOne}

@@ -2,15 +2,15 @@ use Rattle.std.proofs.Common.{◌≡◌, true, Ok, OnOk, OnErr, refl, rules, sym
 use Rattle.sqlite.specs.Held.{state}
 use Rattle.sqlite.specs.State.{HasCleanDisk}
 use Rattle.sqlite.proofs.StateLemmas.{clean_if_open}
-use Rattle.pid_tables_rows.specs.declared.version.Version.TheVariants.{One}
-use Rattle.pid_tables_rows.specs.Faults.{IsMemoryOrStore, IsNotNewerSchema}
-use Rattle.pid_tables_rows.specs.Clauses.{seen}
-use Rattle.pid_tables_rows.specs.Leaves.{AtRest, RestsIn}
-use Rattle.pid_tables_rows.specs.Shows.{counts_of}
-use Rattle.pid_tables_rows.proofs.CauseLemmas.{passed_from}
-use Rattle.pid_tables_rows.proofs.GoingLemmas.{earlier}
-use Rattle.pid_tables_rows.proofs.LeaveLemmas.{on_err}
-use Rattle.pid_tables_rows.proofs.OnlyReading.{reads_begun, rests_in_still}
+use Rattle.pid_tables.specs.declared.rows.version.Version.TheVariants.{One}
+use Rattle.pid_tables.specs.Rows.Faults.{IsMemoryOrStore, IsNotNewerSchema}
+use Rattle.pid_tables.specs.Rows.Clauses.{seen}
+use Rattle.pid_tables.specs.Rows.Leaves.{AtRest, RestsIn}
+use Rattle.pid_tables.specs.Rows.Shows.{counts_of}
+use Rattle.pid_tables.proofs.OfRows.CauseLemmas.{passed_from}
+use Rattle.pid_tables.proofs.OfRows.GoingLemmas.{earlier}
+use Rattle.pid_tables.proofs.OfRows.LeaveLemmas.{on_err}
+use Rattle.pid_tables.proofs.OfRows.OnlyReading.{reads_begun, rests_in_still}
 use Rattle.pid_tables.proofs.AtOnceLemmas.{reads_at_once, reads_never, commit_at_once, committed_as, kept_as}
 use Rattle.pid_tables.proofs.MoveLemmas.{failed_rests, all_never, all_untold, not_on_ok}
 use Rattle.pid_tables.specs.AtOnce.{WritesAtOnce}

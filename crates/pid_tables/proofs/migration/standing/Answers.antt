@@ -3,13 +3,13 @@ use Rattle.std.proofs.lemmas.Bool.{true≢false, false≢true}
 use Rattle.std.specs.Prelude.{not}
 use Rattle.sqlite.specs.Held.{state}
 use Rattle.pid_moderation.specs.Views.{views_of}
-use Rattle.pid_tables_rows.specs.declared.version.Version.TheVariants.{One, Two}
-use Rattle.pid_tables_rows.specs.Faults.{IsMemoryOrStore}
-use Rattle.pid_tables_rows.specs.Shows.{counts_of, numbers_in}
-use Rattle.pid_tables_rows.proofs.CauseLemmas.{passed_on}
-use Rattle.pid_tables_rows.proofs.OnlyReading.{reads_then, rests_in_still}
-use Rattle.pid_tables_check.specs.Checking.{Explains}
-use Rattle.pid_tables_check.proofs.Telling.{told_stored}
+use Rattle.pid_tables.specs.declared.rows.version.Version.TheVariants.{One, Two}
+use Rattle.pid_tables.specs.Rows.Faults.{IsMemoryOrStore}
+use Rattle.pid_tables.specs.Rows.Shows.{counts_of, numbers_in}
+use Rattle.pid_tables.proofs.OfRows.CauseLemmas.{passed_on}
+use Rattle.pid_tables.proofs.OfRows.OnlyReading.{reads_then, rests_in_still}
+use Rattle.pid_tables.specs.Check.Checking.{Explains}
+use Rattle.pid_tables.proofs.OfCheck.Telling.{told_stored}
 use Rattle.pid_tables.specs.Steps.Bringing.{Named}
 use Rattle.pid_tables.proofs.StandLemmas.{seen_still, untold_explains, told_before, as_standing, none_found, none_within, good_found}
 use Rattle.pid_tables.proofs.migration.standing.Goals as goal

@@ -1,17 +1,17 @@
 use Rattle.std.proofs.Common.{Ok, [], ◌∷◌, codes, refl, ◌∙◌}
 use Rattle.sqlite.specs.Held.{state}
 use Rattle.sqlite.specs.declared.types.Value.TheVariants.{Text}
-use Rattle.pid_tables_rows.specs.Faults.{IsMemoryOrStore, IsNotNewerSchema}
-use Rattle.pid_tables_rows.specs.Schema.{schema_of}
-use Rattle.pid_tables_rows.specs.declared.version.Version.TheVariants.{One, Two}
-use Rattle.pid_tables_rows.specs.TableRows.{number}
-use Rattle.pid_tables_rows.proofs.CauseLemmas.{passed_on}
-use Rattle.pid_tables_rows.proofs.GoingLemmas.{earlier, goes_then}
-use Rattle.pid_tables_rows.proofs.KeyTexts.{insert_meta_is, update_meta_is}
-use Rattle.pid_tables_rows.proofs.MovingLemmas.{table_made, table_added, fill_writes, between_schema, labels_raised}
-use Rattle.pid_tables_rows.proofs.SinceTexts.{create_is, create_plain, create_whole, create_defined}
-use Rattle.pid_tables_rows.proofs.StatementTexts.{create_since}
-use Rattle.pid_tables_rows.proofs.WriteFaults.{led, create_writes, insert_writes, update_writes}
+use Rattle.pid_tables.specs.Rows.Faults.{IsMemoryOrStore, IsNotNewerSchema}
+use Rattle.pid_tables.specs.Rows.Schema.{schema_of}
+use Rattle.pid_tables.specs.declared.rows.version.Version.TheVariants.{One, Two}
+use Rattle.pid_tables.specs.Rows.TableRows.{number}
+use Rattle.pid_tables.proofs.OfRows.CauseLemmas.{passed_on}
+use Rattle.pid_tables.proofs.OfRows.GoingLemmas.{earlier, goes_then}
+use Rattle.pid_tables.proofs.OfRows.KeyTexts.{insert_meta_is, update_meta_is}
+use Rattle.pid_tables.proofs.OfRows.MovingLemmas.{table_made, table_added, fill_writes, between_schema, labels_raised}
+use Rattle.pid_tables.proofs.OfRows.SinceTexts.{create_is, create_plain, create_whole, create_defined}
+use Rattle.pid_tables.proofs.OfRows.StatementTexts.{create_since}
+use Rattle.pid_tables.proofs.OfRows.WriteFaults.{led, create_writes, insert_writes, update_writes}
 use Rattle.pid_tables.specs.Statements.{item_since_text, item_since_rows_text, label_text, new_label_text}
 use Rattle.pid_tables.proofs.Carrying.{carried_one, carried_then}
 use Rattle.pid_tables.proofs.MoveLemmas.{goes_fault, goes_fault_after, not_on_ok}

@@ -3,12 +3,12 @@ use Rattle.sqlite.specs.Held.{state}
 use Rattle.pid_moderation.specs.Changes.{with_items, with_pairs}
 use Rattle.pid_moderation.specs.Items.{imported}
 use Rattle.pid_moderation.specs.Views.{Views, views_of}
-use Rattle.pid_tables_rows.specs.Leaves.{Within, Written}
-use Rattle.pid_tables_rows.specs.Shows.{counts_of}
+use Rattle.pid_tables.specs.Rows.Leaves.{Within, Written}
+use Rattle.pid_tables.specs.Rows.Shows.{counts_of}
 use Rattle.pid_reader.specs.Lines.{lines_of}
 use Rattle.pid_reader.specs.Reading.{entries_of}
 use Rattle.pid_tables.specs.Steps.Putting.{put_in_turn}
-use Rattle.pid_tables_rows.proofs.GoingLemmas.{earlier}
+use Rattle.pid_tables.proofs.OfRows.GoingLemmas.{earlier}
 use Rattle.pid_tables.proofs.BringIn.{refused_apart, failed_apart}
 use Rattle.pid_tables.proofs.InTurn.{in_turn}
 use Rattle.pid_tables.proofs.Judged.{next_is}

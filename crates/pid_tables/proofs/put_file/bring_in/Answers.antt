@@ -4,9 +4,9 @@ use Rattle.sqlite.specs.State.{HasCleanDisk}
 use Rattle.pid_moderation.specs.History.{asked}
 use Rattle.pid_moderation.specs.Judgement.{after as after_of}
 use Rattle.pid_moderation.specs.Views.{views_of}
-use Rattle.pid_tables_rows.specs.Leaves.{AtRest, LeavesEither}
-use Rattle.pid_tables_rows.specs.Shows.{counts_of}
-use Rattle.pid_tables_rows.proofs.GoingLemmas.{earlier}
+use Rattle.pid_tables.specs.Rows.Leaves.{AtRest, LeavesEither}
+use Rattle.pid_tables.specs.Rows.Shows.{counts_of}
+use Rattle.pid_tables.proofs.OfRows.GoingLemmas.{earlier}
 use Rattle.pid_tables.specs.Files.{file_reading}
 use Rattle.pid_tables.specs.Steps.PutFiles.{PutsFile}
 use Rattle.pid_tables.proofs.PutInto.{puts, gives_up, shown, put_name, put_clean, put_limit, put_holds, put_within, put_tally}

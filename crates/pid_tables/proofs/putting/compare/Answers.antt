@@ -1,16 +1,16 @@
 use Rattle.std.proofs.Common.{◌≡◌, Result, IfOk, MatchResult, refl, sym, ap, subst, ◌∙◌, slice_get}
 use Rattle.sqlite.specs.Held.{state}
 use Rattle.pid_moderation.specs.Items.{name_at}
-use Rattle.pid_tables_rows.specs.declared.fault.TableFault.{TableFault}
-use Rattle.pid_tables_rows.specs.declared.version.Version.TheVariants.{Two}
-use Rattle.pid_tables_rows.specs.Faults.{IsMemoryOrStore}
-use Rattle.pid_tables_rows.specs.Schema.{pid_schema}
-use Rattle.pid_tables_rows.specs.Shows.{ShowsCounting}
-use Rattle.pid_tables_rows.proofs.CauseLemmas.{passed_on}
-use Rattle.pid_tables_rows.proofs.FindLemmas.{name_found}
-use Rattle.pid_tables_rows.proofs.KeyTexts.{select_item_is}
-use Rattle.pid_tables_rows.proofs.ReadLemmas.{shows_still}
-use Rattle.pid_tables_rows.proofs.StatementTexts.{select_item}
+use Rattle.pid_tables.specs.declared.rows.fault.TableFault.{TableFault}
+use Rattle.pid_tables.specs.declared.rows.version.Version.TheVariants.{Two}
+use Rattle.pid_tables.specs.Rows.Faults.{IsMemoryOrStore}
+use Rattle.pid_tables.specs.Rows.Schema.{pid_schema}
+use Rattle.pid_tables.specs.Rows.Shows.{ShowsCounting}
+use Rattle.pid_tables.proofs.OfRows.CauseLemmas.{passed_on}
+use Rattle.pid_tables.proofs.OfRows.FindLemmas.{name_found}
+use Rattle.pid_tables.proofs.OfRows.KeyTexts.{select_item_is}
+use Rattle.pid_tables.proofs.OfRows.ReadLemmas.{shows_still}
+use Rattle.pid_tables.proofs.OfRows.StatementTexts.{select_item}
 use Rattle.pid_tables.specs.declared.putting.Put.{Put}
 use Rattle.pid_tables.specs.Puts.{put_over}
 use Rattle.pid_tables.proofs.MoveLemmas.{goes_fault, goes_still, not_ok}

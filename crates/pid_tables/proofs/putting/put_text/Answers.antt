@@ -2,12 +2,12 @@ use Rattle.std.proofs.Common.{◌≡◌, ℕ, List, Ok, Result, sym, subst, ◌�
 use Rattle.sqlite.specs.Held.{state}
 use Rattle.sqlite.specs.State.{State, HasCleanDisk}
 use Rattle.pid_moderation.specs.Items.{name_at}
-use Rattle.pid_tables_rows.specs.declared.fault.TableFault.{TableFault}
-use Rattle.pid_tables_rows.specs.Faults.{IsMemoryOrStore}
-use Rattle.pid_tables_rows.specs.Leaves.{GoesOn, LeadsTo, Turn}
-use Rattle.pid_tables_rows.specs.Writes.{with_name}
-use Rattle.pid_tables_rows.proofs.CauseLemmas.{passed_on}
-use Rattle.pid_tables_rows.proofs.GoingLemmas.{earlier, goes_then}
+use Rattle.pid_tables.specs.declared.rows.fault.TableFault.{TableFault}
+use Rattle.pid_tables.specs.Rows.Faults.{IsMemoryOrStore}
+use Rattle.pid_tables.specs.Rows.Leaves.{GoesOn, LeadsTo, Turn}
+use Rattle.pid_tables.specs.Rows.Writes.{with_name}
+use Rattle.pid_tables.proofs.OfRows.CauseLemmas.{passed_on}
+use Rattle.pid_tables.proofs.OfRows.GoingLemmas.{earlier, goes_then}
 use Rattle.pid_tables.proofs.MoveLemmas.{goes_fault, goes_value, not_ok}
 use Rattle.pid_tables.proofs.PutLemmas.{none_there, other_there, same_there, still_with}
 use Rattle.pid_tables.proofs.putting.put_text.Goals.{in-Added, in-Renamed, in-Same}

@@ -1,7 +1,7 @@
 use Rattle.std.proofs.Common.{◌≡◌, length, rules, refl, ap, ◌∙◌}
 use Rattle.sqlite.specs.Held.{state}
 use Rattle.pid_moderation.specs.Views.{views_of}
-use Rattle.pid_tables_check.proofs.Asking.{nothing_read}
+use Rattle.pid_tables.proofs.OfCheck.Asking.{nothing_read}
 use Rattle.pid_service.proofs.Exported.{text_kept, text_told}
 use Rattle.pid_service.proofs.Keeping.{left_same, true_not}
 use Rattle.pid_service.proofs.Questions.{answers_fault, failed_here}

@@ -1,6 +1,6 @@
 use Rattle.std.proofs.Common.{inl, inr, refl, rules}
 use Rattle.sqlite.specs.Held.{state}
-use Rattle.pid_tables_check.proofs.Asking.{nothing_read}
+use Rattle.pid_tables.proofs.OfCheck.Asking.{nothing_read}
 use Rattle.pid_moderation.specs.Views.{views_of}
 use Rattle.pid_service.proofs.Causes.{caused_by}
 use Rattle.pid_service.proofs.Keeping.{left_same, true_not}

@@ -1,6 +1,6 @@
 use Rattle.sqlite.specs.Held.{state}
 use Rattle.pid_moderation.specs.Views.{views_of}
-use Rattle.pid_tables_check.proofs.Telling.{told_stored}
+use Rattle.pid_tables.proofs.OfCheck.Telling.{told_stored}
 use Rattle.pid_tables.proofs.StandLemmas.{good_found}
 use Rattle.pid_tables.proofs.tables.Tables.check.Goals as goal
 

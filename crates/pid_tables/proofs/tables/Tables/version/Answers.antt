@@ -2,16 +2,16 @@ use Rattle.std.proofs.Common.{◌≡◌, codes, IfOk, IfErr, MatchResult, refl, 
 use Rattle.std.proofs.lemmas.Bool.{true≢false}
 use Rattle.sqlite.specs.Effect.{Database}
 use Rattle.sqlite.specs.Held.{state}
-use Rattle.pid_tables_rows.specs.declared.version.Version.TheVariants.{One}
-use Rattle.pid_tables_rows.specs.Causes.{IsCaused, IsReadable}
-use Rattle.pid_tables_rows.specs.Faults.{IsMemoryOrStore, IsNotNewerSchema}
-use Rattle.pid_tables_rows.specs.LabelRows.{ExplainsNumber, HasLabel, IsDamageOf, LacksNumber, ShowsNoNumber, ShowsNumber}
-use Rattle.pid_tables_rows.specs.Shows.{ShowsIn}
-use Rattle.pid_tables_rows.proofs.CauseLemmas.{passed_from, passed_on}
-use Rattle.pid_tables_rows.proofs.OnlyReading.{reads_then}
-use Rattle.pid_tables_check.proofs.Later.{untold_never}
-use Rattle.pid_tables_check.proofs.Complete.{complete, complete_first, each_some}
-use Rattle.pid_tables_check.specs.Shapes.{IsMadeFirst}
+use Rattle.pid_tables.specs.declared.rows.version.Version.TheVariants.{One}
+use Rattle.pid_tables.specs.Rows.Causes.{IsCaused, IsReadable}
+use Rattle.pid_tables.specs.Rows.Faults.{IsMemoryOrStore, IsNotNewerSchema}
+use Rattle.pid_tables.specs.Rows.LabelRows.{ExplainsNumber, HasLabel, IsDamageOf, LacksNumber, ShowsNoNumber, ShowsNumber}
+use Rattle.pid_tables.specs.Rows.Shows.{ShowsIn}
+use Rattle.pid_tables.proofs.OfRows.CauseLemmas.{passed_from, passed_on}
+use Rattle.pid_tables.proofs.OfRows.OnlyReading.{reads_then}
+use Rattle.pid_tables.proofs.OfCheck.Later.{untold_never}
+use Rattle.pid_tables.proofs.OfCheck.Complete.{complete, complete_first, each_some}
+use Rattle.pid_tables.specs.Check.Shapes.{IsMadeFirst}
 use Rattle.pid_tables.proofs.MoveLemmas.{known, not_ok, not_on_ok}
 use Rattle.pid_tables.proofs.SchemaNumbers.{bad_of, caused_all, good_of, number_told, untold_damage}
 use Rattle.pid_tables.proofs.StandLemmas.{exactly_first, meta_first}

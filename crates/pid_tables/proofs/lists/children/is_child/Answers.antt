@@ -1,0 +1,8 @@
+use Rattle.std.proofs.Common.{◌∙◌}
+use Rattle.std.proofs.lemmas.Map.Text.{is_eq-slice_cmp}
+use Rattle.pid_ident.specs.PathTexts.{path_text}
+use Rattle.pid_tables.proofs.OfLists.BelowLemmas.{parent_texts}
+use Rattle.pid_tables.proofs.lists.children.is_child.Goals as goal
+
+pub returns-in-Some : goal.returns-in-Some
+returns-in-Some c = rw (parent_texts c.args.item, ← c.parent.ensures.parent, c.in-Some.is) (c.eq.ensures ∙ is_eq-slice_cmp (path_text c.args.path) (path_text c.in-Some.parent))

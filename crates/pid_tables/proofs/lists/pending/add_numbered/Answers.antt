@@ -1,0 +1,22 @@
+use Rattle.std.proofs.Common.{◌++◌, None, Some, ap, map, sym, ◌∙◌, append-nil}
+use Rattle.sqlite.specs.Held.{state}
+use Rattle.pid_moderation.specs.PendingPages.{told_of}
+use Rattle.pid_moderation.specs.Submissions.{standing_of}
+use Rattle.pid_tables.proofs.OfLists.NumberLemmas.{by_number, kept_one}
+use Rattle.pid_tables.proofs.lists.pending.add_numbered.Goals as goal
+
+pub returns-in-None : goal.returns-in-None
+returns-in-None g c = record {
+  rests = c.in_ok-standing.ensures.rests;
+  told = λ clean v rest.
+      sym (append-nil (map told_of c.args.page.now.items))
+      ∙ ap (λ l. map told_of c.args.page.now.items ++ l) (by_number v c.args.number None (rw c.in-None.is at (c.in_ok-standing.ensures.told clean v rest)));
+}
+
+pub returns-in-Some : goal.returns-in-Some
+returns-in-Some g c = record {
+  rests = c.in_ok-standing.ensures.rests;
+  told = λ clean v rest.
+      kept_one told_of c.args.page.now.items c.put_last.new.list.items _ _ c.put_last.result (state g.S.Store c.args.conn.now) (state g.S.Store c.standing.new.conn) v
+      c.put_last.ensures.items c.put_last.ensures.full (by_number v c.args.number (Some (standing_of c.in-Some.submission)) (rw c.in-Some.is at (c.in_ok-standing.ensures.told clean v rest)));
+}

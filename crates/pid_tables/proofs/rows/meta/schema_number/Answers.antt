@@ -1,0 +1,17 @@
+use Rattle.std.proofs.Common.{codes, Ok, Err, Result, IfOk, IfErr, MatchResult}
+use Rattle.sqlite.specs.Held.{state}
+use Rattle.pid_tables.proofs.OfRows.LabelLemmas.{told_stored, refused_stored}
+use Rattle.pid_tables.proofs.rows.meta.schema_number.Goals as goal
+
+both : {X E : Type 0} (r : Result X E) (Good : X → Type 0) (Bad : E → Type 0) → IfOk r Good → IfErr r Bad → MatchResult r Good Bad
+both (Ok x) Good Bad good bad = good
+both (Err e) Good Bad good bad = bad
+
+pub returns-clause-shown : goal.returns-clause-shown
+returns-clause-shown g c clean = both c.count.result _ _ (c.count.ensures.shown clean) (c.count.ensures.refused clean)
+
+pub returns-clause-stored : goal.returns-clause-stored
+returns-clause-stored g c clean made =
+    let db = (state g.S.Store c.args.conn.now).now in
+    both c.count.result _ _ (told_stored db made (codes "schema") c.count.result (c.count.ensures.shown clean))
+    (refused_stored db made (codes "schema") c.count.result (c.count.ensures.refused clean))

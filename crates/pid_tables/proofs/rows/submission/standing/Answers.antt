@@ -1,0 +1,49 @@
+use Rattle.std.proofs.Common.{◌∙◌, ap, slice_get}
+use Rattle.sqlite.specs.Held.{state}
+use Rattle.pid_tables.specs.declared.rows.version.Version.TheVariants.{Two}
+use Rattle.pid_tables.specs.Rows.Causes.{IsCaused, IsReadable}
+use Rattle.pid_tables.specs.Rows.Schema.{pid_schema}
+use Rattle.pid_tables.proofs.OfRows.CauseLemmas.{passed_on}
+use Rattle.pid_moderation.specs.Submissions.{standing_in}
+use Rattle.pid_tables.specs.Rows.Answers.{standing_row}
+use Rattle.pid_tables.proofs.OfRows.DecodeLemmas.{no_row, standing_read}
+use Rattle.pid_tables.proofs.OfRows.FindLemmas.{standing_first}
+use Rattle.pid_tables.proofs.OfRows.QueryTexts.{submission_query}
+use Rattle.pid_tables.proofs.OfRows.ReadBack.{standing_written}
+use Rattle.pid_tables.proofs.OfRows.UnreadLemmas.{caused_unread}
+use Rattle.pid_tables.proofs.rows.submission.standing.Goals as goal
+
+pub returns-in-Some : goal.returns-in-Some
+returns-in-Some g c = record {
+  rests = c.in_ok-rows.ensures.rests;
+  told = λ clean v rest.
+      let found = standing_first g.S.Store c.args.conn.now v rest c.in_ok-rows.rows.items c.args.number (rw c.to_sql-number.ensures at (c.in_ok-rows.ensures.shown clean)) in
+      standing_read c.texts_have_one_path.ensures v c.args.number c.in-Some.row.now _ found.0 (c.in-Some.ensures.value ∙ ap (λ l. slice_get l 0) c.deref.ensures.value ∙ found.1) c.in_ok-submission_of-in-Some.ensures.read;
+}
+
+pub returns : goal.returns
+returns g c = record {
+  rests = c.in_ok-rows.ensures.rests;
+  told = λ clean v rest.
+      let found = standing_first g.S.Store c.args.conn.now v rest c.in_ok-rows.rows.items c.args.number (rw c.to_sql-number.ensures at (c.in_ok-rows.ensures.shown clean)) in
+      no_row standing_row (standing_in v c.args.number) (c.in-None.ensures.value ∙ ap (λ l. slice_get l 0) c.deref.ensures.value ∙ found.1);
+}
+
+pub returns-in_err-submission_of-in-Some : goal.returns-in_err-submission_of-in-Some
+returns-in_err-submission_of-in-Some g c = record {
+  rests = c.in_ok-rows.ensures.rests;
+  told = λ clean v rest.
+      let old = state g.S.Store c.args.conn.now in
+      let new = state g.S.Store c.read_rows.new.conn in
+      let found = standing_first g.S.Store c.args.conn.now v rest c.in_ok-rows.rows.items c.args.number (rw c.to_sql-number.ensures at (c.in_ok-rows.ensures.shown clean)) in
+      passed_on c.from_residual-in_err-submission_of-in-Some.result _ _ (λ fault. IsReadable v → IsCaused old new fault) c.from_residual-in_err-submission_of-in-Some.ensures.1
+      (λ readable. caused_unread old new c.in_err-submission_of-in-Some.field-0.0 (standing_written v c.args.number c.in-Some.row.now readable (c.in-Some.ensures.value ∙ ap (λ l. slice_get l 0) c.deref.ensures.value ∙ found.1)) c.in_err-submission_of-in-Some.ensures.unread);
+}
+
+pub returns-in_err-rows : goal.returns-in_err-rows
+returns-in_err-rows g c = record {
+  rests = c.in_err-rows.ensures.rests;
+  told = λ clean v rest.
+      passed_on c.from_residual.result _ _ (λ fault. IsReadable v → IsCaused (state g.S.Store c.args.conn.now) (state g.S.Store c.read_rows.new.conn) fault) c.from_residual.ensures.1
+      (λ readable. (rw c.to_sql-number.ensures at (c.in_err-rows.ensures.faults.caused clean pid_schema (λ opened. (rest.shows opened).schema))) (submission_query Two c.args.number));
+}

@@ -1,0 +1,21 @@
+//! Whether the tables of a registry keep the conditions that every history keeps.
+mod account;
+mod authors;
+mod checking;
+mod item;
+mod lacking;
+pub mod laws;
+mod meta;
+mod numbers;
+mod read;
+mod receipt;
+mod remark;
+mod shape;
+mod since;
+mod submission;
+mod tables;
+mod value;
+mod words;
+
+pub use checking::check;
+pub use shape::has_some_table;

@@ -1,0 +1,96 @@
+//! The check of all tables: first which are there, and then their rows.
+ghost use Rattle.std.specs.Prelude.{◌≡◌, false, None, Some, MatchResult};
+ghost use Rattle.pid_tables.specs.Rows.Faults.{IsMemoryOrStore};
+ghost use Rattle.pid_tables.specs.Rows.Clauses.{HasCleanDisk, OnlyReads, is_open, seen};
+ghost use Rattle.pid_tables.specs.Check.Checking.{Explains, FindsVersion, ShowsRegistry};
+ghost use Rattle.pid_tables.specs.Check.Steps.Clauses.{JudgesRows};
+ghost use Rattle.pid_tables.specs.Check.Steps.Labels.{ShowsLabels};
+ghost use Rattle.pid_tables.specs.Check.Steps.Reading.{TellsDamage};
+ghost use Rattle.pid_tables.specs.Check.Shapes.{HasEachTable, HasTables};
+
+use crate::check::lacking::check_lacking;
+use crate::check::meta::{Labels, are_labels, read_labels, revision_told};
+use crate::check::shape::{SIX, has_some_table, some_can, tables_of};
+use crate::check::tables::read_tables;
+use crate::rows::{TableFault, Version};
+use sqlite::{Alter, Connection};
+use std::alloc::Global;
+
+fn check_rows<S: Alter>(
+    conn: &mut Connection<S>,
+    alloc: Global,
+    version: Version,
+    labels: Labels,
+) -> Result<(), TableFault>
+    requires { conn.old.in_transaction ≡ false }
+    ensures rests { OnlyReads S.Store conn.old conn.new }
+    ensures told { JudgesRows S.Store conn.old conn.new result
+        (λ d. HasTables version d.schema × ShowsLabels d labels)
+        (λ d x. ShowsRegistry version d) (TellsDamage version) }
+{
+    let revision = revision_told(labels);
+    let judged = read_tables(conn, alloc, version, revision)?;
+    if !judged.good {
+        return Err(TableFault::Damaged);
+    }
+    if !are_labels(labels, version, judged.items, judged.submissions, revision) {
+        return Err(TableFault::Damaged);
+    }
+    Ok(())
+}
+
+// The schema of the tables, where each of the six is there.
+fn check_tables<S: Alter>(
+    conn: &mut Connection<S>,
+    alloc: Global,
+) -> Result<Option<Version>, TableFault>
+    requires { conn.old.in_transaction ≡ false }
+    ensures rests { OnlyReads S.Store conn.old conn.new }
+    ensures told { HasCleanDisk S.Store conn.new → HasEachTable (seen S.Store conn.old).schema
+        → MatchResult result (FindsVersion (seen S.Store conn.old))
+        (Explains (seen S.Store conn.old)) }
+{
+    let found = tables_of(conn)?;
+    let labels = read_labels(conn)?;
+    if let Some(number) = labels.later {
+        return Err(TableFault::NewerSchema(number));
+    }
+    let Some(version) = found else {
+        return Err(TableFault::Damaged);
+    };
+    check_rows(conn, alloc, version, labels)?;
+    Ok(found)
+}
+
+/// The schema of the tables, if they are those of some registry; `None` if there is no table.
+///
+/// It finds out which tables are there by preparing a query of each table's columns by their names.
+/// If none can be prepared, it answers `None`: there is nothing to be damaged. If some can, and not
+/// each of a schema, it answers `Damaged`, and so it does if a table `item_since` of any columns is
+/// there with the six of schema 1. It answers a schema only if all conditions of that schema hold
+/// of the rows that the queries answer, and `Damaged` only if one of them fails. A later schema is
+/// judged before either, whatever the tables: `NewerSchema` only if the labels have that greater
+/// number, and a schema or `Damaged` only if they have none. It answers `Memory` and `Store`
+/// otherwise, and changes nothing. Other tables, indexes and views are allowed.
+pub fn check<S: Alter>(
+    conn: &mut Connection<S>,
+    alloc: Global,
+) -> Result<Option<Version>, TableFault>
+    requires { conn.old.in_transaction ≡ false }
+    ensures rests { OnlyReads S.Store conn.old conn.new }
+    ensures shut { HasCleanDisk S.Store conn.new → is_open S.Store conn.old ≡ false
+        → MatchResult result (λ x. ⊥) IsMemoryOrStore }
+    // Whatever the schema: what it answers is so of the rows that the queries of the tables answer,
+    // and by `judgements_hold_of_storage` of those that storage has.
+    ensures told { HasCleanDisk S.Store conn.new
+        → MatchResult result (FindsVersion (seen S.Store conn.old))
+        (Explains (seen S.Store conn.old)) }
+{
+    if !some_can(conn, &SIX, false)? {
+        return check_tables(conn, alloc);
+    }
+    if has_some_table(conn)? {
+        return check_lacking(conn);
+    }
+    Ok(None)
+}

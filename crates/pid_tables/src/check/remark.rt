@@ -1,0 +1,123 @@
+//! Remarks: those on a submission count from 1, and none is empty.
+ghost use Rattle.std.specs.Prelude.{◌≡◌, ◌↔◌, ◌++◌, ◌∷◌, List, [], false, IsTrue, IfErr, OnOk};
+ghost use Rattle.sqlite.specs.Order.{Row as Values};
+ghost use Rattle.pid_tables.specs.Rows.Clauses.{OnlyReads};
+ghost use Rattle.pid_tables.specs.Check.Conditions.{AreRemarks};
+ghost use Rattle.pid_tables.specs.Check.Steps.Clauses.{KeepsTable};
+ghost use Rattle.pid_tables.specs.Check.Steps.Keeping.{IsPartJudged};
+ghost use Rattle.pid_tables.specs.declared.check.shape.Table.TheVariants as table;
+ghost use Rattle.pid_tables.specs.Check.Steps.PlaceSets.{
+  ArePlacesOf,
+  FollowEach,
+  FollowsPlace,
+  IsRemark,
+};
+ghost use Rattle.pid_tables.specs.Rows.Faults.{IsMemoryOrStore};
+
+use crate::check::read::{Keeper, keep_rows};
+use crate::check::shape::Table;
+use crate::check::value::{has_number, has_words, number_at};
+use crate::check::words::has_filled_text;
+use crate::rows::TableFault;
+use pid_moderation::REMARKS;
+use sqlite::{Alter, Connection, Row};
+use std::alloc::Global;
+use std::collections::BTreeSet;
+
+// Adds the place of a row.
+fn add_place(places: &mut BTreeSet<(u64, u64)>, row: &Row) -> Result<(), TableFault>
+    ensures added { (rows : List Values) → ArePlacesOf places.old rows
+        → OnOk result (ArePlacesOf places.new (rows ++ row.now ∷ [])) }
+    ensures untold { IfErr result IsMemoryOrStore }
+{
+    let Some(submission) = number_at(row, 0) else {
+        return Ok(());
+    };
+    let Some(place) = number_at(row, 1) else {
+        return Ok(());
+    };
+    match places.insert((submission, place)) {
+        Ok(_) => Ok(()),
+        Err(_) => Err(TableFault::Memory),
+    }
+}
+
+fn follows(places: &BTreeSet<(u64, u64)>, submission: u64, place: u64) -> bool
+    ensures { IsTrue result ↔ FollowsPlace places.now submission place }
+{
+    if place == 0 || place > REMARKS as u64 {
+        return false;
+    }
+    if place == 1 {
+        return true;
+    }
+    places.contains(&(submission, place - 1))
+}
+
+fn follow_each(places: &BTreeSet<(u64, u64)>) -> bool
+    ensures { IsTrue result ↔ FollowEach places.now }
+{
+    for place in places.iter() {
+        if !follows(places, place.0, place.1) {
+            return false;
+        }
+    }
+    true
+}
+
+// Whether a row is a remark's, whatever its place.
+#[tactic(auto, using(crate::proofs::OfCheck::RemarkFacts::num_of, crate::proofs::OfCheck::RemarkFacts::place_of, crate::proofs::OfCheck::RemarkFacts::author_of, crate::proofs::OfCheck::RemarkFacts::body_of))]
+fn is_remark_row(row: &Row) -> bool
+    ensures { IsTrue result ↔ IsRemark row.now }
+{
+    if row.column_count() != 4 {
+        return false;
+    }
+    if !has_number(row, 0) {
+        return false;
+    }
+    if !has_number(row, 1) {
+        return false;
+    }
+    if !has_words(row, 2) {
+        return false;
+    }
+    has_filled_text(row, 3)
+}
+
+// What judging the remarks takes of the rows so far: `good` says whether each alone is a remark's.
+#[derive(Drop)]
+struct RemarkKeeper {
+    good: bool,
+    places: BTreeSet<(u64, u64)>,
+}
+
+impl Keeper for RemarkKeeper {
+    ghost use Rattle.pid_tables.specs.Check.Steps.Keeping.{TakesRemarks};
+
+    ghost keeps = { λ first rows it. TakesRemarks rows it };
+
+    fn keep(&mut self, row: &Row) -> Result<(), TableFault> {
+        self.good &= is_remark_row(row);
+        add_place(&mut self.places, row)?;
+        Ok(())
+    }
+}
+
+/// Reads the remarks, and judges whether they are those of a registry.
+pub(crate) fn read_remarks<S: Alter>(
+    conn: &mut Connection<S>,
+    alloc: Global,
+) -> Result<bool, TableFault>
+    requires { conn.old.in_transaction ≡ false }
+    ensures rests { OnlyReads S.Store conn.old conn.new }
+    ensures keeps { KeepsTable S.Store conn.old conn.new result table.Remark
+        (IsPartJudged AreRemarks) }
+{
+    let mut keeper = RemarkKeeper {
+        good: true,
+        places: BTreeSet::new(alloc),
+    };
+    keep_rows(conn, Table::Remark, &mut keeper)?;
+    Ok(keeper.good & follow_each(&keeper.places))
+}

@@ -1,0 +1,178 @@
+//! Which tables of the schema a database has.
+ghost use Rattle.std.specs.Prelude.{
+  ◌≡◌,
+  ◌↔◌,
+  ◌<◌,
+  [],
+  length,
+  false,
+  true,
+  IsTrue,
+  IfOk,
+  IfErr,
+  OnOk,
+};
+ghost use Rattle.std.specs.List.{Any};
+ghost use Rattle.sqlite.specs.Held.{state};
+ghost use Rattle.pid_tables.specs.Rows.Faults.{fault_of_sql, IsMemoryOrStore};
+ghost use Rattle.pid_tables.specs.declared.rows.fault.TableFault.TheVariants.{Damaged};
+ghost use Rattle.pid_moderation.specs.Views.{Views};
+ghost use Rattle.pid_tables.specs.Rows.Queries.{IsQuery};
+ghost use Rattle.pid_tables.specs.Rows.Schema.{pid_schema};
+ghost use Rattle.pid_tables.specs.Check.Asking.{AsksTables};
+ghost use Rattle.pid_tables.specs.Check.Shapes.{CanBeAsked, HasEachTable};
+ghost use Rattle.pid_tables.specs.Check.Steps.Shapes.{HasTablesOf};
+ghost use Rattle.pid_tables.specs.Check.Queries.{query_of};
+ghost use Rattle.pid_tables.specs.Rows.Clauses.{
+  AtRest,
+  HasCleanDisk,
+  IsCaused,
+  OnlyReads,
+  Reads,
+  is_open,
+  seen,
+};
+
+use crate::rows::{TableFault, Version};
+use sqlite::{Alter, Connection, Error};
+
+// No text is refused as damage but one that is not understood.
+fn unasked(error: Error) -> Result<bool, TableFault>
+    ensures refused { IfOk result (λ asked. (asked ≡ false) × (fault_of_sql error ≡ Damaged)) }
+    ensures untold { IfErr result IsMemoryOrStore }
+    ensures told { IfErr result (λ fault. fault ≡ fault_of_sql error) }
+{
+    match TableFault::from(error) {
+        TableFault::Damaged => Ok(false),
+        fault => Err(fault),
+    }
+}
+
+/// Whether a query can be asked: whether its text is understood.
+pub(crate) fn can_ask<S: Alter>(conn: &mut Connection<S>, sql: &str) -> Result<bool, TableFault>
+    requires { conn.old.in_transaction ≡ false }
+    ensures rests { OnlyReads S.Store conn.old conn.new }
+    ensures same { HasCleanDisk S.Store conn.new
+        → IfOk result (λ asked. (seen S.Store conn.new) ≡ (seen S.Store conn.old)) }
+    ensures asked { HasCleanDisk S.Store conn.new
+        → IfOk result (λ asked. IsTrue asked ↔ CanBeAsked (seen S.Store conn.old).schema sql.now) }
+    ensures was_open { HasCleanDisk S.Store conn.new
+        → OnOk result (IsTrue (is_open S.Store conn.old)) }
+    ensures untold { IfErr result IsMemoryOrStore }
+    ensures caused { HasCleanDisk S.Store conn.new → (v : Views) → AtRest S.Store conn.old v
+        → IsQuery pid_schema sql.now [] → IfErr result (IsCaused S.Store conn.old conn.new) }
+{
+    match conn.prepare(sql).err() {
+        None => Ok(true),
+        Some(error) => unasked(error),
+    }
+}
+
+/// The tables of the schemas; the last is in schema 2 alone.
+#[derive(Clone, Copy)]
+pub(crate) enum Table {
+    Meta,
+    Account,
+    Item,
+    Submission,
+    Remark,
+    Receipt,
+    Since,
+}
+
+/// The tables that both schemas have.
+pub(crate) const SIX: [Table; 6] = [
+    Table::Meta,
+    Table::Account,
+    Table::Item,
+    Table::Submission,
+    Table::Remark,
+    Table::Receipt,
+];
+
+const SEVEN: [Table; 7] = [
+    Table::Meta,
+    Table::Account,
+    Table::Item,
+    Table::Submission,
+    Table::Remark,
+    Table::Receipt,
+    Table::Since,
+];
+
+// It asks for a table of this name, whatever its columns.
+const ANY_SINCE: &str = "SELECT count(*) FROM item_since";
+
+/// The query of a table: it asks for the columns by their names.
+pub(crate) fn query(table: Table) -> &'static str
+    ensures { result.now ≡ query_of table }
+{
+    match table {
+        Table::Meta => "SELECT label, value FROM meta",
+        Table::Account => "SELECT name, rank FROM account",
+        Table::Item => "SELECT path, name FROM item",
+        Table::Submission => {
+            "SELECT num, author, path, form, name, note, state, decider, reason FROM submission"
+        }
+        Table::Remark => "SELECT num, seq, author, body FROM remark",
+        Table::Receipt => "SELECT account, token, kind, a, b, c FROM receipt",
+        Table::Since => "SELECT path, since FROM item_since",
+    }
+}
+
+/// Whether the query of one of the tables can be asked; or, if `can` is false, cannot be.
+pub(crate) fn some_can<S: Alter>(
+    conn: &mut Connection<S>,
+    tables: &[Table],
+    can: bool,
+) -> Result<bool, TableFault>
+    requires { conn.old.in_transaction ≡ false }
+    ensures rests { OnlyReads S.Store conn.old conn.new }
+    ensures same { HasCleanDisk S.Store conn.new
+        → IfOk result (λ some. (seen S.Store conn.new) ≡ (seen S.Store conn.old)) }
+    ensures asked { HasCleanDisk S.Store conn.new
+        → IfOk result (λ some. IsTrue some
+        ↔ Any (λ t. IsTrue can ↔ CanBeAsked (seen S.Store conn.old).schema (query_of t))
+        tables.now) }
+    ensures was_open { HasCleanDisk S.Store conn.new → 0 < length tables.now
+        → OnOk result (IsTrue (is_open S.Store conn.old)) }
+    ensures untold { IfErr result IsMemoryOrStore }
+    ensures caused { HasCleanDisk S.Store conn.new → (v : Views) → AtRest S.Store conn.old v
+        → IfErr result (IsCaused S.Store conn.old conn.new) }
+{
+    for table in tables {
+        if can_ask(conn, query(*table))? == can {
+            return Ok(true);
+        }
+    }
+    Ok(false)
+}
+
+/// Whether some of the seven tables is there: whether a query of its columns by their names can be
+/// prepared. Nothing is said of its rows.
+pub fn has_some_table<S: Alter>(conn: &mut Connection<S>) -> Result<bool, TableFault>
+    requires { conn.old.in_transaction ≡ false }
+    ensures reads { Reads S.Store conn.old conn.new result (λ v some. some ≡ true) }
+    ensures found { AsksTables S.Store conn.old conn.new result }
+{
+    some_can(conn, &SEVEN, true)
+}
+
+/// Of which schema the tables are, if each of the six is there.
+pub(crate) fn tables_of<S: Alter>(conn: &mut Connection<S>) -> Result<Option<Version>, TableFault>
+    requires { conn.old.in_transaction ≡ false }
+    ensures rests { OnlyReads S.Store conn.old conn.new }
+    ensures same { HasCleanDisk S.Store conn.new
+        → IfOk result (λ found. (seen S.Store conn.new) ≡ (seen S.Store conn.old)) }
+    ensures found { HasCleanDisk S.Store conn.new → HasEachTable (seen S.Store conn.old).schema
+        → IfOk result (λ found. HasTablesOf found (seen S.Store conn.old).schema) }
+    ensures untold { IfErr result IsMemoryOrStore }
+{
+    if !can_ask(conn, ANY_SINCE)? {
+        return Ok(Some(Version::One));
+    }
+    if can_ask(conn, query(Table::Since))? {
+        return Ok(Some(Version::Two));
+    }
+    Ok(None)
+}

@@ -1,0 +1,120 @@
+//! Pages of pending submissions.
+ghost use Rattle.std.specs.Prelude.{
+  ◌≡◌,
+  ◌∷◌,
+  [],
+  ℕ,
+  List,
+  false,
+  length,
+  map,
+  MatchResult,
+};
+ghost use Rattle.std.specs.List.{AllByRecursion};
+ghost use Rattle.sqlite.specs.Held.{state};
+ghost use Rattle.pid_moderation.specs.Views.{Views};
+ghost use Rattle.pid_tables.specs.Rows.Unread.{IsUnreadable};
+ghost use Rattle.pid_moderation.specs.Submissions.{Standing};
+ghost use Rattle.pid_moderation.specs.PendingPages.{pending_in, told_of, waiting_above};
+ghost use Rattle.pid_tables.specs.Lists.ByNumber.{standings_at};
+ghost use Rattle.pid_tables.specs.Lists.Pages.{most_listed};
+ghost use Rattle.pid_tables.specs.Lists.Steps.Adding.{Adds};
+ghost use Rattle.pid_tables.specs.Lists.Steps.PendingRows.{
+  ArePendingIn,
+  IsPendingIn,
+  IsReadablePending,
+};
+ghost use Rattle.pid_tables.specs.Rows.Clauses.{Reads};
+
+use crate::lists::adding::put_last;
+use crate::rows::TableFault;
+use crate::rows::run::read_rows;
+use crate::rows::submission::{standing, submission_of};
+use crate::rows::value::number_at;
+use pid_moderation::{PAGE, Pending};
+use sqlite::types::ToSql;
+use sqlite::{Alter, Connection, Row};
+use std::alloc::Global;
+
+fn add_pending(page: &mut Vec<Pending>, row: &Row, alloc: Global) -> Result<(), TableFault>
+    ensures { (v : Views) (s : ℕ × Standing) → IsPendingIn v s row.now → MatchResult result
+        (λ _. Adds told_of page.old.items page.new.items (s ∷ []))
+        (IsUnreadable (IsReadablePending s)) }
+{
+    pid_ident::laws::texts_have_one_path(); // proof only
+    let number = number_at(row, 8)?;
+    let submission = submission_of(row, alloc)?;
+    put_last(page, Pending { number, submission })
+}
+
+fn page_of(rows: &[Row], alloc: Global) -> Result<Vec<Pending>, TableFault>
+    ensures { (v : Views) (all : List (ℕ × Standing)) → ArePendingIn v all rows.now
+        → MatchResult result (λ page. map told_of page.items ≡ all)
+        (IsUnreadable (AllByRecursion IsReadablePending all)) }
+{
+    let mut page = Vec::new(alloc);
+    for row in rows {
+        add_pending(&mut page, row, alloc)?;
+    }
+    Ok(page)
+}
+
+/// The first pending submissions whose numbers are above a number, at most a page of them. Decided
+/// ones are passed over, row by row.
+pub fn pending_page<S: Alter>(
+    conn: &mut Connection<S>,
+    alloc: Global,
+    after: u32,
+) -> Result<Vec<Pending>, TableFault>
+    requires { conn.old.in_transaction ≡ false }
+    ensures page { Reads S.Store conn.old conn.new result
+        (λ v page. map told_of page.items ≡ pending_in PAGE after v) }
+    // As many as there are, while a page holds them: one that is not full is the last.
+    ensures most_listed { Reads S.Store conn.old conn.new result
+        (λ v page. length page.items ≡ most_listed (length (waiting_above after v))) }
+{
+    let after = after.to_sql();
+    let rows = read_rows(
+        conn,
+        "SELECT author, path, form, name, note, state, decider, reason, num FROM submission \
+            WHERE state = 0 AND num > ?1 ORDER BY num LIMIT 100",
+        &[after],
+    )?;
+    page_of(rows.as_slice(), alloc)
+}
+
+// Adds the submission with a number, as a pending one; nothing if there is none.
+fn add_numbered<S: Alter>(
+    page: &mut Vec<Pending>,
+    conn: &mut Connection<S>,
+    alloc: Global,
+    number: u32,
+) -> Result<(), TableFault>
+    requires { conn.old.in_transaction ≡ false }
+    ensures { Reads S.Store conn.old conn.new result
+        (λ v _. Adds told_of page.old.items page.new.items (standings_at (number ∷ []) v)) }
+{
+    match standing(conn, alloc, number)? {
+        None => Ok(()),
+        Some(submission) => put_last(page, Pending { number, submission }),
+    }
+}
+
+/// The submissions with these numbers, in the order of the numbers, for a caller that knows which
+/// are pending: one that was decided is listed too. A number that no submission has is passed over.
+/// Each is read by its key.
+pub fn pending_at<S: Alter>(
+    conn: &mut Connection<S>,
+    alloc: Global,
+    numbers: &[u32],
+) -> Result<Vec<Pending>, TableFault>
+    requires { conn.old.in_transaction ≡ false }
+    ensures { Reads S.Store conn.old conn.new result
+        (λ v page. map told_of page.items ≡ standings_at numbers.now v) }
+{
+    let mut page = Vec::new(alloc);
+    for number in numbers {
+        add_numbered(&mut page, conn, alloc, *number)?;
+    }
+    Ok(page)
+}

@@ -1,0 +1,88 @@
+//! All items, one at a time.
+ghost use Rattle.std.specs.Prelude.{◌≡◌, false, IfErr};
+ghost use Rattle.pid_reader.specs.LookingBack.{Item};
+ghost use Rattle.pid_reader.specs.Numbered.{Numbered};
+ghost use Rattle.pid_tables.specs.Rows.Steps.Answers.{item_shown};
+ghost use Rattle.pid_tables.specs.Rows.Causes.{IsReadable};
+ghost use Rattle.pid_tables.specs.Rows.Faults.{fault_of_sql};
+ghost use Rattle.pid_tables.specs.Rows.Unread.{ReadsAsItem};
+ghost use Rattle.pid_tables.specs.Lists.EachItem.{Walks, WalksSome, placed_from};
+ghost use Rattle.pid_tables.specs.Lists.Steps.EachItem.{TakesOne, IsUnreadEnd};
+ghost use Rattle.pid_tables.specs.declared.lists.walk.EachEnd.TheVariants as ends;
+ghost use Rattle.pid_tables.specs.Rows.Clauses.{OnlyReads};
+ghost use Rattle.pid_tables.specs.Lists.Clauses.{IsCausedEnd, OverViews};
+
+use crate::rows::TableFault;
+use crate::rows::value::{path_at, text_at};
+use pid_ident::is_name;
+use pid_reader::{Entry, Sink};
+use sqlite::{Alter, Connection, Error as SqlError, Row};
+use thiserror::Error;
+
+/// Why a walk over the items ended early: the tables faulted, or the sink.
+#[derive(Debug, Drop, Error)]
+pub enum EachEnd<F> {
+    #[error("{0}")]
+    Tables(TableFault),
+    #[error("the sink faulted")]
+    Fault(F),
+}
+
+impl<F> From<TableFault> for EachEnd<F> {
+    ghost from_gives = { λ fault end. end ≡ ends.Tables fault };
+
+    fn from(fault: TableFault) -> EachEnd<F> {
+        EachEnd::Tables(fault)
+    }
+}
+
+impl<F> From<SqlError> for EachEnd<F> {
+    ghost from_gives = { λ e end. end ≡ ends.Tables (fault_of_sql e) };
+
+    fn from(error: SqlError) -> EachEnd<F> {
+        EachEnd::Tables(TableFault::from(error))
+    }
+}
+
+// Hands the item of a row to the sink.
+fn hand_on<K: Sink>(row: &Row, line: usize, sink: &mut K) -> Result<(), EachEnd<K::Fault>>
+    ensures takes { (item : Item) → row.now ≡ item_shown item
+        → TakesOne K.takes K.faults result (line, item) sink.old sink.new }
+    ensures some { (item : Numbered) × TakesOne K.takes K.faults result item sink.old sink.new }
+    ensures unread { IfErr result (IsUnreadEnd (ReadsAsItem row.now)) }
+{
+    let path = path_at(row, 0)?;
+    let name = text_at(row, 1)?;
+    if !is_name(name) {
+        return Err(EachEnd::Tables(TableFault::Damaged));
+    }
+    match sink.entry(&Entry { line, path, name }) {
+        Ok(()) => Ok(()),
+        Err(fault) => Err(EachEnd::Fault(fault)),
+    }
+}
+
+/// Hands all items to a sink, in the canonical order, one at a time: no list of them is made. The
+/// line of an entry is its place among them, counted from 1. If it ends early, the sink keeps
+/// what it took until then.
+pub fn each_item<S: Alter, K: Sink>(
+    conn: &mut Connection<S>,
+    sink: &mut K,
+) -> Result<(), EachEnd<K::Fault>>
+    requires { conn.old.in_transaction ≡ false }
+    ensures rests { OnlyReads S.Store conn.old conn.new }
+    ensures told { OverViews S.Store conn.old conn.new
+        (λ v. Walks K.takes K.faults result (placed_from 1 v.items) sink.old sink.new) }
+    ensures some { WalksSome K.takes K.faults result sink.old sink.new }
+    ensures caused { OverViews S.Store conn.old conn.new
+        (λ v. IsReadable v → IfErr result (IsCausedEnd S.Store conn.old conn.new)) }
+{
+    let mut rows = conn.query("SELECT path, name FROM item ORDER BY path", &[])?;
+    'rows: for at in 0..usize::MAX {
+        let Some(row) = rows.next()? else {
+            return Ok(());
+        };
+        hand_on(row, at + 1, sink)?;
+    }
+    Err(EachEnd::Tables(TableFault::Damaged))
+}

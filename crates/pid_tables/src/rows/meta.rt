@@ -1,0 +1,202 @@
+//! The table of counts and of the revision.
+ghost use Rattle.std.specs.Prelude.{
+  ◌≡◌,
+  false,
+  Some,
+  IsSome,
+  IfOk,
+  IfErr,
+  MatchResult,
+  Ok,
+  codes,
+  length,
+  option_map,
+  slice_get,
+};
+ghost use Rattle.sqlite.specs.Listing.{understood};
+ghost use Rattle.sqlite_resolve.specs.declared.compiled.Compiled.{Compiled};
+ghost use Rattle.pid_tables.specs.Rows.Steps.Answers.{value_row};
+ghost use Rattle.pid_tables.specs.Rows.Faults.{IsMemoryOrStore, IsNotNewerSchema};
+ghost use Rattle.pid_tables.specs.Rows.LabelRows.{
+  ExplainsNumber,
+  HasLabel,
+  IsDamageOf,
+  IsMetaFirst,
+  ShowsNoNumber,
+  ShowsNumber,
+  ShowsValues,
+  value_text,
+};
+ghost use Rattle.pid_tables.specs.declared.rows.version.Version.TheVariants.{One};
+ghost use Rattle.pid_tables.specs.Rows.Shows.{Counts, labels_of, counts_of};
+ghost use Rattle.pid_tables.specs.Rows.Steps.Shows.{meta_of};
+ghost use Rattle.pid_tables.specs.Rows.Leaves.{recounting};
+ghost use Rattle.pid_tables.specs.Rows.Writes.{with_revision};
+ghost use Rattle.pid_tables.specs.Rows.Clauses.{
+  ChangesTo,
+  GoesOn,
+  HasCleanDisk,
+  LeadsTo,
+  OnlyReads,
+  Reads,
+  Tells,
+  seen,
+};
+
+use crate::rows::fault::TableFault;
+use crate::rows::run::{read_inside, read_rows, write_one};
+use crate::rows::value::{number_at, stored, whole_at};
+use sqlite::types::ToSql;
+use sqlite::{Alter, Connection, Row, Transaction};
+
+/// Writes how many items there are into the table of counts. It does not count them.
+pub fn count_items<S: Alter>(tx: &mut Transaction<'_, S>, count: u32) -> Result<(), TableFault>
+    ensures same_reference { tx.new.conn.ghost_name ≡ tx.old.conn.ghost_name }
+    ensures goes { GoesOn S.Store tx.old.conn.now tx.new.conn.now result }
+    ensures shows { LeadsTo S.Store tx.old.conn.now tx.new.conn.now result
+        (recounting (λ c. record c { items = count })) }
+{
+    let label = "items".to_sql();
+    let value = count.to_sql();
+    write_one(
+        tx,
+        "UPDATE meta SET value = ?2 WHERE label = ?1",
+        &[label, value],
+    )
+}
+
+/// Writes how many submissions there are into the table of counts. It does not count them.
+pub fn count_submissions<S: Alter>(
+    tx: &mut Transaction<'_, S>,
+    count: u32,
+) -> Result<(), TableFault>
+    ensures same_reference { tx.new.conn.ghost_name ≡ tx.old.conn.ghost_name }
+    ensures goes { GoesOn S.Store tx.old.conn.now tx.new.conn.now result }
+    ensures shows { LeadsTo S.Store tx.old.conn.now tx.new.conn.now result
+        (recounting (λ c. record c { submissions = count })) }
+{
+    let label = "submissions".to_sql();
+    let value = count.to_sql();
+    write_one(
+        tx,
+        "UPDATE meta SET value = ?2 WHERE label = ?1",
+        &[label, value],
+    )
+}
+
+/// Writes how many commands were accepted. A number that 63 bits do not hold is refused with
+/// `Store`.
+pub fn set_revision<S: Alter>(tx: &mut Transaction<'_, S>, revision: u64) -> Result<(), TableFault>
+    ensures same_reference { tx.new.conn.ghost_name ≡ tx.old.conn.ghost_name }
+    ensures goes { GoesOn S.Store tx.old.conn.now tx.new.conn.now result }
+    ensures shows { ChangesTo S.Store tx.old.conn.now tx.new.conn.now result (λ v. Unit {0})
+        (with_revision revision) }
+{
+    let label = "revision".to_sql();
+    let value = stored(revision)?;
+    write_one(
+        tx,
+        "UPDATE meta SET value = ?2 WHERE label = ?1",
+        &[label, value],
+    )
+}
+
+/// Reads one row and drops it: an answer of `Ok` means that the connection is open and the
+/// transaction goes on.
+pub fn touch<S: Alter>(tx: &mut Transaction<'_, S>) -> Result<(), TableFault>
+    ensures same_reference { tx.new.conn.ghost_name ≡ tx.old.conn.ghost_name }
+    ensures goes { GoesOn S.Store tx.old.conn.now tx.new.conn.now result }
+    ensures shows { ChangesTo S.Store tx.old.conn.now tx.new.conn.now result (λ v. Unit {0})
+        (λ v. v) }
+{
+    let label = "schema".to_sql();
+    read_inside(tx, "SELECT value FROM meta WHERE label = ?1", &[label])?;
+    Ok(())
+}
+
+fn value_rows<S: Alter>(conn: &mut Connection<S>, label: &str) -> Result<Vec<Row>, TableFault>
+    requires { conn.old.in_transaction ≡ false }
+    ensures reads { Reads S.Store conn.old conn.new result
+        (λ v rows. slice_get rows.items 0
+        ≡ option_map value_row (meta_of (counts_of v) v.revision label.now)) }
+    ensures shows { HasCleanDisk S.Store conn.new
+        → IfOk result (λ rows. ShowsValues (seen S.Store conn.old) label.now rows.items) }
+    ensures untold { HasCleanDisk S.Store conn.new → (query : Compiled)
+        → understood (seen S.Store conn.old).schema value_text ≡ Ok query
+        → IfErr result IsMemoryOrStore }
+    ensures never { IfErr result IsNotNewerSchema }
+{
+    let label = label.to_sql();
+    read_rows(conn, "SELECT value FROM meta WHERE label = ?1", &[label])
+}
+
+// The number of one of the three labels that both schemas have.
+fn count<S: Alter>(conn: &mut Connection<S>, label: &str) -> Result<u32, TableFault>
+    requires { conn.old.in_transaction ≡ false }
+    ensures rests { OnlyReads S.Store conn.old conn.new }
+    ensures found { ((c : Counts) → IsSome (labels_of One c 0 label.now))
+        → Tells S.Store conn.old conn.new result
+        (λ v n. Some n ≡ meta_of (counts_of v) v.revision label.now) }
+    ensures shown { HasCleanDisk S.Store conn.new
+        → IfOk result (ShowsNumber (seen S.Store conn.old) label.now) }
+    ensures refused { HasCleanDisk S.Store conn.new
+        → IfErr result (IsDamageOf (ShowsNoNumber (seen S.Store conn.old) label.now)) }
+    ensures never { IfErr result IsNotNewerSchema }
+{
+    let rows = value_rows(conn, label)?;
+    match rows.first() {
+        Some(row) => number_at(row, 0),
+        None => Err(TableFault::Damaged),
+    }
+}
+
+/// How many items there are, by the table of counts. A count that is missing, or that 32 bits do
+/// not hold, is `Damaged`.
+pub fn items<S: Alter>(conn: &mut Connection<S>) -> Result<u32, TableFault>
+    requires { conn.old.in_transaction ≡ false }
+    ensures { Reads S.Store conn.old conn.new result (λ v n. n ≡ length v.items) }
+{
+    count(conn, "items")
+}
+
+/// How many submissions there are, by the table of counts. A count that is missing, or that 32 bits
+/// do not hold, is `Damaged`.
+pub fn submissions<S: Alter>(conn: &mut Connection<S>) -> Result<u32, TableFault>
+    requires { conn.old.in_transaction ≡ false }
+    ensures { Reads S.Store conn.old conn.new result (λ v n. n ≡ length v.submits) }
+{
+    count(conn, "submissions")
+}
+
+/// How many commands were accepted, by the table of counts. A number that is missing, or that is no
+/// whole number, is `Damaged`.
+pub fn revision<S: Alter>(conn: &mut Connection<S>) -> Result<u64, TableFault>
+    requires { conn.old.in_transaction ≡ false }
+    ensures { Reads S.Store conn.old conn.new result (λ v n. n ≡ v.revision) }
+{
+    let rows = value_rows(conn, "revision")?;
+    match rows.first() {
+        Some(row) => whole_at(row, 0),
+        None => Err(TableFault::Damaged),
+    }
+}
+
+/// The number of the schema, by the table of counts: 1 or 2 in tables that this program made,
+/// another in those of a later one. A number that is missing, or that 32 bits do not hold, is
+/// `Damaged`.
+pub fn schema_number<S: Alter>(conn: &mut Connection<S>) -> Result<u32, TableFault>
+    requires { conn.old.in_transaction ≡ false }
+    ensures reads { Reads S.Store conn.old conn.new result (λ v n. n ≡ 2) }
+    // Whatever the schema: it is what the query of the label answers first, and `Damaged` if
+    // that is no number.
+    ensures shown { HasCleanDisk S.Store conn.new
+        → MatchResult result (ShowsNumber (seen S.Store conn.old) (codes "schema"))
+        (IsDamageOf (ShowsNoNumber (seen S.Store conn.old) (codes "schema"))) }
+    // The same by what storage has, if the table was made first, whatever comes after it.
+    ensures stored { HasCleanDisk S.Store conn.new → IsMetaFirst (seen S.Store conn.old).schema
+        → MatchResult result (HasLabel (seen S.Store conn.old).trees (codes "schema"))
+        (ExplainsNumber (seen S.Store conn.old).trees (codes "schema")) }
+    ensures never { IfErr result IsNotNewerSchema }
+{
+    count(conn, "schema")
+}

@@ -1,0 +1,88 @@
+//! The table of receipts: replies kept under accounts and keys.
+ghost use Rattle.std.specs.Prelude.{◌≡◌, false, None};
+ghost use Rattle.pid_tables.specs.Rows.TableRows.{
+  first_number,
+  reply_kind,
+  second_number,
+  third_number,
+};
+ghost use Rattle.pid_tables.specs.Rows.Writes.{with_reply};
+ghost use Rattle.pid_tables.specs.Rows.Clauses.{ChangesTo, GoesOn, Reads};
+
+use crate::rows::fault::TableFault;
+use crate::rows::run::{read_rows, write_one};
+use crate::rows::value::reply_at;
+use pid_ident::{Account, Key};
+use pid_moderation::Reply;
+use sqlite::types::ToSql;
+use sqlite::{Alter, Connection, Transaction};
+
+// The kind of a reply and its numbers, 0 where it has none.
+fn numbers(reply: Reply) -> (u32, u32, u32, u32)
+    ensures kind { result.0 ≡ reply_kind reply }
+    ensures first { result.1 ≡ first_number reply }
+    ensures second { result.2 ≡ second_number reply }
+    ensures third { result.3 ≡ third_number reply }
+{
+    match reply {
+        Reply::Done => (0, 0, 0, 0),
+        Reply::Numbered(number) => (1, number, 0, 0),
+        Reply::Counts {
+            added,
+            renamed,
+            same,
+        } => (2, added, renamed, same),
+    }
+}
+
+/// Keeps a reply under an account and a key that have none yet. One that is kept already is refused
+/// with `Store`, and so is an account that is not there.
+pub fn keep_reply<S: Alter>(
+    tx: &mut Transaction<'_, S>,
+    account: &Account,
+    key: &Key,
+    reply: Reply,
+) -> Result<(), TableFault>
+    ensures same_reference { tx.new.conn.ghost_name ≡ tx.old.conn.ghost_name }
+    ensures goes { GoesOn S.Store tx.old.conn.now tx.new.conn.now result }
+    ensures shows { ChangesTo S.Store tx.old.conn.now tx.new.conn.now result
+        (λ v. v.kept account.now key.now ≡ None)
+        (with_reply account.now key.now reply) }
+{
+    let account = account.as_str().to_sql();
+    let key = key.as_str().to_sql();
+    let (kind, first, second, third) = numbers(reply);
+    let kind = kind.to_sql();
+    let first = first.to_sql();
+    let second = second.to_sql();
+    let third = third.to_sql();
+    write_one(
+        tx,
+        "INSERT INTO receipt (account, token, kind, a, b, c) VALUES (?1, ?2, ?3, ?4, ?5, ?6)",
+        &[account, key, kind, first, second, third],
+    )
+}
+
+/// The reply that is kept under an account and a key, or none if there is none. Numbers that
+/// are no reply's are `Damaged`.
+pub fn kept_reply<S: Alter>(
+    conn: &mut Connection<S>,
+    account: &str,
+    key: &str,
+) -> Result<Option<Reply>, TableFault>
+    requires { conn.old.in_transaction ≡ false }
+    ensures { Reads S.Store conn.old conn.new result
+        (λ v reply. reply ≡ v.kept account.now key.now) }
+{
+    let account = account.to_sql();
+    let key = key.to_sql();
+    let rows = read_rows(
+        conn,
+        "SELECT kind, a, b, c FROM receipt WHERE account = ?1 AND token = ?2",
+        &[account, key],
+    )?;
+    match rows.first() {
+        Some(row) => Ok(Some(reply_at(row)?)),
+        None => Ok(None),
+    }
+}

@@ -1,5 +1,0 @@
-use Rattle.pid_tables_check.proofs.AuthorFacts.{authors_none}
-use Rattle.pid_tables_check.proofs.authors.no_authors.Goals as goal
-
-pub returns : goal.returns
-returns c = authors_none _ c.new.ensures.empty c.new-2.ensures.items c.new-3.ensures.empty

@@ -1,7 +1,0 @@
-use Rattle.pid_ident.specs.PathTexts.{IsPath, path_cmp}
-use Rattle.pid_tables_check.specs.Steps.PathSets.{HasParent}
-use Rattle.pid_tables_check.proofs.KeyWalk.{HasWalked}
-use Rattle.pid_tables_check.proofs.item.hold_parents.Given as goal
-
-abbrev pub invariant-loop-path : goal.invariant-loop-path
-invariant-loop-path l = HasWalked path_cmp (λ p. IsPath p → HasParent l.paths p) l.paths l.path-iterator

@@ -1,5 +1,0 @@
-use Rattle.pid_tables_check.proofs.NumberFacts.{AreThere}
-use Rattle.pid_tables_check.proofs.numbers.count_from_one.Given as goal
-
-abbrev pub invariant-loop-at : goal.invariant-loop-at
-invariant-loop-at l = AreThere l.numbers l.at

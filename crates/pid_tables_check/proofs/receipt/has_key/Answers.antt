@@ -1,6 +1,0 @@
-use Rattle.std.proofs.lemmas.Bool.{false≢true}
-use Rattle.pid_tables_check.proofs.WordTexts.{key_utf8}
-use Rattle.pid_tables_check.proofs.receipt.has_key.Goals as goal
-
-pub returns-in-None : goal.returns-in-None
-returns-in-None c = (λ no. absurd (false≢true no), λ it. absurd (c.in-None.ensures.none it.0 it.1 (key_utf8 it.0 it.2)))

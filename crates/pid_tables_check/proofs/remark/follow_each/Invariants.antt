@@ -1,7 +1,0 @@
-use Rattle.std.proofs.Common.{ℕ}
-use Rattle.pid_tables_check.specs.Steps.PlaceSets.{pair_cmp, FollowsPlace}
-use Rattle.pid_tables_check.proofs.KeyWalk.{HasWalked}
-use Rattle.pid_tables_check.proofs.remark.follow_each.Given as goal
-
-abbrev pub invariant-loop-place : goal.invariant-loop-place
-invariant-loop-place l = HasWalked pair_cmp (λ (at : ℕ × ℕ). FollowsPlace l.places at.0 at.1) l.places l.place-iterator

@@ -1,8 +1,0 @@
-use Rattle.std.proofs.Common.{◌≡◌, List, map, take}
-use Rattle.pid_moderation.specs.Views.{Remark}
-use Rattle.pid_tables_rows.specs.Steps.Answers.{remark_shown}
-use Rattle.pid_moderation.specs.Submissions.{remark_of}
-use Rattle.pid_tables_lists.proofs.submission.comments_of.Given as goal
-
-abbrev pub invariant-loop-row : goal.invariant-loop-row
-invariant-loop-row l = (remarks : List Remark) → l.rows ≡ map remark_shown remarks → map remark_of l.comments.items ≡ take l.row-index remarks
