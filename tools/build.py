@@ -5,11 +5,10 @@
 
 Each crate is proved from nothing. Of a library, `rattle build --statements` then writes what the
 crates above it can cite, without the proofs, so that they have less to load than of a library that
-`rt lib` builds. A prover with N jobs is N copies of one process, of which each costs some seconds
-of a processor. So as many crates as there are processors are built side by side with one job each.
-Those for which the longest chain of crates waits begin first, and the others give way to them. One
-of these has half of the processors if they would be idle otherwise. A program has one job, since it
-has few functions of its own, unless its crates are built in turn: then each has all processors.
+`rt lib` builds. As many crates as there are processors are built side by side; those for which the
+longest chain of crates waits begin first, and the others give way to them. Each has one job: a
+prover with N jobs makes a copy of itself for each module, which costs more of a processor than it
+saves of time. Where no crate can be built beside another, each has all processors.
 Prints `crate NAME: proved, N s` when a crate is built; what `rattle` prints goes to standard error
 if it fails.
 """
@@ -169,8 +168,7 @@ class Build:
                     if not self.leads(crate):
                         self.beside.add(crate)
                     self.begun.add(crate)
-                    parts = (crate, self.jobs(crate))
-                    threads.append(threading.Thread(target=self.build, args=parts))
+                    threads.append(threading.Thread(target=self.build, args=(crate,)))
                     threads[-1].start()
                 self.changed.wait(timeout=1)
         for thread in threads:
@@ -182,21 +180,11 @@ class Build:
         first = max((it for it in self.crates if it not in self.built), key=self.chain)
         return self.above[crate] == self.above[first]
 
-    def jobs(self, crate):
-        """Returns how many jobs a crate has that begins now."""
-        if self.in_turn:
-            return self.processors
-        half = max(1, self.processors // 2)
-        are_idle = not self.ready() and len(self.begun - self.built) <= half
-        if are_idle and self.leads(crate) and not self.toolchain.is_program(crate):
-            return half
-        return 1
-
-    def build(self, crate, jobs):
+    def build(self, crate):
         """Builds one crate, and lets those above it begin."""
         succeeded, began = False, time.monotonic()
         try:
-            succeeded = self.is_built(crate) or self.prove(crate, jobs)
+            succeeded = self.is_built(crate) or self.prove(crate)
         finally:
             with self.changed:
                 self.beside.discard(crate)
@@ -219,10 +207,10 @@ class Build:
             return False
         return is_same and ages[0] == max(ages)
 
-    def prove(self, crate, jobs):
+    def prove(self, crate):
         """Proves and builds a crate. Returns whether that succeeded."""
         place, toolchain = Toolchain.place(crate), self.toolchain
-        command = toolchain.build(crate, jobs)
+        command = toolchain.build(crate, self.processors if self.in_turn else 1)
         if toolchain.is_program(crate):
             os.makedirs(os.path.dirname(place), exist_ok=True)
             return self.call(crate, command) and self.call(crate, toolchain.link(crate))
