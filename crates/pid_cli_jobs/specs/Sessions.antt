@@ -1,5 +1,6 @@
 -- A session: a registry from the opening of a connection to its end. Choices of this project.
-use Rattle.std.specs.Prelude.{◌≡◌, if◌then◌else◌, List, Option, Some, None, Ok, Err}
+use Rattle.std.specs.Prelude.{◌≡◌, true, false, if◌then◌else◌, List, Option, Some, None}
+use Rattle.std.specs.Prelude.{Result, Ok, Err}
 use Rattle.sqlite.specs.Held.{Held}
 use Rattle.sqlite_trees.specs.declared.store.Store.{Ghosts}
 use Rattle.pid_file.specs.declared.io.Output as outputs
@@ -8,10 +9,13 @@ use Rattle.pid_service_laws.specs.Calls.{Call}
 use Rattle.pid_service_laws.specs.Registries.{CallsLead}
 use Rattle.pid_service.specs.declared.registry.Registry.{Registry}
 use Rattle.pid_service.specs.Lives.{showing}
-use Rattle.pid_service.specs.Opening.{MovesTo, OpensTo}
+use Rattle.pid_service.specs.Opening.{ExplainsOpening, OpensAtOnce, OpensRegistry, OpensTo}
+use Rattle.pid_service.specs.Opening.{connection_left, opening_end}
+use Rattle.pid_service.specs.Opening.{MovesAtOnce, MovesJudged, MovesShown, MovesTo}
 use Rattle.pid_service.specs.Registries.{connection, is_live}
 use Rattle.pid_tables.specs.declared.migration.Step.{Step}
 use Rattle.pid_tables.specs.declared.rows.fault.TableFault.{TableFault}
+use Rattle.pid_tables.specs.declared.rows.fault.TableFault.TheVariants.{Store}
 use Rattle.pid_cli_jobs.specs.declared.job_end.JobEnd.TheVariants.{Told}
 use Rattle.pid_cli_jobs.specs.Jobs.{DoesWork, Work}
 use Rattle.pid_cli_jobs.specs.Lines.{PrintsLine, step_line, unopened_line}
@@ -33,12 +37,33 @@ module _ {S : Type 0} (store : Ghosts S) where
   abbrev pub handed_back : Registry S store → Option (Held S)
   handed_back r = if is_live r then Some (connection r) else None
 
+  -- What `open` answered and left, whatever is in the file: a connection is opened once, as it was
+  -- handed over.
+  pub record IsOpening (conn : Held S) (result : Result (Registry S store)
+      (TableFault × Held S)) : Type 0 where
+    pub history : OpensTo store conn result
+    pub busy : conn.in_transaction ≡ true → result ≡ Err (Store, conn)
+    pub registry : conn.in_transaction ≡ false → OpensRegistry store conn result
+    pub at_once : conn.in_transaction ≡ false
+        → OpensAtOnce store conn (connection_left store result) (opening_end store result)
+    pub explains : conn.in_transaction ≡ false
+        → ExplainsOpening store conn (connection_left store result) (opening_end store result)
+
+  -- What `migrate` answered and left, so.
+  pub record IsMigration (conn : Held S) (result : Result (Held S × Step) (TableFault × Held S))
+      : Type 0 where
+    pub history : MovesTo store conn result
+    pub busy : conn.in_transaction ≡ true → result ≡ Err (Store, conn)
+    pub at_once : conn.in_transaction ≡ false → MovesAtOnce store conn result
+    pub shown : conn.in_transaction ≡ false → MovesShown store conn result
+    pub judged : conn.in_transaction ≡ false → MovesJudged store conn result
+
   -- No registry was opened, and nothing came back.
   pub record IsUnopened {R W : Type 0} (conn : Held S) (w : Wrote R W) (back : Option (Held S))
       : Type 0 where
     pub fault : TableFault
     pub left : Held S
-    pub opens : OpensTo store conn (Err (fault, left))
+    pub opens : IsOpening conn (Err (fault, left))
     pub tells : TellsUnopened fault w
     pub unasked : AsksNothing w
     pub hands : back ≡ None
@@ -48,7 +73,7 @@ module _ {S : Type 0} (store : Ghosts S) where
       (back : Option (Held S)) : Type 0 where
     pub step : Step
     pub moved : Held S
-    pub moves : MovesTo store conn (Ok (moved, step))
+    pub moves : IsMigration conn (Ok (moved, step))
     -- no limit of steps was set
     pub limit : moved.step_limit ≡ conn.step_limit
     pub prints : PrintsLine w.end (use_of writer w.output w.output_after) (step_line step) 0
@@ -60,7 +85,7 @@ module _ {S : Type 0} (store : Ghosts S) where
       : Type 0 where
     pub fault : TableFault
     pub left : Held S
-    pub moves : MovesTo store conn (Err (fault, left))
+    pub moves : IsMigration conn (Err (fault, left))
     pub tells : TellsUnopened fault w
     pub unasked : AsksNothing w
     pub hands : back ≡ None
@@ -76,7 +101,7 @@ module _ {S : Type 0} (store : Ghosts S) where
   pub record IsSession {R W : Type 0} (writer : outputs.Ghosts W) (conn : Held S) (work : Work)
       (w : Wrote R W) (back : Option (Held S)) : Type 0 where
     pub opened : Registry S store
-    pub opens : OpensTo store conn (Ok opened)
+    pub opens : IsOpening conn (Ok opened)
     -- no limit of steps was set before
     pub limit : (connection opened).step_limit ≡ conn.step_limit
     pub ended : Registry S store
