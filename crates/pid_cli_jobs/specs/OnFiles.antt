@@ -1,5 +1,5 @@
 -- Jobs on the files of a registry, or on a new one in memory. Choices of this project.
-use Rattle.std.specs.Prelude.{◌≡◌, ℕ, Bool, List, Option, None, Some}
+use Rattle.std.specs.Prelude.{◌≡◌, ℕ, Bool, List, Option, None, Some, Result, Ok, Err}
 use Rattle.sqlite.specs.Files.{over_files}
 use Rattle.sqlite.specs.Held.{Held, IsNew, state}
 use Rattle.sqlite.specs.Steps.{IsEmpty, over_memory}
@@ -38,22 +38,24 @@ FileReads reader jobs.Migrate old new = new ≡ old
 
 -- a session of the registry on a connection, or a migration of its tables
 abbrev pub DoesOn : {S R W : Type 0} → (store : Ghosts S) → outputs.Ghosts W → Held S → FileTask
-    → Wrote R W → Option (Held S) → Type 0
+    → Wrote R W → Result (Option (Held S)) (Held S) → Type 0
 DoesOn store writer conn (ToWork work) w back = WorksOn store writer conn work w back
 DoesOn store writer conn ToMigrate w back = Migrates store writer conn w back
 
 module _ {E R W : Type 0} (files : disk.Ghosts E) (writer : outputs.Ghosts W) where
-  -- what came back was closed, and nothing else was asked of the machine
-  abbrev pub ClosesLast : Option (Held (FileStore E files)) → MachineCalls R → Type 0
-  ClosesLast None asked = asked.after ≡ asked.before
-  ClosesLast (Some conn) asked = (is_copied : Bool) × ClosesFiles conn is_copied
+  -- what a session or a migration hands back was closed, and nothing else asked of the machine
+  abbrev pub ClosesLast : Result (Option (Held (FileStore E files))) (Held (FileStore E files))
+      → MachineCalls R → Type 0
+  ClosesLast (Err refused) asked = asked.after ≡ asked.before
+  ClosesLast (Ok None) asked = asked.after ≡ asked.before
+  ClosesLast (Ok (Some conn)) asked = (is_copied : Bool) × ClosesFiles conn is_copied
       × AsksFor asked.before asked.after (CloseOf is_copied)
 
   -- the same, on a connection to files, and after it what came back was closed
   pub record DoesThere (conn : Held (FileStore E files)) (task : FileTask) (w : Wrote R W)
       : Type 0 where
     pub between : Option (List (MachineCall R))
-    pub back : Option (Held (FileStore E files))
+    pub back : Result (Option (Held (FileStore E files))) (Held (FileStore E files))
     pub does : DoesOn over_files writer conn task (up_to_there w between) back
     pub closes : ClosesLast back (record w.asked { before = between })
 
@@ -81,7 +83,7 @@ module _ {R W : Type 0} (memory : Ghosts MemStore) (writer : outputs.Ghosts W) w
     pub conn : Held MemStore
     pub empty : IsEmpty (state over_memory conn)
     pub fresh : IsNew conn
-    pub back : Option (Held MemStore)
+    pub back : Result (Option (Held MemStore)) (Held MemStore)
     pub works : WorksOn memory writer conn work w back
 
   -- a job on a new registry, or out of memory

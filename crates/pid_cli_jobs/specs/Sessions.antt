@@ -58,19 +58,19 @@ module _ {S : Type 0} (store : Ghosts S) where
     pub shown : conn.in_transaction ≡ false → MovesShown store conn result
     pub judged : conn.in_transaction ≡ false → MovesJudged store conn result
 
-  -- No registry was opened, and nothing came back.
-  pub record IsUnopened {R W : Type 0} (conn : Held S) (w : Wrote R W) (back : Option (Held S))
-      : Type 0 where
+  -- No registry was opened: the connection is handed out as it was handed back.
+  pub record IsUnopened {R W : Type 0} (conn : Held S) (w : Wrote R W)
+      (back : Result (Option (Held S)) (Held S)) : Type 0 where
     pub fault : TableFault
     pub left : Held S
     pub opens : IsOpening conn (Err (fault, left))
     pub tells : TellsUnopened fault w
     pub unasked : AsksNothing w
-    pub hands : back ≡ None
+    pub hands : back ≡ Err left
 
   -- A migration of a connection that succeeded prints what it did, and hands it back as it left it.
   pub record IsMigrated {R W : Type 0} (writer : outputs.Ghosts W) (conn : Held S) (w : Wrote R W)
-      (back : Option (Held S)) : Type 0 where
+      (back : Result (Option (Held S)) (Held S)) : Type 0 where
     pub step : Step
     pub moved : Held S
     pub moves : IsMigration conn (Ok (moved, step))
@@ -79,27 +79,27 @@ module _ {S : Type 0} (store : Ghosts S) where
     pub prints : PrintsLine w.end (use_of writer w.output w.output_after) (step_line step) 0
     pub silent : w.faults.after ≡ w.faults.before
     pub unasked : AsksNothing w
-    pub hands : back ≡ Some moved
+    pub hands : back ≡ Ok (Some moved)
 
-  pub record IsUnmoved {R W : Type 0} (conn : Held S) (w : Wrote R W) (back : Option (Held S))
-      : Type 0 where
+  pub record IsUnmoved {R W : Type 0} (conn : Held S) (w : Wrote R W)
+      (back : Result (Option (Held S)) (Held S)) : Type 0 where
     pub fault : TableFault
     pub left : Held S
     pub moves : IsMigration conn (Err (fault, left))
     pub tells : TellsUnopened fault w
     pub unasked : AsksNothing w
-    pub hands : back ≡ None
+    pub hands : back ≡ Err left
 
   -- A job that migrates does that, or reports why not.
   pub data Migrates {R W : Type 0} (writer : outputs.Ghosts W) (conn : Held S) (w : Wrote R W)
-      (back : Option (Held S)) : Type 0 where
+      (back : Result (Option (Held S)) (Held S)) : Type 0 where
     Migrated : IsMigrated writer conn w back → Migrates writer conn w back
     Unmoved : IsUnmoved conn w back → Migrates writer conn w back
 
   -- A registry was opened on the connection, and the work was done there: calls led from its
   -- opening to its end. Its connection came back if it was live.
   pub record IsSession {R W : Type 0} (writer : outputs.Ghosts W) (conn : Held S) (work : Work)
-      (w : Wrote R W) (back : Option (Held S)) : Type 0 where
+      (w : Wrote R W) (back : Result (Option (Held S)) (Held S)) : Type 0 where
     pub opened : Registry S store
     pub opens : IsOpening conn (Ok opened)
     -- no limit of steps was set before
@@ -107,10 +107,10 @@ module _ {S : Type 0} (store : Ghosts S) where
     pub ended : Registry S store
     pub goes : IsPartOfSession opened ended
     pub does : DoesWork store writer work opened ended w
-    pub hands : back ≡ handed_back ended
+    pub hands : back ≡ Ok (handed_back ended)
 
   -- A job on a connection is a session of the registry there, or there was none.
   pub data WorksOn {R W : Type 0} (writer : outputs.Ghosts W) (conn : Held S) (work : Work)
-      (w : Wrote R W) (back : Option (Held S)) : Type 0 where
+      (w : Wrote R W) (back : Result (Option (Held S)) (Held S)) : Type 0 where
     Session : IsSession writer conn work w back → WorksOn writer conn work w back
     Unopened : IsUnopened conn w back → WorksOn writer conn work w back

@@ -1,4 +1,5 @@
-//! The jobs of a registry, on any store. Each returns the connection if the registry is live.
+//! The jobs of a registry, on any store. Each returns the connection if the registry is live, and as
+//! an error one on which no registry was opened.
 ghost use Rattle.std.specs.Prelude.{◌≡◌};
 ghost use Rattle.pid_file.specs.Writing.{use_of};
 ghost use Rattle.pid_cli_jobs.specs.Inputs.{uses};
@@ -131,7 +132,8 @@ fn handed_back<S: Alter + Drop>(registry: Registry<S>) -> Option<Connection<S>>
 /// calls between an opening and an end holds of it. What is printed is that of the job: the replies
 /// to a script, the canonical text of an export, the lines of a server; the reply to an import is
 /// returned. Where the registry is not opened, `faults` gets the reason (`open: Store`), and the
-/// exit status is 3. The machine is asked for nothing but the port of a server.
+/// exit status is 3; the connection comes back as an error, as `open` handed it back. The machine is
+/// asked for nothing but the port of a server.
 pub fn work_on<M: Machine, S: Alter + Drop, I: Incoming<O>, O: Output, F: Output>(
     machine: &mut M,
     conn: Connection<S>,
@@ -139,7 +141,7 @@ pub fn work_on<M: Machine, S: Alter + Drop, I: Incoming<O>, O: Output, F: Output
     input: &mut I,
     output: &mut O,
     faults: &mut F,
-) -> (JobEnd, Option<Connection<S>>)
+) -> (JobEnd, Result<Option<Connection<S>>, Connection<S>>)
     ensures works { WorksOn S.Store O.Output conn
         (work_of job (uses I.Incoming input.old input.new))
         (job_wrote (output.old, output.new) (use_of F.Output faults.old faults.new)
@@ -150,25 +152,26 @@ pub fn work_on<M: Machine, S: Alter + Drop, I: Incoming<O>, O: Output, F: Output
         Ok(registry) => {
             let mut registry = registry;
             let end = do_job(machine, &mut registry, job, input, output, faults);
-            (end, handed_back(registry))
+            (end, Ok(handed_back(registry)))
         }
-        Err((fault, _)) => (JobEnd::Told(tell_unopened(fault, faults)), None),
+        Err((fault, conn)) => (JobEnd::Told(tell_unopened(fault, faults)), Err(conn)),
     }
 }
 
-/// Moves the tables of a connection to the newest schema; opens no registry. Prints what was done.
+/// Moves the tables of a connection to the newest schema; opens no registry. Prints what was done, or
+/// reports why not as `work_on` does.
 pub fn migrate_on<M: Machine, S: Alter + Drop, O: Output, F: Output>(
     machine: &M,
     conn: Connection<S>,
     output: &mut O,
     faults: &mut F,
-) -> (JobEnd, Option<Connection<S>>)
+) -> (JobEnd, Result<Option<Connection<S>>, Connection<S>>)
     ensures { Migrates S.Store O.Output conn
         (job_wrote (output.old, output.new) (use_of F.Output faults.old faults.new)
         (M.asked machine.now, M.asked machine.now) result.0) result.1 }
 {
     match migrate(machine.alloc(), conn) {
-        Ok((conn, step)) => (print_step(step, output), Some(conn)),
-        Err((fault, _)) => (JobEnd::Told(tell_unopened(fault, faults)), None),
+        Ok((conn, step)) => (print_step(step, output), Ok(Some(conn))),
+        Err((fault, conn)) => (JobEnd::Told(tell_unopened(fault, faults)), Err(conn)),
     }
 }

@@ -40,7 +40,7 @@ fn do_on<M: Machine, S: Alter + Drop, I: Incoming<O>, O: Output, F: Output>(
     input: &mut I,
     output: &mut O,
     faults: &mut F,
-) -> (JobEnd, Option<Connection<S>>)
+) -> (JobEnd, Result<Option<Connection<S>>, Connection<S>>)
     ensures does { DoesOn S.Store O.Output conn
         (file_task_of job (uses I.Incoming input.old input.new))
         (job_wrote (output.old, output.new) (use_of F.Output faults.old faults.new)
@@ -53,7 +53,7 @@ fn do_on<M: Machine, S: Alter + Drop, I: Incoming<O>, O: Output, F: Output>(
     }
 }
 
-// Does a job on a connection to files, and has it closed if it came back. No other function calls
+// Does a job on a connection to files, and has it closed if the registry was live. No other function calls
 // one that is generic over its store at a store of files: that takes half a minute to prove.
 fn do_there<M: Machine, D: Disk + Drop, I: Incoming<O>, O: Output, F: Output>(
     machine: &mut M,
@@ -71,11 +71,16 @@ fn do_there<M: Machine, D: Disk + Drop, I: Incoming<O>, O: Output, F: Output>(
 {
     let (end, back) = do_on(machine, conn, job, input, output, faults);
     match back {
-        Some(conn) => {
+        Ok(Some(conn)) => {
             let _is_copied = machine.close_database(conn);
             end
         }
-        None => end,
+        Ok(None) => end,
+        // Closing it would copy its log into a file that was refused.
+        Err(refused) => {
+            drop(refused);
+            end
+        }
     }
 }
 

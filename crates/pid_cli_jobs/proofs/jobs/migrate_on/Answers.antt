@@ -24,10 +24,10 @@ returns-in-Ok g c = Migrated (record {
   hands = refl;
 })
 
-pub returns : goal.returns
-returns g c = Unmoved (record {
+pub returns-in-Err : goal.returns-in-Err
+returns-in-Err g c = Unmoved (record {
   fault = c.in-Err.fault;
-  left = c.in-Err.field-0-1;
+  left = c.in-Err.conn;
   moves = subst (λ r. IsMigration g.S.Store c.args.conn r) c.in-Err.is (record {
     history = c.migrate.ensures.history;
     busy = c.migrate.ensures.busy;

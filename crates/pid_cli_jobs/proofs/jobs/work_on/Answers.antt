@@ -1,3 +1,4 @@
+use Rattle.std.specs.Prelude.{Ok}
 use Rattle.std.proofs.Common.{ap, refl, subst}
 use Rattle.pid_tables.specs.declared.rows.fault.TableFault.TheVariants.{Store}
 use Rattle.pid_cli_jobs.specs.declared.job_end.JobEnd.TheVariants.{Told}
@@ -21,13 +22,13 @@ returns-in-Ok-clause-works g c = Session (record {
   ended = c.do_job-end.new.registry;
   goes = c.do_job-end.ensures.goes;
   does = c.do_job-end.ensures.does;
-  hands = c.handed_back.ensures;
+  hands = ap Ok c.handed_back.ensures;
 })
 
 pub returns-in-Err-clause-works : goal.returns-in-Err-clause-works
 returns-in-Err-clause-works g c = Unopened (record {
   fault = c.in-Err.fault;
-  left = c.in-Err.field-0-1;
+  left = c.in-Err.conn;
   opens = subst (λ r. IsOpening g.S.Store c.args.conn r) c.in-Err.is (record {
     history = c.open.ensures.history;
     busy = c.open.ensures.busy;
