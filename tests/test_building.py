@@ -138,12 +138,12 @@ def test_builds(cases):
         wanted = [f"crate {it}: proved, N s" for it in sorted(ALL)]
         cases.equal("each crate is reported", build(folder, PAUSE="2"), (wanted, "", 0))
         noted = notes(folder)
-        low = "begin low jobs 1 statements over std std_thing"
+        low = "begin low jobs 2 statements over std std_thing"
         cases.equal("the lowest crate is alone", noted[0], low)
         wanted = [f"begin {it} jobs 1 statements over low std" for it in ("aside", "left", "right")]
         cases.equal("three are built at the same time", sorted(noted[2:5]), wanted)
         top = [it for it in noted if it.startswith("begin top")]
-        cases.equal("the last library", top, ["begin top jobs 1 statements over left right std"])
+        cases.equal("the last library", top, ["begin top jobs 2 statements over left right std"])
         last = "begin program jobs 1 over aside std top"
         cases.equal("the program comes last", noted[-2:], [last, "end program"])
         linked = os.path.join(folder, "crates", "program", "out", "program")

@@ -6,9 +6,9 @@
 Each crate is proved from nothing. Of a library, `rattle build --statements` then writes what the
 crates above it can cite, without the proofs, so that they have less to load than of a library that
 `rt lib` builds. As many crates as there are processors are built side by side; those for which the
-longest chain of crates waits begin first, and the others give way to them. Each has one job: a
-prover with N jobs makes a copy of itself for each module, which costs more of a processor than it
-saves of time. Where no crate can be built beside another, each has all processors.
+longest chain of crates waits begin first, and the others give way to them. Each has one job, since
+a prover with N jobs makes a copy of itself for each module. A library that none can be built beside
+has half of the processors, and all of them where no crate can be built beside another.
 Prints `crate NAME: proved, N s` when a crate is built; what `rattle` prints goes to standard error
 if it fails.
 """
@@ -168,7 +168,8 @@ class Build:
                     if not self.leads(crate):
                         self.beside.add(crate)
                     self.begun.add(crate)
-                    threads.append(threading.Thread(target=self.build, args=(crate,)))
+                    parts = (crate, self.jobs(crate))
+                    threads.append(threading.Thread(target=self.build, args=parts))
                     threads[-1].start()
                 self.changed.wait(timeout=1)
         for thread in threads:
@@ -180,11 +181,20 @@ class Build:
         first = max((it for it in self.crates if it not in self.built), key=self.chain)
         return self.above[crate] == self.above[first]
 
-    def build(self, crate):
+    def jobs(self, crate):
+        """Returns how many jobs a crate has that begins now."""
+        if self.in_turn:
+            return self.processors
+        is_alone = not self.ready() and self.begun - self.built == {crate}
+        if is_alone and not self.toolchain.is_program(crate):
+            return max(1, self.processors // 2)
+        return 1
+
+    def build(self, crate, jobs):
         """Builds one crate, and lets those above it begin."""
         succeeded, began = False, time.monotonic()
         try:
-            succeeded = self.is_built(crate) or self.prove(crate)
+            succeeded = self.is_built(crate) or self.prove(crate, jobs)
         finally:
             with self.changed:
                 self.beside.discard(crate)
@@ -207,10 +217,10 @@ class Build:
             return False
         return is_same and ages[0] == max(ages)
 
-    def prove(self, crate):
+    def prove(self, crate, jobs):
         """Proves and builds a crate. Returns whether that succeeded."""
         place, toolchain = Toolchain.place(crate), self.toolchain
-        command = toolchain.build(crate, self.processors if self.in_turn else 1)
+        command = toolchain.build(crate, jobs)
         if toolchain.is_program(crate):
             os.makedirs(os.path.dirname(place), exist_ok=True)
             return self.call(crate, command) and self.call(crate, toolchain.link(crate))
