@@ -7,8 +7,8 @@ Each crate is proved from nothing. Of a library, `rattle build --statements` the
 crates above it can cite, without the proofs, so that they have less to load than of a library that
 `rt lib` builds. As many crates as there are processors are built side by side; those for which the
 longest chain of crates waits begin first, and the others give way to them. Each has one job, since
-a prover with N jobs makes a copy of itself for each module. A library that none can be built beside
-has half of the processors, and all of them where no crate can be built beside another.
+a prover with N jobs makes a copy of itself for each module. A library that is built alone has half
+of the processors. Where no crate can be built beside another, each has all of them.
 Prints `crate NAME: proved, N s` when a crate is built; what `rattle` prints goes to standard error
 if it fails.
 """

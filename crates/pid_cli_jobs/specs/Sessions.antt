@@ -37,8 +37,8 @@ module _ {S : Type 0} (store : Ghosts S) where
   abbrev pub handed_back : Registry S store → Option (Held S)
   handed_back r = if is_live r then Some (connection r) else None
 
-  -- What `open` answered and left, whatever is in the file: a connection is opened once, as it was
-  -- handed over.
+  -- What `open` answers and leaves, whatever is in the file: each of its clauses, of the connection
+  -- that the job was handed.
   pub record IsOpening (conn : Held S) (result : Result (Registry S store)
       (TableFault × Held S)) : Type 0 where
     pub history : OpensTo store conn result
@@ -49,7 +49,7 @@ module _ {S : Type 0} (store : Ghosts S) where
     pub explains : conn.in_transaction ≡ false
         → ExplainsOpening store conn (connection_left store result) (opening_end store result)
 
-  -- What `migrate` answered and left, so.
+  -- The same of `migrate`.
   pub record IsMigration (conn : Held S) (result : Result (Held S × Step) (TableFault × Held S))
       : Type 0 where
     pub history : MovesTo store conn result
@@ -58,7 +58,7 @@ module _ {S : Type 0} (store : Ghosts S) where
     pub shown : conn.in_transaction ≡ false → MovesShown store conn result
     pub judged : conn.in_transaction ≡ false → MovesJudged store conn result
 
-  -- No registry was opened: the connection is handed out as it was handed back.
+  -- No registry was opened: the connection comes back as `open` left it.
   pub record IsUnopened {R W : Type 0} (conn : Held S) (w : Wrote R W)
       (back : Result (Option (Held S)) (Held S)) : Type 0 where
     pub fault : TableFault

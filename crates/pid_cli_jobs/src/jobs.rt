@@ -1,5 +1,5 @@
-//! The jobs of a registry, on any store. Each returns the connection if the registry is live, and as
-//! an error one on which no registry was opened.
+//! The jobs of a registry, on any store. Each returns the connection if the registry is live, and
+//! as an error if none was opened there.
 ghost use Rattle.std.specs.Prelude.{◌≡◌};
 ghost use Rattle.pid_file.specs.Writing.{use_of};
 ghost use Rattle.pid_cli_jobs.specs.Inputs.{uses};
@@ -132,8 +132,8 @@ fn handed_back<S: Alter + Drop>(registry: Registry<S>) -> Option<Connection<S>>
 /// calls between an opening and an end holds of it. What is printed is that of the job: the replies
 /// to a script, the canonical text of an export, the lines of a server; the reply to an import is
 /// returned. Where the registry is not opened, `faults` gets the reason (`open: Store`), and the
-/// exit status is 3; the connection comes back as an error, as `open` handed it back. The machine is
-/// asked for nothing but the port of a server.
+/// exit status is 3; the connection comes back as an error, as `open` left it. The machine is asked
+/// for nothing but the port of a server.
 pub fn work_on<M: Machine, S: Alter + Drop, I: Incoming<O>, O: Output, F: Output>(
     machine: &mut M,
     conn: Connection<S>,
@@ -158,8 +158,8 @@ pub fn work_on<M: Machine, S: Alter + Drop, I: Incoming<O>, O: Output, F: Output
     }
 }
 
-/// Moves the tables of a connection to the newest schema; opens no registry. Prints what was done, or
-/// reports why not as `work_on` does.
+/// Moves the tables of a connection to the newest schema; opens no registry. Prints what was done,
+/// or reports why not, as `work_on` does.
 pub fn migrate_on<M: Machine, S: Alter + Drop, O: Output, F: Output>(
     machine: &M,
     conn: Connection<S>,

@@ -53,8 +53,9 @@ fn do_on<M: Machine, S: Alter + Drop, I: Incoming<O>, O: Output, F: Output>(
     }
 }
 
-// Does a job on a connection to files, and has it closed if the registry was live. No other function calls
-// one that is generic over its store at a store of files: that takes half a minute to prove.
+// Does a job on a connection to files, and has that closed unless it was refused or its registry
+// failed. No other function calls one that is generic over its store at a store of files: that takes
+// half a minute to prove.
 fn do_there<M: Machine, D: Disk + Drop, I: Incoming<O>, O: Output, F: Output>(
     machine: &mut M,
     conn: Connection<FileStore<D>>,
