@@ -16,8 +16,8 @@ LONGEST = ("pid_file::read_nested", "pid_http_stream::fill",
            "pid_http_stream::read_head")
 # What a clause of these crates has on average, in characters.
 CHARACTERS = 91
-ABOVE = ("pid_service", "pid_http", "pid_http_listener", "pid_http_api", "pid_http_stream",
-         "pid_script", "pid_cli", "pid_cli_jobs", "pid_cli_words")
+ABOVE = ("pid_service", "pid_http", "pid_http_stream", "pid_script", "pid_cli", "pid_cli_jobs",
+         "pid_cli_words")
 # One notion, of a connection as of a registry over it, and of a fault as of its refusal.
 SHARED = ["HasCleanDisk", "IsMemoryOrStore", "OnlyReads", "Shows"]
 # Different ones, of a file and of tables.

@@ -30,12 +30,12 @@ def numbered(text, kind):
 def defined():
     """The same as the definitions have it: of commands, of questions, of requests."""
     found = {}
-    outcomes = spec("pid_http_api", "Outcomes")
+    outcomes = spec("pid_http", "Api/Outcomes")
     said = re.findall(r"^status_of_refusal \(?refusals\.(\w+).*= (\d+)$", outcomes, re.M)
     statuses = {variant: int(status) for variant, status in said}
     for variant, (number, word) in numbered(spec("pid_moderation", "Refusals"), "refusal").items():
         found[number] = (word, statuses[variant])
-    lookups = spec("pid_http_api", "LookupAnswers")
+    lookups = spec("pid_http", "Api/LookupAnswers")
     said = re.findall(r"unanswered_answer (\d+) whys\.(\w+)", lookups)
     missing = r"^missing_answer format = answer_in format (\d+) \(unanswered_data (\w+)\)"
     said += re.findall(missing, outcomes, re.M)
@@ -43,7 +43,7 @@ def defined():
     for variant, (number, word) in numbered(spec("pid_lookup", "Unanswered"), "unanswered").items():
         found[number] = (word, statuses[variant])
     said = r"= answer_in format (\d+) \(refusal_data (\d+) \(codes \"(\w+)\"\)\)"
-    for status, number, word in re.findall(said, spec("pid_http_api", "RankAnswers")):
+    for status, number, word in re.findall(said, spec("pid_http", "Api/RankAnswers")):
         found[int(number)] = (word, int(status))
     requests = spec("pid_http_stream", "RequestRefusals")
     statuses = dict(re.findall(r"^request_refusal_status (\w+) = (\d+)$", requests, re.M))

@@ -1,9 +1,9 @@
 -- What streams in turn make of a registry, by what they make of its server.
 use Rattle.std.specs.Prelude.{◌≡◌, ℕ, Bool, List, [], ◌∷◌, Option, Some, None}
 use Rattle.std.proofs.Common.{ap, subst}
-use Rattle.pid_http_listener.specs.declared.serving.Serving.{Serving}
-use Rattle.pid_http_listener.specs.Servings.{IsLiveAt}
-use Rattle.pid_http_listener.specs.Streams.{Exchange}
+use Rattle.pid_http_stream.specs.declared.listener.serving.Serving.{Serving}
+use Rattle.pid_http_stream.specs.Listener.Servings.{IsLiveAt}
+use Rattle.pid_http_stream.specs.Listener.Streams.{Exchange}
 use Rattle.pid_cli_jobs.specs.declared.job_end.JobEnd.{JobEnd}
 use Rattle.pid_cli_jobs.specs.declared.serving.Port.{Port}
 use Rattle.pid_cli_jobs.specs.Lines.{Streams}

@@ -8,20 +8,20 @@ use Rattle.pid_ident.specs.declared.incoming.Incoming as incoming
 use Rattle.pid_ident.specs.Moments.{AllSince}
 use Rattle.pid_moderation.specs.declared.command.Reply.{Reply}
 use Rattle.pid_moderation.specs.BeforeFile.{import_of}
-use Rattle.pid_service.specs.declared.moderated.Moderated as moderated
 use Rattle.pid_script.specs.declared.script_end.ScriptEnd.{ScriptEnd}
 use Rattle.pid_script.specs.declared.script_end.ScriptEnd.TheVariants as scripts
 use Rattle.pid_script.specs.EndStatus.{script_status}
 use Rattle.pid_script.specs.Scripts.{EndsWith, IsScript, IsUpToDate, OverText}
 use Rattle.pid_script.specs.Scripts.{passage}
-use Rattle.pid_service.specs.declared.exporting.ExportFault.{ExportFault}
-use Rattle.pid_service.specs.declared.exporting.ExportFault.TheVariants as exports
-use Rattle.pid_service.specs.declared.importing.ImportEnd.{ImportEnd}
-use Rattle.pid_service.specs.declared.importing.ImportEnd.TheVariants as imports
+use Rattle.pid_service_laws.specs.declared.faults.ExportFault.{ExportFault}
+use Rattle.pid_service_laws.specs.declared.faults.ExportFault.TheVariants as exports
+use Rattle.pid_service_laws.specs.declared.faults.ImportEnd.{ImportEnd}
+use Rattle.pid_service_laws.specs.declared.faults.ImportEnd.TheVariants as imports
 use Rattle.pid_service.specs.declared.registry.Registry.{Registry}
 use Rattle.pid_service.specs.Exporting.{IsExported}
-use Rattle.pid_service.specs.Importing.{EndLasts, HasRead, ObeysText}
-use Rattle.pid_service.specs.Lives.{showing}
+use Rattle.pid_service.specs.Importing.{EndLasts, ObeysText}
+use Rattle.pid_service_laws.specs.Imports.{HasRead}
+use Rattle.pid_service.specs.Histories.{as_moderated}
 use Rattle.pid_service.specs.Registries.{is_live}
 use Rattle.pid_cli_jobs.specs.declared.job_end.JobEnd.{JobEnd}
 use Rattle.pid_cli_jobs.specs.declared.job_end.JobEnd.TheVariants.{Told, Replied, FileFailed}
@@ -75,21 +75,17 @@ end_of_export (Err (exports.Refused refusal)) = Replied (Err refusal)
 end_of_export (Err (exports.Write fault)) = FileFailed
 
 module _ {S : Type 0} (store : Ghosts S) where
-  -- a registry, as scripts ask it
-  abbrev pub as_moderated : moderated.Ghosts (Registry S store)
-  as_moderated = record { showing = showing store; has_failed = λ r. is_live r ≡ false }
-
   -- The lines of the input were answered as a script: what `run_script` says of its text, of the
   -- moments at which that was read, of the faults and of the reads.
   pub record RunsLines (old new : Registry S store) (input : InputUse) (output : WriterUse)
       (end : JobEnd) : Type 0 where
     pub script : ScriptEnd
     pub ends : end ≡ end_of_script script
-    pub ran : OverText as_moderated (passage old new output.before output.after) input.to_come
-        (λ h p text. IsScript as_moderated script h p text input.left)
-    pub caught_up : OverText as_moderated (passage old new output.before output.after)
+    pub ran : OverText (as_moderated store) (passage old new output.before output.after) input.to_come
+        (λ h p text. IsScript (as_moderated store) script h p text input.left)
+    pub caught_up : OverText (as_moderated store) (passage old new output.before output.after)
         input.to_come (λ h p text.
-        AllSince (IsUpToDate as_moderated h p text) input.moments input.moments_after)
+        AllSince (IsUpToDate (as_moderated store) h p text) input.moments input.moments_after)
     pub ended : EndsWith script (record {
       read_fault = input.fault;
       write_fault = output.fault;

@@ -1,9 +1,9 @@
 -- What a job asks of the machine that it runs on. Choices of this project.
 use Rattle.std.specs.Prelude.{◌≡◌, ℕ, Bool, true, List, [], ◌∷◌, ◌++◌, length}
 use Rattle.std.specs.Prelude.{Option, None, Some, IfSome, Result, Ok, Err}
-use Rattle.pid_http_listener.specs.declared.serving.Serving.{Serving}
-use Rattle.pid_http_listener.specs.declared.serving.ServingEnd.{ServingEnd}
-use Rattle.pid_http_listener.specs.Streams.{Exchange}
+use Rattle.pid_http_stream.specs.declared.listener.serving.Serving.{Serving}
+use Rattle.pid_http_stream.specs.declared.listener.serving.ServingEnd.{ServingEnd}
+use Rattle.pid_http_stream.specs.Listener.Streams.{Exchange}
 use Rattle.pid_tables.specs.declared.rows.fault.TableFault.{TableFault}
 
 -- what was to be opened, served or closed, and what came of that

@@ -4,18 +4,19 @@ use Rattle.std.specs.Io.KnownBytes.{Appends}
 use Rattle.sqlite_trees.specs.declared.store.Store.{Ghosts}
 use Rattle.pid_file.specs.declared.io.Output as outputs
 use Rattle.pid_file.specs.Writing.{FailsWithin, TriesLine, use_of}
-use Rattle.pid_http_listener.specs.declared.serving.Serving.{Serving}
-use Rattle.pid_http_listener.specs.declared.serving.ServingEnd.{ServingEnd}
-use Rattle.pid_http_listener.specs.declared.serving.ServingEnd.TheVariants.{All, NotLive}
-use Rattle.pid_http_listener.specs.declared.serving.ServingEnd.TheVariants.{AcceptFault}
-use Rattle.pid_http_listener.specs.Servings.{CountsStreams, IsLiveAt}
-use Rattle.pid_http_listener.specs.Streams.{Exchange}
+use Rattle.pid_http_stream.specs.declared.listener.serving.Serving.{Serving}
+use Rattle.pid_http_stream.specs.declared.listener.serving.ServingEnd.{ServingEnd}
+use Rattle.pid_http_stream.specs.declared.listener.serving.ServingEnd.TheVariants.{All, NotLive}
+use Rattle.pid_http_stream.specs.declared.listener.serving.ServingEnd.TheVariants.{AcceptFault}
+use Rattle.pid_http_stream.specs.Listener.Servings.{CountsStreams, IsLiveAt}
+use Rattle.pid_http_stream.specs.Listener.Streams.{Exchange}
 use Rattle.pid_http.specs.Serving.{serving}
 use Rattle.pid_http.specs.Streams.{OverStream}
 use Rattle.pid_http_stream.specs.Causes.{EndsFor}
 use Rattle.pid_http_stream.specs.Moments.{AllSince}
 use Rattle.pid_http_stream.specs.Serving.{IsCaughtUp, IsServed, outside}
 use Rattle.pid_service.specs.declared.registry.Registry.{Registry}
+use Rattle.pid_service.specs.Histories.{as_moderated}
 use Rattle.pid_service.specs.Registries.{is_live}
 use Rattle.pid_cli_jobs.specs.declared.job_end.JobEnd.{JobEnd}
 use Rattle.pid_cli_jobs.specs.declared.job_end.JobEnd.TheVariants.{Told, FileFailed}
@@ -52,11 +53,11 @@ ReportsServing AcceptFault streams w end = (end ≡ Told 3)
 -- account of its reads, the replies to what had come were out at each of them.
 pub record AnswersStream {S : Type 0} (store : Ghosts S) (old new : Registry S store)
     (x : Exchange) : Type 0 where
-  pub served : OverStream store old new x.input.before.come (λ t u stream.
-      IsServed (serving store) (outside t u x.output.before x.output.after)
+  pub served : OverStream (as_moderated store) old new x.input.before.come (λ t u stream.
+      IsServed (serving (as_moderated store)) (outside t u x.output.before x.output.after)
       stream x.input.after.come x.served.end x.served.answered)
-  pub caught_up : OverStream store old new x.input.before.come (λ t u stream.
-      AllSince (IsCaughtUp (serving store) t x.output.before stream)
+  pub caught_up : OverStream (as_moderated store) old new x.input.before.come (λ t u stream.
+      AllSince (IsCaughtUp (serving (as_moderated store)) t x.output.before stream)
       x.input.before.moments x.input.after.moments)
   pub ended : EndsFor x.served.end (record {
     before = x.input.before;

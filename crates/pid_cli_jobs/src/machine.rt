@@ -2,7 +2,7 @@
 ghost use Rattle.std.specs.Prelude.{◌≡◌, IfOk};
 ghost use Rattle.pid_cli_jobs.specs.Steps.Serving.{IsLoopback};
 
-use pid_http_listener::{Serving, StreamServer, serve_on};
+use pid_http_stream::listener::{Serving, StreamServer, serve_on};
 use pid_service::TableFault;
 use sqlite::{Connection, FileStore};
 use sqlite_disk::{Disk, Start};
@@ -18,8 +18,8 @@ pub trait Machine {
     ghost use Rattle.std.specs.Prelude.{◌≡◌, ℕ, List, None, Option, IfErr, IfOk, IfSome, is_some};
     ghost use Rattle.sqlite.specs.Held.{IsNew};
     ghost use Rattle.sqlite_wal.specs.Files.{image_at};
-    ghost use Rattle.pid_http_listener.specs.Servings.{CountsStreams, IsLiveAt};
-    ghost use Rattle.pid_http_listener.specs.Streams.{IsGivenMore};
+    ghost use Rattle.pid_http_stream.specs.Listener.Servings.{CountsStreams, IsLiveAt};
+    ghost use Rattle.pid_http_stream.specs.Listener.Streams.{IsGivenMore};
     ghost use Rattle.pid_tables.specs.Rows.Faults.{IsMemoryOrStore};
     ghost use Rattle.pid_cli_jobs.specs.Files.{ClosesFiles, OpensFiles};
     ghost use Rattle.pid_cli_jobs.specs.Machines.{

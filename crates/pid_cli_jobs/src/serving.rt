@@ -12,8 +12,8 @@ use crate::machine::Machine;
 use crate::replies::write_count;
 use pid_file::{FAILED, TextEnd, tell_end};
 use pid_http::{Routes, serve_with};
-use pid_http_listener::{Serving, ServingEnd, StreamServer};
 use pid_http_stream::Served;
+use pid_http_stream::listener::{Serving, ServingEnd, StreamServer};
 use pid_ident::{Incoming, Output, WriteFault, write_all};
 use pid_service::Registry;
 use sqlite::Alter;
@@ -40,13 +40,14 @@ impl<S: Alter + Drop> StreamServer for Server<'_, '_, S> {
     ghost use Rattle.pid_http.specs.Known.{LivesOn};
     ghost use Rattle.pid_http.specs.Steps.Going.{lives_further, lives_still};
     ghost use Rattle.pid_http.specs.Steps.Handling.{same_on};
+    ghost use Rattle.pid_service.specs.Histories.{as_moderated};
     ghost use Rattle.pid_service.specs.Registries.{is_live};
     ghost use Rattle.pid_cli_jobs.specs.Serving.{AnswersStream};
 
     ghost live = { λ server. is_live server.registry.now };
 
     ghost goes = { λ a b. (b.registry.ghost_name ≡ a.registry.ghost_name)
-        × LivesOn S.Store a.registry.now b.registry.now };
+        × LivesOn (as_moderated S.Store) a.registry.now b.registry.now };
 
     ghost answers = { λ a b x. AnswersStream S.Store a.registry.now b.registry.now x };
 

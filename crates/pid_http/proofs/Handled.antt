@@ -2,7 +2,7 @@
 use Rattle.std.proofs.Common.{◌≡◌, ℕ, List, [], Option, Some, None, Result, Ok, Err, refl, sym, subst, ◌∙◌, inl, inr}
 use Rattle.std.specs.Prelude.{◌⊎◌, MatchOption, option_copied}
 use Rattle.std.specs.Io.KnownBytes.{IsAtEnd}
-use Rattle.sqlite_trees.specs.declared.store.Store.{Ghosts}
+use Rattle.pid_service_laws.specs.declared.moderated.Moderated.{Ghosts}
 use Rattle.pid_service_laws.specs.Calls.{Call}
 use Rattle.pid_http_stream.specs.Conducts.{StandsStill}
 use Rattle.pid_http_stream.specs.declared.handler.Wanted.TheVariants.{Streamed}
@@ -13,10 +13,10 @@ use Rattle.pid_http_stream.specs.declared.handler.Reply.{Reply}
 use Rattle.pid_http_stream.specs.declared.handler.ReplyBody.{ReplyBody}
 use Rattle.pid_http_stream.specs.declared.handler.ReplyBody.TheVariants.{Bytes, Written}
 use Rattle.pid_http_stream.specs.declared.reply_head.ReplyHead.{ReplyHead}
-use Rattle.pid_http_api.specs.Questions.{Asking, question}
-use Rattle.pid_http_api.specs.Senders.{Sending, sender}
-use Rattle.pid_http_api.specs.declared.format.Format.{Format}
-use Rattle.pid_http_api.specs.declared.sender.Sender.{Sender}
+use Rattle.pid_http.specs.Api.Questions.{Asking, question}
+use Rattle.pid_http.specs.Api.Senders.{Sending, sender}
+use Rattle.pid_http.specs.declared.api.format.Format.{Format}
+use Rattle.pid_http.specs.declared.api.sender.Sender.{Sender}
 use Rattle.pid_http.specs.Errands.{Errand, errand_asked, errand_of, import_errand}
 use Rattle.pid_http.specs.Known.{Told, ByCalls}
 use Rattle.pid_http.specs.Steps.Replying.{IsBodyMet, IsMetBehind, sending_in}
@@ -41,30 +41,30 @@ pub given_up_most : (request : Request) (format : Format) (file : List ℕ) (s :
     → most_questions (import_errand format s file) ≡ most_given_up (question request.head.method request.head.target) (sender (fields_of request.head))
 given_up_most request format file s asked sends = import_most format s file ∙ (λ i. most_given_up (asked i) (sends i))
 
-module _ {S : Type 0} (store : Ghosts S) where
-  body_for : (t u : Told store) (request : Request) (head : ReplyHead) (body : ReplyBody) → ByCalls store t u (λ calls. IsBodyMet t.known (errand_of request) head body calls u.known) → IsBodyFor (serving store) t request head body u
+module _ {R : Type 0} (registry : Ghosts R) where
+  body_for : (t u : Told registry) (request : Request) (head : ReplyHead) (body : ReplyBody) → ByCalls registry t u (λ calls. IsBodyMet t.known (errand_of request) head body calls u.known) → IsBodyFor (serving registry) t request head body u
   body_for t u request head (Bytes body) m = m
   body_for t u request head (Written told) m = m
 
   -- what holds of the calls, said otherwise
-  pub by_calls : (t u : Told store) (P Q : List Call → Type 0) → ((calls : List Call) → P calls → Q calls) → ByCalls store t u P → ByCalls store t u Q
+  pub by_calls : (t u : Told registry) (P Q : List Call → Type 0) → ((calls : List Call) → P calls → Q calls) → ByCalls registry t u P → ByCalls registry t u Q
   by_calls t u P Q f b = record { same_life = b.same_life; more = b.more; joined = b.joined; holds = f b.more b.holds }
 
   -- a reply was made
-  pub asked_ok : (t u : Told store) (request : Request) (errand : Errand) (reply : Reply) → errand ≡ errand_of request → ByCalls store t u (λ calls. IsBodyMet t.known errand reply.head reply.body calls u.known) → MayReply (serving store) t request reply u
+  pub asked_ok : (t u : Told registry) (request : Request) (errand : Errand) (reply : Reply) → errand ≡ errand_of request → ByCalls registry t u (λ calls. IsBodyMet t.known errand reply.head reply.body calls u.known) → MayReply (serving registry) t request reply u
   asked_ok t u request errand reply same m =
       body_for t u request reply.head reply.body (by_calls t u _ _ (λ calls h. subst (λ c. IsBodyMet t.known c reply.head reply.body calls u.known) same h) m)
 
   -- and where memory lacked for it
-  pub asked_err : (t u : Told store) (request : Request) (errand : Errand) → errand ≡ errand_of request → ByCalls store t u (λ calls. (given : Answer) × IsErrandMet t.known errand given calls u.known)
-      → StandsStill (serving store) t request.head u ⊎ (IsAtEnd (Some []) × (serving store).leaves t request u)
+  pub asked_err : (t u : Told registry) (request : Request) (errand : Errand) → errand ≡ errand_of request → ByCalls registry t u (λ calls. (given : Answer) × IsErrandMet t.known errand given calls u.known)
+      → StandsStill (serving registry) t request.head u ⊎ (IsAtEnd (Some []) × (serving registry).leaves t request u)
   asked_err t u request errand same m = inr (refl, by_calls t u _ _ (λ calls h. (h.0, subst (λ c. IsErrandMet t.known c h.0 calls u.known) same h.1)) m)
 
-  pub asked_behind : {E : Type 0} (t u : Told store) (request : Request) (errand : Errand) (result : Result Reply E) (left : Option (List ℕ)) → errand ≡ errand_of request
-      → most_questions errand ≡ most_given_up (question request.head.method request.head.target) (sender (fields_of request.head)) → ByCalls store t u (λ calls. IsMetBehind t.known errand result left calls u.known) → IsHandled (serving store) t request result left u
+  pub asked_behind : {E : Type 0} (t u : Told registry) (request : Request) (errand : Errand) (result : Result Reply E) (left : Option (List ℕ)) → errand ≡ errand_of request
+      → most_questions errand ≡ most_given_up (question request.head.method request.head.target) (sender (fields_of request.head)) → ByCalls registry t u (λ calls. IsMetBehind t.known errand result left calls u.known) → IsHandled (serving registry) t request result left u
   asked_behind {E} t u request errand (Ok reply) left same most m = asked_ok t u request errand reply same m
   asked_behind {E} t u request errand (Err e) left same most m = by_case m.holds
     where
-      by_case : (AreQuestions (most_questions errand) m.more × (t.known ≡ u.known)) ⊎ (IsAtEnd left × ((given : Answer) × IsErrandMet t.known errand given m.more u.known)) → IsHandled {E = E} (serving store) t request (Err e) left u
+      by_case : (AreQuestions (most_questions errand) m.more × (t.known ≡ u.known)) ⊎ (IsAtEnd left × ((given : Answer) × IsErrandMet t.known errand given m.more u.known)) → IsHandled {E = E} (serving registry) t request (Err e) left u
       by_case (inl still) = inl (inr (record { same_life = m.same_life; more = m.more; joined = m.joined; holds = (subst (λ n. AreQuestions n m.more) most still.0, still.1) }))
       by_case (inr (end, (given, met))) = inr (end, record { same_life = m.same_life; more = m.more; joined = m.joined; holds = (given, subst (λ c. IsErrandMet t.known c given m.more u.known) same met) })

@@ -3,37 +3,32 @@ use Rattle.std.proofs.Common.{◌≡◌, ℕ, false, ◌+◌, ◌≤◌, List, [
 use Rattle.std.specs.Prelude.{◌⊎◌}
 use Rattle.std.specs.Io.KnownBytes.{Consumes, IsAtEnd}
 use Rattle.std.proofs.lemmas.List.{append-nil}
-use Rattle.sqlite_trees.specs.declared.store.Store.{Ghosts}
-use Rattle.pid_service.specs.Files.{file_reading}
+use Rattle.pid_service_laws.specs.declared.moderated.Moderated.{Ghosts}
+use Rattle.pid_moderation.specs.Files.{file_reading}
 use Rattle.pid_moderation.specs.BeforeFile.{import_of}
 use Rattle.pid_moderation.specs.CheckTables.{most_file_bytes}
-use Rattle.pid_moderation.specs.History.{Asked, History}
+use Rattle.pid_moderation.specs.History.{Asked}
 use Rattle.pid_moderation.specs.Judgement.{after}
 use Rattle.pid_moderation.specs.declared.command.Reply.{Reply as Outcome}
 use Rattle.pid_moderation.specs.declared.refusal.Refusal.{Refusal}
 use Rattle.pid_moderation.specs.declared.refusal.Refusal.TheVariants as refusals
-use Rattle.pid_reader.specs.WholeInputs.{IsWhole}
-use Rattle.pid_service.specs.Histories.{Shows, FailsBetween}
-use Rattle.pid_service.specs.Importing.{HasRead, ObeysImport}
-use Rattle.pid_service.specs.Registries.{HasCleanDisk, is_live}
-use Rattle.pid_service.specs.declared.importing.ImportEnd.{ImportEnd}
-use Rattle.pid_service.specs.declared.importing.ImportEnd.TheVariants.{Refused, Body}
-use Rattle.pid_service.specs.declared.registry.Registry.{Registry}
+use Rattle.pid_file.specs.WholeInputs.{IsWhole}
+use Rattle.pid_service_laws.specs.Imports.{HasRead, ObeysFile, import_sent}
+use Rattle.pid_service_laws.specs.declared.faults.ImportEnd.{ImportEnd}
+use Rattle.pid_service_laws.specs.declared.faults.ImportEnd.TheVariants.{Refused, Body}
 use Rattle.pid_http_stream.specs.Replies.{Answer}
 use Rattle.pid_http_stream.specs.BodyLengths.{longest_body}
 use Rattle.pid_http_stream.specs.declared.handler.Reply.{Reply}
-use Rattle.pid_http_api.specs.declared.format.Format.{Format}
-use Rattle.pid_http_api.specs.Outcomes.{outcome_answer}
-use Rattle.pid_http_api.specs.Replying.{IsReplyOf}
+use Rattle.pid_http.specs.declared.api.format.Format.{Format}
+use Rattle.pid_http.specs.Api.Outcomes.{outcome_answer}
+use Rattle.pid_http.specs.Api.Replying.{IsReplyOf}
 use Rattle.pid_service_laws.specs.Calls.{Call, obeyed}
-use Rattle.pid_service_laws.specs.Registries.{Does}
-use Rattle.pid_service.specs.Lives.{import_sent, showing}
 use Rattle.pid_http.specs.Errands.{Errand, Obeys}
 use Rattle.pid_http.specs.Known.{Known, Live, Between, Down, IsKnownOf, LivesOn}
 use Rattle.pid_http.specs.Steps.Going.{Goes}
 use Rattle.pid_http.specs.Steps.Replying.{IsCommandMet, IsMetBehind}
 use Rattle.pid_http.specs.Serving.{AreQuestions, IsErrandMet, most_questions}
-use Rattle.pid_http.proofs.Meeting.{body_met, no_call, not_asked, obeyed_met, obeys_so, one_call, one_question, turned}
+use Rattle.pid_http.proofs.Meeting.{Lives, body_met, no_call, not_asked, obeyed_met, obeys_so, one_call, one_question, turned}
 
 -- what was read of a known body to its end is all of it
 whole : (file text : List ℕ) (left : Option (List ℕ)) → Consumes (Some file) left text → IsAtEnd left → (text ≡ file) × (left ≡ Some [])
@@ -72,97 +67,90 @@ by_cause end refusal is (inr e) = absurd (never end refusal is e)
     never : (end : ImportEnd) (refusal : Refusal) → end ≡ Refused refusal → IsEnd end Body → ⊥
     never end refusal is e = cc
 
-module _ {S : Type 0} (store : Ghosts S) where
-  abbrev Holds : Registry S store → Registry S store → Result Outcome ImportEnd → List ℕ → Option (List ℕ) → List ℕ → Type 0
-  Holds old new result account key text = HasCleanDisk store new → (h : History) → Shows store old h → ObeysImport store result new h (import_of account key (file_reading text))
+module _ {R : Type 0} (registry : Ghosts R) where
+  -- what is told of a call that obeys an import, by the text that it read
+  abbrev Holds : R → R → Result Outcome ImportEnd → List ℕ → Option (List ℕ) → List ℕ → Type 0
+  Holds old new result account key text = ObeysFile registry.showing registry.is_live old new result (import_of account key (file_reading text))
 
-  -- what is told of a call that obeys an import
-  abbrev pub CallsImport : Type 0
-  CallsImport =
-      (old new : Registry S store) (c : Asked) (result : Result Outcome ImportEnd) → (HasCleanDisk store new → HasCleanDisk store old)
-      → (is_live old ≡ false → ((result ≡ Err (Refused refusals.Failed)) ⊎ (result ≡ Err Body)) × (new ≡ old))
-      → (HasCleanDisk store new → (h : History) → Shows store old h → ObeysImport store result new h c) → Does (showing store) old (import_sent c result (is_live new)) new
-
-  abbrev imports_on : CallsImport → (old new : Registry S store) (result : Result Outcome ImportEnd) (account : List ℕ) (key : Option (List ℕ)) (to_come left : Option (List ℕ)) → (HasCleanDisk store new → HasCleanDisk store old)
-      → (is_live old ≡ false → ((result ≡ Err (Refused refusals.Failed)) ⊎ (result ≡ Err Body)) × (new ≡ old)) → HasRead result to_come left (Holds old new result account key) → LivesOn store old new
-  imports_on law old new result account key to_come left clean failed read =
-      let c = import_of account key (file_reading read.text) in
-      one_call store old new (import_sent c result (is_live new)) (law old new c result clean failed read.holds) (λ off. (failed off).1)
+  abbrev imports_on : (old new : R) (result : Result Outcome ImportEnd) (account : List ℕ) (key : Option (List ℕ)) (to_come left : Option (List ℕ))
+      → (registry.is_live old ≡ false → ((result ≡ Err (Refused refusals.Failed)) ⊎ (result ≡ Err Body)) × (new ≡ old)) → HasRead result to_come left (Holds old new result account key) → LivesOn registry old new
+  imports_on old new result account key to_come left failed read =
+      one_call registry old new (import_sent (import_of account key (file_reading read.text)) result (registry.is_live new)) read.holds.calls (λ off. (failed off).1)
 
   -- it was accepted
-  pub accepted : {E : Type 0} (old new : Registry S store) (reply : Outcome) (account : List ℕ) (key : Option (List ℕ)) (format : Format) (to_come left : Option (List ℕ)) (r : Result Reply E) → CallsImport
-      → (HasCleanDisk store new → HasCleanDisk store old) → (is_live old ≡ false → ((Ok reply ≡ Err (Refused refusals.Failed)) ⊎ (Ok reply ≡ Err Body)) × (new ≡ old))
+  pub accepted : {E : Type 0} → Lives registry → (old new : R) (reply : Outcome) (account : List ℕ) (key : Option (List ℕ)) (format : Format) (to_come left : Option (List ℕ)) (r : Result Reply E)
+      → (registry.is_live old ≡ false → ((Ok reply ≡ Err (Refused refusals.Failed)) ⊎ (Ok reply ≡ Err Body)) × (new ≡ old))
       → HasRead (Ok reply) to_come left (Holds old new (Ok reply) account key) → IfOk r (λ x. IsReplyOf x (outcome_answer format (Ok reply)))
-      → Goes store old new (λ k calls now. (file : List ℕ) → to_come ≡ Some file → length file ≤ longest_body → IsMetBehind k (Obeys (import_of account key (file_reading file)) format) r left calls now)
-  accepted old new reply account key format to_come left r law clean failed read is =
-      let lives = imports_on law old new (Ok reply) account key to_come left clean failed read in
-      turned store old new
+      → Goes registry old new (λ k calls now. (file : List ℕ) → to_come ≡ Some file → length file ≤ longest_body → IsMetBehind k (Obeys (import_of account key (file_reading file)) format) r left calls now)
+  accepted alive old new reply account key format to_come left r failed read is =
+      let lives = imports_on old new (Ok reply) account key to_come left failed read in
+      turned registry old new
       (λ k calls now obeys file e fits. let w = whole file read.text left (subst (λ x. Consumes x left read.text) e read.consumed) read.read.at_end in behind account key format file read.text (Ok reply) r left k calls now w.0 read.read.at_end is obeys)
-      (obeys_so store old new (Ok reply) (import_of account key (file_reading read.text)) lives refl clean (λ off. let f = failed off in (never f.0, f.1)) read.holds)
+      (obeys_so registry alive old new (Ok reply) (import_of account key (file_reading read.text)) lives refl read.holds.calls.clean (λ off. let f = failed off in (never f.0, f.1)) read.holds.leaves)
     where
       never : (Ok reply ≡ Err (Refused refusals.Failed)) ⊎ (Ok reply ≡ Err Body) → Ok reply ≡ Err refusals.Failed
       never (inl e) = absurd cc
       never (inr e) = absurd cc
 
   -- it was refused, and nothing was left of a body that is short enough
-  refused_so : {E : Type 0} (old new : Registry S store) (refusal : Refusal) (account : List ℕ) (key : Option (List ℕ)) (format : Format) (to_come left last : Option (List ℕ)) (r : Result Reply E) (lives : LivesOn store old new)
-      → (HasCleanDisk store new → HasCleanDisk store old) → (is_live old ≡ false → (◌≡◌ {A = Result Outcome Refusal} (Err refusal) (Err refusals.Failed)) × (new ≡ old))
-      → (read : HasRead (Err (Refused refusal)) to_come left (Holds old new (Err (Refused refusal)) account key)) → lives.calls ≡ obeyed (import_of account key (file_reading read.text)) (Err refusal) (is_live new) ∷ [] → (left ≡ Some [] → last ≡ Some []) → IfOk r (λ x. IsReplyOf x (outcome_answer format (Err refusal)))
-      → Goes store old new (λ k calls now. (file : List ℕ) → to_come ≡ Some file → length file ≤ longest_body → IsMetBehind k (Obeys (import_of account key (file_reading file)) format) r last calls now)
-  refused_so old new refusal account key format to_come left last r lives clean failed read by ended is =
-      turned store old new
+  refused_so : {E : Type 0} → Lives registry → (old new : R) (refusal : Refusal) (account : List ℕ) (key : Option (List ℕ)) (format : Format) (to_come left last : Option (List ℕ)) (r : Result Reply E) (lives : LivesOn registry old new)
+      → (registry.is_live old ≡ false → (◌≡◌ {A = Result Outcome Refusal} (Err refusal) (Err refusals.Failed)) × (new ≡ old))
+      → (read : HasRead (Err (Refused refusal)) to_come left (Holds old new (Err (Refused refusal)) account key)) → lives.calls ≡ obeyed (import_of account key (file_reading read.text)) (Err refusal) (registry.is_live new) ∷ [] → (left ≡ Some [] → last ≡ Some []) → IfOk r (λ x. IsReplyOf x (outcome_answer format (Err refusal)))
+      → Goes registry old new (λ k calls now. (file : List ℕ) → to_come ≡ Some file → length file ≤ longest_body → IsMetBehind k (Obeys (import_of account key (file_reading file)) format) r last calls now)
+  refused_so alive old new refusal account key format to_come left last r lives failed read by ended is =
+      turned registry old new
       (λ k calls now obeys file e fits.
       let w = refused_whole file read.text left fits (subst (λ x. Consumes x left read.text) e read.consumed) read.read in
       behind account key format file read.text (Err refusal) r last k calls now w.0 (subst IsAtEnd (sym (ended w.1)) refl) is obeys)
-      (obeys_so store old new (Err refusal) (import_of account key (file_reading read.text)) lives by clean failed read.holds)
+      (obeys_so registry alive old new (Err refusal) (import_of account key (file_reading read.text)) lives by read.holds.calls.clean failed read.holds.leaves)
 
-  pub refused : {E : Type 0} (old new : Registry S store) (end : ImportEnd) (refusal : Refusal) (account : List ℕ) (key : Option (List ℕ)) (format : Format) (to_come left last : Option (List ℕ)) (r : Result Reply E)
-      → end ≡ Refused refusal → CallsImport → (HasCleanDisk store new → HasCleanDisk store old) → (is_live old ≡ false → (IsEnd end (Refused refusals.Failed) ⊎ IsEnd end Body) × (new ≡ old))
+  pub refused : {E : Type 0} → Lives registry → (old new : R) (end : ImportEnd) (refusal : Refusal) (account : List ℕ) (key : Option (List ℕ)) (format : Format) (to_come left last : Option (List ℕ)) (r : Result Reply E)
+      → end ≡ Refused refusal → (registry.is_live old ≡ false → (IsEnd end (Refused refusals.Failed) ⊎ IsEnd end Body) × (new ≡ old))
       → HasRead (Err end) to_come left (Holds old new (Err end) account key) → (left ≡ Some [] → last ≡ Some []) → IfOk r (λ x. IsReplyOf x (outcome_answer format (Err refusal)))
-      → Goes store old new (λ k calls now. (file : List ℕ) → to_come ≡ Some file → length file ≤ longest_body → IsMetBehind k (Obeys (import_of account key (file_reading file)) format) r last calls now)
-  refused {E} old new end refusal account key format to_come left last r is_end law clean failed read ended is =
+      → Goes registry old new (λ k calls now. (file : List ℕ) → to_come ≡ Some file → length file ≤ longest_body → IsMetBehind k (Obeys (import_of account key (file_reading file)) format) r last calls now)
+  refused {E} alive old new end refusal account key format to_come left last r is_end failed read ended is =
       subst By (sym is_end)
       (λ failed read.
-      refused_so old new refusal account key format to_come left last r (imports_on law old new (Err (Refused refusal)) account key to_come left clean failed read) clean
+      refused_so alive old new refusal account key format to_come left last r (imports_on old new (Err (Refused refusal)) account key to_come left failed read)
       (λ off. let f = failed off in (by_cause (Refused refusal) refusal refl f.0, f.1)) read refl ended is)
       failed read
     where
       By : ImportEnd → Type 0
-      By x = (is_live old ≡ false → (IsEnd x (Refused refusals.Failed) ⊎ IsEnd x Body) × (new ≡ old)) → HasRead (Err x) to_come left (Holds old new (Err x) account key)
-          → Goes store old new (λ k calls now. (file : List ℕ) → to_come ≡ Some file → length file ≤ longest_body → IsMetBehind k (Obeys (import_of account key (file_reading file)) format) r last calls now)
+      By x = (registry.is_live old ≡ false → (IsEnd x (Refused refusals.Failed) ⊎ IsEnd x Body) × (new ≡ old)) → HasRead (Err x) to_come left (Holds old new (Err x) account key)
+          → Goes registry old new (λ k calls now. (file : List ℕ) → to_come ≡ Some file → length file ≤ longest_body → IsMetBehind k (Obeys (import_of account key (file_reading file)) format) r last calls now)
 
   -- it was not asked for, and the body was read to its end, or given up
-  pub denied_behind : {E : Type 0} (r : Registry S store) (errand : List ℕ → Errand) (given : Answer) (result : Result Reply E) (to_come left : Option (List ℕ)) → IfOk result (λ _. IsAtEnd left) → IfOk result (λ reply. IsReplyOf reply given)
-      → ((file : List ℕ) (k : Known) → IsErrandMet k (errand file) given [] k) → Goes store r r (λ k calls now. (file : List ℕ) → to_come ≡ Some file → length file ≤ longest_body → IsMetBehind k (errand file) result left calls now)
-  denied_behind {E} r errand given result to_come left end is met = no_call store r _ (λ k file known fits. by_reply result is k file)
+  pub denied_behind : {E : Type 0} (r : R) (errand : List ℕ → Errand) (given : Answer) (result : Result Reply E) (to_come left : Option (List ℕ)) → IfOk result (λ _. IsAtEnd left) → IfOk result (λ reply. IsReplyOf reply given)
+      → ((file : List ℕ) (k : Known) → IsErrandMet k (errand file) given [] k) → Goes registry r r (λ k calls now. (file : List ℕ) → to_come ≡ Some file → length file ≤ longest_body → IsMetBehind k (errand file) result left calls now)
+  denied_behind {E} r errand given result to_come left end is met = no_call registry r _ (λ k file known fits. by_reply result is k file)
     where
       by_reply : (result : Result Reply E) → IfOk result (λ reply. IsReplyOf reply given) → (k : Known) (file : List ℕ) → IsMetBehind k (errand file) result left [] k
       by_reply (Ok reply) is k file = body_met k k (errand file) reply.head reply.body given [] is (met file k)
       by_reply (Err e) is k file = inl (not_asked (most_questions (errand file)), refl)
 
   -- by the words of the sender
-  pub of_owner : {E : Type 0} (old new : Registry S store) (account said : List ℕ) (key told : Option (List ℕ)) (format : Format) (result : Result Reply E) (to_come left : Option (List ℕ)) → account ≡ said → key ≡ told
-      → Goes store old new (λ k calls now. (file : List ℕ) → to_come ≡ Some file → length file ≤ longest_body → IsMetBehind k (Obeys (import_of account key (file_reading file)) format) result left calls now)
-      → Goes store old new (λ k calls now. (file : List ℕ) → to_come ≡ Some file → length file ≤ longest_body → IsMetBehind k (Obeys (import_of said told (file_reading file)) format) result left calls now)
+  pub of_owner : {E : Type 0} (old new : R) (account said : List ℕ) (key told : Option (List ℕ)) (format : Format) (result : Result Reply E) (to_come left : Option (List ℕ)) → account ≡ said → key ≡ told
+      → Goes registry old new (λ k calls now. (file : List ℕ) → to_come ≡ Some file → length file ≤ longest_body → IsMetBehind k (Obeys (import_of account key (file_reading file)) format) result left calls now)
+      → Goes registry old new (λ k calls now. (file : List ℕ) → to_come ≡ Some file → length file ≤ longest_body → IsMetBehind k (Obeys (import_of said told (file_reading file)) format) result left calls now)
   of_owner old new account said key told format result to_come left e f goes =
-      turned store old new (λ k calls now behind file known fits. subst (λ (c : Asked). IsMetBehind k (Obeys c format) result left calls now) (λ i. import_of (e i) (f i) (file_reading file)) (behind file known fits)) goes
+      turned registry old new (λ k calls now behind file known fits. subst (λ (c : Asked). IsMetBehind k (Obeys c format) result left calls now) (λ i. import_of (e i) (f i) (file_reading file)) (behind file known fits)) goes
 
   -- the input failed
-  pub gave_up : (old new : Registry S store) (end : ImportEnd) (account : List ℕ) (key : Option (List ℕ)) (to_come left : Option (List ℕ)) (errand : List ℕ → Errand)
-      → ((file : List ℕ) → 1 ≤ most_questions (errand file)) → end ≡ Body → CallsImport → (HasCleanDisk store new → HasCleanDisk store old) → (is_live old ≡ false → (IsEnd end (Refused refusals.Failed) ⊎ IsEnd end Body) × (new ≡ old)) → HasRead (Err end) to_come left (Holds old new (Err end) account key)
-      → Goes store old new (λ k calls now. (file : List ℕ) → to_come ≡ Some file → length file ≤ longest_body → (AreQuestions (most_questions (errand file)) calls × (k ≡ now)) ⊎ (IsAtEnd left × ((given : Answer) × IsErrandMet k (errand file) given calls now)))
-  gave_up old new end account key to_come left errand takes is law clean failed read = record {
-    lives = imports_on law old new (Err end) account key to_come left clean failed read;
+  pub gave_up : Lives registry → (old new : R) (end : ImportEnd) (account : List ℕ) (key : Option (List ℕ)) (to_come left : Option (List ℕ)) (errand : List ℕ → Errand)
+      → ((file : List ℕ) → 1 ≤ most_questions (errand file)) → end ≡ Body → (registry.is_live old ≡ false → (IsEnd end (Refused refusals.Failed) ⊎ IsEnd end Body) × (new ≡ old)) → HasRead (Err end) to_come left (Holds old new (Err end) account key)
+      → Goes registry old new (λ k calls now. (file : List ℕ) → to_come ≡ Some file → length file ≤ longest_body → (AreQuestions (most_questions (errand file)) calls × (k ≡ now)) ⊎ (IsAtEnd left × ((given : Answer) × IsErrandMet k (errand file) given calls now)))
+  gave_up alive old new end account key to_come left errand takes is failed read = record {
+    lives = imports_on old new (Err end) account key to_come left failed read;
     served = record {
-      good = clean;
-      leads = λ good k known. (k, still (subst (λ x. HasRead (Err x) to_come left (Holds old new (Err x) account key)) is read) good k known, λ file comes fits. inl (subst (λ x. AreQuestions (most_questions (errand file)) (import_sent (import_of account key (file_reading read.text)) (Err x) (is_live new) ∷ [])) (sym is) (one_question.0, takes file), refl));
+      good = read.holds.calls.clean;
+      leads = λ good k known. (k, still (subst (λ x. HasRead (Err x) to_come left (Holds old new (Err x) account key)) is read) good k known, λ file comes fits. inl (subst (λ x. AreQuestions (most_questions (errand file)) (import_sent (import_of account key (file_reading read.text)) (Err x) (registry.is_live new) ∷ [])) (sym is) (one_question.0, takes file), refl));
     };
   }
     where
-      still : HasRead (Err Body) to_come left (Holds old new (Err Body) account key) → HasCleanDisk store new → (k : Known) → IsKnownOf store old k → IsKnownOf store new k
-      still was good (Live h) shows = was.holds good h shows
-      still was good (Between before after) fails = subst (λ r. FailsBetween store r before after) (sym (failed fails.has_failed).1) fails
-      still was good Down off = subst (λ r. is_live r ≡ false) (sym (failed off).1) off
+      still : HasRead (Err Body) to_come left (Holds old new (Err Body) account key) → registry.showing.is_clean new → (k : Known) → IsKnownOf registry old k → IsKnownOf registry new k
+      still was good (Live h) shows = was.holds.leaves good h shows
+      still was good (Between before after) fails = subst (λ r. registry.showing.fails_between r before after) (sym (failed (alive.fallen old before after fails)).1) fails
+      still was good Down off = subst (λ r. registry.is_live r ≡ false) (sym (failed off).1) off
 
 behind_none : (text more : List ℕ) → [] ≡ text ++ more → more ≡ []
 behind_none [] more e = sym e

@@ -5,3 +5,4 @@ pub mod Handled
 pub mod Served
 pub mod Sendings
 pub mod Streams
+pub mod OfApi

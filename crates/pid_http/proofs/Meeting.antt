@@ -1,36 +1,32 @@
 -- How a call of the registry meets what a request comes to.
 use Rattle.std.proofs.Common.{◌≡◌, ◌≤◌, ℕ, Bool, true, false, List, [], ◌∷◌, ◌++◌, Option, Some, None, Result, Ok, Err, IfOk, refl, sym, ap, subst, ◌∙◌, inl, inr, arith}
 use Rattle.std.specs.Prelude.{◌⊎◌, MatchResult}
-use Rattle.sqlite_trees.specs.declared.store.Store.{Ghosts}
+use Rattle.pid_service_laws.specs.declared.moderated.Moderated.{Ghosts}
 use Rattle.pid_service_laws.specs.Calls.{Call, nothing_sent, obeyed as sends}
-use Rattle.pid_service_laws.specs.Registries.{Does}
+use Rattle.pid_service_laws.specs.Registries.{CommandLeaves, Does}
 use Rattle.pid_moderation.specs.History.{Asked, History}
 use Rattle.pid_moderation.specs.Judgement.{after}
 use Rattle.pid_moderation.specs.declared.command.Command.{Command}
 use Rattle.pid_moderation.specs.declared.command.Reply.{Reply as Outcome}
 use Rattle.pid_moderation.specs.declared.refusal.Refusal.{Refusal}
 use Rattle.pid_moderation.specs.declared.refusal.Refusal.TheVariants as refusals
-use Rattle.pid_service.specs.Asking.{Answers}
-use Rattle.pid_service.specs.Histories.{IsMemoryOrStore, Shows, FailsBetween}
-use Rattle.pid_service.specs.Lives.{showing}
-use Rattle.pid_service.specs.Obeying as service_obeys
-use Rattle.pid_service.specs.Registries.{HasCleanDisk, is_live}
-use Rattle.pid_service.specs.declared.registry.Registry.{Registry}
+use Rattle.pid_service_laws.specs.Questions.{IsAnswered, ShowsWhileLive}
+use Rattle.pid_service_laws.specs.Outcomes.{IsMemoryOrStore}
 use Rattle.pid_http_stream.specs.Leading.{Leads}
 use Rattle.pid_http_stream.specs.Replies.{Answer}
 use Rattle.pid_http_stream.specs.declared.handler.Reply.{Reply}
 use Rattle.pid_http_stream.specs.declared.handler.ReplyBody.{ReplyBody}
 use Rattle.pid_http_stream.specs.declared.handler.ReplyBody.TheVariants.{Bytes, Written}
 use Rattle.pid_http_stream.specs.declared.reply_head.ReplyHead.{ReplyHead}
-use Rattle.pid_http_api.specs.Senders.{Sending}
-use Rattle.pid_http_api.specs.declared.format.Format.{Format}
-use Rattle.pid_http_api.specs.Outcomes.{outcome_answer}
-use Rattle.pid_http_api.specs.Replying.{IsReplyOf, IsBodyOf}
+use Rattle.pid_http.specs.Api.Senders.{Sending}
+use Rattle.pid_http.specs.declared.api.format.Format.{Format}
+use Rattle.pid_http.specs.Api.Outcomes.{outcome_answer}
+use Rattle.pid_http.specs.Api.Replying.{IsReplyOf, IsBodyOf}
 use Rattle.pid_http.specs.Answering.{answer_over, history_behind, IsErrandRefused, LacksForm}
 use Rattle.pid_http.specs.Errands.{Errand, Answered, Denied, Obeys, Children, command_sent, command_errand, import_errand, known_answer}
 use Rattle.pid_http.specs.Known.{Known, Live, Between, Down, IsKnownOf, LivesOn, IsToldOf, ByCalls}
 use Rattle.pid_http.specs.Steps.Going.{Goes, calls_join}
-use Rattle.pid_http.specs.Steps.Replying.{CommandsAreCalls, QuestionsAreCalls, IsCommandMet, IsBodyMet, IsMetBy, answer_or}
+use Rattle.pid_http.specs.Steps.Replying.{IsCommandMet, IsBodyMet, IsMetBy, answer_or}
 use Rattle.pid_http.specs.Serving.{IsErrandMet, IsMetOver, AnsweredOver, NotAsked, NotDone, InDoubt, AreCallsOver, AreQuestions, AreUndone, IsFailedAnswer, Refused, AsEver, Short, most_questions}
 
 -- what only asks: its answer by what is found
@@ -132,64 +128,58 @@ form_refused refusal made format f k = by_cause (memory_or refusal made f)
     by_cause (inl e) = subst (λ (r : Refusal). IsErrandMet k (command_errand format made) (outcome_answer format (Err r)) [] k) (sym e) (short made format k)
     by_cause (inr e) = subst (λ (m : Result Command Refusal). IsErrandMet k (command_errand format m) (outcome_answer format (Err refusal)) [] k) (sym e) (denied refusal format k)
 
-module _ {S : Type 0} (store : Ghosts S) where
+module _ {R : Type 0} (registry : Ghosts R) where
   -- one call, which did what lives ask of it
-  abbrev pub one_call : (old new : Registry S store) (call : Call) → Does (showing store) old call new → (is_live old ≡ false → new ≡ old) → LivesOn store old new
+  abbrev pub one_call : (old new : R) (call : Call) → Does registry.showing old call new → (registry.is_live old ≡ false → new ≡ old) → LivesOn registry old new
   one_call old new call does rests = record { rests = rests; calls = call ∷ []; lead = (new, does, refl) }
 
-  abbrev pub CallsLook : Type 0
-  CallsLook = QuestionsAreCalls store
-
-  abbrev pub looked : CallsLook → (old new : Registry S store) → (HasCleanDisk store new → HasCleanDisk store old) → (is_live old ≡ false → new ≡ old)
-      → (HasCleanDisk store new → (h : History) → Shows store old h → Shows store new h) → LivesOn store old new
-  looked look old new clean rests shown = one_call old new nothing_sent (look old new clean rests shown) rests
-
-  abbrev pub CallsObey : Type 0
-  CallsObey = CommandsAreCalls store
+  -- it is live while it shows a history, and not when it has failed between two
+  abbrev pub Lives : Type 0
+  Lives = ShowsWhileLive registry.showing registry.is_live
 
   -- a question
-  abbrev pub asked_on : CallsLook → {X : Type 0} (old new : Registry S store) (result : Result X Refusal) (Says : History → X → Type 0) → Answers store old new result Says → LivesOn store old new
-  asked_on look old new result Says a = looked look old new a.rests.clean (λ off. (a.failed off).1) (λ good h shows. (a.told good h shows).1)
+  abbrev pub asked_on : {X : Type 0} (old new : R) (result : Result X Refusal) (Says : History → X → Type 0) → IsAnswered registry.showing registry.is_live old new result Says → LivesOn registry old new
+  asked_on old new result Says a = one_call old new nothing_sent a.calls (λ off. (a.failed off).1)
 
-  over_command : (new : Registry S store) (result : Result Outcome Refusal) (h : History) (c : Asked) (calls : List Call) → calls ≡ sends c result (is_live new) ∷ [] → service_obeys.Obeys store result new h c
-      → (now : Known) × IsKnownOf store new now × IsCommandMet c (Live h) result calls now
-  over_command new result h c calls by obeys = by_case obeys
+  over_command : Lives → (new : R) (result : Result Outcome Refusal) (h : History) (c : Asked) (calls : List Call) → calls ≡ sends c result (registry.is_live new) ∷ [] → CommandLeaves registry.showing result new h c
+      → (now : Known) × IsKnownOf registry new now × IsCommandMet c (Live h) result calls now
+  over_command lives new result h c calls by obeys = by_case obeys
     where
-      at : (live : Bool) → is_live new ≡ live → calls ≡ sends c result live ∷ []
+      at : (live : Bool) → registry.is_live new ≡ live → calls ≡ sends c result live ∷ []
       at live is = by ∙ ap (λ (b : Bool). sends c result b ∷ []) is
 
-      by_case : service_obeys.Obeys store result new h c → (now : Known) × IsKnownOf store new now × IsCommandMet c (Live h) result calls now
-      by_case (inl (e, shows)) = (Live (after h c), shows, inl (e, at true shows.lives, refl))
-      by_case (inr (fault, inl shows)) = (Live h, shows, inr (fault, inl (at true shows.lives, refl)))
-      by_case (inr (fault, inr fails)) = (Between h (after h c), fails, inr (fault, inr (at false fails.has_failed, refl)))
+      by_case : CommandLeaves registry.showing result new h c → (now : Known) × IsKnownOf registry new now × IsCommandMet c (Live h) result calls now
+      by_case (inl (e, shows)) = (Live (after h c), shows, inl (e, at true (lives.shown new (after h c) shows), refl))
+      by_case (inr (fault, inl shows)) = (Live h, shows, inr (fault, inl (at true (lives.shown new h shows), refl)))
+      by_case (inr (fault, inr fails)) = (Between h (after h c), fails, inr (fault, inr (at false (lives.fallen new h (after h c) fails), refl)))
 
   -- one that had failed before sends nothing
-  nothing_by : (new : Registry S store) (result : Result Outcome Refusal) (c : Asked) (calls : List Call) → calls ≡ sends c result (is_live new) ∷ [] → result ≡ Err refusals.Failed → AreQuestions 1 calls
-  nothing_by new result c calls by e = subst (AreQuestions 1) (sym (by ∙ ap (λ (r : Result Outcome Refusal). sends c r (is_live new) ∷ []) e)) one_question
+  nothing_by : (new : R) (result : Result Outcome Refusal) (c : Asked) (calls : List Call) → calls ≡ sends c result (registry.is_live new) ∷ [] → result ≡ Err refusals.Failed → AreQuestions 1 calls
+  nothing_by new result c calls by e = subst (AreQuestions 1) (sym (by ∙ ap (λ (r : Result Outcome Refusal). sends c r (registry.is_live new) ∷ []) e)) one_question
 
   -- a command, by what is told of `obey`
-  pub obeys_so : (old new : Registry S store) (result : Result Outcome Refusal) (c : Asked) (lives : LivesOn store old new) → lives.calls ≡ sends c result (is_live new) ∷ []
-      → (HasCleanDisk store new → HasCleanDisk store old) → (is_live old ≡ false → (result ≡ Err refusals.Failed) × (new ≡ old))
-      → (HasCleanDisk store new → (h : History) → Shows store old h → service_obeys.Obeys store result new h c) → Goes store old new (λ k calls now. IsCommandMet c k result calls now)
-  obeys_so old new result c lives by clean failed obeys = record { lives = lives; served = record { good = clean; leads = leads } }
+  pub obeys_so : Lives → (old new : R) (result : Result Outcome Refusal) (c : Asked) (lives : LivesOn registry old new) → lives.calls ≡ sends c result (registry.is_live new) ∷ []
+      → (registry.showing.is_clean new → registry.showing.is_clean old) → (registry.is_live old ≡ false → (result ≡ Err refusals.Failed) × (new ≡ old))
+      → (registry.showing.is_clean new → (h : History) → registry.showing.shows old h → CommandLeaves registry.showing result new h c) → Goes registry old new (λ k calls now. IsCommandMet c k result calls now)
+  obeys_so alive old new result c lives by clean failed obeys = record { lives = lives; served = record { good = clean; leads = leads } }
     where
-      leads : HasCleanDisk store new → (k : Known) → IsKnownOf store old k → (now : Known) × IsKnownOf store new now × IsCommandMet c k result lives.calls now
-      leads good (Live h) shows = over_command new result h c lives.calls by (obeys good h shows)
+      leads : registry.showing.is_clean new → (k : Known) → IsKnownOf registry old k → (now : Known) × IsKnownOf registry new now × IsCommandMet c k result lives.calls now
+      leads good (Live h) shows = over_command alive new result h c lives.calls by (obeys good h shows)
       leads good (Between before behind) fails =
-          let f = failed fails.has_failed in
-          (Between before behind, subst (λ r. FailsBetween store r before behind) (sym f.1) fails, (f.0, nothing_by new result c lives.calls by f.0, refl))
-      leads good Down off = let f = failed off in (Down, subst (λ r. is_live r ≡ false) (sym f.1) off, (f.0, nothing_by new result c lives.calls by f.0, refl))
+          let f = failed (alive.fallen old before behind fails) in
+          (Between before behind, subst (λ r. registry.showing.fails_between r before behind) (sym f.1) fails, (f.0, nothing_by new result c lives.calls by f.0, refl))
+      leads good Down off = let f = failed off in (Down, subst (λ r. registry.is_live r ≡ false) (sym f.1) off, (f.0, nothing_by new result c lives.calls by f.0, refl))
 
-  pub obeyed : CallsObey → (old new : Registry S store) (result : Result Outcome Refusal) (c : Asked)
-      → (HasCleanDisk store new → HasCleanDisk store old) → (is_live old ≡ false → (result ≡ Err refusals.Failed) × (new ≡ old))
-      → (HasCleanDisk store new → (h : History) → Shows store old h → service_obeys.Obeys store result new h c) → Goes store old new (λ k calls now. IsCommandMet c k result calls now)
-  obeyed law old new result c clean failed obeys =
-      obeys_so old new result c (one_call old new (sends c result (is_live new)) (law old new c result clean failed obeys) (λ off. (failed off).1)) refl clean failed obeys
+  pub obeyed : Lives → (old new : R) (result : Result Outcome Refusal) (c : Asked) → Does registry.showing old (sends c result (registry.is_live new)) new
+      → (registry.is_live old ≡ false → (result ≡ Err refusals.Failed) × (new ≡ old))
+      → (registry.showing.is_clean new → (h : History) → registry.showing.shows old h → CommandLeaves registry.showing result new h c) → Goes registry old new (λ k calls now. IsCommandMet c k result calls now)
+  obeyed alive old new result c does failed obeys =
+      obeys_so alive old new result c (one_call old new (sends c result (registry.is_live new)) does (λ off. (failed off).1)) refl does.clean failed obeys
 
   -- one that has failed answers that it has, and stays
-  down : {X : Type 0} (old new : Registry S store) (result : Result X Refusal) (Says : History → X → Type 0) → Answers store old new result Says → (k : Known) → is_live old ≡ false → IsKnownOf store old k
-      → (result ≡ Err refusals.Failed) × IsKnownOf store new k
-  down old new result Says a k off known = let f = a.failed off in (f.0, subst (λ r. IsKnownOf store r k) (sym f.1) known)
+  down : {X : Type 0} (old new : R) (result : Result X Refusal) (Says : History → X → Type 0) → IsAnswered registry.showing registry.is_live old new result Says → (k : Known) → registry.is_live old ≡ false → IsKnownOf registry old k
+      → (result ≡ Err refusals.Failed) × IsKnownOf registry new k
+  down old new result Says a k off known = let f = a.failed off in (f.0, subst (λ r. IsKnownOf registry r k) (sym f.1) known)
 
   over_history : {X : Type 0} (result : Result X Refusal) (Says : History → X → Type 0) (format : Format) (found : X → Answer) (errand : Errand) (calls : List Call) → AreQuestions (most_questions errand) calls → IsQuestion format found Says errand
       → (h : History) → MatchResult result (Says h) IsMemoryOrStore → IsMetOver h errand (answer_or format found result) calls (Live h)
@@ -201,113 +191,105 @@ module _ {S : Type 0} (store : Ghosts S) where
       → result ≡ Err refusals.Failed → IsErrandRefused errand refusals.Failed (answer_or format found result)
   failed_so result format found errand refused e = let r = refused refusals.Failed in (r.0, ap (answer_or format found) e ∙ r.1)
 
-  met : {X : Type 0} (old new : Registry S store) (result : Result X Refusal) (Says : History → X → Type 0) (format : Format) (found : X → Answer) (errand : Errand)
-      → IsQuestion format found Says errand → Answers store old new result Says → HasCleanDisk store new → (k : Known) → IsKnownOf store old k
-      → (now : Known) × IsKnownOf store new now × IsErrandMet k errand (answer_or format found result) (nothing_sent ∷ []) now
-  met old new result Says format found errand q a good (Live h) shows =
+  met : Lives → {X : Type 0} (old new : R) (result : Result X Refusal) (Says : History → X → Type 0) (format : Format) (found : X → Answer) (errand : Errand)
+      → IsQuestion format found Says errand → IsAnswered registry.showing registry.is_live old new result Says → registry.showing.is_clean new → (k : Known) → IsKnownOf registry old k
+      → (now : Known) × IsKnownOf registry new now × IsErrandMet k errand (answer_or format found result) (nothing_sent ∷ []) now
+  met alive old new result Says format found errand q a good (Live h) shows =
       let t = a.told good h shows in (Live h, t.1, over_history result Says format found errand (nothing_sent ∷ []) (asked_once errand (q.refused refusals.Failed).0) q h t.0)
-  met old new result Says format found errand q a good (Between before behind) fails =
-      let d = down old new result Says a (Between before behind) fails.has_failed fails in
+  met alive old new result Says format found errand q a good (Between before behind) fails =
+      let d = down old new result Says a (Between before behind) (alive.fallen old before behind fails) fails in
       (Between before behind, d.1, (Refused (failed_so result format found errand q.refused d.0) one_question, refl))
-  met old new result Says format found errand q a good Down off =
+  met alive old new result Says format found errand q a good Down off =
       let d = down old new result Says a Down off off in
       (Down, d.1, (Refused (failed_so result format found errand q.refused d.0) one_question, refl))
 
-  pub question_met : CallsLook → {X : Type 0} (old new : Registry S store) (result : Result X Refusal) (Says : History → X → Type 0) (format : Format) (found : X → Answer) (errand : Errand)
-      → IsQuestion format found Says errand → Answers store old new result Says → Goes store old new (λ k calls now. IsErrandMet k errand (answer_or format found result) calls now)
-  question_met look old new result Says format found errand q a = record {
-    lives = asked_on look old new result Says a;
-    served = record { good = a.rests.clean; leads = λ good k known. met old new result Says format found errand q a good k known };
+  pub question_met : Lives → {X : Type 0} (old new : R) (result : Result X Refusal) (Says : History → X → Type 0) (format : Format) (found : X → Answer) (errand : Errand)
+      → IsQuestion format found Says errand → IsAnswered registry.showing registry.is_live old new result Says → Goes registry old new (λ k calls now. IsErrandMet k errand (answer_or format found result) calls now)
+  question_met alive old new result Says format found errand q a = record {
+    lives = asked_on old new result Says a;
+    served = record { good = a.calls.clean; leads = λ good k known. met alive old new result Says format found errand q a good k known };
   }
 
   -- a call of its own kind, which sends nothing: what it comes to over a history, and where the registry had failed
-  pub from_call : (old new : Registry S store) (errand : Errand) (given : Answer) (lives : LivesOn store old new) → (HasCleanDisk store new → HasCleanDisk store old)
-      → (HasCleanDisk store new → (h : History) → Shows store old h → (now : Known) × IsKnownOf store new now × IsMetOver h errand given lives.calls now)
-      → (is_live old ≡ false → IsFailedAnswer errand given lives.calls) → Goes store old new (λ k calls now. IsErrandMet k errand given calls now)
-  from_call old new errand given lives clean over failed = record { lives = lives; served = record { good = clean; leads = leads } }
+  pub from_call : Lives → (old new : R) (errand : Errand) (given : Answer) (lives : LivesOn registry old new) → (registry.showing.is_clean new → registry.showing.is_clean old)
+      → (registry.showing.is_clean new → (h : History) → registry.showing.shows old h → (now : Known) × IsKnownOf registry new now × IsMetOver h errand given lives.calls now)
+      → (registry.is_live old ≡ false → IsFailedAnswer errand given lives.calls) → Goes registry old new (λ k calls now. IsErrandMet k errand given calls now)
+  from_call alive old new errand given lives clean over failed = record { lives = lives; served = record { good = clean; leads = leads } }
     where
-      leads : HasCleanDisk store new → (k : Known) → IsKnownOf store old k → (now : Known) × IsKnownOf store new now × IsErrandMet k errand given lives.calls now
+      leads : registry.showing.is_clean new → (k : Known) → IsKnownOf registry old k → (now : Known) × IsKnownOf registry new now × IsErrandMet k errand given lives.calls now
       leads good (Live h) shows = over good h shows
       leads good (Between before behind) fails =
-          (Between before behind, subst (λ r. FailsBetween store r before behind) (sym (lives.rests fails.has_failed)) fails, (failed fails.has_failed, refl))
-      leads good Down off = (Down, subst (λ r. is_live r ≡ false) (sym (lives.rests off)) off, (failed off, refl))
+          (Between before behind, subst (λ r. registry.showing.fails_between r before behind) (sym (lives.rests (alive.fallen old before behind fails))) fails, (failed (alive.fallen old before behind fails), refl))
+      leads good Down off = (Down, subst (λ r. registry.is_live r ≡ false) (sym (lives.rests off)) off, (failed off, refl))
 
   by_found : {Y : Type 0} (result : Result Y Refusal) (P Q : Y → Type 0) (M : Refusal → Type 0) → ((y : Y) → P y → Q y) → MatchResult result P M → MatchResult result Q M
   by_found (Ok y) P Q M f m = f y m
   by_found (Err e) P Q M f m = m
 
   -- two questions, one after the other
-  pub question_then : CallsLook → {X Y : Type 0} (old mid new : Registry S store) (first : X) (result : Result Y Refusal) (Holds : History → X → Type 0) (Tells Says : History → Y → Type 0) (format : Format) (found : Y → Answer) (errand : Errand)
-      → IsQuestion format found Says errand → 2 ≤ most_questions errand → ((h : History) (y : Y) → Holds h first → Tells h y → Says h y) → Answers store old mid (Ok first) Holds → Answers store mid new result Tells
-      → Goes store old new (λ k calls now. IsErrandMet k errand (answer_or format found result) calls now)
-  question_then look old mid new first result Holds Tells Says format found errand q twice both a b =
-      let lives : LivesOn store old new = record {
+  pub question_then : Lives → {X Y : Type 0} (old mid new : R) (first : X) (result : Result Y Refusal) (Holds : History → X → Type 0) (Tells Says : History → Y → Type 0) (format : Format) (found : Y → Answer) (errand : Errand)
+      → IsQuestion format found Says errand → 2 ≤ most_questions errand → ((h : History) (y : Y) → Holds h first → Tells h y → Says h y) → IsAnswered registry.showing registry.is_live old mid (Ok first) Holds → IsAnswered registry.showing registry.is_live mid new result Tells
+      → Goes registry old new (λ k calls now. IsErrandMet k errand (answer_or format found result) calls now)
+  question_then alive old mid new first result Holds Tells Says format found errand q twice both a b =
+      let lives : LivesOn registry old new = record {
         rests = λ off. found_is_none first refusals.Failed (a.failed off).0;
         calls = nothing_sent ∷ nothing_sent ∷ [];
-        lead = (mid, look old mid a.rests.clean (λ off. (a.failed off).1) (λ good h shows. (a.told good h shows).1), (new, look mid new b.rests.clean (λ off. (b.failed off).1) (λ good h shows. (b.told good h shows).1), refl));
+        lead = (mid, a.calls, (new, b.calls, refl));
       } in
-      from_call old new errand (answer_or format found result) lives (λ clean. a.rests.clean (b.rests.clean clean))
+      from_call alive old new errand (answer_or format found result) lives (λ clean. a.calls.clean (b.calls.clean clean))
       (λ good h shows.
-      let t = a.told (b.rests.clean good) h shows in
+      let t = a.told (b.calls.clean good) h shows in
       let u = b.told good h t.1 in
       (Live h, u.1, over_history result Says format found errand (nothing_sent ∷ nothing_sent ∷ []) ((refl, (refl, tt)), twice) q h (by_found result (Tells h) (Says h) IsMemoryOrStore (λ y tells. both h y t.0 tells) u.0)))
       (λ off. found_is_none first refusals.Failed (a.failed off).0)
 
   -- an answer says what follows from it
-  pub answers_by : {Y : Type 0} (old new : Registry S store) (result : Result Y Refusal) (Tells Says : History → Y → Type 0) → ((h : History) (y : Y) → Tells h y → Says h y) → Answers store old new result Tells → Answers store old new result Says
+  pub answers_by : {Y : Type 0} (old new : R) (result : Result Y Refusal) (Tells Says : History → Y → Type 0) → ((h : History) (y : Y) → Tells h y → Says h y) → IsAnswered registry.showing registry.is_live old new result Tells → IsAnswered registry.showing registry.is_live old new result Says
   answers_by old new result Tells Says f a = record {
+    calls = a.calls;
     failed = a.failed;
-    fault = a.fault;
-    lives = a.lives;
-    rests = a.rests;
-    leaves = a.leaves;
     told = λ good h shows. let t = a.told good h shows in (by_found result (Tells h) (Says h) IsMemoryOrStore (f h) t.0, t.1);
-    caused = a.caused;
   }
 
   -- the same of something else that is found
-  pub answers_so : {X Y : Type 0} (old new : Registry S store) (x : X) (y : Y) (Holds : History → X → Type 0) (Says : History → Y → Type 0) → ((h : History) → Holds h x → Says h y) → Answers store old new (Ok x) Holds → Answers store old new (Ok y) Says
+  pub answers_so : {X Y : Type 0} (old new : R) (x : X) (y : Y) (Holds : History → X → Type 0) (Says : History → Y → Type 0) → ((h : History) → Holds h x → Says h y) → IsAnswered registry.showing registry.is_live old new (Ok x) Holds → IsAnswered registry.showing registry.is_live old new (Ok y) Says
   answers_so old new x y Holds Says f a = record {
+    calls = a.calls;
     failed = λ off. found_is_none x refusals.Failed (a.failed off).0;
-    fault = tt;
-    lives = a.lives;
-    rests = a.rests;
-    leaves = a.leaves;
     told = λ good h shows. let t = a.told good h shows in (f h t.0, t.1);
-    caused = λ good h shows. tt;
   }
 
-  pub turned : (old new : Registry S store) {P Q : Known → List Call → Known → Type 0} → ((k : Known) (calls : List Call) (now : Known) → P k calls now → Q k calls now) → Goes store old new P → Goes store old new Q
+  pub turned : (old new : R) {P Q : Known → List Call → Known → Type 0} → ((k : Known) (calls : List Call) (now : Known) → P k calls now → Q k calls now) → Goes registry old new P → Goes registry old new Q
   turned old new f g = record {
     lives = g.lives;
     served = record { good = g.served.good; leads = λ good k known. let x = g.served.leads good k known in (x.0, x.1, f k g.lives.calls x.0 x.2) };
   }
 
   -- no call was made
-  pub no_call : (r : Registry S store) (P : Known → List Call → Known → Type 0) → ((k : Known) → P k [] k) → Goes store r r P
+  pub no_call : (r : R) (P : Known → List Call → Known → Type 0) → ((k : Known) → P k [] k) → Goes registry r r P
   no_call r P p = record { lives = record { rests = λ off. refl; calls = []; lead = refl }; served = record { good = λ c. c; leads = λ good k known. (k, known, p k) } }
 
-  pub replied : {E : Type 0} (old new : Registry S store) (errand : Errand) (result : Result Reply E) (given : Answer) → IfOk result (λ reply. IsReplyOf reply given) → Goes store old new (λ k calls now. IsErrandMet k errand given calls now)
-      → Goes store old new (λ k calls now. IsMetBy k errand result calls now)
+  pub replied : {E : Type 0} (old new : R) (errand : Errand) (result : Result Reply E) (given : Answer) → IfOk result (λ reply. IsReplyOf reply given) → Goes registry old new (λ k calls now. IsErrandMet k errand given calls now)
+      → Goes registry old new (λ k calls now. IsMetBy k errand result calls now)
   replied old new errand result given is goes = turned old new (λ k calls now m. is_met_by k now errand result given calls is m) goes
 
   -- a question of its own kind that is refused
-  pub refused_call : CallsLook → {X : Type 0} (old new : Registry S store) (e : Refusal) (Says : History → X → Type 0) (format : Format) (errand : Errand)
-      → ((x : Refusal) → IsErrandRefused errand x (outcome_answer format (Err x))) → command_sent errand ≡ None → Answers store old new (Err e) Says
-      → Goes store old new (λ k calls now. IsErrandMet k errand (outcome_answer format (Err e)) calls now)
-  refused_call look {X} old new e Says format errand refused none a =
-      from_call old new errand (outcome_answer format (Err e)) (asked_on look old new (Err e) Says a) a.rests.clean
+  pub refused_call : Lives → {X : Type 0} (old new : R) (e : Refusal) (Says : History → X → Type 0) (format : Format) (errand : Errand)
+      → ((x : Refusal) → IsErrandRefused errand x (outcome_answer format (Err x))) → command_sent errand ≡ None → IsAnswered registry.showing registry.is_live old new (Err e) Says
+      → Goes registry old new (λ k calls now. IsErrandMet k errand (outcome_answer format (Err e)) calls now)
+  refused_call alive {X} old new e Says format errand refused none a =
+      from_call alive old new errand (outcome_answer format (Err e)) (asked_on old new (Err e) Says a) a.calls.clean
       (λ good h shows. let t = a.told good h shows in (Live h, t.1, NotDone e t.0 (refused e) (undone errand e (nothing_sent ∷ []) none (asked_once errand (refused e).0)) refl))
       (λ off. Refused (failed_so (Err e) format (λ (x : X). outcome_answer format (Err e)) errand refused (a.failed off).0) one_question)
 
   -- what is told of the registry within its life
-  pub told_of : (old new : Registry S store) (P : Known → List Call → Known → Type 0) → Goes store old new P → Leads (HasCleanDisk store) (IsToldOf store) old new (λ t u. ByCalls store t u (λ calls. P t.known calls u.known))
+  pub told_of : (old new : R) (P : Known → List Call → Known → Type 0) → Goes registry old new P → Leads registry.showing.is_clean (IsToldOf registry) old new (λ t u. ByCalls registry t u (λ calls. P t.known calls u.known))
   told_of old new P g = record {
     good = g.served.good;
     leads = λ good t is.
         let x = g.served.leads good t.known is.is_known in (
           record { start = t.start; calls = t.calls ++ g.lives.calls; known = x.0 },
-          record { is_known = x.1; lead = calls_join (showing store) t.start old new t.calls g.lives.calls is.lead g.lives.lead },
+          record { is_known = x.1; lead = calls_join registry.showing t.start old new t.calls g.lives.calls is.lead g.lives.lead },
           record { same_life = refl; more = g.lives.calls; joined = refl; holds = x.2 },
         );
   }

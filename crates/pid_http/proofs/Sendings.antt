@@ -1,7 +1,7 @@
 -- What the requests of a stream send a registry, from one request to all.
 use Rattle.std.proofs.Common.{◌≡◌, ℕ, true, false, Bool, cond, List, [], ◌∷◌, ◌++◌, Option, Some, None, Result, Err, refl, sym, ap, subst, ◌∙◌, inl, inr, append_assoc}
 use Rattle.std.proofs.lemmas.List.{append-nil}
-use Rattle.sqlite_trees.specs.declared.store.Store.{Ghosts}
+use Rattle.pid_service_laws.specs.declared.moderated.Moderated.{Ghosts}
 use Rattle.pid_service_laws.specs.Calls.{AreNothing, Call, StopsAt, obeyed, sent_in}
 use Rattle.pid_service_laws.specs.Lives.{Sent, after_sent, commands_in}
 use Rattle.pid_service_laws.specs.Outcomes.{is_outcome}
@@ -10,7 +10,7 @@ use Rattle.pid_moderation.specs.Judgement.{after, after_all, answer, judge}
 use Rattle.pid_moderation.specs.Views.{Views, views_of}
 use Rattle.pid_moderation.specs.declared.command.Reply.{Reply as Outcome}
 use Rattle.pid_moderation.specs.declared.refusal.Refusal.{Refusal}
-use Rattle.pid_service.specs.Histories.{IsMemoryOrStore}
+use Rattle.pid_service_laws.specs.Outcomes.{IsMemoryOrStore}
 use Rattle.pid_http_stream.specs.Conducts.{AreReplies}
 use Rattle.pid_http_stream.specs.Replies.{Answer}
 use Rattle.pid_http_stream.specs.Requests.{Request}
@@ -125,8 +125,8 @@ failed_nothing errand given calls (Short short none) = subst AreNothing (sym non
 
 -- ---- requests in turn
 
-module _ {S : Type 0} (store : Ghosts S) where
-  pub by_join : (t mid u : Told store) (P Q R : List Call → Type 0) → ((xs ys : List Call) → P xs → Q ys → R (xs ++ ys)) → ByCalls store t mid P → ByCalls store mid u Q → ByCalls store t u R
+module _ {R : Type 0} (registry : Ghosts R) where
+  pub by_join : (t mid u : Told registry) (P Q R : List Call → Type 0) → ((xs ys : List Call) → P xs → Q ys → R (xs ++ ys)) → ByCalls registry t mid P → ByCalls registry mid u Q → ByCalls registry t u R
   by_join t mid u P Q R f p q = record {
     same_life = q.same_life ∙ p.same_life;
     more = p.more ++ q.more;
@@ -134,8 +134,8 @@ module _ {S : Type 0} (store : Ghosts S) where
     holds = f p.more q.more p.holds q.holds;
   }
 
-  pub by_none : (t u : Told store) (P : Told store → List Call → Type 0) → t ≡ u → P t [] → ByCalls store t u (P u)
-  by_none t u P same holds = subst (λ v. ByCalls store t v (P v)) same (record { same_life = refl; more = []; joined = sym (append-nil t.calls); holds = holds })
+  pub by_none : (t u : Told registry) (P : Told registry → List Call → Type 0) → t ≡ u → P t [] → ByCalls registry t u (P u)
+  by_none t u P same holds = subst (λ v. ByCalls registry t v (P v)) same (record { same_life = refl; more = []; joined = sym (append-nil t.calls); holds = holds })
 
   send_on : (h h' : History) (cs ds : List Asked) (xs ys : List Call) (k : Known) → AreSomeOf (commands_in (sent_in xs)) cs → h' ≡ after_sent h (sent_in xs) → SendsSome h' ds ys k → SendsSome h (cs ++ ds) (xs ++ ys) k
   send_on h h' cs ds xs ys k some at (inl (more, is)) =
@@ -153,16 +153,16 @@ module _ {S : Type 0} (store : Ghosts S) where
       stopped_so h (cs ++ ds) (commands_in (sent_in xs)) c (xs ++ ys) k (first_sent xs ys nothing) (stops_then c xs ys stops nothing) (some_more (commands_in (sent_in xs) ++ c ∷ []) cs ds some) is
 
   -- some calls, and then others: over the history that is shown then, or where it has failed
-  pub then_send : (t mid u : Told store) (h : History) (cs ds : List Asked) → ByCalls store t mid (λ calls. SendsSome h cs calls mid.known)
-      → ((next : History) → mid.known ≡ Live next → ByCalls store mid u (λ calls. SendsSome next ds calls u.known))
-      → ((x y : History) → mid.known ≡ Between x y → ByCalls store mid u (λ calls. AreNothing calls × (u.known ≡ Between x y)))
-      → ByCalls store t u (λ calls. SendsSome h (cs ++ ds) calls u.known)
+  pub then_send : (t mid u : Told registry) (h : History) (cs ds : List Asked) → ByCalls registry t mid (λ calls. SendsSome h cs calls mid.known)
+      → ((next : History) → mid.known ≡ Live next → ByCalls registry mid u (λ calls. SendsSome next ds calls u.known))
+      → ((x y : History) → mid.known ≡ Between x y → ByCalls registry mid u (λ calls. AreNothing calls × (u.known ≡ Between x y)))
+      → ByCalls registry t u (λ calls. SendsSome h (cs ++ ds) calls u.known)
   then_send t mid u h cs ds first live failed = by_case first.holds
     where
-      at : (P : List Call → Type 0) → P first.more → ByCalls store t mid P
+      at : (P : List Call → Type 0) → P first.more → ByCalls registry t mid P
       at P p = record { same_life = first.same_life; more = first.more; joined = first.joined; holds = p }
 
-      by_case : SendsSome h cs first.more mid.known → ByCalls store t u (λ calls. SendsSome h (cs ++ ds) calls u.known)
+      by_case : SendsSome h cs first.more mid.known → ByCalls registry t u (λ calls. SendsSome h (cs ++ ds) calls u.known)
       by_case (inl (some, is)) =
           by_join t mid u (λ xs. AreSomeOf (commands_in (sent_in xs)) cs × (after_sent h (sent_in first.more) ≡ after_sent h (sent_in xs))) (λ ys. SendsSome (after_sent h (sent_in first.more)) ds ys u.known)
           (λ calls. SendsSome h (cs ++ ds) calls u.known) (λ xs ys p q. send_on h (after_sent h (sent_in first.more)) cs ds xs ys u.known p.0 p.1 q) (at _ (some, refl)) (live _ is)
@@ -172,8 +172,8 @@ module _ {S : Type 0} (store : Ghosts S) where
           (λ calls. SendsSome h (cs ++ ds) calls u.known)
           (λ xs ys p q. stop_on h cs ds xs ys c u.known p.0 p.1 q.0 (q.1 ∙ ap (λ (a : History). Between a (after a c)) p.2)) (at _ (stops, some, refl)) (failed x (after x c) is)
 
-  pub met_by : AreOutcomes → (t u : Told store) (h : History) (errand : Errand) (given : Answer) → t.known ≡ Live h → ByCalls store t u (λ calls. IsErrandMet t.known errand given calls u.known)
-      → ByCalls store t u (λ calls. SendsSome h (if_any (command_sent errand)) calls u.known)
+  pub met_by : AreOutcomes → (t u : Told registry) (h : History) (errand : Errand) (given : Answer) → t.known ≡ Live h → ByCalls registry t u (λ calls. IsErrandMet t.known errand given calls u.known)
+      → ByCalls registry t u (λ calls. SendsSome h (if_any (command_sent errand)) calls u.known)
   met_by outcomes t u h errand given live b = record {
     same_life = b.same_life;
     more = b.more;
@@ -181,8 +181,8 @@ module _ {S : Type 0} (store : Ghosts S) where
     holds = met_sends outcomes h errand given b.more u.known (subst (λ k. IsErrandMet k errand given b.more u.known) live b.holds);
   }
 
-  pub failed_by : (t u : Told store) (x y : History) (errand : Errand) (given : Answer) → t.known ≡ Between x y → ByCalls store t u (λ calls. IsErrandMet t.known errand given calls u.known)
-      → ByCalls store t u (λ calls. AreNothing calls × (u.known ≡ Between x y))
+  pub failed_by : (t u : Told registry) (x y : History) (errand : Errand) (given : Answer) → t.known ≡ Between x y → ByCalls registry t u (λ calls. IsErrandMet t.known errand given calls u.known)
+      → ByCalls registry t u (λ calls. AreNothing calls × (u.known ≡ Between x y))
   failed_by t u x y errand given is b = record {
     same_life = b.same_life;
     more = b.more;
@@ -191,16 +191,16 @@ module _ {S : Type 0} (store : Ghosts S) where
   }
 
   -- one that has failed is sent nothing more
-  failed_replies : (t u : Told store) (x y : History) (requests : List Request) (bytes : List ℕ) → t.known ≡ Between x y → AreReplies (serving store) t requests bytes u
-      → ByCalls store t u (λ calls. AreNothing calls × (u.known ≡ Between x y))
+  failed_replies : (t u : Told registry) (x y : History) (requests : List Request) (bytes : List ℕ) → t.known ≡ Between x y → AreReplies (serving registry) t requests bytes u
+      → ByCalls registry t u (λ calls. AreNothing calls × (u.known ≡ Between x y))
   failed_replies t u x y [] bytes is (e, same) = by_none t u (λ v calls. AreNothing calls × (v.known ≡ Between x y)) same (tt, is)
   failed_replies t u x y (request ∷ requests) bytes is (mid, given, later, step, e, rest) =
       let b = failed_by t mid x y (errand_of request) given is step in
       by_join t mid u _ _ _ (λ xs ys p q. (nothing_then xs ys p.0 q.0, q.1)) b (failed_replies mid u x y requests later b.holds.1 rest)
 
   -- requests that were answered
-  pub replies_send : AreOutcomes → (t u : Told store) (h : History) (requests : List Request) (bytes : List ℕ) → t.known ≡ Live h → AreReplies (serving store) t requests bytes u
-      → ByCalls store t u (λ calls. SendsSome h (commands_asked requests) calls u.known)
+  pub replies_send : AreOutcomes → (t u : Told registry) (h : History) (requests : List Request) (bytes : List ℕ) → t.known ≡ Live h → AreReplies (serving registry) t requests bytes u
+      → ByCalls registry t u (λ calls. SendsSome h (commands_asked requests) calls u.known)
   replies_send outcomes t u h [] bytes live (e, same) = by_none t u (λ v calls. SendsSome h [] calls v.known) same (inl (refl, live))
   replies_send outcomes t u h (request ∷ requests) bytes live (mid, given, later, step, e, rest) =
       then_send t mid u h (if_any (command_sent (errand_of request))) (commands_asked requests) (met_by outcomes t mid h (errand_of request) given live step)

@@ -2,9 +2,7 @@
 use Rattle.std.proofs.Common.{ℕ, List, [], Option, Some, None, refl, inl, arith}
 use Rattle.std.specs.Prelude.{⊤, IfSome}
 use Rattle.std.proofs.KnownBytes.{Appends-nil, Consumes-nil}
-use Rattle.sqlite_trees.specs.declared.store.Store.{Ghosts}
-use Rattle.pid_service.specs.Registries.{HasCleanDisk}
-use Rattle.pid_service.specs.declared.registry.Registry.{Registry}
+use Rattle.pid_service_laws.specs.declared.moderated.Moderated.{Ghosts}
 use Rattle.pid_http_stream.specs.Leading.{Leads}
 use Rattle.pid_http_stream.specs.MomentLaws.{since_none}
 use Rattle.pid_http_stream.specs.Moments.{AllSince, Moment}
@@ -23,8 +21,8 @@ pub memory_ends : (reader : ReaderState) (turns : ℕ) (write_fault : Option Wri
     → EndsFor Memory (record { before = reader; after = reader; write_fault = write_fault; stuck = ⊤; turns = turns })
 memory_ends reader turns write_fault = record { made = 0; within = omega arith; spent = λ e. cc; reads = reads_none 0 reader; cause = tt; failed = inl refl }
 
-module _ {S : Type 0} (store : Ghosts S) where
-  none : (t : Told store) (taken to_come : Option (List ℕ)) → IfSome to_come (λ stream. IsServed (serving store) (record { handler = t; handler_after = t; taken = taken; taken_after = taken }) stream to_come Memory 0)
+module _ {R : Type 0} (registry : Ghosts R) where
+  none : (t : Told registry) (taken to_come : Option (List ℕ)) → IfSome to_come (λ stream. IsServed (serving registry) (record { handler = t; handler_after = t; taken = taken; taken_after = taken }) stream to_come Memory 0)
   none t taken None = tt
   none t taken (Some stream) = record {
     read = [];
@@ -35,16 +33,16 @@ module _ {S : Type 0} (store : Ghosts S) where
     after = inl (nothing_yet, inl refl);
   }
 
-  unread : (t : Told store) (taken to_come : Option (List ℕ)) (moments : Option (List Moment)) → IfSome to_come (λ stream. AllSince (IsCaughtUp (serving store) t taken stream) moments moments)
+  unread : (t : Told registry) (taken to_come : Option (List ℕ)) (moments : Option (List Moment)) → IfSome to_come (λ stream. AllSince (IsCaughtUp (serving registry) t taken stream) moments moments)
   unread t taken None moments = tt
-  unread t taken (Some stream) moments = since_none (IsCaughtUp (serving store) t taken stream) moments
+  unread t taken (Some stream) moments = since_none (IsCaughtUp (serving registry) t taken stream) moments
 
   -- there was no memory to begin
-  pub none_served : (r : Registry S store) (taken to_come : Option (List ℕ))
-      → Leads (HasCleanDisk store) (IsToldOf store) r r (λ t u. IfSome to_come (λ stream. IsServed (serving store) (record { handler = t; handler_after = u; taken = taken; taken_after = taken }) stream to_come Memory 0))
+  pub none_served : (r : R) (taken to_come : Option (List ℕ))
+      → Leads registry.showing.is_clean (IsToldOf registry) r r (λ t u. IfSome to_come (λ stream. IsServed (serving registry) (record { handler = t; handler_after = u; taken = taken; taken_after = taken }) stream to_come Memory 0))
   none_served r taken to_come = record { good = λ g. g; leads = λ good t is. (t, is, none t taken to_come) }
 
   -- nor was anything read
-  pub none_read : (r : Registry S store) (taken to_come : Option (List ℕ)) (moments : Option (List Moment))
-      → Leads (HasCleanDisk store) (IsToldOf store) r r (λ t _. IfSome to_come (λ stream. AllSince (IsCaughtUp (serving store) t taken stream) moments moments))
+  pub none_read : (r : R) (taken to_come : Option (List ℕ)) (moments : Option (List Moment))
+      → Leads registry.showing.is_clean (IsToldOf registry) r r (λ t _. IfSome to_come (λ stream. AllSince (IsCaughtUp (serving registry) t taken stream) moments moments))
   none_read r taken to_come moments = record { good = λ g. g; leads = λ good t is. (t, is, unread t taken to_come moments) }

@@ -2,7 +2,7 @@
 use Rattle.std.proofs.Common.{◌≡◌, ℕ, List, [], ◌∷◌, ◌++◌, Option, Some, None, refl, sym, ap, subst, ◌∙◌, inl, inr, append_assoc}
 use Rattle.std.proofs.lemmas.List.{append-nil}
 use Rattle.std.specs.Io.KnownBytes.{Consumes}
-use Rattle.sqlite_trees.specs.declared.store.Store.{Ghosts}
+use Rattle.pid_service_laws.specs.declared.moderated.Moderated.{Ghosts}
 use Rattle.pid_service_laws.specs.Calls.{AreNothing, Call, sent_in}
 use Rattle.pid_service_laws.specs.Lives.{commands_in}
 use Rattle.pid_moderation.specs.History.{Asked, History}
@@ -61,15 +61,15 @@ promised_so (Live h) errand head told calls next (export, text, asked, same) = (
 promised_so (Between x y) errand head told calls next promised = absurd promised
 promised_so Down errand head told calls next promised = absurd promised
 
-module _ {S : Type 0} (store : Ghosts S) where
-  same_still : (t u : Told store) → t ≡ u → ByCalls store t u (λ calls. AreNothing calls × (t.known ≡ u.known))
-  same_still t u same = by_none store t u (λ v calls. AreNothing calls × (t.known ≡ v.known)) same (tt, refl)
+module _ {R : Type 0} (registry : Ghosts R) where
+  same_still : (t u : Told registry) → t ≡ u → ByCalls registry t u (λ calls. AreNothing calls × (t.known ≡ u.known))
+  same_still t u same = by_none registry t u (λ v calls. AreNothing calls × (t.known ≡ v.known)) same (tt, refl)
 
-  still : (t : Told store) (came : List ℕ) (u : Told store) → StandsOver (serving store) t came u → ByCalls store t u (λ calls. AreNothing calls × (t.known ≡ u.known))
+  still : (t : Told registry) (came : List ℕ) (u : Told registry) → StandsOver (serving registry) t came u → ByCalls registry t u (λ calls. AreNothing calls × (t.known ≡ u.known))
   still t came u (inl same) = same_still t u same
   still t came u (inr (head, behind, has, b)) = record { same_life = b.same_life; more = b.more; joined = b.joined; holds = (b.holds.0.0, b.holds.1) }
 
-  rests_still : (ending : Ending) (IsRest : List ℕ → Type 0) (t u : Told store) → RestsBehind (serving store) ending IsRest t u → ByCalls store t u (λ calls. AreNothing calls × (t.known ≡ u.known))
+  rests_still : (ending : Ending) (IsRest : List ℕ → Type 0) (t u : Told registry) → RestsBehind (serving registry) ending IsRest t u → ByCalls registry t u (λ calls. AreNothing calls × (t.known ≡ u.known))
   rests_still clean IsRest t u r = same_still t u r
   rests_still closed IsRest t u r = same_still t u r
   rests_still (faulty BadHead) IsRest t u r = same_still t u r
@@ -77,73 +77,73 @@ module _ {S : Type 0} (store : Ghosts S) where
   rests_still (faulty BodyTooLong) IsRest t u r = same_still t u r
   rests_still (faulty BodyShort) IsRest t u (rest, is, stands) = still t rest u stands
 
-  then_quiet : (t mid u : Told store) (h : History) (cs : List Asked) → ByCalls store t mid (λ calls. SendsSome h cs calls mid.known) → ByCalls store mid u (λ calls. AreNothing calls × (mid.known ≡ u.known))
-      → ByCalls store t u (λ calls. SendsSome h cs calls u.known)
+  then_quiet : (t mid u : Told registry) (h : History) (cs : List Asked) → ByCalls registry t mid (λ calls. SendsSome h cs calls mid.known) → ByCalls registry mid u (λ calls. AreNothing calls × (mid.known ≡ u.known))
+      → ByCalls registry t u (λ calls. SendsSome h cs calls u.known)
   then_quiet t mid u h cs first next =
-      by_join store t mid u (λ xs. SendsSome h cs xs mid.known) (λ ys. AreNothing ys × (mid.known ≡ u.known)) (λ calls. SendsSome h cs calls u.known) (λ xs ys p q. quiet_on h cs xs ys mid.known u.known p q.0 q.1) first next
+      by_join registry t mid u (λ xs. SendsSome h cs xs mid.known) (λ ys. AreNothing ys × (mid.known ≡ u.known)) (λ calls. SendsSome h cs calls u.known) (λ xs ys p q. quiet_on h cs xs ys mid.known u.known p q.0 q.1) first next
 
-  then_request : AreOutcomes → (t mid u : Told store) (h : History) (rs : List Request) (r : Request) (given : Answer) → ByCalls store t mid (λ calls. SendsSome h (commands_asked rs) calls mid.known)
-      → ByCalls store mid u (λ calls. IsErrandMet mid.known (errand_of r) given calls u.known) → ByCalls store t u (λ calls. SendsSome h (commands_asked (rs ++ r ∷ [])) calls u.known)
+  then_request : AreOutcomes → (t mid u : Told registry) (h : History) (rs : List Request) (r : Request) (given : Answer) → ByCalls registry t mid (λ calls. SendsSome h (commands_asked rs) calls mid.known)
+      → ByCalls registry mid u (λ calls. IsErrandMet mid.known (errand_of r) given calls u.known) → ByCalls registry t u (λ calls. SendsSome h (commands_asked (rs ++ r ∷ [])) calls u.known)
   then_request outcomes t mid u h rs r given first step =
-      subst (λ (l : List Asked). ByCalls store t u (λ calls. SendsSome h l calls u.known)) (commands_snoc rs r)
-      (then_send store t mid u h (commands_asked rs) (if_any (command_sent (errand_of r))) first (λ next is. met_by store outcomes mid u next (errand_of r) given is step) (λ x y is. failed_by store mid u x y (errand_of r) given is step))
+      subst (λ (l : List Asked). ByCalls registry t u (λ calls. SendsSome h l calls u.known)) (commands_snoc rs r)
+      (then_send registry t mid u h (commands_asked rs) (if_any (command_sent (errand_of r))) first (λ next is. met_by registry outcomes mid u next (errand_of r) given is step) (λ x y is. failed_by registry mid u x y (errand_of r) given is step))
 
   -- the whole stream was answered
-  all_send : AreOutcomes → (h : History) (o : Outside (Told store)) (stream : List ℕ) (ending : Ending) (tail : List ℕ) (count : ℕ) → o.handler.known ≡ Live h → AnswersAll (serving store) o stream ending tail count
-      → SendsOf store h o.handler o.handler_after stream
+  all_send : AreOutcomes → (h : History) (o : Outside (Told registry)) (stream : List ℕ) (ending : Ending) (tail : List ℕ) (count : ℕ) → o.handler.known ≡ Live h → AnswersAll (serving registry) o stream ending tail count
+      → SendsOf registry h o.handler o.handler_after stream
   all_send outcomes h o stream ending tail count live a = record {
     requests = a.requests;
     stand = split_in_front stream a.requests ending a.splits;
-    sends = then_quiet o.handler a.last o.handler_after h (commands_asked a.requests) (replies_send store outcomes o.handler a.last h a.requests a.replies live a.answered)
+    sends = then_quiet o.handler a.last o.handler_after h (commands_asked a.requests) (replies_send registry outcomes o.handler a.last h a.requests a.replies live a.answered)
         (rests_still ending _ a.last o.handler_after a.rests);
   }
 
   -- a front of it was, and nothing more was sent
-  front_quiet : AreOutcomes → (h : History) (t mid u : Told store) (stream rest : List ℕ) (taken taken_after : Option (List ℕ)) (count : ℕ) → t.known ≡ Live h
-      → AnswersFront (serving store) (record { handler = t; handler_after = mid; taken = taken; taken_after = taken_after }) stream rest count → ByCalls store mid u (λ calls. AreNothing calls × (mid.known ≡ u.known))
-      → SendsOf store h t u stream
+  front_quiet : AreOutcomes → (h : History) (t mid u : Told registry) (stream rest : List ℕ) (taken taken_after : Option (List ℕ)) (count : ℕ) → t.known ≡ Live h
+      → AnswersFront (serving registry) (record { handler = t; handler_after = mid; taken = taken; taken_after = taken_after }) stream rest count → ByCalls registry mid u (λ calls. AreNothing calls × (mid.known ≡ u.known))
+      → SendsOf registry h t u stream
   front_quiet outcomes h t mid u stream rest taken taken_after count live f next = record {
     requests = f.requests;
     stand = in_front stream f.requests rest f.fronts;
-    sends = then_quiet t mid u h (commands_asked f.requests) (replies_send store outcomes t mid h f.requests f.replies live f.answered) next;
+    sends = then_quiet t mid u h (commands_asked f.requests) (replies_send registry outcomes t mid h f.requests f.replies live f.answered) next;
   }
 
   -- and then one request more
-  front_then : AreOutcomes → (h : History) (t mid u : Told store) (stream rest : List ℕ) (taken taken_after : Option (List ℕ)) (count : ℕ) (r : Request) (behind : List ℕ) (given : Answer) → t.known ≡ Live h
-      → AnswersFront (serving store) (record { handler = t; handler_after = mid; taken = taken; taken_after = taken_after }) stream rest count → IsRequest rest r behind
-      → ByCalls store mid u (λ calls. IsErrandMet mid.known (errand_of r) given calls u.known) → SendsOf store h t u stream
+  front_then : AreOutcomes → (h : History) (t mid u : Told registry) (stream rest : List ℕ) (taken taken_after : Option (List ℕ)) (count : ℕ) (r : Request) (behind : List ℕ) (given : Answer) → t.known ≡ Live h
+      → AnswersFront (serving registry) (record { handler = t; handler_after = mid; taken = taken; taken_after = taken_after }) stream rest count → IsRequest rest r behind
+      → ByCalls registry mid u (λ calls. IsErrandMet mid.known (errand_of r) given calls u.known) → SendsOf registry h t u stream
   front_then outcomes h t mid u stream rest taken taken_after count r behind given live f is step = record {
     requests = f.requests ++ r ∷ [];
     stand = next_in_front stream f.requests rest r behind f.fronts is;
-    sends = then_request outcomes t mid u h f.requests r given (replies_send store outcomes t mid h f.requests f.replies live f.answered) step;
+    sends = then_request outcomes t mid u h f.requests r given (replies_send registry outcomes t mid h f.requests f.replies live f.answered) step;
   }
 
-  stopped_sends : AreOutcomes → RequestsStay → (h : History) (o : Outside (Told store)) (stream : List ℕ) (left : Option (List ℕ)) (count : ℕ) → o.handler.known ≡ Live h → StopsReading (serving store) o stream left count
-      → SendsOf store h o.handler o.handler_after stream
+  stopped_sends : AreOutcomes → RequestsStay → (h : History) (o : Outside (Told registry)) (stream : List ℕ) (left : Option (List ℕ)) (count : ℕ) → o.handler.known ≡ Live h → StopsReading (serving registry) o stream left count
+      → SendsOf registry h o.handler o.handler_after stream
   stopped_sends outcomes stay h o stream left count live s =
       let f = front_quiet outcomes h o.handler s.last o.handler_after s.read s.rest o.taken o.taken_after count live s.before (still s.last s.rest o.handler_after s.stands) in
       record { requests = f.requests; stand = read_in_front stay stream s.read left f.requests s.consumed f.stand; sends = f.sends }
 
-  lacking_sends : AreOutcomes → RequestsStay → (h : History) (o : Outside (Told store)) (stream : List ℕ) (left : Option (List ℕ)) (count : ℕ) → o.handler.known ≡ Live h → LacksMemory (serving store) o stream left count
-      → SendsOf store h o.handler o.handler_after stream
+  lacking_sends : AreOutcomes → RequestsStay → (h : History) (o : Outside (Told registry)) (stream : List ℕ) (left : Option (List ℕ)) (count : ℕ) → o.handler.known ≡ Live h → LacksMemory (serving registry) o stream left count
+      → SendsOf registry h o.handler o.handler_after stream
   lacking_sends outcomes stay h o stream left count live s =
       let f = by_case s.after in
       record { requests = f.requests; stand = read_in_front stay stream s.read left f.requests s.consumed f.stand; sends = f.sends }
     where
-      stood : StandsOver (serving store) s.mid s.rest o.handler_after → SendsOf store h o.handler o.handler_after s.read
+      stood : StandsOver (serving registry) s.mid s.rest o.handler_after → SendsOf registry h o.handler o.handler_after s.read
       stood stands = front_quiet outcomes h o.handler s.mid o.handler_after s.read s.rest o.taken o.taken_after count live s.before (still s.mid s.rest o.handler_after stands)
 
-      by_case : RunsOut (serving store) s.mid s.rest o.handler_after → SendsOf store h o.handler o.handler_after s.read
+      by_case : RunsOut (serving registry) s.mid s.rest o.handler_after → SendsOf registry h o.handler o.handler_after s.read
       by_case (inl (waits, stands)) = stood stands
       by_case (inr (request, behind, is, inl stands)) = stood stands
       by_case (inr (request, behind, is, inr b)) =
           front_then outcomes h o.handler s.mid o.handler_after s.read s.rest o.taken o.taken_after count request behind b.holds.0 live s.before is
           (record { same_life = b.same_life; more = b.more; joined = b.joined; holds = b.holds.1 })
 
-  broken_sends : AreOutcomes → (h : History) (o : Outside (Told store)) (stream : List ℕ) (count : ℕ) → o.handler.known ≡ Live h → BreaksOffInReply (serving store) o stream count → SendsOf store h o.handler o.handler_after stream
+  broken_sends : AreOutcomes → (h : History) (o : Outside (Told registry)) (stream : List ℕ) (count : ℕ) → o.handler.known ≡ Live h → BreaksOffInReply (serving registry) o stream count → SendsOf registry h o.handler o.handler_after stream
   broken_sends outcomes h o stream count live s = by_case s.next_is
     where
-      by_case : IsWrittenNext (serving store) s.mid s.rest s.bytes o.handler_after → SendsOf store h o.handler o.handler_after stream
+      by_case : IsWrittenNext (serving registry) s.mid s.rest s.bytes o.handler_after → SendsOf registry h o.handler o.handler_after stream
       by_case (inl (request, behind, given, is, step, e)) = front_then outcomes h o.handler s.mid o.handler_after stream s.rest o.taken s.taken count request behind given live s.before is step
       by_case (inr (inl (request, behind, head, told, is, b, e))) =
           front_quiet outcomes h o.handler s.mid o.handler_after stream s.rest o.taken s.taken count live s.before
@@ -152,8 +152,8 @@ module _ {S : Type 0} (store : Ghosts S) where
           front_quiet outcomes h o.handler s.mid o.handler_after stream s.rest o.taken s.taken count live s.before (rests_still (faulty fault) _ s.mid o.handler_after rests)
 
   -- whichever way it ended
-  pub served_sends : AreOutcomes → RequestsStay → (o : Outside (Told store)) (h : History) (stream : List ℕ) (left : Option (List ℕ)) (end : StreamEnd) (count : ℕ) → o.handler.known ≡ Live h
-      → IsServed (serving store) o stream left end count → SendsOf store h o.handler o.handler_after stream
+  pub served_sends : AreOutcomes → RequestsStay → (o : Outside (Told registry)) (h : History) (stream : List ℕ) (left : Option (List ℕ)) (end : StreamEnd) (count : ℕ) → o.handler.known ≡ Live h
+      → IsServed (serving registry) o stream left end count → SendsOf registry h o.handler o.handler_after stream
   served_sends outcomes stay o h stream left Clean count live s = all_send outcomes h o stream clean [] count live s
   served_sends outcomes stay o h stream left Closed count live s = all_send outcomes h o stream closed [] count live s
   served_sends outcomes stay o h stream left HeadFault count live (fault, of_head, answered, s, e) = all_send outcomes h o stream (faulty fault) _ answered live s

@@ -25,18 +25,18 @@ use Rattle.pid_moderation.specs.declared.lists.TheConstants.{PAGE, SEARCHED}
 use Rattle.pid_file.specs.Printing.{print}
 use Rattle.pid_http_stream.specs.Replies.{Answer, answer_with}
 use Rattle.pid_http_stream.specs.declared.reply_head.Content.TheVariants.{Text}
-use Rattle.pid_http_api.specs.declared.format.Format.{Format}
-use Rattle.pid_http_api.specs.declared.lookup_query.LookupQuery.{LookupQuery}
-use Rattle.pid_http_api.specs.ChangeAnswers.{changes_answer}
-use Rattle.pid_http_api.specs.ItemAnswers.{item_answer, children_answer}
-use Rattle.pid_http_api.specs.LookupAnswers.{lookup_answer}
-use Rattle.pid_http_api.specs.Outcomes.{outcome_answer, missing_answer}
-use Rattle.pid_http_api.specs.PendingAnswers.{pending_answer}
-use Rattle.pid_http_api.specs.QueueAnswers.{queue_answer}
-use Rattle.pid_http_api.specs.RankAnswers.{rank_answer}
-use Rattle.pid_http_api.specs.StatusAnswers.{status_answer}
-use Rattle.pid_http_api.specs.SubmissionAnswers.{submission_answer}
-use Rattle.pid_http_api.specs.SubmissionPageAnswers.{submissions_answer}
+use Rattle.pid_http.specs.declared.api.format.Format.{Format}
+use Rattle.pid_http.specs.declared.api.lookup_query.LookupQuery.{LookupQuery}
+use Rattle.pid_http.specs.Api.ChangeAnswers.{changes_answer}
+use Rattle.pid_http.specs.Api.ItemAnswers.{item_answer, children_answer}
+use Rattle.pid_http.specs.Api.LookupAnswers.{lookup_answer}
+use Rattle.pid_http.specs.Api.Outcomes.{outcome_answer, missing_answer}
+use Rattle.pid_http.specs.Api.PendingAnswers.{pending_answer}
+use Rattle.pid_http.specs.Api.QueueAnswers.{queue_answer}
+use Rattle.pid_http.specs.Api.RankAnswers.{rank_answer}
+use Rattle.pid_http.specs.Api.StatusAnswers.{status_answer}
+use Rattle.pid_http.specs.Api.SubmissionAnswers.{submission_answer}
+use Rattle.pid_http.specs.Api.SubmissionPageAnswers.{submissions_answer}
 use Rattle.pid_http.specs.Errands.{Errand, Answered, Denied, Obeys, Export, Read, Children, Lookup}
 use Rattle.pid_http.specs.Errands.{Submission, Pending, Changes, Queue, Submissions, Status, Rank}
 use Rattle.pid_http.specs.Errands.{format_of, known_answer}

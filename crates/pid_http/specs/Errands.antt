@@ -2,7 +2,7 @@
 -- asked for. Choices of this project.
 use Rattle.std.specs.Prelude.{ℕ, List, Option, Some, None, Result, Ok, Err}
 use Rattle.pid_file.specs.declared.path.Path.{Path}
-use Rattle.pid_service.specs.Files.{asks, file_reading}
+use Rattle.pid_moderation.specs.Files.{asks, file_reading}
 use Rattle.pid_moderation.specs.BeforeFile.{import_of}
 use Rattle.pid_moderation.specs.History.{Asked}
 use Rattle.pid_moderation.specs.SubmissionPages.{Search}
@@ -12,23 +12,23 @@ use Rattle.pid_moderation.specs.declared.refusal.Refusal.TheVariants.{BadPath, B
 use Rattle.pid_http_stream.specs.Replies.{Answer}
 use Rattle.pid_http_stream.specs.Requests.{Request, fields_of}
 use Rattle.pid_http_stream.specs.declared.handler.Wanted.TheVariants.{Buffered, Streamed}
-use Rattle.pid_http_api.specs.Commands.{command_made}
-use Rattle.pid_http_api.specs.Questions.{Asking, question}
-use Rattle.pid_http_api.specs.Senders.{Sending, sender}
-use Rattle.pid_http_api.specs.declared.format.Format.{Format}
-use Rattle.pid_http_api.specs.declared.format.Format.TheVariants.{Json}
-use Rattle.pid_http_api.specs.declared.lookup_query.LookupQuery.{LookupQuery}
-use Rattle.pid_http_api.specs.declared.query.Above.{Above}
-use Rattle.pid_http_api.specs.declared.query.Above.TheVariants as above
-use Rattle.pid_http_api.specs.declared.query.Sought.{Sought}
-use Rattle.pid_http_api.specs.declared.query.Sought.TheVariants as sought
-use Rattle.pid_http_api.specs.declared.query.Start.{Start}
-use Rattle.pid_http_api.specs.declared.query.Start.TheVariants as starts
-use Rattle.pid_http_api.specs.declared.question.Question.{Question}
-use Rattle.pid_http_api.specs.declared.question.Question.TheVariants as questions
-use Rattle.pid_http_api.specs.EarlyAnswers.{early_answer}
-use Rattle.pid_http_api.specs.Outcomes.{outcome_answer}
-use Rattle.pid_http_api.specs.declared.early.Early.TheVariants as early
+use Rattle.pid_http.specs.Api.Commands.{command_made}
+use Rattle.pid_http.specs.Api.Questions.{Asking, question}
+use Rattle.pid_http.specs.Api.Senders.{Sending, sender}
+use Rattle.pid_http.specs.declared.api.format.Format.{Format}
+use Rattle.pid_http.specs.declared.api.format.Format.TheVariants.{Json}
+use Rattle.pid_http.specs.declared.api.lookup_query.LookupQuery.{LookupQuery}
+use Rattle.pid_http.specs.declared.api.query.Above.{Above}
+use Rattle.pid_http.specs.declared.api.query.Above.TheVariants as above
+use Rattle.pid_http.specs.declared.api.query.Sought.{Sought}
+use Rattle.pid_http.specs.declared.api.query.Sought.TheVariants as sought
+use Rattle.pid_http.specs.declared.api.query.Start.{Start}
+use Rattle.pid_http.specs.declared.api.query.Start.TheVariants as starts
+use Rattle.pid_http.specs.declared.api.question.Question.{Question}
+use Rattle.pid_http.specs.declared.api.question.Question.TheVariants as questions
+use Rattle.pid_http.specs.Api.EarlyAnswers.{early_answer}
+use Rattle.pid_http.specs.Api.Outcomes.{outcome_answer}
+use Rattle.pid_http.specs.declared.api.early.Early.TheVariants as early
 
 pub data Errand : Type 0 where
   -- nothing is asked of the registry: this is the answer

@@ -1,13 +1,9 @@
 -- What is known of a registry between two requests of a stream, and of its session.
 use Rattle.std.specs.Prelude.{◌≡◌, false, List, ◌++◌}
-use Rattle.sqlite_trees.specs.declared.store.Store.{Ghosts}
+use Rattle.pid_service_laws.specs.declared.moderated.Moderated.{Ghosts}
 use Rattle.pid_moderation.specs.History.{History}
 use Rattle.pid_service_laws.specs.Calls.{Call}
 use Rattle.pid_service_laws.specs.Registries.{CallsLead}
-use Rattle.pid_service.specs.declared.registry.Registry.{Registry}
-use Rattle.pid_service.specs.Histories.{Shows, FailsBetween}
-use Rattle.pid_service.specs.Lives.{showing}
-use Rattle.pid_service.specs.Registries.{is_live}
 
 pub data Known : Type 0 where
   -- it is live and shows this history, and so does all that a crash may leave
@@ -18,31 +14,31 @@ pub data Known : Type 0 where
   -- it had failed earlier
   Down : Known
 
-module _ {S : Type 0} (store : Ghosts S) where
+module _ {R : Type 0} (registry : Ghosts R) where
   -- this is known of the registry
-  abbrev pub IsKnownOf : Registry S store → Known → Type 0
-  IsKnownOf r (Live h) = Shows store r h
-  IsKnownOf r (Between before behind) = FailsBetween store r before behind
-  IsKnownOf r Down = is_live r ≡ false
+  abbrev pub IsKnownOf : R → Known → Type 0
+  IsKnownOf r (Live h) = registry.showing.shows r h
+  IsKnownOf r (Between before behind) = registry.showing.fails_between r before behind
+  IsKnownOf r Down = registry.is_live r ≡ false
 
   -- Calls on the registry led from the one to the other, and each did what a session asks of a
   -- call: so they are a part of its session. One that has failed stays as it is.
-  pub record LivesOn (old new : Registry S store) : Type 0 where
-    pub rests : is_live old ≡ false → new ≡ old
+  pub record LivesOn (old new : R) : Type 0 where
+    pub rests : registry.is_live old ≡ false → new ≡ old
     pub calls : List Call
-    pub lead : CallsLead (showing store) old calls new
+    pub lead : CallsLead registry.showing old calls new
 
   -- What is known of a registry within a session: how it was as that began, the calls since then,
   -- and what is known of it now.
   pub record Told : Type 0 where
-    pub start : Registry S store
+    pub start : R
     pub calls : List Call
     pub known : Known
 
   -- the registry is as this says
-  pub record IsToldOf (r : Registry S store) (t : Told) : Type 0 where
+  pub record IsToldOf (r : R) (t : Told) : Type 0 where
     pub is_known : IsKnownOf r t.known
-    pub lead : CallsLead (showing store) t.start t.calls r
+    pub lead : CallsLead registry.showing t.start t.calls r
 
   -- more calls of the same session led from the one to the other, of which this holds
   pub record ByCalls (t u : Told) (Holds : List Call → Type 0) : Type 0 where

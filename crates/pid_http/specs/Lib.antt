@@ -5,3 +5,4 @@ pub mod Serving
 pub mod Sending
 pub mod Streams
 pub mod Steps
+pub mod Api

@@ -1,6 +1,6 @@
 -- What the requests of a stream send a registry within its session. Choices of this project.
 use Rattle.std.specs.Prelude.{◌≡◌, ◌⊎◌, ℕ, List, [], ◌∷◌, ◌++◌, Option, Some, None}
-use Rattle.sqlite_trees.specs.declared.store.Store.{Ghosts}
+use Rattle.pid_service_laws.specs.declared.moderated.Moderated.{Ghosts}
 use Rattle.pid_service_laws.specs.Calls.{Call, StopsAt, sent_in}
 use Rattle.pid_service_laws.specs.Lives.{after_sent, commands_in}
 use Rattle.pid_moderation.specs.History.{Asked, History}
@@ -45,16 +45,16 @@ StandInFront stream (request ∷ requests) = (behind : List ℕ) × IsRequest st
     × StandInFront behind requests
 
 -- the first requests of the stream sent some of their commands
-pub record SendsOf {S : Type 0} (store : Ghosts S) (h : History) (t u : Told store)
+pub record SendsOf {R : Type 0} (registry : Ghosts R) (h : History) (t u : Told registry)
     (stream : List ℕ) : Type 0 where
   pub requests : List Request
   pub stand : StandInFront stream requests
-  pub sends : ByCalls store t u (λ calls. SendsSome h (commands_asked requests) calls u.known)
+  pub sends : ByCalls registry t u (λ calls. SendsSome h (commands_asked requests) calls u.known)
 
 -- A stream that was served of a registry that showed a history sent it, whichever way it ended,
 -- commands of the first requests of the stream.
-abbrev pub StreamsSend : {S : Type 0} (store : Ghosts S) → Type 0
-StreamsSend store = (o : Outside (Told store)) (h : History) (stream : List ℕ)
+abbrev pub StreamsSend : {R : Type 0} (registry : Ghosts R) → Type 0
+StreamsSend registry = (o : Outside (Told registry)) (h : History) (stream : List ℕ)
     (left : Option (List ℕ)) (end : StreamEnd) (count : ℕ) → o.handler.known ≡ Live h
-    → IsServed (serving store) o stream left end count
-    → SendsOf store h o.handler o.handler_after stream
+    → IsServed (serving registry) o stream left end count
+    → SendsOf registry h o.handler o.handler_after stream

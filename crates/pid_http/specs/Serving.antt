@@ -2,7 +2,7 @@
 -- `IsServed` over these steps.
 use Rattle.std.specs.Prelude.{◌≡◌, ◌≤◌, ℕ, true, false, List, [], ◌∷◌, length}
 use Rattle.std.specs.Prelude.{Option, None, Some, Err}
-use Rattle.sqlite_trees.specs.declared.store.Store.{Ghosts}
+use Rattle.pid_service_laws.specs.declared.moderated.Moderated.{Ghosts}
 use Rattle.pid_service_laws.specs.Calls.{AreNothing, Call, obeyed}
 use Rattle.pid_moderation.specs.History.{Asked, History}
 use Rattle.pid_moderation.specs.Judgement.{after, answer, judge}
@@ -10,7 +10,7 @@ use Rattle.pid_moderation.specs.Views.{views_of}
 use Rattle.pid_moderation.specs.Writes.{tree_of}
 use Rattle.pid_moderation.specs.declared.refusal.Refusal.{Refusal}
 use Rattle.pid_moderation.specs.declared.refusal.Refusal.TheVariants.{Failed}
-use Rattle.pid_service.specs.Histories.{IsMemoryOrStore}
+use Rattle.pid_service_laws.specs.Outcomes.{IsMemoryOrStore}
 use Rattle.pid_file.specs.Printing.{print}
 use Rattle.pid_http_stream.specs.Conducts.{Conduct}
 use Rattle.pid_http_stream.specs.Replies.{Answer}
@@ -18,14 +18,14 @@ use Rattle.pid_http_stream.specs.Requests.{fields_of}
 use Rattle.pid_http_stream.specs.declared.handler.Wanted.TheVariants.{Streamed}
 use Rattle.pid_http_stream.specs.declared.reply_head.Content.TheVariants.{Text}
 use Rattle.pid_http_stream.specs.declared.reply_head.ReplyHead.{ReplyHead}
-use Rattle.pid_http_api.specs.Questions.{Asking, question}
-use Rattle.pid_http_api.specs.Senders.{Sending, sender}
+use Rattle.pid_http.specs.Api.Questions.{Asking, question}
+use Rattle.pid_http.specs.Api.Senders.{Sending, sender}
 use Rattle.pid_http.specs.Answering.{answer_over, history_behind, IsErrandRefused, LacksForm}
 use Rattle.pid_http.specs.Errands.{Errand, Answered, Denied, Export, Children, command_sent}
 use Rattle.pid_http.specs.Errands.{errand_of, known_answer}
 use Rattle.pid_http.specs.Known.{Known, Live, Between, Down, Told, ByCalls}
 
--- the calls send nothing, and are at most so many; without a call the registry is as it was
+-- the calls send nothing, and are at most so many
 abbrev pub AreQuestions : ℕ → List Call → Type 0
 AreQuestions most calls = AreNothing calls × (length calls ≤ most)
 
@@ -38,8 +38,8 @@ most_questions Export = 2
 most_questions (Children (Some path) format) = 2
 most_questions errand = 1
 
--- The calls for a request that was answered over the history: a command is sent once, and has the
--- outcome of the judgement; what is no command sends nothing, by at most so many calls.
+-- The calls for a request that was answered over the history: by them a command was sent once, and
+-- has the outcome of the judgement; what is no command sends nothing, by at most so many calls.
 abbrev pub AreCallsOver : History → Option Asked → ℕ → List Call → Type 0
 AreCallsOver h None most calls = AreQuestions most calls
 AreCallsOver h (Some command) most calls = calls
@@ -111,15 +111,15 @@ most_given_up asked s = 0
 
 -- If memory ran out for a reply, what it is a reply to may have been done. A request that was
 -- given up sent nothing.
-abbrev pub serving : {S : Type 0} (store : Ghosts S) → Conduct (Told store)
-serving store = record {
-  answers = λ t request given u. ByCalls store t u
+abbrev pub serving : {R : Type 0} (registry : Ghosts R) → Conduct (Told registry)
+serving registry = record {
+  answers = λ t request given u. ByCalls registry t u
       (λ calls. IsErrandMet t.known (errand_of request) given calls u.known);
-  leaves = λ t request u. ByCalls store t u
+  leaves = λ t request u. ByCalls registry t u
       (λ calls. (given : Answer) × IsErrandMet t.known (errand_of request) given calls u.known);
-  gives_up = λ t head u. ByCalls store t u (λ calls. AreQuestions
+  gives_up = λ t head u. ByCalls registry t u (λ calls. AreQuestions
       (most_given_up (question head.method head.target) (sender (fields_of head))) calls
       × (t.known ≡ u.known));
-  promises = λ t request head told u. ByCalls store t u
+  promises = λ t request head told u. ByCalls registry t u
       (λ calls. IsPromised t.known (errand_of request) head told calls u.known);
 }

@@ -1,26 +1,25 @@
 //! Commands, each with its reply.
 ghost use Rattle.std.specs.Prelude.{◌≡◌, Err};
-ghost use Rattle.pid_http_api.specs.Commands.{command_made};
+ghost use Rattle.pid_http.specs.Api.Commands.{command_made};
 ghost use Rattle.pid_http.specs.Errands.{sent};
-ghost use Rattle.pid_http.specs.Steps.Replying.{Commands, sending_in};
+ghost use Rattle.pid_http.specs.Steps.Replying.{Replies, sending_in};
 
-use pid_http_api::{Format, Sender, command_in, outcome_reply, refusal_reply};
+use crate::api::{Format, Sender, command_in, outcome_reply, refusal_reply};
 use pid_http_stream::Reply;
 use pid_moderation::{Refusal, Verb};
-use pid_service::Registry;
-use sqlite::Alter;
+use pid_service_laws::Consulted;
 use std::alloc::{AllocError, Global};
 
 /// Has the command obeyed that a sender's form makes. The sender is judged before the form.
-pub(crate) fn command<S: Alter + Drop>(
+pub(crate) fn command<R: Consulted>(
     alloc: Global,
-    registry: &mut Registry<S>,
+    registry: &mut R,
     verb: Verb,
     format: Format,
     sender: Option<Sender<'_>>,
     body: &[u8],
 ) -> Result<Reply, AllocError>
-    ensures { Commands S.Store registry.old registry.new
+    ensures { Replies R.Moderated registry.old registry.new
         (sent format (λ s. command_made verb s body.now) (sending_in sender.entry)) result }
 {
     match sender {

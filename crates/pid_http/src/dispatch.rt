@@ -1,30 +1,28 @@
 //! What a request asks for, answered by the registry.
-ghost use Rattle.std.specs.Prelude.{◌≡◌, Err};
+ghost use Rattle.std.specs.Prelude.{◌≡◌};
 ghost use Rattle.pid_http.specs.Errands.{errand_for};
 ghost use Rattle.pid_http.specs.Steps.Replying.{Replies, sending_in};
 
+use crate::api::{Early, Question, Sender, early_reply};
 use crate::commanding::command;
 use crate::exporting::export;
 use crate::overviews::{queue, status, submissions};
 use crate::queries::{changes, children, lookup, pending, rank, read, submission};
-use pid_http_api::{Early, Question, Sender, early_reply};
 use pid_http_stream::Reply;
-use pid_service::Registry;
-use sqlite::Alter;
+use pid_service_laws::Consulted;
 use std::alloc::{AllocError, Global};
 
 /// Answers what a request asks for.
-pub(crate) fn answer<S: Alter + Drop>(
+pub(crate) fn answer<R: Consulted>(
     alloc: Global,
-    registry: &mut Registry<S>,
+    registry: &mut R,
     question: &Question,
     sender: Option<Sender<'_>>,
     body: &[u8],
 ) -> Result<Reply, AllocError>
-    ensures { Replies S.Store registry.old registry.new
+    ensures { Replies R.Moderated registry.old registry.new
         (errand_for question.now (sending_in sender.entry) body.now) result }
 {
-    pid_service::laws::clauses_meet_lives::<S>(); // proof only
     match *question {
         Question::AnotherMethod => early_reply(alloc, Early::AnotherMethod),
         Question::BadTarget => early_reply(alloc, Early::BadTarget),

@@ -1,21 +1,17 @@
 //! The canonical text of all items, whose length is stated before it is written.
 ghost use Rattle.std.specs.Prelude.{◌≡◌, Ok};
 ghost use Rattle.pid_http.specs.Errands as errands;
-ghost use Rattle.pid_http.specs.Steps.Replying.{Asks};
+ghost use Rattle.pid_http.specs.Steps.Replying.{Replies};
 
+use crate::api::{Format, refusal_reply};
 use http::StatusCode;
-use pid_http_api::{Format, refusal_reply};
 use pid_http_stream::{Content, Reply, ReplyBody, ReplyHead};
-use pid_service::Registry;
-use sqlite::Alter;
+use pid_service_laws::Consulted;
 use std::alloc::{AllocError, Global};
 
-/// The head of the reply with the text, which is written after it, item by item.
-pub(crate) fn export<S: Alter + Drop>(
-    alloc: Global,
-    registry: &mut Registry<S>,
-) -> Result<Reply, AllocError>
-    ensures { Asks S.Store registry.old registry.new errands.Export result }
+/// The head of the reply with the text, which `write_body` writes after it.
+pub(crate) fn export<R: Consulted>(alloc: Global, registry: &mut R) -> Result<Reply, AllocError>
+    ensures { Replies R.Moderated registry.old registry.new errands.Export result }
 {
     match registry.export_length() {
         Ok(length) => Ok(Reply {

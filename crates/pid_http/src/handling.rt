@@ -1,41 +1,39 @@
 //! The service as what answers the requests of a stream.
-ghost use Rattle.std.specs.Prelude.{◌≡◌, IfOk};
+ghost use Rattle.std.specs.Prelude.{◌≡◌};
 
+use crate::api::{Format, Question, question_of, sender_of};
 use crate::dispatch::answer;
 use crate::importing::import;
 use crate::service::Service;
-use pid_http_api::{Format, Question, question_of, sender_of};
 use pid_http_stream::{BodyStop, Handler, Head, NoReply, Reply, Wanted};
 use pid_ident::{Input, Output};
-use pid_service::ExportFault;
-use sqlite::Alter;
+use pid_service_laws::{Consulted, ExportFault};
 
-impl<S: Alter + Drop> Handler for Service<'_, '_, S> {
+impl<R: Consulted> Handler for Service<'_, '_, R> {
     ghost use Rattle.std.specs.Prelude.{◌≡◌, refl};
     ghost use Rattle.pid_http.specs.Steps.Handling.{WritesText, exports_text, same_on};
     ghost use Rattle.pid_http.specs.Known.{IsToldOf, LivesOn, Told};
     ghost use Rattle.pid_http.specs.Steps.Going.{lives_further, lives_still};
     ghost use Rattle.pid_http.specs.Serving.{serving};
-    ghost use Rattle.pid_http_api.specs.Questions.{question};
-    ghost use Rattle.pid_service.specs.Registries.{HasCleanDisk};
+    ghost use Rattle.pid_http.specs.Api.Questions.{question};
 
     type Question = Question;
 
     /// The format of the reply to an import.
     type Upload = Format;
 
-    ghost View = { Told S.Store };
+    ghost View = { Told R.Moderated };
 
-    ghost stands = { λ a t. IsToldOf S.Store a.registry.now t };
+    ghost stands = { λ a t. IsToldOf R.Moderated a.registry.now t };
 
-    ghost is_good = { λ a. HasCleanDisk S.Store a.registry.now };
+    ghost is_good = { λ a. R.Moderated.showing.is_clean a.registry.now };
 
     ghost becomes = { λ a b. (b.registry.ghost_name ≡ a.registry.ghost_name)
-        × LivesOn S.Store a.registry.now b.registry.now };
+        × LivesOn R.Moderated a.registry.now b.registry.now };
 
-    ghost conduct = { serving S.Store };
+    ghost conduct = { serving R.Moderated };
 
-    ghost writes = { WritesText S.Store };
+    ghost writes = { WritesText R.Moderated };
 
     ghost kept = { exports_text };
 
@@ -77,8 +75,6 @@ impl<S: Alter + Drop> Handler for Service<'_, '_, S> {
     }
 
     fn write_body<W: Output>(&mut self, out: &mut W) -> Result<(), BodyStop> {
-        pid_service::laws::clauses_meet_lives::<S>(); // proof only
-        pid_service::laws::items_print_as_their_tree(); // proof only
         match self.registry.export(out) {
             Ok(()) => Ok(()),
             Err(ExportFault::Write(_)) => Err(BodyStop::Writer),

@@ -1,21 +1,20 @@
 //! Imports, whose file is the body of the request, read as it comes.
 ghost use Rattle.std.specs.Prelude.{◌≡◌, [], Some, Err, IfOk, IfSome, option_copied};
 ghost use Rattle.std.specs.Io.KnownBytes.{IsAtEnd};
-ghost use Rattle.pid_service.specs.Files.{file_reading};
+ghost use Rattle.pid_moderation.specs.Files.{file_reading};
 ghost use Rattle.pid_moderation.specs.BeforeFile.{import_of};
-ghost use Rattle.pid_http_api.specs.Outcomes.{outcome_answer};
-ghost use Rattle.pid_http_api.specs.Replying.{MakesReply};
+ghost use Rattle.pid_http.specs.Api.Outcomes.{outcome_answer};
+ghost use Rattle.pid_http.specs.Api.Replying.{MakesReply};
 ghost use Rattle.pid_http.specs.Errands as errands;
 ghost use Rattle.pid_http.specs.Errands.{import_errand};
 ghost use Rattle.pid_http.specs.Steps.Replying.{RepliesToFile, sending_in};
 
-use pid_http_api::{Format, Sender, outcome_reply};
+use crate::api::{Format, Sender, outcome_reply};
 use pid_http_stream::{LONGEST_BODY, NoReply, Reply};
 use pid_ident::{Account, Input, Key};
 use pid_moderation::{Refusal, Reply as Outcome};
 use pid_reader::skip_input;
-use pid_service::{ImportEnd, Registry};
-use sqlite::Alter;
+use pid_service_laws::{Consulted, ImportEnd};
 use std::alloc::Global;
 
 fn reply_with(
@@ -50,9 +49,9 @@ fn refuse<B: Input>(
 }
 
 // Has an import obeyed.
-fn take_in<S: Alter + Drop, B: Input>(
+fn take_in<R: Consulted, B: Input>(
     alloc: Global,
-    registry: &mut Registry<S>,
+    registry: &mut R,
     format: Format,
     account: Account,
     key: Option<Key>,
@@ -60,11 +59,10 @@ fn take_in<S: Alter + Drop, B: Input>(
 ) -> Result<Reply, NoReply>
     ensures goes { B.goes body.old body.new }
     ensures whole { IfOk result (λ _. IsAtEnd (B.to_come body.new)) }
-    ensures replied { RepliesToFile S.Store registry.old registry.new
+    ensures replied { RepliesToFile R.Moderated registry.old registry.new
         (B.to_come body.old) (B.to_come body.new)
         (λ file. errands.Obeys (import_of account key (file_reading file)) format) result }
 {
-    pid_service::laws::clauses_meet_lives::<S>(); // proof only
     match registry.import_from(account, key, body) {
         Ok(reply) => reply_with(alloc, format, Ok(reply)),
         Err(ImportEnd::Refused(refusal)) => refuse(alloc, format, refusal, body),
@@ -91,16 +89,16 @@ fn owner_of(alloc: Global, sender: Sender<'_>) -> Option<(Account, Option<Key>)>
 
 /// Has an import obeyed whose file is the body. The sender is judged first, but a refusal is
 /// answered only after the body.
-pub(crate) fn import<S: Alter + Drop, B: Input>(
+pub(crate) fn import<R: Consulted, B: Input>(
     alloc: Global,
-    registry: &mut Registry<S>,
+    registry: &mut R,
     format: Format,
     sender: Option<Sender<'_>>,
     body: &mut B,
 ) -> Result<Reply, NoReply>
     ensures goes { B.goes body.old body.new }
     ensures whole { IfOk result (λ _. IsAtEnd (B.to_come body.new)) }
-    ensures replied { RepliesToFile S.Store registry.old registry.new
+    ensures replied { RepliesToFile R.Moderated registry.old registry.new
         (B.to_come body.old) (B.to_come body.new)
         (import_errand format (sending_in sender.entry)) result }
 {

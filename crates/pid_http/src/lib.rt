@@ -1,7 +1,8 @@
 //! A registry over HTTP: each request of a stream is answered over the history that the registry
-//! shows (RFC 9112, RFC 8259).
+//! shows (RFC 9112, RFC 8259). `api` is what a request asks for, and the reply to each outcome.
 #![tactic(auto)]
 
+pub mod api;
 mod commanding;
 mod dispatch;
 mod exporting;
@@ -13,6 +14,7 @@ mod queries;
 mod service;
 mod stream;
 
+pub use crate::api::Routes;
 pub use laws::streams_send_their_commands;
-pub use pid_http_api::Routes;
+pub use pid_service_laws::Consulted;
 pub use stream::{serve_stream, serve_with};

@@ -2,24 +2,23 @@
 ghost use Rattle.std.specs.Prelude.{◌≡◌, option_copied};
 ghost use Rattle.pid_http.specs.Errands as errands;
 ghost use Rattle.pid_http.specs.Errands.{submissions_for};
-ghost use Rattle.pid_http.specs.Steps.Replying.{Asks};
+ghost use Rattle.pid_http.specs.Steps.Replying.{Replies};
 
-use pid_http_api::{Format, Sought, queue_reply, refusal_reply, status_reply, submissions_reply};
+use crate::api::{Format, Sought, queue_reply, refusal_reply, status_reply, submissions_reply};
 use pid_http_stream::Reply;
 use pid_ident::Account;
 use pid_moderation::Refusal;
-use pid_service::Registry;
-use sqlite::Alter;
+use pid_service_laws::Consulted;
 use std::alloc::{AllocError, Global};
 
-/// The queue of pending submissions with greater numbers.
-pub(crate) fn queue<S: Alter + Drop>(
+/// The queue of pending submissions with numbers above `after`.
+pub(crate) fn queue<R: Consulted>(
     alloc: Global,
-    registry: &mut Registry<S>,
+    registry: &mut R,
     after: u32,
     format: Format,
 ) -> Result<Reply, AllocError>
-    ensures { Asks S.Store registry.old registry.new (errands.Queue after format) result }
+    ensures { Replies R.Moderated registry.old registry.new (errands.Queue after format) result }
 {
     match registry.queue(after) {
         Ok(page) => queue_reply(alloc, format, &page),
@@ -29,15 +28,15 @@ pub(crate) fn queue<S: Alter + Drop>(
 
 /// The submissions for a path and of an author, where one is named, below a number; or a refusal,
 /// if the text was no path.
-pub(crate) fn submissions<S: Alter + Drop>(
+pub(crate) fn submissions<R: Consulted>(
     alloc: Global,
-    registry: &mut Registry<S>,
+    registry: &mut R,
     sought: Sought,
     author: Option<&Account>,
     before: u32,
     format: Format,
 ) -> Result<Reply, AllocError>
-    ensures { Asks S.Store registry.old registry.new
+    ensures { Replies R.Moderated registry.old registry.new
         (submissions_for format sought (option_copied author.entry) before) result }
 {
     let path = match sought {
@@ -52,12 +51,12 @@ pub(crate) fn submissions<S: Alter + Drop>(
 }
 
 /// How much the registry holds.
-pub(crate) fn status<S: Alter + Drop>(
+pub(crate) fn status<R: Consulted>(
     alloc: Global,
-    registry: &mut Registry<S>,
+    registry: &mut R,
     format: Format,
 ) -> Result<Reply, AllocError>
-    ensures { Asks S.Store registry.old registry.new (errands.Status format) result }
+    ensures { Replies R.Moderated registry.old registry.new (errands.Status format) result }
 {
     match registry.status() {
         Ok(status) => status_reply(alloc, format, &status),

@@ -2,27 +2,26 @@
 ghost use Rattle.std.specs.Prelude.{◌≡◌};
 ghost use Rattle.pid_http.specs.Errands as errands;
 ghost use Rattle.pid_http.specs.Errands.{changes_for, children_for, read_for, submission_for};
-ghost use Rattle.pid_http.specs.Steps.Replying.{Asks};
+ghost use Rattle.pid_http.specs.Steps.Replying.{Replies};
 
-use pid_http_api::{
+use crate::api::{
     Above, Format, LookupQuery, Start, changes_reply, children_reply, item_reply, lookup_reply,
     missing_reply, pending_reply, rank_reply, refusal_reply, submission_reply,
 };
 use pid_http_stream::Reply;
 use pid_ident::{Account, Path};
 use pid_moderation::Refusal;
-use pid_service::Registry;
-use sqlite::Alter;
+use pid_service_laws::Consulted;
 use std::alloc::{AllocError, Global};
 
 /// The item at a path; or a refusal, if the text was no path.
-pub(crate) fn read<S: Alter + Drop>(
+pub(crate) fn read<R: Consulted>(
     alloc: Global,
-    registry: &mut Registry<S>,
+    registry: &mut R,
     path: Option<Path>,
     format: Format,
 ) -> Result<Reply, AllocError>
-    ensures { Asks S.Store registry.old registry.new (read_for format path) result }
+    ensures { Replies R.Moderated registry.old registry.new (read_for format path) result }
 {
     match path {
         None => refusal_reply(alloc, format, Refusal::BadPath),
@@ -35,13 +34,13 @@ pub(crate) fn read<S: Alter + Drop>(
 }
 
 /// The items below a path, or at the top; or a refusal, if the text was no path.
-pub(crate) fn children<S: Alter + Drop>(
+pub(crate) fn children<R: Consulted>(
     alloc: Global,
-    registry: &mut Registry<S>,
+    registry: &mut R,
     above: Above,
     format: Format,
 ) -> Result<Reply, AllocError>
-    ensures { Asks S.Store registry.old registry.new (children_for format above) result }
+    ensures { Replies R.Moderated registry.old registry.new (children_for format above) result }
 {
     let under = match above {
         Above::Top => None,
@@ -59,25 +58,25 @@ pub(crate) fn children<S: Alter + Drop>(
 }
 
 /// A look-up.
-pub(crate) fn lookup<S: Alter + Drop>(
+pub(crate) fn lookup<R: Consulted>(
     alloc: Global,
-    registry: &mut Registry<S>,
+    registry: &mut R,
     query: LookupQuery,
 ) -> Result<Reply, AllocError>
-    ensures { Asks S.Store registry.old registry.new (errands.Lookup query) result }
+    ensures { Replies R.Moderated registry.old registry.new (errands.Lookup query) result }
 {
     let found = registry.lookup(query.flags, &query.args, query.size);
     lookup_reply(alloc, found)
 }
 
 /// The submission with a number; or a refusal, if the text was no number.
-pub(crate) fn submission<S: Alter + Drop>(
+pub(crate) fn submission<R: Consulted>(
     alloc: Global,
-    registry: &mut Registry<S>,
+    registry: &mut R,
     number: Option<u32>,
     format: Format,
 ) -> Result<Reply, AllocError>
-    ensures { Asks S.Store registry.old registry.new (submission_for format number) result }
+    ensures { Replies R.Moderated registry.old registry.new (submission_for format number) result }
 {
     match number {
         None => refusal_reply(alloc, format, Refusal::BadText),
@@ -88,14 +87,14 @@ pub(crate) fn submission<S: Alter + Drop>(
     }
 }
 
-/// The pending submissions with greater numbers.
-pub(crate) fn pending<S: Alter + Drop>(
+/// The pending submissions with numbers above `after`.
+pub(crate) fn pending<R: Consulted>(
     alloc: Global,
-    registry: &mut Registry<S>,
+    registry: &mut R,
     after: u32,
     format: Format,
 ) -> Result<Reply, AllocError>
-    ensures { Asks S.Store registry.old registry.new (errands.Pending after format) result }
+    ensures { Replies R.Moderated registry.old registry.new (errands.Pending after format) result }
 {
     match registry.pending(after) {
         Ok(page) => pending_reply(alloc, format, &page),
@@ -103,16 +102,16 @@ pub(crate) fn pending<S: Alter + Drop>(
     }
 }
 
-/// The items that later commands added or renamed, after a path or from the first one on; or a
-/// refusal, if the text was no path.
-pub(crate) fn changes<S: Alter + Drop>(
+/// The items that commands after `since` added or renamed, after a path or from the first one on;
+/// or a refusal, if the text was no path.
+pub(crate) fn changes<R: Consulted>(
     alloc: Global,
-    registry: &mut Registry<S>,
+    registry: &mut R,
     since: u64,
     start: Start,
     format: Format,
 ) -> Result<Reply, AllocError>
-    ensures { Asks S.Store registry.old registry.new (changes_for since format start) result }
+    ensures { Replies R.Moderated registry.old registry.new (changes_for since format start) result }
 {
     let after = match start {
         Start::First => None,
@@ -126,13 +125,13 @@ pub(crate) fn changes<S: Alter + Drop>(
 }
 
 /// The rank of an account.
-pub(crate) fn rank<S: Alter + Drop>(
+pub(crate) fn rank<R: Consulted>(
     alloc: Global,
-    registry: &mut Registry<S>,
+    registry: &mut R,
     who: &Account,
     format: Format,
 ) -> Result<Reply, AllocError>
-    ensures { Asks S.Store registry.old registry.new (errands.Rank who.now format) result }
+    ensures { Replies R.Moderated registry.old registry.new (errands.Rank who.now format) result }
 {
     match registry.rank(who) {
         Ok(rank) => rank_reply(alloc, format, who, rank),

@@ -8,12 +8,11 @@ ghost use Rattle.pid_http.specs.Known.{LivesOn};
 ghost use Rattle.pid_http.specs.Serving.{serving};
 ghost use Rattle.pid_http.specs.Streams.{OverStream};
 
+use crate::api::Routes;
 use crate::service::Service;
-use pid_http_api::Routes;
 use pid_http_stream::{Incoming, Served, StreamEnd, serve_stream as serve_requests};
 use pid_ident::Output;
-use pid_service::Registry;
-use sqlite::Alter;
+use pid_service_laws::Consulted;
 use std::alloc::Global;
 
 /// Answers the requests of a stream over a registry, one after another, in at most so many reads.
@@ -35,14 +34,14 @@ use std::alloc::Global;
 ///   it is not refused.
 /// - `WriteFault`: the requests before were answered, and a prefix of the next reply was written,
 ///   which may be all of it if the writer failed after it; the next may have been obeyed.
-/// - `StoreFault`: the same within the text of all items, which the store or memory cut short, over
-///   a writer that is good.
+/// - `StoreFault`: the same within the text of all items, which the registry broke off, over a
+///   writer that is good.
 ///
 /// If there is no memory for the routes, it ends so before anything is read. A server makes them
 /// once, and calls `serve_with`.
-pub fn serve_stream<S: Alter + Drop, I: Incoming<W>, W: Output>(
+pub fn serve_stream<R: Consulted, I: Incoming<W>, W: Output>(
     alloc: Global,
-    registry: &mut Registry<S>,
+    registry: &mut R,
     reader: &mut I,
     writer: &mut W,
     turns: u64,
@@ -52,18 +51,18 @@ pub fn serve_stream<S: Alter + Drop, I: Incoming<W>, W: Output>(
     // its session sent it. As `t` a reader takes what is known of the registry at the start:
     // `start` is this registry, there are no `calls` yet, and `known` is `Live h` if it shows the
     // history `h`, `Down` if it had failed earlier.
-    ensures served { OverStream S.Store registry.old registry.new (I.to_come reader.old)
-        (λ t u stream. IsServed (serving S.Store)
+    ensures served { OverStream R.Moderated registry.old registry.new (I.to_come reader.old)
+        (λ t u stream. IsServed (serving R.Moderated)
         (outside t u (W.taken writer.old) (W.taken writer.new))
         stream (I.to_come reader.new) result.end result.answered) }
     // Whenever the reader was read, the requests that had come were answered, and the writer had
     // taken the replies.
-    ensures caught_up { OverStream S.Store registry.old registry.new (I.to_come reader.old)
-        (λ t _ stream. AllSince (IsCaughtUp (serving S.Store) t (W.taken writer.old) stream)
+    ensures caught_up { OverStream R.Moderated registry.old registry.new (I.to_come reader.old)
+        (λ t _ stream. AllSince (IsCaughtUp (serving R.Moderated) t (W.taken writer.old) stream)
         (I.moments reader.old) (I.moments reader.new)) }
     // Whatever the bytes are and wherever it ends, it is a part of the registry's session; and
     // one that has failed stays as it is.
-    ensures lives { LivesOn S.Store registry.old registry.new }
+    ensures lives { LivesOn R.Moderated registry.old registry.new }
     ensures ended { EndsFor result.end (record {
       before = reader_at I.Incoming reader.old;
       after = reader_at I.Incoming reader.new;
@@ -83,22 +82,22 @@ pub fn serve_stream<S: Alter + Drop, I: Incoming<W>, W: Output>(
 }
 
 /// The same by routes that were made before.
-pub fn serve_with<S: Alter + Drop, I: Incoming<W>, W: Output>(
+pub fn serve_with<R: Consulted, I: Incoming<W>, W: Output>(
     alloc: Global,
     routes: &Routes,
-    registry: &mut Registry<S>,
+    registry: &mut R,
     reader: &mut I,
     writer: &mut W,
     turns: u64,
 ) -> Served
-    ensures served { OverStream S.Store registry.old registry.new (I.to_come reader.old)
-        (λ t u stream. IsServed (serving S.Store)
+    ensures served { OverStream R.Moderated registry.old registry.new (I.to_come reader.old)
+        (λ t u stream. IsServed (serving R.Moderated)
         (outside t u (W.taken writer.old) (W.taken writer.new))
         stream (I.to_come reader.new) result.end result.answered) }
-    ensures caught_up { OverStream S.Store registry.old registry.new (I.to_come reader.old)
-        (λ t _ stream. AllSince (IsCaughtUp (serving S.Store) t (W.taken writer.old) stream)
+    ensures caught_up { OverStream R.Moderated registry.old registry.new (I.to_come reader.old)
+        (λ t _ stream. AllSince (IsCaughtUp (serving R.Moderated) t (W.taken writer.old) stream)
         (I.moments reader.old) (I.moments reader.new)) }
-    ensures lives { LivesOn S.Store registry.old registry.new }
+    ensures lives { LivesOn R.Moderated registry.old registry.new }
     ensures ended { EndsFor result.end (record {
       before = reader_at I.Incoming reader.old;
       after = reader_at I.Incoming reader.new;

@@ -24,3 +24,4 @@ pub mod Laws
 pub mod Bodies
 pub mod BodyLaws
 pub mod Steps
+pub mod Listener

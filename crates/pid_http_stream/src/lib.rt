@@ -5,7 +5,8 @@
 //! writes its reply before it reads on. It holds one buffer for the head and one for the body,
 //! whatever a client sends: a head has at most 16,384 bytes and 32 fields, a body at most 4,194,304
 //! bytes. A body that the handler wants as a stream is not held at all, and neither is the body of
-//! a reply that the handler writes itself.
+//! a reply that the handler writes itself. `listener` accepts connections and hands their streams
+//! to a server, one after the other.
 #![tactic(auto)]
 
 mod body_input;
@@ -20,6 +21,7 @@ mod intake;
 mod judging;
 pub mod laws;
 mod limits;
+pub mod listener;
 mod one_request;
 mod refusal;
 mod reply;

@@ -29,4 +29,5 @@ pub mod ChangePages
 pub mod SubmissionPages
 pub mod QueuePages
 pub mod RegistryStatus
+pub mod Files
 pub mod Steps

@@ -1,5 +1,5 @@
 -- Lines that were answered, and one more behind them.
-use Rattle.std.proofs.Common.{◌≡◌, ◌+◌, ℕ, List, [], ◌∷◌, ◌++◌, Option, Some, Ok, Err, refl, sym, ap, ◌∙◌, subst, inl, inr, append_assoc}
+use Rattle.std.proofs.Common.{◌≡◌, ◌+◌, ℕ, List, [], ◌∷◌, ◌++◌, Option, Some, Ok, Err, refl, sym, ap, ◌∙◌, subst, inl, inr, append_assoc, false}
 use Rattle.std.proofs.lemmas.List.{append-nil}
 use Rattle.std.specs.Io.KnownBytes.{Appends}
 use Rattle.std.specs.Prelude.{◌⊎◌}
@@ -10,7 +10,7 @@ use Rattle.pid_moderation.specs.History.{History, Asked}
 use Rattle.pid_moderation.specs.Judgement.{after_all}
 use Rattle.pid_script.specs.declared.line_end.LineEnd.{LineEnd}
 use Rattle.pid_script.specs.declared.line_end.LineEnd.TheVariants.{Stopped, WriteFault, TooLong}
-use Rattle.pid_service.specs.declared.moderated.Moderated.{Ghosts}
+use Rattle.pid_service_laws.specs.declared.moderated.Moderated.{Ghosts}
 use Rattle.pid_script.specs.Calling.{CallsSend, CallsSendEither}
 use Rattle.pid_script.specs.Replies.{line_reply, calls_for, calls_for_lines, command_of, commands_of_lines, history_after, replies}
 use Rattle.pid_script.specs.Steps.Output.{Out, out, HasSaid, SaysStop, AnswersLine}
@@ -24,20 +24,20 @@ use Rattle.pid_script.proofs.Calling.{send_then, send_either}
 use Rattle.pid_script.proofs.LineReplies.{counts_then, commands_more, commands_one, commands_then, history_on, history_more, replies_on, replies_one, fits_more, calls_more, quiet_lines, quiet_before, all_but_last, but_one, history_waits, reply_more}
 
 becomes_then : {R : Type 0} (m : Ghosts R) (a b c : R) (h k l : History) → Becomes m a h b k → Becomes m b k c l → Becomes m a h c l
-becomes_then m a b c h k l p q = record { shows = λ s. q.shows (p.shows s); failed = λ f. q.failed (subst m.has_failed (sym (p.failed f)) f) ∙ p.failed f }
+becomes_then m a b c h k l p q = record { shows = λ s. q.shows (p.shows s); failed = λ f. q.failed (subst (λ x. m.is_live x ≡ false) (sym (p.failed f)) f) ∙ p.failed f }
 
 either_then : {R : Type 0} (m : Ghosts R) (a b c : R) (h k l n : History) → Becomes m a h b k → BecomesEither m b k c l n → BecomesEither m a h c l n
-either_then m a b c h k l n p q = record { shows = λ s. q.shows (p.shows s); failed = λ f. q.failed (subst m.has_failed (sym (p.failed f)) f) ∙ p.failed f }
+either_then m a b c h k l n p q = record { shows = λ s. q.shows (p.shows s); failed = λ f. q.failed (subst (λ x. m.is_live x ≡ false) (sym (p.failed f)) f) ∙ p.failed f }
 
 stops_then : {R : Type 0} (m : Ghosts R) (a b c : R) (h k : History) (commands : List Asked) → Becomes m a h b k → StopsBehind m b k c k commands → StopsBehind m a h c k commands
-stops_then m a b c h k commands p q = record { shows = λ s. q.shows (p.shows s); failed = λ f. q.failed (subst m.has_failed (sym (p.failed f)) f) ∙ p.failed f }
+stops_then m a b c h k commands p q = record { shows = λ s. q.shows (p.shows s); failed = λ f. q.failed (subst (λ x. m.is_live x ≡ false) (sym (p.failed f)) f) ∙ p.failed f }
 
 pub stands_then : {R : Type 0} (m : Ghosts R) (a b : R) (h k : History) → Becomes m a h b k → ShowsOrHasFailed m a h → ShowsOrHasFailed m b k
 stands_then m a b h k p (inl s) = inl (p.shows s)
-stands_then m a b h k p (inr f) = inr (subst m.has_failed (sym (p.failed f)) f)
+stands_then m a b h k p (inr f) = inr (subst (λ x. m.is_live x ≡ false) (sym (p.failed f)) f)
 
 cause_then : {R : Type 0} (m : Ghosts R) (a b : R) (h k : History) → Becomes m a h b k → (ask : Ask) (e : Refusal) → StoppedBy m b k ask e → StoppedBy m a h ask e
-cause_then m a b h k p ask e c = record { stops = c.stops; live = λ s. c.live (p.shows s); failed = λ f. c.failed (subst m.has_failed (sym (p.failed f)) f); unasked = c.unasked }
+cause_then m a b h k p ask e c = record { stops = c.stops; live = λ s. c.live (p.shows s); failed = λ f. c.failed (subst (λ x. m.is_live x ≡ false) (sym (p.failed f)) f); unasked = c.unasked }
 
 stop_then : {R : Type 0} (m : Ghosts R) (a b : R) (h k : History) (ask : Ask) (Begun : List ℕ → Type 0) (text : List ℕ) → Becomes m a h b k → IsStopText (StoppedBy m b k ask) Begun text → IsStopText (StoppedBy m a h ask) Begun text
 stop_then m a b h k ask Begun text p s = record { begun = s.begun; front = s.front; refusal = s.refusal; cause = cause_then m a b h k p ask s.refusal s.cause; is = s.is }
@@ -121,7 +121,7 @@ broken m h start first r old new all lines behind parts a front = record {
 -- one more line was answered, and is held
 more_held : {R : Type 0} (m : Ghosts R) (h : History) (start : Option (List ℕ)) (first r new : R) (old left : Out) (lines : List (List ℕ)) (line : List ℕ)
     → Answered m h start first r old lines → HasSaid old left (line_reply (ask_of line) (history_after h lines)) → command_of (ask_of line) ≡ []
-    → NoneTooLong (lines ++ line ∷ []) → Becomes m first h new (history_after h (lines ++ line ∷ [])) → (m.has_failed first → NoneCalls (lines ++ line ∷ []))
+    → NoneTooLong (lines ++ line ∷ []) → Becomes m first h new (history_after h (lines ++ line ∷ [])) → (m.is_live first ≡ false → NoneCalls (lines ++ line ∷ []))
     → CallsSend m.showing first (commands_of_lines (lines ++ line ∷ [])) (calls_for_lines (lines ++ line ∷ [])) new
     → Answered m h start first new left (lines ++ line ∷ [])
 more_held m h start first r new old left lines line a said none fits leaves lives calls = record {
@@ -168,8 +168,8 @@ more_answered m x h start first r new old left lines line a e = by e.leaves.flus
     leaves : Becomes m first h new (history_after h (lines ++ line ∷ []))
     leaves = subst (Becomes m first h new) (sym (history_more h lines line)) (becomes_then m first r new h (history_after h lines) (after_all (history_after h lines) (command_of (ask_of line))) a.leaves e.leaves.becomes)
 
-    lives : m.has_failed first → NoneCalls (lines ++ line ∷ [])
-    lives = λ f. calls_more lines line (a.lives f) (e.leaves.lives (subst m.has_failed (sym (a.leaves.failed f)) f))
+    lives : m.is_live first ≡ false → NoneCalls (lines ++ line ∷ [])
+    lives = λ f. calls_more lines line (a.lives f) (e.leaves.lives (subst (λ x. m.is_live x ≡ false) (sym (a.leaves.failed f)) f))
 
     calls : CallsSend m.showing first (commands_of_lines (lines ++ line ∷ [])) (calls_for_lines (lines ++ line ∷ [])) new
     calls = subst (λ cs. CallsSend m.showing first cs (calls_for_lines (lines ++ line ∷ [])) new) (sym (commands_then lines line)) (sent_for m first new lines line _ (send_then m.showing first r new (commands_of_lines lines) (command_of (ask_of line)) _ _ a.calls e.sends))

@@ -23,10 +23,10 @@ use Rattle.pid_moderation.specs.Items.{name_at}
 use Rattle.pid_moderation.specs.Views.{items_of}
 use Rattle.pid_script.specs.declared.line_end.LineEnd.{LineEnd}
 use Rattle.pid_script.specs.declared.line_end.LineEnd.TheVariants.{Stopped, WriteFault, TooLong}
-use Rattle.pid_service.specs.declared.moderated.Moderated.{Ghosts}
+use Rattle.pid_service_laws.specs.declared.moderated.Moderated.{Ghosts}
 use Rattle.pid_script.specs.Asking.{path_asked, lookup_in_form}
 use Rattle.pid_lookup.specs.Fields.{as_lookup as lookup_told}
-use Rattle.pid_service.specs.Moderating.{LooksUp}
+use Rattle.pid_service_laws.specs.Moderating.{LooksUp}
 use Rattle.pid_script.specs.Calling.{CallsSend}
 use Rattle.pid_script.specs.Replies.{line_reply, calls_for, command_of, name_reply, name_line, is_call, looked_up, answer_line, BAD_FLAGS}
 use Rattle.pid_script.specs.Steps.Output.{Out, IsGivenRefusal, IsGivenStop, IsNothing, SaysMemory, TellsFound, TellsLine, TellsName, IsReplyOrStop, refusal_given, refusal_of_names, GoesOnAfter, LeavesAfter, SendsFor, AnswersLine}
@@ -43,7 +43,7 @@ pub same : {R : Type 0} (m : Ghosts R) (r : R) (h : History) → Becomes m r h r
 same m r h = record { shows = λ s. s; failed = λ f. refl }
 
 question_leaves : {R : Type 0} (m : Ghosts R) (result : Result (Unit {0}) LineEnd) (ask : Ask) (h : History) (r new : R) (left : Out) (given : Option Refusal)
-    → command_of ask ≡ [] → (ask ≡ lines.TooLong → ⊥) → Becomes m r h new h → OnOk result (m.has_failed r → (is_call ask ≡ false) ⊎ (given ≡ Some Failed))
+    → command_of ask ≡ [] → (ask ≡ lines.TooLong → ⊥) → Becomes m r h new h → OnOk result (m.is_live r ≡ false → (is_call ask ≡ false) ⊎ (given ≡ Some Failed))
     → GoesOnAfter result given → (result ≡ Err TooLong → ⊥) → LeavesAfter m result r h new ask left
 question_leaves m (Ok x) ask h r new left given none short becomes called goes fits = record {
   becomes = subst (λ cs. Becomes m r h new (after_all h cs)) (sym none) becomes;
@@ -67,7 +67,7 @@ question_sends m (Err TooLong) ask r new none sends = sends
 
 -- a line was answered that holds no command
 pub asked : {R : Type 0} (m : Ghosts R) (result : Result (Unit {0}) LineEnd) (ask : Ask) (h : History) (r new : R) (old left : Out) (given : Option Refusal)
-    → command_of ask ≡ [] → (ask ≡ lines.TooLong → ⊥) → Becomes m r h new h → ((e : Refusal) → IsGivenRefusal given e → StoppedBy m r h ask e) → OnOk result (m.has_failed r → (is_call ask ≡ false) ⊎ (given ≡ Some Failed))
+    → command_of ask ≡ [] → (ask ≡ lines.TooLong → ⊥) → Becomes m r h new h → ((e : Refusal) → IsGivenRefusal given e → StoppedBy m r h ask e) → OnOk result (m.is_live r ≡ false → (is_call ask ≡ false) ⊎ (given ≡ Some Failed))
     → GoesOnAfter result given → (result ≡ Err TooLong → ⊥) → CallsSend m.showing r [] (calls_for ask) new → TellsLine result (line_reply ask h) (IsGivenStop given) old left
     → AnswersLine m result ask h r old new left
 asked m result ask h r new old left given none short becomes cause called goes fits sends told = record {
@@ -161,7 +161,7 @@ found_told result (Err (lookups.Names e)) tree flags size args old left is told 
 found_told result (Err lookups.Memory) tree flags size args old left is told = memory_said result (cond (is_bad flags) BAD_FLAGS (answer_line (answer_of tree flags args size))) old left told
 
 -- so it is of a registry that shows the history, or has failed
-found_by : {R : Type 0} (m : Ghosts R) (result : Result (Unit {0}) LineEnd) (found : Result Answer (LookupRefusal Refusal)) (h : History) (r : R) (flags size : ℕ) (args : Args) (old left : Out) → (m.showing.shows r h → LooksUp found (tree_of h) flags args size) → (m.has_failed r → found ≡ Err (lookups.Names Failed)) → ShowsOrHasFailed m r h → TellsFound result found old left
+found_by : {R : Type 0} (m : Ghosts R) (result : Result (Unit {0}) LineEnd) (found : Result Answer (LookupRefusal Refusal)) (h : History) (r : R) (flags size : ℕ) (args : Args) (old left : Out) → (m.showing.shows r h → LooksUp found (tree_of h) flags args size) → (m.is_live r ≡ false → found ≡ Err (lookups.Names Failed)) → ShowsOrHasFailed m r h → TellsFound result found old left
     → TellsLine result (cond (is_bad flags) BAD_FLAGS (answer_line (answer_of (tree_of h) flags args size))) (IsGivenStop (refusal_of_names found)) old left
 found_by m result found h r flags size args old left is failed (inl s) told = found_told result found (tree_of h) flags size args old left (is s) told
 found_by m result found h r flags size args old left is failed (inr f) told =
@@ -175,20 +175,20 @@ faults_named (Err (lookups.Names g)) tree flags size args t e is = let same : g 
 faults_named (Err lookups.Memory) tree flags size args t e is = absurd cc
 
 pub looked_for : {R : Type 0} (m : Ghosts R) (result : Result (Unit {0}) LineEnd) (found : Result Answer (LookupRefusal Refusal)) (form : List ℕ) (l : ℕ × Args × ℕ) (h : History) (r new : R) (old left : Out)
-    → lookup_in_form form ≡ Some (lookup_told l) → (m.showing.shows r h → LooksUp found (tree_of h) l.0 l.1 l.2) → (m.showing.shows r h → m.showing.shows new h) → (m.has_failed r → (found ≡ Err (lookups.Names Failed)) × (new ≡ r))
+    → lookup_in_form form ≡ Some (lookup_told l) → (m.showing.shows r h → LooksUp found (tree_of h) l.0 l.1 l.2) → (m.showing.shows r h → m.showing.shows new h) → (m.is_live r ≡ false → (found ≡ Err (lookups.Names Failed)) × (new ≡ r))
     → TellsFound result found old left
     → GoesOnAfter result (refusal_of_names found) → (result ≡ Err TooLong → ⊥) → Does m.showing r nothing_sent new → ShowsOrHasFailed m r h → AnswersLine m result (lines.AsksLookup form) h r old new left
 looked_for m result found form l h r new old left is told kept failed sends goes fits does stands =
     asked m result (lines.AsksLookup form) h r new old left (refusal_of_names found) refl (λ e. cc) (record { shows = kept; failed = λ f. (failed f).1 })
     (names_cause m found r h (lines.AsksLookup form) (ap is_some is) (λ s. faults_named found (tree_of h) l.0 l.2 l.1 (told s)) (λ f. (failed f).0))
-    (always result (m.has_failed r → (is_call (lines.AsksLookup form) ≡ false) ⊎ (refusal_of_names found ≡ Some Failed)) (λ f. inr (ap refusal_of_names (failed f).0)))
+    (always result (m.is_live r ≡ false → (is_call (lines.AsksLookup form) ≡ false) ⊎ (refusal_of_names found ≡ Some Failed)) (λ f. inr (ap refusal_of_names (failed f).0)))
     goes fits (send_none m.showing r new _ (one_call (lines.AsksLookup form) (ap is_some is)) does)
     (subst (λ o. TellsLine result (looked_up o h) (IsGivenStop (refusal_of_names found)) old left) (sym is) (found_by m result found h r l.0 l.2 l.1 old left told (λ f. (failed f).0) stands sends))
 
 -- a look-up whose fields are bad
 pub bad_lookup : {R : Type 0} (m : Ghosts R) (result : Result (Unit {0}) LineEnd) (form : List ℕ) (h : History) (r : R) (old left : Out) → lookup_in_form form ≡ None → ((given : Option Refusal) → TellsLine result (refused_line BadText) (IsGivenStop given) old left) → IfErr result (λ e. e ≡ WriteFault) → AnswersLine m result (lines.AsksLookup form) h r old r left
 bad_lookup m result form h r old left is told end =
-    asked m result (lines.AsksLookup form) h r r old left None refl (λ e. cc) (same m r h) (no_cause m r h (lines.AsksLookup form)) (always result (m.has_failed r → (is_call (lines.AsksLookup form) ≡ false) ⊎ (None ≡ Some Failed)) (λ _. inl (ap is_some is))) (none_goes result) (only_fault result end) (send_still m.showing r _)
+    asked m result (lines.AsksLookup form) h r r old left None refl (λ e. cc) (same m r h) (no_cause m r h (lines.AsksLookup form)) (always result (m.is_live r ≡ false → (is_call (lines.AsksLookup form) ≡ false) ⊎ (None ≡ Some Failed)) (λ _. inl (ap is_some is))) (none_goes result) (only_fault result end) (send_still m.showing r _)
     (subst (λ o. TellsLine result (looked_up o h) (IsGivenStop None) old left) (sym is) (told None))
 
 -- memory is short for a look-up
@@ -201,19 +201,19 @@ name_told : (result : Result (Unit {0}) LineEnd) (answer : Result (Option (List 
 name_told result (Ok n) good old left is told = subst (λ x. TellsLine result (name_line x) (IsGivenStop None) old left) is told
 name_told result (Err e) good old left is told = told (name_line good) (inr (e, faults_stop e is, refl))
 
-name_by : {R : Type 0} (m : Ghosts R) (result : Result (Unit {0}) LineEnd) (answer : Result (Option (List ℕ)) Refusal) (good : Option (List ℕ)) (h : History) (r : R) (old left : Out) → (m.showing.shows r h → MatchResult answer (λ n. n ≡ good) IsMemoryOrStore) → (m.has_failed r → answer ≡ Err Failed) → ShowsOrHasFailed m r h → TellsName result answer old left
+name_by : {R : Type 0} (m : Ghosts R) (result : Result (Unit {0}) LineEnd) (answer : Result (Option (List ℕ)) Refusal) (good : Option (List ℕ)) (h : History) (r : R) (old left : Out) → (m.showing.shows r h → MatchResult answer (λ n. n ≡ good) IsMemoryOrStore) → (m.is_live r ≡ false → answer ≡ Err Failed) → ShowsOrHasFailed m r h → TellsName result answer old left
     → TellsLine result (name_line good) (IsGivenStop (refusal_given answer)) old left
 name_by m result answer good h r old left is failed (inl s) told = name_told result answer good old left (is s) told
 name_by m result answer good h r old left is failed (inr f) told =
     subst (λ a. TellsLine result (name_line good) (IsGivenStop (refusal_given a)) old left) (sym (failed f)) (subst (λ a. TellsName result a old left) (failed f) told (name_line good) (inr (Failed, refl, refl)))
 
 pub named : {R : Type 0} (m : Ghosts R) (result : Result (Unit {0}) LineEnd) (answer : Result (Option (List ℕ)) Refusal) (form : List ℕ) (path : Path) (h : History) (r new : R) (old left : Out)
-    → path_asked form ≡ Ok path → (m.showing.shows r h → MatchResult answer (λ name. name ≡ name_at (path_text path) (items_of h)) IsMemoryOrStore) → (m.showing.shows r h → m.showing.shows new h) → (m.has_failed r → (answer ≡ Err Failed) × (new ≡ r))
+    → path_asked form ≡ Ok path → (m.showing.shows r h → MatchResult answer (λ name. name ≡ name_at (path_text path) (items_of h)) IsMemoryOrStore) → (m.showing.shows r h → m.showing.shows new h) → (m.is_live r ≡ false → (answer ≡ Err Failed) × (new ≡ r))
     → TellsName result answer old left → GoesOnAfter result (refusal_given answer) → (result ≡ Err TooLong → ⊥) → Does m.showing r nothing_sent new → ShowsOrHasFailed m r h → AnswersLine m result (lines.AsksName form) h r old new left
 named m result answer form path h r new old left is told kept failed sends goes fits does stands =
     let good = name_at (path_text path) (items_of h) in
     asked m result (lines.AsksName form) h r new old left (refusal_given answer) refl (λ e. cc) (record { shows = kept; failed = λ f. (failed f).1 })
     (fault_cause m answer r h (lines.AsksName form) (ap is_ok is) (λ s. if_err answer (λ name. name ≡ good) IsMemoryOrStore (told s)) (λ f. (failed f).0))
-    (always result (m.has_failed r → (is_call (lines.AsksName form) ≡ false) ⊎ (refusal_given answer ≡ Some Failed)) (λ f. inr (ap refusal_given (failed f).0)))
+    (always result (m.is_live r ≡ false → (is_call (lines.AsksName form) ≡ false) ⊎ (refusal_given answer ≡ Some Failed)) (λ f. inr (ap refusal_given (failed f).0)))
     goes fits (send_none m.showing r new _ (one_call (lines.AsksName form) (ap is_ok is)) does)
     (subst (λ a. TellsLine result (name_reply a h) (IsGivenStop (refusal_given answer)) old left) (sym is) (name_by m result answer good h r old left told (λ f. (failed f).0) stands sends))

@@ -6,7 +6,7 @@ use Rattle.std.specs.Io.KnownBytes.{Consumes}
 use Rattle.pid_ident.specs.Moments.{Moment, AllSince, IsNoted}
 use Rattle.pid_ident.specs.MomentLaws.{since_none, since_then, since_so}
 use Rattle.pid_moderation.specs.History.{History}
-use Rattle.pid_service.specs.declared.moderated.Moderated.{Ghosts}
+use Rattle.pid_service_laws.specs.declared.moderated.Moderated.{Ghosts}
 use Rattle.pid_script.specs.Calling.{CallsGo}
 use Rattle.pid_script.specs.RegistryStates.{OverStanding}
 use Rattle.pid_script.specs.Scripts.{passage, IsUpToDate}

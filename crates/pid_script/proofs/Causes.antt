@@ -20,7 +20,7 @@ use Rattle.pid_moderation.specs.Writes.{tree_of}
 use Rattle.pid_moderation.specs.Faults.{IsMemoryOrStore}
 use Rattle.pid_script.specs.declared.line_end.LineEnd.{LineEnd}
 use Rattle.pid_script.specs.declared.line_end.LineEnd.TheVariants.{Stopped, WriteFault, TooLong}
-use Rattle.pid_service.specs.declared.moderated.Moderated.{Ghosts}
+use Rattle.pid_service_laws.specs.declared.moderated.Moderated.{Ghosts}
 use Rattle.pid_script.specs.Asking.{command_in_form, path_asked, other_fields, refused_or, path_checks}
 use Rattle.pid_script.specs.Replies.{is_call}
 use Rattle.pid_script.specs.Steps.Output.{Out, IsGivenRefusal, IsNothing, TellsLine, refusal_given, refusal_of_names, GoesOnAfter}
@@ -134,7 +134,7 @@ unfolding path_asked
 path_no_stop form g is = refused_no_stop (first_failing (path_checks (fields_in form))) (path_of (text_at (codes "path") (fields_in form))) (none_stops (path_checks (fields_in form)) (refl, (refl, tt))) g is
 
 -- the causes of what a question is answered
-pub fault_cause : {R X : Type 0} (m : Ghosts R) (answer : Result X Refusal) (r : R) (h : History) (ask : Ask) → is_call ask ≡ true → (m.showing.shows r h → (e : Refusal) → answer ≡ Err e → IsMemoryOrStore e) → (m.has_failed r → answer ≡ Err Failed) → (e : Refusal) → IsGivenRefusal (refusal_given answer) e → StoppedBy m r h ask e
+pub fault_cause : {R X : Type 0} (m : Ghosts R) (answer : Result X Refusal) (r : R) (h : History) (ask : Ask) → is_call ask ≡ true → (m.showing.shows r h → (e : Refusal) → answer ≡ Err e → IsMemoryOrStore e) → (m.is_live r ≡ false → answer ≡ Err Failed) → (e : Refusal) → IsGivenRefusal (refusal_given answer) e → StoppedBy m r h ask e
 fault_cause m answer r h ask called live failed e given = record { stops = given.1; live = λ s. live s e (err_in answer e given.0); failed = λ f. inl (let same : Err e ≡ Err Failed = sym (err_in answer e given.0) ∙ failed f in cc); unasked = λ off. absurd (true≢false (sym called ∙ off)) }
 
 names_in : (found : Result Answer (LookupRefusal Refusal)) (e : Refusal) → refusal_of_names found ≡ Some e → (e ≡ Memory) ⊎ (found ≡ Err (lookups.Names e))
@@ -143,7 +143,7 @@ names_in (Err lookups.BadFlags) e is = absurd cc
 names_in (Err (lookups.Names f)) e is = inr (let same : f ≡ e = cc in ap (λ g. Err (lookups.Names g)) same)
 names_in (Err lookups.Memory) e is = inl (let same : Memory ≡ e = cc in sym same)
 
-pub names_cause : {R : Type 0} (m : Ghosts R) (found : Result Answer (LookupRefusal Refusal)) (r : R) (h : History) (ask : Ask) → is_call ask ≡ true → (m.showing.shows r h → (e : Refusal) → found ≡ Err (lookups.Names e) → IsMemoryOrStore e) → (m.has_failed r → found ≡ Err (lookups.Names Failed)) → (e : Refusal) → IsGivenRefusal (refusal_of_names found) e → StoppedBy m r h ask e
+pub names_cause : {R : Type 0} (m : Ghosts R) (found : Result Answer (LookupRefusal Refusal)) (r : R) (h : History) (ask : Ask) → is_call ask ≡ true → (m.showing.shows r h → (e : Refusal) → found ≡ Err (lookups.Names e) → IsMemoryOrStore e) → (m.is_live r ≡ false → found ≡ Err (lookups.Names Failed)) → (e : Refusal) → IsGivenRefusal (refusal_of_names found) e → StoppedBy m r h ask e
 names_cause m found r h ask called live failed e given = by (names_in found e given.0)
   where
     by : (e ≡ Memory) ⊎ (found ≡ Err (lookups.Names e)) → StoppedBy m r h ask e

@@ -1,6 +1,6 @@
 -- The answer to an export.
 use mathlib.Core.Bool.{true≢false}
-use Rattle.std.proofs.Common.{◌≡◌, ℕ, true, List, [], ◌++◌, Option, Some, Result, Ok, Err, refl, sym, ap, ◌∙◌, subst, inl, inr, arith}
+use Rattle.std.proofs.Common.{◌≡◌, ℕ, true, List, [], ◌++◌, Option, Some, Result, Ok, Err, refl, sym, ap, ◌∙◌, subst, inl, inr, arith, false}
 use Rattle.std.specs.Io.KnownBytes.{Appends}
 use Rattle.std.specs.Prelude.{◌⊎◌, IsErrOf}
 use Rattle.pid_ident.specs.Sending.{SendsFront}
@@ -11,20 +11,20 @@ use Rattle.pid_moderation.specs.declared.refusal.Refusal.TheVariants.{Failed}
 use Rattle.pid_moderation.specs.History.{History}
 use Rattle.pid_moderation.specs.ReplyLines.{refused_line}
 use Rattle.pid_moderation.specs.Writes.{tree_of}
-use Rattle.pid_service.specs.declared.exporting.ExportFault.{ExportFault}
-use Rattle.pid_service.specs.declared.exporting.ExportFault.TheVariants.{Refused, Write}
+use Rattle.pid_service_laws.specs.declared.faults.ExportFault.{ExportFault}
+use Rattle.pid_service_laws.specs.declared.faults.ExportFault.TheVariants.{Refused, Write}
 use Rattle.pid_moderation.specs.Faults.{IsMemoryOrStore}
 use Rattle.pid_service_laws.specs.Calls.{nothing_sent}
 use Rattle.pid_service_laws.specs.Registries.{Does}
 use Rattle.pid_script.specs.declared.line_end.LineEnd.{LineEnd}
 use Rattle.pid_script.specs.declared.line_end.LineEnd.TheVariants.{Stopped, WriteFault, TooLong}
-use Rattle.pid_service.specs.declared.moderated.Moderated.{Ghosts}
-use Rattle.pid_service.specs.Moderating.{ExportsText, TakesWholeFront}
+use Rattle.pid_service_laws.specs.declared.moderated.Moderated.{Ghosts}
+use Rattle.pid_service_laws.specs.Moderating.{ExportsText, TakesWholeFront}
 use Rattle.pid_script.specs.Steps.Output.{out, IsGivenRefusal, IsGivenStop, IsNothing, TellsLine, IsReplyOrStop, GoesOnAfter, AnswersLine}
 use Rattle.pid_script.specs.ScriptLines as lines
 use Rattle.pid_script.specs.RegistryStates.{ShowsOrHasFailed}
 use Rattle.pid_script.specs.StopLines.{is_stop, StoppedBy, IsStopText}
-use Rattle.pid_service.specs.WholeFronts.{IsWholeFront}
+use Rattle.pid_service_laws.specs.WholeFronts.{IsWholeFront}
 use Rattle.pid_script.proofs.Calling.{send_still, send_none}
 use Rattle.pid_script.proofs.SayLemmas.{Appends-nil, Appends-then, front-then, front-before, out_then}
 use Rattle.pid_script.proofs.Causes.{faults_stop}
@@ -38,7 +38,7 @@ export_unheld m e h r a b was left is front = subst (λ x. AnswersLine m (Err x)
 })
 
 -- the whole text went out
-pub export_whole : {R : Type 0} (m : Ghosts R) (x : Unit {0}) (h : History) (r new : R) (a b c : Option (List ℕ)) (was left : List ℕ) → Appends a b was → left ≡ [] → (m.showing.shows r h → Appends b c (print (tree_of h))) → (m.showing.shows r h → m.showing.shows new h) → (m.has_failed r → ⊥) → Does m.showing r nothing_sent new → ShowsOrHasFailed m r h
+pub export_whole : {R : Type 0} (m : Ghosts R) (x : Unit {0}) (h : History) (r new : R) (a b c : Option (List ℕ)) (was left : List ℕ) → Appends a b was → left ≡ [] → (m.showing.shows r h → Appends b c (print (tree_of h))) → (m.showing.shows r h → m.showing.shows new h) → (m.is_live r ≡ false → ⊥) → Does m.showing r nothing_sent new → ShowsOrHasFailed m r h
     → AnswersLine m (Ok x) lines.AsksExport h r (out a was) new (out c left)
 export_whole m x h r new a b c was left went none told kept failed does stands = record {
   tells = out_then a b c was left (print (tree_of h)) none went (by stands);
@@ -51,7 +51,7 @@ export_whole m x h r new a b c was left went none told kept failed does stands =
     by (inr f) = absurd (failed f)
 
 -- the writer failed within the text
-pub export_broken : {R : Type 0} (m : Ghosts R) (h : History) (r new : R) (a b c : Option (List ℕ)) (was left : List ℕ) → Appends a b was → (m.showing.shows r h → SendsFront b c (print (tree_of h))) → (m.showing.shows r h → m.showing.shows new h) → (m.has_failed r → ⊥) → Does m.showing r nothing_sent new → ShowsOrHasFailed m r h
+pub export_broken : {R : Type 0} (m : Ghosts R) (h : History) (r new : R) (a b c : Option (List ℕ)) (was left : List ℕ) → Appends a b was → (m.showing.shows r h → SendsFront b c (print (tree_of h))) → (m.showing.shows r h → m.showing.shows new h) → (m.is_live r ≡ false → ⊥) → Does m.showing r nothing_sent new → ShowsOrHasFailed m r h
     → AnswersLine m (Err WriteFault) lines.AsksExport h r (out a was) new (out c left)
 export_broken m h r new a b c was left went told kept failed does stands = record {
   tells = record { text = print (tree_of h); is = inl refl; front = front-then a b c was (print (tree_of h)) went (by stands) };
@@ -91,7 +91,7 @@ record BegunExport (a b : Option (List ℕ)) (text : List ℕ) : Type 0 where
   pub told : Appends a b front
 
 behind_begun : {R : Type 0} (m : Ghosts R) (result : Result (Unit {0}) LineEnd) (e : Refusal) (h : History) (r new : R) (a b c d : Option (List ℕ)) (was now left : List ℕ)
-    → Appends a b was → now ≡ [] → BegunExport b c (print (tree_of h)) → ((f : Refusal) → IsGivenRefusal (Some e) f → StoppedBy m r h lines.AsksExport f) → is_stop e ≡ true → (m.showing.shows r h → m.showing.shows new h) → (m.has_failed r → new ≡ r)
+    → Appends a b was → now ≡ [] → BegunExport b c (print (tree_of h)) → ((f : Refusal) → IsGivenRefusal (Some e) f → StoppedBy m r h lines.AsksExport f) → is_stop e ≡ true → (m.showing.shows r h → m.showing.shows new h) → (m.is_live r ≡ false → new ≡ r)
     → TellsLine result (refused_line e) (IsGivenStop (Some e)) (out c now) (out d left) → GoesOnAfter result (Some e) → (result ≡ Err TooLong → ⊥) → Does m.showing r nothing_sent new
     → AnswersLine m result lines.AsksExport h r (out a was) new (out d left)
 behind_begun m (Ok x) e h r new a b c d was now left went none begun cause stop kept failed t goes fits does = absurd (true≢false (sym stop ∙ goes))
@@ -132,7 +132,7 @@ behind_begun m (Err WriteFault) e h r new a b c d was now left went none begun c
 behind_begun m (Err TooLong) e h r new a b c d was now left went none begun cause stop kept failed t goes fits does = absurd (fits refl)
 
 pub export_refused : {R : Type 0} (m : Ghosts R) (result : Result (Unit {0}) LineEnd) (e : Refusal) (h : History) (r new : R) (a b c d : Option (List ℕ)) (was now left : List ℕ)
-    → Appends a b was → now ≡ [] → (m.showing.shows r h → IsMemoryOrStore e × TakesWholeFront b c (print (tree_of h))) → (m.has_failed r → (e ≡ Failed) × (new ≡ r) × (c ≡ b)) → (m.showing.shows r h → m.showing.shows new h) → ShowsOrHasFailed m r h
+    → Appends a b was → now ≡ [] → (m.showing.shows r h → IsMemoryOrStore e × TakesWholeFront b c (print (tree_of h))) → (m.is_live r ≡ false → (e ≡ Failed) × (new ≡ r) × (c ≡ b)) → (m.showing.shows r h → m.showing.shows new h) → ShowsOrHasFailed m r h
     → ((reply : List ℕ) → IsReplyOrStop reply (Err e) → TellsLine result reply (IsGivenStop (Some e)) (out c now) (out d left)) → GoesOnAfter result (Some e) → (result ≡ Err TooLong → ⊥) → Does m.showing r nothing_sent new
     → AnswersLine m result lines.AsksExport h r (out a was) new (out d left)
 export_refused m result e h r new a b c d was now left went none told failed kept stands sends goes fits does =

@@ -20,7 +20,7 @@ use Rattle.pid_moderation.specs.Judgement.{answer, judge}
 use Rattle.pid_moderation.specs.ReplyLines.{accepted_line, refused_line, outcome_line}
 use Rattle.pid_moderation.specs.Views.{views_of, items_of}
 use Rattle.pid_moderation.specs.Writes.{tree_of}
-use Rattle.pid_service.specs.Files.{asks}
+use Rattle.pid_moderation.specs.Files.{asks}
 use Rattle.pid_file.specs.Printing.{print}
 use Rattle.pid_script.specs.Asking.{command_in_form, path_asked, lookup_in_form}
 use Rattle.pid_script.specs.Replies.{line_reply, outcome_of, name_reply, name_line, looked_up, answer_line, BAD_FLAGS}

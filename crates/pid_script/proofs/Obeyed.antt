@@ -12,14 +12,14 @@ use Rattle.pid_moderation.specs.Judgement.{after, after_all, judge}
 use Rattle.pid_moderation.specs.Judgement as judgement
 use Rattle.pid_moderation.specs.ReplyLines.{outcome_line}
 use Rattle.pid_moderation.specs.Views.{views_of}
-use Rattle.pid_service.specs.Files.{asks}
+use Rattle.pid_moderation.specs.Files.{asks}
 use Rattle.pid_moderation.specs.Faults.{IsMemoryOrStore}
 use Rattle.pid_service_laws.specs.Calls as lives
 use Rattle.pid_service_laws.specs.Outcomes.{is_outcome}
 use Rattle.pid_service_laws.specs.Registries.{CommandLeaves, Does}
 use Rattle.pid_script.specs.declared.line_end.LineEnd.{LineEnd}
 use Rattle.pid_script.specs.declared.line_end.LineEnd.TheVariants.{Stopped, WriteFault, TooLong}
-use Rattle.pid_service.specs.declared.moderated.Moderated.{Ghosts}
+use Rattle.pid_service_laws.specs.declared.moderated.Moderated.{Ghosts}
 use Rattle.pid_script.specs.Asking.{command_in_form}
 use Rattle.pid_script.specs.Calling.{CallsSend, CallsSendEither}
 use Rattle.pid_script.specs.Replies.{calls_for, those_sent, outcome_of, is_call}
@@ -35,7 +35,7 @@ use Rattle.pid_script.proofs.Causes.{recast, faults_stop, fault_in, err_in, fail
 
 -- why an answer stops
 obey_cause : {R : Type 0} (m : Ghosts R) (answer : Result Reply Refusal) (c : Command) (ask : Ask) (h : History) (r new : R) → is_call ask ≡ true
-    → (m.showing.shows r h → CommandLeaves m.showing answer new h (asks c)) → (m.has_failed r → answer ≡ Err Failed)
+    → (m.showing.shows r h → CommandLeaves m.showing answer new h (asks c)) → (m.is_live r ≡ false → answer ≡ Err Failed)
     → (e : Refusal) → IsGivenRefusal (refusal_given answer) e → StoppedBy m r h ask e
 obey_cause m answer c ask h r new called obeys failed e given = record { stops = given.1; live = λ s. by (obeys s); failed = λ f. inl (let same : Err e ≡ Err Failed = sym (err_in answer e given.0) ∙ failed f in cc); unasked = λ off. absurd (true≢false (sym called ∙ off)) }
   where
@@ -44,7 +44,7 @@ obey_cause m answer c ask h r new called obeys failed e given = record { stops =
     by (inr fault) = fault_in answer e fault.0 (err_in answer e given.0)
 
 obey_answer : {R : Type 0} (m : Ghosts R) (answer : Result Reply Refusal) (c : Command) (h : History) (r new : R)
-    → (m.showing.shows r h → CommandLeaves m.showing answer new h (asks c)) → (m.has_failed r → answer ≡ Err Failed)
+    → (m.showing.shows r h → CommandLeaves m.showing answer new h (asks c)) → (m.is_live r ≡ false → answer ≡ Err Failed)
     → ShowsOrHasFailed m r h → IsReplyOrStop (outcome_line (judgement.answer (judge (views_of h) (asks c)))) answer
 obey_answer m answer c h r new obeys failed (inr f) = inr (Failed, refl, failed f)
 obey_answer m answer c h r new obeys failed (inl s) = by answer (obeys s)
@@ -138,7 +138,7 @@ obey_sends m (Err TooLong) answer c verb account form r new is call goes stop fi
 
 obey_leaves : {R : Type 0} (m : Ghosts R) (result : Result (Unit {0}) LineEnd) (answer : Result Reply Refusal) (c : Command) (asked : Result Command Refusal) (verb : Verb) (account form : List ℕ) (h : History) (r new : R) (left : Out)
     → command_in_form verb account form ≡ Ok c
-    → (m.showing.shows r h → CommandLeaves m.showing answer new h (asks c)) → (m.has_failed r → (answer ≡ Err Failed) × (new ≡ r))
+    → (m.showing.shows r h → CommandLeaves m.showing answer new h (asks c)) → (m.is_live r ≡ false → (answer ≡ Err Failed) × (new ≡ r))
     → GoesOnAfter result (refusal_given answer) → OnOk result (left.held ≡ []) → (result ≡ Err Stopped → StopsBy answer) → (result ≡ Err TooLong → ⊥)
     → LeavesAfter m result r h new (lines.AsksCommand verb account form) left
 unfolding StopsBy
@@ -164,7 +164,7 @@ obey_leaves m (Err TooLong) answer c asked verb account form h r new left is obe
 -- a command was obeyed
 pub obeyed : {R : Type 0} (m : Ghosts R) (result : Result (Unit {0}) LineEnd) (answer : Result Reply Refusal) (c : Command) (verb : Verb) (account form : List ℕ) (h : History) (r new : R) (old left : Out)
     → command_in_form verb account form ≡ Ok c
-    → (m.showing.shows r h → CommandLeaves m.showing answer new h (asks c)) → (m.has_failed r → (answer ≡ Err Failed) × (new ≡ r))
+    → (m.showing.shows r h → CommandLeaves m.showing answer new h (asks c)) → (m.is_live r ≡ false → (answer ≡ Err Failed) × (new ≡ r))
     → ((reply : List ℕ) → IsReplyOrStop reply answer → TellsLine result reply (IsGivenStop (refusal_given answer)) old left)
     → GoesOnAfter result (refusal_given answer) → OnOk result (left.held ≡ []) → (result ≡ Err TooLong → ⊥)
     → (live : Bool) × Does m.showing r (lives.obeyed (asks c) answer live) new

@@ -9,7 +9,7 @@ use Rattle.pid_moderation.specs.History.{History}
 use Rattle.pid_moderation.specs.ReplyLines.{refused_line}
 use Rattle.pid_script.specs.declared.line_end.LineEnd.{LineEnd}
 use Rattle.pid_script.specs.declared.line_end.LineEnd.TheVariants.{Stopped, WriteFault, TooLong}
-use Rattle.pid_service.specs.declared.moderated.Moderated.{Ghosts}
+use Rattle.pid_service_laws.specs.declared.moderated.Moderated.{Ghosts}
 use Rattle.pid_script.specs.Replies.{command_of, history_after}
 use Rattle.pid_script.specs.RegistryStates.{StopsBehind}
 use Rattle.pid_script.specs.Steps.Output.{Out, out, IsGivenStop, SaysMemory, SaysStop, SaysTooLong, TellsLine, Unfit, NoMemory, AlreadyLong, AnswersLine}
@@ -34,7 +34,7 @@ idle m h r taken held = record {
 
 -- a line that is no line of a script
 pub unclear : {R : Type 0} (m : Ghosts R) (result : Result (Unit {0}) LineEnd) (h : History) (r : R) (old left : Out) → ((given : Option Refusal) → TellsLine result (refused_line BadText) (IsGivenStop given) old left) → IfErr result (λ e. e ≡ WriteFault) → AnswersLine m result lines.Unclear h r old r left
-unclear m result h r old left told end = asked m result lines.Unclear h r r old left None refl (λ e. cc) (same m r h) (no_cause m r h lines.Unclear) (always result (m.has_failed r → (false ≡ false) ⊎ (None ≡ Some Failed)) (λ _. inl refl)) (none_goes result) (only_fault result end) (send_still m.showing r _) (told None)
+unclear m result h r old left told end = asked m result lines.Unclear h r r old left None refl (λ e. cc) (same m r h) (no_cause m r h lines.Unclear) (always result (m.is_live r ≡ false → (false ≡ false) ⊎ (None ≡ Some Failed)) (λ _. inl refl)) (none_goes result) (only_fault result end) (send_still m.showing r _) (told None)
 
 -- a line that is too long
 pub long : {R : Type 0} (m : Ghosts R) (e : LineEnd) (h : History) (r : R) (old left : Out) → SaysTooLong e old left → AnswersLine m (Err e) lines.TooLong h r old r left

@@ -1,13 +1,13 @@
 -- What calls make of a registry: `registry` is `R.Moderated`, which says what it shows.
-use Rattle.std.specs.Prelude.{◌≡◌, ◌⊎◌, List, [], ◌∷◌}
+use Rattle.std.specs.Prelude.{◌≡◌, ◌⊎◌, List, [], ◌∷◌, false}
 use Rattle.pid_moderation.specs.History.{Asked, History}
 use Rattle.pid_moderation.specs.Judgement.{after}
-use Rattle.pid_service.specs.declared.moderated.Moderated.{Ghosts}
+use Rattle.pid_service_laws.specs.declared.moderated.Moderated.{Ghosts}
 
 module _ {R : Type 0} (registry : Ghosts R) where
   -- it is live and shows the history, or it has failed earlier
   abbrev pub ShowsOrHasFailed : R → History → Type 0
-  ShowsOrHasFailed r h = registry.showing.shows r h ⊎ registry.has_failed r
+  ShowsOrHasFailed r h = registry.showing.shows r h ⊎ (registry.is_live r ≡ false)
 
   -- while the disk returns what was written, this holds of the history that the registry showed
   abbrev pub OverStanding : R → R → (History → Type 0) → Type 0
@@ -17,7 +17,7 @@ module _ {R : Type 0} (registry : Ghosts R) where
   -- if it showed the one history, it shows the other now; if it had failed, it is as before
   pub record Becomes (old : R) (h : History) (new : R) (next : History) : Type 0 where
     pub shows : registry.showing.shows old h → registry.showing.shows new next
-    pub failed : registry.has_failed old → new ≡ old
+    pub failed : registry.is_live old ≡ false → new ≡ old
 
   -- it shows the one or the other, or it has failed and all that a crash may leave shows one of
   -- them
@@ -28,7 +28,7 @@ module _ {R : Type 0} (registry : Ghosts R) where
   -- the same, if it may not be known which of the two histories it is
   pub record BecomesEither (old : R) (h : History) (new : R) (first second : History) : Type 0 where
     pub shows : registry.showing.shows old h → ShowsEither new first second
-    pub failed : registry.has_failed old → new ≡ old
+    pub failed : registry.is_live old ≡ false → new ≡ old
 
   -- it has failed at the command of a line, which has one at most: a crash leaves the history
   -- before it or the one after it
@@ -43,4 +43,4 @@ module _ {R : Type 0} (registry : Ghosts R) where
       (commands : List Asked) : Type 0 where
     pub shows : registry.showing.shows old h
         → registry.showing.shows new before ⊎ FailsAt new before commands
-    pub failed : registry.has_failed old → new ≡ old
+    pub failed : registry.is_live old ≡ false → new ≡ old

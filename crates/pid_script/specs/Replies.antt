@@ -3,7 +3,7 @@ use Rattle.std.specs.Prelude.{ℕ, ◌+◌, Bool, true, false, if◌then◌else�
 use Rattle.std.specs.Prelude.{Some, None, is_some, codes, Result, Ok, Err, is_ok}
 use Rattle.pid_file.specs.declared.path.Path.{Path}
 use Rattle.pid_ident.specs.PathTexts.{path_text}
-use Rattle.pid_service.specs.Files.{asks}
+use Rattle.pid_moderation.specs.Files.{asks}
 use Rattle.pid_lookup.specs.declared.answer.Answer.{Answer}
 use Rattle.pid_lookup.specs.declared.answer.Answer.TheVariants.{Text, NoAnswer}
 use Rattle.pid_lookup.specs.Answers.{answer_of}

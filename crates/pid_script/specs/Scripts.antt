@@ -13,7 +13,7 @@ use Rattle.pid_ident.specs.Moments.{Moment}
 use Rattle.pid_reader.specs.Lines.{drop_cr, lines_of}
 use Rattle.pid_reader.specs.WholeLines.{whole_lines, open_part}
 use Rattle.pid_moderation.specs.History.{History}
-use Rattle.pid_service.specs.declared.moderated.Moderated.{Ghosts}
+use Rattle.pid_service_laws.specs.declared.moderated.Moderated.{Ghosts}
 use Rattle.pid_script.specs.declared.script_end.ScriptEnd.{ScriptEnd}
 use Rattle.pid_script.specs.declared.script_end.ScriptEnd.TheVariants.{Done, ReadFault, WriteFault}
 use Rattle.pid_script.specs.declared.script_end.ScriptEnd.TheVariants.{TooLong, Stopped}
@@ -177,7 +177,7 @@ module _ {R : Type 0} (registry : Ghosts R) where
     pub fits : NoneTooLong lines
     pub told : Appends p.taken p.taken_now (replies h lines)
     pub leaves : Becomes registry p.old h p.new (history_after h lines)
-    pub lives : registry.has_failed p.old → NoneCalls lines
+    pub lives : registry.is_live p.old ≡ false → NoneCalls lines
     pub calls : CallsSend registry.showing p.old (commands_of_lines lines)
         (calls_for_lines lines) p.new
 
@@ -192,7 +192,7 @@ module _ {R : Type 0} (registry : Ghosts R) where
     pub behind : List (List ℕ)
     pub parts : lines ≡ before ++ line ∷ behind
     pub fits : NoneTooLong before
-    pub lives : registry.has_failed p.old → NoneCalls before
+    pub lives : registry.is_live p.old ≡ false → NoneCalls before
     pub text : List ℕ
     pub stop : IsStopInPlace registry p.old h (history_after h before) (ask_of line) text
     pub told : Appends p.taken p.taken_now (replies h before ++ text)
@@ -221,7 +221,7 @@ module _ {R : Type 0} (registry : Ghosts R) where
     pub parts : lines ≡ before ++ line ∷ behind
     pub long : ask_of line ≡ asks.TooLong
     pub fits : NoneTooLong before
-    pub lives : registry.has_failed p.old → NoneCalls before
+    pub lives : registry.is_live p.old ≡ false → NoneCalls before
     pub told : Appends p.taken p.taken_now (replies h (before ++ line ∷ []))
     pub leaves : Becomes registry p.old h p.new (history_after h before)
     pub calls : CallsSend registry.showing p.old (commands_of_lines before)
@@ -254,7 +254,7 @@ module _ {R : Type 0} (registry : Ghosts R) where
     -- all lines but the last were answered: none of them is too long, and a registry that had
     -- failed was asked nothing by them
     pub fits : AllButLast IsNotTooLong (lines_read cut)
-    pub lives : registry.has_failed p.old → AllButLast CallsNot (lines_read cut)
+    pub lives : registry.is_live p.old ≡ false → AllButLast CallsNot (lines_read cut)
     pub leaves : BecomesEither registry p.old h p.new (history_after h cut.before)
         (history_after h (lines_read cut))
     pub calls : CallsSendEither registry.showing p.old (commands_of_lines cut.before)

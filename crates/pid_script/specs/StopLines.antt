@@ -6,12 +6,12 @@ use Rattle.pid_moderation.specs.declared.refusal.Refusal.TheVariants.{Memory, St
 use Rattle.pid_moderation.specs.History.{History}
 use Rattle.pid_moderation.specs.ReplyLines.{refused_line}
 use Rattle.pid_moderation.specs.Writes.{tree_of}
-use Rattle.pid_service.specs.declared.moderated.Moderated.{Ghosts}
+use Rattle.pid_service_laws.specs.declared.moderated.Moderated.{Ghosts}
 use Rattle.pid_moderation.specs.Faults.{IsMemoryOrStore}
 use Rattle.pid_script.specs.Replies.{is_call}
 use Rattle.pid_script.specs.ScriptLines.{Ask, AsksNothing, AsksCommand, AsksExport, AsksName}
 use Rattle.pid_script.specs.ScriptLines.{AsksLookup, Unclear, TooLong}
-use Rattle.pid_service.specs.WholeFronts.{IsWholeFront}
+use Rattle.pid_service_laws.specs.WholeFronts.{IsWholeFront}
 
 -- a refusal of memory, of the store, or of a registry that has failed: it judges nothing, and stops
 -- the script
@@ -51,7 +51,7 @@ module _ {R : Type 0} (registry : Ghosts R) where
   pub record StoppedBy (r : R) (h : History) (ask : Ask) (refusal : Refusal) : Type 0 where
     pub stops : is_stop refusal ≡ true
     pub live : registry.showing.shows r h → IsMemoryOrStore refusal
-    pub failed : registry.has_failed r → (refusal ≡ Failed) ⊎ (refusal ≡ Memory)
+    pub failed : registry.is_live r ≡ false → (refusal ≡ Failed) ⊎ (refusal ≡ Memory)
     pub unasked : is_call ask ≡ false → refusal ≡ Memory
 
   -- What may come in place of the reply to what a line asks: the registry showed the first history

@@ -17,7 +17,7 @@ use crate::reply::{
 };
 use pid_ident::Output;
 use pid_moderation::Verb;
-use pid_service::{ExportFault, Moderated};
+use pid_service_laws::{ExportFault, Moderated};
 use std::alloc::Global;
 
 // Obeys the command that a form says.

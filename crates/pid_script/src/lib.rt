@@ -12,6 +12,6 @@ mod reply;
 mod script;
 mod script_end;
 
-pub use pid_service::Moderated;
+pub use pid_service_laws::Moderated;
 pub use script::run_script;
 pub use script_end::ScriptEnd;

@@ -47,7 +47,7 @@ use crate::reply::{refuse_long, stop_for_memory};
 use crate::script_end::ScriptEnd;
 use pid_ident::{Incoming, Output};
 use pid_reader::{split_line, without_cr};
-use pid_service::Moderated;
+use pid_service_laws::Moderated;
 use std::alloc::Global;
 
 /// The room of one read, in bytes.
@@ -196,7 +196,7 @@ fn end_of(answered: Result<(), LineEnd>) -> ScriptEnd
 /// reply to a command is written before the next line is answered. A line costs memory only while
 /// it is open. The reply to a command takes no memory.
 ///
-/// Over a `Registry` of `pid_service` the clauses read so, while the disk returns what was written.
+/// Over any registry under moderation the clauses read so, while the disk returns what was written.
 /// Let it show a history as the script begins. At `Done` it shows the history with the commands of
 /// all lines. At every other end it shows the history with those of the lines that were answered,
 /// or with that of the next line too, whose reply did not go out; or it has failed, and a crash

@@ -14,8 +14,8 @@ use Rattle.pid_moderation.specs.History.{History}
 use Rattle.pid_moderation.specs.Views.{items_of, views_of}
 use Rattle.pid_moderation.specs.Writes.{tree_of}
 use Rattle.pid_file.specs.Printing.{print}
-use Rattle.pid_service.specs.declared.exporting.ExportFault.{ExportFault}
-use Rattle.pid_service.specs.declared.exporting.ExportFault.TheVariants.{Refused, Write}
+use Rattle.pid_service_laws.specs.declared.faults.ExportFault.{ExportFault}
+use Rattle.pid_service_laws.specs.declared.faults.ExportFault.TheVariants.{Refused, Write}
 use Rattle.sqlite.specs.Held.{Held}
 use Rattle.sqlite_trees.specs.declared.store.Store.{Ghosts}
 use Rattle.pid_tables.specs.Faults.{refusal_for}

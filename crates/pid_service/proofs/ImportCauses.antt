@@ -20,8 +20,8 @@ use Rattle.pid_tables.specs.ImportClauses.{EndsImport}
 use Rattle.pid_tables.specs.Importing.{RefusesImport}
 use Rattle.pid_tables.specs.Faults.{IsCausedRefusal}
 use Rattle.pid_tables.specs.Judging.{IsOpen}
-use Rattle.pid_service.specs.declared.importing.ImportEnd.{ImportEnd}
-use Rattle.pid_service.specs.declared.importing.ImportEnd.TheVariants.{Refused, Body}
+use Rattle.pid_service_laws.specs.declared.faults.ImportEnd.{ImportEnd}
+use Rattle.pid_service_laws.specs.declared.faults.ImportEnd.TheVariants.{Refused, Body}
 use Rattle.pid_service.specs.Asking.{IsCausedAs}
 use Rattle.pid_service.specs.Histories.{IsMemoryOrStore}
 use Rattle.pid_service.specs.Importing.{OfRefusal}

@@ -7,12 +7,13 @@ use Rattle.pid_moderation.specs.declared.refusal.Refusal.TheVariants.{Failed}
 use Rattle.pid_moderation.specs.History.{Asked, History}
 use Rattle.pid_service_laws.specs.Calls.{nothing_sent, obeyed}
 use Rattle.pid_service_laws.specs.Registries.{Does}
-use Rattle.pid_service.specs.declared.importing.ImportEnd.{ImportEnd}
-use Rattle.pid_service.specs.declared.importing.ImportEnd.TheVariants.{Refused, Body}
+use Rattle.pid_service_laws.specs.declared.faults.ImportEnd.{ImportEnd}
+use Rattle.pid_service_laws.specs.declared.faults.ImportEnd.TheVariants.{Refused, Body}
 use Rattle.pid_service.specs.declared.registry.Registry.{Registry}
 use Rattle.pid_service.specs.Histories.{Shows}
 use Rattle.pid_service.specs.Importing.{ObeysImport}
-use Rattle.pid_service.specs.Lives.{import_sent, showing}
+use Rattle.pid_service_laws.specs.Imports.{import_sent}
+use Rattle.pid_service.specs.Lives.{showing}
 use Rattle.pid_service.specs.Obeying.{Obeys}
 use Rattle.pid_service.specs.Registries.{HasCleanDisk, is_live}
 

@@ -17,14 +17,15 @@ use Rattle.pid_tables.specs.Rows.Clauses.{AtRest}
 use Rattle.pid_tables.specs.declared.put_file.Stop.{Stop}
 use Rattle.pid_tables.specs.declared.put_file.Stop.TheVariants as stops
 use Rattle.pid_tables.specs.ImportClauses.{EndsImport}
-use Rattle.pid_tables.specs.Files.{asks, file_reading, reading_of}
+use Rattle.pid_moderation.specs.Files.{asks, file_reading, reading_of}
 use Rattle.pid_tables.specs.Importing.{ReadsFile, RefusesImport, StopIsNotFailed}
 use Rattle.pid_tables.specs.Judging.{HasOneOutcome}
-use Rattle.pid_service.specs.declared.importing.ImportEnd.{ImportEnd}
-use Rattle.pid_service.specs.declared.importing.ImportEnd.TheVariants as imports
+use Rattle.pid_service_laws.specs.declared.faults.ImportEnd.{ImportEnd}
+use Rattle.pid_service_laws.specs.declared.faults.ImportEnd.TheVariants as imports
 use Rattle.pid_service.specs.declared.registry.Registry.{Registry}
 use Rattle.pid_service.specs.Histories.{IsMemoryOrStore, IsReached, Shows}
-use Rattle.pid_service.specs.Importing.{ObeysImport, ReadsImport}
+use Rattle.pid_service.specs.Importing.{ObeysImport}
+use Rattle.pid_service_laws.specs.Imports.{ReadsImport}
 use Rattle.pid_service.specs.Steps.Importing.{AnswersPast, EndSpares, IsPlain}
 use Rattle.pid_service.specs.KeptViews.{KeepsNothing, KeepsRight, kept_views}
 use Rattle.pid_service.specs.Obeying.{Obeys}

@@ -6,8 +6,8 @@ use Rattle.pid_service_laws.specs.Outcomes.{is_outcome}
 use Rattle.pid_moderation.specs.declared.command.Reply.{Reply}
 use Rattle.pid_moderation.specs.declared.refusal.Refusal.{Refusal}
 use Rattle.pid_moderation.specs.declared.refusal.Refusal.TheVariants.{BadText, Failed, Memory, Store}
-use Rattle.pid_service.specs.declared.importing.ImportEnd.{ImportEnd}
-use Rattle.pid_service.specs.declared.importing.ImportEnd.TheVariants.{Refused, Body}
+use Rattle.pid_service_laws.specs.declared.faults.ImportEnd.{ImportEnd}
+use Rattle.pid_service_laws.specs.declared.faults.ImportEnd.TheVariants.{Refused, Body}
 use Rattle.pid_service.specs.Asking.{MayGive}
 use Rattle.pid_service.specs.Histories.{IsMemoryOrStore, OverHistory}
 use Rattle.pid_moderation.specs.History.{Asked, Reading}

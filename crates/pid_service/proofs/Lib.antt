@@ -12,6 +12,7 @@ pub mod Exported
 pub mod Runs
 pub mod Lasting
 pub mod ImportLives
+pub mod Consulting
 pub mod RunLives
 pub mod Questions
 pub mod ItemLines

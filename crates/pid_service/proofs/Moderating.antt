@@ -18,13 +18,13 @@ use Rattle.pid_moderation.specs.Writes.{tree_of}
 use Rattle.pid_file.proofs.Cuts.{open_line, open_more, open_no_lf}
 use Rattle.pid_reader.specs.WholeLines.{open_part}
 use Rattle.pid_service.specs.Asking.{MayGive}
-use Rattle.pid_service.specs.declared.exporting.ExportFault.{ExportFault}
-use Rattle.pid_service.specs.declared.exporting.ExportFault.TheVariants.{Refused, Write}
+use Rattle.pid_service_laws.specs.declared.faults.ExportFault.{ExportFault}
+use Rattle.pid_service_laws.specs.declared.faults.ExportFault.TheVariants.{Refused, Write}
 use Rattle.pid_service.specs.Exporting.{ExportsTree}
 use Rattle.pid_file.specs.Printing.{ended, header, lines_behind, print}
-use Rattle.pid_service.specs.Moderating.{ExportsText}
-use Rattle.pid_service.specs.Moderating.{LooksUp}
-use Rattle.pid_service.specs.WholeFronts.{IsWholeFront}
+use Rattle.pid_service_laws.specs.Moderating.{ExportsText}
+use Rattle.pid_service_laws.specs.Moderating.{LooksUp}
+use Rattle.pid_service_laws.specs.WholeFronts.{IsWholeFront}
 
 -- no line is open behind lines that each have their LF
 none_open : (lines : List (List ℕ)) → open_part (ended lines) ≡ []

@@ -6,7 +6,7 @@ use Rattle.pid_moderation.specs.declared.command.Act.{Act}
 use Rattle.pid_moderation.specs.declared.command.Act.TheVariants.{Account, Submit, Comment, Withdraw, Approve, Reject, Import}
 use Rattle.pid_moderation.specs.CheckTables.{most_file_bytes, TellsLength}
 use Rattle.pid_moderation.specs.History.{Reading, TooLong}
-use Rattle.pid_tables.specs.Files.{file_of, file_reading, read_as}
+use Rattle.pid_moderation.specs.Files.{file_of, file_reading, read_as}
 
 by_test : (b : Bool) (r : Reading) → b ≡ true → (if b then TooLong else r) ≡ TooLong
 by_test true r on = refl

@@ -1,5 +1,5 @@
 -- What a registry answers to a question: by the history that it shows, which it goes on showing.
-use Rattle.std.specs.Prelude.{◌≡◌, ◌⊎◌, Bool, true, false, Option, Some, None, Result, Err}
+use Rattle.std.specs.Prelude.{◌≡◌, ◌⊎◌, Bool, true, false, Option, Some, Result, Err}
 use Rattle.std.specs.Prelude.{IfErr, MatchResult}
 use Rattle.sqlite.specs.Held.{Held}
 use Rattle.sqlite_trees.specs.declared.store.Store.{Ghosts}
@@ -7,10 +7,11 @@ use Rattle.pid_moderation.specs.declared.refusal.Refusal.{Refusal}
 use Rattle.pid_moderation.specs.declared.refusal.Refusal.TheVariants.{Failed, Memory, Store}
 use Rattle.pid_moderation.specs.declared.refusal.Refusal.TheVariants.{NoSubmission}
 use Rattle.pid_moderation.specs.History.{History}
+use Rattle.pid_service_laws.specs.Questions.{IsAnswered, IsAnsweredIfThere, IsMissing}
 use Rattle.pid_tables.specs.Rows.Clauses as clauses
 use Rattle.pid_tables.specs.declared.rows.fault.TableFault.TheVariants as faults
 use Rattle.pid_service.specs.declared.registry.Registry.{Registry}
-use Rattle.pid_service.specs.Histories.{Shows, IsMemoryOrStore, OverHistory}
+use Rattle.pid_service.specs.Histories.{Shows, IsMemoryOrStore, OverHistory, showing}
 use Rattle.pid_service.specs.KeptViews.{LeavesKept, kept_views}
 use Rattle.pid_service.specs.Registries.{OnlyReads, connection, is_live}
 
@@ -18,10 +19,6 @@ use Rattle.pid_service.specs.Registries.{OnlyReads, connection, is_live}
 pub record MayGive (live : Bool) (e : Refusal) : Type 0 where
   pub alive : live ≡ true → IsMemoryOrStore e
   pub failed : live ≡ false → e ≡ Failed
-
--- there is no such submission; or memory ran out, or the store failed
-abbrev pub IsMissing : {X : Type 0} → Option X → Refusal → Type 0
-IsMissing found e = ((e ≡ NoSubmission) × (found ≡ None)) ⊎ IsMemoryOrStore e
 
 module _ {S : Type 0} (store : Ghosts S) where
   -- the history that was shown is shown still, and the answer is by it
@@ -64,3 +61,13 @@ module _ {S : Type 0} (store : Ghosts S) where
         (λ h e. IsMissing (found h) e)
     pub caused : OverHistory store old new
         (λ h. IfErr result (λ e. (e ≡ NoSubmission) ⊎ FaultIsCaused old new e))
+
+  -- the same as any registry under moderation promises it
+  abbrev pub AnswersAsAny : {X : Type 0} → Registry S store → Registry S store
+      → Result X Refusal → (History → X → Type 0) → Type 0
+  AnswersAsAny old new result Says = IsAnswered (showing store) is_live old new result Says
+
+  abbrev pub AnswersIfThereAsAny : {X Y : Type 0} → Registry S store → Registry S store
+      → Result X Refusal → (History → Option Y) → (X → Y) → Type 0
+  AnswersIfThereAsAny old new result found means =
+      IsAnsweredIfThere (showing store) is_live old new result found means

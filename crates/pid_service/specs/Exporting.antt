@@ -14,8 +14,8 @@ use Rattle.pid_moderation.specs.History.{History}
 use Rattle.pid_moderation.specs.Views.{items_of}
 use Rattle.pid_moderation.specs.Writes.{tree_of}
 use Rattle.pid_file.specs.Printing.{print}
-use Rattle.pid_service.specs.declared.exporting.ExportFault.{ExportFault}
-use Rattle.pid_service.specs.declared.exporting.ExportFault.TheVariants.{Refused, Write}
+use Rattle.pid_service_laws.specs.declared.faults.ExportFault.{ExportFault}
+use Rattle.pid_service_laws.specs.declared.faults.ExportFault.TheVariants.{Refused, Write}
 use Rattle.pid_service.specs.declared.registry.Registry.{Registry}
 use Rattle.pid_service.specs.Asking.{Answers, FaultIsCaused, MayGive}
 use Rattle.pid_service.specs.Histories.{OverHistory, Shows}

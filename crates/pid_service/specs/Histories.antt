@@ -8,6 +8,7 @@ use Rattle.pid_moderation.specs.Revisions.{IsMarked}
 use Rattle.pid_moderation.specs.Views.{views_of}
 use Rattle.pid_moderation.specs.WellMade.{AreWellMade}
 use Rattle.pid_service_laws.specs.Registries.{Showing}
+use Rattle.pid_service_laws.specs.declared.moderated.Moderated as moderated
 use Rattle.pid_tables.specs.Rows.Clauses.{AtRest, LeavesEither}
 use Rattle.pid_service.specs.declared.registry.Registry.{Registry}
 use Rattle.pid_service.specs.Registries.{HasCleanDisk, connection, is_live}
@@ -49,3 +50,7 @@ module _ {S : Type 0} (store : Ghosts S) where
   -- how sessions see a registry
   abbrev pub showing : Showing (Registry S store)
   showing = record { is_clean = HasCleanDisk store; shows = Shows; fails_between = FailsBetween }
+
+  -- how scripts and HTTP ask it
+  abbrev pub as_moderated : moderated.Ghosts (Registry S store)
+  as_moderated = record { showing = showing; is_live = is_live }

@@ -1,48 +1,27 @@
 -- What an import is answered whose file comes as an input, and what the registry shows afterwards.
 use Rattle.std.specs.Prelude.{◌≡◌, ◌≢◌, ◌⊎◌, ◌<◌, ◌≤◌, ◌+◌, ℕ, Bool, true, false}
-use Rattle.std.specs.Prelude.{List, length, Option, Result, Ok, Err, IfErr, IsErrAnd, IsSome}
-use Rattle.std.specs.Io.KnownBytes.{Consumes}
+use Rattle.std.specs.Prelude.{List, length, Result, Ok, Err, IfErr, IsErrAnd}
 use Rattle.sqlite_trees.specs.declared.store.Store.{Ghosts}
-use Rattle.pid_file.specs.declared.io.Input as inputs
-use Rattle.pid_reader.specs.WholeInputs.{IsWhole}
+use Rattle.pid_service_laws.specs.Imports.{ImportLeaves}
 use Rattle.pid_service_laws.specs.Outcomes.{is_outcome}
 use Rattle.pid_moderation.specs.declared.command.Reply.{Reply}
 use Rattle.pid_moderation.specs.declared.refusal.Refusal.{Refusal}
 use Rattle.pid_moderation.specs.declared.refusal.Refusal.TheVariants.{BadText, Failed}
 use Rattle.pid_moderation.specs.CheckTables.{most_file_bytes}
 use Rattle.pid_moderation.specs.History.{Asked, History, Reading}
-use Rattle.pid_tables.specs.Files.{file_reading}
-use Rattle.pid_service.specs.declared.importing.ImportEnd.{ImportEnd}
-use Rattle.pid_service.specs.declared.importing.ImportEnd.TheVariants.{Refused, Body}
+use Rattle.pid_moderation.specs.Files.{file_reading}
+use Rattle.pid_service_laws.specs.declared.faults.ImportEnd.{ImportEnd}
+use Rattle.pid_service_laws.specs.declared.faults.ImportEnd.TheVariants.{Refused, Body}
 use Rattle.pid_service.specs.declared.registry.Registry.{Registry}
-use Rattle.pid_service.specs.Histories.{IsMemoryOrStore, OverHistory, Shows}
+use Rattle.pid_service.specs.Histories.{IsMemoryOrStore, OverHistory, Shows, showing}
 use Rattle.pid_service.specs.KeptViews.{kept_by, nothing}
 use Rattle.pid_service.specs.Obeying.{ImportFaults, Lasts, Obeys}
 use Rattle.pid_service.specs.Registries.{HasCleanDisk, KeepsLimit, is_live}
 
--- how much of the input was read: all of it, if it is not too long; one byte more than a file may
--- have, if it has that, which is refused as a broken form, or as a registry that has failed refuses
--- everything; or what comes before its fault
-abbrev pub ReadsImport : Result Reply ImportEnd → Option (List ℕ) → List ℕ → Type 0
-ReadsImport (Ok reply) rest text = IsWhole most_file_bytes rest text
-ReadsImport (Err (Refused e)) rest text = IsWhole most_file_bytes rest text
-    ⊎ (((e ≡ BadText) ⊎ (e ≡ Failed)) × (length text ≡ most_file_bytes + 1))
-ReadsImport (Err Body) rest text = length text ≤ most_file_bytes
-
--- this text was read of the input, and of it this holds
-pub record HasRead (result : Result Reply ImportEnd) (to_come left : Option (List ℕ))
-    (Holds : List ℕ → Type 0) : Type 0 where
-  pub text : List ℕ
-  pub consumed : Consumes to_come left text
-  pub read : ReadsImport result left text
-  pub holds : Holds text
-
 -- as a command is obeyed; if the input failed, the registry shows the history as before
 abbrev pub ObeysImport : {S : Type 0} → (store : Ghosts S) → Result Reply ImportEnd
     → Registry S store → History → Asked → Type 0
-ObeysImport store (Ok reply) r h c = Obeys store (Ok reply) r h c
-ObeysImport store (Err (Refused e)) r h c = Obeys store (Err e) r h c
-ObeysImport store (Err Body) r h c = Shows store r h
+ObeysImport store result r h c = ImportLeaves (showing store) result r h c
 
 -- it does not say that the registry had failed before
 abbrev pub EndIsNotFailed : ImportEnd → Type 0
@@ -65,10 +44,6 @@ IsEndFault Body = ⊥
 abbrev pub OfRefusal : (Refusal → Type 0) → ImportEnd → Type 0
 OfRefusal Holds (Refused e) = Holds e
 OfRefusal Holds Body = Unit {0}
-
--- what a registry that has failed answers, unless the input failed
-abbrev pub AnswersFailed : Result Reply ImportEnd → Type 0
-AnswersFailed result = (result ≡ Err (Refused Failed)) ⊎ (result ≡ Err Body)
 
 module _ {S : Type 0} (store : Ghosts S) where
   -- an import of this text is obeyed, which asks so much by what it reads to
@@ -114,11 +89,3 @@ module _ {S : Type 0} (store : Ghosts S) where
         → IfErr result (ImportFaults store old new h (asks reading)))
     pub forgets : ForgetsAll old new
     pub lasts : Lasts store old new result
-
--- What became of an input that an import read.
-pub record InputIsRead {I : Type 0} (input : inputs.Ghosts I) (old new : I)
-    (result : Result Reply ImportEnd) : Type 0 where
-  pub goes : input.goes old new
-  -- Body is answered exactly when it failed
-  pub fault : result ≡ Err Body → IsSome (input.read_fault new)
-  pub fault_first : IsSome (input.read_fault new) → result ≡ Err Body

@@ -1,15 +1,12 @@
-pub use Rattle.pid_tables.specs.Files
+pub use Rattle.pid_moderation.specs.Files
 pub mod Registries
 pub mod KeptViews
 pub mod Histories
 pub mod Obeying
 pub mod Importing
 pub mod Exporting
-pub mod FaultNumbers
 pub mod Opening
 pub mod LookingUp
-pub mod WholeFronts
-pub mod Moderating
 pub mod Asking
 pub mod Lives
 pub mod LifeLaws

@@ -23,13 +23,14 @@ use Rattle.pid_tables.specs.declared.rows.version.Version.TheVariants.{One}
 use Rattle.pid_tables.specs.declared.migration.Step.{Step}
 use Rattle.pid_tables.specs.Clauses.{IsOpened, ShowsOrBlank}
 use Rattle.pid_tables.specs.Creation.{ListsNoTable}
-use Rattle.pid_service.specs.declared.importing.ImportEnd.{ImportEnd}
+use Rattle.pid_service_laws.specs.declared.faults.ImportEnd.{ImportEnd}
 use Rattle.pid_service.specs.declared.registry.Registry.{Registry}
 use Rattle.pid_service.specs.declared.running.RunReport.{RunReport}
 use Rattle.pid_service.specs.Histories.{FailsBetween, IsReached, OverHistory, Shows}
-use Rattle.pid_service.specs.Importing.{AnswersFailed, ObeysImport}
+use Rattle.pid_service_laws.specs.Imports.{AnswersFailed, import_sent}
+use Rattle.pid_service.specs.Importing.{ObeysImport}
 use Rattle.pid_service.specs.Lives.{IsAfterStop, KeepsHistory, LeavesTablesTo, ShowsPrefixes}
-use Rattle.pid_service.specs.Lives.{import_sent, showing}
+use Rattle.pid_service.specs.Lives.{showing}
 use Rattle.pid_service.specs.Obeying.{Obeys}
 use Rattle.pid_service.specs.Opening.{MovesTo, OpensTo, moved_to}
 use Rattle.pid_service.specs.Registries.{HasCleanDisk, connection, is_live}

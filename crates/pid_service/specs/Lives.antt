@@ -1,31 +1,22 @@
 -- Registries as `pid_service_laws` speaks of them, and what comes between one opening and the
 -- next, which may be over another store. Choices of this project.
-use Rattle.std.specs.Prelude.{◌≡◌, ◌⊎◌, ◌↔◌, Bool, List, Result, Ok, Err}
+use Rattle.std.specs.Prelude.{◌≡◌, ◌⊎◌, ◌↔◌, List}
 use Rattle.sqlite.specs.Held.{Held, state}
 use Rattle.sqlite_trees.specs.declared.store.Store.{Ghosts}
 use Rattle.pid_ident.specs.Trees.{TreeMap}
 use Rattle.pid_file.specs.Printing.{print}
 use Rattle.pid_reader.specs.Reading.{Reads}
-use Rattle.pid_moderation.specs.declared.command.Reply.{Reply}
-use Rattle.pid_moderation.specs.History.{Asked, History}
+use Rattle.pid_moderation.specs.History.{History}
 use Rattle.pid_moderation.specs.Sound.{IsSound}
 use Rattle.pid_moderation.specs.Writes.{tree_of}
-use Rattle.pid_service_laws.specs.Calls.{Call, nothing_sent, obeyed}
+use Rattle.pid_service_laws.specs.Calls.{Call}
 use Rattle.pid_service_laws.specs.CrashPrefix.{IsAfterPrefixes}
 use Rattle.pid_tables.specs.Rows.Clauses as clauses
 use Rattle.pid_tables.specs.Clauses.{IsOpened, ShowsOrBlank}
-use Rattle.pid_service.specs.declared.importing.ImportEnd.{ImportEnd}
-use Rattle.pid_service.specs.declared.importing.ImportEnd.TheVariants.{Refused, Body}
 use Rattle.pid_service.specs.declared.registry.Registry.{Registry}
 use Rattle.pid_service.specs.Histories.{IsReached, Shows, FailsBetween}
 pub use Rattle.pid_service.specs.Histories.{showing}
 use Rattle.pid_service.specs.Registries.{HasCleanDisk}
-
--- an import whose file comes as an input sends its command, unless the input failed
-abbrev pub import_sent : Asked → Result Reply ImportEnd → (live : Bool) → Call
-import_sent c (Ok reply) live = obeyed c (Ok reply) live
-import_sent c (Err (Refused e)) live = obeyed c (Err e) live
-import_sent c (Err Body) live = nothing_sent
 
 module _ {S T : Type 0} (from : Ghosts S) (to : Ghosts T) where
   -- A connection was just opened on trees that a crash of an earlier one may leave, which may have

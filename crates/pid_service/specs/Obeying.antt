@@ -13,7 +13,7 @@ use Rattle.pid_moderation.specs.FactsOfViews.{NoRows, facts_at}
 use Rattle.pid_moderation.specs.History.{Asked, History, is_import}
 use Rattle.pid_moderation.specs.Judgement.{Accepts, Repeated, after, answer, judge}
 use Rattle.pid_moderation.specs.Views.{items_of, views_of}
-use Rattle.pid_tables.specs.Files.{asks}
+use Rattle.pid_moderation.specs.Files.{asks}
 use Rattle.pid_service.specs.declared.registry.Registry.{Registry}
 use Rattle.pid_service.specs.Asking.{FaultIsCaused}
 use Rattle.pid_service.specs.Histories.{IsMemoryOrStore, OverHistory, Shows, showing}

@@ -12,7 +12,7 @@ use Rattle.pid_moderation.specs.declared.refusal.Refusal.TheVariants.{Failed, Me
 use Rattle.pid_moderation.specs.History.{Asked, History}
 use Rattle.pid_moderation.specs.Judgement.{after, after_all, answers}
 use Rattle.pid_moderation.specs.Views.{items_of}
-use Rattle.pid_tables.specs.Files.{asks}
+use Rattle.pid_moderation.specs.Files.{asks}
 use Rattle.pid_service.specs.declared.registry.Registry.{Registry}
 use Rattle.pid_service.specs.declared.running.RunReport.{RunReport}
 use Rattle.pid_service.specs.Asking.{MayGive}

@@ -9,35 +9,9 @@ use crate::laws;
 use crate::registry::Registry;
 use pid_ident::{Output, WriteFault, write_all};
 use pid_moderation::Refusal;
+use pid_service_laws::ExportFault;
 use pid_tables::{EachEnd, refusal_of};
 use sqlite::Alter;
-use thiserror::Error;
-
-/// Why not all items were written.
-///
-/// - `Refused`: of `Failed` nothing was written; of `Memory` and `Store` whole lines.
-/// - `Write`: the writer failed, maybe within a line.
-#[derive(Clone, Copy, Debug, Error)]
-pub enum ExportFault {
-    #[error("{0}")]
-    Refused(Refusal),
-    #[error("{0}")]
-    Write(WriteFault),
-}
-
-impl ExportFault {
-    ghost use Rattle.pid_service.specs.FaultNumbers.{export_fault_number};
-
-    /// Its number: 1 `Refused`, 2 `Write`.
-    pub fn number(self) -> u8
-        ensures { result ≡ export_fault_number self }
-    {
-        match self {
-            ExportFault::Refused(_) => 1,
-            ExportFault::Write(_) => 2,
-        }
-    }
-}
 
 fn fault_of(end: EachEnd<WriteFault>) -> ExportFault
     ensures { IsToldAs end result }

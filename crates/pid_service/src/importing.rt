@@ -1,16 +1,14 @@
 //! An import, whose file comes as an input or as bytes.
-ghost use Rattle.std.specs.Prelude.{◌≡◌, ◌≢◌, Bool, [], true, false, Err, IfErr};
+ghost use Rattle.std.specs.Prelude.{◌≡◌, ◌≢◌, Bool, [], false, Err, IfErr};
 ghost use Rattle.pid_moderation.specs.BeforeFile.{import_of};
 ghost use Rattle.pid_tables.specs.Judging.{WhereOpen};
 ghost use Rattle.pid_service.specs.Histories.{IsMemoryOrStore, OverHistory};
+ghost use Rattle.pid_service_laws.specs.Imports.{AnswersFailed, HasRead, InputIsRead};
 ghost use Rattle.pid_service.specs.Importing.{
-  AnswersFailed,
   EndIsNotFailed,
   EndLasts,
   ForgetsAll,
-  HasRead,
   IsImported,
-  InputIsRead,
   ObeysText,
   OfRefusal,
 };
@@ -36,33 +34,10 @@ use crate::registry::Registry;
 use pid_ident::{Account, Input, Key};
 use pid_moderation::{Act, Command, FILE_BYTES, Facts, File, Refusal, Reply};
 use pid_reader::{SkipEnd, SliceInput, skip_input};
+use pid_service_laws::ImportEnd;
 use pid_tables::{Early, Stop, bring_in, judge_import};
 use sqlite::Alter;
 use std::alloc::Global;
-use thiserror::Error;
-
-/// Why an import whose file comes as an input has no reply.
-#[derive(Clone, Copy, Debug, Error)]
-pub enum ImportEnd {
-    #[error("{0}")]
-    Refused(Refusal),
-    #[error("the input failed")]
-    Body,
-}
-
-impl ImportEnd {
-    ghost use Rattle.pid_service.specs.FaultNumbers.{import_end_number};
-
-    /// Its number: 1 `Refused`, 2 `Body`.
-    pub fn number(self) -> u8
-        ensures { result ≡ import_end_number self }
-    {
-        match self {
-            ImportEnd::Refused(_) => 1,
-            ImportEnd::Body => 2,
-        }
-    }
-}
 
 // An import whose file is elsewhere.
 fn import_command(alloc: Global, account: Account, key: Option<Key>) -> Command

@@ -2,6 +2,7 @@
 #![tactic(auto)]
 
 mod closing;
+mod consulted;
 mod export_sink;
 mod exporting;
 mod importing;
@@ -24,15 +25,12 @@ mod status;
 mod waiting;
 mod writing;
 
-pub use exporting::ExportFault;
-pub use importing::ImportEnd;
 pub use laws::{
     clauses_meet_lives, commands_lead_on, first_openings_show_what_is_there, histories_are_kept,
     histories_are_kept_between, items_print_as_their_tree, migrations_find_histories,
     openings_find_histories, pages_tell_a_hundred, reached_histories_are_kept,
     reopened_registries_show_prefixes, repeats_end_doubts, taken_histories_are_reached,
 };
-pub use moderated::Moderated;
 pub use opening::{migrate, open};
 pub use registry::Registry;
 pub use running::RunReport;
@@ -48,4 +46,5 @@ pub use pid_moderation::{
     Listed, Pending, Proposal, Queued, Rank, Refusal, Reply, State, Status, Submission,
     SubmissionPage, Verb, command_of, reply_line,
 };
+pub use pid_service_laws::{Consulted, ExportFault, ImportEnd, Moderated};
 pub use pid_tables::{Step, TableFault};

@@ -17,24 +17,17 @@ ghost use Rattle.pid_service.specs.LifeLaws.{
   ReopeningsShowPrefixes,
   RepeatsEndDoubts,
 };
-ghost use Rattle.pid_service.specs.Lives.{showing as registry_showing};
 
 use crate::laws;
-use crate::registry::Registry;
-use pid_service_laws::ShowsHistories;
 use sqlite::Alter;
-
-impl<S: Alter + Drop> ShowsHistories for Registry<S> {
-    ghost showing = { registry_showing S.Store };
-}
 
 /// The clauses of a call say what a session asks of it.
 ///
 /// `obeys` is of `obey` and `import`, `imports` of `import_from`, `runs` of `run`; the premises are
 /// the facts `clean`, `failed`, and `obeyed` or `ran` of their contracts. Every other call `looks`:
-/// `read`, `rank`, `children`, `submission`, `pending`, `changes`, `lookup`, `name_of`, `export`
-/// and `export_length`. A command is in doubt if its fault left the registry failed; if the registry
-/// stayed live, the command counts as not sent.
+/// `read`, `rank`, `children`, `submission`, `submissions`, `pending`, `queue`, `changes`,
+/// `status`, `lookup`, `name_of`, `export` and `export_length`. A command is in doubt if its fault
+/// left the registry failed; if the registry stayed live, the command counts as not sent.
 pub fn clauses_meet_lives<S: Alter + Drop>()
     ensures { CallsMeetLives S.Store }
 {}

@@ -2,7 +2,7 @@
 ghost use Rattle.std.specs.Prelude.{◌≡◌, ◌⊎◌};
 ghost use Rattle.pid_moderation.specs.Judgement.{after};
 ghost use Rattle.pid_moderation.specs.Views.{items_of};
-ghost use Rattle.pid_tables.specs.Files.{asks};
+ghost use Rattle.pid_moderation.specs.Files.{asks};
 ghost use Rattle.pid_service.specs.Histories.{OverHistory};
 ghost use Rattle.pid_service.specs.KeptViews.{kept_by, nothing};
 ghost use Rattle.pid_service.specs.Obeying.{IsObeyed, Obeys};

@@ -8,3 +8,8 @@ pub mod Registries
 pub mod CrashPrefix
 pub mod LifeLaws
 pub mod CallLaws
+pub mod Questions
+pub mod WholeFronts
+pub mod FaultNumbers
+pub mod Moderating
+pub mod Imports

@@ -1,5 +1,6 @@
-//! The sessions of a registry, from one opening to the next, over stops at any place, and the laws
-//! that hold over them.
+//! What a registry under moderation promises to scripts and to HTTP (`Moderated`, `Consulted`),
+//! and its sessions, from one opening to the next, over stops at any place, with the laws that hold
+//! over them.
 //!
 //! `specs/Registries` says what each call of a registry does. From there `calls` leads to sessions,
 //! and `laws` from sessions to the crash prefix: an opening finds the history after a prefix of the
@@ -7,7 +8,13 @@
 #![tactic(auto)]
 
 mod calls;
+mod consulted;
+mod faults;
 mod laws;
+mod moderated;
 
-pub use calls::{ShowsHistories, calls_make_a_life};
+pub use calls::calls_make_a_life;
+pub use consulted::Consulted;
+pub use faults::{ExportFault, ImportEnd};
 pub use laws::{doubts_end, judgements_are_outcomes, lives_are_prefixes, refusals_change_nothing};
+pub use moderated::Moderated;

@@ -25,7 +25,7 @@ use Rattle.pid_tables.specs.declared.putting.Put.{Put}
 use Rattle.pid_tables.specs.declared.put_file.Stop.{Stop}
 use Rattle.pid_tables.specs.declared.put_file.Stop.TheVariants as stops
 use Rattle.pid_tables.specs.declared.tally.Tally.{Tally}
-use Rattle.pid_tables.specs.Files.{file_reading, read_as}
+use Rattle.pid_moderation.specs.Files.{file_reading, read_as}
 use Rattle.pid_tables.specs.Faults.{IsMemoryOrStore}
 use Rattle.pid_tables.specs.Importing.{StopIsNotFailed, ReadsFile, EndsImport}
 use Rattle.pid_tables.specs.Steps.ImportParts.{IsNext, IsStopOf}

@@ -32,7 +32,7 @@ use Rattle.pid_moderation.specs.WellMade.{AreApart}
 use Rattle.pid_tables.specs.Rows.Shows.{counts_of}
 use Rattle.pid_tables.specs.Applies.{CountsFit}
 use Rattle.pid_tables.specs.declared.tally.Tally.{Tally}
-use Rattle.pid_tables.specs.Files.{file_reading}
+use Rattle.pid_moderation.specs.Files.{file_reading}
 use Rattle.pid_tables.specs.Importing.{RefusesImport}
 use Rattle.pid_tables.specs.Steps.ImportParts.{IsNext, IsPut, JudgesFile}
 use Rattle.pid_tables.specs.Judging.{IsOpen}

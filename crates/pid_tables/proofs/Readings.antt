@@ -10,7 +10,7 @@ use Rattle.pid_moderation.specs.CheckTables.{most_file_bytes}
 use Rattle.pid_moderation.specs.History.{TooLong, Good}
 use Rattle.pid_moderation.specs.Items.{Items}
 use Rattle.pid_moderation.specs.WellMade.{HasGoodFile, IsFile}
-use Rattle.pid_tables.specs.Files.{file_reading, read_as}
+use Rattle.pid_moderation.specs.Files.{file_reading, read_as}
 
 short_test : (n : ℕ) → n ≤ most_file_bytes → nat_lt most_file_bytes n ≡ false
 short_test n short = grind (arith, nat_tests)

@@ -6,7 +6,7 @@ use lib.Utf8.{encode}
 use Rattle.pid_file.specs.declared.fault_kind.LineKind.TheVariants.{NoName}
 use Rattle.pid_moderation.specs.declared.refusal.FileFault.TheVariants.{Line}
 use Rattle.pid_moderation.specs.History.{Faulty, Good}
-use Rattle.pid_tables.specs.Files.{file_reading}
+use Rattle.pid_moderation.specs.Files.{file_reading}
 use Rattle.pid_tables.specs.Steps.Tallies.{tally_of}
 
 nothing : file_reading [] ≡ Good []

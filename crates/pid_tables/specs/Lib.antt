@@ -11,7 +11,6 @@ pub mod Applies
 pub mod ShowsOrBlank
 pub mod Steps
 pub mod Clauses
-pub mod Files
 pub mod Faults
 pub mod Tallies
 pub mod Putting

@@ -16,7 +16,7 @@ ghost use Rattle.pid_moderation.specs.declared.command.Command.{Command};
 ghost use Rattle.pid_moderation.specs.CheckTables.{most_file_bytes};
 ghost use Rattle.pid_reader.specs.Lines.{lines_of};
 ghost use Rattle.pid_reader.specs.Reading.{entries_of, refused};
-ghost use Rattle.pid_tables.specs.Files.{IsBroken, file_reading};
+ghost use Rattle.pid_moderation.specs.Files.{IsBroken, file_reading};
 
 use sqlite::{Alter, Connection};
 

@@ -9,7 +9,7 @@ ghost use Rattle.pid_tables.specs.Rows.Clauses.{AtRest, HasCleanDisk, KeepsCommi
 ghost use Rattle.pid_tables.specs.Rows.Shows.{Counts};
 ghost use Rattle.pid_tables.specs.ImportClauses.{EndsImport, EndsOutside};
 ghost use Rattle.pid_tables.specs.Steps.ImportClauses.{Applies, HoldsPut};
-ghost use Rattle.pid_tables.specs.Files.{file_reading};
+ghost use Rattle.pid_moderation.specs.Files.{file_reading};
 ghost use Rattle.pid_tables.specs.Importing.{ReadsFile, StopIsNotFailed, TellsReadFault};
 ghost use Rattle.pid_tables.specs.Steps.ImportParts.{IsNext, IsPut, IsStopOf, JudgesFile};
 ghost use Rattle.pid_tables.specs.Judging.{WhereOpen};

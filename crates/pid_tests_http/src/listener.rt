@@ -1,7 +1,7 @@
 //! Connections over the loopback interface of this machine.
 ghost use Rattle.std.specs.Prelude.{◌+◌, ◌≤◌};
 
-use pid_http_listener::{Serving, ServingEnd, StreamServer, serve_on};
+use pid_http_stream::listener::{Serving, ServingEnd, StreamServer, serve_on};
 use pid_http_stream::{Served, StreamEnd};
 use pid_ident::{Incoming, Output, write_all};
 use std::io::{Read, Write};

@@ -18,13 +18,20 @@ pub struct Refusing {
 }
 
 impl Moderated for Refusing {
+    ghost use Rattle.std.specs.Prelude.{true};
+
     ghost showing = { record {
       is_clean = λ registry. Unit {0};
       shows = λ registry h. ⊥;
       fails_between = λ registry h after. ⊥;
     } };
 
-    ghost has_failed = { λ registry. ⊥ };
+    ghost is_live = { λ registry. true };
+
+    ghost lives = { record {
+      shown = λ registry h shows. absurd shows;
+      fallen = λ registry h next fails. absurd fails;
+    } };
 
     fn obey(&mut self, _command: Command) -> Result<Reply, Refusal> {
         if self.commands == 0 {

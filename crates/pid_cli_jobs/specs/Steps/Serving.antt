@@ -5,7 +5,7 @@ use Rattle.std.specs.declared.net.ipv4_addr.Ipv4Addr.{Ipv4Addr}
 use Rattle.std.specs.declared.net.socket_addr.SocketAddr.{SocketAddr}
 use Rattle.std.specs.Net.Addr.{ipv4_octets}
 use Rattle.std.specs.Net.Socket.{socket_ip, socket_port}
-use Rattle.pid_http_listener.specs.declared.server.StreamServer as servers
+use Rattle.pid_http_stream.specs.declared.listener.server.StreamServer as servers
 use Rattle.pid_file.specs.Writing.{FailsWithin}
 use Rattle.pid_cli_jobs.specs.declared.job_end.JobEnd.{JobEnd}
 use Rattle.pid_cli_jobs.specs.declared.job_end.JobEnd.TheVariants.{FileFailed}

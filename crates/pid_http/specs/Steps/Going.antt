@@ -1,22 +1,19 @@
 -- How a call leads on from what is known of a registry.
 use Rattle.std.specs.Prelude.{◌≡◌, false, List, [], ◌∷◌, ◌++◌}
 use Rattle.std.proofs.Common.{refl, sym, subst, ◌∙◌}
-use Rattle.sqlite_trees.specs.declared.store.Store.{Ghosts}
+use Rattle.pid_service_laws.specs.declared.moderated.Moderated.{Ghosts}
 use Rattle.pid_service_laws.specs.Calls.{Call}
 use Rattle.pid_service_laws.specs.Registries.{CallsLead, Showing}
-use Rattle.pid_service.specs.declared.registry.Registry.{Registry}
-use Rattle.pid_service.specs.Lives.{showing}
-use Rattle.pid_service.specs.Registries.{HasCleanDisk, is_live}
 use Rattle.pid_http_stream.specs.Leading.{Leads}
 use Rattle.pid_http.specs.Known.{Known, IsKnownOf, LivesOn}
 
-module _ {S : Type 0} (store : Ghosts S) where
+module _ {R : Type 0} (registry : Ghosts R) where
   -- Calls of its session led from the one to the other, and while the disk returns what was
   -- written, what was known leads by these calls on to what is known then.
-  pub record Goes (old new : Registry S store)
+  pub record Goes (old new : R)
       (Next : Known → List Call → Known → Type 0) : Type 0 where
-    pub lives : LivesOn store old new
-    pub served : Leads (HasCleanDisk store) (IsKnownOf store) old new
+    pub lives : LivesOn registry old new
+    pub served : Leads registry.showing.is_clean (IsKnownOf registry) old new
         (λ k now. Next k lives.calls now)
 
 -- From here on proofs: calls after calls, and the laws that what answers streams has for `stays`
@@ -27,16 +24,16 @@ calls_join w a b c [] more same leads = subst (λ r. CallsLead w r more c) same 
 calls_join w a b c (call ∷ calls) more (between, does, leads) further =
     (between, does, calls_join w between b c calls more leads further)
 
-module _ {S : Type 0} {store : Ghosts S} where
+module _ {R : Type 0} {registry : Ghosts R} where
   -- without a call it is the same session
-  pub lives_still : (r : Registry S store) → LivesOn store r r
+  pub lives_still : (r : R) → LivesOn registry r r
   lives_still r = record { rests = λ off. refl; calls = []; lead = refl }
 
   -- some calls and then others are calls
-  pub lives_further : (a b c : Registry S store) → LivesOn store a b → LivesOn store b c
-      → LivesOn store a c
+  pub lives_further : (a b c : R) → LivesOn registry a b → LivesOn registry b c
+      → LivesOn registry a c
   lives_further a b c p q = record {
-    rests = λ off. q.rests (subst (λ r. is_live r ≡ false) (sym (p.rests off)) off) ∙ p.rests off;
+    rests = λ off. q.rests (subst (λ r. registry.is_live r ≡ false) (sym (p.rests off)) off) ∙ p.rests off;
     calls = p.calls ++ q.calls;
-    lead = calls_join (showing store) a b c p.calls q.calls p.lead q.lead;
+    lead = calls_join registry.showing a b c p.calls q.calls p.lead q.lead;
   }

@@ -1,7 +1,7 @@
 -- What the service says of itself as a handler.
 use Rattle.std.specs.Prelude.{◌≡◌, ◌+◌, ℕ, List, [], ◌∷◌, ◌++◌}
 use Rattle.std.proofs.Common.{sym, ap, arith, subst, ◌∙◌, append_assoc, length-append}
-use Rattle.sqlite_trees.specs.declared.store.Store.{Ghosts}
+use Rattle.pid_service_laws.specs.declared.moderated.Moderated.{Ghosts}
 use Rattle.pid_service_laws.specs.Calls.{AreNothing, Call}
 use Rattle.pid_moderation.specs.History.{History}
 use Rattle.pid_moderation.specs.Writes.{tree_of}
@@ -22,8 +22,8 @@ WritesOver (Between before behind) body k = k ≡ Between before behind
 WritesOver Down body k = k ≡ Down
 
 -- and nothing is sent for it, by one call
-abbrev pub WritesText : {S : Type 0} (store : Ghosts S) → Told store → List ℕ → Told store → Type 0
-WritesText store t body u = ByCalls store t u
+abbrev pub WritesText : {R : Type 0} (registry : Ghosts R) → Told registry → List ℕ → Told registry → Type 0
+WritesText registry t body u = ByCalls registry t u
     (λ calls. AreQuestions 1 calls × WritesOver t.known body u.known)
 
 same_answer : (h : History) (head : ReplyHead) (told : ℕ) (body : List ℕ) → IsTextHead h head told
@@ -63,10 +63,10 @@ text_met (Between before behind) errand head told calls b body more c promised n
 text_met Down errand head told calls b body more c promised none_more writes = absurd promised
 
 -- what was promised and then written is the answer
-pub exports_text : {S : Type 0} {store : Ghosts S} (a : Told store) (request : Request)
-    (head : ReplyHead) (told : ℕ) (b : Told store) (body : List ℕ) (c : Told store)
-    → (serving store).promises a request head told b → WritesText store b body c
-    → (serving store).answers a request (answer_behind head told body) c
+pub exports_text : {R : Type 0} {registry : Ghosts R} (a : Told registry) (request : Request)
+    (head : ReplyHead) (told : ℕ) (b : Told registry) (body : List ℕ) (c : Told registry)
+    → (serving registry).promises a request head told b → WritesText registry b body c
+    → (serving registry).answers a request (answer_behind head told body) c
 exports_text a request head told b body c p w = record {
   same_life = w.same_life ∙ p.same_life;
   more = p.more ++ w.more;

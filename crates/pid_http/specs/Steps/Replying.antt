@@ -3,30 +3,25 @@ use Rattle.std.specs.Prelude.{◌≡◌, ◌≤◌, ◌⊎◌, ℕ, true, false,
 use Rattle.std.specs.Prelude.{Option, Some, None, Result}
 use Rattle.std.specs.Prelude.{Ok, Err, IsErrAnd, MatchResult, option_copied}
 use Rattle.std.specs.Io.KnownBytes.{IsAtEnd}
-use Rattle.sqlite_trees.specs.declared.store.Store.{Ghosts}
-use Rattle.pid_service_laws.specs.Calls.{Call, nothing_sent, obeyed}
-use Rattle.pid_service_laws.specs.Registries.{Does}
-use Rattle.pid_moderation.specs.History.{Asked, History}
+use Rattle.pid_service_laws.specs.declared.moderated.Moderated.{Ghosts}
+use Rattle.pid_service_laws.specs.Calls.{Call, obeyed}
+use Rattle.pid_moderation.specs.History.{Asked}
 use Rattle.pid_moderation.specs.Judgement.{answer, judge, after}
 use Rattle.pid_moderation.specs.Views.{views_of}
 use Rattle.pid_moderation.specs.declared.command.Reply.{Reply as Outcome}
 use Rattle.pid_moderation.specs.declared.refusal.Refusal.{Refusal}
 use Rattle.pid_moderation.specs.declared.refusal.Refusal.TheVariants as refusals
-use Rattle.pid_service.specs.Histories.{IsMemoryOrStore, Shows}
-use Rattle.pid_service.specs.Lives.{showing}
-use Rattle.pid_service.specs.Obeying.{Obeys}
-use Rattle.pid_service.specs.Registries.{HasCleanDisk, is_live}
-use Rattle.pid_service.specs.declared.registry.Registry.{Registry}
+use Rattle.pid_service_laws.specs.Outcomes.{IsMemoryOrStore}
 use Rattle.pid_http_stream.specs.BodyLengths.{longest_body}
 use Rattle.pid_http_stream.specs.Replies.{Answer, answer_with}
 use Rattle.pid_http_stream.specs.declared.handler.Reply.{Reply}
 use Rattle.pid_http_stream.specs.declared.handler.ReplyBody.{ReplyBody}
 use Rattle.pid_http_stream.specs.declared.handler.ReplyBody.TheVariants.{Bytes, Written}
 use Rattle.pid_http_stream.specs.declared.reply_head.ReplyHead.{ReplyHead}
-use Rattle.pid_http_api.specs.Senders.{Sending}
-use Rattle.pid_http_api.specs.declared.format.Format.{Format}
-use Rattle.pid_http_api.specs.declared.sender.Sender.{Sender}
-use Rattle.pid_http_api.specs.Outcomes.{outcome_answer}
+use Rattle.pid_http.specs.Api.Senders.{Sending}
+use Rattle.pid_http.specs.declared.api.format.Format.{Format}
+use Rattle.pid_http.specs.declared.api.sender.Sender.{Sender}
+use Rattle.pid_http.specs.Api.Outcomes.{outcome_answer}
 use Rattle.pid_http.specs.Errands.{Errand}
 use Rattle.pid_http.specs.Known.{Known, Live, Between, Down}
 use Rattle.pid_http.specs.Steps.Going.{Goes}
@@ -63,21 +58,6 @@ IsBodyMet k errand head (Bytes body) calls now = IsErrandMet k errand
     (answer_with head.status head.content body.items) calls now
 IsBodyMet k errand head (Written told) calls now = IsPromised k errand head told calls now
 
--- each question is a call of the registry's session that sends nothing
-abbrev pub QuestionsAreCalls : {S : Type 0} → Ghosts S → Type 0
-QuestionsAreCalls {S} store = (old new : Registry S store)
-    → (HasCleanDisk store new → HasCleanDisk store old) → (is_live old ≡ false → new ≡ old)
-    → (HasCleanDisk store new → (h : History) → Shows store old h → Shows store new h)
-    → Does (showing store) old nothing_sent new
-
--- each command that is obeyed is a call of the session that sends it
-abbrev pub CommandsAreCalls : {S : Type 0} → Ghosts S → Type 0
-CommandsAreCalls {S} store = (old new : Registry S store) (c : Asked)
-    (result : Result Outcome Refusal) → (HasCleanDisk store new → HasCleanDisk store old)
-    → (is_live old ≡ false → (result ≡ Err refusals.Failed) × (new ≡ old))
-    → (HasCleanDisk store new → (h : History) → Shows store old h → Obeys store result new h c)
-    → Does (showing store) old (obeyed c result (is_live new)) new
-
 -- the reply is an answer; or memory ran out for it, and what it is a reply to was done
 abbrev pub IsMetBy : {E : Type 0} → Known → Errand → Result Reply E → List Call → Known → Type 0
 IsMetBy k errand result calls now = MatchResult result
@@ -95,25 +75,15 @@ IsMetBehind k errand result left calls now =
     ⊎ (IsAtEnd left × ((given : Answer) × IsErrandMet k errand given calls now)))
 
 -- what comes of it
-abbrev pub Replies : {S E : Type 0} → (store : Ghosts S) → Registry S store → Registry S store
+abbrev pub Replies : {R E : Type 0} → (registry : Ghosts R) → R → R
     → Errand → Result Reply E → Type 0
-Replies store old new errand result = Goes store old new
+Replies registry old new errand result = Goes registry old new
     (λ k calls now. IsMetBy k errand result calls now)
 
--- what comes of a question, if each is a call of the registry's session
-abbrev pub Asks : {S E : Type 0} → (store : Ghosts S) → Registry S store → Registry S store
-    → Errand → Result Reply E → Type 0
-Asks store old new errand result = QuestionsAreCalls store → Replies store old new errand result
-
--- what comes of a command, if each that is obeyed is a call of the session
-abbrev pub Commands : {S E : Type 0} → (store : Ghosts S) → Registry S store → Registry S store
-    → Errand → Result Reply E → Type 0
-Commands store old new errand result = CommandsAreCalls store → Replies store old new errand result
-
 -- what comes of it if the body is a file that is read as it comes, known and not too long
-abbrev pub RepliesToFile : {S E : Type 0} → (store : Ghosts S) → Registry S store
-    → Registry S store → Option (List ℕ) → Option (List ℕ) → (List ℕ → Errand) → Result Reply E
+abbrev pub RepliesToFile : {R E : Type 0} → (registry : Ghosts R) → R
+    → R → Option (List ℕ) → Option (List ℕ) → (List ℕ → Errand) → Result Reply E
     → Type 0
-RepliesToFile store old new to_come left errand result = Goes store old new
+RepliesToFile registry old new to_come left errand result = Goes registry old new
     (λ k calls now. (file : List ℕ) → to_come ≡ Some file → length file ≤ longest_body
     → IsMetBehind k (errand file) result left calls now)

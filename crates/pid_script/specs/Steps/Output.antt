@@ -16,7 +16,7 @@ use Rattle.pid_moderation.specs.ReplyLines.{refused_line, outcome_line}
 use Rattle.pid_moderation.specs.declared.command.Reply.{Reply}
 use Rattle.pid_script.specs.declared.line_end.LineEnd.{LineEnd}
 use Rattle.pid_script.specs.declared.line_end.LineEnd.TheVariants.{Stopped, WriteFault, TooLong}
-use Rattle.pid_service.specs.declared.moderated.Moderated.{Ghosts}
+use Rattle.pid_service_laws.specs.declared.moderated.Moderated.{Ghosts}
 use Rattle.pid_script.specs.Calling.{CallsSend, CallsSendEither}
 use Rattle.pid_script.specs.ScriptLines as lines
 use Rattle.pid_script.specs.ScriptLines.{Ask}
@@ -161,7 +161,7 @@ module _ {R : Type 0} (registry : Ghosts R) where
   -- the line was answered, and nothing is held any more if it was a command
   pub record GoesBehind (r : R) (h : History) (new : R) (ask : Ask) (left : Out) : Type 0 where
     pub becomes : Becomes registry r h new (after_all h (command_of ask))
-    pub lives : registry.has_failed r → is_call ask ≡ false
+    pub lives : registry.is_live r ≡ false → is_call ask ≡ false
     pub flushed : (command_of ask ≡ []) ⊎ (left.held ≡ [])
     pub fits : ask ≡ lines.TooLong → ⊥
 

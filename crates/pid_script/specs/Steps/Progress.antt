@@ -1,5 +1,5 @@
 -- How far a script has come within the text that was read.
-use Rattle.std.specs.Prelude.{◌≡◌, ◌≤◌, ◌+◌, ℕ, List, [], ◌++◌, length, Option, Some, Result, Ok, Err}
+use Rattle.std.specs.Prelude.{◌≡◌, ◌≤◌, ◌+◌, ℕ, List, [], ◌++◌, length, Option, Some, Result, Ok, Err, false}
 use Rattle.std.specs.Prelude.{IfErr, OnOk}
 use Rattle.std.specs.Io.KnownBytes.{Appends}
 use Rattle.pid_reader.specs.Lines.{drop_cr, lines_of}
@@ -7,7 +7,7 @@ use Rattle.pid_reader.specs.WholeLines.{whole_lines, open_part}
 use Rattle.pid_moderation.specs.History.{History}
 use Rattle.pid_script.specs.declared.line_end.LineEnd.{LineEnd}
 use Rattle.pid_script.specs.declared.line_end.LineEnd.TheVariants as line_ends
-use Rattle.pid_service.specs.declared.moderated.Moderated.{Ghosts}
+use Rattle.pid_service_laws.specs.declared.moderated.Moderated.{Ghosts}
 use Rattle.pid_script.specs.declared.script_end.ScriptEnd.{ScriptEnd}
 use Rattle.pid_script.specs.declared.script_end.ScriptEnd.TheVariants.{Done, WriteFault, TooLong}
 use Rattle.pid_script.specs.declared.script_end.ScriptEnd.TheVariants.{Stopped}
@@ -37,7 +37,7 @@ module _ {R : Type 0} (registry : Ghosts R) where
     pub room : length now.held ≤ MOST_HELD
     pub fits : NoneTooLong lines
     pub leaves : Becomes registry old h new (history_after h lines)
-    pub lives : registry.has_failed old → NoneCalls lines
+    pub lives : registry.is_live old ≡ false → NoneCalls lines
     pub calls : CallsSend registry.showing old (commands_of_lines lines) (calls_for_lines lines) new
 
   -- the whole lines of a prefix of the text were answered, and what comes after them is kept, which

@@ -5,8 +5,8 @@ use Rattle.pid_tables.specs.declared.lists.walk.EachEnd.{EachEnd}
 use Rattle.pid_tables.specs.declared.lists.walk.EachEnd.TheVariants as ends
 use Rattle.pid_tables.specs.Faults.{IsMemoryOrStore, refusal_for}
 use Rattle.pid_moderation.specs.declared.refusal.Refusal.{Refusal}
-use Rattle.pid_service.specs.declared.exporting.ExportFault.{ExportFault}
-use Rattle.pid_service.specs.declared.exporting.ExportFault.TheVariants.{Refused, Write}
+use Rattle.pid_service_laws.specs.declared.faults.ExportFault.{ExportFault}
+use Rattle.pid_service_laws.specs.declared.faults.ExportFault.TheVariants.{Refused, Write}
 
 -- how the end of an export of tables is answered
 abbrev pub IsToldAs : EachEnd WriteFault → ExportFault → Type 0

@@ -23,7 +23,7 @@ use Rattle.pid_tables.specs.declared.put_file.Stop.{Stop}
 use Rattle.pid_tables.specs.declared.put_file.Stop.TheVariants as stops
 use Rattle.pid_tables.specs.declared.tally.Tally.{Tally}
 use Rattle.pid_tables.specs.Faults.{IsMemoryOrStore, refusal_for}
-use Rattle.pid_tables.specs.Files.{fault_as}
+use Rattle.pid_moderation.specs.Files.{fault_as}
 use Rattle.pid_tables.specs.Steps.Tallies.{tally_of}
 use Rattle.pid_tables.specs.Importing.{RefusesImport}
 

@@ -1,6 +1,6 @@
 use Rattle.pid_moderation.specs.BeforeFile.{import_of}
-use Rattle.pid_tables.specs.Files.{file_reading}
-use Rattle.pid_service.specs.Lives.{import_sent}
+use Rattle.pid_moderation.specs.Files.{file_reading}
+use Rattle.pid_service_laws.specs.Imports.{import_sent}
 use Rattle.pid_service.specs.Registries.{is_live}
 use Rattle.pid_cli_jobs.proofs.Sessions.{one_call}
 use Rattle.pid_cli_jobs.proofs.jobs.bring_in.Goals as goal

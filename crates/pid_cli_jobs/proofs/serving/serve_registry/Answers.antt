@@ -2,8 +2,8 @@ use Rattle.std.specs.Prelude.{◌≡◌, true, List, Option}
 use Rattle.std.proofs.Common.{ap, refl, rules, subst, sym, ◌∙◌}
 use Rattle.sqlite_trees.specs.declared.store.Store.{Ghosts}
 use Rattle.pid_file.specs.declared.io.Output as outputs
-use Rattle.pid_http_listener.specs.Streams.{Exchange}
-use Rattle.pid_http_listener.specs.declared.server.StreamServer as servers
+use Rattle.pid_http_stream.specs.Listener.Streams.{Exchange}
+use Rattle.pid_http_stream.specs.declared.listener.server.StreamServer as servers
 use Rattle.pid_service.specs.declared.registry.Registry.{Registry}
 use Rattle.pid_service.specs.Registries.{is_live}
 use Rattle.pid_cli_jobs.specs.declared.job_end.JobEnd.TheVariants.{Told}

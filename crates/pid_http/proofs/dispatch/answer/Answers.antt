@@ -1,5 +1,5 @@
-use Rattle.pid_http_api.specs.EarlyAnswers.{early_answer}
-use Rattle.pid_http_api.specs.declared.early.Early.TheVariants as early
+use Rattle.pid_http.specs.Api.EarlyAnswers.{early_answer}
+use Rattle.pid_http.specs.declared.api.early.Early.TheVariants as early
 use Rattle.pid_http.specs.Errands.{Answered}
 use Rattle.pid_http.proofs.Meeting.{answered, no_call, replied}
 use Rattle.pid_http.proofs.dispatch.answer.Goals as goal
@@ -35,37 +35,37 @@ returns-in-BadQuery g c =
     rw c.in-BadQuery.is (replied _ _ _ (Answered given) _ given c.early_reply-in-BadQuery.ensures (no_call _ _ _ (answered given)))
 
 pub returns-in-Export : goal.returns-in-Export
-returns-in-Export g c = rw c.in-Export.is (c.export.ensures c.clauses_meet_lives.ensures.looks)
+returns-in-Export g c = rw c.in-Export.is c.export.ensures
 
 pub returns-in-Read : goal.returns-in-Read
-returns-in-Read g c = rw c.in-Read.is (c.read.ensures c.clauses_meet_lives.ensures.looks)
+returns-in-Read g c = rw c.in-Read.is c.read.ensures
 
 pub returns-in-Children : goal.returns-in-Children
-returns-in-Children g c = rw c.in-Children.is (c.children.ensures c.clauses_meet_lives.ensures.looks)
+returns-in-Children g c = rw c.in-Children.is c.children.ensures
 
 pub returns-in-Lookup : goal.returns-in-Lookup
-returns-in-Lookup g c = rw c.in-Lookup.is (c.lookup.ensures c.clauses_meet_lives.ensures.looks)
+returns-in-Lookup g c = rw c.in-Lookup.is c.lookup.ensures
 
 pub returns-in-Submission : goal.returns-in-Submission
-returns-in-Submission g c = rw c.in-Submission.is (c.submission.ensures c.clauses_meet_lives.ensures.looks)
+returns-in-Submission g c = rw c.in-Submission.is c.submission.ensures
 
 pub returns-in-Pending : goal.returns-in-Pending
-returns-in-Pending g c = rw c.in-Pending.is (c.pending.ensures c.clauses_meet_lives.ensures.looks)
+returns-in-Pending g c = rw c.in-Pending.is c.pending.ensures
 
 pub returns-in-Changes : goal.returns-in-Changes
-returns-in-Changes g c = rw c.in-Changes.is (c.changes.ensures c.clauses_meet_lives.ensures.looks)
+returns-in-Changes g c = rw c.in-Changes.is c.changes.ensures
 
 pub returns-in-Queue : goal.returns-in-Queue
-returns-in-Queue g c = rw c.in-Queue.is (c.queue.ensures c.clauses_meet_lives.ensures.looks)
+returns-in-Queue g c = rw c.in-Queue.is c.queue.ensures
 
 pub returns-in-Status : goal.returns-in-Status
-returns-in-Status g c = rw c.in-Status.is (c.status.ensures c.clauses_meet_lives.ensures.looks)
+returns-in-Status g c = rw c.in-Status.is c.status.ensures
 
 pub returns-in-Rank : goal.returns-in-Rank
-returns-in-Rank g c = rw c.in-Rank.is (rw c.in-Rank.is at (c.rank.ensures c.clauses_meet_lives.ensures.looks))
+returns-in-Rank g c = rw c.in-Rank.is (rw c.in-Rank.is at c.rank.ensures)
 
 pub returns-in-Command : goal.returns-in-Command
-returns-in-Command g c = rw c.in-Command.is (c.command.ensures c.clauses_meet_lives.ensures.obeys)
+returns-in-Command g c = rw c.in-Command.is c.command.ensures
 
 pub returns-in-Submissions : goal.returns-in-Submissions
-returns-in-Submissions g c = rw (c.in-Submissions.is, ← c.as_ref.ensures.value) (rw c.in-Submissions.is at (c.submissions.ensures c.clauses_meet_lives.ensures.looks))
+returns-in-Submissions g c = rw (c.in-Submissions.is, ← c.as_ref.ensures.value) (rw c.in-Submissions.is at c.submissions.ensures)

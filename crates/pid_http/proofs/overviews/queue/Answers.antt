@@ -5,9 +5,9 @@ use Rattle.pid_moderation.specs.Views.{views_of}
 use Rattle.pid_moderation.specs.QueuePages.{queue_in, queued_of}
 use Rattle.pid_moderation.specs.declared.lists.Queued.{Queued}
 use Rattle.pid_moderation.specs.declared.lists.TheConstants.{PAGE}
-use Rattle.pid_http_api.specs.declared.format.Format.{Format}
-use Rattle.pid_http_api.specs.QueueAnswers.{queue_answer}
-use Rattle.pid_http_api.specs.Replying.{MakesReply}
+use Rattle.pid_http.specs.declared.api.format.Format.{Format}
+use Rattle.pid_http.specs.Api.QueueAnswers.{queue_answer}
+use Rattle.pid_http.specs.Api.Replying.{MakesReply}
 use Rattle.pid_http.specs.Answering.{answer_over}
 use Rattle.pid_http.specs.Errands as errands
 use Rattle.pid_http.proofs.Meeting.{IsQuestion, question_met, replied}
@@ -22,9 +22,9 @@ question after format = record {
 }
 
 pub returns-in-Ok : goal.returns-in-Ok
-returns-in-Ok g c = λ looks.
+returns-in-Ok g c =
     let is = subst (λ items. MakesReply c.queue_reply.result (queue_answer c.args.format (map queued_of items))) c.deref.ensures.value c.queue_reply.ensures in
-    replied _ _ _ _ _ _ is (question_met _ looks _ _ _ _ _ _ _ (question c.args.after c.args.format) c.in-Ok.ensures.answers)
+    replied _ _ _ _ _ _ is (question_met _ g.met.R.Moderated.lives _ _ _ _ _ _ _ (question c.args.after c.args.format) c.in-Ok.ensures)
 
 pub returns-in-Err : goal.returns-in-Err
-returns-in-Err g c = λ looks. replied _ _ _ _ _ _ c.refusal_reply.ensures (question_met _ looks _ _ _ _ _ _ _ (question c.args.after c.args.format) c.in-Err.ensures.answers)
+returns-in-Err g c = replied _ _ _ _ _ _ c.refusal_reply.ensures (question_met _ g.met.R.Moderated.lives _ _ _ _ _ _ _ (question c.args.after c.args.format) c.in-Err.ensures)

@@ -1,15 +1,15 @@
 use Rattle.std.proofs.Common.{◌≡◌, ℕ, Option, None, Some, Err, refl, ap, ◌∙◌}
 use Rattle.pid_moderation.specs.History.{History}
 use Rattle.pid_moderation.specs.declared.refusal.Refusal.TheVariants.{BadPath}
-use Rattle.pid_http_api.specs.Outcomes.{outcome_answer}
+use Rattle.pid_http.specs.Api.Outcomes.{outcome_answer}
 use Rattle.pid_http.specs.Errands.{Answered}
 use Rattle.pid_file.specs.declared.path.Path.{Path}
 use Rattle.pid_moderation.specs.Views.{views_of}
 use Rattle.pid_moderation.specs.ChangePages.{changes_in, page_of, start_text}
 use Rattle.pid_moderation.specs.declared.lists.Changes.{Changes}
 use Rattle.pid_moderation.specs.declared.lists.TheConstants.{PAGE}
-use Rattle.pid_http_api.specs.declared.format.Format.{Format}
-use Rattle.pid_http_api.specs.ChangeAnswers.{changes_answer}
+use Rattle.pid_http.specs.declared.api.format.Format.{Format}
+use Rattle.pid_http.specs.Api.ChangeAnswers.{changes_answer}
 use Rattle.pid_http.specs.Answering.{answer_over}
 use Rattle.pid_http.specs.Errands as errands
 use Rattle.pid_http.proofs.Meeting.{IsQuestion, answered, answers_by, no_call, question_met, replied}
@@ -29,18 +29,18 @@ over : (since : ℕ) (after other : Option Path) → after ≡ other → (h : Hi
 over since after other e h changes told = told ∙ ap (λ (p : Option Path). changes_in PAGE since (start_text p) (views_of h)) e
 
 pub returns-in-BadPath : goal.returns-in-BadPath
-returns-in-BadPath g c = λ looks.
+returns-in-BadPath g c =
     let given = outcome_answer c.args.format (Err BadPath) in
     rw c.in-BadPath.is (replied _ _ _ (Answered given) _ given c.refusal_reply.ensures (no_call _ _ _ (answered given)))
 
 pub returns-in-Ok : goal.returns-in-Ok
-returns-in-Ok g c = λ looks. elim c.match-start.branch [
-  | in-First w ↦ (rw w.in-First.is (replied _ _ _ _ _ _ c.changes_reply.ensures (question_met _ looks _ _ _ _ _ _ _ (question c.args.since None c.args.format) (answers_by _ _ _ _ _ _ (over c.args.since _ None (c.as_ref.ensures.value ∙ w.after-is)) c.in-Ok.ensures.answers))))
-  | in-Behind w ↦ (rw w.in-Behind.is (replied _ _ _ _ _ _ c.changes_reply.ensures (question_met _ looks _ _ _ _ _ _ _ (question c.args.since (Some w.in-Behind.path) c.args.format) (answers_by _ _ _ _ _ _ (over c.args.since _ (Some w.in-Behind.path) (c.as_ref.ensures.value ∙ w.after-is)) c.in-Ok.ensures.answers))))
+returns-in-Ok g c = elim c.match-start.branch [
+  | in-First w ↦ (rw w.in-First.is (replied _ _ _ _ _ _ c.changes_reply.ensures (question_met _ g.met.R.Moderated.lives _ _ _ _ _ _ _ (question c.args.since None c.args.format) (answers_by _ _ _ _ _ _ (over c.args.since _ None (c.as_ref.ensures.value ∙ w.after-is)) c.in-Ok.ensures))))
+  | in-Behind w ↦ (rw w.in-Behind.is (replied _ _ _ _ _ _ c.changes_reply.ensures (question_met _ g.met.R.Moderated.lives _ _ _ _ _ _ _ (question c.args.since (Some w.in-Behind.path) c.args.format) (answers_by _ _ _ _ _ _ (over c.args.since _ (Some w.in-Behind.path) (c.as_ref.ensures.value ∙ w.after-is)) c.in-Ok.ensures))))
 ]
 
 pub returns-in-Err : goal.returns-in-Err
-returns-in-Err g c = λ looks. elim c.match-start.branch [
-  | in-First w ↦ (rw w.in-First.is (replied _ _ _ _ _ _ c.refusal_reply-in-Err.ensures (question_met _ looks _ _ _ _ _ _ _ (question c.args.since None c.args.format) (answers_by _ _ _ _ _ _ (over c.args.since _ None (c.as_ref.ensures.value ∙ w.after-is)) c.in-Err.ensures.answers))))
-  | in-Behind w ↦ (rw w.in-Behind.is (replied _ _ _ _ _ _ c.refusal_reply-in-Err.ensures (question_met _ looks _ _ _ _ _ _ _ (question c.args.since (Some w.in-Behind.path) c.args.format) (answers_by _ _ _ _ _ _ (over c.args.since _ (Some w.in-Behind.path) (c.as_ref.ensures.value ∙ w.after-is)) c.in-Err.ensures.answers))))
+returns-in-Err g c = elim c.match-start.branch [
+  | in-First w ↦ (rw w.in-First.is (replied _ _ _ _ _ _ c.refusal_reply-in-Err.ensures (question_met _ g.met.R.Moderated.lives _ _ _ _ _ _ _ (question c.args.since None c.args.format) (answers_by _ _ _ _ _ _ (over c.args.since _ None (c.as_ref.ensures.value ∙ w.after-is)) c.in-Err.ensures))))
+  | in-Behind w ↦ (rw w.in-Behind.is (replied _ _ _ _ _ _ c.refusal_reply-in-Err.ensures (question_met _ g.met.R.Moderated.lives _ _ _ _ _ _ _ (question c.args.since (Some w.in-Behind.path) c.args.format) (answers_by _ _ _ _ _ _ (over c.args.since _ (Some w.in-Behind.path) (c.as_ref.ensures.value ∙ w.after-is)) c.in-Err.ensures))))
 ]

@@ -10,10 +10,10 @@ use Rattle.pid_moderation.specs.Views.{items_of}
 use Rattle.pid_moderation.specs.ItemPairs.{pair_of}
 use Rattle.pid_moderation.specs.declared.lists.Item.{Item}
 use Rattle.pid_moderation.specs.declared.refusal.Refusal.TheVariants.{BadPath}
-use Rattle.pid_http_api.specs.declared.format.Format.{Format}
-use Rattle.pid_http_api.specs.ItemAnswers.{children_answer}
-use Rattle.pid_http_api.specs.Outcomes.{outcome_answer}
-use Rattle.pid_http_api.specs.Replying.{MakesReply}
+use Rattle.pid_http.specs.declared.api.format.Format.{Format}
+use Rattle.pid_http.specs.Api.ItemAnswers.{children_answer}
+use Rattle.pid_http.specs.Api.Outcomes.{outcome_answer}
+use Rattle.pid_http.specs.Api.Replying.{MakesReply}
 use Rattle.pid_http.specs.Answering.{answer_over, children_below, children_or_missing, items_if}
 use Rattle.pid_http.specs.Errands.{Answered, Children}
 use Rattle.pid_http.proofs.Meeting.{IsQuestion, answered, answers_by, answers_so, no_call, question_met, question_then, refused_call, replied}
@@ -47,32 +47,32 @@ below path under e name h items is told =
     ∙ ap (λ (n : Option (List ℕ)). items_if n (children_of (Some (path_text path)) (items_of h))) is
 
 pub returns-in-BadPath : goal.returns-in-BadPath
-returns-in-BadPath g c = λ looks.
+returns-in-BadPath g c =
     let given = outcome_answer c.args.format (Err BadPath) in
     rw c.in-BadPath.is (replied _ _ _ (Answered given) _ given c.refusal_reply-in-BadPath.ensures (no_call _ _ _ (answered given)))
 
 pub returns-in-Ok-None : goal.returns-in-Ok-None
-returns-in-Ok-None g c = λ looks.
-    rw c.in-Below.is (replied _ _ _ _ _ _ c.missing_reply.ensures (question_met _ looks _ _ (Ok tt) _ _ _ _ (missing c.in-Below.path c.args.format)
-    (answers_so _ _ _ None tt _ _ (λ h is. ap (λ (n : Option (List ℕ)). items_if n (children_of (Some (path_text c.in-Below.path)) (items_of h))) is) (rw c.in-Ok-None.field-0-is at c.in-Ok-None.ensures.answers))))
+returns-in-Ok-None g c =
+    rw c.in-Below.is (replied _ _ _ _ _ _ c.missing_reply.ensures (question_met _ g.met.R.Moderated.lives _ _ (Ok tt) _ _ _ _ (missing c.in-Below.path c.args.format)
+    (answers_so _ _ _ None tt _ _ (λ h is. ap (λ (n : Option (List ℕ)). items_if n (children_of (Some (path_text c.in-Below.path)) (items_of h))) is) (rw c.in-Ok-None.field-0-is at c.in-Ok-None.ensures))))
 
 pub returns-in-Err : goal.returns-in-Err
-returns-in-Err g c = λ looks.
+returns-in-Err g c =
     let q = question (Some c.in-Below.path) c.args.format in
-    rw c.in-Below.is (replied _ _ _ _ _ _ c.refusal_reply.ensures (refused_call _ looks _ _ _ _ c.args.format (Children (Some c.in-Below.path) c.args.format) q.refused q.no_command c.in-Err.ensures.answers))
+    rw c.in-Below.is (replied _ _ _ _ _ _ c.refusal_reply.ensures (refused_call _ g.met.R.Moderated.lives _ _ _ _ c.args.format (Children (Some c.in-Below.path) c.args.format) q.refused q.no_command c.in-Err.ensures))
 
 pub returns-in-Ok : goal.returns-in-Ok
-returns-in-Ok g c = λ looks.
+returns-in-Ok g c =
     let is = subst (λ items. MakesReply c.children_reply.result (children_answer c.args.format (map pair_of items))) c.deref.ensures.value c.children_reply.ensures in
     elim c.match-above.branch [
-      | in-Top w ↦ (rw w.in-Top.is (replied _ _ _ _ _ _ is (question_met _ looks _ _ _ _ _ _ _ (question None c.args.format) (answers_by _ _ _ _ _ _ (at_top c.match-above.under w.under-is) (rw w.registry-is at c.in-Ok.ensures.answers)))))
+      | in-Top w ↦ (rw w.in-Top.is (replied _ _ _ _ _ _ is (question_met _ g.met.R.Moderated.lives _ _ _ _ _ _ _ (question None c.args.format) (answers_by _ _ _ _ _ _ (at_top c.match-above.under w.under-is) (rw w.registry-is at c.in-Ok.ensures)))))
       | in-Below+in-Ok-Some w ↦ (rw w.in-Below.is (replied _ _ _ _ _ _ is
-          (question_then _ looks _ _ _ _ _ _ _ _ _ _ _ (question (Some w.in-Below.path) c.args.format) (omega arith) (below w.in-Below.path c.match-above.under w.under-is _) (rw w.in-Ok-Some.field-0-is at w.in-Ok-Some.ensures.answers) (rw w.registry-is at c.in-Ok.ensures.answers))))
+          (question_then _ g.met.R.Moderated.lives _ _ _ _ _ _ _ _ _ _ _ (question (Some w.in-Below.path) c.args.format) (omega arith) (below w.in-Below.path c.match-above.under w.under-is _) (rw w.in-Ok-Some.field-0-is at w.in-Ok-Some.ensures) (rw w.registry-is at c.in-Ok.ensures))))
     ]
 
 pub returns-in-Err-children : goal.returns-in-Err-children
-returns-in-Err-children g c = λ looks. elim c.match-above.branch [
-  | in-Top w ↦ (rw w.in-Top.is (replied _ _ _ _ _ _ c.refusal_reply-in-Err-children.ensures (question_met _ looks _ _ _ _ _ _ _ (question None c.args.format) (answers_by _ _ _ _ _ _ (at_top c.match-above.under w.under-is) (rw w.registry-is at c.in-Err-children.ensures.answers)))))
+returns-in-Err-children g c = elim c.match-above.branch [
+  | in-Top w ↦ (rw w.in-Top.is (replied _ _ _ _ _ _ c.refusal_reply-in-Err-children.ensures (question_met _ g.met.R.Moderated.lives _ _ _ _ _ _ _ (question None c.args.format) (answers_by _ _ _ _ _ _ (at_top c.match-above.under w.under-is) (rw w.registry-is at c.in-Err-children.ensures)))))
   | in-Below+in-Ok-Some w ↦ (rw w.in-Below.is (replied _ _ _ _ _ _ c.refusal_reply-in-Err-children.ensures
-      (question_then _ looks _ _ _ _ _ _ _ _ _ _ _ (question (Some w.in-Below.path) c.args.format) (omega arith) (below w.in-Below.path c.match-above.under w.under-is _) (rw w.in-Ok-Some.field-0-is at w.in-Ok-Some.ensures.answers) (rw w.registry-is at c.in-Err-children.ensures.answers))))
+      (question_then _ g.met.R.Moderated.lives _ _ _ _ _ _ _ _ _ _ _ (question (Some w.in-Below.path) c.args.format) (omega arith) (below w.in-Below.path c.match-above.under w.under-is _) (rw w.in-Ok-Some.field-0-is at w.in-Ok-Some.ensures) (rw w.registry-is at c.in-Err-children.ensures))))
 ]

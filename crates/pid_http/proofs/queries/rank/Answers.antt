@@ -1,8 +1,8 @@
 use Rattle.std.proofs.Common.{◌≡◌, refl, ap, ℕ, List, Option}
 use Rattle.pid_moderation.specs.Views.{rank_of}
 use Rattle.pid_moderation.specs.declared.rank.Rank.{Rank}
-use Rattle.pid_http_api.specs.declared.format.Format.{Format}
-use Rattle.pid_http_api.specs.RankAnswers.{rank_answer}
+use Rattle.pid_http.specs.declared.api.format.Format.{Format}
+use Rattle.pid_http.specs.Api.RankAnswers.{rank_answer}
 use Rattle.pid_http.specs.Answering.{answer_over}
 use Rattle.pid_http.specs.Errands as errands
 use Rattle.pid_http.proofs.Meeting.{IsQuestion, question_met, replied}
@@ -17,7 +17,7 @@ question who format = record {
 }
 
 pub returns-in-Ok : goal.returns-in-Ok
-returns-in-Ok g c = λ looks. replied _ _ _ _ _ _ c.rank_reply.ensures (question_met _ looks _ _ _ _ _ _ _ (question c.args.who.now c.args.format) c.in-Ok.ensures.answers)
+returns-in-Ok g c = replied _ _ _ _ _ _ c.rank_reply.ensures (question_met _ g.met.R.Moderated.lives _ _ _ _ _ _ _ (question c.args.who.now c.args.format) c.in-Ok.ensures)
 
 pub returns-in-Err : goal.returns-in-Err
-returns-in-Err g c = λ looks. replied _ _ _ _ _ _ c.refusal_reply.ensures (question_met _ looks _ _ _ _ _ _ _ (question c.args.who.now c.args.format) c.in-Err.ensures.answers)
+returns-in-Err g c = replied _ _ _ _ _ _ c.refusal_reply.ensures (question_met _ g.met.R.Moderated.lives _ _ _ _ _ _ _ (question c.args.who.now c.args.format) c.in-Err.ensures)

@@ -1,25 +1,24 @@
 use Rattle.std.proofs.Common.{◌≡◌, ℕ, [], ◌∷◌, Some, Result, Ok, Err, refl, sym, ap, ◌∙◌, inl, inr}
 use Rattle.std.specs.Prelude.{MatchResult}
-use Rattle.sqlite_trees.specs.declared.store.Store.{Ghosts}
+use Rattle.pid_service_laws.specs.declared.moderated.Moderated.{Ghosts}
 use Rattle.pid_service_laws.specs.Calls.{nothing_sent}
 use Rattle.pid_moderation.specs.History.{History}
 use Rattle.pid_moderation.specs.Views.{views_of}
 use Rattle.pid_moderation.specs.declared.refusal.Refusal.{Refusal}
 use Rattle.pid_moderation.specs.declared.refusal.Refusal.TheVariants.{BadText, Failed as HasFailed}
-use Rattle.pid_service.specs.Asking.{AnswersIfThere, IsMissing}
-use Rattle.pid_service.specs.declared.registry.Registry.{Registry}
+use Rattle.pid_service_laws.specs.Questions.{IsAnsweredIfThere, IsMissing}
 use Rattle.pid_moderation.specs.Submissions.{discussion_in, discussion_of}
 use Rattle.pid_moderation.specs.declared.lists.Discussion.{Discussion}
-use Rattle.pid_http_api.specs.declared.format.Format.{Format}
-use Rattle.pid_http_api.specs.Outcomes.{outcome_answer}
-use Rattle.pid_http_api.specs.SubmissionAnswers.{submission_answer}
+use Rattle.pid_http.specs.declared.api.format.Format.{Format}
+use Rattle.pid_http.specs.Api.Outcomes.{outcome_answer}
+use Rattle.pid_http.specs.Api.SubmissionAnswers.{submission_answer}
 use Rattle.pid_http.specs.Answering.{answer_over, submission_or_missing, IsErrandRefused}
 use Rattle.pid_http.specs.Errands.{Answered, Submission}
 use Rattle.pid_http.specs.Steps.Going.{Goes}
 use Rattle.pid_http.specs.Steps.Replying.{answer_or}
 use Rattle.pid_http.specs.Serving.{IsErrandMet, IsMetOver, AnsweredOver, NotDone, Refused}
 use Rattle.pid_http.specs.Known.{Live}
-use Rattle.pid_http.proofs.Meeting.{CallsLook, answered, from_call, looked, no_call, one_question, replied}
+use Rattle.pid_http.proofs.Meeting.{Lives, answered, from_call, no_call, one_call, one_question, replied}
 use Rattle.pid_http.proofs.queries.submission.Goals as goal
 
 over : (number : ℕ) (format : Format) (h : History) (found : Result Discussion Refusal) → MatchResult found (λ d. discussion_in (views_of h) number ≡ Some (discussion_of d)) (IsMissing (discussion_in (views_of h) number))
@@ -32,22 +31,22 @@ over number format h (Err e) (inr fault) = NotDone e fault (refl, refl) one_ques
 failed : (number : ℕ) (format : Format) (found : Result Discussion Refusal) → found ≡ Err HasFailed → IsErrandRefused (Submission number format) HasFailed (answer_or format (λ d. submission_answer format number (discussion_of d)) found)
 failed number format found e = (refl, ap (answer_or format (λ d. submission_answer format number (discussion_of d))) e)
 
-met : {S : Type 0} (store : Ghosts S) → CallsLook store → (old new : Registry S store) (number : ℕ) (format : Format) (found : Result Discussion Refusal)
-    → AnswersIfThere store old new found (λ h. discussion_in (views_of h) number) discussion_of
-    → Goes store old new (λ k calls now. IsErrandMet k (Submission number format) (answer_or format (λ d. submission_answer format number (discussion_of d)) found) calls now)
-met store look old new number format found e =
-    from_call _ _ _ _ (answer_or format (λ d. submission_answer format number (discussion_of d)) found)
-    (looked _ look _ _ e.rests.clean (λ off. (e.failed off).1) (λ good h shows. (e.told good h shows).1)) e.rests.clean
+met : {R : Type 0} (registry : Ghosts R) → Lives registry → (old new : R) (number : ℕ) (format : Format) (found : Result Discussion Refusal)
+    → IsAnsweredIfThere registry.showing registry.is_live old new found (λ h. discussion_in (views_of h) number) discussion_of
+    → Goes registry old new (λ k calls now. IsErrandMet k (Submission number format) (answer_or format (λ d. submission_answer format number (discussion_of d)) found) calls now)
+met registry alive old new number format found e =
+    from_call _ alive _ _ _ (answer_or format (λ d. submission_answer format number (discussion_of d)) found)
+    (one_call _ _ _ nothing_sent e.calls (λ off. (e.failed off).1)) e.calls.clean
     (λ clean h shows. let t = e.told clean h shows in (Live h, t.1, over number format h found t.0))
     (λ off. Refused (failed number format found (e.failed off).0) one_question)
 
 pub returns-in-None : goal.returns-in-None
-returns-in-None g c = λ looks.
+returns-in-None g c =
     let given = outcome_answer c.args.format (Err BadText) in
     rw c.in-None.is (replied _ _ _ (Answered given) _ given c.refusal_reply.ensures (no_call _ _ _ (answered given)))
 
 pub returns-in-Ok : goal.returns-in-Ok
-returns-in-Ok g c = λ looks. rw c.in-Some.is (replied _ _ _ _ _ _ c.submission_reply.ensures (met _ looks _ _ c.in-Some.number c.args.format _ c.in-Ok.ensures.answers))
+returns-in-Ok g c = rw c.in-Some.is (replied _ _ _ _ _ _ c.submission_reply.ensures (met _ g.met.R.Moderated.lives _ _ c.in-Some.number c.args.format _ c.in-Ok.ensures))
 
 pub returns-in-Err : goal.returns-in-Err
-returns-in-Err g c = λ looks. rw c.in-Some.is (replied _ _ _ _ _ _ c.refusal_reply-in-Err.ensures (met _ looks _ _ c.in-Some.number c.args.format _ c.in-Err.ensures.answers))
+returns-in-Err g c = rw c.in-Some.is (replied _ _ _ _ _ _ c.refusal_reply-in-Err.ensures (met _ g.met.R.Moderated.lives _ _ c.in-Some.number c.args.format _ c.in-Err.ensures))

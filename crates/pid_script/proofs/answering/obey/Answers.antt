@@ -14,7 +14,7 @@ pub returns-in-Ok-clause-ends : goal.returns-in-Ok-clause-ends
 returns-in-Ok-clause-ends g c = λ honest h stands.
     obeyed g.R.Moderated c.send_answer.result c.obey-answer.result c.in-Ok.command c.args.verb c.args.account.now c.args.form.now h c.args.registry.now c.obey-answer.new.self
     (out (g.O.Output.taken c.args.output.now) c.args.held.now.items) (out (g.O.Output.taken c.send_answer.new.output) c.send_answer.new.held.items)
-    c.in-Ok.ensures.ok (c.obey-answer.ensures.obeys honest h) c.obey-answer.ensures.failed c.send_answer.ensures.told c.send_answer.ensures.goes_on c.send_answer.ensures.empty c.send_answer.ensures.fits c.obey-answer.ensures.calls stands
+    c.in-Ok.ensures.ok (c.obey-answer.ensures.obeys honest h) c.obey-answer.ensures.failed c.send_answer.ensures.told c.send_answer.ensures.goes_on c.send_answer.ensures.empty c.send_answer.ensures.fits (g.R.Moderated.is_live c.obey-answer.new.self, c.obey-answer.ensures.calls) stands
 
 pub returns-in-Err-clause-ends : goal.returns-in-Err-clause-ends
 returns-in-Err-clause-ends g c = λ honest h stands.
@@ -25,7 +25,7 @@ returns-in-Err-clause-ends g c = λ honest h stands.
     c.send_answer-in-Err.ensures.told c.send_answer-in-Err.ensures.goes_on c.send_answer-in-Err.ensures.fits
 
 pub returns-in-Ok-clause-calls : goal.returns-in-Ok-clause-calls
-returns-in-Ok-clause-calls g c = go_one g.R.Moderated.showing c.args.registry.now c.obey-answer.new.self _ c.obey-answer.ensures.calls.1
+returns-in-Ok-clause-calls g c = go_one g.R.Moderated.showing c.args.registry.now c.obey-answer.new.self _ c.obey-answer.ensures.calls
 
 pub returns-in-Err-clause-calls : goal.returns-in-Err-clause-calls
 returns-in-Err-clause-calls g c = go_still g.R.Moderated.showing c.args.registry.now

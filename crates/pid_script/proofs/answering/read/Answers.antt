@@ -27,7 +27,7 @@ pub returns-in-Ok-clause-ends : goal.returns-in-Ok-clause-ends
 returns-in-Ok-clause-ends g c = λ honest h stands.
     named g.R.Moderated c.send_name.result c.read-name.result c.args.form.now c.in-Ok.path h c.args.registry.now c.read-name.new.self
     (out (g.O.Output.taken c.args.output.now) c.args.held.now.items) (out (g.O.Output.taken c.send_name.new.output) c.send_name.new.held.items)
-    c.in-Ok.ensures.ok (c.read-name.ensures.told honest h) (c.read-name.ensures.kept honest h) c.read-name.ensures.failed
+    c.in-Ok.ensures.ok (λ s. (c.read-name.ensures.told honest h s).0) (λ s. (c.read-name.ensures.told honest h s).1) c.read-name.ensures.failed
     c.send_name.ensures.told c.send_name.ensures.goes_on c.send_name.ensures.fits c.read-name.ensures.calls stands
 
 pub returns-in-Ok-clause-fault : goal.returns-in-Ok-clause-fault

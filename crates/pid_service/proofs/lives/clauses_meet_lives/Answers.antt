@@ -1,8 +1,9 @@
-use Rattle.pid_service_laws.proofs.Calling.{looked_does, obeyed_does, ran_does}
+use Rattle.pid_service_laws.proofs.Calling.{obeyed_does, ran_does}
 use Rattle.pid_service.specs.Histories.{showing}
 use Rattle.pid_service.specs.Registries.{is_live}
+use Rattle.pid_service.proofs.Consulting.{looks}
 use Rattle.pid_service.proofs.Finding.{still_between}
-use Rattle.pid_service.proofs.ImportLives.{LooksLaw, ObeysLaw, import_lives}
+use Rattle.pid_service.proofs.ImportLives.{ObeysLaw, import_lives}
 use Rattle.pid_service.proofs.RunLives.{run_lives}
 use Rattle.pid_service.proofs.lives.clauses_meet_lives.Goals as goal
 
@@ -11,14 +12,13 @@ returns g c =
     let obeys : ObeysLaw g.S.Store = λ old new asked result clean failed told. obeyed_does (showing g.S.Store) old new asked result (is_live new) clean told
     (λ h next between. let is = failed between.has_failed in (is.0, still_between g.S.Store old new h next is.1 between))
     (λ h next between. between.has_failed) in
-    let looks : LooksLaw g.S.Store = λ old new clean failed told. looked_does (showing g.S.Store) old new clean told
-    (λ h next between. still_between g.S.Store old new h next (failed between.has_failed) between) in
+    let looking = looks g.S.Store in
     record {
       obeys = obeys;
-      imports = import_lives g.S.Store obeys looks;
+      imports = import_lives g.S.Store obeys looking;
       runs = λ old new commands report clean failed told.
           ran_does (showing g.S.Store) old new commands report.replies.items report.fault (is_live new) clean (λ disk h shows. run_lives g.S.Store report new h commands (told disk h shows))
           (λ h next between. let is = failed between.has_failed in (is.0, is.1, still_between g.S.Store old new h next is.2 between))
           (λ h next between. between.has_failed);
-      looks = looks;
+      looks = looking;
     }

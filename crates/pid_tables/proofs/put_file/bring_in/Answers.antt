@@ -7,7 +7,7 @@ use Rattle.pid_moderation.specs.Views.{views_of}
 use Rattle.pid_tables.specs.Rows.Leaves.{AtRest, LeavesEither}
 use Rattle.pid_tables.specs.Rows.Shows.{counts_of}
 use Rattle.pid_tables.proofs.OfRows.GoingLemmas.{earlier}
-use Rattle.pid_tables.specs.Files.{file_reading}
+use Rattle.pid_moderation.specs.Files.{file_reading}
 use Rattle.pid_tables.specs.Steps.PutFiles.{PutsFile}
 use Rattle.pid_tables.proofs.PutInto.{puts, gives_up, shown, put_name, put_clean, put_limit, put_holds, put_within, put_tally}
 use Rattle.pid_tables.proofs.BringIn.{next_of, ok_apart, failed_apart, left_read, left_stops, stop_live, body_end, end_body, applied_stops, applied_read, err_is, end_is}

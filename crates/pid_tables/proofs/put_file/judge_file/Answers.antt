@@ -1,7 +1,7 @@
 use Rattle.std.proofs.Common.{Some}
 use Rattle.pid_moderation.specs.declared.facts.Verdict.TheVariants.{Good}
 use Rattle.pid_moderation.specs.Views.{views_of}
-use Rattle.pid_tables.specs.Files.{file_reading}
+use Rattle.pid_moderation.specs.Files.{file_reading}
 use Rattle.pid_tables.proofs.Judged.{facts_put, judged_file}
 use Rattle.pid_tables.proofs.put_file.judge_file.Goals as goal
 

@@ -1,5 +1,5 @@
 use Rattle.std.proofs.Common.{◌∙◌}
-use Rattle.pid_http_api.specs.Questions.{question}
+use Rattle.pid_http.specs.Api.Questions.{question}
 use Rattle.pid_http.proofs.handling.ServiceHandler.question.Goals as goal
 
 pub returns-in-Ok : goal.returns-in-Ok

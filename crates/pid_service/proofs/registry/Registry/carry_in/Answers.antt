@@ -1,8 +1,8 @@
 use Rattle.std.proofs.Common.{◌≡◌, inl, inr, Err, refl, rules, ap}
 use Rattle.pid_tables.specs.declared.put_file.Stop.TheVariants as stops
-use Rattle.pid_service.specs.declared.importing.ImportEnd.TheVariants as imports
+use Rattle.pid_service_laws.specs.declared.faults.ImportEnd.TheVariants as imports
 use Rattle.pid_moderation.specs.History.{asked}
-use Rattle.pid_tables.specs.Files.{file_reading}
+use Rattle.pid_moderation.specs.Files.{file_reading}
 use Rattle.pid_service.proofs.Imported.{body_carried, body_read, failed_carried, failed_read, failure_not, ok_obeyed, refusal_not, refused_alive, refused_carried, refused_read, stop_not}
 use Rattle.pid_service.proofs.ImportCauses.{refused_stays}
 use Rattle.pid_service.proofs.Keeping.{nothing_kept, ok_not}

@@ -5,7 +5,7 @@ use Rattle.pid_ident.specs.Sending.{SendsFront}
 use Rattle.pid_moderation.specs.Views.{views_of}
 use Rattle.pid_moderation.specs.Writes.{tree_of}
 use Rattle.pid_file.specs.Printing.{print}
-use Rattle.pid_service.specs.declared.exporting.ExportFault.TheVariants.{Refused, Write}
+use Rattle.pid_service_laws.specs.declared.faults.ExportFault.TheVariants.{Refused, Write}
 use Rattle.pid_tables.proofs.OfCheck.Asking.{nothing_read}
 use Rattle.pid_service.proofs.Exported.{same_write, text_told, told_by, told_cause, told_gives, told_tree, told_writes, whole_tree, write_not}
 use Rattle.pid_service.proofs.Keeping.{ok_not, true_not}

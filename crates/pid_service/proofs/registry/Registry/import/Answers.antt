@@ -2,7 +2,7 @@ use Rattle.std.proofs.Common.{◌≡◌, ◌≤◌, IfErr, length, refl, rules, 
 use Rattle.pid_moderation.specs.declared.command.Command.{Command}
 use Rattle.pid_moderation.specs.CheckTables.{most_file_bytes}
 use Rattle.pid_moderation.specs.History.{asked, is_import}
-use Rattle.pid_tables.specs.Files.{file_reading}
+use Rattle.pid_moderation.specs.Files.{file_reading}
 use Rattle.pid_service.specs.Obeying.{Obeys}
 use Rattle.pid_service.proofs.ImportCauses.{Faults}
 use Rattle.pid_service.proofs.Keeping.{true_not}

@@ -1,6 +1,6 @@
 use Rattle.std.proofs.Common.{inl, inr, refl, ◌∙◌}
 use Rattle.pid_moderation.specs.History.{asked}
-use Rattle.pid_tables.specs.Files.{file_reading}
+use Rattle.pid_moderation.specs.Files.{file_reading}
 use Rattle.pid_service.proofs.ImportCauses.{Faults, bad_text, early_faults, open_faults, past_faults}
 use Rattle.pid_service.proofs.Imported.{past_obeyed, past_spares}
 use Rattle.pid_service.proofs.Lasting.{still_live}

@@ -3,7 +3,7 @@ use Rattle.pid_moderation.specs.History.{Asked, History, is_import}
 use Rattle.pid_moderation.specs.CheckTables.{is_broken}
 use Rattle.pid_moderation.specs.Judgement.{answer}
 use Rattle.pid_moderation.specs.Views.{views_of}
-use Rattle.pid_tables.specs.Files.{asks, file_of, file_reading, reading_of}
+use Rattle.pid_moderation.specs.Files.{asks, file_of, file_reading, reading_of}
 use Rattle.pid_service.specs.Histories.{Shows}
 use Rattle.pid_service.specs.Obeying.{Obeys}
 use Rattle.pid_service.specs.Registries.{HasCleanDisk}

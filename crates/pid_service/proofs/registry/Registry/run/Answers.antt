@@ -2,7 +2,7 @@ use Rattle.std.proofs.Common.{◌≡◌, ℕ, ◌+◌, ◌<◌, ◌≤◌, List,
 use Rattle.pid_moderation.specs.declared.refusal.Refusal.TheVariants.{Failed, Memory}
 use Rattle.pid_moderation.specs.History.{Asked}
 use Rattle.pid_moderation.specs.Judgement.{after_all}
-use Rattle.pid_tables.specs.Files.{asks}
+use Rattle.pid_moderation.specs.Files.{asks}
 use Rattle.std.specs.List.{AllByRecursion}
 use Rattle.pid_service.specs.Running.{ObeysInTurn, ReplyIsNotFailed}
 use Rattle.pid_service.proofs.Keeping.{true_not}

@@ -2,7 +2,7 @@ use Rattle.std.proofs.Common.{◌≡◌, ◌⊎◌, ◌≤◌, true, length, tak
 use Rattle.std.specs.List.{AllByRecursion}
 use Rattle.pid_moderation.specs.History.{History}
 use Rattle.pid_moderation.specs.Judgement.{answers, after_all}
-use Rattle.pid_tables.specs.Files.{asks}
+use Rattle.pid_moderation.specs.Files.{asks}
 use Rattle.pid_service.specs.Histories.{Shows}
 use Rattle.pid_service.specs.Registries.{HasCleanDisk, KeepsLimit, is_live}
 use Rattle.pid_service.specs.KeptViews.{kept_by, nothing}

@@ -1,0 +1,55 @@
+//! What an HTTP request asks for, and the reply to each outcome.
+//!
+//! `question_of` answers what a method and a target ask for; `sender_of` who sends a command, by
+//! its head; `command_in` the command that a sender's form makes. Each function `.._reply` makes
+//! the reply to one kind of outcome: its status, and its body whole in memory, as JSON (RFC 8259)
+//! or as lines of text; the text of a look-up is its bytes alone, and the refusal of a method has no
+//! body. JSON is compact, with the keys of each object in bytewise order; each line of a text
+//! ends with a line feed. Nothing here asks a registry.
+
+mod asking;
+mod changes;
+mod command;
+mod early;
+mod format;
+mod items;
+mod list;
+mod lookup;
+mod lookup_query;
+mod members;
+mod method;
+mod outcome;
+mod pending;
+mod query;
+mod question;
+mod queue;
+mod rank;
+mod reply;
+mod route;
+mod routes;
+mod sender;
+mod status;
+mod submission;
+mod submissions;
+mod text;
+mod utf8;
+
+pub use changes::changes_reply;
+pub use command::command_in;
+pub use early::{Early, early_reply};
+pub use format::Format;
+pub use items::{children_reply, item_reply};
+pub use lookup::lookup_reply;
+pub use lookup_query::LookupQuery;
+pub use outcome::{missing_reply, outcome_reply, refusal_reply};
+pub use pending::pending_reply;
+pub use query::{Above, Sought, Start};
+pub use question::{Question, question_of};
+pub use queue::queue_reply;
+pub use rank::rank_reply;
+pub use route::Route;
+pub use routes::Routes;
+pub use sender::{Sender, sender_of};
+pub use status::status_reply;
+pub use submission::submission_reply;
+pub use submissions::submissions_reply;

@@ -1,0 +1,35 @@
+//! The command that a request makes.
+ghost use Rattle.std.specs.Prelude.{◌≡◌, ◌≢◌, IfOk, IfErr, Ok, Err, option_copied};
+ghost use Rattle.pid_http.specs.Api.Commands.{command_made};
+
+use crate::api::sender::Sender;
+use crate::api::utf8::text_of;
+use pid_form::fields_of;
+use pid_moderation::{Command, Refusal, Verb, command_of};
+use std::alloc::Global;
+
+/// The command of a sender that the form in a body makes, or the first check that fails: that of
+/// the text, and then those of the form. It is also refused if memory runs out.
+#[tactic(auto, unfolding(crate::specs::Api::Commands::command_made))]
+pub fn command_in(
+    alloc: Global,
+    verb: Verb,
+    sender: Sender,
+    body: &[u8],
+) -> Result<Command, Refusal>
+    ensures ok { IfOk result (λ command. command_made verb
+        (record { account = sender.entry.account.now; key = option_copied sender.entry.key })
+        body.now
+        ≡ Ok command) }
+    ensures err { IfErr result (λ refusal. refusal ≢ Refusal.Memory
+        → command_made verb
+        (record { account = sender.entry.account.now; key = option_copied sender.entry.key })
+        body.now
+        ≡ Err refusal) }
+{
+    let Some(form) = text_of(body) else {
+        return Err(Refusal::BadText);
+    };
+    let fields = fields_of(alloc, form)?;
+    command_of(alloc, verb, sender.account, sender.key, &fields)
+}

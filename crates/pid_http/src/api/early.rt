@@ -1,0 +1,52 @@
+//! Replies to requests that come to no call.
+ghost use Rattle.std.specs.Prelude.{◌≡◌, []};
+ghost use Rattle.pid_http_stream.specs.Replies.{answer_with};
+ghost use Rattle.pid_http.specs.Api.EarlyAnswers.{early_answer};
+ghost use Rattle.pid_http.specs.Api.Replying.{IsReplyOf, MakesReply};
+
+use crate::api::Format;
+use crate::api::outcome::{refusal_reply, request_reply};
+use crate::api::reply::reply_with;
+use http::StatusCode;
+use pid_http_stream::{Content, Reply, RequestRefusal};
+use pid_moderation::Refusal;
+use std::alloc::{AllocError, Global};
+
+/// Why a request comes to no call.
+#[derive(Clone, Copy)]
+pub enum Early {
+    /// Its method is neither GET nor POST.
+    AnotherMethod,
+    /// Its route is one of GET.
+    WantsGet,
+    /// Its route is one of POST.
+    WantsPost,
+    /// Its target does not begin with a slash.
+    BadTarget,
+    /// Its path is no route.
+    NoRoute,
+    /// Its query has a field that its route has not, one twice, or a wrong value.
+    BadQuery,
+}
+
+// The reply with the methods that are allowed, which has no body.
+fn allow_reply(alloc: Global, content: Content) -> Reply
+    ensures { IsReplyOf result (answer_with 405 content []) }
+{
+    reply_with(StatusCode::METHOD_NOT_ALLOWED, content, Vec::new(alloc))
+}
+
+/// The reply to a request that comes to no call. One of another method gets the list of those that
+/// are allowed, with no body; any other has a refusal as JSON, whatever format it asks for.
+pub fn early_reply(alloc: Global, early: Early) -> Result<Reply, AllocError>
+    ensures { MakesReply result (early_answer early) }
+{
+    match early {
+        Early::AnotherMethod => Ok(allow_reply(alloc, Content::AllowBoth)),
+        Early::WantsGet => Ok(allow_reply(alloc, Content::AllowGet)),
+        Early::WantsPost => Ok(allow_reply(alloc, Content::AllowPost)),
+        Early::BadTarget => request_reply(alloc, RequestRefusal::BadTarget),
+        Early::NoRoute => request_reply(alloc, RequestRefusal::NoRoute),
+        Early::BadQuery => refusal_reply(alloc, Format::Json, Refusal::BadText),
+    }
+}

@@ -1,0 +1,187 @@
+//! Replies to commands.
+ghost use Rattle.std.specs.Prelude.{◌≡◌, IfOk, IsTrue};
+ghost use Rattle.serde_json.specs.View.{view};
+ghost use Rattle.pid_http.specs.Api.Outcomes.{
+  counts_data,
+  done_data,
+  fault_data,
+  missing_answer,
+  numbered_data,
+  outcome_answer,
+  outcome_data,
+  status_of_outcome,
+  unanswered_answer,
+};
+ghost use Rattle.pid_http.specs.Api.Replying.{MakesReply};
+ghost use Rattle.pid_http_stream.specs.Replies.{request_answer};
+ghost use Rattle.pid_http_stream.specs.RequestRefusals.{refusal_data};
+ghost use Rattle.pid_http_stream.specs.Statuses.{allows_body};
+
+use crate::api::Format;
+use crate::api::members::{with_text, with_value};
+use crate::api::reply::{json_reply, text_reply};
+use http::StatusCode;
+use pid_http_stream::{Reply as HttpReply, RequestRefusal};
+use pid_lookup::Unanswered;
+use pid_moderation::{FileFault, Refusal, Reply, reply_line};
+use serde_json::{Map, Value};
+use std::alloc::{AllocError, Global};
+
+fn status_of(outcome: Result<Reply, Refusal>) -> StatusCode
+    ensures value { result ≡ status_of_outcome outcome }
+    ensures bodied { IsTrue (allows_body result) }
+{
+    match outcome {
+        Ok(_) => StatusCode::OK,
+        Err(Refusal::BadPath | Refusal::BadName | Refusal::BadText) => StatusCode::BAD_REQUEST,
+        Err(Refusal::NoAccount | Refusal::RankTooLow | Refusal::NotAuthor | Refusal::OwnDecision) =>
+            StatusCode::FORBIDDEN,
+        Err(Refusal::NoSubmission) => StatusCode::NOT_FOUND,
+        Err(
+            Refusal::NotPending
+            | Refusal::ParentMissing
+            | Refusal::HasChildren
+            | Refusal::NothingToDo
+            | Refusal::Changed,
+        ) => StatusCode::CONFLICT,
+        Err(Refusal::FileFault(_)) => StatusCode::UNPROCESSABLE_ENTITY,
+        Err(Refusal::Full | Refusal::Memory | Refusal::Store | Refusal::Failed) => {
+            StatusCode::SERVICE_UNAVAILABLE
+        }
+    }
+}
+
+fn done_value(alloc: Global) -> Result<Value, AllocError>
+    ensures { IfOk result (λ value. view value ≡ done_data) }
+{
+    let members = with_value(Map::new(alloc), alloc, "ok", Value::Bool(true))?;
+    Ok(Value::Object(members))
+}
+
+fn numbered_value(alloc: Global, number: u32) -> Result<Value, AllocError>
+    ensures { IfOk result (λ value. view value ≡ numbered_data number) }
+{
+    let members = with_value(Map::new(alloc), alloc, "num", Value::from(number))?;
+    let members = with_value(members, alloc, "ok", Value::Bool(true))?;
+    Ok(Value::Object(members))
+}
+
+fn counts_value(alloc: Global, added: u32, renamed: u32, same: u32) -> Result<Value, AllocError>
+    ensures { IfOk result (λ value. view value ≡ counts_data added renamed same) }
+{
+    let members = with_value(Map::new(alloc), alloc, "added", Value::from(added))?;
+    let members = with_value(members, alloc, "ok", Value::Bool(true))?;
+    let members = with_value(members, alloc, "renamed", Value::from(renamed))?;
+    let members = with_value(members, alloc, "same", Value::from(same))?;
+    Ok(Value::Object(members))
+}
+
+fn fault_value(alloc: Global, line: u64, kind: u8) -> Result<Value, AllocError>
+    ensures { IfOk result (λ value. view value ≡ fault_data line kind) }
+{
+    let members = with_value(Map::new(alloc), alloc, "kind", Value::from(kind))?;
+    let members = with_value(members, alloc, "line", Value::from(line))?;
+    let members = with_value(members, alloc, "ok", Value::Bool(false))?;
+    let members = with_value(members, alloc, "refused", Value::from(14u8))?;
+    let members = with_text(members, alloc, "word", "FileFault")?;
+    Ok(Value::Object(members))
+}
+
+/// The value of a refusal: its number and its word.
+pub(crate) fn refusal_value(alloc: Global, number: u8, word: &str) -> Result<Value, AllocError>
+    ensures { IfOk result (λ value. view value ≡ refusal_data number word.now) }
+{
+    let members = with_value(Map::new(alloc), alloc, "ok", Value::Bool(false))?;
+    let members = with_value(members, alloc, "refused", Value::from(number))?;
+    let members = with_text(members, alloc, "word", word)?;
+    Ok(Value::Object(members))
+}
+
+fn outcome_value(alloc: Global, outcome: Result<Reply, Refusal>) -> Result<Value, AllocError>
+    ensures { IfOk result (λ value. view value ≡ outcome_data outcome) }
+{
+    match outcome {
+        Ok(Reply::Done) => done_value(alloc),
+        Ok(Reply::Numbered(number)) => numbered_value(alloc, number),
+        Ok(
+            Reply::Counts {
+                added,
+                renamed,
+                same,
+            },
+        ) => counts_value(alloc, added, renamed, same),
+        Err(Refusal::FileFault(FileFault::Line { line, kind })) => {
+            fault_value(alloc, line, kind.number())
+        }
+        Err(Refusal::FileFault(FileFault::TooMany)) => fault_value(alloc, 0, 0),
+        Err(refusal) => refusal_value(alloc, refusal.number(), refusal.word()),
+    }
+}
+
+/// The reply to a command, imports too: what it was answered, or why it was refused. A refusal has
+/// its number and its word, and that of a faulty file the line, counted from 1, and the kind of its
+/// fault; both are 0 if the file has too many entries. The text is the reply line of scripts.
+pub fn outcome_reply(
+    alloc: Global,
+    format: Format,
+    outcome: Result<Reply, Refusal>,
+) -> Result<HttpReply, AllocError>
+    ensures { MakesReply result (outcome_answer format outcome) }
+{
+    let status = status_of(outcome);
+    match format {
+        Format::Json => {
+            let value = outcome_value(alloc, outcome)?;
+            json_reply(alloc, status, value)
+        }
+        Format::Text => {
+            let line = reply_line(alloc, outcome)?;
+            Ok(text_reply(status, line))
+        }
+    }
+}
+
+/// The reply with a refusal.
+pub fn refusal_reply(
+    alloc: Global,
+    format: Format,
+    refusal: Refusal,
+) -> Result<HttpReply, AllocError>
+    ensures { MakesReply result (outcome_answer format (Err refusal)) }
+{
+    outcome_reply(alloc, format, Err(refusal))
+}
+
+/// The reply to a request that is refused before anything is asked for it, as JSON.
+pub(crate) fn request_reply(alloc: Global, refusal: RequestRefusal) -> Result<HttpReply, AllocError>
+    ensures { MakesReply result (request_answer refusal) }
+{
+    let value = refusal_value(alloc, refusal.number(), refusal.word())?;
+    json_reply(alloc, refusal.status(), value)
+}
+
+/// The reply to a question that has no answer, as JSON.
+pub(crate) fn unanswered_reply(
+    alloc: Global,
+    status: StatusCode,
+    why: Unanswered,
+) -> Result<HttpReply, AllocError>
+    requires { IsTrue (allows_body status) }
+    ensures { MakesReply result (unanswered_answer status why) }
+{
+    let value = refusal_value(alloc, why.number(), why.word())?;
+    json_reply(alloc, status, value)
+}
+
+/// The reply if no item is at a path.
+pub fn missing_reply(alloc: Global, format: Format) -> Result<HttpReply, AllocError>
+    ensures { MakesReply result (missing_answer format) }
+{
+    match format {
+        Format::Json => unanswered_reply(alloc, StatusCode::NOT_FOUND, Unanswered::NoItem),
+        Format::Text => {
+            let line = String::from_str(alloc, Unanswered::NoItem.line())?;
+            Ok(text_reply(StatusCode::NOT_FOUND, line))
+        }
+    }
+}

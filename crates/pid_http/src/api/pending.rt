@@ -1,0 +1,122 @@
+//! Replies with pending submissions.
+ghost use Rattle.std.specs.Prelude.{◌≡◌, ◌++◌, ℕ, codes, map, string_bytes, IfOk, OnOk};
+ghost use Rattle.pid_moderation.specs.PendingPages.{told_of};
+ghost use Rattle.pid_moderation.specs.Submissions.{Standing, standing_of};
+ghost use Rattle.serde_json.specs.Data.{put as with_member};
+ghost use Rattle.serde_json.specs.View.{members_view};
+ghost use Rattle.pid_http.specs.Api.PendingAnswers.{
+  pending_answer,
+  pending_data,
+  pending_line,
+  proposal_words,
+  proposed_data,
+};
+ghost use Rattle.pid_http.specs.Api.Replying.{MakesReply};
+ghost use Rattle.pid_http.specs.Api.Steps.SubmissionParts.{pending_members};
+ghost use Rattle.pid_http.specs.Api.Steps.NoFloats.{pending_has_none};
+
+use crate::api::Format;
+use crate::api::list::{Row, list_reply};
+use crate::api::members::{with_path, with_text, with_value};
+use crate::api::text::{push_line, push_word};
+use itoa::Buffer;
+use pid_http_stream::Reply;
+use pid_ident::PathText;
+use pid_moderation::{Pending, Proposal, Submission};
+use serde_json::{Map, Value};
+use std::alloc::{AllocError, Global};
+
+// The members, and what is proposed: the name, or null if the item is to be removed.
+fn with_proposal(
+    members: Map<String, Value>,
+    alloc: Global,
+    proposal: &Proposal,
+) -> Result<Map<String, Value>, AllocError>
+    ensures { IfOk result (λ after. members_view after.entries
+        ≡ with_member (codes "name") (proposed_data proposal.now)
+        (members_view members.entries)) }
+{
+    match proposal {
+        Proposal::Name(name) => with_text(members, alloc, "name", name.as_str()),
+        Proposal::Removal => with_value(members, alloc, "name", Value::Null),
+    }
+}
+
+/// The members that each submission has: its author, what is proposed, its number and its path.
+pub(crate) fn submission_members(
+    alloc: Global,
+    number: u32,
+    submission: &Submission,
+) -> Result<Map<String, Value>, AllocError>
+    ensures { IfOk result (λ members. members_view members.entries
+        ≡ pending_members number (standing_of submission.now)) }
+{
+    let members = with_text(Map::new(alloc), alloc, "author", submission.author.as_str())?;
+    let members = with_proposal(members, alloc, &submission.proposal)?;
+    let members = with_value(members, alloc, "num", Value::from(number))?;
+    with_path(members, alloc, &submission.path)
+}
+
+/// Appends what is proposed (`name` or `remove`), the path, after `name` the name, and a line feed.
+pub(crate) fn push_proposal(
+    text: &mut String,
+    proposal: &Proposal,
+    path: &str,
+) -> Result<(), AllocError>
+    ensures { OnOk result (string_bytes text.new
+        ≡ string_bytes text.old ++ proposal_words proposal.now path.now ++ codes "\n") }
+{
+    match proposal {
+        Proposal::Name(name) => {
+            push_word(text, "name")?;
+            push_line(text, path, name.as_str())
+        }
+        Proposal::Removal => push_line(text, "remove", path),
+    }
+}
+
+/// Appends the line of a pending submission.
+pub(crate) fn push_submission(
+    alloc: Global,
+    text: &mut String,
+    number: u32,
+    submission: &Submission,
+) -> Result<(), AllocError>
+    ensures { OnOk result (string_bytes text.new
+        ≡ string_bytes text.old ++ pending_line (number, standing_of submission.now)) }
+{
+    let mut digits = Buffer::new();
+    push_word(text, digits.format(number))?;
+    push_word(text, submission.author.as_str())?;
+    let path = submission.path.path_text(alloc)?;
+    push_proposal(text, &submission.proposal, path.as_str())
+}
+
+impl Row for Pending {
+    ghost Seen = { ℕ × Standing };
+
+    ghost seen = { told_of };
+
+    ghost json = { pending_data };
+
+    ghost line = { pending_line };
+
+    fn value(&self, alloc: Global) -> Result<Value, AllocError> {
+        let members = submission_members(alloc, self.number, &self.submission)?;
+        Ok(Value::Object(members))
+    }
+
+    fn push_line(&self, alloc: Global, text: &mut String) -> Result<(), AllocError> {
+        push_submission(alloc, text, self.number, &self.submission)
+    }
+
+    ghost no_float = { pending_has_none };
+}
+
+/// The reply with pending submissions, in their order. The text has a line for each: its number,
+/// its author, what is proposed (`name` or `remove`), its path, and after `name` the name.
+pub fn pending_reply(alloc: Global, format: Format, page: &[Pending]) -> Result<Reply, AllocError>
+    ensures { MakesReply result (pending_answer format (map told_of page.now)) }
+{
+    list_reply(alloc, format, page)
+}

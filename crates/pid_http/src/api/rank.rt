@@ -1,0 +1,84 @@
+//! The reply with the rank of an account.
+ghost use Rattle.std.specs.Prelude.{◌≡◌, IfOk};
+ghost use Rattle.serde_json.specs.View.{view};
+ghost use Rattle.pid_http.specs.Api.RankAnswers.{
+  no_account_answer,
+  rank_answer,
+  rank_data,
+  ranked_answer,
+};
+ghost use Rattle.pid_http.specs.Api.Replying.{MakesReply};
+
+use crate::api::Format;
+use crate::api::members::{with_text, with_value};
+use crate::api::outcome::refusal_value;
+use crate::api::reply::{json_reply, text_reply};
+use crate::api::text::push_line;
+use http::StatusCode;
+use itoa::Buffer;
+use pid_http_stream::Reply;
+use pid_ident::Account;
+use pid_moderation::Rank;
+use serde_json::{Map, Value};
+use std::alloc::{AllocError, Global};
+
+fn rank_value(alloc: Global, who: &Account, rank: Rank) -> Result<Value, AllocError>
+    ensures { IfOk result (λ value. view value ≡ rank_data who.now rank) }
+{
+    let members = with_value(Map::new(alloc), alloc, "rank", Value::from(rank.number()))?;
+    let members = with_text(members, alloc, "who", who.as_str())?;
+    Ok(Value::Object(members))
+}
+
+fn ranked_reply(
+    alloc: Global,
+    format: Format,
+    who: &Account,
+    rank: Rank,
+) -> Result<Reply, AllocError>
+    ensures { MakesReply result (ranked_answer format who.now rank) }
+{
+    match format {
+        Format::Json => {
+            let value = rank_value(alloc, who, rank)?;
+            json_reply(alloc, StatusCode::OK, value)
+        }
+        Format::Text => {
+            let mut digits = Buffer::new();
+            let mut text = String::new(alloc);
+            push_line(&mut text, who.as_str(), digits.format(rank.number()))?;
+            Ok(text_reply(StatusCode::OK, text))
+        }
+    }
+}
+
+fn no_account_reply(alloc: Global, format: Format) -> Result<Reply, AllocError>
+    ensures { MakesReply result (no_account_answer format) }
+{
+    match format {
+        Format::Json => {
+            let value = refusal_value(alloc, 29, "NoSuchAccount")?;
+            json_reply(alloc, StatusCode::NOT_FOUND, value)
+        }
+        Format::Text => {
+            let line = String::from_str(alloc, "refused 29 NoSuchAccount\n")?;
+            Ok(text_reply(StatusCode::NOT_FOUND, line))
+        }
+    }
+}
+
+/// The reply with the rank of an account, or that there is no such account. The text is a line of
+/// the account and its rank.
+pub fn rank_reply(
+    alloc: Global,
+    format: Format,
+    who: &Account,
+    rank: Option<Rank>,
+) -> Result<Reply, AllocError>
+    ensures { MakesReply result (rank_answer format who.now rank) }
+{
+    match rank {
+        Some(rank) => ranked_reply(alloc, format, who, rank),
+        None => no_account_reply(alloc, format),
+    }
+}

@@ -1,0 +1,62 @@
+//! Replies whose body is there.
+ghost use Rattle.std.specs.Prelude.{◌≡◌, false, string_bytes, IfOk, IsTrue};
+ghost use Rattle.serde_json.specs.Data.{Data};
+ghost use Rattle.serde_json.specs.View.{view};
+ghost use Rattle.serde_json.specs.Written.{compact_text, has_float};
+ghost use Rattle.pid_http_stream.specs.Replies.{answer_with};
+ghost use Rattle.pid_http_stream.specs.Statuses.{allows_body};
+ghost use Rattle.pid_http.specs.Api.Replying.{IsReplyOf, MakesReply};
+
+use http::StatusCode;
+use pid_http_stream::{Content, Reply, ReplyBody, ReplyHead};
+use serde_json::Value;
+use std::alloc::{AllocError, Global};
+
+/// The reply with this body.
+pub(crate) fn reply_with(status: StatusCode, content: Content, body: Vec<u8>) -> Reply
+    requires { IsTrue (allows_body status) }
+    ensures { IsReplyOf result (answer_with status content body.items) }
+{
+    Reply {
+        head: ReplyHead { status, content },
+        body: ReplyBody::Bytes(body),
+    }
+}
+
+/// The reply with a line or more of text.
+pub(crate) fn text_reply(status: StatusCode, text: String) -> Reply
+    requires { IsTrue (allows_body status) }
+    ensures { IsReplyOf result (answer_with status Content.Text (string_bytes text)) }
+{
+    reply_with(status, Content::Text, text.into_bytes())
+}
+
+/// The reply with a text that is JSON.
+pub(crate) fn json_text_reply(status: StatusCode, text: String) -> Reply
+    requires { IsTrue (allows_body status) }
+    ensures { IsReplyOf result (answer_with status Content.Json (string_bytes text)) }
+{
+    reply_with(status, Content::Json, text.into_bytes())
+}
+
+/// The text of a value as compact JSON.
+pub(crate) fn printed(alloc: Global, value: Value) -> Result<String, AllocError>
+    ensures { (json : Data) → view value ≡ json → has_float json ≡ false
+        → IfOk result (λ text. string_bytes text ≡ compact_text json) }
+{
+    value.to_string(alloc)
+}
+
+/// The reply with a value as compact JSON.
+pub(crate) fn json_reply(
+    alloc: Global,
+    status: StatusCode,
+    value: Value,
+) -> Result<Reply, AllocError>
+    requires { IsTrue (allows_body status) }
+    ensures { (json : Data) → view value ≡ json → has_float json ≡ false
+        → MakesReply result (answer_with status Content.Json (compact_text json)) }
+{
+    let text = printed(alloc, value)?;
+    Ok(json_text_reply(status, text))
+}

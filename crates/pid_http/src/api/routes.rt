@@ -1,0 +1,64 @@
+//! The routes, found by their paths.
+ghost use Rattle.std.specs.Prelude.{◌≡◌, IfErr};
+ghost use Rattle.pid_http.specs.Api.Routes.{table, route_at};
+
+use crate::api::route::{Route, path_of};
+use matchit::{InsertError, Router};
+use std::alloc::Global;
+
+/// All the routes. A server makes them once, for all its streams.
+#[derive(Drop)]
+pub struct Routes {
+    router: Router<Route>,
+    ghost whole: { router ≡ table },
+}
+
+impl Routes {
+    /// All the routes.
+    ///
+    /// # Errors
+    ///
+    /// `OutOfMemory`, and no other.
+    pub fn new(alloc: Global) -> Result<Routes, InsertError>
+        ensures { IfErr result (λ e. e ≡ InsertError.OutOfMemory) }
+    {
+        let all = [
+            Route::Export,
+            Route::Read,
+            Route::Children,
+            Route::Lookup,
+            Route::Submission,
+            Route::Pending,
+            Route::Changes,
+            Route::Queue,
+            Route::Submissions,
+            Route::Status,
+            Route::Account,
+            Route::Submit,
+            Route::Comment,
+            Route::Withdraw,
+            Route::Approve,
+            Route::Confirm,
+            Route::Reject,
+            Route::Import,
+        ];
+        let mut router = Router::new(alloc);
+        for route in all {
+            match router.insert(path_of(route), route) {
+                Ok(()) => {}
+                Err(error) => return Err(error),
+            }
+        }
+        Ok(Routes { router })
+    }
+
+    // The route of a path.
+    pub(crate) fn route_of(&self, path: &str) -> Option<Route>
+        ensures { result ≡ route_at path.now }
+    {
+        match self.router.at(path) {
+            Ok(found) => Some(*found.value),
+            Err(_) => None,
+        }
+    }
+}

@@ -1,6 +1,0 @@
-use Rattle.std.proofs.Common.{◌≡◌, map, take}
-use Rattle.serde_json.specs.View.{view}
-use Rattle.pid_http_api.proofs.list.rows_value.Given as goal
-
-abbrev pub invariant-loop-row : goal.invariant-loop-row
-invariant-loop-row g l = map view l.values.items ≡ map g.R.Row.json (map g.R.Row.seen (take l.row-index l.rows))
