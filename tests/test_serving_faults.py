@@ -2,6 +2,7 @@
 turn: a client that does what docs/HTTP.md says of such replies gets every answer in the end, and
 nothing that was acknowledged is lost."""
 import bisect
+import contextlib
 import os
 import resource
 import socket
@@ -375,3 +376,19 @@ def test_last_connection(cases, folder):
             "serve: no file may grow", told, b"".join(refused_as("POST", it) for it in (17, 18))
         )
         cases.equal("serve: the last connection", server.ended(), (b"served 3\n", b"", 3))
+
+
+def test_no_file_more(cases, folder):
+    """The server may have no file more open, so that no connection can be accepted: it says so and
+    ends. The connection that it waits for may have its number already."""
+    question = b"GET /pending HTTP/1.1\r\n\r\n"
+    with Server(os.path.join(folder, "r.db"), 5, program=WHOLE) as server:
+        used = {int(it) for it in os.listdir(f"/proc/{server.process.pid}/fd")}
+        free = next(it for it in range(len(used) + 1) if it not in used)
+        cases.equal("serve: a file more", server.raw(question), reply("200 OK", JSON, b"[]"))
+        resource.prlimit(server.process.pid, resource.RLIMIT_NOFILE, (free, free))
+        with contextlib.suppress(OSError):
+            server.raw(question)
+        told, faults, status = server.ended()
+        cases.equal("serve: no file more", (faults, status), (b"socket: failed\n", 3))
+        cases.equal("serve: no file more: the end", told in (b"served 1\n", b"served 2\n"), True)
