@@ -1,5 +1,5 @@
 -- What a question to a registry comes to, as one under moderation.
-use Rattle.std.proofs.Common.{false, Option, Result}
+use Rattle.std.proofs.Common.{Option, Result}
 use Rattle.sqlite_trees.specs.declared.store.Store.{Ghosts}
 use Rattle.pid_moderation.specs.declared.refusal.Refusal.{Refusal}
 use Rattle.pid_moderation.specs.History.{History}

@@ -1,5 +1,5 @@
 -- What an import is answered whose file comes as an input, and what the registry shows afterwards.
-use Rattle.std.specs.Prelude.{◌≡◌, ◌≢◌, ◌⊎◌, ◌<◌, ◌≤◌, ◌+◌, ℕ, Bool, true, false}
+use Rattle.std.specs.Prelude.{◌≡◌, ◌≢◌, ◌⊎◌, ◌<◌, ℕ, Bool, true, false}
 use Rattle.std.specs.Prelude.{List, length, Result, Ok, Err, IfErr, IsErrAnd}
 use Rattle.sqlite_trees.specs.declared.store.Store.{Ghosts}
 use Rattle.pid_service_laws.specs.Imports.{ImportLeaves}

@@ -1,5 +1,4 @@
 //! The items of a registry as the text of their tree.
-ghost use Rattle.std.specs.Prelude.{◌≡◌};
 ghost use Rattle.pid_service.specs.Exporting.{IsExported, IsMeasured};
 ghost use Rattle.pid_service.specs.Steps.Exporting.{IsToldAs};
 

@@ -27,8 +27,8 @@ use pid_moderation::{
 
 /// A registry under moderation, as HTTP asks it.
 ///
-/// Each question is answered by the history that the registry shows, if its store returned what
-/// was written to it, or refused if memory runs out or the store or the registry has failed.
+/// Each question is answered by the history that the registry shows, while its store returns what
+/// was written to it. It is refused if memory runs out, or if the store or the registry has failed.
 pub trait Consulted: Moderated {
     /// The rank of an account, where there is one.
     fn rank(&mut self, who: &Account) -> Result<Option<Rank>, Refusal>
@@ -67,13 +67,13 @@ pub trait Consulted: Moderated {
         ensures { IsAnswered Self.showing Self.is_live self.old self.new result
             (λ h page. map told_of page.items ≡ pending_in PAGE after (views_of h)) };
 
-    /// The same, each with the name that its path has today and how many remarks it has.
+    /// A page of the same, each with the name that its path has today and how many remarks it has.
     fn queue(&mut self, after: u32) -> Result<Vec<Queued>, Refusal>
         ensures { IsAnswered Self.showing Self.is_live self.old self.new result
             (λ h queue. map queued_of queue.items ≡ queue_in PAGE after (views_of h)) };
 
-    /// A page of the items that were added or renamed after a revision, after a path, and the
-    /// revision of today.
+    /// A page of the items that were added or renamed after a revision, those after a path if one is
+    /// named; and the revision of today.
     fn changes(&mut self, since: u64, after: Option<&Path>) -> Result<Changes, Refusal>
         ensures { IsAnswered Self.showing Self.is_live self.old self.new result
             (λ h changes. page_of changes
