@@ -328,7 +328,7 @@ def test_evidence(cases):
                          text=True, timeout=60)
     printed = {line.strip() for line in ran.stdout.splitlines()}
     cases.equal("evidence.py: a public function", "Registry::obey" in printed, True)
-    cases.equal("evidence.py: a wrong body", "close: close_sets_the_revision_back" in printed, True)
+    cases.equal("evidence.py: a wrong body", "is_live: failed_registry_called_live" in printed, True)
     cases.equal("evidence.py: status", ran.returncode, 0)
 
 
