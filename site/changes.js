@@ -1,27 +1,7 @@
-// What the registry's commands changed, in the order of time: the registry lists it by paths.
+// Which command named an item: the registry lists what its commands changed by paths.
 
 import { ask } from "./api.js";
 import { parentOf } from "./paths.js";
-
-const PAGE = 100;
-const REVISION_ONLY = "/changes?since=9000000000000000000";
-
-/** What was added or renamed by the latest commands: { value: { revision, items, isCut } }. */
-export async function latestChanges(commands, most) {
-  const first = await ask(REVISION_ONLY);
-  if (!first.value) return first;
-  const { revision } = first.value;
-  const since = Math.max(0, revision - commands);
-  const items = [];
-  for (;;) {
-    const page = await ask(`/changes?since=${since}&after=${items.at(-1)?.path ?? ""}`);
-    if (!page.value) return page;
-    items.push(...page.value.items);
-    if (page.value.items.length < PAGE || items.length >= most) break;
-  }
-  items.sort((one, other) => other.since - one.since);
-  return { value: { revision, items, isCut: items.length >= most } };
-}
 
 // The path text just in front of one, behind everything that is in front of it.
 function before(path) {

@@ -1,7 +1,7 @@
 // Texts of others as they are shown: what can't be seen, turns the direction of its neighbours or
 // passes for a Latin letter is marked.
 
-import { el } from "./dom.js";
+import { el, several } from "./dom.js";
 
 const SCRIPTS = [
   "Cyrillic", "Greek", "Armenian", "Georgian", "Cherokee", "Hebrew", "Arabic", "Han", "Hiragana",
@@ -15,6 +15,8 @@ const LETTER = /\p{L}/u;
 // Latin letters that nobody takes for others: those of European languages and of Vietnamese.
 const USUAL = /[a-zA-Z\u00aa\u00b5\u00ba\u00c0-\u0130\u0132-\u024f\u1e00-\u1eff]/;
 const MARK_OR_NUMBER = /[\p{M}\p{Nd}\p{Nl}]/u;
+// A character; or the marks of a letter from the third on, as many as there are.
+const CELL = /(?<more>(?<=\p{M}\p{M})\p{M}+)|./gsu;
 // Strokes and points that look like those of ASCII, and the wide forms of ASCII.
 const LOOKALIKE = /[\u2010-\u2012\u2015\u2024\u2044\u2212\u2215\u2236\ua789\uff01-\uff5e]/;
 
@@ -37,14 +39,18 @@ function judge(char, isEdge) {
 
 /** The characters of a text, each with what is said of it. */
 function cellsOf(text) {
-  const chars = [...text];
-  const first = chars.findIndex((it) => it !== " ");
-  const last = chars.findLastIndex((it) => it !== " ");
-  return chars.map((char, at) => ({ char, judged: judge(char, at < first || at > last) }));
+  const found = [...text.matchAll(CELL)];
+  const first = found.findIndex(([it]) => it !== " ");
+  const last = found.findLastIndex(([it]) => it !== " ");
+  return found.map(({ 0: char, groups: { more } }, at) => ({
+    char,
+    judged: more ? { sign: `+${several([...more].length, "mark")}`, unseen: true }
+      : judge(char, at < first || at > last),
+  }));
 }
 
 function signOf({ sign, unseen }, letters) {
-  const title = unseen ? `a character that can't be seen: ${sign}` : `${letters}: ${sign}`;
+  const title = unseen ? `not shown as it is: ${sign}` : `${letters}: ${sign}`;
   return el("span", { class: "sign", title }, sign);
 }
 

@@ -14,16 +14,18 @@ const MOST_QUESTIONS = 5;
  * A page of submissions: { value: { before, submissions } }, or an answer without a value. More
  * follow where `before` isn't 0.
  * @param {Object} which path, author, before: each where it is wanted
- * @param {Object} [how] as of `ask`; questions: how many at most
+ * @param {Object} [how] as of `ask`; questions: how many at most; isWanted: which rows, all if not
+ *   given
  */
-export async function submissions(which, { questions = MOST_QUESTIONS, ...how } = {}) {
+export async function submissions(which, how = {}) {
+  const { questions = MOST_QUESTIONS, isWanted = () => true, ...asking } = how;
   const given = Object.entries(which).filter(([, value]) => value);
   const query = new URLSearchParams(given);
   const rows = [];
   for (let turn = 1; ; turn += 1) {
-    const answer = await ask(`/submissions?${query}`, how);
+    const answer = await ask(`/submissions?${query}`, asking);
     if (!answer.value) return answer;
-    rows.push(...answer.value.submissions);
+    rows.push(...answer.value.submissions.filter(isWanted));
     const { before } = answer.value;
     if (before === 0 || rows.length >= ENOUGH || turn >= questions) {
       return { value: { before, submissions: rows } };

@@ -25,7 +25,8 @@ AT_ONCE = AT_ONCE.split()
 # Parts that take times, or measure memory: nothing else is tried beside them.
 ALONE = "progress serving serving_memory".split()
 # What site_parts tries, several at a time.
-OF_SITE = "site_reader site_story site_once site_kept site_safety site_access site_firefox".split()
+OF_SITE = ("site_reader site_moderation site_story site_once site_kept site_safety site_access"
+           " site_firefox").split()
 
 # Debian keeps pytest for its own Python.
 DEBIANS = "/usr/lib/python3/dist-packages"

@@ -181,6 +181,12 @@ def lines(cases, press):
     cases.equal("publish: no other page", press.shell("find .. -type f | sort")[1], before)
     shown = "<h1>Intel[U+2028]../../escaped  &lt;b&gt;[U+0085][U+0009]0000  One[U+2029]"
     cases.equal("publish: they are shown", shown in press.read("item/PC/8086.html"), True)
+    marks = "e" + "\u0301" * 300
+    status = press.run(TEXT.replace("  Intel\n", f"  \u0406ntel \uff29 {marks}t\u00e9\n"))[0]
+    shown = ("<h1>\u0406[U+0406]ntel \uff29[U+FF29] e" + "\u0301[U+0301]" * 2
+             + "[+298 marks]t\u00e9</h1>")
+    cases.equal("publish: what passes for another letter", (status, shown in press.read(
+        "item/PC/8086.html")), (0, True))
     status, told = press.run(f"{TEXT}9999 no name\n")
     cases.equal("publish: no canonical text", (status, "9999 no name" in told), (1, True))
     cases.equal("publish: the text again", press.run(TEXT)[0], 0)

@@ -1,29 +1,25 @@
-import { latestChanges } from "../changes.js";
-import { counted, el, link } from "../dom.js";
-import { failed, title } from "../parts.js";
-import { hrefOf } from "../paths.js";
-import { shown } from "../shown.js";
+import { el, link } from "../dom.js";
+import { failed, kindOf, title, wishOf } from "../parts.js";
+import { hrefOf, wholeNumber } from "../paths.js";
+import { olderLink, submissions } from "../submissions.js";
 
-const COMMANDS = 200;
-const MOST = 500;
+const row = ({ num, path, name, author, decider }) => el("li", {}, el("a", { href: hrefOf(path) },
+  el("code", {}, wholeNumber(path)), " ", wishOf(name), " ",
+  el("small", {}, `${kindOf(path)}, #${num} by ${author}, approved by ${decider}`)));
 
-const row = ({ path, name, since }) => el("li", {}, el("a", { href: hrefOf(path) },
-  el("code", {}, path), " ", shown(name), " ", el("small", {}, `by command ${counted(since)}`)));
-
-/** What the latest commands added or renamed. */
-export default async function recent({ again }) {
-  const answer = await latestChanges(COMMANDS, MOST);
+/** What was approved, those proposed last before the others. */
+export default async function recent({ query, again }) {
+  const isWanted = ({ state }) => state === "approved";
+  const answer = await submissions({ before: query.get("before") }, { isWanted });
   if (!answer.value) return failed(answer, again);
-  const { revision, items, isCut } = answer.value;
-  const commands = Math.min(COMMANDS, revision);
+  const { before, submissions: rows } = answer.value;
   return [
     title("Recent changes"),
-    el("p", {}, `The registry has accepted ${counted(revision)} commands. Here are the entries that`
-      + ` the latest ${commands} of them added or renamed. Removed entries are not listed. `,
-    link("/decided", "The latest proposals")),
-    isCut ? el("p", { class: "aside" }, "An import named very many entries: not all are shown.")
-      : null,
-    items.length ? el("ol", { class: "items" }, items.map(row))
-      : el("p", { class: "none" }, "None."),
+    el("p", {}, "What was approved, those proposed last before the others. Names that came with an"
+      + " imported file are not among them. ",
+    link("/decided", "The latest proposals in all states")),
+    rows.length ? el("ol", { class: "items" }, rows.map(row))
+      : el("p", { class: "none" }, before ? "None among the latest." : "None."),
+    olderLink("/recent", {}, before),
   ];
 }

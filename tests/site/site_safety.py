@@ -25,6 +25,7 @@ DECEIVING = {
     "Intel ": "Intelblank",
     "a\tb": "atabb",
     "Inte\u217c": "Inte\u217cU+217C",
+    "Inte" + "\u0301" * 300 + "l": "Inte\u0301\u0301U+0301+298 marksl",
     "\uff29ntel": "\uff29U+FF29ntel",
     "Intel  Corp": "Intel  Corp",
     "\u00b5PD 2\u00b2 \u00fc Corp.\u2122": "\u00b5PD 2\u00b2 \u00fc Corp.\u2122",
@@ -97,6 +98,26 @@ def deceiving(cases, world, browser):
     cases.equal("safety: what differs is marked", marked, ["I", "\u0406Cyrillic"])
     label = browser.driver.title
     cases.equal("safety: the title spells it too", "\u0406[Cyrillic]ntel" in label, True)
+    wide(cases, world, browser)
+
+
+def wide(cases, world, browser):
+    """Marks upon marks make no page wider than a phone."""
+    name = "".join(f"{letter}" + "\u0301\u0323" * 40 for letter in "Zalgo's own vendor") * 6
+    number = world.submit("alice", "PC/8086/de80", name)
+    browser.driver.execute_cdp_cmd("Emulation.setDeviceMetricsOverride", {
+        "width": 320, "height": 640, "deviceScaleFactor": 1, "mobile": True})
+    widths = [width_of(browser, "/queue")]
+    world.ask("/approve", {"num": number}, "root")
+    widths += [width_of(browser, it) for it in (f"/proposals/{number}", "/item/PC/8086/de80")]
+    browser.driver.execute_cdp_cmd("Emulation.clearDeviceMetricsOverride", {})
+    cases.equal("safety: marks upon marks", widths, [320] * 3)
+
+
+def width_of(browser, path):
+    browser.go(path)
+    browser.has("+78 marks")
+    return browser.js("return document.documentElement.scrollWidth")
 
 
 def policy(cases, world, browser):

@@ -286,8 +286,10 @@ class World:
         self.server = Server(self.database, connections=100_000, port=self.server.port)
 
     def ask(self, path, fields=None, account="root"):
-        """A question or a command to the server itself, past nginx: the JSON of the response."""
-        data = None if fields is None else urllib.parse.urlencode(fields).encode()
+        """A question or a command to the server itself, past nginx: the JSON of the response. The
+        file of an import takes the place of fields."""
+        is_form = isinstance(fields, dict)
+        data = urllib.parse.urlencode(fields).encode() if is_form else fields
         request = urllib.request.Request(f"http://127.0.0.1:{self.server.port}{path}", data)
         request.add_header("X-Account", account)
         request.add_header("Connection", "close")
