@@ -12,6 +12,7 @@ import traceback
 HERE = os.path.dirname(os.path.abspath(__file__))
 sys.path[:0] = [os.path.join(HERE, "support")]
 
+import apt  # noqa: E402
 import prepare  # noqa: E402
 import program  # noqa: E402
 from cases import last_line  # noqa: E402
@@ -28,13 +29,19 @@ ALONE = "progress serving serving_memory".split()
 OF_SITE = ("site_reader site_moderation site_story site_once site_kept site_safety site_access"
            " site_firefox").split()
 
+# Where tests of the first program are: those that have the mark `first`.
+OF_FIRST = "fault_gallery limits lspci real_file words worked_rows".split()
+
 # Debian keeps pytest for its own Python.
 DEBIANS = "/usr/lib/python3/dist-packages"
 
-USAGE = """usage: tests/run [PART..] [ARGUMENT OF PYTEST..]
+USAGE = """usage: tests/run [--no-install] first
+       tests/run [--no-install] [PART..] [ARGUMENT OF PYTEST..]
 
 Tries the built program against files and real peers: all parts, or those that are named. Programs
-that are missing or older than a source are built first, and missing packages of Debian installed.
+that are missing or older than a source are built before that, and the packages of Debian that these
+parts need and that are missing are installed. With --no-install none is: the tests that need them
+are skipped. `first` builds nothing but the first program, and tries that: tidy, check and help.
 
   tests/run words                         one part
   tests/run words::test_tidy              one test of it
@@ -60,6 +67,12 @@ def files_of_parts():
         folder = os.path.join(HERE, "site") if name.startswith("site_") else HERE
         found.setdefault(name, os.path.join(folder, f"{name}.py"))
     return found
+
+
+def files_to_try(chosen, files):
+    """The files of the parts that are chosen, and of those that a chosen part calls."""
+    names = {it.partition("::")[0] for it in chosen}
+    return [files[it] for it in [*names, *(OF_SITE if "site_parts" in names else ())]]
 
 
 def parts_in_lines(parts):
@@ -151,19 +164,27 @@ def try_named(chosen, words, files, environment):
 
 def main(words):
     sys.stdout.reconfigure(line_buffering=True, errors="backslashreplace")
-    prepares = words[:1] == ["--prepare"]
-    words, files = words[prepares:], files_of_parts()
-    chosen = []
+    prepares, installs = "--prepare" in words, "--no-install" not in words
+    words = [it for it in words if it not in ("--prepare", "--no-install")]
+    files, chosen = files_of_parts(), []
     while words and re.match(r"[a-z]", words[0]):
         chosen.append(words.pop(0))
+    is_first = chosen == ["first"]
+    if is_first:
+        chosen, words = OF_FIRST, ["-m", "first", *words]
     unknown = [it for it in chosen if it.partition("::")[0] not in files]
     if unknown:
+        why = "first goes by itself" if "first" in unknown else "unknown part"
         print(
-            f"tests/run: unknown part: {', '.join(unknown)}\n{parts_in_lines(files)}",
+            f"tests/run: {why}: {', '.join(chosen)}\n{parts_in_lines(files)}",
             file=sys.stderr,
         )
         return (0, len(unknown), 0), 2
-    fault = program.fault_of_installed() or (prepare.ready() if prepares else None)
+    chosen = chosen or [it for it in files if it not in OF_SITE]
+    fault = program.fault_of_installed()
+    if prepares and not fault:
+        apt.make_ready(files_to_try(chosen, files), installs)
+        fault = prepare.ready(needs_whole=not is_first)
     if fault:
         print(fault)
         return (0, 1, 0), 1
@@ -171,7 +192,6 @@ def main(words):
     if environment is None:
         print("tests/run: needs Debian's packages python3-pytest and python3-pytest-xdist")
         return (0, 1, 0), 1
-    chosen = chosen or [it for it in files if it not in OF_SITE]
     counts = try_named(chosen, words, files, environment)
     return counts, int(counts[1] != 0)
 

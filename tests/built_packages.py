@@ -10,37 +10,12 @@ import program
 from program import TOP, WHOLE
 
 BUILD = os.path.join(TOP, "deploy", "build-deb")
-SITE = os.path.join(TOP, "site")
-
-# A site for where there is none: what `publish` and nginx need of one.
-STAND_IN = """<!doctype html>
-<html lang="en">
-<head><meta charset="utf-8"><title>PCI ID registry</title></head>
-<body><main><noscript><p>The registry.</p></noscript></main></body>
-</html>
-"""
 _built = {}
-
-
-def site():
-    """The folder of the site, or of a stand-in where there is none."""
-    if os.path.exists(os.path.join(SITE, "index.html")):
-        return SITE
-    if "site" not in _built:
-        folder = tempfile.mkdtemp()
-        program.AT_END.append(functools.partial(shutil.rmtree, folder, ignore_errors=True))
-        os.chmod(folder, 0o755)
-        with open(os.path.join(folder, "index.html"), "w", encoding="utf-8") as file:
-            file.write(STAND_IN)
-        with open(os.path.join(folder, "main.js"), "w", encoding="utf-8") as file:
-            file.write("// The application.\n" * 200)
-        _built["site"] = folder
-    return _built["site"]
 
 
 def build(folder, **more):
     """Runs build-deb. Returns what it printed and its status."""
-    environment = dict(os.environ, PCIIDS_SITE=site(), **more)
+    environment = dict(os.environ, **more)
     ran = subprocess.run(
         [BUILD, WHOLE, folder], env=environment, capture_output=True, text=True, timeout=300
     )
@@ -50,7 +25,7 @@ def build(folder, **more):
 def packages():
     """The folder that has both packages. They are built when the first part asks, also where each
     part is a process of its own: their folder goes by the process that began them all."""
-    program.need("dpkg-deb", "dpkg-buildpackage", "dh")
+    program.need("debhelper", "dpkg-dev")
     if not os.access(WHOLE, os.X_OK):
         raise program.Skip("the program is not built")
     folder = os.path.join(tempfile.gettempdir(), f"pciids-packages-{os.getppid()}")

@@ -59,6 +59,28 @@ def room():
         yield path
 
 
+@pytest.fixture
+def first(monkeypatch):
+    """`program.run` runs the first program."""
+    monkeypatch.setattr(program, "PROGRAM", program.FIRST)
+    if program.FIRST is None:
+        pytest.skip("the first program belongs to the source tree, and PCIIDS names another one")
+
+
+OF_FIRST = pytest.mark.first
+EITHER = ["script", pytest.param("first", marks=OF_FIRST)]
+if program.INSTALLED is not None:
+    EITHER = [pytest.param("installed", marks=OF_FIRST)]
+
+
+@pytest.fixture(params=EITHER)
+def either(request):
+    """`program.run` runs the program by its script, and in another test the first program; or the
+    one program that PCIIDS names."""
+    if request.param == "first":
+        request.getfixturevalue("first")
+
+
 @pytest.fixture(scope="session")
 def shims():
     """The libraries that refuse memory and the disk, by their names."""

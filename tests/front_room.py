@@ -10,10 +10,9 @@ import subprocess
 import threading
 import time
 
-import built_packages
 import program
 from http_server import ask_curl, free_port, to_end
-from program import TOP
+from program import SITE, TOP
 
 HOST = "pciids.example.org"
 PEOPLE = ("alice", "bob", "carol")
@@ -150,7 +149,7 @@ class Front:
             "pciids-limits": (("unix:/run/pciids/http.sock", f"127.0.0.1:{behind}"),),
             "pciids-headers": (),
             "pciids-site": (
-                ("/usr/share/pciids-registry/site", built_packages.site()),
+                ("/usr/share/pciids-registry/site", SITE),
                 ("/var/lib/pciids-public", f"{self.folder}/public"),
                 ("listen 443", f"listen {own}"),
                 ("listen 80;", f"listen 127.0.0.1:{free_port()};"),
@@ -248,6 +247,6 @@ def stopped(process):
 
 def needed():
     """What a test needs to start such an nginx. Otherwise it is skipped."""
-    program.need("nginx", "openssl", "curl", "perl")
+    program.need("curl", "nginx-light", "openssl", "perl")
     if os.geteuid() != 0:
         raise program.Skip("only root can start it")

@@ -134,7 +134,7 @@ def removed(cases, root):
 
 
 def run(cases):
-    program.need("dpkg", "dpkg-deb", "dh", "deb-systemd-helper", "systemd-sysusers")
+    program.need("debhelper", "dpkg-dev", "deb-systemd-helper", "systemd-sysusers")
     if os.geteuid() != 0:
         raise program.Skip("only root can give files to other users")
     with tempfile.TemporaryDirectory() as folder, tempfile.TemporaryDirectory() as other:

@@ -11,8 +11,6 @@ import time
 from program import TOP
 
 LIB = os.path.join(TOP, "deploy", "lib")
-# How the first line of a script of the shell ends.
-SHELLS = (b"/sh", b"/bash")
 
 # Stands for the program: a registry opens where its file and its log belong together.
 OPENS = """#!/bin/sh
@@ -64,26 +62,6 @@ def ran(*words, tools=None, **more):
         words, env=environment, stdout=subprocess.PIPE, stderr=subprocess.STDOUT, timeout=60
     )
     return done.returncode, done.stdout.decode(errors="replace")
-
-
-def scripts():
-    """All scripts of the shell in deploy/ and debian/."""
-    for top in ("deploy", "debian"):
-        for folder, _, names in os.walk(os.path.join(TOP, top)):
-            for path in sorted(os.path.join(folder, it) for it in names):
-                with open(path, "rb") as file:
-                    is_script = file.readline().rstrip().endswith(SHELLS)
-                if is_script or path.endswith(".bash"):
-                    yield path
-
-
-def linted(cases):
-    if shutil.which("shellcheck") is None:
-        cases.skipped("keeping: shellcheck", "shellcheck is not installed")
-        return
-    paths = list(scripts())
-    cases.equal(f"keeping: shellcheck of {len(paths)} scripts", len(paths) >= 10, True)
-    cases.equal("keeping: shellcheck", ran("shellcheck", *paths), (0, ""))
 
 
 class Held:
@@ -364,7 +342,6 @@ def swaps_stopped(cases):
 
 
 def run(cases):
-    linted(cases)
     holds(cases)
     backups(cases)
     restores(cases)

@@ -392,7 +392,7 @@ def removed(story):
 
 
 def run(cases):
-    program.need("nginx", "openssl", "curl", "lspci", "update-pciids")
+    program.need("curl", "nginx-light", "openssl", "pciutils", "systemd-container")
     built_packages.packages()
     with tempfile.TemporaryDirectory() as folder, Machine() as machine:
         story = Story(cases, machine)

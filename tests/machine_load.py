@@ -218,7 +218,7 @@ def too_long(story):
 
 
 def run(cases):
-    program.need("nginx", "openssl", "curl", "sqlite3")
+    program.need("curl", "nginx-light", "openssl", "sqlite3", "systemd-container")
     built_packages.packages()
     with tempfile.TemporaryDirectory() as folder, Machine() as machine:
         story = Story(cases, machine)

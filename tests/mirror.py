@@ -12,6 +12,7 @@ import time
 from http.client import HTTPConnection
 from http.server import BaseHTTPRequestHandler, ThreadingHTTPServer
 
+import program
 from front_room import HOST, Front, needed
 from http_server import Server, ask_curl, free_port
 from program import HEADER, TOP
@@ -432,9 +433,7 @@ def at_its_pace(cases, folder):
 
 
 def run(cases):
-    if shutil.which("curl") is None:
-        cases.skipped("mirror", "curl is not installed")
-        return
+    program.need("curl")
     with tempfile.TemporaryDirectory() as folder:
         database = os.path.join(folder, "registry.db")
         copies = [os.path.join(folder, name) for name in ("copy", "cached")]

@@ -2,7 +2,6 @@
 taken to ask, and clients that are slow."""
 import json
 import os
-import shutil
 import socket
 import ssl
 import subprocess
@@ -10,6 +9,7 @@ import tempfile
 import threading
 import time
 
+import program
 from http_server import BYTES, JSON, OK, TEXT, Server, ask_curl, free_port, refusal, to_end
 from program import HEADER, REAL_FILE, TOP, entries_of, tidy
 
@@ -193,9 +193,6 @@ def files(cases, proxy, server):
             file.write(b"#" * size)
         told = proxy.curl("/import", "-u", "mona:mona", "--data-binary", f"@{path}")
         cases.equal(f"proxy: {name}", told[0], status)
-    if not os.path.exists(REAL_FILE):
-        cases.skipped("proxy: the real file", "the package pci.ids is not installed")
-        return
     with open(REAL_FILE, "rb") as file:
         canonical = tidy(file.read()).out
     count = entries_of(canonical)
@@ -318,11 +315,9 @@ def passed_on(cases, proxy, port):
 def run(cases):
     is_known = in_place(config(), "/", 1, 2) is not None
     cases.equal("deploy/nginx.conf has the ports and places that are known", is_known, True)
-    missing = [it for it in ("nginx", "htpasswd", "openssl", "curl") if shutil.which(it) is None]
-    if missing or os.geteuid() != 0:
-        why = f"{', '.join(missing)} not installed" if missing else "only root starts nginx"
-        cases.skipped("proxy", why)
-        return
+    program.need("apache2-utils", "curl", "nginx-light", "openssl", "pci.ids")
+    if os.geteuid() != 0:
+        raise program.Skip("only root starts nginx")
     with tempfile.TemporaryDirectory() as folder:
         database = os.path.join(folder, "registry.db")
         with Server(database) as server, Proxy(folder, server.port) as proxy:

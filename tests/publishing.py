@@ -5,9 +5,10 @@ import shutil
 import subprocess
 import tempfile
 
-import built_packages
+import pytest
+
 import lspci
-from program import REAL_FILE, TOP, tidy
+from program import REAL_FILE, SITE, TOP, tidy
 
 PUBLISH = os.path.join(TOP, "deploy", "lib", "publish")
 TEXT = """# PCI ID registry
@@ -50,7 +51,7 @@ class Press:
         with open(self.text, "w", encoding="utf-8") as file:
             file.write(text)
         words = [os.path.join(self.lib, "publish"), "http://x", self.copy, self.public]
-        ran = subprocess.run([*words, built_packages.site()], capture_output=True, timeout=60)
+        ran = subprocess.run([*words, SITE], capture_output=True, timeout=60)
         return ran.returncode, ran.stdout.decode() + ran.stderr.decode()
 
     def shell(self, command):
@@ -76,14 +77,8 @@ def tools(cases, press):
         suffix = {"gzip": "gz", "bzip2": "bz2"}[unpack]
         got = press.shell(f"{unpack} -dc pci.ids.{suffix}")
         cases.equal(f"publish: {unpack}", got, (0, whole))
-    if shutil.which("lspci"):
-        cases.equal("publish: lspci", press.shell("lspci -i pci.ids > /dev/null")[0], 0)
-    else:
-        cases.skipped("publish: lspci", "lspci is not installed")
+    cases.equal("publish: lspci", press.shell("lspci -i pci.ids > /dev/null")[0], 0)
     update = shutil.which("update-pciids")
-    if not update:
-        cases.skipped("publish: update-pciids", "update-pciids is not installed")
-        return
     press.shell(
         f"sed -e 's|^SRC=.*|SRC=file://{press.public}/pci.ids|'"
         f" -e 's|^DEST=.*|DEST={press.copy}/updated|' {update} > {press.copy}/update"
@@ -110,9 +105,6 @@ def disorder(text):
 
 def hwdata(cases, press):
     """The names of Debian's file, published, by the steps of `make check` of hwdata 0.394."""
-    if not shutil.which("lspci") or not os.path.exists(REAL_FILE):
-        cases.skipped("publish: hwdata's check", "the package pciutils or pci.ids is not installed")
-        return
     with open(REAL_FILE, "rb") as file:
         names = tidy(file.read()).out.decode()
     cases.equal("publish: the real names", press.run(names)[0], 0)
@@ -192,6 +184,7 @@ def lines(cases, press):
     cases.equal("publish: the text again", press.run(TEXT)[0], 0)
 
 
+@pytest.mark.needs("bzip2", "curl", "pci.ids", "pciutils")
 def run(cases):
     with tempfile.TemporaryDirectory() as folder:
         press = Press(folder)

@@ -245,6 +245,23 @@ def test_wrapper(cases):
         cases.equal("no arguments, later", call(folder), ("pid_cli runs\n", "", 0))
 
 
+def test_wrapper_paths(cases):
+    """However it is called, it names its files by a short path."""
+    with tempfile.TemporaryDirectory() as folder:
+        make(folder, "pid_cli_first:\n")
+        os.symlink("../pciids", os.path.join(folder, "crates", "link"))
+        for word, top in (
+            ("./pciids", "."),
+            ("crates/../pciids", "./crates/.."),
+            ("./crates/../pciids", "./crates/.."),
+            (os.path.join(folder, "pciids"), folder),
+            ("./crates/link", folder),
+        ):
+            ran = subprocess.run([word], cwd=folder, capture_output=True, timeout=60)
+            want = f"pciids: {top}/crates.txt has no line for pid_cli\n".encode()
+            cases.equal(word, (ran.stdout, ran.stderr, ran.returncode), (b"", want, 3))
+
+
 def test_wrapper_fails(cases):
     """A build that fails has status 3, and says why."""
     with tempfile.TemporaryDirectory() as folder:

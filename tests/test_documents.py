@@ -278,6 +278,25 @@ def test_readme(cases):
     cases.equal("the toolchain's logic", kit.group(1) in ran.stdout, True)
 
 
+def rows_of_times():
+    """The times of the table in docs/INSTALL.md."""
+    table = text_of("docs/INSTALL.md").partition("| first use of |")[2].partition("\n\n")[0]
+    return set(re.findall(r"\d+(?: to \d+)? minutes?", table))
+
+
+def test_times(cases):
+    """What is said of how long a command takes is in one table."""
+    times = rows_of_times()
+    cases.equal("the table has times", len(times), 5)
+    for page, few in (("README.md", 3), ("CONTRIBUTING.md", 2), ("docs/INSTALL.md", 5)):
+        # The fast loop has times of its own.
+        text = text_of(page)
+        prose = text.partition("## The fast loop")[0] + text.partition("## The gate")[2]
+        found = set(re.findall(r"\b\d+(?: to \d+)? minutes?\b", " ".join(prose.split())))
+        cases.equal(f"{page}: times that the table has not", found - times, set())
+        cases.equal(f"{page}: it says some", len(found) >= few, True)
+
+
 def test_contributing(cases):
     count, missing = missing_paths()
     cases.equal("files that do not exist", missing, [])

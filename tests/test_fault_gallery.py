@@ -3,6 +3,8 @@ LF, with LF and CR LF."""
 
 import pytest
 
+pytestmark = pytest.mark.usefixtures("either")
+
 GOOD = [
     b"8086  Intel",
     b"\t1237  440FX",

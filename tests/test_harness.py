@@ -11,7 +11,7 @@ from program import TOP
 
 HERE = os.path.join(TOP, "tests")
 FRAME = ("all.py", "conftest.py", "pytest.ini")
-SUPPORT = ("cases.py", "prepare.py", "program.py", "shims.py")
+SUPPORT = ("apt.py", "cases.py", "prepare.py", "program.py", "shims.py")
 
 # Files in place of some parts, and what each passes, fails and skips.
 PARTS = {

@@ -1,5 +1,9 @@
 """The limits of a text: 100,000 entries, 4,194,304 bytes."""
+import pytest
+
 from program import HEADER, tidy
+
+pytestmark = pytest.mark.usefixtures("either")
 
 
 def vendors_and_devices(devices):

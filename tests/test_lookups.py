@@ -112,7 +112,7 @@ def one_by_word(cases, asked, wanted):
     )
 
 
-@pytest.mark.needs("gcc", REAL_FILE)
+@pytest.mark.needs("gcc", "libc6-dev", "libpci-dev", "pci.ids")
 def test_as_libpci_answers(cases, folder):
     with open(REAL_FILE, "rb") as file:
         known = numbers_of(file.read())

@@ -8,7 +8,8 @@ from lspci import dump, sampled_devices
 from program import REAL_FILE, tidy
 
 
-@pytest.mark.needs("lspci", REAL_FILE)
+@pytest.mark.needs("pci.ids", "pciutils")
+@pytest.mark.usefixtures("either")
 def test_lspci(cases, folder):
     with open(REAL_FILE, "rb") as file:
         text = file.read()

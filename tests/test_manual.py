@@ -45,7 +45,7 @@ def test_versions(cases):
     cases.equal("the versions that the README names", set(named) - {version}, set())
 
 
-@pytest.mark.needs("man")
+@pytest.mark.needs("man-db")
 def test_manual(cases):
     environment = dict(
         os.environ, LC_ALL="C", MANWIDTH="100", MAN_KEEP_FORMATTING="", MANPAGER="cat"

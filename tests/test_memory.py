@@ -16,7 +16,7 @@ FIELDS = ("--vendor", "8086", "--device", "1237", "--subvendor", "1af4", "--subd
 ANSWER = (b"text Red Hat, Inc. Qemu machine\n", b"", 0)
 
 
-@pytest.mark.needs("gcc")
+@pytest.mark.needs("gcc", "libc6-dev")
 def test_refused_memory(cases, shims):
     # A line that comes in two chunks too, of which the reader keeps the first.
     texts = {name: text for name, (text, _) in PRINTED.items()}
@@ -29,13 +29,13 @@ def test_refused_memory(cases, shims):
     cases.equal("refused memory: requests were refused", refusals > 100, True)
 
 
-@pytest.mark.needs("gcc")
+@pytest.mark.needs("gcc", "libc6-dev")
 def test_arguments_alone(cases, shims):
     for words in (["--help"], ["check", "--help"], ["--version"], ["chekc"], ["check", "x.ids"]):
         refuse_in_turn(cases, shims["refuse_malloc"], "arguments alone", b"", *words)
 
 
-@pytest.mark.needs("gcc")
+@pytest.mark.needs("gcc", "libc6-dev")
 def test_look_up(cases, shims, room):
     path = os.path.join(room, "ids")
     with open(path, "wb") as file:

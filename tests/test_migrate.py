@@ -530,7 +530,7 @@ def stopped(cases, shim, name, step):
             refusals += 1
 
 
-@pytest.mark.needs("gcc")
+@pytest.mark.needs("gcc", "libc6-dev")
 @pytest.mark.parametrize("name, step, least", [("refuse_disk", 1, 10), ("refuse_malloc", 11, 20)])
 def test_stopped(cases, shims, name, step, least):
     refusals = stopped(cases, shims[name], name, step)

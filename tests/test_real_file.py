@@ -7,7 +7,8 @@ import pytest
 from program import HEADER, REAL_FILE, entries_of, run as run_program, tidy
 
 
-@pytest.mark.needs(REAL_FILE)
+@pytest.mark.needs("pci.ids")
+@pytest.mark.usefixtures("either")
 def test_real_file(cases):
     with open(REAL_FILE, "rb") as file:
         text = file.read()

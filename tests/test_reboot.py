@@ -11,7 +11,6 @@ import pytest
 
 import built_packages
 import machine_room
-import program
 
 HOST = "pciids.example.org"
 # Ends with the machine, but starts it again where that was asked for.
@@ -80,7 +79,7 @@ def works(cases, machine, name, command):
     return told
 
 
-@pytest.mark.needs("nginx", "openssl", "curl", program.WHOLE)
+@pytest.mark.needs("curl", "nginx-light", "openssl", "systemd-container")
 def test_reboot(cases, monkeypatch):
     monkeypatch.setattr(machine_room, "PREPARE", rebooting())
     built_packages.packages()

@@ -238,7 +238,7 @@ def places(first, last, most):
     return [first, *(first + int(step * (number + moved)) for number in range(most - 2)), last]
 
 
-@pytest.mark.needs("sqlite3", "gcc")
+@pytest.mark.needs("gcc", "libc6-dev", "sqlite3")
 @pytest.mark.parametrize("fault", FAULTS)
 def test_refusing(cases, folder, shims, fault):
     trials, shim = Trials(folder, shims), FAULTS[fault][0]

@@ -483,7 +483,7 @@ def test_beside(cases, folder):
             cases.equal(f"beside {name}: integrity", asked(path, "PRAGMA integrity_check"), "ok\n")
         cases.equal(f"beside {name}: it stays", asked(path, MADE), made)
 
-@pytest.mark.needs(REAL_FILE)
+@pytest.mark.needs("pci.ids")
 def test_real_file(cases, folder):
     path = os.path.join(folder, "real.db")
     with open(REAL_FILE, "rb") as file:

@@ -105,7 +105,7 @@ def test_a_thousand_vendors(cases):
     cases.equal("script: a thousand vendors", (ran.out, ran.err, ran.status), (replies, b"", 0))
 
 
-@pytest.mark.needs("gcc")
+@pytest.mark.needs("gcc", "libc6-dev")
 def test_refused_memory(cases, shims):
     refusals = 0
     for name, texts in SCRIPTS.items():

@@ -263,7 +263,7 @@ def refuse_in_turn(cases, shim, turn):
     return refusals, refused
 
 
-@pytest.mark.needs("gcc")
+@pytest.mark.needs("gcc", "libc6-dev")
 @pytest.mark.parametrize("turn", TURNS, ids=lambda it: f"{it.shim}-{it.stride}-{len(it.steps)}")
 def test_refused_in_turn(cases, shims, turn):
     start = time.monotonic()
@@ -340,7 +340,7 @@ def streamed(shim, at, database):
         return taken, pipe.read(1) == b"!", ended
 
 
-@pytest.mark.needs("gcc")
+@pytest.mark.needs("gcc", "libc6-dev")
 def test_three_requests(cases, shims):
     """Each request for memory after the opening is refused in turn under one stream; afterwards the
     registry has no item."""

@@ -76,7 +76,7 @@ def refuse_in_turn(cases, shim, name, step):
                     return refusals
 
 
-@pytest.mark.needs("sqlite3", "gcc")
+@pytest.mark.needs("gcc", "libc6-dev", "sqlite3")
 @pytest.mark.parametrize("name, step, least", [("refuse_disk", 1, 40), ("refuse_malloc", 7, 100)])
 def test_stops(cases, shims, name, step, least):
     refusals = refuse_in_turn(cases, shims[name], name, step)

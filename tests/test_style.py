@@ -53,9 +53,10 @@ def wide_lines(names, widest, but=None):
 
 
 def scripts():
-    """The shell scripts, by their first lines."""
+    """The shell scripts, by their first lines or the ends of their names."""
     names = files(*TEXTS, "deploy/**/*", "debian/*")
-    return [it for it in names if re.match(r"#!.*\b(ba|da)?sh\b", text_of(it).partition("\n")[0])]
+    is_script = re.compile(r"#!.*\b(ba|da)?sh\b").match
+    return [it for it in names if it.endswith(".bash") or is_script(text_of(it).partition("\n")[0])]
 
 
 # How comments begin, by the end of a file's name; those of shell scripts begin with `#`.

@@ -21,21 +21,6 @@ KINDS = (
 )
 
 
-@pytest.fixture
-def first(monkeypatch):
-    """`program.run` runs the first program."""
-    monkeypatch.setattr(program, "PROGRAM", program.FIRST)
-    if program.FIRST is None:
-        pytest.skip("the first program belongs to the source tree, and PCIIDS names another one")
-
-
-@pytest.fixture(params=("script", "first"))
-def either(request):
-    """`program.run` runs the program by its script, and then the first program."""
-    if request.param == "first":
-        request.getfixturevalue("first")
-
-
 def test_tidy(cases, either):
     ran = program.run(TEXT, "tidy")
     cases.equal("tidy", (ran.out, ran.err, ran.status), (HEADER + TEXT, b"", 0))
@@ -220,6 +205,7 @@ def test_wrong_arguments_of_a_registry(cases):
         cases.equal(f"{words}: the fault is reported", ran.err.startswith(b"error: "), True)
 
 
+@pytest.mark.first
 def test_left_to_the_whole_program(cases, first):
     """The first program leaves what needs the whole one to it, and prints nothing."""
     for words in (

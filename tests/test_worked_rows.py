@@ -4,6 +4,8 @@ import pytest
 from program import HEADER
 from worked_rows import PRINTED, REFUSED
 
+pytestmark = pytest.mark.usefixtures("either")
+
 
 @pytest.mark.parametrize("name", PRINTED)
 def test_printed(cases, name):

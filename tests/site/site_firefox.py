@@ -3,7 +3,6 @@ visitor finds a device, a contributor proposes a name once though its response w
 breaks the policy."""
 import json
 import os
-import shutil
 import socket
 import subprocess
 import tempfile
@@ -145,8 +144,7 @@ def story(cases, world, firefox):
 
 
 def run(cases):
-    if shutil.which("firefox-esr") is None:
-        raise program.Skip("firefox-esr not installed")
+    program.need("firefox-esr")
     with World() as world:
         firefox = Firefox(world.base)
         try:

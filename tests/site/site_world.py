@@ -229,12 +229,8 @@ class Nginx:
 
 def missing():
     """Why the site can't be tried here, or None."""
-    commands = ("chromium", "chromedriver", "nginx", "htpasswd", "openssl", "curl")
-    absent = [it for it in commands if shutil.which(it) is None]
-    if not os.path.exists(program.REAL_FILE):
-        absent.append(program.REAL_FILE)
-    if absent:
-        return f"{', '.join(absent)} not installed"
+    program.need("apache2-utils", "chromium", "chromium-driver", "curl", "nginx-light", "openssl",
+                 "pci.ids", "python3-selenium")
     if not os.path.exists(f"{CONFIG}/pciids-site.conf"):
         return f"{CONFIG} has no configuration of the site"
     return None if os.geteuid() == 0 else "nginx of Debian is started by root"

@@ -1,67 +1,11 @@
-"""What a run of the tests needs: Debian's packages, and programs newer than their sources."""
-import glob
+"""What a run of the tests needs: programs newer than their sources."""
 import os
-import shutil
 import subprocess
 import time
 
-from program import FIRST, INSTALLED, PROGRAM, REAL_FILE, TOP, WHOLE
+from program import FIRST, INSTALLED, PROGRAM, TOP, WHOLE
 
-# A command that tests need, or a pattern of a file, and the package that has it.
-PACKAGES = {
-    REAL_FILE: "pci.ids",
-    "lspci": "pciutils",
-    "/usr/include/**/pci/pci.h": "libpci-dev",
-    "sqlite3": "sqlite3",
-    "curl": "curl",
-    "nginx": "nginx-light",
-    "htpasswd": "apache2-utils",
-    "openssl": "openssl",
-    "man": "man-db",
-    "chromium": "chromium",
-    "chromedriver": "chromium-driver",
-    "/usr/lib/python3/dist-packages/selenium/webdriver": "python3-selenium",
-    "firefox-esr": "firefox-esr",
-    "/usr/lib/python3/dist-packages/pytest": "python3-pytest",
-    "/usr/lib/python3/dist-packages/xdist": "python3-pytest-xdist",
-    "shellcheck": "shellcheck",
-    "dh": "debhelper",
-    "dpkg-buildpackage": "dpkg-dev",
-    "lintian": "lintian",
-    "systemd-nspawn": "systemd-container",
-}
 PARTS_OF_CRATE = ("src", "specs", "proofs")
-
-
-def is_here(peer):
-    if peer.startswith("/"):
-        return bool(glob.glob(peer, recursive=True))
-    return shutil.which(peer) is not None
-
-
-def missing_packages():
-    return [package for peer, package in PACKAGES.items() if not is_here(peer)]
-
-
-def install_peers():
-    """Installs what is missing. The cases that need what can't be installed are skipped later."""
-    missing = missing_packages()
-    if not missing:
-        return
-    print("installing:", *missing)
-    how = {"stdin": subprocess.DEVNULL, "stdout": subprocess.DEVNULL, "stderr": subprocess.DEVNULL}
-    how["env"] = dict(os.environ, DEBIAN_FRONTEND="noninteractive")
-    install = ["apt-get", "install", "-y", "--no-install-recommends"]
-    try:
-        subprocess.run(["apt-get", "update"], timeout=600, **how)
-        if subprocess.run([*install, *missing], timeout=600, **how).returncode != 0:
-            for it in missing:
-                subprocess.run([*install, it], timeout=600, **how)
-    except (OSError, subprocess.TimeoutExpired) as fault:
-        print(f"apt-get: {fault}")
-    missing = missing_packages()
-    if missing:
-        print(f"not installed: {', '.join(missing)}; the cases that need it are skipped")
 
 
 def uses():
@@ -127,18 +71,15 @@ def built(program, words, **how):
     return None if is_current(program) else f"{place}: a source changed while it was built"
 
 
-def build_programs():
-    """Makes both programs current. Returns why they can't be tried, or None."""
+def ready(needs_whole):
+    """Makes the programs that a run needs current. Returns why they can't be tried, or None."""
     if INSTALLED is not None:
         print(f"{PROGRAM}: tried as PCIIDS names it, and nothing is built")
         return None
-    # Where neither is current, the script builds the first program before it.
-    fault = built(WHOLE, [PROGRAM, "script"])
-    first = os.path.dirname(os.path.dirname(FIRST))
-    return fault or built(FIRST, ["rt", "run"], cwd=first, stderr=subprocess.STDOUT)
-
-
-def ready():
-    """Installs and builds what a run needs. Returns why nothing can be tried, or None."""
-    install_peers()
-    return build_programs()
+    # Where neither is current, the script builds the first program before the whole one.
+    fault = built(WHOLE, [PROGRAM, "script"]) if needs_whole else None
+    # It leaves the first program as it is where the whole one is current.
+    if fault or not is_current(WHOLE):
+        return fault or built(FIRST, [PROGRAM])
+    folder = os.path.dirname(os.path.dirname(FIRST))
+    return built(FIRST, ["rt", "run"], cwd=folder, stderr=subprocess.STDOUT)

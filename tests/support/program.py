@@ -1,10 +1,12 @@
 """The program under test."""
 import os
-import shutil
 import subprocess
+
+import apt
 
 SUPPORT = os.path.dirname(os.path.abspath(__file__))
 TOP = os.path.dirname(os.path.dirname(SUPPORT))
+SITE = os.path.join(TOP, "site")
 REAL_FILE = "/usr/share/misc/pci.ids"
 HEADER = b"# PCI ID registry\n"
 
@@ -45,9 +47,9 @@ class Skip(Exception):
     """Ends a test, the rest of which is counted as skipped. It says why."""
 
 
-def need(*peers):
-    """Skips the rest of a test if one of these commands or files is missing."""
-    missing = [it for it in peers if shutil.which(it) is None and not os.path.isfile(it)]
+def need(*names):
+    """Skips the rest of a test if one of these packages or commands is missing."""
+    missing = [it for it in names if not apt.is_here(it)]
     if missing:
         raise Skip(f"{', '.join(missing)} not installed")
 
