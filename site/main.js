@@ -16,6 +16,7 @@ const PAGES = [
   [/^\/mine$/, "mine"],
   [/^\/people$/, "people"],
   [/^\/(help|about)$/, "help"],
+  [/^\/guide$/, "guide"],
 ];
 
 // A page that isn't seen has no frames.

@@ -59,5 +59,8 @@ export const childrenOf = (path) => call("childrenOf", path);
 /** How the names of a file, as a Map, differ from these; null without a file. */
 export const difference = (theirs) => call("difference", theirs);
 
+/** What a text asks to be named, as wishes.js has it; null without a file. */
+export const wishesIn = (text) => call("wishesIn", text);
+
 /** Takes over what this page knows to be so meanwhile; name is null of a removal. */
 export const learnName = (path, name) => call("learnName", path, name);

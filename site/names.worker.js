@@ -2,6 +2,7 @@
 
 import { read } from "./reader.js";
 import { childrenOf, difference, indexOf, learn, search } from "./search.js";
+import { wishesIn } from "./wishes.js";
 
 const FRESH_FOR = 60_000;
 // A server that gives no names isn't asked again at each key press.
@@ -46,6 +47,7 @@ const CALLS = {
   childrenOf: (path) => childrenOf(index, path),
   difference: (theirs) => difference(theirs, index.names),
   learnName: (path, name) => learn(index, path, name),
+  wishesIn: (text) => wishesIn(text, index.names),
 };
 
 // A key press never waits for newer names: those at hand answer it.

@@ -2,7 +2,7 @@
 
 import { el, link } from "./dom.js";
 import { tell } from "./notice.js";
-import { hrefOf, KIND_WORDS, ownNumber, parse, withParents } from "./paths.js";
+import { hrefOf, KIND_WORDS, ownNumber, parse, wholeNumber, withParents } from "./paths.js";
 import { shown, spelled } from "./shown.js";
 import { refusalWords, STATES, troubleWords } from "./words.js";
 
@@ -16,6 +16,12 @@ export function title(text, ...beside) {
   const heading = el("h1", { tabindex: -1 }, ...(beside.length ? beside : [text]));
   titles.set(heading, text === SITE ? SITE : `${spelled(text)} · ${SITE}`);
   return heading;
+}
+
+/** Gives a heading's page another title. */
+export function retitle(heading, text) {
+  titles.set(heading, `${spelled(text)} · ${SITE}`);
+  if (heading.isConnected) document.title = titles.get(heading);
 }
 
 /** The title that goes with a heading. */
@@ -56,7 +62,7 @@ export const kindOf = (path) => KIND_WORDS[parse(path).kind];
 /** An item with those above it as links, by names where they are known. */
 export function chainOf(path, nameOf) {
   return withParents(path).map((it, at) => [at ? " › " : null,
-    link(hrefOf(it), nameOf(it) === undefined ? el("code", {}, it) : shown(nameOf(it)))]);
+    link(hrefOf(it), nameOf(it) === undefined ? el("code", {}, wholeNumber(it)) : shown(nameOf(it)))]);
 }
 
 /** What a proposal proposes. */

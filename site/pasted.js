@@ -1,5 +1,7 @@
 // Numbers in texts that people paste: of lspci, of Windows' device manager, modaliases, or typed.
 
+import { NUMBERS } from "./paths.js";
+
 const H = "([0-9a-f]{4})";
 const form = (text, flags = "gi") => new RegExp(text, flags);
 
@@ -18,16 +20,21 @@ const FORMS = [
   [form(`(?<![0-9a-f:.])${H}:${H}(?![0-9a-f:])`), [0, 1]],
   [form(`^\\s*(?:0x)?${H}[\\s/,]+(?:0x)?${H}\\s*$`), [0, 1]],
 ];
-const SUBSYSTEM = form(`^\\s*subsystem:?.*?(?<![0-9a-f])${H}:${H}(?![0-9a-f])`, "i");
+const BELOW = form(`^\\s*subsystem:?.*?(?<![0-9a-f])${H}:${H}(?![0-9a-f])`, "i");
 
-function numbersIn(line) {
+/** The devices that a line names, as `devicesIn` has them. */
+export function numbersIn(line) {
   for (const [one, places] of FORMS) {
-    const numbersOf = (found) => places.map((at) => found[at + 1]?.toLowerCase());
+    const numbersOf = (found) => places.map((at) => found[at + 1]?.toLowerCase()).filter(Boolean);
     const found = [...line.matchAll(one)].map(numbersOf);
     if (found.length) return found;
   }
   return [];
 }
+
+/** The subsystem in a line `Subsystem: ..` of lspci, as two numbers, or null. */
+export const subsystemIn = (line) => (
+  BELOW.exec(line)?.slice(1).map((it) => it.toLowerCase()) ?? null);
 
 /**
  * The devices that a text names, in its order, each once: [vendor, device] or [vendor, device,
@@ -36,11 +43,9 @@ function numbersIn(line) {
 export function devicesIn(text) {
   const found = [];
   for (const line of text.split(/\r?\n| \| /)) {
-    const below = SUBSYSTEM.exec(line);
-    if (!below) numbersIn(line).forEach((it) => found.push(it.filter(Boolean)));
-    else if (found.length) {
-      found.at(-1).splice(2, 2, ...below.slice(1).map((it) => it.toLowerCase()));
-    }
+    const below = subsystemIn(line);
+    if (!below) found.push(...numbersIn(line));
+    else if (found.length) found.at(-1).splice(2, 2, ...below);
   }
   return [...new Map(found.map((it) => [it.join(), it])).values()];
 }
@@ -49,4 +54,27 @@ export function devicesIn(text) {
 export function pathsOf([a, b, c, d]) {
   const paths = [`PC/${a}/${b}`, `PS/${a}/${b}`];
   return d ? [`PC/${a}/${b}/${c}${d}`, ...paths] : paths;
+}
+
+const FAMILIES = [["vendor", "device", "subsystem"], ["class", "subclass", "interface"], ["generic"]];
+
+/**
+ * What a paste into the boxes of a kind's numbers fills: { kind, at, digits }, where the kind is
+ * the one that has boxes for all of them; or null where it is for no other boxes.
+ * @param {string} kind
+ * @param {number} at the box that it is pasted into
+ * @param {string} text
+ */
+export function pastedInto(kind, at, text) {
+  const [device] = devicesIn(text);
+  if (device) {
+    const takesTwo = NUMBERS[kind][1]?.[1] === 4;
+    return { kind: device[3] ? "subsystem" : takesTwo ? kind : "device", at: 0, digits: device };
+  }
+  const digits = /^\s*[0-9a-f]+(?:[:\s/]+[0-9a-f]+)+\s*$/i.test(text)
+    ? text.trim().split(/[:\s/]+/) : [];
+  const family = FAMILIES.find((it) => it.includes(kind));
+  const deeper = family.slice(family.indexOf(kind));
+  const fits = deeper.find((it) => NUMBERS[it].length >= at + digits.length);
+  return digits.length < 2 || !fits ? null : { kind: fits, at, digits };
 }

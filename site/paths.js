@@ -99,6 +99,13 @@ export function wholeNumber(path) {
   return numbers.join(path.startsWith("PD/") ? "" : ":");
 }
 
+/** An item as people say it: 8086:1237, vendor 8086, subclass 0106. */
+export function spoken(path) {
+  const { kind } = parse(path);
+  const isPlain = kind === "device" || kind === "subsystem";
+  return isPlain ? wholeNumber(path) : `${KIND_WORDS[kind].toLowerCase()} ${wholeNumber(path)}`;
+}
+
 /** The line of an item in a file. */
 export function lineOf(path, name) {
   const { kind } = parse(path);

@@ -2,9 +2,8 @@
 // kind that holds there. The registry judges an import by the same rules; this is a second
 // implementation of them, and tests compare it with the program's `check` and `tidy`.
 
-const MOST_BYTES = 4_194_304;
-const MOST_ENTRIES = 100_000;
-const MOST_NAME = 1_000;
+import { MOST_ENTRIES, MOST_FILE, MOST_NAME } from "./limits.js";
+
 const LF = 10;
 
 const DEEP = 2, ORPHAN = 3, BAD_ID = 4, NO_NAME = 5, BAD_NAME = 6, TWICE = 7, NO_VENDOR = 8;
@@ -111,7 +110,7 @@ function take(state, line) {
 
 /** The bytes of a file that was chosen; of one that is too large only so many that it shows. */
 export const bytesOf = async (file) => (
-  new Uint8Array(await file.slice(0, MOST_BYTES + 1).arrayBuffer()));
+  new Uint8Array(await file.slice(0, MOST_FILE + 1).arrayBuffer()));
 
 /**
  * Reads a file.
@@ -120,7 +119,7 @@ export const bytesOf = async (file) => (
  * @returns {Object} { names }, a Map by paths in the order of the file; or { line, kind } of the
  *   first fault; or { isTooLarge }; or { hasTooMany } entries
  */
-export function read(bytes, mostBytes = MOST_BYTES) {
+export function read(bytes, mostBytes = MOST_FILE) {
   if (bytes.length > mostBytes) return { isTooLarge: true };
   const { lines, bad } = linesOf(bytes);
   const state = { names: new Map(), top: null, first: null, isFull: false };

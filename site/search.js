@@ -80,15 +80,23 @@ function bare(query, { names, devices }) {
   return { first: means.filter((it) => names.has(it)), last: [...devices.get(digits) ?? []] };
 }
 
+// A device without a name comes before its vendor, a subsystem that is asked for alone behind its
+// device.
+function meant(numbers, isAlone, { names }) {
+  const all = pathsOf(numbers);
+  const named = all.filter((it) => names.has(it));
+  const device = `PC/${numbers[0]}/${numbers[1]}`;
+  if (named.length === 0) return [device, `PC/${numbers[0]}`].filter((it, at) => !at || names.has(it));
+  return isAlone && !names.has(all[0]) ? [...named, all[0]] : named;
+}
+
 /** The paths that the numbers in a query mean: { first, last, isPasted }. */
 function numbered(text, index) {
   const query = text.trim().toLowerCase();
   const path = query.replace(/^p[cds]\//, (it) => it.toUpperCase());
-  if (parse(path) && index.names.has(path)) return { first: [path], last: [] };
-  const found = devicesIn(text).flatMap((numbers) => {
-    const paths = pathsOf(numbers).filter((it) => index.names.has(it));
-    return paths.length ? paths : [`PC/${numbers[0]}`].filter((it) => index.names.has(it));
-  });
+  if (parse(path)) return { first: [path], last: [] };
+  const devices = devicesIn(text);
+  const found = devices.flatMap((it) => meant(it, devices.length === 1, index));
   if (found.length === 0) return bare(query, index);
   return { first: [...new Set(found)], last: [], isPasted: true };
 }
@@ -115,13 +123,21 @@ function candidates({ last }, words) {
   return isNarrower ? last.found : null;
 }
 
+// Vendors and classes with the words as words of their own come before what is below others.
+function bucketOf(far, count, worth) {
+  return worth <= WORTH.class && far < IN_WORD * count ? Math.floor(far / IN_WORD) + worth
+    : far + worth;
+}
+
+// Letters and digits apart: rtx4090 and AX-210 are found as RTX 4090 and AX210.
+const apart = (query) => query.match(/\p{L}+|\p{N}+/gu) ?? [];
+
 /**
  * The items whose names have all words of a query: { first, count }, of which the first are the
  * likeliest, at most so many. Distances are small numbers: each has its bucket.
  */
-function byNames(index, query, seen, most) {
+function byNames(index, query, words, { seen, most }) {
   const { paths, texts, owns, worths } = index;
-  const words = [...new Set(query.split(/\s+/))];
   const among = candidates(index, words);
   const total = among?.length ?? paths.length;
   const found = new Int32Array(total);
@@ -134,7 +150,7 @@ function byNames(index, query, seen, most) {
     found[count] = at;
     count += 1;
     const isWhole = owns[at] === query.length && texts[at].startsWith(query);
-    const bucket = buckets[isWhole ? 0 : far + worths[at]] ??= [];
+    const bucket = buckets[isWhole ? 0 : bucketOf(far, words.length, worths[at])] ??= [];
     if (bucket.length < most + seen.size) bucket.push(at);
   }
   index.last = { words, found: found.subarray(0, count) };
@@ -148,19 +164,26 @@ function byNames(index, query, seen, most) {
   return { first, count: count - twice };
 }
 
-/** What is found for a text: { rows, count }, the likeliest first, at most so many rows. */
+/**
+ * What is found for a text: { rows, count }, the likeliest first, at most so many rows. A number
+ * without a name has a row too, and isn't counted.
+ */
 export function search(index, text, most) {
   const query = text.trim().slice(0, LONGEST).toLowerCase();
   if (!query) return { rows: [], count: 0 };
   const { first, last, isPasted } = numbered(text, index);
   const seen = new Set([...first, ...last]);
-  const named = isPasted ? { first: [], count: 0 } : byNames(index, query, seen, most);
+  const find = (words) => byNames(index, query, [...new Set(words)], { seen, most });
+  let named = isPasted ? { first: [], count: 0 } : find(query.split(/\s+/));
+  const isNone = !isPasted && named.count === 0 && seen.size === 0;
+  if (isNone && apart(query).length > 1) named = find(apart(query));
   const all = [...first, ...named.first, ...last];
   const nameOf = (path) => index.names.get(path);
   const rows = all.slice(0, most).map((path) => ({
-    path, name: nameOf(path), above: withParents(path).slice(0, -1).map(nameOf),
+    path, name: nameOf(path) ?? null, above: withParents(path).slice(0, -1).map(nameOf),
   }));
-  return { rows, count: first.length + named.count + last.length };
+  const isNamed = (path) => nameOf(path) !== undefined;
+  return { rows, count: first.filter(isNamed).length + named.count + last.length };
 }
 
 /** The items directly below a path ("" for vendors and classes). */

@@ -4,6 +4,7 @@
 import "./api.js";
 import "./dom.js";
 import "./kept.js";
+import "./limits.js";
 import "./login.js";
 import "./notice.js";
 import "./parts.js";

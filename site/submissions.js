@@ -3,6 +3,7 @@
 import { ask } from "./api.js";
 import { el, link, several } from "./dom.js";
 import { stateMark, wishOf } from "./parts.js";
+import { spoken } from "./paths.js";
 import { shown } from "./shown.js";
 
 // The registry looks at so many submissions for a page that it may have few rows, or none, though
@@ -48,7 +49,7 @@ export function submissionRow(it, shared = {}, isNews = false) {
   return el("li", {}, el("a", { href: `/proposals/${it.num}` },
     el("code", {}, `#${it.num}`), " ", wishOf(it.name), " ",
     el("small", {},
-      shared.path ? null : [el("code", {}, it.path), " "],
+      shared.path ? null : [el("code", {}, spoken(it.path)), " "],
       shared.author ? null : `by ${it.author} `,
       stateMark(it.state, by), isNews ? " (new)" : null,
       it.remarks ? ` ${several(it.remarks, "comment")}` : null,

@@ -1,8 +1,11 @@
 // What answers mean, in plain words.
 
+import { counted } from "./dom.js";
+import { MOST_ENTRIES, MOST_FILE, MOST_NAME } from "./limits.js";
+
 const REFUSALS = {
   1: "This isn't a path such as PC/8086/1237, with digits in lower case.",
-  2: "A name has 1 to 1,000 bytes, no blank in front and no control characters.",
+  2: `A name has 1 to ${counted(MOST_NAME)} bytes, no blank in front and no control characters.`,
   3: "A field is missing, too long, or has characters that the registry doesn't take.",
   4: "The registry doesn't know this account. An administrator has to add it first.",
   5: "This account's rank is too low for that.",
@@ -18,7 +21,7 @@ const REFUSALS = {
   17: "The registry's disk failed just now.",
   18: "The registry has failed and is about to start again.",
   20: "The request was malformed.",
-  21: "That is too long: the registry takes at most 4,194,304 bytes.",
+  21: `That is too long: the registry takes at most ${counted(MOST_FILE)} bytes.`,
   22: "The request was encoded in a way that the registry doesn't take.",
   23: "The request was cut off on its way.",
   24: "There is no such page.",
@@ -37,7 +40,7 @@ export const KINDS = {
   3: "there is no entry above it that it could belong to",
   4: "it doesn't begin with a number of the right length, in hex digits, and a space or a tab",
   5: "there is no name after the number",
-  6: "the name has a control character or is longer than 1,000 bytes",
+  6: `the name has a control character or is longer than ${counted(MOST_NAME)} bytes`,
   7: "an earlier line has the same number already",
   8: "the vendor of this block has no line of its own above",
 };
@@ -47,7 +50,7 @@ export function refusalWords(refusal) {
   if (refusal.refused !== 14) {
     return REFUSALS[refusal.refused] ?? `The registry refused it (${refusal.word}).`;
   }
-  if (!refusal.line) return "The file has more than 100,000 entries.";
+  if (!refusal.line) return `The file has more than ${counted(MOST_ENTRIES)} entries.`;
   const kind = KINDS[refusal.kind] ?? `kind ${refusal.kind}`;
   return `Line ${refusal.line.toLocaleString("en")} of the file is faulty: ${kind}.`;
 }
@@ -60,7 +63,7 @@ const TROUBLES = {
   store: "The registry is out of memory, or its disk failed.",
   login: "The account and the password weren't accepted.",
   foreign: "The server took this for a request of another site and refused it.",
-  large: "That is too long: at most 4,194,304 bytes are taken.",
+  large: `That is too long: at most ${counted(MOST_FILE)} bytes are taken.`,
   odd: "The server's answer can't be understood here.",
   file: "The file isn't held any more since the page was loaded again. Choose it once more.",
   account: "Another account is logged in by now.",

@@ -5,9 +5,10 @@ import { carryOut } from "../carry.js";
 import { keepDraft } from "../drafts.js";
 import { canonical } from "../canonical.js";
 import { counted, el, fill, link, several } from "../dom.js";
+import { MOST_ENTRIES, MOST_FILE } from "../limits.js";
 import * as names from "../names.js";
 import { title } from "../parts.js";
-import { hrefOf } from "../paths.js";
+import { hrefOf, wholeNumber } from "../paths.js";
 import { bytesOf, read } from "../reader.js";
 import { compared, shown } from "../shown.js";
 import { steadyButton } from "../steady.js";
@@ -44,8 +45,8 @@ function faultLines(bytes, faulty) {
 
 /** Why a file has no names, as nodes; null where it has. */
 function faultOf(name, bytes, outcome) {
-  const words = outcome.isTooLarge ? `${name} is longer than 4,194,304 bytes.`
-    : outcome.hasTooMany ? `${name} has more than 100,000 entries.`
+  const words = outcome.isTooLarge ? `${name} is longer than ${counted(MOST_FILE)} bytes.`
+    : outcome.hasTooMany ? `${name} has more than ${counted(MOST_ENTRIES)} entries.`
       : outcome.line ? `${name}, line ${counted(outcome.line)}: ${KINDS[outcome.kind]}.` : null;
   if (!words) return null;
   const lines = outcome.line ? faultLines(bytes, outcome.line) : null;
@@ -54,7 +55,7 @@ function faultOf(name, bytes, outcome) {
 
 function differenceRow({ path, name, now }) {
   const [was, is] = now === undefined ? [null, shown(name)] : compared(now, name);
-  return el("li", {}, el("a", { href: hrefOf(path) }, el("code", {}, path), " ",
+  return el("li", {}, el("a", { href: hrefOf(path) }, el("code", {}, wholeNumber(path)), " ",
     was ? [el("del", {}, was), " "] : null, is));
 }
 
@@ -129,18 +130,24 @@ class Check {
       el("p", { class: "good" }, `${shownName(name)} has no fault: ${count}.`), spokeHere(),
       el("p", {}, save, " ", el("small", {}, "Comments, version and date are not in it.")),
       beside ? differenceWords(beside) : null,
-      this.isImport ? importOf(name, bytes) : this.proposeButton(beside));
+      this.isImport ? importOf(name, bytes) : this.proposeButtons(beside));
   }
 
   // Who may not import proposes the names one by one.
-  proposeButton(beside) {
-    const rows = [...beside?.added.rows ?? [], ...beside?.renamed.rows ?? []];
-    if (rows.length === 0) return null;
-    const begin = () => this.go(beginMany(rows.map(({ path, name }) => ({ path, name }))));
-    const all = beside.added.count + beside.renamed.count;
-    const words = rows.length === all ? several(all, "name") : `the first ${counted(rows.length)}`;
-    return el("p", { class: "buttons" },
-      steadyButton({ onclick: begin }, `Propose ${words} …`));
+  // Who may not import proposes the names one by one: new ones apart from those that may be older
+  // than what the registry has.
+  proposeButtons(beside) {
+    const button = ({ count, rows }, kind) => {
+      if (count === 0) return null;
+      const begin = () => this.go(beginMany(rows.map(({ path, name }) => ({ path, name }))));
+      const words = rows.length === count ? counted(count) : `the first ${counted(rows.length)}`;
+      return steadyButton({ onclick: begin }, `Propose ${words} ${kind}${count === 1 ? "" : "s"} …`);
+    };
+    if (!beside?.added.count && !beside?.renamed.count) return null;
+    return [el("p", { class: "buttons" }, button(beside.added, "new name"),
+      button(beside.renamed, "other name")),
+    beside.renamed.count ? el("p", { class: "aside" }, "Where the registry has another name, yours"
+      + " may be the older one: look at them first.") : null];
   }
 
   page() {

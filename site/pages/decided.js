@@ -2,11 +2,12 @@
 
 import { el } from "../dom.js";
 import { failed, title } from "../parts.js";
+import { parse, spoken } from "../paths.js";
 import { olderLink, submissionRow, submissions } from "../submissions.js";
 
 function titleWords({ path, author }) {
   const by = author ? ` by ${author}` : "";
-  return path || author ? `Proposals${path ? ` for ${path}` : ""}${by}` : "The latest proposals";
+  return path || author ? `Proposals${parse(path ?? "") ? ` for ${spoken(path)}` : ""}${by}` : "The latest proposals";
 }
 
 /** The page. */

@@ -13,7 +13,8 @@ export default async function help() {
     section("Proposing", "A proposal is a name for a number, or a removal. A moderator approves or"
       + " rejects it; until then its author can withdraw it. Everybody with an account can comment."
       + " What is approved is in the registry at once, and in the published pci.ids some minutes"
-      + " later. Several at once: ", link("/propose?many=yes", "propose many"), "."),
+      + " later. Several at once: ", link("/propose?many=yes", "propose many"), ". ",
+    link("/guide", "What a good name is"), "."),
     section("Accounts", "Accounts are made by those who run this registry; ask them for one, and"
       + " for a new password. Reading needs none. On ", link("/mine", "My proposals"),
     " you see what came of yours."),

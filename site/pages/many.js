@@ -6,22 +6,26 @@ import { report } from "../bar.js";
 import { faultWords } from "../carry.js";
 import { draftOf, keepDraft } from "../drafts.js";
 import { el, fill, link, several } from "../dom.js";
+import { knownNames, pendingByPath } from "../known.js";
 import { askToLogIn } from "../login.js";
+import { MOST_NAME } from "../limits.js";
 import * as names from "../names.js";
 import { actedOf, begin, form, isWorking, newKey, settle, watchOutbox } from "../outbox.js";
 import { keep, recall } from "../kept.js";
-import { oneParagraph, title } from "../parts.js";
-import { devicesIn } from "../pasted.js";
-import { hrefOf, parse } from "../paths.js";
+import { chainOf, oneParagraph, title, wishOf } from "../parts.js";
+import { hrefOf, parse, spoken, withParents } from "../paths.js";
 import { shown } from "../shown.js";
 import { appear, isDead, setDead, steadyButton } from "../steady.js";
+import { wishesIn } from "../wishes.js";
 import { answerWords } from "../words.js";
-import { nameFault, noteBox, noteFault } from "./proposing.js";
+import { adviceWords, nameFault, noteBox, textFault } from "./proposing.js";
 
 const HERE = "/propose?many=yes";
 const ROWS = `draft:${HERE}#rows`;
-const NAMED = /^\s*([0-9a-f]{4}):([0-9a-f]{4})(?: ([0-9a-f]{4}):([0-9a-f]{4}))?\s+(\S.*)$/i;
-const OF_LSPCI = /\[[0-9a-f]{4}\]|\(rev |: /i;
+// What is said beside rows is waited for so long, in milliseconds, and asked for so many numbers.
+const WAIT = 1_000;
+const MOST_ASKED = 60;
+const MOST_LEFT = 20;
 
 /** Has the page of many go on with these rows: { path, name }, behind those that aren't done. */
 export function beginMany(rows) {
@@ -32,42 +36,55 @@ export function beginMany(rows) {
   return HERE;
 }
 
-const pathOf = ([a, b, c, d]) => (d ? `PC/${a}/${b}/${c}${d}` : `PC/${a}/${b}`);
-
-/** The rows that a text asks for: { path, name }, one for each path. */
-function rowsIn(text) {
-  const named = new Map();
-  const others = [];
-  for (const line of text.split(/\r?\n/)) {
-    const found = NAMED.exec(line);
-    const numbers = found?.slice(1, 5).filter(Boolean).map((it) => it.toLowerCase());
-    if (found && !OF_LSPCI.test(found[5])) named.set(pathOf(numbers), found[5].trimEnd());
-    else others.push(line);
-  }
-  const nameless = devicesIn(others.join("\n")).map(pathOf).filter((it) => !named.has(it));
-  return [...[...named].map(([path, name]) => ({ path, name })),
-    ...[...new Set(nameless)].map((path) => ({ path, name: "" }))];
-}
-
-/** A row: a path, what it is called now, and the name that is proposed. */
+/** A row: a path, what it is called now and what it is below, and the name that is proposed. */
 class Row {
-  constructor({ path, name, key, by, num }, now, changed) {
-    Object.assign(this, { path, key, by, num, now, changed });
+  /**
+   * @param {Object} row what is kept of it
+   * @param {Object} around nameOf: the name at a path, null for none, undefined where that isn't
+   *   known; pending: what is pending for a path; changed: is called when it changes
+   */
+  constructor({ path, name, key, by, num }, around) {
+    Object.assign(this, { path, key, by, num, around, now: around.nameOf(path) ?? undefined });
     this.place = el("div", { class: "said" });
     this.box = el("input", {
-      id: `name-${path}`, value: name ?? "", maxlength: 1_000, autocomplete: "off",
-      oninput: changed,
+      id: `name-${path}`, value: name ?? "", maxlength: MOST_NAME, autocomplete: "off",
+      oninput: () => { this.told = null; around.changed(); },
     });
-    const drop = () => { this.isDropped = true; this.element.remove(); changed(); };
-    this.drop = steadyButton({ class: "small", onclick: drop }, "Leave out");
-    this.element = el("li", {},
-      el("p", {}, link(hrefOf(path), el("code", {}, path)), " ",
-        now === undefined ? el("span", { class: "aside" }, "no name yet")
-          : [el("span", { class: "aside" }, "now "), shown(now)]),
+    const drop = () => { this.isDropped = true; this.element.remove(); around.changed(); };
+    this.drop = steadyButton({ class: "small", onclick: drop }, "Leave out",
+      el("span", { class: "unseen" }, ` ${spoken(path)}`));
+    this.element = el("li", {}, this.aboutWords(),
       el("p", { class: "pair" }, el("label", { for: this.box.id, class: "unseen" },
-        `Name for ${path}`), this.box, this.drop),
+        `Name for ${spoken(path)}`), this.box, this.drop),
       this.place);
     this.show();
+  }
+
+  aboutWords() {
+    const { path, now, around: { nameOf, pending } } = this;
+    const above = chainOf(path, (it) => nameOf(it) ?? undefined).slice(0, -1);
+    return [
+      above.length ? el("p", { class: "under" }, above) : null,
+      el("p", {}, link(hrefOf(path), el("code", {}, spoken(path))), " ",
+        now === undefined ? el("span", { class: "aside" }, "no name yet")
+          : [el("span", { class: "aside" }, "now "), shown(now)]),
+      pending(path).map(({ num, name, author }) => el("p", { class: "fault" }, "Pending already: ",
+        link(`/proposals/${num}`, `#${num}`), " ", wishOf(name), ` by ${author}`)),
+    ];
+  }
+
+  /** What stands in the way of its name, or of an approval; else what looks odd. */
+  judge(rows) {
+    const { path, now, box: { value } } = this;
+    if (value === "" || this.num || this.key) return null;
+    if (nameFault(value)) return faultWords(nameFault(value));
+    if (value === now) return el("p", { class: "aside" }, "It has that name already.");
+    const { nameOf } = this.around;
+    const isComing = (it) => rows.some((row) => row.path === it && (row.num || row.box.value));
+    const missing = withParents(path).slice(0, -1)
+      .find((it) => nameOf(it) === null && !isComing(it));
+    if (missing) return faultWords(`${spoken(missing)} has no name: that is approved first.`);
+    return adviceWords(value, path, nameOf);
   }
 
   /** What is kept of it. */
@@ -89,7 +106,15 @@ class Row {
       link(`/proposals/${this.num}`, `#${this.num}`), ".") : null;
     const owed = this.key && !this.num
       ? faultWords(`No answer came to this one yet. It was sent as ${this.by}.`) : null;
-    fill(this.place, words ?? done ?? owed);
+    this.told = words ?? done ?? owed;
+    fill(this.place, this.told);
+  }
+
+  /** Shows what is thought of its name, where nothing was said of what became of it. */
+  look(rows) {
+    if (this.told) return;
+    const words = this.judge(rows);
+    if ((words?.textContent ?? "") !== this.place.textContent) fill(this.place, words);
   }
 
   /** Takes up an answer that came while this wasn't shown, or in another tab. */
@@ -110,7 +135,7 @@ class Row {
     this.show("");
     keepAll();
     const entry = await begin("/submit", form({ path: this.path, name, note }),
-      `Propose “${name}” for ${this.path}`, this.key);
+      `Propose “${name}” for ${spoken(this.path)}`, this.key);
     const answer = await settle({ ...entry, isInDoubt });
     if (!this.place.isConnected) report(entry, answer);
     this.num = answer.value?.num;
@@ -133,6 +158,8 @@ class Many {
     this.list = el("ol", { class: "many" });
     this.place = el("div", { class: "said" });
     this.count = el("p", { class: "count", role: "status" });
+    this.left = el("div", { role: "status" });
+    this.nameOf = new Map();
     this.text = el("textarea", { id: "pasted", rows: 5, class: "code", spellcheck: "false" });
     this.button = steadyButton({ class: "main", onclick: () => this.send() }, "Propose");
     this.pasting = this.makePasting();
@@ -144,22 +171,53 @@ class Many {
   makePasting() {
     const submit = async (event) => {
       event.preventDefault();
-      await this.add(rowsIn(this.text.value));
+      await this.find(this.text.value);
     };
     const made = el("form", { onsubmit: submit },
-      el("label", { for: "pasted" }, "Lines of lspci -nn, hardware ids, modaliases, or a number and"
-        + " a name in each line"),
+      el("label", { for: "pasted" }, "Lines of pci.ids, a diff of it, lines of lspci -vnn, hardware"
+        + " ids, modaliases, or a number and a name in each line"),
       this.text, el("p", { class: "buttons" }, el("button", {}, "Find the numbers")));
     keepDraft(made, "pasted");
     return made;
   }
 
+  /** Adds what a text asks to be named, and says which of its lines aren't taken. */
+  async find(text) {
+    const { rows, same, left } = (await names.wishesIn(text)) ?? wishesIn(text, new Map());
+    await this.add(rows);
+    const words = [
+      same ? `${several(same, "line")} ${same === 1 ? "says" : "say"} what is so already.` : null,
+      left.length ? `${several(left.length, "line")} ${left.length === 1 ? "isn't" : "aren't"}`
+        + " taken:" : null,
+      rows.length + same + left.length === 0 ? "There is no number in it." : null,
+    ].filter(Boolean).join(" ");
+    const row = (it) => el("li", {}, `line ${it.line}, ${it.why}: `, el("code", {}, shown(it.text)));
+    fill(this.left, words ? el("p", { class: left.length ? "fault" : "aside" }, words) : null,
+      left.length ? el("ul", {}, left.slice(0, MOST_LEFT).map(row)) : null,
+      left.length > MOST_LEFT ? `and ${left.length - MOST_LEFT} more` : null);
+  }
+
+  // What is said beside rows comes with them, or not at all: they stay where they are.
+  async know(paths) {
+    const late = new Promise((go) => { setTimeout(() => go(new Map()), WAIT); });
+    this.pending ??= pendingByPath();
+    const all = paths.flatMap(withParents);
+    const [known, pending] = await Promise.all([
+      Promise.race([knownNames(all, MOST_ASKED), late]), Promise.race([this.pending, late])]);
+    for (const [path, name] of known) this.nameOf.set(path, name);
+    return pending;
+  }
+
   async add(some) {
-    const known = await names.namesAt(some.map((it) => it.path));
+    const pending = await this.know(some.map((it) => it.path));
     // What another click brought meanwhile is there already.
     const has = (path) => this.rows.some((row) => !row.isDropped && row.path === path);
     const fresh = some.filter((it) => parse(it.path) && !has(it.path));
-    const rows = fresh.map((it) => new Row(it, known.get(it.path), () => this.changed()));
+    const rows = fresh.map((it) => new Row(it, {
+      nameOf: (path) => this.nameOf.get(path),
+      pending: (path) => pending.get(path) ?? [],
+      changed: () => this.changed(),
+    }));
     this.rows.push(...rows);
     this.list.append(...rows.map((it) => it.element));
     this.changed();
@@ -168,6 +226,7 @@ class Many {
   changed() {
     this.rows = this.rows.filter((it) => !it.isDropped);
     this.keepAll();
+    this.rows.forEach((it) => it.look(this.rows));
     const open = this.rows.filter((it) => it.isOpen).length;
     fill(this.count, `${several(this.rows.length, "row")}, ${open} to be proposed.`);
     fill(this.button, `Propose ${several(open, "name")}`);
@@ -192,9 +251,9 @@ class Many {
     const bad = open.find((it) => nameFault(it.box.value));
     if (bad) {
       bad.box.focus();
-      return `${bad.path}: ${nameFault(bad.box.value)}`;
+      return `${spoken(bad.path)}: ${nameFault(bad.box.value)}`;
     }
-    return noteFault(this.note.value);
+    return textFault("A note", this.note.value);
   }
 
   async send() {
@@ -233,7 +292,7 @@ export default async function manyPage({ query }) {
   all.rows.forEach((it) => it.hear());
   if (all.rows.length === 0 && query.get("text")) {
     all.text.value = query.get("text");
-    await all.add(rowsIn(query.get("text").replaceAll(" | ", "\n")));
+    await all.find(query.get("text").replaceAll(" | ", "\n"));
   }
   const clear = () => {
     all.rows.forEach((it) => { it.isDropped = !it.key || Boolean(it.num); });
@@ -242,7 +301,8 @@ export default async function manyPage({ query }) {
   };
   return [
     title("Propose many"),
-    all.pasting, all.noting, all.count,
+    el("p", {}, link("/guide", "What a good name is")),
+    all.pasting, all.left, all.noting, all.count,
     el("p", { class: "buttons" }, all.button, steadyButton({ onclick: clear }, "Clear the list")),
     all.place, all.list,
   ];

@@ -3,18 +3,19 @@
 import { account, learnRank, maySuffice } from "../account.js";
 import { ask } from "../api.js";
 import { carryOut, faultWords } from "../carry.js";
-import { el, fill, link, several, utf8Length } from "../dom.js";
+import { el, fill, link, several } from "../dom.js";
 import { draftOf } from "../drafts.js";
+import { MOST_TEXT } from "../limits.js";
 import { learnName } from "../names.js";
 import { tell } from "../notice.js";
 import { chainOf, failed, kindOf, oneParagraph, stateMark, title, wishOf } from "../parts.js";
-import { rankFor, withParents } from "../paths.js";
+import { rankFor, spoken, wholeNumber, withParents } from "../paths.js";
 import { dropSent, SentForm } from "../sent.js";
 import { compared, shown } from "../shown.js";
 import { steadyButton } from "../steady.js";
 import { RANKS, refusalWords, STATES } from "../words.js";
+import { textFault } from "./proposing.js";
 
-const MOST_TEXT = 4_000;
 const MOST_REMARKS = 200;
 /** The refusals of what isn't as it was shown: a proposal that is decided, a name that changed. */
 export const DECIDED = 8;
@@ -38,7 +39,7 @@ export default async function proposal({ number, again }) {
     await again();
     tell(words, seconds);
   };
-  const text = `Proposal ${it.num}: ${it.name === null ? "remove" : it.name} · ${it.path}`;
+  const text = `Proposal ${it.num}: ${it.name === null ? "remove" : it.name} · ${spoken(it.path)}`;
   return [
     title(text, `Proposal ${it.num} `, stateMark(it.state)),
     facts(it, names),
@@ -55,7 +56,7 @@ function facts(it, names) {
   const isDecided = it.state === "approved" || it.state === "rejected";
   return el("dl", { class: "facts" },
     row(kindOf(it.path), chainOf(it.path, (path) => names.get(path)),
-      now === undefined ? null : [" ", el("code", {}, it.path)]),
+      now === undefined ? null : [" ", el("code", {}, wholeNumber(it.path))]),
     it.state === "pending" && was ? row("Now", el("del", {}, was)) : null,
     row(it.name === null ? "Removal" : "Name", el("ins", { class: "proposed" }, wish)),
     row("By", link(`/decided?author=${it.author}`, it.author)),
@@ -96,8 +97,7 @@ function commentForm(it, done) {
   const submit = async (event) => {
     event.preventDefault();
     const words = oneParagraph(text.value);
-    const fault = !words ? "There is nothing in it."
-      : utf8Length(words) > MOST_TEXT ? "A comment has at most 4,000 bytes." : null;
+    const fault = words ? textFault("A comment", words) : "There is nothing in it.";
     if (fault) { fill(place, faultWords(fault)); return; }
     const answer = await carryOut({
       route: "/comment", fields: { num: it.num, text: words }, about: `Comment on ${it.num}`,
@@ -163,8 +163,8 @@ export async function decide(it, command) {
 export const approvalOf = (it, now, button) => ({
   route: "/confirm",
   fields: { num: it.num, was: now ?? "" },
-  about: it.name === null ? `Approve ${it.num}: remove ${it.path}`
-    : `Approve ${it.num}: “${it.name}” for ${it.path}`,
+  about: it.name === null ? `Approve ${it.num}: remove ${spoken(it.path)}`
+    : `Approve ${it.num}: “${it.name}” for ${spoken(it.path)}`,
   button,
 });
 
@@ -185,8 +185,9 @@ export function rejection(it, place, onsubmit) {
 /** The command that rejects, or null where there is no reason. */
 export function rejectionOf(it, { reason, reject, sent }, place) {
   const words = oneParagraph(reason.value);
-  if (utf8Length(words) > MOST_TEXT) {
-    fill(place, faultWords("A reason has at most 4,000 bytes."));
+  const fault = textFault("A reason", words);
+  if (fault) {
+    fill(place, faultWords(fault));
     return null;
   }
   return words === "" ? null : {

@@ -4,17 +4,20 @@ import { ask } from "../api.js";
 import { carryOut, faultWords } from "../carry.js";
 import { draftOf } from "../drafts.js";
 import { el, fill, link } from "../dom.js";
+import { MOST_NAME } from "../limits.js";
 import { tell } from "../notice.js";
 import { oneParagraph, title, wishOf } from "../parts.js";
-import { devicesIn } from "../pasted.js";
-import { KIND_WORDS, NUMBERS, parse, pathOf, rankFor, withParents } from "../paths.js";
+import { pastedInto } from "../pasted.js";
+import {
+  KIND_WORDS, NUMBERS, parse, pathOf, rankFor, spoken, wholeNumber, withParents,
+} from "../paths.js";
 import { dropSent, SentForm } from "../sent.js";
 import { shown } from "../shown.js";
 import { steadyButton } from "../steady.js";
 import { submissionsFor } from "../submissions.js";
 import { RANKS } from "../words.js";
 import many from "./many.js";
-import { MOST_NAME, nameFault, noteBox, noteFault } from "./proposing.js";
+import { adviceWords, nameFault, noteBox, textFault } from "./proposing.js";
 
 const MOST_REJECTED = 3;
 
@@ -75,17 +78,17 @@ class Numbers {
   }
 
   // A whole number, or a line of lspci, that is pasted falls into its boxes.
+  // Numbers of another kind change the kind: none is lost without a word.
   paste(event, at) {
-    const text = event.clipboardData.getData("text");
-    const [device] = devicesIn(text);
-    const typed = /^[0-9a-f]+(?:[:\s/]+[0-9a-f]+)+$/i.exec(text)?.[0].split(/[:\s/]+/);
-    const all = device ?? typed ?? [];
-    if (all.length < 2 || event.target.readOnly) return;
+    const pasted = pastedInto(this.kind, at, event.clipboardData.getData("text"));
+    if (!pasted || event.target.readOnly) return;
     event.preventDefault();
-    all.forEach((it, more) => {
-      const box = this.boxes()[(device ? 0 : at) + more];
-      if (box) box.value = it;
-    });
+    if (pasted.kind !== this.kind) {
+      this.show(pasted.kind, this.digits());
+      tell(`These are the numbers of a ${KIND_WORDS[pasted.kind].toLowerCase()}.`, 5);
+    }
+    pasted.digits.forEach((it, more) => { this.boxes()[pasted.at + more].value = it; });
+    this.boxes()[pasted.at + pasted.digits.length - 1].focus();
     this.changed();
     this.element.dispatchEvent(new Event("input", { bubbles: true }));
   }
@@ -97,6 +100,7 @@ class Proposal {
     this.go = go;
     this.turn = 0;
     this.now = null;         // the name of today, once it is known
+    this.names = new Map();  // of it and of what it is below
     dropSent();
     const before = draftOf().read();
     const given = parsed(query.get("path"));
@@ -106,7 +110,10 @@ class Proposal {
     const digits = before ? [0, 1, 2, 3].map((it) => before[`number-${it}`])
       : given?.numbers ?? under?.numbers ?? [];
     this.isFilled = before !== null;
-    this.numbers = new Numbers(kind, digits, () => this.look());
+    this.numbers = new Numbers(kind, digits, () => {
+      this.kind.value = this.numbers.kind;
+      this.look();
+    });
     this.makeFields(kind, query.get("remove") === "yes");
     this.makeForm();
     this.sent = new SentForm(this.form, this.place);
@@ -131,7 +138,7 @@ class Proposal {
       id: "name", required: true, maxlength: MOST_NAME, autocomplete: "off",
       "aria-describedby": "name-fault", oninput: () => this.checkName(),
     });
-    this.nameFault = el("small", { id: "name-fault", class: "fault" });
+    this.nameFault = el("div", { id: "name-fault" });
     this.about = el("div", { class: "about", role: "status" });
     this.place = el("div", { class: "said" });
     this.button = steadyButton({ class: "main" }, "Propose");
@@ -144,7 +151,7 @@ class Proposal {
       el("p", {}, el("label", { for: "kind" }, "Kind"), this.kind),
       this.numbers.element,
       el("p", { class: "tick" }, this.remove, el("label", { for: "remove" }, "Remove the entry")),
-      el("p", {}, el("label", { for: "name" }, "Name"), this.name, this.nameFault),
+      el("p", {}, el("label", { for: "name" }, "Name"), this.name), this.nameFault,
       el("div", {}, noteBox()),
       el("p", { class: "buttons" }, this.button), this.place);
     // What is learned of the number comes late, so nothing is below it.
@@ -165,9 +172,11 @@ class Proposal {
   }
 
   checkName() {
-    const text = this.name.value;
-    const atEnd = "There is a blank at the end; it would be in the file.";
-    this.nameFault.textContent = nameFault(text) ?? (/[ \t]$/.test(text) ? atEnd : "");
+    const fault = nameFault(this.name.value);
+    const path = this.numbers.path();
+    const isOdd = path && !this.remove.checked;
+    fill(this.nameFault, fault ? faultWords(fault)
+      : isOdd && adviceWords(this.name.value, path, (it) => this.names.get(it)));
   }
 
   /** Asks what the registry has at the path and above it. */
@@ -183,6 +192,7 @@ class Proposal {
     if (mine !== this.turn) return;
     const now = answers.at(-1).value?.name;
     this.now = now ?? null;
+    this.names = new Map(chain.map((it, at) => [it, answers[at].value?.name]));
     const before = proposed.value?.submissions ?? [];
     fill(this.about, this.aboutWords(path, chain, answers, before));
     // The present name is where a better one begins.
@@ -199,11 +209,11 @@ class Proposal {
     const nameOf = (answer) => (answer.value ? shown(answer.value.name)
       : answer.refusal ? "not there" : "not known at the moment");
     return el("ul", {},
-      above.map((it, at) => el("li", {}, `${KIND_WORDS[parse(it).kind]} `, el("code", {}, it),
-        ": ", nameOf(answers[at]))),
-      el("li", {}, el("code", {}, path), own.refusal ? " has no name yet." : [" is now ",
+      above.map((it, at) => el("li", {}, `${KIND_WORDS[parse(it).kind]} `,
+        el("code", {}, wholeNumber(it)), ": ", nameOf(answers[at]))),
+      el("li", {}, el("code", {}, spoken(path)), own.refusal ? " has no name yet." : [" is now ",
         el("b", {}, nameOf(own)), "."]),
-      missing && !isRemoval ? el("li", { class: "fault" }, el("code", {}, missing),
+      missing && !isRemoval ? el("li", { class: "fault" }, el("code", {}, spoken(missing)),
         " isn't in the registry, and has to be approved before this one: ",
         link(`/propose?path=${missing}`, "propose it")) : null,
       isRemoval && own.refusal ? el("li", { class: "fault" }, "There is nothing to remove.") : null,
@@ -221,7 +231,8 @@ class Proposal {
     if (!remove.checked && name.value === "") return [name, "There is no name."];
     if (!remove.checked && nameFault(name.value)) return [name, nameFault(name.value)];
     if (!remove.checked && name.value === this.now) return [name, "It has that name already."];
-    return noteFault(note.value) ? [note, noteFault(note.value)] : null;
+    const long = textFault("A note", note.value);
+    return long && [note, long];
   }
 
   async send() {
@@ -237,7 +248,7 @@ class Proposal {
     const words = name === null ? "to remove" : `“${name}” for`;
     const answer = await carryOut({
       route: "/submit", fields: { path, ...wish, note: oneParagraph(this.note.value) },
-      about: `Propose ${words} ${path}`, button: this.button, place: this.place,
+      about: `Propose ${words} ${spoken(path)}`, button: this.button, place: this.place,
       why: "Proposals are made under an account.", sent: this.sent,
     });
     if (!answer?.value) return;
@@ -251,7 +262,8 @@ export default async function propose(context) {
   if (context.query.get("many") === "yes") return many(context);
   return [
     title("Propose"),
-    el("p", {}, link("/propose?many=yes", "Propose many at once")),
+    el("p", {}, link("/propose?many=yes", "Propose many at once"), " · ",
+      link("/guide", "What a good name is")),
     new Proposal(context.query, context.go).form,
   ];
 }

@@ -240,7 +240,7 @@ def maintainer(cases, world, browser):
     cases.equal("story: what differs", browser.has("1 new, 0 with another name", ".result"), True)
     browser.click(".result .buttons button")
     browser.heading("Propose many")
-    browser.has("PC/8086/ab03", ".many")
+    browser.has("8086:ab03", ".many")
     browser.go("/load")
     cases.equal("story: a contributor may not import", browser.has("rank is too low"), True)
     browser.click("#log")
