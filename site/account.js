@@ -2,7 +2,7 @@
 // stay logged in, also in sessionStorage and in the other pages of this site that are open. Pages
 // that depend on its rank ask the registry for it.
 
-import { request } from "./api.js";
+import { askedBy, request } from "./api.js";
 import { keep, recall } from "./kept.js";
 
 const PLACE = "held";
@@ -36,6 +36,8 @@ export const maySuffice = (needed) => known === null || known >= needed;
 
 /** The fields of a request that say who asks. */
 export const authorization = () => (held ? { Authorization: `Basic ${held.secret}` } : {});
+
+askedBy(authorization);
 
 /** Has a function called when somebody logs in or out: with true in the middle of something. */
 export const watchAccount = (watcher) => watchers.push(watcher);

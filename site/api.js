@@ -3,6 +3,7 @@
 //   { refusal }            the registry refused it, with its number
 //   { trouble, certain }   no answer of the registry came; certain: the request did not reach it
 
+import { keep, recall } from "./kept.js";
 import { tell, untell } from "./notice.js";
 
 const SLOW = "The registry is slow to answer. Still waiting.";
@@ -33,6 +34,26 @@ function leave(method) {
       waiting[next].shift()();
     }
   }
+}
+
+// Lists that cost the registry much are kept for two seconds in front of it. Whoever has just sent a
+// command, here or in another tab, has to see what it did: a password has such a list asked anew.
+const COMMANDED = "commanded";
+const ANEW_FOR = 5_000;
+let commanded = 0;
+let whoAsks = () => ({});
+
+/** Says by which function questions learn who asks. */
+export const askedBy = (give) => { whoAsks = give; };
+
+function noteCommand() {
+  commanded = Date.now();
+  keep("localStorage", COMMANDED, commanded);
+}
+
+function hasJustCommanded() {
+  const last = Math.max(commanded, recall("localStorage", COMMANDED) ?? 0);
+  return Math.abs(Date.now() - last) < ANEW_FOR;
 }
 
 const MEANINGS = {
@@ -73,6 +94,23 @@ async function fetched(method, path, { headers = {}, body }, signal) {
   }
 }
 
+async function asked(path, how, signal) {
+  const who = hasJustCommanded() ? whoAsks() : {};
+  const answer = await fetched("GET", path, { ...how, headers: { ...who, ...how.headers } }, signal);
+  // The password may be another one by now. What may be read needs none.
+  const isRefused = answer.trouble === "login" && !how.headers && who.Authorization;
+  return isRefused ? fetched("GET", path, how, signal) : answer;
+}
+
+async function commandedBy(path, how, signal) {
+  noteCommand();
+  try {
+    return await fetched("POST", path, how, signal);
+  } finally {
+    noteCommand();
+  }
+}
+
 /**
  * Sends one request.
  * @param {"GET"|"POST"} method
@@ -90,7 +128,7 @@ export async function request(method, path, how = {}) {
     tell(SLOW);
   }, SLOW_AFTER);
   try {
-    return await fetched(method, path, how, over.signal);
+    return await (method === "POST" ? commandedBy : asked)(path, how, over.signal);
   } finally {
     clearTimeout(patience);
     clearTimeout(slowly);

@@ -19,8 +19,8 @@ from cases import last_line  # noqa: E402
 
 # Parts that mostly wait: they are tried at once, each by a process of its own.
 AT_ONCE = (
-    "site_parts machine machine_load reboot packages front front_http2 caches keeping installing"
-    " publishing proxy mirror"
+    "site_parts machine machine_load reboot packages front front_http2 front_lists front_programs"
+    " caches keeping installing publishing proxy mirror"
 )
 AT_ONCE = AT_ONCE.split()
 # Parts that take times, or measure memory: nothing else is tried beside them.

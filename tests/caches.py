@@ -40,10 +40,9 @@ class Cache:
 
     def __init__(self, folder, recorder, seconds):
         more = {
+            "host": "set_real_ip_from 127.0.0.1; real_ip_header X-Forwarded-For;",
             "pciids_site": (("max-age=60", f"max-age={seconds}"),),
             "pciids_limits": (
-                ("#set_real_ip_from 192.0.2.7", "set_real_ip_from 127.0.0.1"),
-                ("#real_ip_header", "real_ip_header"),
                 # Six at once, and none more while the test is at it.
                 ("zone=pciids_texts:1m rate=6r/m", "zone=pciids_texts:1m rate=1r/m"),
             ),

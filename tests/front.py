@@ -12,19 +12,18 @@ from front_room import HOST, PATIENCE, Front, Recorder, basic, needed
 SLOW = 1_000
 
 # Shares that a test uses up before more of them comes, however slow the machine is; and times that
-# it waits for. Whoever is at 127.0.0.4 names visitors, as a proxy does.
+# it waits for. Whoever is at PROXY names visitors.
+PROXY = "127.0.0.4"
 SHARES = {
+    "host": f"set_real_ip_from {PROXY}; real_ip_header X-Forwarded-For;",
     "pciids_limits": (
         ("zone=pciids_accounts:4m rate=20r/m", "zone=pciids_accounts:4m rate=1r/m"),
         ("zone=pciids_texts:1m rate=6r/m", "zone=pciids_texts:1m rate=1r/m"),
-        ("#set_real_ip_from 192.0.2.7;", "set_real_ip_from 127.0.0.4;"),
-        ("#real_ip_header", "real_ip_header"),
     ),
-    "pciids_site": (("zone=pciids_accounts burst=1000", "zone=pciids_accounts burst=40"),),
+    "pciids_command": (("zone=pciids_accounts burst=1000", "zone=pciids_accounts burst=40"),),
 }
 IN_SHORT = {
     "pciids_site": (
-        ("client_header_timeout 10s", "client_header_timeout 5s"),
         ("client_body_timeout 10s", "client_body_timeout 5s"),
     ),
 }
@@ -125,11 +124,13 @@ def refusals(cases, front):
     ):
         cases.equal(f"front: {name}", front.curl("/approve", *alice, *words)[0], want)
     cases.equal("front: no password", front.curl("/approve", "-d", "num=1")[0], 401)
-    for size, want in ((4_194_304, 200), (4_194_305, 413)):
-        front.write("file", "#" * size)
-        body = ("--data-binary", f"@{front.folder}/file", "-H", "Expect:")
-        told = front.curl("/import", "-u", "alice:pw-alice", *body)[0]
-        cases.equal(f"front: a body of {size} bytes", told, want)
+    for path, most in (("/import", 4_194_304), ("/submit", 65_536)):
+        for size, want in ((most, 200), (most + 1, 413)):
+            front.write("file", "#" * size)
+            body = ("--data-binary", f"@{front.folder}/file", "-H", "Expect:")
+            for coding in ((), ("-H", "Transfer-Encoding: chunked", "--http1.1")):
+                told = front.curl(path, "-u", "alice:pw-alice", *body, *coding)[0]
+                cases.equal(f"front: {path}, {size} bytes, {len(coding)}", told, want)
     told = front.curl("/whoami", "-u", "alice:pw-alice")
     cases.equal("front: whoami", told, (200, "application/json", b'{"account":"alice"}'))
     cases.equal("front: whoami, a wrong password", front.curl("/whoami", "-u", "alice:no")[0], 401)
@@ -162,6 +163,11 @@ def pages(cases, front):
         ("/classes", 200),
     ):
         cases.equal(f"front: {path}", front.curl(path, *page, "--path-as-is")[0], want)
+    for path in ("/none", "/item/PC/zzzz"):
+        told = front.curl(path, *page)[2]
+        cases.equal(f"front: {path} has the site's page", told, b"none")
+    told = front.curl("/favicon.ico")[:2]
+    cases.equal("front: the icon that browsers ask for", told, (200, "image/svg+xml"))
     told = front.curl("/vendors", *page)[2]
     cases.equal("front: the published list of vendors", b"<h1>Vendors</h1>" in told, True)
     there = front.curl("/vendors/", "-i", "-H", "Host: evil.example")[2].lower()
@@ -202,7 +208,7 @@ def limits(cases, front):
 def networks(cases, front):
     """A visitor of IPv6 is the /64 that his address is in."""
     def told(address):
-        named = ("--interface", "127.0.0.4", "-H", f"X-Forwarded-For: {address}")
+        named = ("--interface", PROXY, "-H", f"X-Forwarded-For: {address}")
         return front.curl("/pci.ids", "-H", "Cache-Control: no-cache", *named)[0]
 
     got = [told(f"2001:db8::{number}") for number in range(1, 9)]

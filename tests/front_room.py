@@ -70,12 +70,14 @@ class Request:
 
 
 class Recorder(threading.Thread):
-    """Stands for the server: keeps each request, and answers `{"ok":true}`."""
+    """Stands for the server: keeps each request, and answers `{"ok":true}`, or at a target of
+    `answers` another status and body."""
 
     def __init__(self):
         super().__init__(daemon=True)
         self.listener = socket.create_server(("127.0.0.1", 0), backlog=256)
         self.port, self.seen = self.listener.getsockname()[1], []
+        self.answers = {}
         self.start()
 
     def run(self):
@@ -91,8 +93,11 @@ class Recorder(threading.Thread):
         data = self.request(client)
         if data:
             self.seen.append(Request(data))
-            head = b"HTTP/1.1 200 OK\r\nContent-Type: application/json\r\n"
-            client.sendall(head + b'Content-Length: 11\r\nConnection: close\r\n\r\n{"ok":true}')
+            target = self.seen[-1].first.split(b" ")[1].decode()
+            status, body = self.answers.get(target, (200, b'{"ok":true}'))
+            head = f"HTTP/1.1 {status} -\r\nContent-Type: application/json\r\n"
+            head += f"Content-Length: {len(body)}\r\nConnection: close\r\n\r\n"
+            client.sendall(head.encode() + body)
 
     def request(self, client):
         """All that came: more than the request itself, if something was smuggled with it."""
@@ -117,9 +122,9 @@ class Recorder(threading.Thread):
 
 class Front:
     """nginx in a folder, in front of a port. `more` are texts of its files and what stands there in
-    a test: times and rates that a test can wait for."""
+    a test: times and rates that a test can wait for. `host` is more of what differs by host."""
 
-    def __init__(self, folder, behind, **more):
+    def __init__(self, folder, behind, host="", **more):
         self.folder, self.port = folder, free_port()
         os.makedirs(folder, exist_ok=True)
         os.chmod(folder, 0o755)
@@ -131,6 +136,7 @@ class Front:
             self.write(f"public/{name}", text)
         self.write("public/item/PC/8086.html", "<h1>Intel</h1>")
         self.write("passwords", "".join(f"{it}:{hashed(f'pw-{it}')}\n" for it in PEOPLE))
+        self.write("host.conf", f"server_name {HOST};\n{host}\n")
         self.certificate = certificate(folder)
         self.contexts = {}
         self.configure(behind, more)
@@ -146,8 +152,14 @@ class Front:
                 ("/var/log/pciids-web", self.folder),
                 ("/var/cache/pciids-web", self.folder),
             ),
-            "pciids-limits": (("unix:/run/pciids/http.sock", f"127.0.0.1:{behind}"),),
+            "pciids-limits": (
+                ("unix:/run/pciids/http.sock", f"127.0.0.1:{behind}"),
+                ("/run/pciids-lists", f"{self.folder}/lists"),
+                ("/var/cache/pciids-long", f"{self.folder}/long"),
+            ),
             "pciids-headers": (),
+            "pciids-question": (),
+            "pciids-command": (),
             "pciids-site": (
                 ("/usr/share/pciids-registry/site", SITE),
                 ("/var/lib/pciids-public", f"{self.folder}/public"),

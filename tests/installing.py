@@ -86,6 +86,9 @@ def installed(cases, root):
     cases.equal("installing: two users", user != web[0], True)
     got = root.owned("etc/pciids/passwords")
     cases.equal("installing: the passwords are the web server's", got, ("0o640", 0, web[1]))
+    got = root.read("etc/pciids/host.conf"), root.owned("etc/pciids/host.conf")
+    want = ("server_name pciids.example.org;", ("0o644", 0, 0))
+    cases.equal("installing: the name of the host", (got[0].strip(), got[1]), want)
     got = root.owned("var/backups/pciids")
     cases.equal("installing: the copies are the service's", got, ("0o750", user, group))
     units = root.path("etc/systemd/system")
@@ -99,6 +102,7 @@ def upgraded(cases, root, folder):
     site = root.read("etc/pciids/nginx/pciids-site.conf") + "# Edited.\n"
     root.write("etc/pciids/nginx/pciids-site.conf", site)
     root.write("etc/pciids/passwords", "anna:x\n")
+    root.write("etc/pciids/host.conf", "server_name ids.example.net;\n")
     root.write("var/lib/pciids/registry.db", "a registry")
     newer = [built_packages.repacked(it, "0.1.0+next", folder) for it in NAMES]
     cases.equal("installing: an upgrade", root.dpkg("-i", *newer), (0, ""))
@@ -108,6 +112,8 @@ def upgraded(cases, root, folder):
     cases.equal("installing: an unedited one is the new one", last, "# Another version.")
     got = root.read("etc/pciids/passwords"), root.owned("etc/pciids/passwords")[0]
     cases.equal("installing: the passwords stay", got, ("anna:x\n", "0o640"))
+    got = root.read("etc/pciids/host.conf")
+    cases.equal("installing: so does the name of the host", got, "server_name ids.example.net;\n")
 
 
 def removed(cases, root):
@@ -123,7 +129,8 @@ def removed(cases, root):
     want = ["etc/nginx/conf.d/other.conf"]
     cases.equal("installing: nginx has no link to what may go", links, want)
     kept = ("etc/pciids/nginx/pciids-site.conf", "etc/pciids/passwords",
-            "var/lib/pciids/registry.db", "var/backups/pciids", "var/lib/pciids-public")
+            "etc/pciids/host.conf", "var/lib/pciids/registry.db", "var/backups/pciids",
+            "var/lib/pciids-public")
     cases.equal("installing: what a removal leaves", root.has(*kept), list(kept))
     cases.equal("installing: purge", root.dpkg("-P", "pciids-registry", "pciids"), (0, ""))
     left = ["etc/pciids/passwords", "var/lib/pciids/registry.db", "var/backups/pciids"]

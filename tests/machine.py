@@ -22,6 +22,7 @@ ASK_SITE = (
 IS_UP = f"{ASK}/pending"
 MARK = "/run/pciids/stopped"
 HOLD = "/usr/lib/pciids-registry/hold"
+CERTIFICATE = "/usr/lib/pciids-registry/certificate"
 KILL = "systemctl kill --kill-whom=main -s KILL pciids"
 # Forty connections to the socket of the registry that are closed at some point of a request.
 LEFT = r"""
@@ -175,6 +176,21 @@ def web(story):
     story.example("The web server")
     up = story.machine.until(f"{ASK_SITE} -f -o /dev/null https://{HOST}/")
     story.cases.equal("machine: the web server answers", up, True)
+    story.fails("another temporary certificate", f"{CERTIFICATE} --temporary {HOST} 2> /dev/null")
+    story.example("The web server")
+    has = f"{ASK_SITE.replace('/etc/pciids/certificate', '/srv/fullchain')} -f -o /dev/null"
+    up = story.machine.until(f"{has} https://{HOST}/")
+    story.cases.equal("machine: it has taken the other certificate", up, True)
+    story.works("as certbot has it taken", f"RENEWED_LINEAGE=/srv {CERTIFICATE}")
+    story.same(
+        "who may read the key",
+        "stat -c '%A %U:%G %n' /etc/pciids/*",
+        "-rw-r--r-- root:root /etc/pciids/certificate.pem\n"
+        "-rw-r--r-- root:root /etc/pciids/host.conf\n"
+        "-rw-r----- root:pciids-web /etc/pciids/key.pem\n"
+        "drwxr-xr-x root:root /etc/pciids/nginx\n"
+        "-rw-r----- root:pciids-web /etc/pciids/passwords",
+    )
 
 
 def moderated(story):

@@ -197,11 +197,13 @@ class Nginx:
         for name in PEOPLE:
             words = ["htpasswd", "-bB", "-C", "4", f"{folder}/passwords", name, f"pw-{name}"]
             subprocess.run(words, **quiet)
-        for name in ("headers", "limits", "site"):
+        for name in ("headers", "limits", "question", "command", "site"):
             with open(f"{CONFIG}/pciids-{name}.conf", encoding="utf-8") as file:
                 text = self.in_place(file.read(), behind)
             with open(f"{folder}/pciids-{name}.conf", "w", encoding="utf-8") as file:
                 file.write(text)
+        with open(f"{folder}/host.conf", "w", encoding="utf-8") as file:
+            file.write("server_name localhost;\n")
         with open(f"{folder}/nginx.conf", "w", encoding="utf-8") as file:
             file.write(NGINX.format(folder=folder))
         words = ["nginx", "-c", f"{folder}/nginx.conf", "-p", folder, "-e", f"{folder}/errors.log",
@@ -217,6 +219,7 @@ class Nginx:
             (r"/usr/share/pciids-registry/site", SITE),
             (r"/var/lib/pciids-public", f"{self.folder}/public"),
             (r"unix:/run/pciids/http.sock", f"127.0.0.1:{behind}"),
+            (r"/run/(pciids-lists)|/var/cache/(pciids-long)", f"{self.folder}/\\1\\2"),
             (r"rate=([0-9]+)r/", r"rate=\g<1>0r/"),
         ):
             text = re.sub(old, new, text)

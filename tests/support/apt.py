@@ -17,6 +17,7 @@ SHOWN_BY = {
     "curl": "curl",
     "debhelper": "dh",
     "dpkg-dev": "dpkg-buildpackage",
+    "fail2ban": "fail2ban-regex",
     "firefox-esr": "firefox-esr",
     "gcc": "gcc",
     "libc6-dev": "/usr/include/stdio.h",
