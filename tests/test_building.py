@@ -1,16 +1,26 @@
 """How ./pciids builds a program, and the libraries side by side; the toolchain has a stand-in."""
+import contextlib
+import fcntl
+import importlib
 import os
+import pty
 import re
 import shutil
 import signal
+import struct
 import subprocess
 import tempfile
+import termios
+import threading
 import time
+import types
 
 import program
 
-SCRIPT = os.path.join(program.TOP, "tools", "build.py")
+TOOLS = [os.path.join(program.TOP, "tools", name) for name in ("build.py", "progress.py")]
 WRAPPER = os.path.join(program.TOP, "pciids")
+# About how long each crate takes, in seconds. One is not in the table.
+SECONDS = "low 1\nleft 5\nright 5\naside 2\ntop 5\npid_file 60\npid_cli 600\n"
 
 # Two crates that need one another's end, two that can be built at the same time between them, and
 # one for which no other crate waits.
@@ -44,6 +54,7 @@ print("begin", crate, "jobs", value("--jobs"), *kind, "over", *names, file=note,
 pause = float(os.environ.get("PAUSE", "0.5"))
 time.sleep({"low": 0.1, "aside": pause / 2}.get(crate, pause))
 if os.environ.get("BROKEN") == crate:
+    print("noise::a_function: proved\\nstatements noise\\nby-macro: noise")
     sys.exit("src/lib.rt:1: error: not proved")
 if kind:
     os.mkdir(value("-o"))
@@ -90,7 +101,9 @@ def make(folder, crates=CRATES):
         if crate in ("program", "pid_cli_first", "pid_cli"):
             write(os.path.join(folder, "crates", crate, "src", "main.rt"), "fn main() {}\n")
     os.makedirs(os.path.join(folder, "tools"))
-    shutil.copy(SCRIPT, os.path.join(folder, "tools"))
+    for path in TOOLS:
+        shutil.copy(path, os.path.join(folder, "tools"))
+    write(os.path.join(folder, "tools", "seconds.txt"), f"# Seconds.\n{SECONDS}")
     shutil.copy(WRAPPER, folder)
     for name, text in (("rt", RT), ("rattle", RATTLE), ("rattle-link", LINK), ("rtlib.py", RTLIB)):
         write(os.path.join(folder, "kit", "bin", name), text)
@@ -114,11 +127,11 @@ def start(folder, **more):
 
 
 def build(folder, **more):
-    """What a whole run of the script prints, and its status."""
+    """What a whole run of the script says, line by line, and its status."""
     process = start(folder, **more)
-    told, faults = process.communicate(timeout=60)
-    lines = sorted(re.sub("[0-9]+ s$", "N s", it) for it in told.splitlines())
-    return lines, faults, process.returncode
+    told, said = process.communicate(timeout=60)
+    assert told == ""
+    return said.splitlines(), process.returncode
 
 
 def notes(folder):
@@ -135,8 +148,17 @@ def test_builds(cases):
     """Each crate is built once, over the crates below it, two of them at the same time."""
     with tempfile.TemporaryDirectory() as folder:
         make(folder)
-        wanted = [f"crate {it}: proved, N s" for it in sorted(ALL)]
-        cases.equal("each crate is reported", build(folder, PAUSE="2"), (wanted, "", 0))
+        said, status = build(folder, PAUSE="2")
+        cases.equal("the status", status, 0)
+        first = "pciids: building the whole program: 6 crates, about 20 s"
+        cases.equal("how long it takes", said[0], first)
+        form = r"pciids: (\w+) is proved: (\d) of 6 crates, \d+ s, about \d+ s left(, proving .*)?"
+        named, counts, now = zip(*(re.fullmatch(form, it).groups("") for it in said[1:-1]))
+        cases.equal("each library is reported", sorted(named), sorted(NAMES))
+        cases.equal("how many there are", "".join(counts), "12345")
+        now = set(", ".join(now).split(", "))
+        cases.equal("what is being proved", {"left", "right"} <= now - {""}, True)
+        cases.equal("the end", re.sub("[0-9]+", "N", said[-1]), "pciids: built in N s")
         noted = notes(folder)
         low = "begin low jobs 2 statements over std std_thing"
         cases.equal("the lowest crate is alone", noted[0], low)
@@ -181,9 +203,11 @@ def test_breaks(cases):
     """A crate that isn't proved: what the toolchain said is shown, and nothing above is begun."""
     with tempfile.TemporaryDirectory() as folder:
         make(folder)
-        _, faults, status = build(folder, BROKEN="right")
+        said, status = build(folder, BROKEN="right")
         cases.equal("the status", status, 1)
-        cases.equal("what is shown", faults, "src/lib.rt:1: error: not proved\n")
+        last = ["src/lib.rt:1: error: not proved", "pciids: the crate right was not built"]
+        cases.equal("what is shown", said[-2:], last)
+        cases.equal("and nothing else of the toolchain", "noise" in "".join(said), False)
         cases.equal("the crate above", "top" in begun(folder), False)
 
 
@@ -199,6 +223,63 @@ def wait_until(holds):
         time.sleep(0.05)
 
 
+def at_terminal(folder, *words, **more):
+    """What ./pciids says at a terminal of 80 columns."""
+    here, there = pty.openpty()
+    fcntl.ioctl(there, termios.TIOCSWINSZ, struct.pack("HHHH", 24, 80, 0, 0))
+    how = {"stdout": subprocess.DEVNULL, "stderr": there, "env": environment(folder, **more)}
+    said = b""
+    with subprocess.Popen([os.path.join(folder, "pciids"), *words], **how) as running:
+        os.close(there)
+        # At the end of a terminal Linux reports a fault.
+        with contextlib.suppress(OSError):
+            while piece := os.read(here, 4096):
+                said += piece
+        running.wait(timeout=60)
+    os.close(here)
+    return said.decode().replace("\r\n", "\n")
+
+
+def test_at_terminal(cases):
+    """There one line moves, and its names are cut where it would be too long."""
+    with tempfile.TemporaryDirectory() as folder:
+        make(folder, "pid_cli_first:\npid_cli: low left_out right\n" + CRATES)
+        text = at_terminal(folder, "script", PAUSE="3.5")
+        first, whole = text.split("pciids: building ")[1:]
+        cases.equal("the first", [it.count("\n") for it in (first, whole)], [3, 3])
+        lines = whole.split("\n")[1].split("\r")[1:]
+        cases.equal("lines move", len(lines) > 3, True)
+        cases.equal("each clears what was there", {it[-3:] for it in lines}, {"\033[K"})
+        cases.equal("no line is too long", max(map(len, lines)) <= 79 + 3, True)
+        form = r"pciids: \d of \d crates, \d+ s, about \d+ (s|min) left, proving \w.*"
+        shown = [re.fullmatch(form, it[:-3]) for it in lines]
+        cases.equal("what they say", None in shown, False)
+        write(os.path.join(folder, "crates", "pid_cli", "src", "lib.rt"), "//! Something.\n")
+        broken = at_terminal(folder, "script", BROKEN="pid_cli", PAUSE="5")
+        end = "\033[K\nsrc/lib.rt:1: error: not proved\npciids: the crate pid_cli was not built\n"
+        cases.equal("a fault has lines of its own", end in broken, True)
+
+
+def test_silence(cases, monkeypatch, capsys):
+    """Without a terminal a line comes at least every two minutes."""
+    monkeypatch.syspath_prepend(os.path.dirname(TOOLS[0]))
+    progress = importlib.import_module("progress")
+    cases.equal("two minutes", progress.SILENCE, 120)
+    build = types.SimpleNamespace(
+        changed=threading.Condition(), crates=["pid_file", "pid_cli"], begun={"pid_file"},
+        proved=[], running={"pid_file": time.monotonic()}, processors=4, broken=None,
+        estimate=progress.Estimate({"pid_file": 9, "pid_cli": 1}, {"pid_file": [], "pid_cli": []}),
+    )
+    shown = progress.Progress(build, "it", 0)
+    clock = time.monotonic()
+    for after in (1, 119, 121, 122, 240, 242):
+        monkeypatch.setattr(progress.time, "monotonic", lambda: clock + after)
+        shown.look()
+    said = [re.sub("about .*? left", "LEFT", it) for it in capsys.readouterr().err.splitlines()]
+    line = "pciids: 0 of 2 crates, {} min 0{} s, LEFT, proving pid_file"
+    cases.equal("the lines", said, [line.format(2, 1), line.format(4, 2)])
+
+
 def test_stops(cases):
     """Stopped while it builds, it ends its provers, and the next run goes on from what is built."""
     with tempfile.TemporaryDirectory() as folder:
@@ -207,8 +288,8 @@ def test_stops(cases):
         wait_until(lambda: os.path.exists(f"{folder}/notes") and len(begun(folder)) == 4)
         cases.equal("provers run", running(folder), 3)
         process.send_signal(signal.SIGINT)
-        process.communicate(timeout=60)
-        cases.equal("the status", process.returncode, 130)
+        _, said = process.communicate(timeout=60)
+        cases.equal("the status", (process.returncode, "Traceback" in said), (130, False))
         wait_until(lambda: not running(folder))
         cases.equal("no prover goes on", running(folder), 0)
         os.remove(os.path.join(folder, "notes"))
@@ -234,13 +315,13 @@ def test_wrapper(cases):
         make(folder, PROGRAMS)
         told, said, status = call(folder, PAUSE="2.5")
         cases.equal("no arguments", (told, status), ("pid_cli_first runs\n", 0))
-        what = "pciids: building the first program, for tidy, check and help (2 crates)\n"
-        cases.equal("what it builds", what in said, True)
-        cases.equal("how far it is", "pciids: 1 of 2 crates proved (pid_file), " in said, True)
+        what = "pciids: building the first program, for tidy, check and help: 2 crates, about "
+        cases.equal("what it builds", said.startswith(what), True)
+        cases.equal("how far it is", "pciids: pid_file is proved: 1 of 2 crates, " in said, True)
         cases.equal("no arguments, again", call(folder), ("pid_cli_first runs\n", "", 0))
         told, said, status = call(folder, "script", "-x")
         cases.equal("a command", (told, status), ("pid_cli runs script -x\n", 0))
-        cases.equal("and what it builds", "building the whole program (2 crates)" in said, True)
+        cases.equal("and what it builds", "building the whole program: 2 crates" in said, True)
         cases.equal("in all", begun(folder), ["pid_file", "pid_cli_first", "pid_cli"])
         cases.equal("no arguments, later", call(folder), ("pid_cli runs\n", "", 0))
 
@@ -267,11 +348,12 @@ def test_wrapper_fails(cases):
     with tempfile.TemporaryDirectory() as folder:
         make(folder, PROGRAMS)
         told, said, status = call(folder, BROKEN="pid_file")
-        why = "src/lib.rt:1: error: not proved\npciids: could not build the program\n"
+        why = "src/lib.rt:1: error: not proved\npciids: the crate pid_file was not built\n"
+        why += "pciids: could not build the program\n"
         cases.equal("not proved", (told, said.endswith(why), status), ("", True, 3))
         cases.equal("the program", os.listdir(f"{folder}/crates/pid_cli_first/out"), [])
         os.remove(os.path.join(folder, "kit", "bin", "rt"))
-        found = ["bash", "cat", "python3", "sed", "readlink", "find", "nproc"]
+        found = ["bash", "readlink", "find"]
         for name in found:
             os.symlink(shutil.which(name), os.path.join(folder, "kit", "bin", name))
         told, said, status = call(folder, PATH=os.path.join(folder, "kit", "bin"))

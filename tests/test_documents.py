@@ -347,7 +347,8 @@ def test_evidence(cases):
                          text=True, timeout=60)
     printed = {line.strip() for line in ran.stdout.splitlines()}
     cases.equal("evidence.py: a public function", "Registry::obey" in printed, True)
-    cases.equal("evidence.py: a wrong body", "is_live: failed_registry_called_live" in printed, True)
+    body = "is_live: failed_registry_called_live"
+    cases.equal("evidence.py: a wrong body", body in printed, True)
     cases.equal("evidence.py: status", ran.returncode, 0)
 
 

@@ -1,7 +1,7 @@
 #!/usr/bin/env python3
 """Proves and builds a program and the libraries that it consists of, several side by side.
 
-    tools/build.py PROGRAM PROCESSORS
+    tools/build.py PROGRAM [PROCESSORS]
 
 Each crate is proved from nothing. Of a library, `rattle build --statements` then writes what the
 crates above it can cite, without the proofs, so that they have less to load than of a library that
@@ -9,20 +9,22 @@ crates above it can cite, without the proofs, so that they have less to load tha
 longest chain of crates waits begin first, and the others give way to them. Each has one job, since
 a prover with N jobs makes a copy of itself for each module. A library that is built alone has half
 of the processors. Where no crate can be built beside another, each has all of them.
-Prints `crate NAME: proved, N s` when a crate is built; what `rattle` prints goes to standard error
-if it fails.
+Says on standard error how far it is, and if a crate is not proved, what `rattle` said of it.
 """
 
 import contextlib
 import fcntl
 import importlib
 import os
+import re
 import shutil
 import signal
 import subprocess
 import sys
 import threading
 import time
+
+from progress import Estimate, Progress, say
 
 TOP = os.path.dirname(os.path.dirname(os.path.abspath(__file__)))
 SOURCES = ("src", "specs", "proofs")
@@ -71,7 +73,20 @@ def lock(crates):
     for it in held:
         # Some file systems have no locks.
         with contextlib.suppress(OSError):
-            fcntl.flock(it, fcntl.LOCK_EX)
+            try:
+                fcntl.flock(it, fcntl.LOCK_EX | fcntl.LOCK_NB)
+            except BlockingIOError:
+                say("pciids: waiting for another build of this folder\n")
+                fcntl.flock(it, fcntl.LOCK_EX)
+
+
+def processors():
+    """Returns how many provers may run at once: one for each processor, with 3 GB of memory for
+    each. The largest crate takes 2 GB more."""
+    with open("/proc/meminfo", encoding="utf-8") as file:
+        free = re.search(r"^MemAvailable: *(\d+) kB$", file.read(), re.M)
+    room = (int(free[1]) - 2_000_000) // 3_000_000
+    return max(1, min(room, len(os.sched_getaffinity(0))))
 
 
 class Toolchain:
@@ -138,16 +153,21 @@ class Build:
         self.toolchain = Toolchain(self.uses)
         self.processors = processors
         self.built, self.begun, self.failed = set(), set(), False
+        # Those that are proved, in turn, and since when others are being proved.
+        self.proved, self.running = [], {}
         # Those that are built beside the ones for which the longest chain waits.
         self.beside = set()
         self.changed = threading.Condition()
-        self.started = []
+        self.started, self.broken = [], None
         self.sizes = {crate: size(crate) for crate in self.crates}
         # The longest chain that waits for a crate.
         self.above = {}
         for crate in reversed(self.crates):
             users = [it for it in self.above if crate in self.uses[it]]
             self.above[crate] = max((self.chain(it) for it in users), default=0)
+        self.estimate = Estimate(self.sizes, self.uses)
+        for crate in self.crates:
+            self.measure(crate)
 
     def chain(self, crate):
         return self.sizes[crate] + self.above[crate]
@@ -192,18 +212,27 @@ class Build:
 
     def build(self, crate, jobs):
         """Builds one crate, and lets those above it begin."""
-        succeeded, began = False, time.monotonic()
+        succeeded = False
         try:
             succeeded = self.is_built(crate) or self.prove(crate, jobs)
         finally:
             with self.changed:
                 self.beside.discard(crate)
+                self.running.pop(crate, None)
                 self.failed = self.failed or not succeeded
                 self.built.add(crate)
-                seconds = time.monotonic() - began
-                if succeeded:
-                    print(f"crate {crate}: proved, {seconds:.0f} s", flush=True)
+                self.proved += [crate] if succeeded else []
                 self.changed.notify()
+
+    def measure(self, crate, seconds=None):
+        """Notes how many seconds a crate took to prove, here or in an earlier build."""
+        path = os.path.join(folder(crate), "out", "seconds")
+        with contextlib.suppress(OSError, ValueError):
+            if seconds is not None:
+                with open(path, "w", encoding="utf-8") as file:
+                    file.write(f"{seconds:.0f}\n")
+            with open(path, encoding="utf-8") as file:
+                self.estimate.measured[crate] = float(file.read())
 
     def is_built(self, crate):
         """Returns whether a library was built from its sources as they are now, and over the
@@ -219,8 +248,15 @@ class Build:
 
     def prove(self, crate, jobs):
         """Proves and builds a crate. Returns whether that succeeded."""
+        with self.changed:
+            self.running[crate] = began = time.monotonic()
+        succeeded = self.prove_now(crate, self.toolchain.build(crate, jobs))
+        if succeeded:
+            self.measure(crate, time.monotonic() - began)
+        return succeeded
+
+    def prove_now(self, crate, command):
         place, toolchain = Toolchain.place(crate), self.toolchain
-        command = toolchain.build(crate, jobs)
         if toolchain.is_program(crate):
             os.makedirs(os.path.dirname(place), exist_ok=True)
             return self.call(crate, command) and self.call(crate, toolchain.link(crate))
@@ -249,8 +285,9 @@ class Build:
             )
             self.started.append(process)
         told, _ = process.communicate()
-        if process.returncode and not self.failed:
-            sys.stderr.write(told)
+        with self.changed:
+            if process.returncode and not self.failed:
+                self.failed, self.broken = True, (crate, told)
         return process.returncode == 0
 
     def stop(self):
@@ -263,15 +300,29 @@ class Build:
 
 
 def main():
-    program, processors = sys.argv[1], int(sys.argv[2])
-    build = Build(program, processors)
+    program, *count = sys.argv[1:]
+    # The program is then newer than what it was built from, and older than what changed meanwhile.
+    start, path = time.time_ns(), os.path.join(folder(program), "out", program)
+    if not os.access(os.environ.get("TMPDIR", "/tmp"), os.W_OK):
+        os.environ.pop("TMPDIR", None)
+    build = Build(program, int(count[0]) if count else processors())
     signal.signal(signal.SIGTERM, lambda *_: sys.exit(build.stop() or 143))
+    is_built, is_small = False, program == "pid_cli_first"
+    what = "the first program, for tidy, check and help" if is_small else "the whole program"
+    # If only the times of files have changed, a build ends within a second or two.
+    progress = Progress(build, what, 3 if os.path.exists(path) else 0)
     try:
         lock(build.crates)
-        return 0 if build.run() else 1
+        progress.start()
+        is_built = build.run()
+        if is_built:
+            os.utime(path, ns=(start, start))
     except KeyboardInterrupt:
         build.stop()
         return 130
+    finally:
+        progress.end(is_built)
+    return 0 if is_built else 1
 
 
 if __name__ == "__main__":

@@ -1,42 +1,23 @@
 """What a run of the tests needs: programs newer than their sources."""
+import importlib
 import os
 import subprocess
+import sys
 import time
 
 from program import FIRST, INSTALLED, PROGRAM, TOP, WHOLE
 
-PARTS_OF_CRATE = ("src", "specs", "proofs")
-
-
-def uses():
-    """The libraries of each crate, as crates.txt lists them."""
-    found = {}
-    with open(os.path.join(TOP, "crates.txt"), encoding="utf-8") as file:
-        for line in file:
-            name, colon, libraries = line.partition("#")[0].partition(":")
-            if colon:
-                found[name.strip()] = libraries.split()
-    return found
-
-
-def crates_of(name):
-    """A crate, and those of this repository that it is made of."""
-    listed, found, left = uses(), set(), [name]
-    if name not in listed:
-        raise LookupError(f"crates.txt does not name {name}")
-    while left:
-        it = left.pop()
-        if it in listed and it not in found:
-            found.add(it)
-            left += listed[it]
-    return found
+TOOLS = os.path.join(TOP, "tools")
 
 
 def sources_of(name):
     """The files that a program is made of, and their folders, which say when one was removed."""
+    if TOOLS not in sys.path:
+        sys.path.append(TOOLS)
+    build = importlib.import_module("build")
     yield os.path.join(TOP, "crates.txt")
-    for crate in crates_of(name):
-        for part in PARTS_OF_CRATE:
+    for crate in [*build.below(build.read_uses(), name), name]:
+        for part in build.SOURCES:
             for folder, _, files in os.walk(os.path.join(TOP, "crates", crate, part)):
                 yield folder
                 yield from (os.path.join(folder, it) for it in files)
@@ -51,7 +32,7 @@ def is_current(program):
     return all(os.lstat(it).st_mtime_ns <= built for it in sources_of(name))
 
 
-def built(program, words, **how):
+def fault_of(program):
     """Makes a program current, by a build if it has to be. Returns why it isn't, or None."""
     place = os.path.relpath(program, TOP)
     if is_current(program):
@@ -59,15 +40,12 @@ def built(program, words, **how):
         print(f"{place}: tried as built ({date}): no source is newer")
         return None
     print(f"{place}: missing, or older than a source: proving and building it")
-    start = time.time_ns()
+    words = [sys.executable, "-B", os.path.join(TOOLS, "build.py"), os.path.basename(program)]
     try:
-        ran = subprocess.run(words, stdin=subprocess.DEVNULL, stdout=subprocess.PIPE, **how)
+        if subprocess.run(words, stdin=subprocess.DEVNULL).returncode != 0:
+            return f"{place} was not built"
     except OSError as fault:
         return f"{place} was not built: {fault}"
-    if ran.returncode != 0:
-        return f"{ran.stdout.decode(errors='replace')[-2_000:]}{place} was not built"
-    # What changed since the start is newer than the program, and what rt found unchanged is not.
-    os.utime(program, ns=(start, start))
     return None if is_current(program) else f"{place}: a source changed while it was built"
 
 
@@ -76,10 +54,4 @@ def ready(needs_whole):
     if INSTALLED is not None:
         print(f"{PROGRAM}: tried as PCIIDS names it, and nothing is built")
         return None
-    # Where neither is current, the script builds the first program before the whole one.
-    fault = built(WHOLE, [PROGRAM, "script"]) if needs_whole else None
-    # It leaves the first program as it is where the whole one is current.
-    if fault or not is_current(WHOLE):
-        return fault or built(FIRST, [PROGRAM])
-    folder = os.path.dirname(os.path.dirname(FIRST))
-    return built(FIRST, ["rt", "run"], cwd=folder, stderr=subprocess.STDOUT)
+    return fault_of(FIRST) or (fault_of(WHOLE) if needs_whole else None)
