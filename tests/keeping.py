@@ -3,11 +3,14 @@ Whatever fails or is killed, the registry is whole and the server comes back."""
 import contextlib
 import gzip
 import os
+import re
 import shutil
+import socket
 import subprocess
 import tempfile
 import time
 
+from http_server import free_port
 from program import TOP
 
 LIB = os.path.join(TOP, "deploy", "lib")
@@ -16,7 +19,8 @@ LIB = os.path.join(TOP, "deploy", "lib")
 OPENS = """#!/bin/sh
 case $1 in
     check) grep -c . && exit 0 ;;
-    export) [ "$(cat "$3")" = "registry $(cat "$3-wal")" ] && cat "$3" && exit 0 ;;
+    export) [ ! -e "${0%/*}/large" ] || head -c 50000000 /dev/zero | tail -c 50000000 > /dev/null
+        [ "$(cat "$3")" = "registry $(cat "$3-wal")" ] && cat "$3" && exit 0 ;;
 esac
 exit 1
 """
@@ -151,11 +155,13 @@ class Room:
 
     def __init__(self, folder):
         self.folder = folder
-        self.registry, self.copies, self.mirror, self.tools = (
-            os.path.join(folder, name) for name in ("registry", "copies", "mirror", "tools")
+        names = ("registry", "copies", "mirror", "public", "tools")
+        self.registry, self.copies, self.mirror, self.public, self.tools = (
+            os.path.join(folder, name) for name in names
         )
-        for it in (self.registry, self.copies, self.mirror, self.tools):
-            os.mkdir(it)
+        for name in names:
+            os.mkdir(os.path.join(folder, name))
+        write(os.path.join(self.public, "pci.ids"), "published")
         self.program = os.path.join(folder, "program")
         write(self.program, OPENS, 0o755)
         self.set("one")
@@ -173,8 +179,8 @@ class Room:
         backup = os.path.join(LIB, "backup")
         return ran(backup, "copy", self.registry, self.copies, tools=self.tools)
 
-    def keep(self, number):
-        words = ("keep", self.copies, str(number), self.program)
+    def keep(self, number, most=""):
+        words = ("keep", self.copies, str(number), most, self.program)
         return ran(os.path.join(LIB, "backup"), *words, tools=self.tools)
 
     def kept(self):
@@ -182,6 +188,9 @@ class Room:
 
     def restore(self, *words):
         return ran(os.path.join(LIB, "restore"), *words, tools=self.tools)
+
+    def swap(self):
+        return self.restore("swap", self.registry, self.mirror, self.public)
 
     def prepare(self, name):
         return self.restore("prepare", os.path.join(self.copies, name), self.registry, self.program)
@@ -223,8 +232,26 @@ def backups(cases):
         got = (it.keep(1)[0], it.kept())
         cases.equal("backup: one that does not open is not kept", got, (1, before))
         cases.equal("backup: nothing was copied", it.keep(1)[0], 1)
+    large(cases)
     odd_files(cases)
     broken_tools(cases)
+
+
+def large(cases):
+    """A registry that takes much memory to open is kept, and the operator hears of it."""
+    with room() as it:
+        it.copy()
+        cases.equal("backup: within its memory", it.keep(5, "30")[0], 0)
+        write(os.path.join(it.folder, "large"), "")
+        for most, want in (("400", 0), ("30", 1)):
+            time.sleep(1.1)
+            it.copy()
+            status, told = it.keep(5, most)
+            is_told = bool(re.search(r"took \d+ MB of memory, more than 30: ", told))
+            cases.equal(f"backup: a large one, {most} MB", (status, is_told), (want, want == 1))
+        cases.equal("backup: each is kept", len(it.kept()), 3)
+        files = ["pci.ids.gz", "registry.db-wal.gz", "registry.db.gz"]
+        cases.equal("backup: whole", sorted(os.listdir(f"{it.copies}/{it.kept()[-1]}")), files)
 
 
 def odd_files(cases):
@@ -264,14 +291,16 @@ def restores(cases):
         it.set("two")
         write(os.path.join(it.mirror, "revision"), "7\n")
         cases.equal("restore: prepared", (it.prepare(name)[0], it.now()), (0, TWO))
-        status, told = it.restore("swap", it.registry, it.mirror)
+        status, told = it.swap()
         cases.equal("restore: swapped", (status, it.now(), "restored" in told), (0, ONE, True))
         cases.equal("restore: the mirror begins anew", os.listdir(it.mirror), [])
         old = [name for name in os.listdir(it.registry) if name.startswith("replaced.")]
         names = ("registry.db", "registry.db-wal")
         where = [os.path.join(it.registry, old[0], name) for name in names]
         cases.equal("restore: the former one is kept", tuple(map(read, where)), TWO)
-        status = it.restore("swap", it.registry, it.mirror)[0]
+        published = read(os.path.join(it.registry, old[0], "published.ids"))
+        cases.equal("restore: so is what was published", published, b"published")
+        status = it.swap()[0]
         cases.equal("restore: nothing is prepared any more", status, 1)
         second_restore(cases, it, name, old)
         bad = os.path.join(it.copies, "2000-01-01T000000Z")
@@ -296,7 +325,7 @@ def second_restore(cases, it, name, former):
             former = [*former, os.path.basename(taken)]
     it.set("two")
     it.prepare(name)
-    status = it.restore("swap", it.registry, it.mirror)[0]
+    status = it.swap()[0]
     cases.equal("restore: once more at once", (status, it.now()), (0, ONE))
     names = [name for name in os.listdir(it.registry) if name.startswith("replaced.")]
     new = [name for name in names if name not in former]
@@ -326,7 +355,7 @@ def swaps_stopped(cases):
                 for tool in tools:
                     text = body.format(counter=counter, number=number, tool=shutil.which(tool))
                     write(os.path.join(it.tools, tool), text, 0o755)
-                it.restore("swap", it.registry, it.mirror)
+                it.swap()
                 is_over = len(read(counter)) < number
                 for tool in tools:
                     os.remove(os.path.join(it.tools, tool))
@@ -341,7 +370,32 @@ def swaps_stopped(cases):
     cases.equal("restore: it was stopped before and after it stood", outcomes, {ONE, TWO})
 
 
+def answers(cases):
+    """A start waits until the server answers, for so long, or until its process has ended."""
+    script, none = os.path.join(LIB, "answers"), f"http://127.0.0.1:{free_port()}"
+    with subprocess.Popen(["sleep", "60"]) as process:
+        start = time.monotonic()
+        status, told = ran(script, str(process.pid), "2", PCIIDS_PORT=none)
+        got = status, "still reads" in told, time.monotonic() - start >= 1
+        cases.equal("answers: nothing answers in time", got, (0, True, True))
+        listener = socket.create_server(("127.0.0.1", 0))
+        place = f"http://127.0.0.1:{listener.getsockname()[1]}"
+        words = [script, str(process.pid)]
+        environment = dict(os.environ, PCIIDS_PORT=place)
+        with subprocess.Popen(words, env=environment) as waiting:
+            client, _ = listener.accept()
+            cases.equal("answers: it waits for the answer", waiting.poll(), None)
+            with client:
+                client.recv(4096)
+                client.sendall(b"HTTP/1.1 404 Not Found\r\nContent-Length: 0\r\n\r\n")
+            cases.equal("answers: it has come", waiting.wait(60), 0)
+        listener.close()
+        process.kill()
+    cases.equal("answers: the process has ended", ran(script, str(process.pid))[0], 1)
+
+
 def run(cases):
     holds(cases)
     backups(cases)
     restores(cases)
+    answers(cases)

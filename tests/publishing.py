@@ -44,14 +44,16 @@ class Press:
             os.mkdir(it)
         shutil.copy(PUBLISH, os.path.join(self.lib, "publish"))
         with open(os.path.join(self.lib, "mirror"), "w", encoding="utf-8") as file:
-            file.write(f'#!/bin/sh\ncp {self.text} "$2/pci.ids"\n')
+            file.write(f'#!/bin/sh\ncp {self.text} "$2/pci.ids"; cat {self.text}.told\n')
         os.chmod(os.path.join(self.lib, "mirror"), 0o755)
 
-    def run(self, text):
-        with open(self.text, "w", encoding="utf-8") as file:
-            file.write(text)
+    def run(self, text, told=""):
+        """Publishes a text, of which the mirror prints what changed."""
+        for path, its in ((self.text, text), (f"{self.text}.told", told)):
+            with open(path, "w", encoding="utf-8") as file:
+                file.write(its)
         words = [os.path.join(self.lib, "publish"), "http://x", self.copy, self.public]
-        ran = subprocess.run([*words, SITE], capture_output=True, timeout=60)
+        ran = subprocess.run([*words, SITE], capture_output=True, timeout=300)
         return ran.returncode, ran.stdout.decode() + ran.stderr.decode()
 
     def shell(self, command):
@@ -184,6 +186,15 @@ def lines(cases, press):
     cases.equal("publish: the text again", press.run(TEXT)[0], 0)
 
 
+def changed(cases, press):
+    """What changed is passed on, but not the thousands of lines of a first run."""
+    for number in (0, 1, 100, 101, 35_598):
+        changes = "".join(f"{it} PC/8086/{it:04x} Name\u2028{it}\n" for it in range(number))
+        got = press.run(TEXT, changes)[1].partition("published: ")[0]
+        want = changes if number <= 100 else f"{number:,} items were added or renamed\n"
+        cases.equal(f"publish: {number} changes", got, want)
+
+
 @pytest.mark.needs("bzip2", "curl", "pci.ids", "pciutils")
 def run(cases):
     with tempfile.TemporaryDirectory() as folder:
@@ -193,6 +204,7 @@ def run(cases):
         tools(cases, press)
         pages(cases, press)
         lines(cases, press)
+        changed(cases, press)
         path = os.path.join(press.public, "pci.ids")
         os.utime(path, (1_000_000_000, 1_000_000_000))
         cases.equal("publish: nothing new", press.run(TEXT), (0, ""))
