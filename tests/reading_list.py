@@ -27,7 +27,10 @@ PROMISES = (
     ("4. Look-ups", ("pid_lookup::lookup",)),
     ("5. Judgement", ("pid_moderation::decide", "pid_moderation::keys_stand_once")),
     ("6. The registry", ("pid_service::Registry::obey",)),
-    ("7. Crash prefix", ("pid_service::reopened_registries_show_prefixes",)),
+    # The law, and those that give its premises from the clauses of public calls.
+    ("7. Crash prefix",
+     ("pid_service::openings_tell_prefixes", "pid_service::clauses_meet_lives",
+      "pid_service::first_openings_show_what_is_there", "pid_service::openings_find_histories")),
     ("8. Migration", ("pid_service::migrate",)),
     ("9. Scripts", ("pid_script::run_script",)),
     ("10. HTTP", ("pid_http::serve_stream",)),
@@ -295,7 +298,9 @@ def page_part():
         keys = definitions_for(specs, sources, calls)
         read |= keys
         size = sum(specs.definitions[key].size for key in keys)
-        rows.append(f"| {promise} | {', '.join(map(name_of, calls))} | {len(keys)} | {size:,} |\n")
+        shown = ", ".join(map(name_of, calls if len(calls) < 4 else calls[:1]))
+        more = f" and {len(calls) - 1} more" if len(calls) > 3 else ""
+        rows.append(f"| {promise} | {shown}{more} | {len(keys)} | {size:,} |\n")
         parts.append(f"\n### To read for {promise}\n\n")
         for call in calls:
             names = ", ".join(f"`{it}`" for it in says(specs, sources, call))

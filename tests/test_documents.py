@@ -1,5 +1,6 @@
 """The documents at the top and in docs/: their links lead somewhere, the calls that they promise
 exist, the pages that are meant to be read whole keep their width, and versions agree."""
+import glob
 import os
 import re
 import shutil
@@ -361,3 +362,18 @@ def test_glossary(cases):
     count, missing = missing_words()
     cases.equal("words that no definition has", missing, [])
     cases.equal("it names some", count > 30, True)
+
+
+def test_headline(cases):
+    """Each definition that the page quotes stands so in a file of specs, comments aside."""
+    with open(os.path.join(TOP, "docs", "HEADLINE.md"), encoding="utf-8") as page:
+        quotes = page.read().split("```\n")[1::2]
+    specs = []
+    for path in glob.glob(os.path.join(TOP, "crates", "*", "specs", "**", "*.antt"),
+                          recursive=True):
+        with open(path, encoding="utf-8") as file:
+            specs.append(" ".join(file.read().split()))
+    cases.equal("HEADLINE.md: it quotes definitions", len(quotes) >= 10, True)
+    for quote in quotes:
+        words = " ".join(quote.split())
+        cases.equal(f"HEADLINE.md: {words[:60]}", any(words in it for it in specs), True)

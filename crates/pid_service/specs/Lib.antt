@@ -10,6 +10,7 @@ pub mod LookingUp
 pub mod Asking
 pub mod Lives
 pub mod LifeLaws
+pub mod Headline
 pub mod Running
 pub mod ItemTexts
 pub mod Exports

@@ -6,7 +6,9 @@
 //! a session to the next opening leads `openings_find_histories`, over stops, failed openings and
 //! migrations that come between (`histories_are_kept_between`), and into a store that may be of
 //! another type. `first_openings_show_what_is_there` is of the first opening, and
-//! `reopened_registries_show_prefixes` says what each opening shows.
+//! `reopened_registries_show_prefixes` says what each opening shows; `openings_tell_prefixes` is the
+//! headline.
+ghost use Rattle.pid_service.specs.Headline.{OpeningsTellPrefixes};
 ghost use Rattle.pid_service.specs.LifeLaws.{
   CallsMeetLives,
   EarlierTablesShow,
@@ -19,6 +21,7 @@ ghost use Rattle.pid_service.specs.LifeLaws.{
 };
 
 use crate::laws;
+use pid_ident::Output;
 use sqlite::Alter;
 
 /// The clauses of a call say what a session asks of it.
@@ -90,6 +93,18 @@ pub fn reopened_registries_show_prefixes<S: Alter + Drop, T: Alter + Drop>()
     pid_moderation::laws::marks_stay(); // proof only
     laws::reached_histories_are_kept(); // proof only
     pid_reader::laws::printed_trees_read_back(); // proof only
+}
+
+/// The headline: sessions on a registry lead to its end, which may be a stop anywhere. The registry
+/// that is opened next on what was left has the history after a prefix of the commands of each
+/// session, which holds every acknowledged one. A whole export of it writes the text of that
+/// history's tree, which reads back to that tree and to no other, and a look-up answers the text
+/// that the flags define over that tree. All while the disk returns what was written.
+pub fn openings_tell_prefixes<S: Alter + Drop, T: Alter + Drop, O: Output>()
+    ensures { OpeningsTellPrefixes S.Store T.Store O.Output }
+{
+    laws::openings_find_histories::<S, T>(); // proof only
+    laws::reopened_registries_show_prefixes::<S, T>(); // proof only
 }
 
 /// A command under a key was in doubt as a registry failed, and after the next opening it is sent
