@@ -168,6 +168,14 @@ def pages(cases, front):
         cases.equal(f"front: {path} has the site's page", told, b"none")
     told = front.curl("/favicon.ico")[:2]
     cases.equal("front: the icon that browsers ask for", told, (200, "image/svg+xml"))
+    for path, status, kind in (
+        ("/history/2026-11.jsonl", 200, "text/plain; charset=utf-8"),
+        ("/history/PC/8086.jsonl", 200, "text/plain; charset=utf-8"),
+        ("/feeds/changes.atom", 200, "application/atom+xml; charset=utf-8"),
+        ("/history/.names", 404, "text/html"),
+        ("/history/PC/..%2f.names", 404, "text/html"),
+    ):
+        cases.equal(f"front: {path}", front.curl(path, *page)[:2], (status, kind))
     told = front.curl("/vendors", *page)[2]
     cases.equal("front: the published list of vendors", b"<h1>Vendors</h1>" in told, True)
     there = front.curl("/vendors/", "-i", "-H", "Host: evil.example")[2].lower()

@@ -135,6 +135,11 @@ class Front:
                            ("vendors.html", "<h1>Vendors</h1>")):
             self.write(f"public/{name}", text)
         self.write("public/item/PC/8086.html", "<h1>Intel</h1>")
+        for it in ("history/PC", "feeds"):
+            os.makedirs(os.path.join(folder, "public", it))
+        for it in ("history/2026-11.jsonl", "history/.names", "history/PC/8086.jsonl",
+                   "feeds/changes.atom"):
+            self.write(f"public/{it}", "{}")
         self.write("passwords", "".join(f"{it}:{hashed(f'pw-{it}')}\n" for it in PEOPLE))
         self.write("host.conf", f"server_name {HOST};\n{host}\n")
         self.certificate = certificate(folder)
