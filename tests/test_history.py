@@ -7,8 +7,10 @@ import json
 import os
 import random
 import shutil
+import subprocess
 import sys
 import time
+import xml.etree.ElementTree as ElementTree
 from importlib.machinery import SourceFileLoader
 from importlib.util import module_from_spec, spec_from_loader
 
@@ -223,6 +225,64 @@ def test_restore(cases, lib, room):
     with open(os.path.join(room, "proposals", "0.json"), encoding="utf-8") as file:
         dates = json.load(file)
     cases.equal("the date of a number that was given again", dates["proposed 2"][11:16], "12:03")
+
+
+ODD = "A & <b> \"x\" \ufffe\u202e\u0085 \u0416"
+ATOM = os.path.join(TOP, "tests", "support", "atom.rnc")
+NAMESPACE = {"atom": "http://www.w3.org/2005/Atom"}
+
+
+def entries_of(*place):
+    """The title, the text and the time of each entry of a feed."""
+    found = ElementTree.parse(os.path.join(*place)).findall("atom:entry", NAMESPACE)
+    return [tuple(it.find(f"atom:{name}", NAMESPACE).text for name in ("title", "content"))
+            for it in found]
+
+
+@pytest.mark.needs("jing")
+def test_feeds(cases, lib, folder):
+    """Feeds by the grammar of RFC 4287, with what people read in them."""
+    press = Press(lib, folder)
+    registry = press.registry
+    press.run(BEGIN)
+    registry.import_names({"PC/8086": "Intel", **{f"PC/8086/{it:04x}": ODD for it in range(25)}})
+    press.run(BEGIN + 60)
+    for path, name, state in (("PC/8086/7d8a", "Imaginary", "approved"),
+                              ("PC/8086/7d8a", "Imaginary Controller", "approved"),
+                              ("PC/8086/0001", None, "approved"), ("PD/01", ODD, "rejected")):
+        num = registry.submit("alice", path, name)
+        press.run(BEGIN + 120 + 10 * num)
+        registry.settle(num, state, "mona", ODD if state == "rejected" else "")
+        press.run(BEGIN + 125 + 10 * num)
+    feeds = os.path.join(press.public, "feeds")
+    found = sorted(os.path.relpath(os.path.join(at, it), feeds)
+                   for at, _, names in os.walk(feeds) for it in names if it.endswith(".atom"))
+    cases.equal("the feeds", found, ["PC/8086.atom", "by/alice.atom", "changes.atom"])
+    ran = subprocess.run(["jing", "-c", ATOM, *found], cwd=feeds, capture_output=True, text=True)
+    cases.equal("their grammar", (ran.stdout, ran.returncode), ("", 0))
+    shown = "A & <b> \"x\" [U+FFFE][U+202E][U+0085] \u0416[U+0416]"
+    want = [
+        (f'8086:0001  removed, was "{shown}"', "; proposed by alice (#3), approved by mona"),
+        ('8086:7d8a  "Imaginary Controller", was "Imaginary"',
+         "; proposed by alice (#2), approved by mona"),
+        ('8086:7d8a  "Imaginary", new', "; proposed by alice (#1), approved by mona"),
+        ("Names: 26 added; by an import", ""),
+    ]
+    want = [(title, title + more) for title, more in want]
+    for it in ("changes", "PC/8086"):
+        cases.equal(f"the feed {it}", entries_of(feeds, f"{it}.atom"), want)
+    got = entries_of(feeds, "by/alice.atom")
+    cases.equal("what came of a proposal", got[0], (
+        f'#4 rejected: 01  "{shown}"', f'#4 rejected: 01  "{shown}"; rejected by mona: {shown}'))
+    whole = ElementTree.parse(os.path.join(feeds, "changes.atom"))
+    ids = [it.text for it in whole.iter("{http://www.w3.org/2005/Atom}id")]
+    cases.equal("ids are unlike", len(set(ids)), len(want) + 1)
+    before = os.stat(os.path.join(feeds, "changes.atom")).st_mtime_ns
+    registry.settle(registry.submit("bob", "PD/01", "Mass"), "withdrawn", "bob")
+    press.run(BEGIN + 600)
+    got = os.stat(os.path.join(feeds, "changes.atom")).st_mtime_ns
+    cases.equal("what did not change is not written", got, before)
+    press.server.close()
 
 
 class Stop(BaseException):
