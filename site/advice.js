@@ -3,7 +3,8 @@
 
 import { parse, wholeNumber } from "./paths.js";
 
-const LEGAL = /\b(?:corporation|corp|incorporated|inc|limited|ltd|co|company|gmbh|ag|llc|plc|technolog(?:y|ies)|international|systems?|group)\b.*$/i;
+const LEGAL = new RegExp("\\b(?:corporation|corp|incorporated|inc|limited|ltd|co|company|gmbh"
+  + "|ag|llc|plc|technolog(?:y|ies)|international|systems?|group)\\b.*$", "i");
 
 /** What a vendor is called in short: "Intel" of "Intel Corporation". */
 const shortOf = (vendor) => vendor.replace(/[,[(].*$/, "").replace(LEGAL, "").trim();
@@ -20,6 +21,9 @@ const beginsWith = (name, word) => word.length > 1
 
 const isShouted = (name) => !/\p{Ll}/u.test(name) && /\b[A-Z]{6,}\b.*\b[A-Z]{5,}\b/.test(name);
 
+const EMPTY = new RegExp("^(?:unknown|unnamed|device|test|todo|tbd|n/a|none|\\?+)"
+  + "(?:\\s+(?:device|[0-9a-f]{4}))?$", "i");
+
 const RULES = [
   [(name) => /^[ \t]|[ \t]$/.test(name), "It has a blank at an end; that would be in the file."],
   [(name) => /\S(?: {2,}|\t)\S/.test(name), "It has two blanks in a row."],
@@ -28,12 +32,11 @@ const RULES = [
   [(name) => /[®™©]|\((?:r|tm|c)\)/i.test(name),
     "It has a sign of a trademark: the list does without."],
   [isShouted, "It is all in capitals: write words as words, and only abbreviations in capitals."],
-  [(name) => /^(?:unknown|unnamed|device|test|todo|tbd|n\/a|none|\?+)(?:\s+(?:device|[0-9a-f]{4}))?$/i
-    .test(name), "It says nothing: an entry without a name is better."],
+  [(name) => EMPTY.test(name), "It says nothing: an entry without a name is better."],
   [(name) => /^(["'“‘]).*["'”’]$/.test(name), "It is in quotes."],
   [(name) => /https?:\/\/|www\./i.test(name), "It has an address: put that into the note."],
-  [(name) => /[^ -~\t]/.test(name), "It has letters that some programs can't show: write it in ASCII"
-    + " where that says the same."],
+  [(name) => /[^ -~\t]/.test(name), "It has letters that some programs can't show: write it in"
+    + " ASCII where that says the same."],
   [(name, path) => name.toLowerCase().includes(wholeNumber(path).toLowerCase())
     && wholeNumber(path).includes(":"), "It has its own number in it."],
 ];

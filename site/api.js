@@ -83,11 +83,12 @@ async function judged(answer) {
   return { trouble, certain };
 }
 
-async function fetched(method, path, { headers = {}, body }, signal) {
+async function fetched(method, path, { headers = {}, body, keepalive }, signal) {
   try {
     // "omit": no password that the browser keeps goes along, and it shows no window of its own.
     return await judged(await fetch(path, {
-      method, headers, body, signal, credentials: "omit", redirect: "error", cache: "no-store",
+      method, headers, body, keepalive, signal, credentials: "omit", redirect: "error",
+      cache: "no-store",
     }));
   } catch {
     return { trouble: signal.aborted ? "slow" : "offline", certain: false };
@@ -115,7 +116,8 @@ async function commandedBy(path, how, signal) {
  * Sends one request.
  * @param {"GET"|"POST"} method
  * @param {string} path
- * @param {Object} [how] headers, body; quiet: nothing is said while it is slow
+ * @param {Object} [how] headers, body; keepalive: it goes on without the page; quiet: nothing is
+ *   said while it is slow
  */
 export async function request(method, path, how = {}) {
   await enter(method);

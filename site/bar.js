@@ -81,6 +81,11 @@ function triedWords(key) {
 
 // How it stands with a command: what is said of it, and what a person can do about it.
 const STANDS = {
+  held: {
+    words: () => "it is sent in a moment.",
+    ways: ({ key }) => [small(() => stateOf(key)?.undo(), "Undo"),
+      small(() => stateOf(key)?.now(), "Send now")],
+  },
   tried: {
     words: ({ key }) => triedWords(key),
     ways: ({ key }) => [small(() => stateOf(key)?.now(), "Send now"),
@@ -101,6 +106,7 @@ const STANDS = {
 };
 
 function standOf(entry, atWork) {
+  if (stateOf(entry.key)?.undo) return "held";
   if (isWorking(entry.key)) return "tried";
   if (atWork.has(entry.key)) return "elsewhere";
   if (account() !== null && account() !== entry.account) return "other";
@@ -132,12 +138,15 @@ class Row {
 const isYoung = (entry) => isWorking(entry.key) && !stateOf(entry.key)
   && !rows.has(entry.key) && Math.abs(Date.now() - entry.at) < TOLD_AFTER;
 
+// What can be taken back where it was done isn't told of here.
+const isHeldThere = ({ key }) => stateOf(key)?.isShown?.();
+
 // Draws it anew, where something in it has changed.
 async function drawBar() {
   const mine = turn += 1;
   const atWork = await keysAtWork();
   if (mine !== turn) return;
-  const entries = owed().filter((it) => !isYoung(it));
+  const entries = owed().filter((it) => !isYoung(it) && !isHeldThere(it));
   const { offsetHeight: height } = place;
   const now = [...reports, ...entries].map((it) => {
     const key = it.key ?? it;

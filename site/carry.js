@@ -5,8 +5,8 @@ import { account } from "./account.js";
 import { report } from "./bar.js";
 import { el, fill } from "./dom.js";
 import { askToLogIn } from "./login.js";
-import { begin, form, newKey, settle } from "./outbox.js";
-import { isDead, setDead } from "./steady.js";
+import { begin, form, newKey, settle, stateOf } from "./outbox.js";
+import { isDead, setDead, steadyButton } from "./steady.js";
 import { answerWords } from "./words.js";
 
 /** A fault that a reader is told of at once. */
@@ -25,34 +25,51 @@ export const faultWords = (...words) => el("p", { class: "fault", role: "alert" 
  * @param {HTMLElement} command.place where it is told what stood in the way
  * @param {string} command.why why an account is needed
  * @param {SentForm} [command.sent] the form whose text it sends
+ * @param {Object} [command.grace] for one that may be taken back before it is sent: words, of what
+ *   was done; begun, which is called once it is held
  */
-export async function carryOut({ route, fields, body, about, button, place, why, sent }) {
+export async function carryOut(command) {
+  const { route, fields, body, about, button, place, why, sent, grace } = command;
   if (isDead(button)) return null;
   setDead(button, true);
   try {
     if (!account() && !(await askToLogIn(why))) return null;
-    let entry = sent?.owed();
-    if (!entry) {
-      const key = newKey();
-      // Bound before it is kept: a form that is bound to nothing can be sent, and that once.
-      sent?.send(key);
-      entry = await begin(route, body ?? form(fields), about, key);
-    }
-    return told(entry, place, await settle(entry), sent);
+    const before = sent?.owed();
+    if (before) return told(before, place, await settle(before), sent);
+    const key = newKey();
+    // Bound before it is kept: a form that is bound to nothing can be sent, and that once.
+    sent?.send(key);
+    const entry = await begin(route, body ?? form(fields), about, key);
+    return told(entry, place, await settle(entry, grace && held(entry, place, grace)), sent);
   } finally {
     setDead(button, false);
   }
 }
+
+/** How long a command is held that may be taken back, in milliseconds. */
+export const GRACE = 5_000;
+
+// Says what was done, while it can be taken back.
+function held({ key }, place, { words, begun }) {
+  const undo = steadyButton({ class: "small", onclick: () => stateOf(key)?.undo?.() }, "Undo");
+  fill(place, el("span", { role: "status" }, `${words}. `), undo);
+  begun?.(() => stateOf(key)?.undo?.());
+  return { wait: GRACE, isShown: () => undo.isConnected };
+}
+
+const wordsOf = (answer) => (answer.trouble === "undone"
+  ? el("p", { class: "aside", role: "status" }, answerWords(answer))
+  : faultWords(answerWords(answer)));
 
 function told(entry, place, answer, sent) {
   const isKnown = answer.value || answer.refusal || answer.certain
     || answer.trouble === "forgotten";
   if (isKnown) sent?.end(entry.key, Boolean(answer.value));
   if (!place.isConnected) {
-    report(entry, answer);
+    if (answer.trouble !== "undone") report(entry, answer);
     return null;
   }
   if (sent?.owed()) sent.showOwed(answer.trouble);
-  else fill(place, answer.value ? null : faultWords(answerWords(answer)));
+  else fill(place, answer.value ? null : wordsOf(answer));
   return answer;
 }

@@ -38,6 +38,40 @@ export async function rowsOf(address, questions, how) {
   return { value: { rows, isWhole: false } };
 }
 
+const records = new Map();
+
+/** What came of an account's latest proposals: counts by state, and whether these are all. */
+export function recordOf(author) {
+  if (!records.has(author)) {
+    const query = new URLSearchParams({ author });
+    records.set(author, ask(`/submissions?${query}`, { quiet: true }).then(({ value }) => {
+      if (!value) { records.delete(author); return null; }
+      const states = grouped(value.submissions, (it) => it.state);
+      const counts = Object.fromEntries([...states].map(([state, its]) => [state, its.length]));
+      return { counts, isAll: value.before === 0 };
+    }));
+  }
+  return records.get(author);
+}
+
+/**
+ * Which paths had a name approved lately: the number of the latest such proposal, by path. It goes
+ * back to a number, and by three questions at most.
+ */
+export async function approvedSince(number) {
+  const latest = new Map();
+  for (let turn = 0, before = 0; turn < 3; turn += 1) {
+    const query = before ? `?before=${before}` : "";
+    const { value } = await ask(`/submissions${query}`, { quiet: true });
+    for (const { num, path, state } of value?.submissions ?? []) {
+      if (state === "approved" && num > (latest.get(path) ?? number)) latest.set(path, num);
+    }
+    before = value?.before ?? 0;
+    if (before <= number) break;
+  }
+  return latest;
+}
+
 /** What is pending, by paths, as far as five questions go. */
 export async function pendingByPath() {
   const { value } = await rowsOf("/pending", 5, { quiet: true });

@@ -29,7 +29,10 @@ export function owed() {
   return [...all.filter(isEntry), ...unkept.values()].sort((one, other) => one.at - other.at);
 }
 
-/** What this tab does about an entry now: null, or { trouble, wait, now } while it waits. */
+/**
+ * What this tab does about an entry now: null; { trouble, wait, now } while it waits between two
+ * tries; { undo, now, isShown } while it is held before the first one.
+ */
 export const stateOf = (key) => working.get(key)?.state ?? null;
 
 /** Whether this tab is sending an entry. */
@@ -126,13 +129,18 @@ export const wantsFile = (entry) => entry.body === undefined && !files.has(entry
 /**
  * Sends an entry until its outcome is known, and resolves to that: a value, a refusal, or a trouble
  * that ends the tries. Called twice for an entry it sends once.
+ * @param {Object} entry
+ * @param {Object} [grace] for one that may be taken back first: wait, in milliseconds; isShown:
+ *   whether the page has a button for it
  */
-export function settle(entry) {
+export function settle(entry, grace) {
   const at = working.get(entry.key);
   if (at) return at.answer;
   const work = { entry, state: null };
   working.set(entry.key, work);
-  work.answer = locked(entry, () => sendUntilKnown(entry, work)).finally(() => {
+  const send = async () => (
+    grace && !(await held(work, grace)) ? takenBack(entry) : sendUntilKnown(entry, work));
+  work.answer = locked(entry, send).finally(() => {
     working.delete(entry.key);
     changed();
   });
@@ -156,11 +164,41 @@ async function locked(entry, call) {
   }
 }
 
-function send(entry, body) {
+function send(entry, body, keepalive) {
   const kind = typeof body === "string" ? "application/x-www-form-urlencoded" : "text/plain";
   const headers = { ...authorization(), "X-Key": entry.key, "Content-Type": kind };
-  return request("POST", entry.route, { headers, body });
+  return request("POST", entry.route, { headers, body, keepalive });
 }
+
+// Holds a command that may be taken back; resolves to whether it goes out.
+function held(work, { wait, isShown }) {
+  return new Promise((resolve) => {
+    const end = (goesOut) => {
+      clearTimeout(timer);
+      work.state = null;
+      resolve(goesOut);
+      changed();
+    };
+    const now = () => end(true);
+    const timer = setTimeout(now, wait);
+    work.state = { undo: () => end(false), now, leave: now, isShown };
+    changed();
+  });
+}
+
+function takenBack(entry) {
+  forget(entry.key);
+  return { trouble: "undone", certain: true };
+}
+
+// What was meant goes out before the page does.
+addEventListener("pagehide", () => {
+  for (const work of working.values()) {
+    if (!work.state?.undo) continue;
+    work.isGoing = true;
+    work.state.now();
+  }
+});
 
 /** Whether an answer ends the tries. `tries` counts those that were made. */
 function isEnd(answer, tries) {
@@ -175,7 +213,7 @@ async function sendUntilKnown(entry, work) {
     const body = entry.body ?? files.get(entry.key);
     if (body === undefined) return gaveUp(entry, { trouble: "file" }, isInDoubt);
     if (account() !== entry.account) return gaveUp(entry, { trouble: "account" }, isInDoubt);
-    const answer = await send(entry, body);
+    const answer = await send(entry, body, work.isGoing);
     if (answer.value || answer.refusal) {
       if (answer.value) rememberActed(entry.key, answer.value);
       forget(entry.key);

@@ -62,7 +62,8 @@ export const kindOf = (path) => KIND_WORDS[parse(path).kind];
 /** An item with those above it as links, by names where they are known. */
 export function chainOf(path, nameOf) {
   return withParents(path).map((it, at) => [at ? " › " : null,
-    link(hrefOf(it), nameOf(it) === undefined ? el("code", {}, wholeNumber(it)) : shown(nameOf(it)))]);
+    link(hrefOf(it), nameOf(it) === undefined ? el("code", {}, wholeNumber(it))
+      : shown(nameOf(it)))]);
 }
 
 /** What a proposal proposes. */

@@ -56,7 +56,9 @@ export function pathsOf([a, b, c, d]) {
   return d ? [`PC/${a}/${b}/${c}${d}`, ...paths] : paths;
 }
 
-const FAMILIES = [["vendor", "device", "subsystem"], ["class", "subclass", "interface"], ["generic"]];
+const FAMILIES = [
+  ["vendor", "device", "subsystem"], ["class", "subclass", "interface"], ["generic"],
+];
 
 /**
  * What a paste into the boxes of a kind's numbers fills: { kind, at, digits }, where the kind is

@@ -86,7 +86,8 @@ function meant(numbers, isAlone, { names }) {
   const all = pathsOf(numbers);
   const named = all.filter((it) => names.has(it));
   const device = `PC/${numbers[0]}/${numbers[1]}`;
-  if (named.length === 0) return [device, `PC/${numbers[0]}`].filter((it, at) => !at || names.has(it));
+  const vendor = [`PC/${numbers[0]}`].filter((it) => names.has(it));
+  if (named.length === 0) return [device, ...vendor];
   return isAlone && !names.has(all[0]) ? [...named, all[0]] : named;
 }
 

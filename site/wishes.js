@@ -1,9 +1,9 @@
-// What a text asks to be named: lines of pci.ids or a diff of it, numbers with names, lines of lspci
-// and other texts that have numbers.
+// What a text asks to be named: lines of pci.ids or a diff of it, numbers with names, lines of
+// lspci and other texts that have numbers.
 
 import { grouped } from "./grouped.js";
 import { parse, withParents } from "./paths.js";
-import { numbersIn, subsystemIn } from "./pasted.js";
+import { numbersIn, pathsOf, subsystemIn } from "./pasted.js";
 
 /** Why a line isn't taken. */
 export const LEFT = {
@@ -90,10 +90,12 @@ class Homes {
   }
 
   withName({ depth, digits, name }) {
-    const key = (deep, number, its) => `${deep} ${number} ${its}`;
-    this.paths ??= grouped(this.names.keys(), (path) => (
-      key(path.split("/").length - 2, path.slice(path.lastIndexOf("/") + 1), this.names.get(path))));
-    return this.paths.get(key(depth, digits, name)) ?? [];
+    const keyOf = (path) => {
+      const parts = path.split("/");
+      return `${parts.length - 2} ${parts.at(-1)} ${this.names.get(path)}`;
+    };
+    this.paths ??= grouped(this.names.keys(), keyOf);
+    return this.paths.get(`${depth} ${digits} ${name}`) ?? [];
   }
 
   /** What most of some entries of one depth are below; null for nothing, or two alike. */
@@ -110,13 +112,14 @@ function homeOf(hunk, homes) {
   const top = hunk.findIndex((it) => it.depth === 0);
   const loose = top < 0 ? hunk : hunk.slice(0, top);
   const first = loose.findIndex((it) => it.depth === 1);
-  const second = homes.of((first < 0 ? loose : loose.slice(0, first)).filter((it) => it.depth === 2));
+  const seconds = (first < 0 ? loose : loose.slice(0, first)).filter((it) => it.depth === 2);
+  const second = homes.of(seconds);
   const own = homes.of(loose.filter((it) => it.depth === 1));
   return [own ?? second?.slice(0, second.lastIndexOf("/")) ?? null, second];
 }
 
 function pathIn({ depth, digits, front, numbers }, above) {
-  if (numbers) return `PC/${numbers[0]}/${numbers[1]}${numbers[3] ? `/${numbers[2]}${numbers[3]}` : ""}`;
+  if (numbers) return pathsOf(numbers)[0];
   if (depth === 0) return `${front}/${digits}`;
   const home = above[depth - 1];
   return home && (front === "PD") === home.startsWith("PD") ? `${home}/${digits}` : null;

@@ -69,6 +69,7 @@ const TROUBLES = {
   account: "Another account is logged in by now.",
   elsewhere: "Another tab is sending it.",
   forgotten: "It was forgotten in another tab, so it isn't sent again.",
+  undone: "It was taken back.",
   left: "It isn't known whether this was done. It is kept at the foot of the window.",
 };
 

@@ -1,78 +1,96 @@
-// A row of the queue: a proposal beside what its item is called now, and deciding on it.
+// A row of the queue: a proposal beside what its item is called now, and deciding on it. Opened it
+// also has what moderators ask for before they decide.
 
 import { account, maySuffice } from "../account.js";
 import { ask } from "../api.js";
 import { faultWords } from "../carry.js";
 import { el, fill, link, several } from "../dom.js";
+import { recordOf } from "../known.js";
 import { tell } from "../notice.js";
 import { chainOf, kindOf, stateMark, wishOf } from "../parts.js";
-import { parentOf, rankFor } from "../paths.js";
+import { parentOf, rankFor, spoken, wholeNumber, withParents } from "../paths.js";
 import { compared, shown, spelled } from "../shown.js";
 import { appear, isDead, setDead, steadyButton } from "../steady.js";
-import { answerWords, RANKS } from "../words.js";
-import { approvalOf, CHANGED, DECIDED, decide, rejection, rejectionOf } from "./proposal.js";
+import { submissionsFor } from "../submissions.js";
+import { answerWords, RANKS, STATES } from "../words.js";
+import {
+  approvalOf, CHANGED, DECIDED, decide, hasOwnDecision, hasReason, OWN_DECISION, rejection,
+  rejectionOf,
+} from "./proposal.js";
 
 const ARMED_FOR = 3_000;
+const MOST_BEFORE = 5;
+
+/** What came of an account's proposals, in words. */
+export function recordWords(record) {
+  if (!record) return "what came of its proposals isn't known at the moment";
+  const { counts, isAll } = record;
+  const states = ["approved", "rejected", "withdrawn", "pending"].filter((it) => counts[it]);
+  const words = states.map((it) => `${counts[it]} ${STATES[it].toLowerCase()}`).join(", ");
+  return isAll ? words : `${words} of the latest`;
+}
 
 /**
- * A row, with what its buttons and keys do. Once it is shown nothing in it changes its place.
+ * A row, with what its buttons and keys do. Once it is shown nothing in it changes its place, but
+ * where the person opens it.
  */
 export class Card {
   /**
    * @param {Object} it the proposal, as /queue has it
-   * @param {Object} around rivals: others on its path; nameOf: the name at a path above, null for
-   *   none, undefined where that isn't known; decided: is called with the row, renamed with a path
-   *   and its name, look with a path whose name is to be asked for
+   * @param {Object} around rivals: others on its path; since: the number of a later one that was
+   *   approved for it; nameOf: the name at a path above, null for none, undefined where that isn't
+   *   known; decided, held, marked: are called with the row; renamed: with a path and its name;
+   *   look: with a path whose name is to be asked for
    */
   constructor(it, around) {
-    this.it = it;
-    this.around = around;
-    this.now = it.now;
+    Object.assign(this, { it, around, now: it.now, undo: null });
     this.isDecided = false;
     this.isArmed = false;
     this.needed = rankFor(it.path, it.name === null);
     this.isOwn = account() === it.author;
     this.mayDecide = account() !== null && !this.isOwn && maySuffice(this.needed);
     this.place = el("div", { class: "said" });
-    this.above = el("p", { class: "under" });
-    this.change = el("p", { class: "change" });
+    this.meta = el("p", { class: "meta" });
+    this.change = el("span", { class: "change", id: `change-${it.num}` });
+    this.more = el("div", { class: "more", hidden: true });
     this.makeButtons();
     this.makeRow();
     this.showNames();
   }
 
   makeButtons() {
-    this.approve = steadyButton({ class: "main", onclick: () => this.doApprove() }, "Approve");
-    this.openButton = steadyButton({ onclick: () => this.openReject() }, "Reject …");
-    this.no = rejection(this.it, this.place, () => this.doReject());
-    Object.assign(this, { form: this.no.form, reason: this.no.reason, reject: this.no.reject });
-    this.form.addEventListener("keydown", (event) => {
-      if (event.key !== "Escape") return;
-      event.stopPropagation();
-      this.calm();
+    const describes = { "aria-describedby": `about-${this.it.num}` };
+    this.approve = steadyButton({
+      class: "main small", ...describes, onclick: () => this.doApprove(),
+    }, "Approve");
+    this.openButton = steadyButton({
+      class: "small", ...describes, onclick: () => this.openReject(),
+    }, "Reject …");
+    this.mark = el("input", {
+      type: "checkbox", "aria-label": `Mark proposal ${this.it.num}`, ...describes,
+      onchange: () => this.around.marked(this),
     });
-    // A reason that was begun is shown again.
-    this.form.hidden = !this.no.sent.hasText;
+    this.opener = el("button", {
+      type: "button", class: "small opener", "aria-expanded": "false", ...describes,
+      "aria-label": `More of proposal ${this.it.num}`, onclick: () => this.toggle(),
+    }, "▸");
     this.buttons = el("p", { class: "buttons" }, this.approve, this.openButton);
   }
 
   makeRow() {
     const { it } = this;
     const wish = it.name === null ? "remove" : spelled(it.name);
-    const rivals = this.around.rivals.map(({ num }) => [" ", link(`/proposals/${num}`, `#${num}`)]);
-    this.warned = this.warningWords();
-    this.warning = el("p", { class: "fault" }, this.warned);
-    this.row = el("li", { "aria-label": `Proposal ${it.num}: ${wish}, ${it.path}` },
-      el("p", { class: "top" }, link(`/proposals/${it.num}`, `#${it.num}`), " ",
-        el("span", { class: "kind" }, kindOf(it.path)), " ", el("code", {}, it.path),
-        el("small", {}, ` by ${it.author}`)),
-      this.above, this.change,
-      el("p", { class: "note" }, it.note === "" ? null : shown(it.note),
-        it.remarks ? el("small", {}, ` (${several(it.remarks, "comment")})`) : null),
-      rivals.length ? el("p", { class: "fault" }, "Also pending for this number:", rivals) : null,
-      this.warning,
-      el("div", { class: "acts" }, this.mayDecide ? this.buttons : this.whyNot(), this.place),
-      this.mayDecide ? this.form : null);
+    const label = `Proposal ${it.num}: ${wish}, ${spoken(it.path)}`;
+    this.row = el("li", { tabindex: -1, "aria-label": label },
+      el("div", { class: "marks" }, this.mayDecide ? this.mark : null, this.opener),
+      el("div", { class: "words" },
+        el("p", { class: "top", id: `about-${it.num}` }, link(`/proposals/${it.num}`, `#${it.num}`),
+          " ", el("code", {}, wholeNumber(it.path)), " ", this.change),
+        el("div", { class: "under" }, this.place, this.meta)),
+      this.mayDecide ? this.buttons : this.whyNot(),
+      this.more);
+    // A reason that was begun is shown again.
+    if (this.mayDecide && hasReason(it)) this.openReject(false);
   }
 
   whyNot() {
@@ -81,23 +99,41 @@ export class Card {
       : `For a ${RANKS[this.needed]} or above.`);
   }
 
-  /** Tab goes through what is in the row that is current, and past the others. */
+  get isMarked() {
+    return this.mark.checked && !this.isDecided;
+  }
+
+  setMarked(isMarked) {
+    this.mark.checked = isMarked && this.mayDecide && !this.isDecided;
+  }
+
   setCurrent(isCurrent) {
     this.row.tabIndex = isCurrent ? 0 : -1;
-    for (const it of this.row.querySelectorAll("a, button, input")) {
-      it.tabIndex = isCurrent ? 0 : -1;
-    }
     if (!isCurrent) this.disarm();
+  }
+
+  // The line below the name: what is to be known of it first.
+  showMeta() {
+    const { it, around: { rivals, since } } = this;
+    const above = withParents(it.path).slice(0, -1).map((path) => this.around.nameOf(path));
+    const warnings = [this.warningWords(),
+      since ? ["Changed since it was proposed: ", link(`/proposals/${since}`, `#${since}`)] : null,
+      rivals.length ? ["Also pending for this number:", rivals.map(({ num }) => (
+        [" ", link(`/proposals/${num}`, `#${num}`)]))] : null].filter(Boolean);
+    fill(this.meta,
+      warnings.map((words) => [el("span", { class: "fault" }, words), " · "]),
+      "by ", link(`/queue?author=${it.author}`, it.author), ` · ${kindOf(it.path)}`,
+      above.some(Boolean) ? [" of ", shown(above.filter(Boolean).join(" › "))] : null,
+      it.note ? [" · ", shown(it.note)] : null,
+      it.remarks ? ` · ${several(it.remarks, "comment")}` : null);
   }
 
   showNames() {
     const { it, now } = this;
-    const nameOf = (path) => this.around.nameOf(path) ?? undefined;
-    fill(this.above, chainOf(it.path, nameOf).slice(0, -1));
     const [was, wish] = it.name === null || now === null ? [now && shown(now), wishOf(it.name)]
       : compared(now, it.name);
     fill(this.change, was ? [el("del", {}, was), " "] : null, el("ins", {}, wish));
-    this.setCurrent(this.row.tabIndex === 0);
+    this.showMeta();
   }
 
   /**
@@ -111,21 +147,11 @@ export class Card {
       appear(this.row);
     }
     // What changes takes no more and no less room than before.
-    for (const it of [this.above, this.change]) {
-      it.style.height = `${it.getBoundingClientRect().height}px`;
-      it.style.overflow = "auto";
-    }
+    const { parentElement: line } = this.change;
+    line.style.height = `${line.getBoundingClientRect().height}px`;
+    line.style.overflow = "auto";
     this.now = now;
     this.showNames();
-    this.warn(this.warningWords());
-  }
-
-  // What it said in a place of its own leaves that empty.
-  warn(words) {
-    if (words === this.warned) return;
-    this.warned = words;
-    this.warning.classList.add("away");
-    fill(this.place, words ? faultWords(words) : null);
   }
 
   warningWords() {
@@ -134,16 +160,65 @@ export class Card {
     if (now === name) return "It has that name already.";
     const parent = parentOf(path);
     if (now !== null || !parent || this.around.nameOf(parent) !== null) return null;
-    return `${parent} isn't in the registry: that one has to be approved first.`;
+    return `${spoken(parent)} isn't in the registry: that one has to be approved first.`;
+  }
+
+  /** Opens the row, or closes it. */
+  toggle(isOpen = this.more.hidden) {
+    if (isOpen && !this.about) this.makeMore();
+    this.more.hidden = !isOpen;
+    this.opener.setAttribute("aria-expanded", isOpen);
+    this.opener.textContent = isOpen ? "▾" : "▸";
+  }
+
+  makeMore() {
+    const { it } = this;
+    const nameOf = (path) => this.around.nameOf(path) ?? undefined;
+    const row = (word, ...value) => [el("dt", {}, word), el("dd", {}, ...value)];
+    const record = el("span", {}, " …");
+    recordOf(it.author).then((its) => fill(record, ` ${recordWords(its)}`));
+    this.before = el("div", { class: "before" });
+    this.about = el("dl", { class: "facts" },
+      row(kindOf(it.path), chainOf(it.path, nameOf).slice(0, -1), " ",
+        link(`/item/${it.path}`, el("code", {}, wholeNumber(it.path)))),
+      row("Now", this.now === null ? "no name" : shown(this.now)),
+      row("By", link(`/decided?author=${it.author}`, it.author), record),
+      row("Note", it.note === "" ? "–" : shown(it.note)),
+      this.rivalRows(row),
+      row("Comments", link(`/proposals/${it.num}`, it.remarks ? several(it.remarks, "comment")
+        : "none yet: comment")));
+    this.more.prepend(this.about, this.before);
+    this.lookBefore();
+  }
+
+  // Side by side with the others that are for the same number.
+  rivalRows(row) {
+    const { it, around: { rivals } } = this;
+    return rivals.length === 0 ? null : row("For this number", el("ol", { class: "rivals" },
+      [it, ...rivals].sort((one, other) => one.num - other.num).map(({ num, name, author }) => (
+        el("li", {}, link(`/proposals/${num}`, `#${num}`), " ", wishOf(name), ` by ${author}`,
+          num === it.num ? " (this one)" : null)))));
+  }
+
+  // What was decided for the same number.
+  async lookBefore() {
+    const { value } = await submissionsFor(this.it.path);
+    const all = (value?.submissions ?? []).filter((it) => it.decider && it.state !== "withdrawn");
+    if (all.length === 0) return;
+    const row = ({ num, name, state, reason }) => el("li", {}, link(`/proposals/${num}`, `#${num}`),
+      " ", wishOf(name), " ", stateMark(state, num > this.it.num ? " since then" : ""),
+      reason ? [" ", shown(reason)] : null);
+    fill(this.before, el("p", { class: "aside" }, "Decided for this number:"),
+      el("ol", { class: "rivals" }, all.slice(0, MOST_BEFORE).map(row)));
   }
 
   disarm() {
     this.isArmed = false;
     clearTimeout(this.armedUntil);
-    if (this.approve) this.approve.textContent = "Approve";
+    this.approve.textContent = "Approve";
   }
 
-  /** By key it takes two: what is approved can't be taken back. */
+  /** By key it takes two. */
   approveByKey() {
     if (!this.mayDecide || this.isDecided || isDead(this.approve)) return;
     if (this.isArmed) {
@@ -157,17 +232,30 @@ export class Card {
     this.armedUntil = setTimeout(() => this.disarm(), ARMED_FOR);
   }
 
-  openReject() {
-    if (!this.mayDecide || this.isDecided) return;
+  openReject(isFocused = true) {
+    if (!this.mayDecide || this.isDecided || this.undo) return;
     this.disarm();
-    this.form.hidden = false;
-    this.reason.focus();
+    if (!this.no) this.makeReject();
+    this.no.form.hidden = false;
+    this.toggle(true);
+    if (isFocused) this.no.reason.focus();
+  }
+
+  makeReject() {
+    this.no = rejection(this.it, this.place, () => this.doReject());
+    this.no.form.addEventListener("keydown", (event) => {
+      if (event.key !== "Escape") return;
+      event.stopPropagation();
+      this.calm();
+    });
+    this.more.append(this.no.form);
   }
 
   /** Takes back what was begun. */
   calm() {
     this.disarm();
-    this.form.hidden = true;
+    if (this.no) this.no.form.hidden = true;
+    this.toggle(false);
     this.row.focus();
   }
 
@@ -180,17 +268,33 @@ export class Card {
     if (command) await this.carry("rejected", command);
   }
 
-  async carry(state, command) {
-    if (this.isDecided) return;
+  /** Decides, where nothing is under way; resolves to the answer, or null. */
+  async carry(state, command, isHeld = true) {
+    if (this.isDecided || this.undo) return null;
     const { it, place } = this;
-    const answer = await decide(it, { ...command, place });
+    const begun = (undo) => this.setHeld(undo);
+    const answer = await decide(it, { ...command, place }, isHeld ? begun : null);
+    this.setHeld(null);
+    // What took it back isn't there any more.
+    if (answer?.trouble === "undone" && document.activeElement === document.body) this.row.focus();
     const number = answer?.refusal?.refused;
     if (answer?.value) {
       tell(`${it.num} is ${state}.`, 3);
-      this.setDecided(state);
+      this.setDecided(state, command.fields.reason);
       if (state === "approved") this.around.renamed(it.path, it.name);
     } else if (number === DECIDED) await this.showOutcome();
     else if (number === CHANGED) await this.lookAgain(answer);
+    return answer;
+  }
+
+  // While it can be taken back, the focus goes on.
+  setHeld(undo) {
+    this.undo = undo;
+    this.row.classList.toggle("held", undo !== null);
+    if (undo) {
+      if (this.no) this.no.form.hidden = true;
+      this.around.held(this);
+    }
   }
 
   // Nobody approves before he sees what it is called by now.
@@ -201,22 +305,26 @@ export class Card {
     if (this.place.isConnected) fill(this.place, faultWords(answerWords(answer)));
   }
 
-  // Somebody else decided, or its author withdrew it: how is shown beside what was said.
+  // It was decided elsewhere, or its author withdrew it: how is shown beside what was said.
   async showOutcome() {
     this.setDecided();
     const { value } = await ask(`/submission/${this.it.num}`, { quiet: true });
-    if (value) this.place.firstChild?.append(" ", stateMark(value.state));
+    if (!value) return;
+    if (hasOwnDecision(value)) fill(this.place, OWN_DECISION);
+    (this.place.firstElementChild ?? this.place).append(" ", stateMark(value.state));
   }
 
   /** Greys the row, which stays where it is, so that nothing else comes under the pointer. */
-  setDecided(state) {
+  setDecided(state, reason) {
     if (this.isDecided) return;
     this.isDecided = true;
     this.disarm();
     this.row.classList.add("settled");
-    if (state) fill(this.place, stateMark(state));
+    this.setMarked(false);
+    if (state) fill(this.place, stateMark(state), reason ? [" ", shown(reason)] : null);
+    if (this.no) this.no.form.hidden = true;
     // The focus goes on before what has it is disabled.
     this.around.decided(this);
-    for (const it of [this.approve, this.openButton, this.reason, this.reject]) it.disabled = true;
+    for (const it of [this.approve, this.openButton, this.mark]) it.disabled = true;
   }
 }

@@ -141,7 +141,8 @@ class Check {
       if (count === 0) return null;
       const begin = () => this.go(beginMany(rows.map(({ path, name }) => ({ path, name }))));
       const words = rows.length === count ? counted(count) : `the first ${counted(rows.length)}`;
-      return steadyButton({ onclick: begin }, `Propose ${words} ${kind}${count === 1 ? "" : "s"} …`);
+      const things = `${kind}${count === 1 ? "" : "s"}`;
+      return steadyButton({ onclick: begin }, `Propose ${words} ${things} …`);
     };
     if (!beside?.added.count && !beside?.renamed.count) return null;
     return [el("p", { class: "buttons" }, button(beside.added, "new name"),

@@ -7,7 +7,8 @@ import { olderLink, submissionRow, submissions } from "../submissions.js";
 
 function titleWords({ path, author }) {
   const by = author ? ` by ${author}` : "";
-  return path || author ? `Proposals${parse(path ?? "") ? ` for ${spoken(path)}` : ""}${by}` : "The latest proposals";
+  const of = parse(path ?? "") ? ` for ${spoken(path)}` : "";
+  return path || author ? `Proposals${of}${by}` : "The latest proposals";
 }
 
 /** The page. */

@@ -17,6 +17,7 @@ const MANY = {
   vendor: "Devices", device: "Subsystems", class: "Subclasses", subclass: "Programming interfaces",
 };
 const SHORT_WAIT = 150;
+const NARROW = "(max-width: 40rem)";
 const MOST_PROPOSALS = 10;
 
 /** The item as the registry has it, or as the published file does: { name, nameOf, below, .. }. */
@@ -94,7 +95,9 @@ function facts(path, name, text) {
 function actions(path) {
   const { kind } = parse(path);
   const button = (query, words) => el("a", { class: "button", href: `/propose?${query}` }, words);
-  return [
+  // On a phone what one came for is what is below the item.
+  const isOpen = BELOW[kind].length === 0 || !matchMedia(NARROW).matches;
+  return el("details", { open: isOpen }, el("summary", {}, "Propose a change"),
     el("p", { class: "buttons" },
       button(`path=${path}`, "Propose another name"),
       button(`path=${path}&remove=yes`, "Propose its removal"),
@@ -103,8 +106,7 @@ function actions(path) {
     el("p", { class: "aside" }, rankFor(path, false) === 2
       ? `A ${RANKS[2]} or above decides on names of this kind and on removals.`
       : `A ${RANKS[1]} or above decides on names of this kind,`
-        + ` a ${RANKS[2]} or above on removals.`),
-  ];
+        + ` a ${RANKS[2]} or above on removals.`));
 }
 
 function lists(path, below) {

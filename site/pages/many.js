@@ -191,7 +191,8 @@ class Many {
         + " taken:" : null,
       rows.length + same + left.length === 0 ? "There is no number in it." : null,
     ].filter(Boolean).join(" ");
-    const row = (it) => el("li", {}, `line ${it.line}, ${it.why}: `, el("code", {}, shown(it.text)));
+    const row = (it) => el("li", {}, `line ${it.line}, ${it.why}: `,
+      el("code", {}, shown(it.text)));
     fill(this.left, words ? el("p", { class: left.length ? "fault" : "aside" }, words) : null,
       left.length ? el("ul", {}, left.slice(0, MOST_LEFT).map(row)) : null,
       left.length > MOST_LEFT ? `and ${left.length - MOST_LEFT} more` : null);

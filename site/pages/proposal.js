@@ -10,9 +10,11 @@ import { learnName } from "../names.js";
 import { tell } from "../notice.js";
 import { chainOf, failed, kindOf, oneParagraph, stateMark, title, wishOf } from "../parts.js";
 import { rankFor, spoken, wholeNumber, withParents } from "../paths.js";
+import { noteReason, readyReasons } from "../reasons.js";
 import { dropSent, SentForm } from "../sent.js";
 import { compared, shown } from "../shown.js";
 import { steadyButton } from "../steady.js";
+import { submissionsFor } from "../submissions.js";
 import { RANKS, refusalWords, STATES } from "../words.js";
 import { textFault } from "./proposing.js";
 
@@ -28,7 +30,9 @@ export default async function proposal({ number, again }) {
   if (!answer.value) return failed(answer, again);
   const it = answer.value;
   const chain = withParents(it.path);
-  const answers = await Promise.all(chain.map((path) => ask(`/read/${path}`)));
+  const [since, ...answers] = await Promise.all([
+    approvedAfter(it), ...chain.map((path) => ask(`/read/${path}`)),
+  ]);
   const names = new Map(chain.map((path, at) => [path, answers[at].value?.name]));
   const own = answers.at(-1);
   // Nobody decides without having seen what it is called now.
@@ -42,13 +46,20 @@ export default async function proposal({ number, again }) {
   const text = `Proposal ${it.num}: ${it.name === null ? "remove" : it.name} · ${spoken(it.path)}`;
   return [
     title(text, `Proposal ${it.num} `, stateMark(it.state)),
-    facts(it, names),
+    facts(it, names, since),
     it.state === "pending" ? decisions(it, names.get(it.path), isIdle, done) : unsent(it),
     el("section", {}, el("h2", {}, "Comments"), remarks(it), commentForm(it, done)),
   ];
 }
 
-function facts(it, names) {
+// What was approved for the same number since it was proposed: its author hadn't seen that name.
+async function approvedAfter({ num, path, state }) {
+  if (state !== "pending") return [];
+  const { value } = await submissionsFor(path);
+  return (value?.submissions ?? []).filter((it) => it.num > num && it.state === "approved");
+}
+
+function facts(it, names, since) {
   const now = names.get(it.path);
   const isRename = it.state === "pending" && it.name !== null && now !== undefined;
   const [was, wish] = isRename ? compared(now, it.name) : [now && shown(now), wishOf(it.name)];
@@ -59,6 +70,9 @@ function facts(it, names) {
       now === undefined ? null : [" ", el("code", {}, wholeNumber(it.path))]),
     it.state === "pending" && was ? row("Now", el("del", {}, was)) : null,
     row(it.name === null ? "Removal" : "Name", el("ins", { class: "proposed" }, wish)),
+    since.length ? row("Since then", el("span", { class: "fault" }, "Changed since it was"
+      + " proposed: "), since.map(({ num, name }) => [link(`/proposals/${num}`, `#${num}`), " ",
+      wishOf(name), " was approved. "])) : null,
     row("By", link(`/decided?author=${it.author}`, it.author)),
     row("Note", it.note === "" ? "–" : shown(it.note)),
     isDecided ? row(STATES[it.state], `by ${it.decider}`) : null,
@@ -67,11 +81,9 @@ function facts(it, names) {
 
 // A reason that was begun when somebody else decided isn't lost.
 function unsent(it) {
-  const place = ["reason", `/proposals/${it.num}`];
-  dropSent(...place);
-  const draft = draftOf(...place);
-  const { reason } = draft.read() ?? {};
-  if (!reason || draft.key()) return null;
+  const draft = draftOf(...reasonPlace(it));
+  if (!hasReason(it) || draft.key()) return null;
+  const { reason } = draft.read();
   return el("p", { class: "aside" }, "The reason that you wrote wasn't sent: ", shown(reason));
 }
 
@@ -134,27 +146,45 @@ function withdrawal(it, done) {
     const answer = await carryOut({
       route: "/withdraw", fields: { num: it.num }, about: `Withdraw ${it.num}`, button, place,
     });
-    conclude(answer, "Withdrawn.", done);
+    conclude(it, answer, "Withdrawn.", done);
   };
   const button = steadyButton({ onclick }, "Withdraw");
   return el("div", { class: "decide" }, el("p", { class: "buttons" }, button), place);
 }
 
+/** Whether a decision is that of who is logged in. */
+export const hasOwnDecision = ({ decider }) => account() !== null && decider === account();
+
+/** Said of a decision that was made before by who makes it again. */
+export const OWN_DECISION = "You decided on it already, perhaps in another tab.";
+
 // Where the page isn't as things are by now it is made anew, and the words stay at its foot.
-function conclude(answer, words, done) {
+async function conclude(it, answer, words, done) {
   const { refusal } = answer ?? {};
   if (answer?.value) done(words);
-  else if (refusal && [DECIDED, CHANGED].includes(refusal.refused)) done(refusalWords(refusal), 0);
+  else if (refusal && [DECIDED, CHANGED].includes(refusal.refused)) {
+    const { value } = await ask(`/submission/${it.num}`, { quiet: true });
+    done(value && hasOwnDecision(value) ? OWN_DECISION : refusalWords(refusal), 0);
+  }
 }
 
 const deciding = new Set();
 
-/** Sends a decision, one at a time on each proposal, and returns its answer. */
-export async function decide(it, command) {
+/**
+ * Sends a decision, one at a time on each proposal, and returns its answer.
+ * @param {Object} it the proposal
+ * @param {Object} command
+ * @param {function(function())} [begun] for one that can be taken back for a while: is called with
+ *   what takes it back
+ */
+export async function decide(it, command, begun) {
   if (deciding.has(it.num)) return null;
   deciding.add(it.num);
-  const answer = await carryOut({ ...command, why: NEEDS_ACCOUNT })
+  const words = command.route === "/confirm" ? "Approved" : "Rejected";
+  const grace = begun ? { words, begun } : null;
+  const answer = await carryOut({ ...command, grace, why: NEEDS_ACCOUNT })
     .finally(() => deciding.delete(it.num));
+  if (answer?.value && command.fields.reason) noteReason(command.fields.reason);
   if (answer?.value && command.route === "/confirm") learnName(it.path, it.name);
   return answer;
 }
@@ -168,6 +198,14 @@ export const approvalOf = (it, now, button) => ({
   button,
 });
 
+const reasonPlace = (it) => ["reason", `/proposals/${it.num}`];
+
+/** Whether a reason was begun for a proposal, or sent without an answer. */
+export function hasReason(it) {
+  dropSent(...reasonPlace(it));
+  return Boolean(draftOf(...reasonPlace(it)).read()?.reason);
+}
+
 /** The form of a reason, whose draft is the same in the queue and on the proposal's page. */
 export function rejection(it, place, onsubmit) {
   const reason = el("input", {
@@ -177,8 +215,8 @@ export function rejection(it, place, onsubmit) {
   const reject = steadyButton({}, "Reject");
   const form = el("form", {
     class: "reject", onsubmit: (event) => { event.preventDefault(); onsubmit(); },
-  }, el("label", { for: reason.id }, "Reason"), reason, reject);
-  const sent = new SentForm(form, place, "reason", `/proposals/${it.num}`);
+  }, el("label", { for: reason.id }, "Reason"), reason, readyReasons(reason), reject);
+  const sent = new SentForm(form, place, ...reasonPlace(it));
   return { form, reason, reject, sent };
 }
 
@@ -199,13 +237,15 @@ export function rejectionOf(it, { reason, reject, sent }, place) {
 function decision(it, now, isIdle, done) {
   const place = el("div", { class: "said" });
   const onclick = async () => {
-    const answer = await decide(it, { ...approvalOf(it, now, approve), place });
-    conclude(answer, `${it.num} is approved.`, done);
+    const answer = await decide(it, { ...approvalOf(it, now, approve), place }, begun);
+    conclude(it, answer, `${it.num} is approved.`, done);
   };
+  // Who decided by a key takes it back by one.
+  const begun = () => place.querySelector("button")?.focus();
   const approve = steadyButton({ class: "main", onclick }, "Approve");
   const no = rejection(it, place, async () => {
     const command = rejectionOf(it, no, place);
-    if (command) conclude(await decide(it, command), `${it.num} is rejected.`, done);
+    if (command) conclude(it, await decide(it, command, begun), `${it.num} is rejected.`, done);
   });
   return el("div", { class: "decide" },
     isIdle ? faultWords("Nothing would change: it is so already.") : null,

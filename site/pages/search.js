@@ -52,7 +52,8 @@ function offer(text, devices, path, pending) {
   }
   if (!path) return null;
   const words = `Propose ${pending.length ? "another" : "a"} name for ${spoken(path)}`;
-  return [pendingWords(pending), el("a", { class: "button", href: `/propose?path=${path}` }, words)];
+  return [pendingWords(pending),
+    el("a", { class: "button", href: `/propose?path=${path}` }, words)];
 }
 
 /** The search: its `search` shows what is found for another text. */

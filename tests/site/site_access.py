@@ -15,8 +15,8 @@ PAGES = {
     "vendor": "/item/PC/8086", "absent": "/item/PC/8086/fffe", "search": "/search?q=intel+ethernet",
     "recent": "/recent", "queue": "/queue", "decided": "/decided",
     "propose": "/propose?path=PC/8086/1237", "many": "/propose?many=yes&text=8086:ab01%20A%20name",
-    "mine": "/mine", "people": "/people", "check": "/check", "load": "/load", "help": "/help",
-    "proposal": "/proposals/1", "decision": "/proposals/2",
+    "guide": "/guide", "mine": "/mine", "people": "/people", "check": "/check", "load": "/load",
+    "help": "/help", "proposal": "/proposals/1", "decision": "/proposals/2",
 }
 LEAST = 4.5
 # In milliseconds, on loopback.
@@ -252,6 +252,16 @@ def menu(cases, browser):
     cases.equal("access: elsewhere all links are there", browser.js(MENU), all_of_them)
 
 
+def vendor(cases, browser):
+    """On a phone the first device of a vendor is on the first screen."""
+    window(browser, "phone")
+    ready(browser, PAGES["vendor"])
+    top = browser.js("return document.querySelector('.items [role=listitem]')"
+                     ".getBoundingClientRect().top + scrollY")
+    cases.equal(f"access: phone: the first device at {top:.0f}", top < WAYS["phone"][1], True)
+    browser.driver.execute_cdp_cmd("Emulation.clearDeviceMetricsOverride", {})
+
+
 def broken(cases, browser):
     """The checks themselves see what they look for."""
     browser.go("/help")
@@ -285,7 +295,7 @@ def keyboard(cases, browser):
         browser.js("document.activeElement.blur(); getSelection().removeAllRanges();"
                    "document.body.tabIndex = -1; document.body.focus()")
         hidden, stops = [], []
-        for _ in range(40):
+        for _ in range(120):
             browser.tab()
             it = browser.js("""
                 const it = document.activeElement, style = getComputedStyle(it);
@@ -303,7 +313,7 @@ def keyboard(cases, browser):
     ready(browser, "/queue")
     browser.js("document.querySelector('.queue > li').focus()")
     inside = []
-    for _ in range(6):
+    for _ in range(9):
         browser.tab()
         inside.append(browser.js("return document.activeElement.textContent"))
     cases.equal("access: Tab reaches Approve and Reject in the row", {"Approve", "Reject \u2026"}
@@ -428,6 +438,7 @@ def run(cases):
         browser.log_in("mona")
         look(cases, browser)
         menu(cases, browser)
+        vendor(cases, browser)
         keyboard(cases, browser)
         motion(cases, browser)
         cases.equal("access: the console", browser.faults(), [])

@@ -31,10 +31,15 @@ SWITCHES = ("--headless=new", "--no-sandbox", "--disable-gpu", "--disable-dev-sh
 EXPECTED = ("the server responded with a status of", "net::ERR_")
 
 
-class Browser:
-    """One person's browser."""
+# A decision is held for five seconds in which it can be taken back. Here most go out at once.
+AT_ONCE = ("const later = setTimeout; setTimeout = (call, wait, ...words) =>"
+           " later(call, wait === 5000 ? 0 : wait, ...words);")
 
-    def __init__(self, base, size=(1100, 900), dark=False):
+
+class Browser:
+    """One person's browser. Unless it has grace, its decisions go out at once."""
+
+    def __init__(self, base, size=(1100, 900), dark=False, has_grace=False):
         webdriver = selenium()
         from selenium.webdriver.chrome.service import Service
         from selenium.webdriver.common.keys import Keys
@@ -51,6 +56,9 @@ class Browser:
                                        options=options)
         self.driver.set_script_timeout(PATIENCE)
         self.driver.set_page_load_timeout(PATIENCE)
+        if not has_grace:
+            self.driver.execute_cdp_cmd("Page.addScriptToEvaluateOnNewDocument",
+                                        {"source": AT_ONCE})
         self.base, self.keys = base, Keys
         self.said = []
 

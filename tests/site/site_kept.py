@@ -171,11 +171,11 @@ def rejected(cases, world, browser, number):
     browser.go("/queue")
     browser.all_rows(".queue > li", len(world.pending()))
     row = f"#reason-{number}"
-    browser.js("document.querySelector(arguments[0]).closest('li').querySelectorAll('button')[1]"
-               ".scrollIntoView({ block: 'center' })", row)
+    reject = ("document.querySelector(`.queue .top a[href='/proposals/${arguments[0]}']`)"
+              ".closest('li').querySelectorAll('.buttons button')[1]")
+    browser.js(f"{reject}.scrollIntoView({{ block: 'center' }})", number)
     time.sleep(0.6)
-    browser.js("document.querySelector(arguments[0]).closest('li').querySelectorAll('button')[1]"
-               ".click()", row)
+    browser.js(f"{reject}.click()", number)
     browser.type(row, "half a reason")
     again(browser)
     browser.all_rows(".queue > li", len(world.pending()))

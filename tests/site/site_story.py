@@ -165,7 +165,7 @@ def moderator(cases, world, browser, number):
     browser.press("j", "k")
     row = browser.js("return document.activeElement.getAttribute('aria-label')")
     cases.equal("story: j and k go down and up", row,
-                f"Proposal {number}: Imaginary Controller, PC/8086/7d8c")
+                f"Proposal {number}: Imaginary Controller, 8086:7d8c")
     browser.js("return new Promise((go) => setTimeout(go, 600))")
     browser.press("a")
     cases.equal("story: one key does not approve", world.state(number), "pending")
@@ -176,6 +176,7 @@ def moderator(cases, world, browser, number):
     browser.wait(lambda: world.state(number) == "approved", "approved")
     browser.wait(lambda: "Bad" in browser.js("return document.activeElement.innerText"), "the next")
     browser.press("r")
+    browser.js("return new Promise((go) => setTimeout(go, 600))")
     browser.press("no such chip", browser.keys.ENTER)
     browser.wait(lambda: world.state(other) == "rejected", "rejected")
     cases.equal("story: rejected with the reason",
