@@ -9,7 +9,7 @@ import { MOST_TEXT } from "../limits.js";
 import { tell } from "../notice.js";
 import { oneParagraph } from "../parts.js";
 import { noteReason, readyReasons } from "../reasons.js";
-import { setDead, steadyButton } from "../steady.js";
+import { steadyButton } from "../steady.js";
 import { approvalOf, rejectionOf } from "./proposal.js";
 import { textFault } from "./proposing.js";
 
@@ -62,7 +62,7 @@ export class Bulk {
     fill(this.approve, `Approve ${marked}`);
     fill(this.reject, `Reject ${marked}`);
     for (const it of [this.none, this.approve, this.reject]) {
-      setDead(it, marked === 0 || this.isBusy);
+      it.disabled = marked === 0 || this.isBusy;
     }
   }
 

@@ -17,7 +17,10 @@ const MANY = {
   vendor: "Devices", device: "Subsystems", class: "Subclasses", subclass: "Programming interfaces",
 };
 const SHORT_WAIT = 150;
-const NARROW = "(max-width: 40rem)";
+
+// On a phone what one came for is what is below the item.
+const isFolded = (path) => BELOW[parse(path).kind].length > 0
+  && matchMedia("(max-width: 40rem)").matches;
 const MOST_PROPOSALS = 10;
 
 /** The item as the registry has it, or as the published file does: { name, nameOf, below, .. }. */
@@ -61,7 +64,8 @@ export default async function item({ path, again }) {
     isCopy ? copyWords() : null,
     facts(path, name, text),
     actions(path),
-    history,
+    isFolded(path) ? el("details", {}, el("summary", {}, "Proposals and history"), history)
+      : history,
     lists(path, below),
   ];
 }
@@ -95,9 +99,7 @@ function facts(path, name, text) {
 function actions(path) {
   const { kind } = parse(path);
   const button = (query, words) => el("a", { class: "button", href: `/propose?${query}` }, words);
-  // On a phone what one came for is what is below the item.
-  const isOpen = BELOW[kind].length === 0 || !matchMedia(NARROW).matches;
-  return el("details", { open: isOpen }, el("summary", {}, "Propose a change"),
+  return el("details", { open: !isFolded(path) }, el("summary", {}, "Propose a change"),
     el("p", { class: "buttons" },
       button(`path=${path}`, "Propose another name"),
       button(`path=${path}&remove=yes`, "Propose its removal"),

@@ -103,7 +103,7 @@ def deceiving(cases, world, browser):
 
 def wide(cases, world, browser):
     """Marks upon marks make no page wider than a phone."""
-    name = "".join(f"{letter}" + "\u0301\u0323" * 40 for letter in "Zalgo's own vendor") * 6
+    name = "".join(letter + "\u0301\u0323" * 40 for letter in "Zalgo!")
     number = world.submit("alice", "PC/8086/de80", name)
     browser.driver.execute_cdp_cmd("Emulation.setDeviceMetricsOverride", {
         "width": 320, "height": 640, "deviceScaleFactor": 1, "mobile": True})
