@@ -46,8 +46,8 @@ export async function carryOut(command) {
   }
 }
 
-/** How long a command is held that may be taken back, in milliseconds. */
-export const GRACE = 5_000;
+/** How long a command is held that may be taken back: five seconds, and what a click takes. */
+export const GRACE = 5_100;
 
 // Says what was done, while it can be taken back.
 function held({ key }, place, { words, begun }) {

@@ -33,7 +33,7 @@ EXPECTED = ("the server responded with a status of", "net::ERR_")
 
 # A decision is held for five seconds in which it can be taken back. Here most go out at once.
 AT_ONCE = ("const later = setTimeout; setTimeout = (call, wait, ...words) =>"
-           " later(call, wait === 5000 ? 0 : wait, ...words);")
+           " later(call, wait === 5100 ? 0 : wait, ...words);")
 
 
 class Browser:

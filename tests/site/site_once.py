@@ -296,8 +296,10 @@ def others_key(cases, world, browser):
         browser.wait(lambda: browser.text("#log") == "Log in", "logged out")
         browser.log_in(name)
         browser.has("It was sent as alice", ".many")
-        hidden = browser.js("return document.querySelector('main > .buttons .main').hidden")
-        cases.equal(f"once: the row in doubt as {name}", hidden, name == "dora")
+        hidden = "return document.querySelector('main > .buttons .main').hidden"
+        is_so = browser.wait(lambda name=name, hidden=hidden: browser.js(hidden) == (name == "dora"),
+                             f"the button as {name}")
+        cases.equal(f"once: the row in doubt as {name}", is_so, True)
     browser.click("main > .buttons button.main")
     browser.has("Proposed as", ".many")
     told = [it["author"] for it in world.pending("PC/8086/a046")]
