@@ -6,8 +6,8 @@ from site_browser import Browser
 from site_world import World
 
 SETTLE = 0.6
-# In milliseconds: longer than a decision is held.
-HELD = 5.5
+# In seconds: longer than a decision is held.
+HELD = 6.5
 REASON = "There is no source for it."
 
 

@@ -297,7 +297,8 @@ def others_key(cases, world, browser):
         browser.log_in(name)
         browser.has("It was sent as alice", ".many")
         hidden = "return document.querySelector('main > .buttons .main').hidden"
-        is_so = browser.wait(lambda name=name, hidden=hidden: browser.js(hidden) == (name == "dora"),
+        want = name == "dora"
+        is_so = browser.wait(lambda want=want, hidden=hidden: browser.js(hidden) == want,
                              f"the button as {name}")
         cases.equal(f"once: the row in doubt as {name}", is_so, True)
     browser.click("main > .buttons button.main")
