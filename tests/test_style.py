@@ -25,7 +25,7 @@ WIDEST_SOURCE = 120
 ATTRIBUTE = "#["
 
 # Help is a part of these.
-HELP = ("crates/pid_cli_words/src/commands.rt", "crates/pid_cli_first/src/pages.rt")
+HELP = ("crates/pid_cli_help/src/pages.rt",)
 
 
 def files(*patterns):

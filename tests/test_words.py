@@ -4,7 +4,6 @@ import subprocess
 
 import pytest
 
-import first_pages
 import program
 from program import HEADER
 
@@ -221,8 +220,10 @@ def test_left_to_the_whole_program(cases, first):
         )
 
 
-# Both programs answer these alike. The whole program also suggests a command with a similar name.
+COMMANDS = ("tidy", "check", "lookup", "script", "import", "export", "serve", "migrate")
+# Both programs answer these alike, and suggest the same commands for an unknown one.
 SHARED_WORDS = (
+    *([it] for it in ("chekc", "imprt", "xport", "hepl", "serv", "loookup", "m")),
     [],
     ["tidy"],
     ["check"],
@@ -249,14 +250,10 @@ def test_both_programs_alike(cases):
     if program.FIRST is None:
         raise program.Skip("there is no first program")
     whole, first = program.WHOLE, program.FIRST
-    pages = [
-        words for it in first_pages.COMMANDS for words in ([it, "--help"], [it, "-h"], ["help", it])
-    ]
+    pages = [words for it in COMMANDS for words in ([it, "--help"], [it, "-h"], ["help", it])]
     for words in (*SHARED_WORDS, *pages):
         wanted, ran = (ran_of(it, words) for it in (whole, first))
         cases.equal(f"{words}: as the whole program", ran, wanted)
-    with open(os.path.join(program.TOP, "crates", "pid_cli_first", "src", "pages.rt")) as file:
-        cases.equal("the source of the pages", file.read(), first_pages.source(whole))
 
 
 def ran_of(it, words):

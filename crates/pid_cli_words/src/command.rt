@@ -25,18 +25,16 @@ pub(crate) struct Argument<'a> {
     pub(crate) form: Form,
     pub(crate) is_required: bool,
     pub(crate) name: &'a str,
-    /// The name of the value in help.
+    /// The name of the value in messages.
     pub(crate) value: &'a str,
-    pub(crate) help: &'a str,
 }
 
 /// A command below the program's own.
 pub(crate) struct Subcommand<'a> {
     pub(crate) name: &'a str,
-    pub(crate) about: &'a str,
     /// Where it is not the one that `clap` makes.
     pub(crate) usage: Option<&'a str>,
-    pub(crate) after_help: &'a str,
+    pub(crate) help: &'a str,
     pub(crate) arguments: &'a [Argument<'a>],
 }
 
@@ -46,7 +44,6 @@ fn arg_of<'a>(alloc: Global, argument: &Argument<'a>) -> Arg<'a>
 {
     let arg = Arg::new(alloc, argument.name)
         .value_name(argument.value)
-        .help(argument.help)
         .required(argument.is_required);
     match argument.form {
         Form::Named => arg.long(argument.name),
@@ -82,9 +79,7 @@ fn command_of<'a>(alloc: Global, subcommand: &Subcommand<'a>) -> Result<Command<
     ensures app { IfOk result (λ c. app_of c ≡ app_of_subcommand subcommand.now) }
     ensures local { IfOk result (λ c. (out-Command c).has_globals ≡ false) }
 {
-    let command = Command::new(alloc, subcommand.name)
-        .about(subcommand.about)
-        .after_help(subcommand.after_help);
+    let command = Command::new(alloc, subcommand.name).override_help(subcommand.help);
     let command = match subcommand.usage {
         Some(usage) => command.override_usage(usage),
         None => command,

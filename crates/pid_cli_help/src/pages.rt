@@ -1,21 +1,28 @@
-//! The pages of help and the version, as the whole program prints them.
-//!
-//! Written by tests/first_pages.py. A test compares them with what the whole program prints.
+//! The pages of help and the version, once for both programs.
 
-use pid_file::Pages;
+/// The version of the program.
+pub const VERSION: &str = "0.1.0";
 
-const VERSION: &str = "\
+/// What `--version` prints.
+pub const VERSION_PAGE: &str = "\
 pciids 0.1.0
 ";
 
-const USAGE: &str = "\
+/// What follows `Usage: ` in the help of the program and after an unknown command.
+pub const USAGE: &str = "\
+pciids < FILE
+       pciids <COMMAND> [ARGS]";
+
+/// What follows the message about an unknown command.
+pub const USAGE_PAGE: &str = "\
 Usage: pciids < FILE
        pciids <COMMAND> [ARGS]
 
 For more information, try '--help'.
 ";
 
-const HELP: &str = "\
+/// The help of the program.
+pub const HELP: &str = "\
 Checks and prints pci.ids files, and keeps a moderated registry of PCI IDs
 
 Usage: pciids < FILE
@@ -47,24 +54,19 @@ Exit status:
 Run 'pciids help <COMMAND>' for details and an example.
 ";
 
-/// All the pages.
-pub const PAGES: Pages<'static> = Pages {
-    version: VERSION,
-    usage: USAGE,
-    help: HELP,
-    commands: &[
-        ("tidy", TIDY),
-        ("check", CHECK),
-        ("lookup", LOOKUP),
-        ("script", SCRIPT),
-        ("import", IMPORT),
-        ("export", EXPORT),
-        ("serve", SERVE),
-        ("migrate", MIGRATE),
-    ],
-};
+/// The commands in the order of the help, each with its own.
+pub const COMMANDS: [(&str, &str); 8] = [
+    ("tidy", TIDY),
+    ("check", CHECK),
+    ("lookup", LOOKUP),
+    ("script", SCRIPT),
+    ("import", IMPORT),
+    ("export", EXPORT),
+    ("serve", SERVE),
+    ("migrate", MIGRATE),
+];
 
-const TIDY: &str = "\
+pub const TIDY: &str = "\
 Prints the canonical form of a pci.ids file (the default)
 
 Usage: pciids tidy < FILE
@@ -79,7 +81,7 @@ is reported on standard error, and the exit status is 1. The faults are listed
 by 'pciids help check'.
 ";
 
-const CHECK: &str = "\
+pub const CHECK: &str = "\
 Counts the entries of a pci.ids file or reports the first fault
 
 Usage: pciids check < FILE
@@ -104,7 +106,7 @@ Prints 'too many entries' if there are more than 100,000 entries, and
 'too large' if the file is larger than 4,194,304 bytes.
 ";
 
-const LOOKUP: &str = "\
+pub const LOOKUP: &str = "\
 Looks up a name in a pci.ids file, as libpci does
 
 Usage: pciids lookup [OPTIONS] --ids <FILE> --flags <HEX>
@@ -138,7 +140,7 @@ Prints 'text ANSWER' with exit status 0, or 'none' or 'refused N Word' with
 exit status 1.
 ";
 
-const SCRIPT: &str = "\
+pub const SCRIPT: &str = "\
 Runs the commands and queries on standard input, one per line
 
 Usage: pciids script [OPTIONS]
@@ -171,7 +173,7 @@ A new registry has one account, 'root', which is an administrator (rank 3).
 The exit status is 0 if all lines were answered, even if some were refused.
 ";
 
-const IMPORT: &str = "\
+pub const IMPORT: &str = "\
 Imports a pci.ids file into a registry
 
 Usage: pciids import [OPTIONS] --db <FILE> --account <ACCOUNT> <IDS>
@@ -191,7 +193,7 @@ Prints 'ok added=A renamed=R same=S', or 'refused N Word'. If the file has a
 fault, nothing is imported.
 ";
 
-const EXPORT: &str = "\
+pub const EXPORT: &str = "\
 Prints a registry as a pci.ids file
 
 Usage: pciids export --db <FILE>
@@ -205,7 +207,7 @@ Example: pciids export --db registry.db > pci.ids
 The output is in canonical form, as 'pciids tidy' prints it.
 ";
 
-const SERVE: &str = "\
+pub const SERVE: &str = "\
 Serves a registry over HTTP
 
 Usage: pciids serve [OPTIONS] --db <FILE> --port <N>
@@ -225,7 +227,7 @@ The server does not authenticate clients: it believes the X-Account field of a
 request. Put a proxy in front of it that checks passwords and sets the field.
 ";
 
-const MIGRATE: &str = "\
+pub const MIGRATE: &str = "\
 Upgrades a registry to the newest schema
 
 Usage: pciids migrate --db <FILE>

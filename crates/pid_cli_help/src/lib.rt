@@ -1,0 +1,17 @@
+//! What a person gets of both programs: the pages of help, and the line below a fault at a terminal.
+#![tactic(auto)]
+
+mod explaining;
+mod file_looks;
+mod met;
+mod pages;
+mod similar;
+
+pub use explaining::{explain_streams, is_for_a_person, reason_of, tell_input};
+pub use file_looks::looks_of;
+pub use met::{Met, Noted};
+pub use pages::{
+    CHECK, COMMANDS, EXPORT, HELP, IMPORT, LOOKUP, MIGRATE, SCRIPT, SERVE, TIDY, USAGE, USAGE_PAGE,
+    VERSION, VERSION_PAGE,
+};
+pub use similar::usage_after;
