@@ -138,7 +138,10 @@ class Profile:
 
     def within(self, word):
         """The instructions within the function whose name has the word, and what it calls."""
-        return max(count for count, name in self.functions("yes") if word in name)
+        found = [count for count, name in self.functions("yes") if word in name]
+        if not found:
+            raise Fault(f"no function of the program has {word} in its name")
+        return max(found)
 
     def of_ours(self):
         """The instructions in the functions of the program's own crates, and in no other."""

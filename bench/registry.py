@@ -10,7 +10,7 @@ ROUNDS = 5
 def least_of_lines(database, room, lines, rounds=ROUNDS):
     """The least time of lines of a script on copies of the file."""
     times = []
-    for _ in range(rounds):
+    for _ in range(room.rounds(rounds)):
         with Script(room.script(room.copy(database))) as script:
             times.append(script.time_of(lines))
     return min(times)
@@ -31,7 +31,7 @@ def export_line(room):
     ours, theirs = room.imported("100,000 items")[:2]
     size = len(ran([room.program, "export", "--db", ours]))
     times = []
-    for _ in range(ROUNDS):
+    for _ in range(room.rounds(ROUNDS)):
         with Script(room.script(ours)) as script:
             times.append(script.time_of_export(size))
     [whole] = in_turn([[room.sqlite, theirs, "export", "1"]], rounds=9)
@@ -41,7 +41,7 @@ def export_line(room):
 def export_process(room):
     ours, theirs = room.imported("Debian's file")[:2]
     words = [room.program, "export", "--db", ours], [room.sqlite, theirs, "export", "1"]
-    return Figures(*in_turn(words, rounds=9))
+    return Figures(*in_turn(words, rounds=room.rounds(9)))
 
 
 # -- commands
@@ -68,12 +68,13 @@ def with_bob(room, database):
 def command_time(room, ours, theirs, rounds=ROUNDS):
     """The time of a command within the process, so that opening the file is not in it."""
     ours, theirs = with_bob(room, ours), closed(theirs)
-    took = least_of_lines(ours, room, keyed_lines(ours, COMMANDS), rounds)
+    count = room.sized(COMMANDS)
+    took = least_of_lines(ours, room, keyed_lines(ours, count), rounds)
     times = []
-    for _ in range(rounds):
-        words = [room.sqlite, room.copy(theirs), "keyed", str(COMMANDS // 2)]
+    for _ in range(room.rounds(rounds)):
+        words = [room.sqlite, room.copy(theirs), "keyed", str(count // 2)]
         times.append(seconds(words))
-    return Figures(took / COMMANDS, (min(times) - room.idle) / COMMANDS)
+    return Figures(took / count, (min(times) - room.idle) / count)
 
 
 def command_of_items(name):
@@ -90,7 +91,7 @@ def command_of_submissions(room):
 def command_share(room):
     """The instructions of a command in the program's own crates, and all of them: those of a run
     with commands without those of one with none."""
-    count = 500
+    count = room.sized(500)
     database = with_bob(room, room.registry(SMALL))
     runs = []
     for lines in (b"", keyed_lines(database, count)):
@@ -106,32 +107,31 @@ def command_share(room):
 def import_share(room):
     """The same of an import into a new registry, for an item."""
     words = room.import_words(room.path("anew"), room.text("10,000 items"))
-    profile = Profile(room.folder, words)
-    return Figures(profile.of_ours() / 10_000, profile.total / 10_000, "instructions")
+    profile, count = Profile(room.folder, words), room.sized(10_000)
+    return Figures(profile.of_ours() / count, profile.total / count, "instructions")
 
 
 # -- look-ups
 
 PAIR = "lookup flags=3&vendor={:04x}&device={:04x}\n"
-PAIRS = 100_000
 
 
 def look_up_kept(room):
     """Pairs of names that the registry keeps, beside libpci that parses as many lines."""
-    database = room.imported("100,000 items")[0]
-    pairs = "".join(PAIR.format(at % 500, 0) for at in range(PAIRS)).encode()
-    asked = room.lines("asked", (f"3 {at % 500:x} 0 0 0 0 0 1024" for at in range(PAIRS)))
+    database, count = room.imported("100,000 items")[0], room.sized(100_000)
+    pairs = "".join(PAIR.format(at % 500, 0) for at in range(count)).encode()
+    asked = room.lines("asked", (f"3 {at % 500:x} 0 0 0 0 0 1024" for at in range(count)))
     words = [room.libpci_lookups, room.text("100,000 items")]
     [least], [worked] = in_turn([words], rounds=5), in_turn([words], asked, 5)
-    return Figures(least_of_lines(database, room, pairs) / PAIRS, (worked - least) / PAIRS)
+    return Figures(least_of_lines(database, room, pairs) / count, (worked - least) / count)
 
 
 def look_up_read(room):
     """Pairs of names that it reads, beside two selects."""
-    ours, theirs = room.imported("100,000 items")[:2]
-    pairs = "".join(PAIR.format(0xFFFF, at % 34_000) for at in range(PAIRS)).encode()
-    [worked] = in_turn([[room.sqlite, theirs, "unknown", str(PAIRS)]], rounds=5)
-    return Figures(least_of_lines(ours, room, pairs) / PAIRS, (worked - room.idle) / PAIRS)
+    (ours, theirs), count = room.imported("100,000 items")[:2], room.sized(100_000)
+    pairs = "".join(PAIR.format(0xFFFF, at % 34_000) for at in range(count)).encode()
+    [worked] = in_turn([[room.sqlite, theirs, "unknown", str(count)]], rounds=5)
+    return Figures(least_of_lines(ours, room, pairs) / count, (worked - room.idle) / count)
 
 
 # -- opening
@@ -144,10 +144,10 @@ def open_beside_check(database, has_kits_part):
     def measure(room):
         ours, theirs = database(room)
         words = [room.script(ours), [room.sqlite, theirs, "open", "1"]]
-        took, other = in_turn(words, rounds=ROUNDS)
+        took, other = in_turn(words, rounds=room.rounds(ROUNDS))
         if not has_kits_part:
             newer = room.script(room.newer(ours))
-            took -= min(seconds(newer, status=3) for _ in range(ROUNDS))
+            took -= min(seconds(newer, status=3) for _ in range(room.rounds(ROUNDS)))
         return Figures(took, other)
 
     return measure
@@ -158,7 +158,7 @@ def of_items(room):
 
 
 def of_rows(room):
-    return [room.made("rows", "rows", 100_000)] * 2
+    return [room.made("rows", "rows", room.sized(100_000))] * 2
 
 
 def open_time(room):
@@ -180,9 +180,9 @@ def migration(has_opening):
     alone."""
 
     def measure(room):
-        old = room.made("old", "old", 100_000)
+        old = room.made("old", "old", room.sized(100_000))
         times = []
-        for _ in range(ROUNDS):
+        for _ in range(room.rounds(ROUNDS)):
             path = room.copy(old)
             words = [room.program, "migrate", "--db", path]
             ours, again = seconds(words), seconds(words)
@@ -200,7 +200,7 @@ def migration(has_opening):
 def script_memory(room):
     """Reads and look-ups of the same names, more and more of them."""
     peaks = []
-    for count in (1_000_000, 1_000):
+    for count in (room.sized(1_000_000), room.sized(1_000)):
         lines = "".join(
             f"read path=PC/{at % 500:04x}\n" if at % 1_000 < 500 else PAIR.format(at % 500, 0)
             for at in range(count)

@@ -18,6 +18,8 @@ os.environ["PATH"] = os.environ.get("PATH", os.defpath) + ":/usr/sbin:/sbin"
 
 # Items, submissions, and how many of these are pending.
 SMALL, MIDDLE, LARGE = (1_000, 1_000, 10), (10_000, 10_000, 10), (100_000, 1_000_000, 10)
+# Of a run on small input: what a large count becomes.
+FEW = 300
 
 
 def said(what):
@@ -49,8 +51,16 @@ def closed(database):
 class Room:
     """A folder, and all that is made in it."""
 
-    def __init__(self, folder):
-        self.folder = folder
+    def __init__(self, folder, is_small=False):
+        self.folder, self.is_small = folder, is_small
+
+    def sized(self, count):
+        """So many; or a few, in a run that only shows whether each row can be measured."""
+        return min(count, FEW) if self.is_small else count
+
+    def rounds(self, count):
+        """How often something is measured, of which the least counts."""
+        return 1 if self.is_small else count
 
     def path(self, name):
         return os.path.join(self.folder, name)
@@ -117,9 +127,9 @@ class Room:
                 lambda: texts.shuffled(texts.vendors_with_a_device(50_000)),
             "50,000 subsystems of one device": lambda: texts.subsystems(50_000),
             "100,000 subsystems of one device": lambda: texts.subsystems(100_000),
-            "1,000 items": lambda: texts.entries(1_000),
-            "10,000 items": lambda: texts.entries(10_000),
-            "100,000 items": lambda: texts.entries(100_000),
+            "1,000 items": lambda: texts.entries(self.sized(1_000)),
+            "10,000 items": lambda: texts.entries(self.sized(10_000)),
+            "100,000 items": lambda: texts.entries(self.sized(100_000)),
         }[name]()
         return self.written(name.replace(" ", "-"), made)
 
@@ -149,8 +159,8 @@ class Room:
         return path
 
     def registry(self, size):
-        items, submissions, pending = size
-        return self.made(f"registry-{submissions}", "filled", items, submissions, pending)
+        counts = map(self.sized, size)
+        return self.made(f"registry-{size[1]}", "filled", *counts)
 
     @lru_cache(maxsize=None)
     def imported(self, name):
@@ -163,7 +173,7 @@ class Room:
         seconds(words)
         listed = "SELECT path || char(9) || name FROM item ORDER BY rowid"
         lines = self.lines("lines", selected(ours, listed).splitlines())
-        for _ in range(5):
+        for _ in range(self.rounds(5)):
             times[0].append(seconds(self.import_words(removed(ours), text)))
             times[1].append(seconds([self.sqlite, removed(theirs), "make"], lines))
         return closed(ours), closed(theirs), min(times[0]), min(times[1])

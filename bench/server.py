@@ -75,7 +75,7 @@ def changes_then(room, database, asks, count):
     def talk(client):
         for at in range(count):
             form = f"path=PC/0001&name=renamed+{at}".encode()
-            number = MIDDLE[1] + at + 1
+            number = room.sized(MIDDLE[1]) + at + 1
             for request in (
                 posted("/submit", "author-1", form),
                 posted("/approve", "root", f"num={number}".encode()),
@@ -127,7 +127,7 @@ def changes(back):
 
     def measure(room):
         database = large(room)
-        since = str(LARGE[0] - back)
+        since = str(room.sized(LARGE[0]) - room.sized(back))
         with our_server(room, database) as server:
             ours = server.ask(f"/changes?since={since}")
         times = 1_000 if back > 100 else 20
@@ -156,7 +156,7 @@ def requests_on(room, connections, requests):
 
 def own_connection(room):
     """A request on a connection of its own, beside one of many on one: what more of them take."""
-    few, many = 100, 600
+    few, many = (5, 15) if room.is_small else (100, 600)
     own = requests_on(room, many, 1) - requests_on(room, few, 1)
     shared = requests_on(room, 1, many) - requests_on(room, 1, few)
     return Figures(own / (many - few), shared / (many - few), "instructions")
@@ -175,7 +175,7 @@ def at_once(target):
 
 def submit_time(room):
     """Submissions without keys, over one connection and as lines of a script."""
-    count, database = 1_000, debians(room)
+    count, database = room.sized(1_000), debians(room)
     forms = [b"path=PC/%04x&name=renamed" % at for at in range(count)]
 
     def submit(client):
@@ -185,7 +185,7 @@ def submit_time(room):
 
     ours = min(
         served([room.program, "serve", "--db", room.copy(database)], submit)[1]
-        for _ in range(ROUNDS)
+        for _ in range(room.rounds(ROUNDS))
     )
     lines = b"".join(b"submit root %s\n" % form for form in forms)
     return Figures(ours / count, least_of_lines(database, room, lines) / count)
@@ -196,7 +196,7 @@ FORMS = [f"path=PC/{at:04x}&name=renamed" for at in range(200)]
 
 def beside_obey(profile, call):
     """Submissions, beside what of them is in the registry's call that obeys them."""
-    figures = [profile.within(it) / len(FORMS) for it in (call, "::Registry::obey::")]
+    figures = [profile.within(it) / len(FORMS) for it in (call, "::RegistryModerated::obey::")]
     return Figures(*figures, "instructions")
 
 
@@ -206,7 +206,7 @@ def submit_instructions(room):
             client.sendall(posted("/submit", "root", form.encode()))
             whole_reply(client)
 
-    return beside_obey(profiled(room, room.copy(small(room)), talk), "::serve_connection::")
+    return beside_obey(profiled(room, room.copy(small(room)), talk), "::serve_registry::")
 
 
 def line_instructions(room):
@@ -227,7 +227,7 @@ def import_time(room):
         whole_reply(client)
 
     ours, theirs = [], []
-    for at in range(ROUNDS):
+    for at in range(room.rounds(ROUNDS)):
         words = [room.program, "serve", "--db", room.path(f"posted-{at}")]
         ours.append(served(words, send)[0])
         theirs.append(seconds(room.import_words(room.path(f"sent-{at}"), text)))
@@ -244,7 +244,7 @@ def memory_after_look_ups(room):
         with connected(server.port) as client:
             client.sendall(get(LOOK_UP))
             size = whole_reply(client)
-            server.batch(client, get(LOOK_UP), size, 1_000_000, 100)
+            server.batch(client, get(LOOK_UP), size, room.sized(1_000_000), 100)
         return Figures(memory_of(server.process), before, "MB")
 
 
@@ -252,7 +252,7 @@ def memory_of_text(room):
     """What the server has in memory once the published text is kept, and before."""
     with our_server(room, room.imported("100,000 items")[0]) as server:
         with connected(server.port) as client:
-            server.time_of(client, get(READ))
+            server.time_of(client, get("/read/PC/0001"))
             before = memory_of(server.process, "VmRSS")
         server.ask("/pci.ids")
         return Figures(memory_of(server.process, "VmRSS"), before, "MB")

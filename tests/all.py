@@ -48,6 +48,7 @@ are skipped. `first` builds nothing but the first program, and tries that: tidy,
   tests/run -k refused -x                 tests by a part of their names, up to the first failure
   tests/run --durations=10                what takes long
   tests/run words -n 0 -s                 without other processes, and with what is printed
+  tests/run refusing --all -k migrate     each call refused, in place of a sample
   PCIIDS=/usr/bin/pciids tests/run        an installed program; nothing is built
   PCIIDS_SAMPLE=123 tests/run migrate     the calls that a run with that sample refused
 

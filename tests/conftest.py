@@ -25,6 +25,7 @@ COUNTS = pytest.StashKey["Counts"]()
 
 def pytest_addoption(parser):
     parser.addoption("--counts", metavar="FILE", help="write the counts of cases to this file")
+    parser.addoption("--all", action="store_true", help="refuse each call, where a sample is tried")
 
 
 def pytest_configure(config):

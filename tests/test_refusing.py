@@ -8,6 +8,7 @@ import sqlite3
 import subprocess
 import tempfile
 from concurrent.futures import ThreadPoolExecutor
+from functools import lru_cache
 from typing import NamedTuple
 
 import pytest
@@ -39,8 +40,15 @@ FAULTS = {
 REFUSED = [b"refused 16 Memory\n", b"refused 17 Store\n", b"refused 18 Failed\n"]
 SAID = [b"", b"no memory\n", b"open: Memory\n", b"open: Store\n", b"file: failed\n"] + REFUSED
 
+# What is said of a registry that is not opened, where the disk fails and where memory does.
+OPENING = {False: {b"open: Store\n"}, True: {b"open: Memory\n"}}
+
 # The runs of a case at most: requests for memory are refused at as many places, evenly spread.
 MOST = 60
+
+# Requests for memory before the registry is opened: for the arguments, and for the buffer of
+# `export`, which is one request. Each of these is refused in `export`.
+FIRST = 300
 
 
 class Case(NamedTuple):
@@ -157,6 +165,8 @@ class Trials:
         ):
             raise RuntimeError("the registry of the cases was not made")
         self.after = {name: self.without_fault(case) for name, case in CASES.items()}
+        # What was said where a registry was opened.
+        self.said = set()
 
     def prepared(self, case, folder):
         """The database of a case in a folder, and its words over that."""
@@ -196,6 +206,7 @@ class Trials:
                 self_told = pipe.read()
         return ran, self_told
 
+    @lru_cache(maxsize=None)
     def count(self, name, fault):
         """How many calls there are to fail."""
         with tempfile.TemporaryDirectory(dir=ROOM) as folder:
@@ -212,6 +223,7 @@ class Trials:
                 ran, told = self.failing(case, words, fault, at)
             except subprocess.TimeoutExpired:
                 return at, "it does not end"
+            self.said.add(ran[1])
             found = rows(database)
             is_done = ran[0].startswith(case.printed) and case.printed != b"" or ran[2] == 0
             if not is_allowed(case, ran) or found not in (
@@ -238,29 +250,38 @@ def places(first, last, most):
     return [first, *(first + int(step * (number + moved)) for number in range(most - 2)), last]
 
 
+def chosen(trials, name, fault, most):
+    """The places of a case at which calls fail."""
+    last = trials.count(name, fault)
+    if FAULTS[fault][0] != "refuse_malloc" or CASES[name].before != "registry" or name == "open":
+        return places(1, last, most)
+    if name == "export":
+        return [*range(1, FIRST), *places(FIRST, last, most)]
+    # Requests up to the opening of the registry are refused in the first case.
+    return places(1 if most > last else trials.count("open", fault) * 9 // 10, last, most)
+
+
+@pytest.fixture(scope="module")
+def trials(shims):
+    with tempfile.TemporaryDirectory() as folder:
+        yield Trials(folder, shims)
+
+
 @pytest.mark.needs("gcc", "libc6-dev", "sqlite3")
+@pytest.mark.parametrize("name", CASES)
 @pytest.mark.parametrize("fault", FAULTS)
-def test_refusing(cases, folder, shims, fault):
-    trials, shim = Trials(folder, shims), FAULTS[fault][0]
+def test_refusing(cases, request, trials, name, fault):
+    most = 1_000_000 if request.config.option.all else MOST
+    tried = chosen(trials, name, fault, most)
+    trials.said.clear()
     with ThreadPoolExecutor(os.cpu_count()) as pool:
-        counts = dict(zip(CASES, pool.map(lambda name: trials.count(name, fault), CASES)))
-        tried = 0
-        for name, case in CASES.items():
-            # Requests for memory up to the opening of the registry are refused in the first case.
-            opened = (
-                counts["open"] * 9 // 10
-                if shim == "refuse_malloc" and case.before == "registry" and name != "open"
-                else 1
-            )
-            chosen = list(places(opened, counts[name], MOST))
-            tried += len(chosen)
-            found = [
-                it
-                for it in pool.map(lambda at: trials.wrong(name, fault, at), chosen)
-                if it is not None
-            ]
-            cases.equal(f"{name}: {fault}", found[:1], [])
-        print(
-            f"refusing: {fault}: {tried} of {sum(counts.values())} calls failed, one in each run;"
-            f" sample {SAMPLE}"
-        )
+        wrong = [it for it in pool.map(lambda at: trials.wrong(name, fault, at), tried) if it]
+    cases.equal(f"{name}: {fault}", wrong[:1], [])
+    if name.startswith("open"):
+        # A fault of the disk is not reported as one of memory, and the other way round.
+        is_memory, faults = fault == "memory", trials.said & {b"open: Memory\n", b"open: Store\n"}
+        cases.equal(f"{name}: {fault}: what is said", faults, OPENING[is_memory])
+    print(
+        f"refusing: {name}: {fault}: {len(tried)} of {trials.count(name, fault)} calls failed, one"
+        f" in each run; sample {SAMPLE}"
+    )

@@ -96,8 +96,9 @@ class Progress(threading.Thread):
         """Says what is new."""
         self.explain()
         with self.build.changed:
-            proved = self.build.proved[self.named :]
-            lines = [self.line(f"{it} is proved: ") for it in proved] or [self.line()]
+            proved, before = self.build.proved[self.named :], self.named + 1
+            lines = [self.line(f"{it} is proved: ", at) for at, it in enumerate(proved, before)]
+            lines = lines or [self.line()]
         if self.is_terminal:
             say("\r" + self.line()[: shutil.get_terminal_size().columns - 1] + "\033[K")
             self.is_in_line = True
@@ -121,18 +122,18 @@ class Progress(threading.Thread):
             say("\n")
         self.is_in_line = False
 
-    def line(self, head=""):
+    def line(self, head="", count=None):
         build, so_far = self.build, spelled(time.monotonic() - self.began)
         if build.broken:
             return f"pciids: {so_far}, waiting for {', '.join(build.running)}"
-        counts = f"{len(build.proved)} of {len(build.crates)} crates, {so_far}"
+        counts = f"{count or len(build.proved)} of {len(build.crates)} crates, {so_far}"
         now = f", proving {', '.join(build.running)}" if build.running else ""
         return f"pciids: {head}{counts}, {rounded(self.left())} left{now}"
 
     def left(self):
         build, now = self.build, time.monotonic()
         running = {it: now - began for it, began in build.running.items()}
-        waiting = [it for it in build.crates if it not in build.begun]
+        waiting = [it for it in build.crates if it not in build.built | running.keys()]
         return build.estimate.left(waiting, running, build.processors)
 
     def end(self, is_built):

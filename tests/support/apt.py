@@ -22,6 +22,7 @@ SHOWN_BY = {
     "gcc": "gcc",
     "libc6-dev": "/usr/include/stdio.h",
     "libpci-dev": "/usr/include/**/pci/pci.h",
+    "libsqlite3-dev": "/usr/include/sqlite3.h",
     "lintian": "lintian",
     "man-db": "man",
     "nginx-light": "nginx",
@@ -34,6 +35,7 @@ SHOWN_BY = {
     "shellcheck": "shellcheck",
     "sqlite3": "sqlite3",
     "systemd-container": "systemd-nspawn",
+    "valgrind": "valgrind",
 }
 TESTS = os.path.dirname(os.path.dirname(os.path.abspath(__file__)))
 FOLDERS = ("", "support", "site")
