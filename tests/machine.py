@@ -224,8 +224,10 @@ def stops(story):
     story.machine.run(IS_UP)
     story.works("publishing has no fault to report then", "systemctl start pciids-publish")
     story.same("neither a request nor publishing starts it", hold, "inactive", 3)
-    story.works("a start by hand", "systemctl start pciids")
-    story.is_up("it answers then")
+    story.works("a start by hand ends when it answers", f"systemctl start pciids && {IS_UP} -f")
+    at_once = f"systemctl restart pciids && {IS_UP} -f"
+    for number in range(3):
+        story.works(f"so does a restart, {number}", at_once)
     place = hang(story, "pciids-publish")
     under_way = story.machine.until("pgrep -x sleep")
     story.cases.equal("machine: a publishing is under way", under_way, True)
@@ -309,7 +311,12 @@ def kept(story):
     story.is_up("the server is back after a restore")
     story.same("the registry is as it was", f"{ASK}/pci.ids", "# PCI ID registry\n8086  Intel")
     story.works("publishing after a restore", "systemctl start pciids-publish")
-    stopped = f"systemctl stop pciids; pciids-restore {copy}; systemctl start pciids"
+    story.same("the later name is not published any more", names, "8086  Intel")
+    back = told.partition("come back with\n")[2].partition("Mirrors")[0]
+    told = story.works("what was approved since the copy comes back", f"set -e\n{back}")
+    story.cases.equal("machine: one name", "ok added=1 renamed=0 same=1" in told, True)
+    story.same("the registry has it again", f"{ASK}/pci.ids", text)
+    stopped = f"systemctl stop pciids; pciids-restore {copy}; systemctl start pciids; {IS_UP} -f"
     said = "The server is stopped, as it was before: systemctl start pciids"
     told = story.works("a restore while the server is stopped", stopped)
     story.cases.equal("machine: it says how to start it", said in told.split("\n"), True)
@@ -318,7 +325,8 @@ def kept(story):
     story.machine.run("rm -r $(ls -d /var/lib/pciids/replaced.* | tail -1)")
     story.same("the published file follows", names, "8086  Intel")
     former = "ls /var/lib/pciids/replaced.*"
-    story.same("the former registry is kept", former, "registry.db\nregistry.db-wal")
+    files = "published.ids\nregistry.db\nregistry.db-wal"
+    story.same("the former registry is kept", former, files)
     story.machine.run("systemctl reset-failed; rm -r /var/backups/pciids/2000*")
 
 

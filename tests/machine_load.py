@@ -188,7 +188,7 @@ def greedy(story):
 
 
 def too_long(story):
-    """A list that does not fit into the memory of LimitAS= is refused, and the server goes on. The
+    """A list that does not fit into the memory of LimitDATA= is refused; the server goes on. The
     limit is what the unit says; it is lowered for a proposal with a thousand of the longest
     remarks."""
     send = f"{ASK}/comment#[1-{REMARKS}] -H 'X-Account: root' --data-binary @/srv/remark"
@@ -201,10 +201,10 @@ def too_long(story):
     story.is_up("it is there before a long list")
     show = "systemctl show -p MainPID --value pciids"
     pid = story.machine.run(show)[1].strip()
-    limit = f"prlimit --pid {pid} --as"
-    limits = f"awk '/^Max address space/ {{ print $4, $5 }}' /proc/{pid}/limits"
+    limit = f"prlimit --pid {pid} --data"
+    limits = f"awk '/^Max data size/ {{ print $4, $5 }}' /proc/{pid}/limits"
     story.same("too long: the unit's limit", limits, f"{768 << 20} {768 << 20}")
-    size = story.machine.run(f"awk '/^VmSize/ {{ print $2 }}' /proc/{pid}/status")[1]
+    size = story.machine.run(f"awk '/^VmData/ {{ print $2 }}' /proc/{pid}/status")[1]
     story.works("a lower limit", f"{limit}={(int(size) << 10) + MORE}:{768 << 20}")
     told = story.machine.run(f"{ASK}/submission/1 -w ' %{{http_code}}' | tail -c 80")[1].strip()
     is_refused = told == "000" or '"refused":16' in told

@@ -61,6 +61,13 @@ def test_manual(cases):
         "the manual page: laid out without a warning", (ran.stderr, ran.returncode), (b"", 0)
     )
     page = ran.stdout.decode()
+    # The table of the help, whose columns are two in its first half.
+    told = run_program(b"", "lookup", "--help").out.decode().partition("What to look up:\n")[2]
+    told = told.partition("Numbers that")[0]
+    flags = dict(re.findall(r"\b([0-9ab]+)  +(.+?)(?=  |$)", told, re.M))
+    cases.equal("the manual page: the help lists flags", len(flags), 11)
+    shown = dict(re.findall(r"^ +([0-9ab]+) +(\S.*)$", page, re.M))
+    cases.equal("the manual page: the flags", {it: shown.get(it) for it in flags}, flags)
     words = words_of(run_program(b"", "--help").out.decode())
     cases.equal("the manual page: the help lists commands", len(words) > 5, True)
     for word in set(words) - HELP:

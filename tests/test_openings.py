@@ -12,6 +12,7 @@ pytestmark = pytest.mark.needs("sqlite3", "curl")
 
 DAMAGED = (b"", b"open: Damaged\n", 3)
 NEWER = (b"", b"open: NewerSchema 3\n", 3)
+STORE = (b"", b"open: Store\n", 3)
 OPENED = (b"", b"", 0)
 
 # Lines of scripts, each with its reply.
@@ -29,6 +30,21 @@ GOES_ON = (
     ("submit alice path=PC/8086&remove=yes", "ok 2"),
     ("approve root num=2", "ok"),
     ("import root file=8086++X", "ok added=1 renamed=0 same=0"),
+)
+
+
+# What the toolchain's sqlite does not read, and how docs/STORAGE.md has it undone.
+UNREAD = (
+    ("CREATE INDEX i ON item(name) WHERE name > 'M'", "DROP INDEX i"),
+    ("CREATE INDEX i ON item(upper(name))", "DROP INDEX i"),
+    ("CREATE VIEW v AS SELECT path, count(*) OVER () FROM item", "DROP VIEW v"),
+    ("CREATE VIRTUAL TABLE f USING fts5(path, name)", "DROP TABLE f"),
+    ("CREATE VIRTUAL TABLE r USING rtree(id, low, high)", "DROP TABLE r"),
+    ("CREATE TABLE o (a); INSERT INTO o VALUES (1); ALTER TABLE o ADD COLUMN b DEFAULT 5",
+     "ALTER TABLE o DROP COLUMN b"),
+    ("ALTER TABLE item ADD COLUMN extra TEXT NOT NULL DEFAULT 'e'",
+     "ALTER TABLE item DROP COLUMN extra"),
+    ("PRAGMA auto_vacuum = 1; VACUUM", "PRAGMA auto_vacuum = 0; VACUUM"),
 )
 
 
@@ -250,6 +266,24 @@ TAKEN = (
     ("CREATE VIEW item AS SELECT 1 AS x", "DROP VIEW item"),
     ("CREATE TABLE other (x INTEGER); CREATE INDEX meta ON other (x)", "DROP INDEX meta"),
 )
+
+
+def test_refused(cases, folder):
+    """What the page of the file lists as not read: nothing opens, and the file is as it was, until
+    it is undone as the page says."""
+    for number, (added, undone) in enumerate(UNREAD):
+        path = os.path.join(folder, f"{number}.db")
+        script(path, *(line for line, _ in RUN))
+        got = (asked(path, added), script(path), script(path), asked(path, undone))
+        cases.equal(f"refused: {added}", got, ("", STORE, STORE, ""))
+        obeys(cases, f"refused: {undone}", path, AGAIN)
+    for suffix in ("", "-wal"):
+        path = os.path.join(folder, f"linked{suffix}.db")
+        script(path, *(line for line, _ in RUN))
+        os.link(path + suffix, path + ".other")
+        cases.equal(f"refused: another name of {suffix}", script(path), STORE)
+        os.remove(path + ".other")
+        obeys(cases, f"refused: {suffix} without it", path, AGAIN)
 
 
 def test_taken(cases, folder):

@@ -214,8 +214,8 @@ def limited(cases, database):
         ),
     }
     with Serving(database) as server:
-        size = server.told("VmSize") * KIB + 2 * FEW * KIB
-        resource.prlimit(server.process.pid, resource.RLIMIT_AS, (size, size))
+        size = server.told("VmData") * KIB + 2 * FEW * KIB
+        resource.prlimit(server.process.pid, resource.RLIMIT_DATA, (size, size))
         for name, (sent, want) in requests.items():
             answered = server.answered(sent)
             if want is None and answered in NO_ROOM:
