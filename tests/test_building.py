@@ -172,13 +172,21 @@ def test_builds(cases):
         cases.equal("the program is where it belongs", os.path.isfile(linked), True)
 
 
-def test_builds_in_turn(cases):
-    """Where each crate waits for the one before, each has all processors."""
+def test_small_program(cases):
+    """The largest crate of a small program has all processors, also with another beside it."""
     with tempfile.TemporaryDirectory() as folder:
         make(folder, "low: std_thing\nprogram: low\n")
         build(folder)
         jobs = [it.split()[1:4] for it in notes(folder) if it.startswith("begin")]
         cases.equal("their jobs", jobs, [["low", "jobs", "4"], ["program", "jobs", "4"]])
+    with tempfile.TemporaryDirectory() as folder:
+        make(folder, "aside:\nlow: std_thing\nprogram: aside low\n")
+        large = "//! Something.\n" * 9
+        write(os.path.join(folder, "crates", "low", "src", "lib.rt"), large)
+        build(folder)
+        jobs = sorted(it.split()[1:4] for it in notes(folder) if it.startswith("begin"))
+        wanted = [["aside", "jobs", "1"], ["low", "jobs", "4"], ["program", "jobs", "4"]]
+        cases.equal("with one beside it", jobs, wanted)
 
 
 def test_builds_again(cases):

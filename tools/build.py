@@ -8,7 +8,7 @@ crates above it can cite, without the proofs, so that they have less to load tha
 `rt lib` builds. As many crates as there are processors are built side by side; those for which the
 longest chain of crates waits begin first, and the others give way to them. Each has one job, since
 a prover with N jobs makes a copy of itself for each module. A library that is built alone has half
-of the processors. Where no crate can be built beside another, each has all of them.
+of the processors; the largest crate of a program of two libraries has all of them.
 Says on standard error how far it is, and if a crate is not proved, what `rattle` said of it.
 """
 
@@ -148,8 +148,8 @@ class Build:
         self.uses = read_uses()
         self.crates = [*below(self.uses, program), program]
         self.below = {crate: below(self.uses, crate) for crate in self.crates}
-        # Whether no crate can be built beside another.
-        self.in_turn = all(len(self.below[it]) == at for at, it in enumerate(self.crates))
+        # Whether next to nothing can be built beside the largest crate.
+        self.is_small = len(self.crates) <= 3
         self.toolchain = Toolchain(self.uses)
         self.processors = processors
         self.built, self.begun, self.failed = set(), set(), False
@@ -203,9 +203,11 @@ class Build:
 
     def jobs(self, crate):
         """Returns how many jobs a crate has that begins now."""
-        if self.in_turn:
-            return self.processors
-        is_alone = not self.ready() and self.begun - self.built == {crate}
+        others = (self.begun - self.built - {crate}).union(self.ready())
+        if self.is_small:
+            is_largest = all(self.chain(it) <= self.chain(crate) for it in others)
+            return self.processors if is_largest else 1
+        is_alone = not others
         if is_alone and not self.toolchain.is_program(crate):
             return max(1, self.processors // 2)
         return 1
