@@ -1,6 +1,7 @@
 // The head of the page: the search box, the menu, and who is logged in.
 
 import { account, logOut, NONE, rank, watchAccount } from "./account.js";
+import { countNew } from "./answers.js";
 import { askToLogIn, isAwaited } from "./login.js";
 import { load } from "./names.js";
 import { currentPage, go, readdress, refresh, watchPages } from "./router.js";
@@ -104,6 +105,7 @@ let shownPlace = "";
 function showPlace(address) {
   if (address.href !== shownPlace) openMenu(false);
   shownPlace = address.href;
+  if (address.pathname === "/mine") mine.textContent = "My proposals";
   for (const it of pages.querySelectorAll("a")) {
     if (it.pathname === address.pathname) it.setAttribute("aria-current", "page");
     else it.removeAttribute("aria-current");
@@ -121,6 +123,15 @@ function showWho() {
   log.title = name ? rankWords() : "";
   // Its place is kept, so that the menu doesn't shift.
   mine.classList.toggle("away", name === null);
+  if (name !== counted) countAnswers(name);
+}
+
+// Counted at log-in, and again when the proposals were looked at.
+let counted = null;
+async function countAnswers(name) {
+  counted = name;
+  const number = name ? await countNew(name) : 0;
+  if (account() === name) mine.textContent = `My proposals${number ? ` (${number} new)` : ""}`;
 }
 
 // Who is in the middle of typing keeps the page that is there.

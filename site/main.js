@@ -10,7 +10,7 @@ const PAGES = [
   [/^\/propose$/, "propose"],
   [/^\/queue$/, "queue"],
   [/^\/decided$/, "decided"],
-  [/^\/recent$/, "recent"],
+  [/^\/recent(?:\/(?<day>[0-9]{4}-[0-9]{2}-[0-9]{2}))?$/, "recent"],
   [/^\/check$/, "check", "check"],
   [/^\/load$/, "check", "load"],
   [/^\/mine$/, "mine"],

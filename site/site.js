@@ -3,6 +3,8 @@
 // All that the others import too: it is fetched at once, not level by level.
 import "./api.js";
 import "./dom.js";
+import "./happened.js";
+import "./history.js";
 import "./kept.js";
 import "./limits.js";
 import "./login.js";

@@ -2,6 +2,8 @@
 
 import { ask } from "./api.js";
 import { el, link, several } from "./dom.js";
+import { when } from "./happened.js";
+import { datesOf } from "./history.js";
 import { stateMark, wishOf } from "./parts.js";
 import { spoken } from "./paths.js";
 import { shown } from "./shown.js";
@@ -38,20 +40,35 @@ export async function submissions(which, how = {}) {
 /** The submissions for a path, as many as one question finds. */
 export const submissionsFor = (path) => submissions({ path }, { questions: 1, quiet: true });
 
+/** The date that says most of a proposal: when it was decided, or made; null where neither is. */
+function dateWords({ num, state }, dates) {
+  const decided = state === "pending" ? undefined : dates?.decided(num);
+  const proposed = dates?.proposed(num);
+  if (decided) return [" ", when(decided)];
+  return proposed ? [" proposed ", when(proposed)] : null;
+}
+
+/** The rows of submissions with their dates. */
+export async function submissionList(rows, shared = {}, isNews = () => false) {
+  const dates = await datesOf(rows.map((it) => it.num));
+  return el("ol", { class: "items" }, rows.map((it) => submissionRow(it, shared, isNews(it), dates)));
+}
+
 /**
  * The row of a submission. What all rows of a list share isn't said.
  * @param {Object} it the submission, as /submissions has it
  * @param {Object} [shared] path, author
  * @param {boolean} [isNews] whether it was decided since it was seen last
+ * @param {Object} [dates] as of `datesOf`
  */
-export function submissionRow(it, shared = {}, isNews = false) {
+function submissionRow(it, shared, isNews, dates) {
   const by = it.decider && it.state !== "withdrawn" ? ` by ${it.decider}` : "";
   return el("li", {}, el("a", { href: `/proposals/${it.num}` },
     el("code", {}, `#${it.num}`), " ", wishOf(it.name), " ",
     el("small", {},
       shared.path ? null : [el("code", {}, spoken(it.path)), " "],
       shared.author ? null : `by ${it.author} `,
-      stateMark(it.state, by), isNews ? " (new)" : null,
+      stateMark(it.state, by), isNews ? " (new)" : null, dateWords(it, dates),
       it.remarks ? ` ${several(it.remarks, "comment")}` : null,
       it.reason ? [" ", shown(it.reason)] : null)));
 }

@@ -26,8 +26,10 @@ AT_ONCE = AT_ONCE.split()
 # Parts that take times, or measure memory: nothing else is tried beside them.
 ALONE = "progress serving serving_memory".split()
 # What site_parts tries, several at a time.
-OF_SITE = ("site_reader site_moderation site_pastes site_story site_once site_kept site_safety"
-           " site_access site_firefox").split()
+OF_SITE = (
+    "site_reader site_moderation site_history site_pastes site_story site_once"
+    " site_kept site_safety site_access site_firefox"
+).split()
 
 # Where tests of the first program are: those that have the mark `first`.
 OF_FIRST = "fault_gallery limits lspci real_file words worked_rows".split()

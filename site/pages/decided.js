@@ -3,7 +3,7 @@
 import { el } from "../dom.js";
 import { failed, title } from "../parts.js";
 import { parse, spoken } from "../paths.js";
-import { olderLink, submissionRow, submissions } from "../submissions.js";
+import { olderLink, submissionList, submissions } from "../submissions.js";
 
 function titleWords({ path, author }) {
   const by = author ? ` by ${author}` : "";
@@ -19,7 +19,7 @@ export default async function decided({ query, again }) {
   const { before, submissions: rows } = answer.value;
   return [
     title(titleWords(which)),
-    rows.length ? el("ol", { class: "items" }, rows.map((it) => submissionRow(it, which)))
+    rows.length ? await submissionList(rows, which)
       : el("p", { class: "none" }, before ? "None among the latest." : "None."),
     olderLink("/decided", which, before),
   ];

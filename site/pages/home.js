@@ -1,5 +1,7 @@
 import { ask } from "../api.js";
 import { counted, el, fill, link, several } from "../dom.js";
+import { changeList, countWords } from "../happened.js";
+import { latest, month } from "../history.js";
 import { load } from "../names.js";
 import { title } from "../parts.js";
 
@@ -16,12 +18,30 @@ function statusWords({ items, pending, submissions }) {
     link("/queue", `${counted(pending)} ${pending === 1 ? "is" : "are"} pending`), "."];
 }
 
+const LATEST = 10;
+
+// The last changes, and what this month brought. They are the last of the page: nothing shifts.
+async function showLatest(place) {
+  const name = new Date().toISOString().slice(0, 7);
+  const [rows, numbers] = await Promise.all([latest(), month(name)]);
+  if (!rows?.length) return;
+  const sum = (kind) => Object.values(numbers?.days ?? {}).reduce((all, it) => all + it[kind], 0);
+  const words = countWords({
+    added: sum("added"), renamed: sum("renamed"), removed: sum("removed"),
+  });
+  fill(place, el("h2", {}, "The latest changes"), changeList(rows.slice(0, LATEST)),
+    el("p", {}, words ? [link(`/recent?month=${name}`, "This month"), `: ${words}. `] : null,
+      link("/recent", "All that changed")));
+}
+
 // What comes late finds its room.
 const later = (kind) => el("p", { class: `aside ${kind}` }, "\u00a0");
 
 /** The start page. What is there at once is in start.html too, so that it is painted first. */
 export default async function home() {
   const [published, status] = [later("published"), later("status")];
+  const changes = el("section", { class: "latest" });
+  showLatest(changes);
   load().then((known) => { if (known) fill(published, publishedWords(known)); });
   ask("/status", { quiet: true }).then(({ value }) => {
     if (value) fill(status, statusWords(value));
@@ -44,6 +64,6 @@ export default async function home() {
         link("/decided", "the latest proposals")),
       el("li", {}, link("/check", "Check a file"), " of your own"),
       el("li", {}, link("/mine", "My proposals"), ", and what came of them")),
-    published, status,
+    published, status, changes,
   ];
 }

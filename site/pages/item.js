@@ -1,8 +1,9 @@
 // An item: its name, its line in the file, what lspci shows, what is below it, what was proposed.
 
 import { ask } from "../api.js";
-import { sinceOf } from "../changes.js";
-import { counted, el, fill, link, several } from "../dom.js";
+import { el, fill, link, several } from "../dom.js";
+import { cause, exactly, restoreLink, when } from "../happened.js";
+import { index, namesOf } from "../history.js";
 import { itemList } from "../lists.js";
 import * as names from "../names.js";
 import { copyButton, copyWords, crumbs, failed, kindOf, title } from "../parts.js";
@@ -10,7 +11,7 @@ import {
   BELOW, KIND_WORDS, lineOf, lookupOf, parse, rankFor, wholeNumber, withParents,
 } from "../paths.js";
 import { shown } from "../shown.js";
-import { submissionRow, submissionsFor } from "../submissions.js";
+import { submissionList, submissionsFor } from "../submissions.js";
 import { RANKS } from "../words.js";
 
 const MANY = {
@@ -123,14 +124,18 @@ function lists(path, below) {
   ];
 }
 
-function absent(path, known) {
+async function absent(path, known) {
   const history = el("div", { class: "history" });
-  showHistory(path, history, false);
+  const [rows] = await Promise.all([namesOf(path), showHistory(path, history, false)]);
+  const last = rows?.findLast((it) => it.was !== null);
   return [
     crumbs(path, (it) => known.get(it)),
     title(`${wholeNumber(path)} has no name`, el("code", {}, wholeNumber(path)), " has no name"),
-    el("p", {}, "The registry has no entry for ", el("code", {}, path), "."),
-    el("p", {}, el("a", { class: "button", href: `/propose?path=${path}` }, "Propose a name")),
+    last ? el("p", {}, "It was called ", shown(last.was), " and was removed ", when(last.time), ".")
+      : el("p", {}, "The registry has no entry for ", el("code", {}, path), "."),
+    el("p", { class: "buttons" },
+      last ? restoreLink(path, last.was, "Restore the former name") : null,
+      el("a", { class: "button", href: `/propose?path=${path}` }, "Propose a name")),
     history,
   ];
 }
@@ -141,39 +146,57 @@ const historyHeading = () => el("h2", {}, "Proposals and history");
 const later = () => el("div", { class: "said" });
 const historyPlace = () => [historyHeading(), later(), later()];
 
-// What was proposed for this path, and since when it has its name.
+// What was proposed for this path, and what it was called when.
 async function showHistory(path, place, isThere = true) {
-  const [answer, named] = await Promise.all([submissionsFor(path), isThere && sinceOf(path)]);
-  const { list, words } = proposals(path, answer.value);
+  const [answer, rows, known] = await Promise.all([
+    submissionsFor(path), namesOf(path), index()]);
+  const { list, words } = await proposals(path, answer.value);
+  const names = rows?.length ? namesList(path, rows, isThere) : null;
   const [first, second] = place.querySelectorAll(".said");
   if (first) {
-    fill(first, sinceWords(named));
-    fill(second, list ? el("details", {}, el("summary", {}, `${words} …`), list) : words);
-  } else if (list || isThere) {
+    fill(first, folded(sinceWords(rows, known), names));
+    fill(second, folded(words, list));
+  } else if (list || names || isThere) {
     fill(place, historyHeading(),
-      isThere ? el("p", { class: "aside" }, sinceWords(named)) : null,
+      isThere ? el("p", { class: "aside" }, sinceWords(rows, known)) : null, names,
       list ?? el("p", { class: "aside" }, words));
   }
 }
 
+// What is long is opened by a click where it came late: nothing below it shifts.
+const folded = (words, list) => (list ? el("details", {}, el("summary", {}, words), list) : words);
+
+/** The names that an item had, the last first, each with its dates. */
+function namesList(path, rows, isThere) {
+  const row = (it, at) => {
+    const next = rows[at + 1];
+    const isNow = isThere && !next;
+    return el("li", {}, el("p", {}, it.now === null ? el("em", {}, "removed") : shown(it.now), " ",
+      el("small", {}, when(it.time), ", ", cause(it)), " ",
+      it.now === null || isNow ? null : restoreLink(path, it.now)));
+  };
+  const first = rows[0].was === null ? null : el("li", {}, el("p", {}, shown(rows[0].was), " ",
+    el("small", {}, `before ${exactly(rows[0].time)}`), " ", restoreLink(path, rows[0].was)));
+  return el("ol", { class: "items changes" }, rows.map(row).reverse(), first);
+}
+
 /** The proposals for a path as { list, words }; without a list where there are none. */
-function proposals(path, page) {
+async function proposals(path, page) {
   if (!page) return { words: "The proposals aren't known at the moment." };
   const { before, submissions: all } = page;
   const isMore = before > 0 || all.length > MOST_PROPOSALS;
   if (all.length === 0 && !isMore) return { words: "No proposals." };
-  const rows = all.slice(0, MOST_PROPOSALS).map((it) => submissionRow(it, { path }));
+  const rows = await submissionList(all.slice(0, MOST_PROPOSALS), { path });
   const more = link(`/decided?path=${path}`, "All proposals for this number");
   return {
     words: isMore ? "Proposals" : several(all.length, "proposal"),
-    list: [el("ol", { class: "items" }, rows), isMore ? el("p", {}, more) : null],
+    list: [rows, isMore ? el("p", {}, more) : null],
   };
 }
 
-function sinceWords(named) {
-  if (!named) return "It isn't known since when it has its name.";
-  const { since, revision } = named;
-  const words = since === 0 ? "It had its name before the registry began to count its commands."
-    : `Command ${counted(since)} of ${counted(revision)} gave it its name.`;
-  return [words, " ", link("/recent", "What changed lately")];
+function sinceWords(rows, known) {
+  const last = rows?.at(-1);
+  if (last) return ["It has its name since ", when(last.time), ", ", cause(last), "."];
+  if (!rows || !known) return "It isn't known since when it has its name.";
+  return `It had its name before ${exactly(known.began)}, when the history begins.`;
 }

@@ -1,11 +1,12 @@
 // The proposals of who is logged in, and what came of them.
 
 import { account } from "../account.js";
+import { seen } from "../answers.js";
 import { el } from "../dom.js";
 import { keep, recall } from "../kept.js";
 import { askToLogIn } from "../login.js";
 import { failed, title } from "../parts.js";
-import { olderLink, submissionRow, submissions } from "../submissions.js";
+import { olderLink, submissionList, submissions } from "../submissions.js";
 
 const MOST_WAITING = 500;
 
@@ -40,10 +41,10 @@ export default async function mine({ query, again }) {
   if (!answer.value) return failed(answer, again);
   const { before, submissions: rows } = answer.value;
   const news = newsAmong(author, rows);
-  const row = (it) => submissionRow(it, { author }, news.includes(it.num));
+  seen(author);
   return [
     title("My proposals"),
-    rows.length ? el("ol", { class: "items" }, rows.map(row))
+    rows.length ? await submissionList(rows, { author }, (it) => news.includes(it.num))
       : el("p", { class: "none" }, before ? "None among the latest." : "None."),
     olderLink("/mine", {}, before),
   ];

@@ -5,6 +5,8 @@ import { ask } from "../api.js";
 import { carryOut, faultWords } from "../carry.js";
 import { el, fill, link, several } from "../dom.js";
 import { draftOf } from "../drafts.js";
+import { restoreLink, when } from "../happened.js";
+import { changesOf, datesOf, topOf } from "../history.js";
 import { MOST_TEXT } from "../limits.js";
 import { learnName } from "../names.js";
 import { tell } from "../notice.js";
@@ -26,13 +28,16 @@ const NEEDS_ACCOUNT = "Decisions are made under an account.";
 
 /** The page of a proposal. */
 export default async function proposal({ number, again }) {
-  const [answer] = await Promise.all([ask(`/submission/${number}`), learnRank()]);
+  const [answer, dates] = await Promise.all([
+    ask(`/submission/${number}`), datesOf([Number(number)]), learnRank()]);
   if (!answer.value) return failed(answer, again);
   const it = answer.value;
   const chain = withParents(it.path);
-  const [since, ...answers] = await Promise.all([
-    approvedAfter(it), ...chain.map((path) => ask(`/read/${path}`)),
+  const [since, changes, ...answers] = await Promise.all([
+    approvedAfter(it), it.state === "approved" ? changesOf(topOf(it.path)) : null,
+    ...chain.map((path) => ask(`/read/${path}`)),
   ]);
+  const change = changes?.findLast((one) => one.num === it.num && one.path === it.path);
   const names = new Map(chain.map((path, at) => [path, answers[at].value?.name]));
   const own = answers.at(-1);
   // Nobody decides without having seen what it is called now.
@@ -46,7 +51,7 @@ export default async function proposal({ number, again }) {
   const text = `Proposal ${it.num}: ${it.name === null ? "remove" : it.name} · ${spoken(it.path)}`;
   return [
     title(text, `Proposal ${it.num} `, stateMark(it.state)),
-    facts(it, names, since),
+    facts(it, names, { since, dates, change }),
     it.state === "pending" ? decisions(it, names.get(it.path), isIdle, done) : unsent(it),
     el("section", {}, el("h2", {}, "Comments"), remarks(it), commentForm(it, done)),
   ];
@@ -59,7 +64,9 @@ async function approvedAfter({ num, path, state }) {
   return (value?.submissions ?? []).filter((it) => it.num > num && it.state === "approved");
 }
 
-function facts(it, names, since) {
+const dated = (time) => (time ? [", ", when(time)] : null);
+
+function facts(it, names, { since, dates, change }) {
   const now = names.get(it.path);
   const isRename = it.state === "pending" && it.name !== null && now !== undefined;
   const [was, wish] = isRename ? compared(now, it.name) : [now && shown(now), wishOf(it.name)];
@@ -73,9 +80,11 @@ function facts(it, names, since) {
     since.length ? row("Since then", el("span", { class: "fault" }, "Changed since it was"
       + " proposed: "), since.map(({ num, name }) => [link(`/proposals/${num}`, `#${num}`), " ",
       wishOf(name), " was approved. "])) : null,
-    row("By", link(`/decided?author=${it.author}`, it.author)),
+    change?.was ? row("Before", el("del", {}, shown(change.was)), " ",
+      restoreLink(it.path, change.was, "Restore the former name")) : null,
+    row("By", link(`/decided?author=${it.author}`, it.author), dated(dates.proposed(it.num))),
     row("Note", it.note === "" ? "–" : shown(it.note)),
-    isDecided ? row(STATES[it.state], `by ${it.decider}`) : null,
+    isDecided ? row(STATES[it.state], `by ${it.decider}`, dated(dates.decided(it.num))) : null,
     it.reason ? row("Reason", shown(it.reason)) : null);
 }
 

@@ -109,12 +109,13 @@ class Proposal {
     const kind = before?.kind ?? given?.kind ?? asked;
     const digits = before ? [0, 1, 2, 3].map((it) => before[`number-${it}`])
       : given?.numbers ?? under?.numbers ?? [];
-    this.isFilled = before !== null;
+    this.isFilled = before !== null || query.has("name");
     this.numbers = new Numbers(kind, digits, () => {
       this.kind.value = this.numbers.kind;
       this.look();
     });
     this.makeFields(kind, query.get("remove") === "yes");
+    if (!before) this.name.value = query.get("name") ?? "";
     this.makeForm();
     this.sent = new SentForm(this.form, this.place);
     this.show();

@@ -13,18 +13,21 @@ REASON = "There is no source for it."
 
 def recent(cases, world, browser):
     """After an import of more entries than a page has rows, what was approved is listed first."""
+    world.publish()
     lines = "".join(f"\t{at:04x}  By a file {at}\n" for at in range(700))
     world.ask("/import", f"0001  A vendor in front of the others\n{lines}".encode())
     number = world.submit("alice", "PC/8086/ac01", "Approved after the import")
     world.ask("/approve", {"num": number}, "mona")
     gone = world.ask("/submit", {"path": "PC/0001/0003", "remove": "yes"}, "alice")["num"]
     world.ask("/approve", {"num": gone}, "sam")
+    world.publish()
     browser.go("/recent")
-    rows = browser.text(".items").split("\n")[:2]
-    want = [("0001:0003", "to be removed", "approved by sam"),
-            ("8086:ac01", "Approved after the import", "approved by mona")]
+    rows = [it.text for it in browser.all(".changes li")]
+    want = [("8086:ac01", "Approved after the import", f"#{number} by alice, approved by mona"),
+            ("700 added by an import",)]
     got = [all(it in row for it in words) for row, words in zip(rows, want)]
-    cases.equal("moderation: the latest changes after an import", got, [True, True])
+    cases.equal("moderation: the latest changes after an import", (len(rows), got),
+                (2, [True, True]))
 
 
 def revision(world):

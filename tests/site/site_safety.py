@@ -43,12 +43,14 @@ new MutationObserver((all) => all.forEach((it) => it.addedNodes.forEach((node) =
 
 def hostile(cases, world, browser):
     """Markup everywhere: as a name, note, comment, reason, search, file and address."""
+    world.publish()
     number = world.submit("alice", "PC/8086/be01", HOSTILE, HOSTILE)
     other = world.submit("alice", "PC/8086/be02", HOSTILE, HOSTILE)
     world.ask("/comment", {"num": number, "text": HOSTILE}, "alice")
     world.ask("/reject", {"num": other, "reason": HOSTILE}, "root")
     world.ask("/approve", {"num": number}, "root")
     third = world.submit("alice", "PC/8086/be01", HOSTILE + "2", HOSTILE)
+    world.publish()
     browser.go("/help")
     for path, selector in (
         (f"/proposals/{number}", "main"), (f"/proposals/{other}", "main"), ("/queue", ".queue"),

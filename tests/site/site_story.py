@@ -56,7 +56,7 @@ def visitor(cases, browser):
     for path in ("PC/8086/1237", "PD/01/00", "PD/01"):
         browser.go(f"/item/{path}")
         cases.equal(f"story: since when {path} has its name",
-                    browser.has("Command 5 of 5 gave it its name", ".history"), True)
+                    browser.has("It isn't known since when it has its name.", ".history"), True)
 
 
 def contributor(cases, world, browser):

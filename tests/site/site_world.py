@@ -298,6 +298,23 @@ class World:
         except urllib.error.HTTPError as fault:
             return json.load(fault)
 
+    def publish(self, seconds=None):
+        """What the packages' timer does each minute, at a time: the history and its feeds. The
+        published file of these tests stays as it is."""
+        lib, copy, there = (f"{self.folder}/{it}" for it in ("lib", "copy", "published"))
+        if not os.path.exists(lib):
+            shutil.copytree(os.path.join(program.TOP, "deploy", "lib"), lib)
+            shutil.copy(os.path.join(program.TOP, "deploy", "mirror.sh"), f"{lib}/mirror")
+            for it in (copy, there):
+                os.mkdir(it)
+            for it in ("history", "feeds"):
+                os.symlink(f"{there}/{it}", f"{self.folder}/public/{it}")
+        words = [f"{lib}/publish", f"http://127.0.0.1:{self.server.port}", copy, there, SITE]
+        clock = {} if seconds is None else {"PCIIDS_NOW": str(int(seconds))}
+        subprocess.run(words, env={**os.environ, **clock}, stdout=subprocess.DEVNULL, check=True,
+                       timeout=PATIENCE)
+        subprocess.run(["chmod", "-R", "a+rX", there], check=True)
+
     def submit(self, account, path, name, note=""):
         """The number of a new proposal."""
         return self.ask("/submit", {"path": path, "name": name, "note": note}, account)["num"]

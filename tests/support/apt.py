@@ -20,6 +20,7 @@ SHOWN_BY = {
     "fail2ban": "fail2ban-regex",
     "firefox-esr": "firefox-esr",
     "gcc": "gcc",
+    "jing": "jing",
     "libc6-dev": "/usr/include/stdio.h",
     "libpci-dev": "/usr/include/**/pci/pci.h",
     "libsqlite3-dev": "/usr/include/sqlite3.h",
