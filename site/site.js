@@ -1,6 +1,7 @@
 // The site, once the frame of the page is painted.
 
 // All that the others import too: it is fetched at once, not level by level.
+import "./answers.js";
 import "./api.js";
 import "./dom.js";
 import "./happened.js";
