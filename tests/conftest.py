@@ -1,13 +1,8 @@
-"""How pytest runs these tests: their fixtures, the counts of their cases, and what ends one that
-hangs."""
-import contextlib
-import functools
+"""How pytest runs these tests: their fixtures, and the counts of their cases."""
 import json
 import os
 import resource
-import signal
 import tempfile
-import threading
 import traceback
 
 import pytest
@@ -15,9 +10,6 @@ import pytest
 import program
 from cases import Cases, last_line
 from shims import ROOM, build_shims
-
-# No test takes nearly as long, in seconds. One that hangs is stopped, so that the others are tried.
-LONGEST = 1_800
 
 CASES = pytest.StashKey[Cases]()
 COUNTS = pytest.StashKey["Counts"]()
@@ -107,40 +99,11 @@ def processor_seconds():
     return sum(it.ru_utime + it.ru_stime for it in used)
 
 
-def raise_fault(*_):
-    raise TimeoutError(f"the test has not ended after {LONGEST} seconds")
-
-
-def end_process():
-    """Ends a process of pytest-xdist, which reports the test as failed and goes on in another."""
-    os._exit(70)
-
-
-@contextlib.contextmanager
-def limited():
-    """Stops what has not ended after LONGEST seconds. A process of pytest-xdist may run a test in
-    another thread than the first, and only that gets signals."""
-    if threading.current_thread() is threading.main_thread():
-        signal.signal(signal.SIGALRM, raise_fault)
-        signal.alarm(LONGEST)
-        end = functools.partial(signal.alarm, 0)
-    else:
-        timer = threading.Timer(LONGEST, end_process)
-        timer.daemon = True
-        timer.start()
-        end = timer.cancel
-    try:
-        yield
-    finally:
-        end()
-
-
 def called(item, found):
     """Calls the function of a test: the fault that ended it, or why the rest of it was skipped."""
     words = {name: item.funcargs[name] for name in item._fixtureinfo.argnames}
     try:
-        with limited():
-            item.obj(**words)
+        item.obj(**words)
     except (program.Skip, pytest.skip.Exception) as why:
         found.skipped(item.name, why)
         return None, str(why)

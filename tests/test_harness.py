@@ -129,11 +129,11 @@ def frame(folder):
         shutil.copyfile(os.path.join(HERE, name), os.path.join(folder, name))
     for name in SUPPORT:
         shutil.copyfile(os.path.join(HERE, "support", name), os.path.join(folder, "support", name))
-    conftest = os.path.join(folder, "conftest.py")
-    with open(conftest, encoding="utf-8") as file:
+    settings = os.path.join(folder, "pytest.ini")
+    with open(settings, encoding="utf-8") as file:
         text = file.read()
-    with open(conftest, "w", encoding="utf-8") as file:
-        file.write(text.replace("LONGEST = 1_800", "LONGEST = 5"))
+    with open(settings, "w", encoding="utf-8") as file:
+        file.write(text.replace("timeout = 1800", "timeout = 5"))
     for name, (text, _) in PARTS.items():
         name = f"{name}.py" if name in RUNS else f"test_{name}.py"
         with open(os.path.join(folder, name), "w", encoding="utf-8") as file:

@@ -31,6 +31,7 @@ SHOWN_BY = {
     "pci.ids": "/usr/share/misc/pci.ids",
     "pciutils": "lspci",
     "python3-pytest": "/usr/lib/python3/dist-packages/pytest",
+    "python3-pytest-timeout": "/usr/lib/python3/dist-packages/pytest_timeout.py",
     "python3-pytest-xdist": "/usr/lib/python3/dist-packages/xdist",
     "python3-selenium": "/usr/lib/python3/dist-packages/selenium/webdriver",
     "shellcheck": "shellcheck",
@@ -40,7 +41,7 @@ SHOWN_BY = {
 }
 TESTS = os.path.dirname(os.path.dirname(os.path.abspath(__file__)))
 FOLDERS = ("", "support", "site")
-PYTEST = {"python3-pytest", "python3-pytest-xdist"}
+PYTEST = {"python3-pytest", "python3-pytest-timeout", "python3-pytest-xdist"}
 INSTALL = ["apt-get", "install", "-y", "--no-install-recommends"]
 # What more than this many bytes have to be fetched for is asked about at a terminal.
 LARGE = 50_000_000
