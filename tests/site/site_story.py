@@ -207,6 +207,25 @@ def refusals(cases, world, browser):
     cases.equal("story: none of that number", browser.has("There is no such proposal."), True)
 
 
+# What a question of the page is answered.
+ASK = ("const [path, done] = arguments; import('/site/api.js').then((it) => it.ask(path))"
+       ".then((it) => done(JSON.stringify(it)))")
+
+
+def at_once(cases, world, browser):
+    """What a person changed he sees at once, though others' lists are kept for a moment."""
+    for number in range(3):
+        path = f"PC/8086/7f0{number}"
+        proposal = world.submit("alice", path, "Seen at once")
+        browser.go(f"/proposals/{proposal}")
+        browser.one(".decide button.main")
+        ask_curl("-k", f"{world.base}/children?of=PC/8086")
+        browser.click(".decide button.main")
+        browser.wait(lambda it=proposal: world.state(it) == "approved", "an approval")
+        told = browser.driver.execute_async_script(ASK, "/children?of=PC/8086")
+        cases.equal(f"story: {path} is in the list at once", path in told, True)
+
+
 def many(cases, world, browser):
     """A paste of several unknown devices becomes several proposals."""
     browser.go("/propose?many=yes")
@@ -364,6 +383,7 @@ def run(cases):
             sparse(cases, one)
             counts(cases, world, one)
             refusals(cases, world, three)
+            at_once(cases, world, three)
             many(cases, world, two)
             maintainer(cases, world, two)
             administrator(cases, world, two)
