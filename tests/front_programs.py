@@ -133,6 +133,44 @@ def denied(cases, front, folder):
     cases.equal("programs: no control byte of a client is in the log", odd, [])
 
 
+# Opens 150 connections from each visitor, in a network of its own, and prints how many are open.
+VISITORS = r"""
+import json, socket, subprocess, sys, time
+for it in ("ip link set lo up", *(f"ip addr add {it}/128 dev lo nodad" for it in
+           ("2001:db8::1", "2001:db8::2", "2001:db8:0:1::1")), f"nft -f {sys.argv[1]}"):
+    subprocess.run(it.split(), check=True)
+def opened(here, visitors):
+    with socket.socket(socket.AF_INET6 if ":" in here else socket.AF_INET) as server:
+        server.bind((here, 443))
+        server.listen(500)
+        clients, count = [], {}
+        for number in range(150):
+            at = visitors[number % len(visitors)]
+            clients.append(socket.socket(server.family))
+            clients[-1].settimeout(5)
+            clients[-1].bind((at, 0))
+            place = at.rpartition(":")[0]
+            count[place] = count.get(place, 0) + (clients[-1].connect_ex((here, 443)) == 0)
+        return count
+print(json.dumps([opened("127.0.0.1", ["127.0.0.9"]), opened("127.0.0.2", ["127.0.0.8"]),
+                  opened("2001:db8::1", ["2001:db8::1", "2001:db8::2"]),
+                  opened("2001:db8::2", ["2001:db8:0:1::1"])]))
+"""
+
+
+def connections(cases):
+    """The example for nftables: a hundred connections of an address, or of a /64, at once."""
+    program.need("iproute2", "nftables")
+    rules = os.path.join(program.TOP, "deploy", "nftables.conf")
+    words = ["unshare", "-n", "python3", "-c", VISITORS, rules]
+    ran = subprocess.run(words, capture_output=True, text=True, timeout=120)
+    if "Operation not supported" in ran.stderr:
+        raise program.Skip("the kernel has no nftables")
+    want = [{"": 100}, {"": 100}, {"2001:db8:": 100}, {"2001:db8:0:1:": 100}]
+    got = json.loads(ran.stdout or "[]"), ran.stderr
+    cases.equal("programs: connections of one visitor", got, (want, ""))
+
+
 def run(cases):
     needed()
     recorder = Recorder()
@@ -145,6 +183,7 @@ def run(cases):
             readers(cases, front)
             refusals(cases, front, away)
             denied(cases, front, front.folder)
+            connections(cases)
         finally:
             front.close()
             away.close()
