@@ -1,29 +1,22 @@
-// Who asks. The account and its password are in the memory of this page; where the person wants to
-// stay logged in, also in sessionStorage and in the other pages of this site that are open. Pages
-// that depend on its rank ask the registry for it.
+// Who asks. A log-in is a session: a cookie, which no script can read. The name of its account is in
+// localStorage, for the other tabs and after a reload; no password is kept. Pages that depend on its
+// rank ask the registry for it.
 
 import { askedBy, request } from "./api.js";
 import { keep, recall } from "./kept.js";
+import { basicOf, secretsOf } from "./passwords.js";
 
 const PLACE = "held";
-const OUTS = "outs";
+const ENDS = "ends";
 const NO_SUCH_ACCOUNT = 29;
+const FORM = { "Content-Type": "application/x-www-form-urlencoded" };
 const watchers = [];
-const others = channel("account");
-let held = null;           // { name, secret, stays, outs }
+let held = null;           // the name of the account
 let known = null;          // its rank, or NONE; null while that isn't known
-
-// Where a browser keeps nothing it may refuse this too: then each page is by itself.
-function channel(name) {
-  try {
-    return new BroadcastChannel(name);
-  } catch {
-    return null;
-  }
-}
+let ending = Promise.resolve();
 
 /** The account that is logged in, or null. */
-export const account = () => held?.name ?? null;
+export const account = () => held;
 
 /** The rank of a name that is no account of the registry. */
 export const NONE = -1;
@@ -34,22 +27,16 @@ export const rank = () => known;
 /** Whether the account's rank may suffice. The registry itself judges whether it does. */
 export const maySuffice = (needed) => known === null || known >= needed;
 
-/** The fields of a request that say who asks. */
-export const authorization = () => (held ? { Authorization: `Basic ${held.secret}` } : {});
+/** The fields of a request that say who asks: whose session the browser should have. */
+export const authorization = () => (held ? { "X-As": held } : {});
 
 askedBy(authorization);
 
 /** Has a function called when somebody logs in or out: with true in the middle of something. */
 export const watchAccount = (watcher) => watchers.push(watcher);
 
-// How many log-outs this browser has seen: a page that was away when one was told, and comes back
-// with what it kept, knows by it.
-const outs = () => recall("localStorage", OUTS) ?? 0;
-
-const base64 = (text) => btoa(String.fromCharCode(...new TextEncoder().encode(text)));
-
-function take(one, isBusy) {
-  held = one;
+function take(name, isBusy) {
+  held = name;
   known = null;
   watchers.forEach((watcher) => watcher(isBusy));
 }
@@ -63,67 +50,97 @@ export async function rankOf(name) {
 
 /** Asks for the rank that the account has by now. */
 export async function learnRank() {
-  const one = held;
-  const now = one && await rankOf(one.name);
-  if (held !== one || now === null || now === known) return;
+  const name = held;
+  const now = name && await rankOf(name);
+  if (held !== name || now === null || now === known) return;
   known = now;
   watchers.forEach((watcher) => watcher(true));
 }
 
 /**
+ * The field by which a right password is sent, or an answer without a value. Nothing of it is kept.
+ * @param {string} name
+ * @param {string} password as it was typed
+ */
+export async function proofOf(name, password) {
+  let answer;
+  for (const secret of secretsOf(name, password)) {
+    const Authorization = basicOf(name, await secret);
+    answer = await request("GET", "/whoami", { headers: { Authorization } });
+    if (answer.value) return { value: { Authorization } };
+    if (answer.trouble !== "login") return answer;
+  }
+  return answer;
+}
+
+/** Sends a form to what keeps passwords and sessions. */
+export const send = (path, headers, fields = {}) => request("POST", path, {
+  headers: { ...FORM, ...headers }, body: new URLSearchParams(fields).toString(), isOurs: true,
+});
+
+// Whatever of the session is left goes: a browser may keep the cookie where no answer came.
+function endSession() {
+  keep("localStorage", ENDS, true);
+  ending = send("/session/end").then(({ value }) => {
+    if (value) keep("localStorage", ENDS, null);
+  });
+}
+
+/**
  * Logs in, where the password is right.
- * @param {boolean} stays whether it is kept over a reload and in other pages
+ * @param {boolean} stays whether the session outlives the browser
  * @param {boolean} isBusy whether a command waits for it
  * @param {function(): boolean} isWanted asked once the answer is there
  */
 export async function logIn({ name, password, stays, isBusy, isWanted }) {
-  const secret = base64(`${name}:${password}`);
-  const Authorization = `Basic ${secret}`;
-  const answer = await request("GET", "/whoami", { headers: { Authorization } });
-  if (!answer.value || !isWanted()) return answer;
-  const one = { name: answer.value.account, secret, stays, outs: outs() };
-  if (stays) keep("sessionStorage", PLACE, { one });
-  take(one, isBusy);
-  if (stays) others?.postMessage({ one });
+  const proof = await proofOf(name, password);
+  if (!proof.value || !isWanted()) return proof;
+  await ending;
+  const answer = await send("/session", proof.value, stays ? { stays: "yes" } : {});
+  if (!answer.value) return answer;
+  if (!isWanted()) {
+    endSession();
+    return answer;
+  }
+  keep("localStorage", ENDS, null);
+  keep("localStorage", PLACE, answer.value.account);
+  take(answer.value.account, isBusy);
   learnRank();
   return answer;
 }
 
 function forgetAccount(isBusy = false) {
-  keep("sessionStorage", PLACE, null);
+  keep("localStorage", PLACE, null);
   take(null, isBusy);
 }
 
-/** Logs out here an account whose password was refused: it may have another one by now. */
+/** Logs out here an account whose session has ended. */
 export function dropAccount(name) {
-  if (account() === name) forgetAccount(true);
+  if (held === name) forgetAccount(true);
 }
 
 /** Logs out, here and in the other pages. */
 export function logOut() {
-  keep("localStorage", OUTS, outs() + 1);
   forgetAccount();
-  others?.postMessage({ out: true });
+  endSession();
 }
 
-function hear({ data }) {
-  if (data.out) {
-    if (held) forgetAccount();
-  } else if (data.asks) {
-    if (held?.stays) others.postMessage({ one: held });
-  } else if (data.one && !held) {
-    keep("sessionStorage", PLACE, data);
-    take(data.one, false);
-  }
+// Another tab has logged in or out, perhaps while this one was away.
+function look() {
+  const name = recall("localStorage", PLACE);
+  if (name !== held) take(name, false);
 }
 
 /** Takes up who was logged in when the page was loaded before, or is in another page. */
-export function restoreAccount() {
-  const before = recall("sessionStorage", PLACE);
-  if (before?.one?.outs === outs()) take(before.one, false);
-  else keep("sessionStorage", PLACE, null);
-  addEventListener("pageshow", () => { if (held && held.outs !== outs()) forgetAccount(); });
-  if (!others) return;
-  others.addEventListener("message", hear);
-  if (!held) others.postMessage({ asks: true });
+export async function restoreAccount() {
+  addEventListener("storage", ({ key }) => { if (key === PLACE || key === null) look(); });
+  addEventListener("pageshow", ({ persisted }) => { if (persisted) look(); });
+  if (recall("localStorage", ENDS)) endSession();
+  look();
+  const name = held;
+  if (!name) return;
+  const answer = await request("GET", "/whoami", {
+    headers: authorization(), isOurs: true, quiet: true,
+  });
+  if (answer.trouble === "login") dropAccount(name);
 }

@@ -37,7 +37,7 @@ function leave(method) {
 }
 
 // Lists that cost the registry much are kept for two seconds in front of it. Whoever has just sent a
-// command, here or in another tab, has to see what it did: a password has such a list asked anew.
+// command, here or in another tab, has to see what it did: a session has such a list asked anew.
 const COMMANDED = "commanded";
 const ANEW_FOR = 5_000;
 let commanded = 0;
@@ -73,6 +73,7 @@ async function judged(answer) {
     const value = await answer.json();
     if (ok) return { value, status };
     if (Number.isInteger(value?.refused)) return refused(value, status);
+    if (typeof value?.why === "string" && status < 500) return { refusal: value, status };
   } else if (kind.startsWith("text/plain")) {
     const text = await answer.text();
     if (ok) return { value: text, status };
@@ -83,12 +84,13 @@ async function judged(answer) {
   return { trouble, certain };
 }
 
-async function fetched(method, path, { headers = {}, body, keepalive }, signal) {
+async function fetched(method, path, { headers = {}, body, keepalive, isOurs }, signal) {
+  // The session goes along where a page says whose it should be. Else "omit": the browser shows no
+  // window of its own.
+  const credentials = isOurs || headers["X-As"] ? "same-origin" : "omit";
   try {
-    // "omit": no password that the browser keeps goes along, and it shows no window of its own.
     return await judged(await fetch(path, {
-      method, headers, body, keepalive, signal, credentials: "omit", redirect: "error",
-      cache: "no-store",
+      method, headers, body, keepalive, signal, credentials, redirect: "error", cache: "no-store",
     }));
   } catch {
     return { trouble: signal.aborted ? "slow" : "offline", certain: false };
@@ -96,10 +98,10 @@ async function fetched(method, path, { headers = {}, body, keepalive }, signal) 
 }
 
 async function asked(path, how, signal) {
-  const who = hasJustCommanded() ? whoAsks() : {};
-  const answer = await fetched("GET", path, { ...how, headers: { ...who, ...how.headers } }, signal);
-  // The password may be another one by now. What may be read needs none.
-  const isRefused = answer.trouble === "login" && !how.headers && who.Authorization;
+  const who = hasJustCommanded() && !how.headers ? whoAsks() : {};
+  const answer = await fetched("GET", path, { headers: who, ...how }, signal);
+  // The session may have ended. What may be read needs none.
+  const isRefused = answer.trouble === "login" && who["X-As"];
   return isRefused ? fetched("GET", path, how, signal) : answer;
 }
 
@@ -117,7 +119,7 @@ async function commandedBy(path, how, signal) {
  * @param {"GET"|"POST"} method
  * @param {string} path
  * @param {Object} [how] headers, body; keepalive: it goes on without the page; quiet: nothing is
- *   said while it is slow
+ *   said while it is slow; isOurs: whether the browser may send or keep a session with it
  */
 export async function request(method, path, how = {}) {
   await enter(method);

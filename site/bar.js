@@ -46,7 +46,7 @@ function reportRow(it) {
 }
 
 async function askAgain(entry) {
-  if (!(await askToLogIn(`It was sent as ${entry.account}.`))) return;
+  if (entry.account && !(await askToLogIn(`It was sent as ${entry.account}.`))) return;
   const answer = await settle(entry);
   if (answer.trouble === "elsewhere") tell("Another tab is sending it.", 4);
   else report(entry, answer);
@@ -109,7 +109,7 @@ function standOf(entry, atWork) {
   if (stateOf(entry.key)?.undo) return "held";
   if (isWorking(entry.key)) return "tried";
   if (atWork.has(entry.key)) return "elsewhere";
-  if (account() !== null && account() !== entry.account) return "other";
+  if (entry.account && account() !== null && account() !== entry.account) return "other";
   return wantsFile(entry) ? "file" : "owed";
 }
 
@@ -119,8 +119,8 @@ class Row {
     this.entry = entry;
     this.words = el("span", { role: "status" });
     this.ways = el("span");
-    this.element = el("p", {}, el("b", {}, spelled(entry.about)), `, by ${entry.account}: `,
-      this.words, " ", this.ways);
+    const by = entry.account ? `, by ${entry.account}: ` : ": ";
+    this.element = el("p", {}, el("b", {}, spelled(entry.about)), by, this.words, " ", this.ways);
   }
 
   show(stand) {

@@ -23,7 +23,7 @@ export const faultWords = (...words) => el("p", { class: "fault", role: "alert" 
  * @param {string} command.about what it does, in words
  * @param {HTMLElement} command.button
  * @param {HTMLElement} command.place where it is told what stood in the way
- * @param {string} command.why why an account is needed
+ * @param {string} [command.why] why an account is needed; it needs none without
  * @param {SentForm} [command.sent] the form whose text it sends
  * @param {Object} [command.grace] for one that may be taken back before it is sent: words, of what
  *   was done; begun, which is called once it is held
@@ -33,7 +33,7 @@ export async function carryOut(command) {
   if (isDead(button)) return null;
   setDead(button, true);
   try {
-    if (!account() && !(await askToLogIn(why))) return null;
+    if (why && !account() && !(await askToLogIn(why))) return null;
     const before = sent?.owed();
     if (before) return told(before, place, await settle(before), sent);
     const key = newKey();

@@ -2,6 +2,7 @@
 
 import { account, logIn } from "./account.js";
 import { el, fill } from "./dom.js";
+import { joining } from "./joining.js";
 import { troubleWords } from "./words.js";
 
 const dialog = document.getElementById("dialog");
@@ -45,6 +46,18 @@ async function tryIt({ name, password, stays, fault, enter }, isBusy) {
   }
 }
 
+// The way to an account: what was typed is kept for when one comes back.
+function newcomers() {
+  const back = location.pathname === "/join" ? "" : location.pathname + location.search;
+  const close = () => dialog.close("");
+  const words = el("span");
+  joining().then(({ door, contact }) => fill(words,
+    door === "open" || door === "invitation" ? ["No account yet? ", el("a", {
+      href: `/join?${new URLSearchParams({ back })}`, onclick: close,
+    }, "Join"), ". "] : "Accounts are made by those who run this registry. ", contact));
+  return words;
+}
+
 function formOf(fields, why, isBusy) {
   const { name, password, stays, fault, enter } = fields;
   const submit = (event) => { event.preventDefault(); tryIt(fields, isBusy); };
@@ -55,11 +68,11 @@ function formOf(fields, why, isBusy) {
     el("label", { for: "log-name" }, "Account"), name,
     el("label", { for: "log-password" }, "Password"), password,
     el("p", { class: "tick" }, stays,
-      el("label", { for: "log-keep" }, "Stay logged in, also in other tabs and after a reload")),
+      el("label", { for: "log-keep" }, "Stay logged in for 30 days, over a restart too")),
     fault,
     el("p", { class: "buttons" }, enter,
       el("button", { type: "button", onclick: cancel }, "Cancel")),
-    el("p", {}, el("small", {}, "Accounts are made by those who run this registry.")));
+    el("p", {}, el("small", {}, newcomers())));
 }
 
 /**

@@ -15,6 +15,8 @@ const PAGES = [
   [/^\/load$/, "check", "load"],
   [/^\/mine$/, "mine"],
   [/^\/people$/, "people"],
+  [/^\/join$/, "join"],
+  [/^\/password$/, "password"],
   [/^\/(help|about)$/, "help"],
   [/^\/guide$/, "guide"],
 ];

@@ -166,7 +166,8 @@ async function locked(entry, call) {
 
 function send(entry, body, keepalive) {
   const kind = typeof body === "string" ? "application/x-www-form-urlencoded" : "text/plain";
-  const headers = { ...authorization(), "X-Key": entry.key, "Content-Type": kind };
+  const who = entry.account ? authorization() : {};
+  const headers = { ...who, "X-Key": entry.key, "Content-Type": kind };
   return request("POST", entry.route, { headers, body, keepalive });
 }
 
@@ -212,7 +213,8 @@ async function sendUntilKnown(entry, work) {
     if (!isThere(entry.key)) return goneBy(entry.key, isInDoubt);
     const body = entry.body ?? files.get(entry.key);
     if (body === undefined) return gaveUp(entry, { trouble: "file" }, isInDoubt);
-    if (account() !== entry.account) return gaveUp(entry, { trouble: "account" }, isInDoubt);
+    const isOther = entry.account && account() !== entry.account;
+    if (isOther) return gaveUp(entry, { trouble: "account" }, isInDoubt);
     const answer = await send(entry, body, work.isGoing);
     if (answer.value || answer.refusal) {
       if (answer.value) rememberActed(entry.key, answer.value);
@@ -220,7 +222,10 @@ async function sendUntilKnown(entry, work) {
       return answer;
     }
     isInDoubt ||= !answer.certain;
-    if (answer.trouble === "login") dropAccount(entry.account);
+    if (answer.trouble === "login") {
+      dropAccount(entry.account);
+      answer.trouble = "ended";
+    }
     if (isEnd(answer, tries)) return gaveUp(entry, answer, isInDoubt);
     if (!work.isLeft) await beforeNext(work, answer.trouble, tries);
     if (work.isLeft && isThere(entry.key)) return { trouble: "left", certain: false };

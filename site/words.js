@@ -47,6 +47,7 @@ export const KINDS = {
 
 /** A refusal in words: the answer's object with its number. */
 export function refusalWords(refusal) {
+  if (refusal.why) return refusal.why;
   if (refusal.refused !== 14) {
     return REFUSALS[refusal.refused] ?? `The registry refused it (${refusal.word}).`;
   }
@@ -62,6 +63,7 @@ const TROUBLES = {
   busy: "The server has too much to do at the moment.",
   store: "The registry is out of memory, or its disk failed.",
   login: "The account and the password weren't accepted.",
+  ended: "You are logged out by now: log in again.",
   foreign: "The server took this for a request of another site and refused it.",
   large: `That is too long: at most ${counted(MOST_FILE)} bytes are taken.`,
   odd: "The server's answer can't be understood here.",

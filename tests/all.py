@@ -19,16 +19,16 @@ from cases import last_line  # noqa: E402
 
 # Parts that mostly wait: they are tried at once, each by a process of its own.
 AT_ONCE = (
-    "site_parts machine machine_load reboot packages front front_http2 front_lists front_programs"
-    " caches keeping installing publishing proxy mirror"
+    "site_parts machine machine_load reboot packages front front_http2 front_joining front_lists"
+    " front_programs caches keeping installing publishing proxy mirror"
 )
 AT_ONCE = AT_ONCE.split()
 # Parts that take times, or measure memory: nothing else is tried beside them.
 ALONE = "progress serving serving_memory".split()
 # What site_parts tries, several at a time.
 OF_SITE = (
-    "site_reader site_moderation site_history site_pastes site_story site_once"
-    " site_kept site_safety site_access site_firefox"
+    "site_reader site_joining site_moderation site_history site_pastes site_story"
+    " site_once site_kept site_safety site_access site_firefox"
 ).split()
 
 # Where tests of the first program are: those that have the mark `first`.

@@ -122,9 +122,10 @@ class Recorder(threading.Thread):
 
 class Front:
     """nginx in a folder, in front of a port. `more` are texts of its files and what stands there in
-    a test: times and rates that a test can wait for. `host` is more of what differs by host."""
+    a test: times and rates that a test can wait for. `host` is more of what differs by host, `join`
+    the port of what joins people."""
 
-    def __init__(self, folder, behind, host="", **more):
+    def __init__(self, folder, behind, host="", join=9, **more):
         self.folder, self.port = folder, free_port()
         os.makedirs(folder, exist_ok=True)
         os.chmod(folder, 0o755)
@@ -140,16 +141,17 @@ class Front:
         for it in ("history/2026-11.jsonl", "history/.names", "history/PC/8086.jsonl",
                    "feeds/changes.atom"):
             self.write(f"public/{it}", "{}")
-        self.write("passwords", "".join(f"{it}:{hashed(f'pw-{it}')}\n" for it in PEOPLE))
+        os.mkdir(os.path.join(folder, "accounts"))
+        self.write("accounts/passwords", "".join(f"{it}:{hashed(f'pw-{it}')}\n" for it in PEOPLE))
         self.write("host.conf", f"server_name {HOST};\n{host}\n")
         self.certificate = certificate(folder)
         self.contexts = {}
-        self.configure(behind, more)
+        self.configure(behind, join, more)
         subprocess.run(["chmod", "-R", "a+rX", folder], check=True)
         more_files()
         self.process = started(folder, "nginx.conf", self.port)
 
-    def configure(self, behind, more):
+    def configure(self, behind, join, more):
         own = f"127.0.0.1:{self.port}"
         places = {
             "nginx": (
@@ -159,14 +161,18 @@ class Front:
             ),
             "pciids-limits": (
                 ("unix:/run/pciids/http.sock", f"127.0.0.1:{behind}"),
+                ("unix:/run/pciids/join.sock", f"127.0.0.1:{join}"),
                 ("/run/pciids-lists", f"{self.folder}/lists"),
                 ("/var/cache/pciids-long", f"{self.folder}/long"),
             ),
             "pciids-headers": (),
             "pciids-question": (),
             "pciids-command": (),
+            "pciids-join": (),
+            "pciids-unit": (),
             "pciids-site": (
                 ("/usr/share/pciids-registry/site", SITE),
+                ("/run/pciids-join", f"{self.folder}/join"),
                 ("/var/lib/pciids-public", f"{self.folder}/public"),
                 ("listen 443", f"listen {own}"),
                 ("listen 80;", f"listen 127.0.0.1:{free_port()};"),

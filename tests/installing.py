@@ -11,6 +11,7 @@ NAMES = ("pciids", "pciids-registry")
 ENABLED = {
     "multi-user.target.wants/pciids.service",
     "sockets.target.wants/pciids-http.socket",
+    "sockets.target.wants/pciids-join.socket",
     "timers.target.wants/pciids-publish.timer",
     "timers.target.wants/pciids-backup.timer",
 }
@@ -83,9 +84,12 @@ def installed(cases, root):
     cases.equal("installing: nobody logs in as pciids", shell, "/usr/sbin/nologin")
     web = root.user("pciids-web")
     cases.equal("installing: nobody logs in as pciids-web", web[2], "/usr/sbin/nologin")
-    cases.equal("installing: two users", user != web[0], True)
-    got = root.owned("etc/pciids/passwords")
-    cases.equal("installing: the passwords are the web server's", got, ("0o640", 0, web[1]))
+    cases.equal("installing: three users", len({user, web[0], root.user("pciids-join")[0]}), 3)
+    joins = root.user("pciids-join")
+    cases.equal("installing: nobody logs in as pciids-join", joins[2], "/usr/sbin/nologin")
+    got = root.owned("etc/pciids/accounts/passwords"), root.owned("etc/pciids/accounts")
+    want = ("0o640", joins[0], web[1]), ("0o2750", joins[0], web[1])
+    cases.equal("installing: the web server reads the passwords", got, want)
     got = root.read("etc/pciids/host.conf"), root.owned("etc/pciids/host.conf")
     want = ("server_name pciids.example.org;", ("0o644", 0, 0))
     cases.equal("installing: the name of the host", (got[0].strip(), got[1]), want)
@@ -101,7 +105,7 @@ def upgraded(cases, root, folder):
     """Another version, after a file was edited and a name came in."""
     site = root.read("etc/pciids/nginx/pciids-site.conf") + "# Edited.\n"
     root.write("etc/pciids/nginx/pciids-site.conf", site)
-    root.write("etc/pciids/passwords", "anna:x\n")
+    root.write("etc/pciids/accounts/passwords", "anna:x\n")
     root.write("etc/pciids/host.conf", "server_name ids.example.net;\n")
     root.write("var/lib/pciids/registry.db", "a registry")
     newer = [built_packages.repacked(it, "0.1.0+next", folder) for it in NAMES]
@@ -110,7 +114,7 @@ def upgraded(cases, root, folder):
     cases.equal("installing: an edited file stays", got, True)
     last = root.read("etc/pciids/nginx/pciids-limits.conf").splitlines()[-1]
     cases.equal("installing: an unedited one is the new one", last, "# Another version.")
-    got = root.read("etc/pciids/passwords"), root.owned("etc/pciids/passwords")[0]
+    got = root.read("etc/pciids/accounts/passwords"), root.owned("etc/pciids/accounts/passwords")[0]
     cases.equal("installing: the passwords stay", got, ("anna:x\n", "0o640"))
     got = root.read("etc/pciids/host.conf")
     cases.equal("installing: so does the name of the host", got, "server_name ids.example.net;\n")
@@ -128,12 +132,12 @@ def removed(cases, root):
     links = root.has("etc/nginx/conf.d/pciids.conf", "etc/nginx/conf.d/other.conf")
     want = ["etc/nginx/conf.d/other.conf"]
     cases.equal("installing: nginx has no link to what may go", links, want)
-    kept = ("etc/pciids/nginx/pciids-site.conf", "etc/pciids/passwords",
+    kept = ("etc/pciids/nginx/pciids-site.conf", "etc/pciids/accounts/passwords",
             "etc/pciids/host.conf", "var/lib/pciids/registry.db", "var/backups/pciids",
             "var/lib/pciids-public")
     cases.equal("installing: what a removal leaves", root.has(*kept), list(kept))
     cases.equal("installing: purge", root.dpkg("-P", "pciids-registry", "pciids"), (0, ""))
-    left = ["etc/pciids/passwords", "var/lib/pciids/registry.db", "var/backups/pciids"]
+    left = ["etc/pciids/accounts/passwords", "var/lib/pciids/registry.db", "var/backups/pciids"]
     got = root.has(*kept, "var/log/pciids-web", "etc/pciids/nginx", "var/lib/pciids-acme")
     cases.equal("installing: what a purge leaves", got, left)
     enabled = [it for _, _, names in os.walk(root.path("etc/systemd")) for it in names]

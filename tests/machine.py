@@ -4,14 +4,17 @@ run on the way."""
 import os
 import re
 import tempfile
+import time
 
 import built_packages
 import program
+from joining_unit import password, verifier
 from machine_room import Machine
 from program import TOP
 
 HOST = "pciids.example.org"
-UNITS = ["pciids"] + [f"pciids-{it}" for it in "http publish backup restore@x web failed@x".split()]
+UNITS = "http join publish backup restore@x web failed@x"
+UNITS = ["pciids"] + [f"pciids-{it}" for it in UNITS.split()]
 # The most that `systemd-analyze security` may say of a unit.
 EXPOSURE = 1.5
 ASK = "curl -s --max-time 60 --unix-socket /run/pciids/http.sock http://localhost"
@@ -107,10 +110,13 @@ def install(story):
     story.same("no unit failed", "systemctl --failed --plain --no-legend", "")
     story.same(
         "who owns what",
-        "stat -c '%A %U:%G %n' /run/pciids/http.sock /etc/pciids/passwords /var/lib/pciids"
+        "stat -c '%A %U:%G %n' /run/pciids/http.sock /run/pciids/join.sock /etc/pciids/accounts"
+        " /etc/pciids/accounts/passwords /var/lib/pciids"
         " /var/lib/pciids/registry.db /var/backups/pciids",
         "srw-rw---- root:pciids-web /run/pciids/http.sock\n"
-        "-rw-r----- root:pciids-web /etc/pciids/passwords\n"
+        "srw-rw---- root:pciids-web /run/pciids/join.sock\n"
+        "drwxr-s--- pciids-join:pciids-web /etc/pciids/accounts\n"
+        "-rw-r----- pciids-join:pciids-web /etc/pciids/accounts/passwords\n"
         "drwxr-x--- pciids:pciids /var/lib/pciids\n"
         "-rw-r----- pciids:pciids /var/lib/pciids/registry.db\n"
         "drwxr-x--- pciids:pciids /var/backups/pciids",
@@ -151,13 +157,16 @@ def accounts(story):
         )
         story.cases.equal(f"machine: an account for {name}", found is not None, True)
         story.passwords[name] = found[1] if found else "none"
+    told = story.example("Accounts")
+    want = "anna 3 open\ncarl 0 open\ncarl: is locked now\ncarl: is open now\n"
+    story.cases.equal("machine: the list, a lock and its end", told, want)
     again = "account carl: was contributor before\npassword of carl: is as before"
     story.same("the same account again", "pciids-adduser carl 0", again)
     told = story.works("a new password", "pciids-adduser --new-password carl contributor")
     story.passwords["carl"] = re.search(r"password of carl: ([0-9a-f]+)", told)[1]
-    story.same("a line for each", "cut -d: -f1 /etc/pciids/passwords", "anna\ncarl")
-    mode = "stat -c '%A %U:%G' /etc/pciids/passwords"
-    story.same("the passwords stay the web server's", mode, "-rw-r----- root:pciids-web")
+    story.same("a line for each", "cut -d: -f1 /etc/pciids/accounts/passwords", "anna\ncarl")
+    mode = "stat -c '%A %U:%G' /etc/pciids/accounts/passwords"
+    story.same("the passwords stay whose they are", mode, "-rw-r----- pciids-join:pciids-web")
     for words in ("root 3", "Anna 1", "x 4", "-x", "anna", f"{'a' * 33} 0"):
         story.same(f"pciids-adduser {words}", f"pciids-adduser {words} > /dev/null 2>&1", "", 2)
 
@@ -185,12 +194,50 @@ def web(story):
     story.same(
         "who may read the key",
         "stat -c '%A %U:%G %n' /etc/pciids/*",
+        "drwxr-s--- pciids-join:pciids-web /etc/pciids/accounts\n"
         "-rw-r--r-- root:root /etc/pciids/certificate.pem\n"
         "-rw-r--r-- root:root /etc/pciids/host.conf\n"
+        "-rw-r--r-- root:root /etc/pciids/join.conf\n"
         "-rw-r----- root:pciids-web /etc/pciids/key.pem\n"
-        "drwxr-xr-x root:root /etc/pciids/nginx\n"
-        "-rw-r----- root:pciids-web /etc/pciids/passwords",
+        "drwxr-xr-x root:root /etc/pciids/nginx",
     )
+
+
+def joined(story):
+    """A stranger joins by himself, and an administrator of the host keeps up with that."""
+    ask = f"{ASK_SITE} -o /dev/null -w '%{{http_code}}' -H 'Origin: https://{HOST}'"
+    sent = f"-d name=dora --data-urlencode 'verifier={verifier('dora')}' https://{HOST}/join"
+    story.same("a stranger joins", f"{ask} {sent}", "200")
+    login = f"-u dora:{password()} -d stays=yes https://{HOST}/session"
+    story.same("logs in", f"{ask} -c /srv/cookies {login}", "200")
+    # The registry knows the account, and no submission of this number.
+    command = f"-d num=9 https://{HOST}/withdraw"
+    by_session, by_password = "-b /srv/cookies -H 'X-As: dora'", f"-u dora:{password()}"
+    story.same("sends a command by a session", f"{ask} {by_session} {command}", "404")
+    story.same("and by a password", f"{ask} {by_password} {command}", "404")
+    story.same("a name that is there", f"{ask} {sent.replace('dora', 'anna')}", "400")
+    since = time.strftime("%Y-%m-%d", time.gmtime())
+    want = f"anna 3 open\ncarl 0 open\ndora 0 open joined {since}"
+    story.same("the list of accounts", "pciids-adduser --list", want)
+    story.fails("a rank for whom nobody knows", "pciids-adduser dora moderator 2>&1")
+    story.same("a lock", "pciids-adduser --lock dora", "dora: is locked now")
+    ways = f"{by_session} {command}", f"{by_password} {command}", login
+    got = [story.machine.run(f"{ask} {it}")[1] for it in ways]
+    story.cases.equal("machine: a locked account", got, ["401"] * 3)
+    story.same("and open again", "pciids-adduser --unlock dora", "dora: is open now")
+    story.same("it is", f"{ask} {login}", "200")
+    told = story.works("an invitation", "pciids-invite")
+    is_link = re.fullmatch(rf"https://{HOST}/join\?invite=[0-9a-f]{{32}}\n", told) is not None
+    story.cases.equal("machine: the link of an invitation", is_link, True)
+    sent = f"-d name=fred -d invite={told.strip()[-32:]}"
+    sent += f" --data-urlencode 'verifier={verifier('fred')}' https://{HOST}/join"
+    story.works("by invitation alone", "sed -i 's/^door = .*/door = invitation/'"
+                " /etc/pciids/join.conf")
+    story.same("who has one joins", f"{ask} {sent}", "200")
+    story.same("once", f"{ask} {sent.replace('fred', 'gina')}", "400")
+    story.same("it is used", "pciids-invite --list", "good: 0, used: 1")
+    as_web = f"{by('pciids-join')} cat /etc/pciids/key.pem"
+    story.fails("the key, by who joins people", f"{as_web} 2>&1")
 
 
 def moderated(story):
@@ -407,7 +454,8 @@ def removed(story):
         " ! -path /run/pciids \\( -name 'pciids*' -o -path '*/pciids/*' \\)"
         " ! -path '*/dpkg/*' ! -name '*.pem' ! -path '*/replaced.*'"
         " ! -path '/var/backups/pciids/*' ! -path '*/journal/*' | sort",
-        "/etc/pciids\n/etc/pciids/passwords\n/var/backups/pciids\n"
+        "/etc/pciids\n/etc/pciids/accounts\n/etc/pciids/accounts/invites\n"
+        "/etc/pciids/accounts/passwords\n/var/backups/pciids\n"
         "/var/lib/pciids\n/var/lib/pciids/registry.db\n/var/lib/pciids/registry.db-wal",
     )
     story.same("both backups stay", "ls /var/backups/pciids | wc -l", "2")
@@ -416,7 +464,7 @@ def removed(story):
 
 
 def run(cases):
-    program.need("curl", "nginx-light", "openssl", "pciutils", "systemd-container")
+    program.need("curl", "gunicorn", "nginx-light", "openssl", "pciutils", "systemd-container")
     built_packages.packages()
     with tempfile.TemporaryDirectory() as folder, Machine() as machine:
         story = Story(cases, machine)
@@ -424,6 +472,7 @@ def run(cases):
         sandbox(story)
         accounts(story)
         web(story)
+        joined(story)
         moderated(story)
         stops(story)
         left(story)

@@ -1,4 +1,5 @@
 import { el, link } from "../dom.js";
+import { contact } from "../joining.js";
 import { title } from "../parts.js";
 
 const section = (heading, ...words) => [el("h2", {}, heading), el("p", {}, ...words)];
@@ -15,9 +16,10 @@ export default async function help() {
       + " What is approved is in the registry at once, and in the published pci.ids some minutes"
       + " later. Several at once: ", link("/propose?many=yes", "propose many"), ". ",
     link("/guide", "What a good name is"), "."),
-    section("Accounts", "Accounts are made by those who run this registry; ask them for one, and"
-      + " for a new password. Reading needs none. On ", link("/mine", "My proposals"),
-    " you see what came of yours."),
+    section("Accounts", "Reading needs none. To propose and comment, ", link("/join", "join"),
+      ": a name and a password, no mail address. ", contact(), " You can ",
+      link("/password", "change your password, or leave"), ". On ", link("/mine", "My proposals"),
+      " you see what came of yours."),
     section("Who decides", "Moderators decide on names of devices, subsystems, subclasses and"
       + " programming interfaces; senior moderators also on vendors, classes and removals, and they"
       + " import files; administrators give ranks. Nobody decides on their own proposal."),
@@ -32,7 +34,7 @@ export default async function help() {
       link("/read/PC/8086", "/read/PC/8086"), " and ", link("/pending", "/pending"),
       " answer programs; all but the first as JSON or text, and ",
       link("/lookup?flags=3&vendor=8086&device=1237", "/lookup"), " as text."),
-    section("For those who run it", link("/people", "Accounts"), " (administrators), ",
+    section("For those who run it", link("/people", "Accounts"), " (senior moderators), ",
       link("/load", "import a file"), " (senior moderators)."),
   ];
 }

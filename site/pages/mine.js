@@ -2,7 +2,7 @@
 
 import { account } from "../account.js";
 import { seen } from "../answers.js";
-import { el } from "../dom.js";
+import { el, link } from "../dom.js";
 import { keep, recall } from "../kept.js";
 import { askToLogIn } from "../login.js";
 import { failed, title } from "../parts.js";
@@ -47,5 +47,6 @@ export default async function mine({ query, again }) {
     rows.length ? await submissionList(rows, { author }, (it) => news.includes(it.num))
       : el("p", { class: "none" }, before ? "None among the latest." : "None."),
     olderLink("/mine", {}, before),
+    el("p", { class: "aside" }, link("/password", "Change the password, or leave")),
   ];
 }

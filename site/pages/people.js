@@ -1,11 +1,17 @@
-import { NONE, rankOf } from "../account.js";
-import { carryOut } from "../carry.js";
-import { el, fill } from "../dom.js";
+import {
+  account, authorization, learnRank, maySuffice, NONE, rank, rankOf, send,
+} from "../account.js";
+import { request } from "../api.js";
+import { carryOut, faultWords } from "../carry.js";
+import { el, fill, link } from "../dom.js";
 import { tell } from "../notice.js";
 import { title } from "../parts.js";
 import { SentForm } from "../sent.js";
 import { steadyButton } from "../steady.js";
-import { oneOf, RANKS } from "../words.js";
+import { submissions } from "../submissions.js";
+import { answerWords, oneOf, RANKS } from "../words.js";
+
+const SENIOR = 2;
 
 // A blank keeps the place of what comes late.
 const BLANK = "\u00a0";
@@ -15,8 +21,58 @@ function rankWords(name, rank) {
   return rank === NONE ? `${name} is no account yet.` : `${name} is ${oneOf(rank)}.`;
 }
 
-/** Gives accounts their ranks. */
-export default async function people() {
+// What came of the proposals of an account: of its latest ones, where there are many.
+async function recordOf(author, place) {
+  const { value } = await submissions({ author }, { questions: 1, quiet: true });
+  if (!value) return;
+  const counts = new Map();
+  for (const { state } of value.submissions) counts.set(state, (counts.get(state) ?? 0) + 1);
+  const words = [...counts].map(([state, count]) => `${count} ${state}`);
+  fill(place, ", ", words.length ? words.join(", ") : "no proposals",
+    value.before ? ` of the latest ${value.submissions.length}` : null);
+}
+
+// Locks an account or lets it in again. Done twice it is done once, so nothing is kept of it.
+function lockButton(it, place, draw) {
+  const path = it.state === "locked" ? "/unlock" : "/lock";
+  const press = async () => {
+    const answer = await send(path, authorization(), { who: it.account });
+    if (answer.value) draw({ ...it, state: path === "/lock" ? "locked" : "open" });
+    else fill(place, faultWords(answerWords(answer)));
+  };
+  return steadyButton({ class: "small", onclick: press },
+    `${path === "/lock" ? "Lock" : "Unlock"} ${it.account}`);
+}
+
+function accountRow(first) {
+  const element = el("li");
+  const record = el("span");
+  const place = el("span");
+  const draw = (it) => fill(element,
+    link(`/decided?author=${it.account}`, it.account), " ",
+    el("small", {}, RANKS[it.rank] ?? "no account of the registry",
+      it.since ? `, joined ${it.since}` : null,
+      it.state === "open" ? null : [", ", el("b", {}, it.state), ": its ",
+        link(`/queue?author=${it.account}`, "pending proposals")], record), " ",
+    it.state === "left" || it.account === account() || it.rank > rank() ? null
+      : lockButton(it, place, draw), place);
+  draw(first);
+  recordOf(first.account, record);
+  return element;
+}
+
+async function listed(place, after = "") {
+  const path = `/accounts?${new URLSearchParams({ after })}`;
+  const answer = await request("GET", path, { headers: authorization(), isOurs: true });
+  if (!answer.value) return fill(place, faultWords(answerWords(answer)));
+  const { accounts, more } = answer.value;
+  const next = () => { button.remove(); listed(rest, accounts.at(-1).account); };
+  const button = more ? el("button", { type: "button", onclick: next }, "More") : null;
+  const rest = el("div");
+  return fill(place, el("ul", { class: "items" }, accounts.map(accountRow)), button, rest);
+}
+
+function rankForm() {
   const place = el("div", { class: "said" });
   const who = el("input", {
     id: "who-name", required: true, pattern: "[a-z0-9\\-]{1,32}", autocomplete: "off",
@@ -29,14 +85,14 @@ export default async function people() {
     const its = who.validity.valid ? await rankOf(name) : null;
     if (who.value === name) fill(today, rankWords(name, its));
   };
-  const rank = el("select", { id: "who-rank" },
+  const ranks = el("select", { id: "who-rank" },
     RANKS.map((word, value) => el("option", { value }, word)));
   const button = steadyButton({ class: "main" }, "Set");
   const submit = async (event) => {
     event.preventDefault();
-    const name = who.value, its = oneOf(rank.value);
+    const name = who.value, its = oneOf(ranks.value);
     const answer = await carryOut({
-      route: "/account", fields: { who: name, rank: rank.value },
+      route: "/account", fields: { who: name, rank: ranks.value },
       about: `Make ${name} ${its}`, button, place, why: "This is for administrators.", sent,
     });
     if (answer?.value) tell(`${name} is ${its} now.`, 5);
@@ -44,14 +100,23 @@ export default async function people() {
   };
   const form = el("form", { onsubmit: submit },
     el("p", {}, el("label", { for: "who-name" }, "Account"), who), today,
-    el("p", {}, el("label", { for: "who-rank" }, "Rank"), rank),
+    el("p", {}, el("label", { for: "who-rank" }, "Rank"), ranks),
     el("p", { class: "buttons" }, button), place);
   const sent = new SentForm(form, place);
   look();
+  return form;
+}
+
+/** The accounts that have a password, for senior moderators; their ranks, for administrators. */
+export default async function people() {
+  const list = el("div");
+  if (account()) await learnRank();
+  if (account() && maySuffice(SENIOR)) await listed(list);
   return [
     title("Accounts"),
-    el("p", {}, "An administrator gives an account its rank, and makes it where it is new. Its"
-      + " password is set on the server. The registry doesn't list its accounts."),
-    form,
+    el("p", {}, "An administrator gives an account its rank, and makes it where it is new: its"
+      + " password is set on the server then. Whoever has joined under a name has it: look at the"
+      + " day before you give a rank."),
+    rankForm(), list,
   ];
 }

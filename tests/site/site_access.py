@@ -16,7 +16,8 @@ PAGES = {
     "recent": "/recent", "queue": "/queue", "decided": "/decided",
     "propose": "/propose?path=PC/8086/1237", "many": "/propose?many=yes&text=8086:ab01%20A%20name",
     "guide": "/guide", "mine": "/mine", "people": "/people", "check": "/check", "load": "/load",
-    "help": "/help", "proposal": "/proposals/1", "decision": "/proposals/2",
+    "help": "/help", "join": "/join", "password": "/password",
+    "proposal": "/proposals/1", "decision": "/proposals/2",
 }
 LEAST = 4.5
 # In milliseconds, on loopback.

@@ -313,7 +313,8 @@ def logged_out_elsewhere(cases, browser):
     first = driver.current_window_handle
     driver.get(browser.base + "/pci.ids")
     driver.switch_to.new_window("tab")
-    browser.go("/help").log_in("alice")
+    browser.go("/help")
+    browser.wait(lambda: browser.text("#log") == "Log out alice", "the log-in of the other tab")
     browser.click("#log")
     driver.close()
     driver.switch_to.window(first)

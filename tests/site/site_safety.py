@@ -1,5 +1,7 @@
 """Hostile names, notes, remarks and reasons stay text; text that deceives is marked; the policy of
 the headers holds and reports nothing; without scripts the page leads to the texts of the API."""
+import base64
+import glob
 import json
 import os
 import re
@@ -243,15 +245,23 @@ def refusals(cases, browser):
 
 
 def secrets(cases, browser):
-    """Without the tick the password is nowhere; a cancelled log-in logs nobody in."""
+    """The password is in no storage, and no script reads the session; a cancelled log-in logs
+    nobody in."""
     browser.go("/")
     browser.log_in("alice", stays=False)
-    kept = browser.js("return JSON.stringify([Object.values(localStorage), "
-                      "Object.values(sessionStorage)])")
-    cases.equal("safety: the password isn't kept", [it for it in json.loads(kept)[1]
-                                                     if "secret" in it], [])
+    kept = browser.js("return JSON.stringify([{ ...localStorage }, { ...sessionStorage }])")
+    encoded = base64.b64encode(b"alice:pw-alice").decode()
+    found = [it for it in ("pw-alice", encoded) if it in kept]
+    cases.equal("safety: the password isn't kept", found, [])
+    cases.equal("safety: no script sees the session", browser.js("return document.cookie"), "")
+    its = [it for it in browser.driver.get_cookies() if it["name"] == "__Host-pciids"]
+    got = [(it["httpOnly"], it["secure"], it["sameSite"], it.get("expiry")) for it in its]
+    cases.equal("safety: what the session is", got, [(True, True, "Strict", None)])
     browser.go("/help")
-    cases.equal("safety: and a reload logs out", browser.text("#log"), "Log in")
+    browser.wait(lambda: browser.text("#log") == "Log out alice", "a reload")
+    browser.click("#log")
+    browser.wait(lambda: not browser.driver.get_cookies(), "no cookie after a log-out")
+    cases.equal("safety: logged out", browser.text("#log"), "Log in")
     browser.click("#log")
     browser.type("#log-name", "alice")
     browser.type("#log-password", "pw-alice")
@@ -268,7 +278,9 @@ def secrets(cases, browser):
 def renewed(cases, world, browser):
     """Whose password is another one by now is logged out by a command, which isn't lost."""
     def password(text):
-        words = ["htpasswd", "-bB", "-C", "4", f"{world.folder}/passwords", "alice", text]
+        for it in glob.glob(f"{world.folder}/join/sessions/alice.*"):
+            os.remove(it)
+        words = ["htpasswd", "-bB", "-C", "4", f"{world.folder}/accounts/passwords", "alice", text]
         subprocess.run(words, stderr=subprocess.DEVNULL, timeout=50, check=True)
 
     browser.go("/help").log_in("alice")
@@ -276,7 +288,7 @@ def renewed(cases, world, browser):
     browser.type("#name", "Under a new password")
     password("another")
     browser.click("form.propose button.main")
-    told = browser.has("weren't accepted. Nothing was done.", "form.propose")
+    told = browser.has("logged out by now: log in again. Nothing was done.", "form.propose")
     kept = browser.js("return document.getElementById('name').value")
     got = told, browser.text("#log"), kept, browser.owed()
     cases.equal("safety: a password that was changed", got,

@@ -17,6 +17,7 @@ import urllib.request
 
 import program
 from http_server import Server, ask_curl, free_port, to_end
+from joining_unit import Served, Way
 from shims import ROOM
 
 SITE = os.path.join(program.TOP, "site")
@@ -186,18 +187,20 @@ class Nginx:
     """nginx with the site's configuration, its ports and places changed. The tests' people share
     one address, so its rates are ten times as high."""
 
-    def __init__(self, folder, behind):
-        self.folder, self.port = folder, free_port()
+    def __init__(self, folder, behind, join):
+        self.folder, self.port, self.join = folder, free_port(), join
         certificate = ["openssl", "req", "-x509", "-newkey", "rsa:2048", "-nodes", "-days", "1",
                        "-subj", "/CN=localhost", "-out", f"{folder}/certificate.pem", "-keyout",
                        f"{folder}/key.pem"]
         quiet = {"stderr": subprocess.DEVNULL, "timeout": PATIENCE, "check": True}
         subprocess.run(certificate, **quiet)
-        open(f"{folder}/passwords", "w").close()
+        passwords = f"{folder}/accounts/passwords"
+        os.makedirs(f"{folder}/accounts/invites")
+        open(passwords, "w").close()
         for name in PEOPLE:
-            words = ["htpasswd", "-bB", "-C", "4", f"{folder}/passwords", name, f"pw-{name}"]
+            words = ["htpasswd", "-bB", "-C", "4", passwords, name, f"pw-{name}"]
             subprocess.run(words, **quiet)
-        for name in ("headers", "limits", "question", "command", "site"):
+        for name in ("headers", "limits", "question", "command", "join", "unit", "site"):
             with open(f"{CONFIG}/pciids-{name}.conf", encoding="utf-8") as file:
                 text = self.in_place(file.read(), behind)
             with open(f"{folder}/pciids-{name}.conf", "w", encoding="utf-8") as file:
@@ -219,6 +222,8 @@ class Nginx:
             (r"/usr/share/pciids-registry/site", SITE),
             (r"/var/lib/pciids-public", f"{self.folder}/public"),
             (r"unix:/run/pciids/http.sock", f"127.0.0.1:{behind}"),
+            (r"unix:/run/pciids/join.sock", f"127.0.0.1:{self.join}"),
+            (r"/run/pciids-join", f"{self.folder}/join"),
             (r"/run/(pciids-lists)|/var/cache/(pciids-long)", f"{self.folder}/\\1\\2"),
             (r"rate=([0-9]+)r/", r"rate=\g<1>0r/"),
         ):
@@ -258,7 +263,15 @@ class World:
         fill(self.database, list(items_taken()))
         self.server = Server(self.database, connections=100_000)
         self.spoiler = Spoiler(self.server.port)
-        self.nginx = Nginx(self.folder, self.spoiler.port)
+        way = Way(f"{self.folder}/http.sock", self.server.port)
+        self.unit = Served({
+            "PCIIDS_PASSWORDS": f"{self.folder}/accounts/passwords",
+            "PCIIDS_INVITES": f"{self.folder}/accounts/invites",
+            "PCIIDS_JOIN_RUN": f"{self.folder}/join", "PCIIDS_SOCKET": way.path,
+            "PCIIDS_JOIN_CONF": f"{self.folder}/join.conf",
+        })
+        self.joiner = Spoiler(self.unit.port)
+        self.nginx = Nginx(self.folder, self.spoiler.port, self.joiner.port)
         self.base = f"https://localhost:{self.nginx.port}"
         self.wait()
 
@@ -274,6 +287,8 @@ class World:
 
     def __exit__(self, *_):
         self.nginx.stop()
+        self.joiner.listener.close()
+        self.unit.close()
         self.spoiler.listener.close()
         self.server.kill()
         self.stack.cleanup()

@@ -20,6 +20,7 @@ SHOWN_BY = {
     "fail2ban": "fail2ban-regex",
     "firefox-esr": "firefox-esr",
     "gcc": "gcc",
+    "gunicorn": "gunicorn",
     "iproute2": "ip",
     "jing": "jing",
     "libc6-dev": "/usr/include/stdio.h",

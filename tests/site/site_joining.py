@@ -1,0 +1,162 @@
+"""Strangers join by themselves: from a form that is filled to a proposal; a lost reply and a reload
+join once; log-ins on another computer, another password, a lock, and leaving."""
+from site_browser import Browser
+from site_world import World
+
+
+def owed_words(browser, words):
+    browser.wait(lambda: words in browser.text("#owed"), f"{words!r} in the bar")
+
+
+def join(browser, name):
+    """Fills in the page of joining and sends it. Returns the password."""
+    browser.put("#join-name", name)
+    password = browser.js("return document.getElementById('join-password').value")
+    browser.click("form.join button.main")
+    return password
+
+
+def enter(browser, name, password):
+    browser.type("#log-name", name)
+    browser.type("#log-password", password, browser.keys.ENTER)
+
+
+def is_in(browser, name):
+    return browser.wait(lambda: browser.text("#log") == f"Log out {name}", f"{name} logged in")
+
+
+def out(browser):
+    browser.click("#log")
+    browser.wait(lambda: browser.text("#log") == "Log in", "logged out")
+
+
+def stranger(cases, world, browser):
+    """A form is filled before anybody asks who it is; after joining it is still there."""
+    browser.go("/propose?path=PC/8086/e001")
+    browser.type("#name", "By a stranger")
+    browser.click("form.propose button.main")
+    browser.one("#log-name")
+    browser.wait(lambda: browser.all("#dialog a"), "a way to join")
+    browser.click("#dialog a")
+    browser.heading("Join")
+    password = join(browser, "dora-x")
+    is_in(browser, "dora-x")
+    browser.wait(lambda: browser.all("#name"), "the form again")
+    kept = browser.js("return document.getElementById('name').value")
+    cases.equal("joining: what was typed is still there", kept, "By a stranger")
+    browser.click("form.propose button.main")
+    browser.heading("Proposal ")
+    pending = [(it["author"], it["name"]) for it in world.pending("PC/8086/e001")]
+    cases.equal("joining: it is proposed", pending, [("dora-x", "By a stranger")])
+    kept = browser.js("return JSON.stringify([{ ...localStorage }, { ...sessionStorage }])")
+    cases.equal("joining: the password is in no storage", password in kept, False)
+    out(browser)
+    browser.click("#log")
+    enter(browser, "dora-x", password)
+    cases.equal("joining: out and in", is_in(browser, "dora-x"), True)
+    out(browser)
+    return password
+
+
+def names(cases, browser):
+    """What is refused, with the reason."""
+    browser.go("/join")
+    for name, words in (("dora-x", "dora-x is taken"), ("adm1n", "adm1n is reserved"),
+                        ("d0ra-x", "d0ra-x reads like dora-x"), ("a--b", "two hyphens")):
+        join(browser, name)
+        cases.equal(f"joining: {name}", browser.has(words, "form.join"), True)
+    browser.put("#join-name", "short")
+    browser.put("#join-password", "too short")
+    told = browser.js("return document.getElementById('join-password').validationMessage")
+    cases.equal("joining: a short password", told.startswith("At least 12"), True)
+
+
+def lost(cases, world, browser):
+    """Replies are lost, and the page is left meanwhile: one account, and the bar says so."""
+    before = world.ask("/status")["accounts"]
+    browser.go("/join")
+    world.joiner.set("lose", left=2)
+    join(browser, "edna")
+    is_in(browser, "edna")
+    cases.equal("joining: two replies lost, one account", world.ask("/status")["accounts"],
+                before + 1)
+    out(browser)
+    browser.go("/join")
+    world.joiner.set("lose", left=50)
+    password = join(browser, "fritz")
+    owed_words(browser, "It isn't known yet")
+    kept = browser.js("return JSON.stringify({ ...localStorage })")
+    cases.equal("joining: what is kept has no password", password in kept, False)
+    browser.go("/help")
+    owed_words(browser, "Join as fritz: no answer came")
+    world.joiner.set("pass")
+    browser.click("#owed button")
+    owed_words(browser, "Join as fritz: done.")
+    cases.equal("joining: over a reload, one account", world.ask("/status")["accounts"],
+                before + 2)
+    browser.click("#log")
+    enter(browser, "fritz", password)
+    cases.equal("joining: with the password of then", is_in(browser, "fritz"), True)
+
+
+def own(cases, browser):
+    """Another password, which the person chooses, and leaving."""
+    browser.go("/password")
+    browser.put("#password-present", "not this one, surely")
+    browser.put("#password-password", "my own words: 12345")
+    browser.click("form button.main")
+    cases.equal("joining: a wrong present one", browser.has("weren't accepted"), True)
+    out(browser)
+    browser.go("/join")
+    browser.put("#join-password", "my own words: 12345")
+    browser.put("#join-name", "gerda")
+    browser.click("form.join button.main")
+    is_in(browser, "gerda")
+    browser.go("/password")
+    browser.put("#password-present", "my own words: 12345")
+    browser.click("form button.main")
+    browser.has("Done.")
+    out(browser)
+    browser.click("#log")
+    enter(browser, "gerda", "my own words: 12345")
+    cases.equal("joining: the former one", browser.has("weren't accepted", "#dialog"), True)
+
+
+def locked(cases, world, browser, password):
+    """A senior moderator locks an account whose owner is logged in."""
+    browser.go("/help")
+    browser.click("#log")
+    enter(browser, "dora-x", password)
+    is_in(browser, "dora-x")
+    browser.go("/propose?path=PC/8086/e002")
+    browser.type("#name", "While locked")
+    with Browser(world.base) as sam:
+        sam.go("/people").log_in("sam")
+        sam.has("dora-x\ncontributor, joined ")
+        sam.has("1 pending")
+        row = "return [...document.querySelectorAll('main li')].find((it) => it.innerText"
+        press = ".startsWith('dora-x')).querySelector('button').click()"
+        sam.js("return new Promise((go) => setTimeout(go, 600))")
+        sam.js(row + press)
+        sam.has("locked: its pending proposals")
+        browser.click("form.propose button.main")
+        told = browser.has("logged out by now: log in again. Nothing was done.", "form.propose")
+        got = told, world.pending("PC/8086/e002"), browser.text("#log")
+        cases.equal("joining: a locked account", got, (True, [], "Log in"))
+        browser.click("form.propose button.main")
+        enter(browser, "dora-x", password)
+        cases.equal("joining: doesn't log in", browser.has("weren't accepted", "#dialog"), True)
+        cases.equal("joining: the console of sam", sam.faults(), [])
+
+
+def run(cases):
+    with World() as world:
+        with open(f"{world.folder}/join.conf", "w", encoding="utf-8") as file:
+            file.write("joins-an-hour = 100\ncontact = Ask registry@example.org.\n")
+        with Browser(world.base, size=(420, 800)) as browser:
+            password = stranger(cases, world, browser)
+            names(cases, browser)
+            lost(cases, world, browser)
+            own(cases, browser)
+            locked(cases, world, browser, password)
+            cases.equal("joining: the console", browser.faults(), [])
