@@ -1,5 +1,5 @@
-"""Scripts on the built program: the example of docs/SCRIPT.md line for line, and each request for
-memory refused in turn."""
+"""Scripts on the built program: the example of docs/SCRIPT.md line for line, each request for
+memory refused in turn, and the memory that a line of many fields takes."""
 import os
 import subprocess
 import tempfile
@@ -7,7 +7,8 @@ import tempfile
 import pytest
 
 from examples import example_of
-from program import HEADER, PROGRAM, TOP, run as run_program
+from program import HEADER, PROGRAM, TOP, WHOLE, run as run_program
+from resident import KIB, told
 from script_rows import A_MODERATOR, ROWS
 from shims import run_refusing
 
@@ -111,3 +112,39 @@ def test_refused_memory(cases, shims):
     for name, texts in SCRIPTS.items():
         refusals += refuse_in_turn(cases, shims["refuse_malloc"], name, *texts)
     cases.equal("refused memory: script: requests were refused", refusals > 100, True)
+
+
+class Lines:
+    """A script that is given line after line, each once the one before has its reply."""
+
+    def __init__(self):
+        self.process = subprocess.Popen(
+            [WHOLE, "script"], stdin=subprocess.PIPE, stdout=subprocess.PIPE
+        )
+
+    def __enter__(self):
+        return self
+
+    def __exit__(self, *fault):
+        self.process.communicate()
+
+    def reply(self, line):
+        self.process.stdin.write(line + b"\n")
+        self.process.stdin.flush()
+        return self.process.stdout.readline()
+
+    def held(self):
+        return told(self.process.pid, "VmHWM")
+
+
+@pytest.mark.parametrize("start", (b"submit root ", b"read ", b"lookup "))
+@pytest.mark.parametrize("length", (4_194_304, 16_777_216))
+def test_many_fields(cases, start, length):
+    """None of them is kept: the line takes at most twice its length."""
+    line = start + b"a=b&" * ((length - len(start)) // 4)
+    with Lines() as script:
+        cases.equal("script: a short line", script.reply(start + b"a=b"), b"refused 3 BadText\n")
+        before = script.held()
+        cases.equal("script: many fields", script.reply(line), b"refused 3 BadText\n")
+        took = script.held() - before
+        cases.equal(f"script: many fields took {took} KiB", took <= 2 * length // KIB, True)

@@ -14,13 +14,15 @@ import pytest
 
 from http_server import JSON, TEXT, Server, posted, refusal, reply
 from program import HEADER, REAL_FILE, WHOLE
+from resident import KIB, told
 
-KIB = 1_024
 LONGEST = 4_194_304
 
-# Of the longest length: a text of short lines, and a form. And a text of nearly that length.
+# Of the longest length: a text of short lines, a form, and one of more fields than any command
+# has. And a text of nearly that length.
 COMMENTS = (b"# " + b"c" * 61 + b"\n") * (LONGEST // 64)
 FORM = b"num=1&text=" + b"a" * (LONGEST - 11)
+MANY_FIELDS = b"a=b&" * (LONGEST // 4)
 VENDORS = b"".join(b"%04x  %s\n" % (vendor, b"n" * 56) for vendor in range(65_536))
 
 # What a request may take beside what it holds, in KiB: buffers, and pages of the file.
@@ -36,12 +38,6 @@ NO_ROOM = (
 # What is taken at once in such a size is given back at once, and does not hide what is taken next
 # (mallopt(3)).
 ENVIRONMENT = dict(os.environ, MALLOC_MMAP_THRESHOLD_="131072")
-
-
-def told(pid, word):
-    """A figure of a process, in KiB."""
-    with open(f"/proc/{pid}/status") as file:
-        return next((int(line.split()[1]) for line in file if line.startswith(f"{word}:")), 0)
 
 
 def reset_mark(pid):
@@ -116,10 +112,12 @@ def bodies(measured, folder):
         took, back = server.raised(posted("/import", "root", COMMENTS))
         measured.cases.equal("memory: a file of comments", back, counts(0, 0))
         measured.row("a file of comments", took, 0, FEW)
+        bad_text = reply("400 Bad Request", JSON, refusal(3, "BadText"))
+        took, back = server.raised(posted("/comment", "root", MANY_FIELDS))
+        measured.cases.equal("memory: a form of many fields", back, bad_text)
+        measured.row("a form of many fields", took, LONGEST // KIB, 2 * LONGEST // KIB)
         took, back = server.raised(posted("/comment", "root", FORM))
-        measured.cases.equal(
-            "memory: a form", back, reply("400 Bad Request", JSON, refusal(3, "BadText"))
-        )
+        measured.cases.equal("memory: a form", back, bad_text)
         measured.row("a form, which is held,", took, LONGEST // KIB, 4 * LONGEST // KIB)
 
 

@@ -2,7 +2,7 @@ pub mod Meeting
 pub mod Imports
 pub mod Exports
 pub mod Handled
-pub mod Served
+pub mod StreamsServed
 pub mod Sendings
 pub mod Streams
 pub mod OfApi

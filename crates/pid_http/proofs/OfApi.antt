@@ -2,6 +2,7 @@ pub mod RouteRows
 pub mod Senders
 pub mod Targets
 pub mod Forms
+pub mod FieldCounts
 pub mod FieldRows
 pub mod SenderRows
 pub mod Paths

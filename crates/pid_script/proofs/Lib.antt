@@ -6,9 +6,11 @@ mod Cases
 mod CatchingUp
 mod Causes
 mod Exported
+mod FieldCounts
 mod KeyFields
 mod LineFronts
 mod LineReplies
+mod LookupCounts
 mod NoStopLines
 mod NoStops
 mod Noting

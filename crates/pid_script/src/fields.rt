@@ -13,6 +13,7 @@ ghost use Rattle.std.specs.Prelude.{
   count_by,
   string_bytes,
   length,
+  nat_lt,
   slice_index,
   Option,
   Some,
@@ -27,6 +28,7 @@ ghost use Rattle.std.specs.Prelude.{
 ghost use Rattle.std.specs.Option.{option_copied, option_map};
 ghost use Rattle.std.specs.List.{position_or_len, remove};
 ghost use Rattle.std.specs.Str.{bytes_eq};
+ghost use Rattle.form_urlencoded.specs.Form.{raw_pairs as pairs_in};
 ghost use Rattle.pid_moderation.specs.Fields.{
   Fields,
   texts_of,
@@ -41,10 +43,21 @@ ghost use Rattle.pid_script.specs.Asking.{
   path_asked,
 };
 
+use form_urlencoded::raw_pairs;
 use pid_form::{fields_of, is_once, text_at};
 use pid_ident::{Path, PathText};
 use pid_moderation::{Command, Refusal, Verb, command_of};
 use std::alloc::Global;
+
+// The most fields that a command has, its key among them.
+const MOST_FIELDS: usize = 4;
+
+/// Whether a form has more fields than so many; none of them is decoded for it.
+pub fn has_more_fields(form: &str, most: usize) -> bool
+    ensures { result ≡ nat_lt most (length (pairs_in form.now)) }
+{
+    raw_pairs(form.as_bytes()).nth(most).is_some()
+}
 
 // Takes the key out of the fields.
 fn take_key(fields: &mut Vec<(String, String)>) -> Option<String>
@@ -92,6 +105,9 @@ pub fn read_command(
     ensures err { IfErr result (λ e. e ≢ Refusal.Memory
         → command_in_form verb account.now form.now ≡ Err e) }
 {
+    if has_more_fields(form, MOST_FIELDS) {
+        return Err(Refusal::BadText);
+    }
     let mut fields = fields_of(alloc, form)?;
     let key = take_key(&mut fields);
     command_with(alloc, verb, account, &key, &fields)
@@ -121,6 +137,9 @@ pub fn read_path(alloc: Global, form: &str) -> Result<Path, Refusal>
     ensures ok { IfOk result (λ p. path_asked form.now ≡ Ok p) }
     ensures err { IfErr result (λ e. e ≢ Refusal.Memory → path_asked form.now ≡ Err e) }
 {
+    if has_more_fields(form, 1) {
+        return Err(Refusal::BadText);
+    }
     let fields = fields_of(alloc, form)?;
     path_in(&fields)
 }

@@ -1,5 +1,5 @@
 use Rattle.pid_http.specs.Steps.Going.{lives_still}
-use Rattle.pid_http.proofs.Served.{memory_ends, none_read, none_served}
+use Rattle.pid_http.proofs.StreamsServed.{memory_ends, none_read, none_served}
 use Rattle.pid_http.proofs.stream.serve_stream.Goals as goal
 
 pub returns-in_default-clause-served : goal.returns-in_default-clause-served
