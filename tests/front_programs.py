@@ -51,7 +51,7 @@ def readers(cases, front):
     may send a command, or read what one is answered."""
     foreign = ("-H", "Origin: https://evil.example", "-i")
     allows = "access-control-allow-origin"
-    for path in (*QUESTIONS, "/pci.ids", "/pci.ids.gz", "/feeds/all.atom", "/none-of/these"):
+    for path in (*QUESTIONS, "/pci.ids", "/pci.ids.gz", "/feeds/changes.atom", "/none-of/these"):
         fields = fields_of(front.curl(path, *foreign))
         want = None if path == "/none-of/these" else "*"
         cases.equal(f"programs: who may read {path}", fields.get(allows), want)
