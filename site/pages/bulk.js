@@ -8,7 +8,7 @@ import { keepDraft } from "../drafts.js";
 import { MOST_TEXT } from "../limits.js";
 import { tell } from "../notice.js";
 import { oneParagraph } from "../parts.js";
-import { noteReason, readyReasons } from "../reasons.js";
+import { readyReasons } from "../reasons.js";
 import { steadyButton } from "../steady.js";
 import { approvalOf, rejectionOf } from "./proposal.js";
 import { textFault } from "./proposing.js";
@@ -74,10 +74,12 @@ export class Bulk {
     const cards = this.marked();
     fill(this.place, fault ? faultWords(fault) : null);
     if (fault || this.isBusy || cards.length === 0) return;
+    // Nobody approves over a name that he didn't see when he pressed the button.
+    const commands = cards.map((it) => this.commandFor(it, state, reason));
     this.isBusy = true;
     this.show();
     try {
-      if (await this.waited(cards.length, state)) await this.decideAll(cards, state, reason);
+      if (await this.waited(cards.length, state)) await this.decideAll(cards, commands, state);
     } finally {
       this.isBusy = false;
       this.show();
@@ -102,7 +104,7 @@ export class Bulk {
     }).finally(() => { this.undo = null; });
   }
 
-  async decideAll(cards, state, reason) {
+  async decideAll(cards, commands, state) {
     const by = account();
     let done = 0;
     this.isStopped = false;
@@ -114,12 +116,12 @@ export class Bulk {
       if (this.isStopped || !this.element.isConnected || account() !== by) break;
       fill(words, `${at + 1} of ${cards.length} …`);
       if (!card.isMarked) continue;
-      const answer = await card.carry(state, this.commandFor(card, state, reason), false);
+      const answer = await card.carry(state, commands[at], false);
       if (answer?.value) done += 1;
       // Without an answer the next one would have none either.
       if (!answer?.value && !answer?.refusal) break;
     }
-    this.end(done, cards, state, reason);
+    this.end(done, cards.length - done, state);
   }
 
   commandFor(card, state, reason) {
@@ -128,9 +130,7 @@ export class Bulk {
   }
 
   // What failed is marked still.
-  end(done, cards, state, reason) {
-    if (state === "rejected" && done) noteReason(reason);
-    const left = cards.length - done;
+  end(done, left, state) {
     const words = `${several(done, "proposal")} ${done === 1 ? "is" : "are"} ${state}`
       + (left ? `, ${left} ${left === 1 ? "is" : "are"} not.` : ".");
     if (!this.element.isConnected) tell(words, 8);

@@ -5,30 +5,19 @@ import { account, maySuffice } from "../account.js";
 import { ask } from "../api.js";
 import { faultWords } from "../carry.js";
 import { el, fill, link, several } from "../dom.js";
-import { recordOf } from "../known.js";
 import { tell } from "../notice.js";
-import { chainOf, kindOf, stateMark, wishOf } from "../parts.js";
+import { kindOf, stateMark, wishOf } from "../parts.js";
 import { parentOf, rankFor, spoken, wholeNumber, withParents } from "../paths.js";
 import { compared, shown, spelled } from "../shown.js";
 import { appear, isDead, setDead, steadyButton } from "../steady.js";
-import { submissionsFor } from "../submissions.js";
-import { answerWords, RANKS, STATES } from "../words.js";
+import { answerWords, RANKS } from "../words.js";
+import { aboutProposal } from "./about.js";
 import {
   approvalOf, CHANGED, DECIDED, decide, hasOwnDecision, hasReason, OWN_DECISION, rejection,
   rejectionOf,
 } from "./proposal.js";
 
 const ARMED_FOR = 3_000;
-const MOST_BEFORE = 5;
-
-/** What came of an account's proposals, in words. */
-export function recordWords(record) {
-  if (!record) return "what came of its proposals isn't known at the moment";
-  const { counts, isAll } = record;
-  const states = ["approved", "rejected", "withdrawn", "pending"].filter((it) => counts[it]);
-  const words = states.map((it) => `${counts[it]} ${STATES[it].toLowerCase()}`).join(", ");
-  return isAll ? words : `${words} of the latest`;
-}
 
 /**
  * A row, with what its buttons and keys do. Once it is shown nothing in it changes its place, but
@@ -165,51 +154,13 @@ export class Card {
 
   /** Opens the row, or closes it. */
   toggle(isOpen = this.more.hidden) {
-    if (isOpen && !this.about) this.makeMore();
+    if (isOpen && !this.about) {
+      this.about = aboutProposal(this.it, this.now, this.around);
+      this.more.prepend(...this.about);
+    }
     this.more.hidden = !isOpen;
     this.opener.setAttribute("aria-expanded", isOpen);
     this.opener.textContent = isOpen ? "▾" : "▸";
-  }
-
-  makeMore() {
-    const { it } = this;
-    const nameOf = (path) => this.around.nameOf(path) ?? undefined;
-    const row = (word, ...value) => [el("dt", {}, word), el("dd", {}, ...value)];
-    const record = el("span", {}, " …");
-    recordOf(it.author).then((its) => fill(record, ` ${recordWords(its)}`));
-    this.before = el("div", { class: "before" });
-    this.about = el("dl", { class: "facts" },
-      row(kindOf(it.path), chainOf(it.path, nameOf).slice(0, -1), " ",
-        link(`/item/${it.path}`, el("code", {}, wholeNumber(it.path)))),
-      row("Now", this.now === null ? "no name" : shown(this.now)),
-      row("By", link(`/decided?author=${it.author}`, it.author), record),
-      row("Note", it.note === "" ? "–" : shown(it.note)),
-      this.rivalRows(row),
-      row("Comments", link(`/proposals/${it.num}`, it.remarks ? several(it.remarks, "comment")
-        : "none yet: comment")));
-    this.more.prepend(this.about, this.before);
-    this.lookBefore();
-  }
-
-  // Side by side with the others that are for the same number.
-  rivalRows(row) {
-    const { it, around: { rivals } } = this;
-    return rivals.length === 0 ? null : row("For this number", el("ol", { class: "rivals" },
-      [it, ...rivals].sort((one, other) => one.num - other.num).map(({ num, name, author }) => (
-        el("li", {}, link(`/proposals/${num}`, `#${num}`), " ", wishOf(name), ` by ${author}`,
-          num === it.num ? " (this one)" : null)))));
-  }
-
-  // What was decided for the same number.
-  async lookBefore() {
-    const { value } = await submissionsFor(this.it.path);
-    const all = (value?.submissions ?? []).filter((it) => it.decider && it.state !== "withdrawn");
-    if (all.length === 0) return;
-    const row = ({ num, name, state, reason }) => el("li", {}, link(`/proposals/${num}`, `#${num}`),
-      " ", wishOf(name), " ", stateMark(state, num > this.it.num ? " since then" : ""),
-      reason ? [" ", shown(reason)] : null);
-    fill(this.before, el("p", { class: "aside" }, "Decided for this number:"),
-      el("ol", { class: "rivals" }, all.slice(0, MOST_BEFORE).map(row)));
   }
 
   disarm() {

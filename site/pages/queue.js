@@ -10,8 +10,9 @@ import { KIND_WORDS, parse, withParents } from "../paths.js";
 import { readdress } from "../router.js";
 import { spelled } from "../shown.js";
 import { isTooSoon } from "../steady.js";
+import { recordWords } from "./about.js";
 import { Bulk } from "./bulk.js";
-import { Card, recordWords } from "./card.js";
+import { Card } from "./card.js";
 
 const MOST_QUESTIONS = 10;
 const TRIES_EVERY = 3_000;

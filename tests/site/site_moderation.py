@@ -173,6 +173,17 @@ def several(cases, world, browser):
     states = [world.state(it) for it in (*good, orphan)]
     cases.equal("moderation: and the others are done", states,
                 ["approved", "approved", "pending", "pending"])
+    rivals = [world.submit("dora", "PC/8086/af10", f"Rival {at}") for at in range(2)]
+    browser.go("/queue?author=dora")
+    browser.wait(lambda: len(rows(browser)) == 4, "the rivals")
+    for number in rivals:
+        browser.click(f"{row_of(number)} input[type=checkbox]")
+    browser.click(".bulk button.main")
+    browser.has("1 proposal is approved, 1 is not.", ".bulk")
+    told = browser.has("was renamed, added or removed since it was shown", row_of(rivals[1]))
+    cases.equal("moderation: no rival over a name that wasn't seen", (told, world.state(rivals[1])),
+                (True, "pending"))
+    world.ask("/withdraw", {"num": rivals[1]}, "dora")
     more = [world.submit("dora", f"PC/8086/b0{at:02x}", f"To stop at {at}") for at in range(6)]
     browser.go("/queue?author=dora")
     browser.wait(lambda: len(rows(browser)) == 8, "eight rows")
