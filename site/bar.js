@@ -194,5 +194,9 @@ watchOutbox(drawBar);
 watchAccount(drawBar);
 watchPages(drawBar);
 drawBar();
+// What went out with its page is asked for once more: it acts once.
+for (const entry of owed().filter((it) => it.isGoing && it.account === account())) {
+  settle(entry).then((answer) => { if (!answer.value) report(entry, answer); });
+}
 // No event tells that another tab was closed while it was sending.
 setInterval(() => { if (!document.hidden && owed().length) drawBar(); }, LOOKS_EVERY);

@@ -192,11 +192,12 @@ function takenBack(entry) {
   return { trouble: "undone", certain: true };
 }
 
-// What was meant goes out before the page does.
+// What was meant goes out before the page does, and the next page asks what came of it.
 addEventListener("pagehide", () => {
   for (const work of working.values()) {
     if (!work.state?.undo) continue;
     work.isGoing = true;
+    keep("localStorage", FRONT + work.entry.key, { ...work.entry, isInDoubt: true, isGoing: true });
     work.state.now();
   }
 });

@@ -113,8 +113,9 @@ class List {
 
   count() {
     const open = this.cards.filter((it) => !it.isDecided).length;
-    const all = this.cards.length === this.all.length ? "" : ` of ${this.all.length} here`;
-    fill(this.left, `${several(open, "proposal")}${all} pending.`);
+    const isAll = this.cards.length === this.all.length;
+    fill(this.left, isAll ? `${several(open, "proposal")} pending.`
+      : `${open} of ${several(this.all.length, "proposal")}.`);
     this.bulk.show();
   }
 

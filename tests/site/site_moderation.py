@@ -266,8 +266,6 @@ def left_meanwhile(cases, world, browser, numbers):
     browser.driver.refresh()
     browser.ready()
     browser.wait(lambda: world.state(numbers[3]) == "approved", "approved")
-    browser.has("no answer came", "#owed")
-    browser.click("#owed button")
     browser.wait(lambda: not browser.owed(), "the outcome")
     cases.equal("grace: a reload sends it, once", revision(world) - before, 1)
     browser.go(f"/proposals/{numbers[4]}")
