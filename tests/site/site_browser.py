@@ -31,9 +31,10 @@ SWITCHES = ("--headless=new", "--no-sandbox", "--disable-gpu", "--disable-dev-sh
 EXPECTED = ("the server responded with a status of", "net::ERR_")
 
 
-# A decision is held for five seconds in which it can be taken back. Here most go out at once.
-AT_ONCE = ("const later = setTimeout; setTimeout = (call, wait, ...words) =>"
-           " later(call, wait === 5100 ? 0 : wait, ...words);")
+# A decision is held for five seconds in which it can be taken back. Here most go out at once; where
+# that is tried, a busy machine gets twice the time.
+HELD = ("const later = setTimeout; setTimeout = (call, wait, ...words) =>"
+        " later(call, wait === 5100 ? {} : wait, ...words);")
 
 
 class Browser:
@@ -56,9 +57,8 @@ class Browser:
                                        options=options)
         self.driver.set_script_timeout(PATIENCE)
         self.driver.set_page_load_timeout(PATIENCE)
-        if not has_grace:
-            self.driver.execute_cdp_cmd("Page.addScriptToEvaluateOnNewDocument",
-                                        {"source": AT_ONCE})
+        held = HELD.format(10_200 if has_grace else 0)
+        self.driver.execute_cdp_cmd("Page.addScriptToEvaluateOnNewDocument", {"source": held})
         self.base, self.keys = base, Keys
         self.said = []
 

@@ -6,8 +6,8 @@ from site_browser import Browser
 from site_world import World
 
 SETTLE = 0.6
-# In seconds: longer than a decision is held.
-HELD = 6.5
+# In seconds: longer than a decision is held here.
+HELD = 11.5
 REASON = "There is no source for it."
 
 
@@ -226,6 +226,9 @@ def taken_back(cases, world, browser):
     browser.go("/queue?vendor=8086")
     browser.one(row_of(numbers[4]))
     before = revision(world)
+    grace = browser.driver.execute_async_script(
+        "const [done] = arguments; import('/site/carry.js').then((it) => done(it.GRACE))")
+    cases.equal("grace: five seconds", 5_000 <= grace < 5_500, True)
     browser.click(f"{row_of(numbers[0])} button.main")
     browser.has("Approved.", row_of(numbers[0]))
     cases.equal("grace: it is kept, and not sent", (len(browser.owed()), revision(world)),
