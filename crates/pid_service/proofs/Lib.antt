@@ -23,3 +23,5 @@ pub mod PendingNumbers
 pub mod KeptNumbers
 pub mod ImportCauses
 pub mod Moderating
+pub mod TopItems
+pub mod ChangedLists

@@ -83,7 +83,7 @@ module _ {S : Type 0} (store : Ghosts S) where
     lives = same ∙ asked.lives;
     rests = reads_then (state store (connection start)) (state store (connection old)) (state store (connection new)) asked.rests reads;
     failed = λ off. absurd (let both : true ≡ false = sym on ∙ (asked.lives ∙ off) in let no : ⊥ = cc in no);
-    spares = record { text = spares.text ∙ asked.spares.text; pending = spares.pending ∙ asked.spares.pending; read = spares.read ∙ asked.spares.read };
+    spares = record { text = spares.text ∙ asked.spares.text; top = spares.top ∙ asked.spares.top; pending = spares.pending ∙ asked.spares.pending; read = spares.read ∙ asked.spares.read };
   }
 
   -- what the tables answer behind a read, they answer from before it on
@@ -151,6 +151,18 @@ module _ {S : Type 0} (store : Ghosts S) where
     rests = nothing_read (state store (connection r)) settled;
     leaves = left_same (kept_views r);
     told = λ clean h shows. (says clean h shows, shows);
+    caused = λ clean h shows. tt;
+  }
+
+  -- one for which memory runs out before the tables are asked
+  pub short_here : {X : Type 0} (r : Registry S store) (Says : History → X → Type 0) → is_live r ≡ true → (connection r).in_transaction ≡ false → Answers store r r (Err Memory) Says
+  short_here r Says on settled = record {
+    failed = true_not (is_live r) on;
+    fault = record { alive = λ still. inl refl; failed = true_not (is_live r) on };
+    lives = refl;
+    rests = nothing_read (state store (connection r)) settled;
+    leaves = left_same (kept_views r);
+    told = λ clean h shows. (inl refl, shows);
     caused = λ clean h shows. tt;
   }
 

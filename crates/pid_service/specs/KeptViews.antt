@@ -1,13 +1,19 @@
 -- What a registry keeps in memory of what is asked for again and again.
-use Rattle.std.specs.Prelude.{◌≡◌, ◌⊎◌, ℕ, true, false, List, [], Option, None, IfSome, IsSome, Vec, map}
+use Rattle.std.specs.Prelude.{◌≡◌, ◌⊎◌, ◌<◌, ℕ, length, true, false, List, [], Option, None, IfSome, IsSome, Vec, map}
 use Rattle.std.specs.declared.alloc.Global.{Global}
 use Rattle.sqlite_trees.specs.declared.store.Store.{Ghosts}
+use Rattle.pid_moderation.specs.ChangePages.{changed_behind, changed_of}
+use Rattle.pid_moderation.specs.Children.{children_of}
 use Rattle.pid_moderation.specs.History.{History}
-use Rattle.pid_moderation.specs.Items.{name_at}
+use Rattle.pid_moderation.specs.ItemPairs.{pair_of}
+use Rattle.pid_moderation.specs.Items.{Items, name_at}
 use Rattle.pid_moderation.specs.PendingPages.{waiting_above}
 use Rattle.pid_moderation.specs.Submissions.{Standing}
 use Rattle.pid_moderation.specs.Views.{Views, views_of}
+use Rattle.pid_moderation.specs.declared.lists.Item.{Item}
+use Rattle.pid_moderation.specs.declared.lists.TheConstants.{PAGE}
 use Rattle.pid_lookup.specs.CacheAgreement.{Agrees}
+use Rattle.pid_service.specs.declared.changes.KeptChanges.{KeptChanges}
 use Rattle.pid_service.specs.declared.kept_views.KeptItems.{KeptItems}
 use Rattle.pid_service.specs.declared.kept_views.KeptViews.{KeptViews}
 use Rattle.pid_service.specs.declared.registry.Registry.{Registry}
@@ -29,17 +35,24 @@ nothing = record { names = []; text = None }
 -- nothing is kept
 pub record KeepsNothing (k : KeptViews) : Type 0 where
   pub items : k.items ≡ nothing
+  pub top : k.top ≡ None
+  pub changes : k.changes ≡ None
   pub pending : k.pending ≡ None
   pub read : k.pending_read ≡ false
 
--- What is kept stays: the names, and the text and the numbers if there are any. If there are none,
--- they may come to be kept: the numbers only if they were not read before.
+-- What is kept stays: the names, and the text, the vendors and classes and the numbers if there are
+-- any. If there are none, they may come to be kept: the numbers only if they were not read before.
 pub record LeavesKept (old new : KeptViews) : Type 0 where
   pub names : new.items.names ≡ old.items.names
   pub text : IsSome old.items.text → new.items.text ≡ old.items.text
+  pub top : IsSome old.top → new.top ≡ old.top
   pub pending : IsSome old.pending → new.pending ≡ old.pending
   -- numbers that were read still count as read
   pub read : old.pending_read ≡ true → (new.pending_read ≡ true) × (new.pending ≡ old.pending)
+
+-- numbers that were not read do not come to count as read
+abbrev pub LeavesUnread : KeptViews → KeptViews → Type 0
+LeavesUnread old new = new.pending_read ≡ old.pending_read
 
 -- What a change of the views leaves of what is kept: that of the items, unless they are others now;
 -- and the numbers, if there are any, unless a submission was added, for which memory may run out.
@@ -60,12 +73,33 @@ numbers_waiting v = map (λ (s : ℕ × Standing). s.0) (waiting_above 0 v)
 abbrev pub HoldsWaiting : Option (Vec ℕ Global) → Views → Type 0
 HoldsWaiting numbers v = IfSome numbers (λ kept. kept.items ≡ numbers_waiting v)
 
+-- the vendors and the classes
+abbrev pub top_of : Views → Items
+top_of v = children_of None v.items
+
+-- these are they, if they are kept
+abbrev pub HoldsTop : Option (Vec Item Global) → Views → Type 0
+HoldsTop top v = IfSome top (λ kept. map pair_of kept.items ≡ top_of v)
+
+-- these are all items that were changed after their number, fewer than a page
+pub record AreChanged (kept : KeptChanges) (v : Views) : Type 0 where
+  pub items : map changed_of kept.items.items ≡ changed_behind kept.since [] v
+  pub few : length kept.items.items < PAGE
+
+-- if they are kept
+abbrev pub HoldsChanges : Option KeptChanges → Views → Type 0
+HoldsChanges changes v = IfSome changes (λ kept. AreChanged kept v)
+
 -- Each part is right about the views.
 pub record IsRightFor (k : KeptViews) (v : Views) : Type 0 where
   -- the paths that were asked for last, each with its name or the absence of one
   pub names : Agrees k.items.names (λ path. name_at path v.items)
   -- the canonical text, if it is kept
   pub text : IfSome k.items.text (λ bytes. bytes.items ≡ text_of_items v.items)
+  -- the vendors and the classes with their names, if they are kept
+  pub top : HoldsTop k.top v
+  -- the items that were changed last, if they are kept
+  pub changes : HoldsChanges k.changes v
   -- the numbers of what is pending, if they are kept
   pub pending : HoldsWaiting k.pending v
 

@@ -15,9 +15,10 @@ is_live r = r.live
 abbrev pub connection : {S : Type 0} {store : Ghosts S} → Registry S store → Held S
 connection r = r.tables.conn
 
--- the text and the numbers that are kept stay; names may come to be kept, and others go
+-- the text, the vendors and classes and the numbers that are kept stay; names may come to be kept, and others go
 pub record SparesKept (old new : KeptViews) : Type 0 where
   pub text : new.items.text ≡ old.items.text
+  pub top : new.top ≡ old.top
   pub pending : new.pending ≡ old.pending
   pub read : new.pending_read ≡ old.pending_read
 

@@ -10,3 +10,4 @@ pub mod Obeying
 pub mod Opening
 pub mod Running
 pub mod Waiting
+pub mod KeptChanges

@@ -19,7 +19,7 @@ ghost use Rattle.pid_service.specs.Asking.{Answers, AnswersAsAny};
 ghost use Rattle.pid_service.specs.Asking.{AnswersIfThere, AnswersIfThereAsAny};
 ghost use Rattle.pid_service.specs.Exporting.{IsMeasured};
 ghost use Rattle.pid_service.specs.Importing.{EndLasts};
-ghost use Rattle.pid_service.specs.KeptViews.{AreRead, kept_views};
+ghost use Rattle.pid_service.specs.KeptViews.{AreRead, LeavesUnread, kept_views};
 ghost use Rattle.pid_service.specs.Lives.{showing as registry_showing};
 ghost use Rattle.pid_service.specs.Registries.{is_live as lives};
 
@@ -52,7 +52,7 @@ impl<S: Alter + Drop> Consulted for Registry<S> {
         ensures own { Answers S.Store self.old self.new result
             (λ h items. map pair_of items.items
             ≡ children_of (option_map path_text above) (items_of h)) }
-        ensures stays { kept_views self.new ≡ kept_views self.old }
+        ensures stays { LeavesUnread (kept_views self.old) (kept_views self.new) }
     {
         Registry::children(self, above)
     }
@@ -117,7 +117,7 @@ impl<S: Alter + Drop> Consulted for Registry<S> {
         ensures own { Answers S.Store self.old self.new result
             (λ h changes. page_of changes
             ≡ changes_in PAGE since (start_text (option_copied after.entry)) (views_of h)) }
-        ensures stays { kept_views self.new ≡ kept_views self.old }
+        ensures stays { LeavesUnread (kept_views self.old) (kept_views self.new) }
     {
         Registry::changes(self, since, after)
     }

@@ -18,9 +18,11 @@ ghost use Rattle.pid_tables.specs.Rows.Shows.{AreViews};
 ghost use Rattle.pid_service.specs.KeptViews.{HoldsWaiting, IsRightFor, KeepsNothing, nothing};
 ghost use Rattle.pid_service.specs.Steps.Obeying.{Follows, adds_number, writes_items as writes};
 
+use crate::changes::KeptChanges;
+use crate::top::top_after;
 use crate::waiting::add_number;
 use pid_lookup::NameCache;
-use pid_moderation::{Change, Effect, State};
+use pid_moderation::{Change, Effect, Item, State};
 use std::alloc::{AllocError, Global};
 
 /// Views of the items that the tables show, or nothing: the names that were asked for last, 1,024
@@ -31,11 +33,14 @@ pub struct KeptItems {
     pub(crate) text: Option<Vec<u8>>,
 }
 
-/// Views of the history that the tables show, or nothing: those of the items, and the numbers of
-/// what is pending, rising, 1,000,000 at most.
+/// Views of the history that the tables show, or nothing: those of the items, the vendors and the
+/// classes with their names, the items that were changed last, 99 at most, and the numbers of what
+/// is pending, rising, 1,000,000 at most.
 #[derive(Drop)]
 pub struct KeptViews {
     pub(crate) items: KeptItems,
+    pub(crate) top: Option<Vec<Item>>,
+    pub(crate) changes: Option<KeptChanges>,
     pub(crate) pending: Option<Vec<u32>>,
     /// Whether the numbers were read. If none are kept then, they were too many, or memory ran out.
     pub(crate) pending_read: bool,
@@ -45,6 +50,8 @@ fn writes_items(effect: &Effect) -> bool
     ensures told { result ≡ writes effect.now }
     ensures spares { (n : ℕ) (v : Views) → result ≡ false
         → (affected n effect.now v).items ≡ v.items }
+    ensures numbers { (n : ℕ) (v : Views) → result ≡ false
+        → (affected n effect.now v).since ≡ v.since }
 {
     match effect {
         Effect::Decided { write, .. } => write.is_some(),
@@ -105,6 +112,8 @@ impl KeptViews {
                 names: NameCache::new(alloc)?,
                 text: None,
             },
+            top: None,
+            changes: None,
             pending: None,
             pending_read: false,
         })
@@ -115,12 +124,15 @@ impl KeptViews {
         ensures { KeepsNothing self.new }
     {
         self.items.clear();
+        self.top = None;
+        self.changes = None;
         self.pending = None;
         self.pending_read = false;
     }
 
-    /// Follows a change: what is kept of the items is dropped if it writes one, and the number of a
-    /// submission is added when it is made, and taken away when it is decided.
+    /// Follows a change: what is kept of the items and the changed items are dropped if it writes
+    /// one, and the vendors and the classes if it writes one of them; the number of a submission is
+    /// added when it is made, and taken away when it is decided.
     pub(crate) fn follow(&mut self, change: &Change)
         ensures right { (v : Views) → AreViews v → FitsViews change.now v → IsRightFor self.old v
             → IsRightFor self.new (changed change.now v) }
@@ -131,9 +143,12 @@ impl KeptViews {
     {
         let numbers = self.pending.take();
         self.pending = waiting_after(numbers, &change.effect);
+        let top = self.top.take();
+        self.top = top_after(top, &change.effect);
         if !writes_items(&change.effect) {
             return;
         }
         self.items.clear();
+        self.changes = None;
     }
 }

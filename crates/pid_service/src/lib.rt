@@ -1,6 +1,7 @@
 //! The registry: each command is one transaction on its tables.
 #![tactic(auto)]
 
+mod changes;
 mod closing;
 mod consulted;
 mod export_sink;
@@ -22,6 +23,7 @@ mod reading;
 mod registry;
 mod running;
 mod status;
+mod top;
 mod waiting;
 mod writing;
 

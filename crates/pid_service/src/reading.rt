@@ -9,9 +9,10 @@ ghost use Rattle.pid_moderation.specs.Children.{children_of};
 ghost use Rattle.pid_moderation.specs.Submissions.{discussion_in, discussion_of};
 ghost use Rattle.pid_moderation.specs.SubmissionPages.{submission_page_of, submissions_of};
 ghost use Rattle.pid_service.specs.Asking.{Answers, AnswersIfThere};
-ghost use Rattle.pid_service.specs.KeptViews.{kept_views};
+ghost use Rattle.pid_service.specs.KeptViews.{LeavesUnread, kept_views};
 ghost use Rattle.pid_service.specs.Steps.Asking.{answered_as};
 
+use crate::changes::{kept_after, kept_page};
 use crate::laws;
 use crate::registry::Registry;
 use pid_ident::{Account, Name, Path};
@@ -61,19 +62,22 @@ impl<S: Alter + Drop> Registry<S> {
     }
 
     /// The items directly below a path in the canonical order, which puts the generic subsystems of
-    /// a vendor after its devices; without a path the vendors and the classes. Below a path that
-    /// has no item there is none.
+    /// a vendor after its devices; without a path the vendors and the classes, which are kept in
+    /// memory until one of them is written. Below a path that has no item there is none.
     pub fn children(&mut self, above: Option<Path>) -> Result<Vec<Item>, Refusal>
         ensures answers { Answers S.Store self.old self.new result
             (λ h items. map pair_of items.items
             ≡ children_of (option_map path_text above) (items_of h)) }
-        ensures stays { kept_views self.new ≡ kept_views self.old }
+        ensures stays { LeavesUnread (kept_views self.old) (kept_views self.new) }
     {
         if !self.live {
             return Err(Refusal::Failed);
         }
         laws::reached_histories_are_kept(); // proof only
-        or_refusal(self.tables.children(self.alloc, above))
+        match above {
+            None => self.top(),
+            Some(_) => or_refusal(self.tables.children(self.alloc, above)),
+        }
     }
 
     /// The submission with the number, as it is now, and the remarks on it in their order.
@@ -124,17 +128,21 @@ impl<S: Alter + Drop> Registry<S> {
     /// then from the last path of a page, the pages go through all of them. Items that were removed
     /// are left out. With them the revision at which they were read; if `since` is not below it,
     /// the items are not looked at.
+    ///
+    /// A first page that is not full is kept in memory until an item is written, if memory is there
+    /// for it: then no later question with the same number or a greater one reads the items.
     pub fn changes(&mut self, since: u64, after: Option<&Path>) -> Result<Changes, Refusal>
         ensures answers { Answers S.Store self.old self.new result
             (λ h changes. page_of changes
             ≡ changes_in PAGE since (start_text (option_copied after.entry)) (views_of h)) }
-        ensures stays { kept_views self.new ≡ kept_views self.old }
+        ensures stays { LeavesUnread (kept_views self.old) (kept_views self.new) }
     {
         if !self.live {
             return Err(Refusal::Failed);
         }
         laws::reached_histories_are_kept(); // proof only
         pid_moderation::laws::sinces_are_last_changes(); // proof only
+        let start = after.copied();
         match revision(&mut self.tables.conn) {
             Err(fault) => Err(refusal_of(fault)),
             Ok(revision) => {
@@ -142,7 +150,18 @@ impl<S: Alter + Drop> Registry<S> {
                     let items = Vec::new(self.alloc);
                     return Ok(Changes { revision, items });
                 }
-                or_refusal(self.tables.changes_page(self.alloc, since, after))
+                if let Some(items) = kept_page(self.alloc, &self.kept.changes, since, start) {
+                    return Ok(Changes { revision, items });
+                }
+                match self.tables.changes_page(self.alloc, since, after) {
+                    Ok(changes) => {
+                        let kept = self.kept.changes.take();
+                        let page = changes.items.as_slice();
+                        self.kept.changes = kept_after(self.alloc, kept, since, start, page);
+                        Ok(changes)
+                    }
+                    Err(fault) => Err(refusal_of(fault)),
+                }
             }
         }
     }

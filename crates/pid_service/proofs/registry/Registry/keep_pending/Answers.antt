@@ -28,12 +28,13 @@ returns-in-Ok-clause-answers g c =
       leaves = record {
         names = refl;
         text = λ some. refl;
+        top = λ some. refl;
         pending = λ some. true_not (is_some c.args.self.now.kept.pending) some (sym c.is_some.ensures ∙ c.if-is_some.false);
         read = λ was. true_not c.args.self.now.kept.pending_read was c.if-self.false;
       };
       told = λ clean h shows.
           let kept = shows.kept (rests.clean clean) in
-          (tt, record { lives = shows.lives; history = shows.history; tables = rests.kept (views_of h) shows.tables; kept = λ still. record { names = kept.names; text = kept.text; pending = c.in-Ok.ensures.told clean (views_of h) shows.tables } });
+          (tt, record { lives = shows.lives; history = shows.history; tables = rests.kept (views_of h) shows.tables; kept = λ still. record { names = kept.names; text = kept.text; top = kept.top; changes = kept.changes; pending = c.in-Ok.ensures.told clean (views_of h) shows.tables } });
       caused = λ clean h shows. tt;
     }
 
@@ -48,10 +49,10 @@ returns-in-Err-Memory-clause-answers g c =
       fault = tt;
       lives = refl;
       rests = rests;
-      leaves = record { names = refl; text = λ some. refl; pending = λ some. refl; read = λ was. (refl, refl) };
+      leaves = record { names = refl; text = λ some. refl; top = λ some. refl; pending = λ some. refl; read = λ was. (refl, refl) };
       told = λ clean h shows.
           let kept = shows.kept (rests.clean clean) in
-          (tt, record { lives = shows.lives; history = shows.history; tables = rests.kept (views_of h) shows.tables; kept = λ still. record { names = kept.names; text = kept.text; pending = kept.pending } });
+          (tt, record { lives = shows.lives; history = shows.history; tables = rests.kept (views_of h) shows.tables; kept = λ still. record { names = kept.names; text = kept.text; top = kept.top; changes = kept.changes; pending = kept.pending } });
       caused = λ clean h shows. tt;
     }
 

@@ -7,7 +7,7 @@ use Rattle.pid_service.proofs.registry.Registry.lookup.Goals as goal
 
 pub returns : goal.returns
 returns g c =
-    let start : OnlyAsked g.S.Store c.args.self.now c.args.self.now = record { lives = refl; rests = nothing_read (state g.S.Store c.args.self.now.tables.conn) c.args.self.now.settled; failed = λ off. refl; spares = record { text = refl; pending = refl; read = refl } } in
+    let start : OnlyAsked g.S.Store c.args.self.now c.args.self.now = record { lives = refl; rests = nothing_read (state g.S.Store c.args.self.now.tables.conn) c.args.self.now.settled; failed = λ off. refl; spares = record { text = refl; top = refl; pending = refl; read = refl } } in
     let asked = c.lookup.ensures.kept.asked c.args.self.now start in
     record {
       failed = true_not c.args.self.now.live c.if-not-self.false;
