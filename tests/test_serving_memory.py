@@ -115,7 +115,8 @@ def bodies(measured, folder):
         bad_text = reply("400 Bad Request", JSON, refusal(3, "BadText"))
         took, back = server.raised(posted("/comment", "root", MANY_FIELDS))
         measured.cases.equal("memory: a form of many fields", back, bad_text)
-        measured.row("a form of many fields", took, LONGEST // KIB, 2 * LONGEST // KIB)
+        # Its body is held; part of that may be room which the file before it left.
+        measured.row("a form of many fields", took, LONGEST // KIB // 2, 2 * LONGEST // KIB)
         took, back = server.raised(posted("/comment", "root", FORM))
         measured.cases.equal("memory: a form", back, bad_text)
         measured.row("a form, which is held,", took, LONGEST // KIB, 4 * LONGEST // KIB)
