@@ -5,6 +5,7 @@ import { recordOf } from "../known.js";
 import { chainOf, kindOf, stateMark, wishOf } from "../parts.js";
 import { hrefOf, wholeNumber } from "../paths.js";
 import { shown } from "../shown.js";
+import { changedSince, changedWords } from "../stale.js";
 import { submissionsFor } from "../submissions.js";
 import { STATES } from "../words.js";
 
@@ -31,7 +32,9 @@ export function aboutProposal(it, now, { rivals, nameOf }) {
   const record = el("span", {}, " …");
   recordOf(it.author).then((its) => fill(record, ` ${recordWords(its)}`));
   const before = el("div", { class: "before" });
+  const since = el("dl", { class: "facts since" });
   showBefore(it, before);
+  changedSince(it).then((its) => fill(since, changedWords(its).map((words) => row(...words))));
   const above = chainOf(it.path, (path) => nameOf(path) ?? undefined).slice(0, -1);
   return [el("dl", { class: "facts" },
     row(kindOf(it.path), above, " ", link(hrefOf(it.path), el("code", {}, wholeNumber(it.path)))),
@@ -40,7 +43,7 @@ export function aboutProposal(it, now, { rivals, nameOf }) {
     row("Note", it.note === "" ? "–" : shown(it.note)),
     rivals.length ? row("For this number", rivalRows(it, rivals)) : null,
     row("Comments", link(`/proposals/${it.num}`, it.remarks ? several(it.remarks, "comment")
-      : "none yet: comment"))), before];
+      : "none yet: comment"))), since, before];
 }
 
 // Side by side with the others that are for the same number.

@@ -15,8 +15,8 @@ import { rankFor, spoken, wholeNumber, withParents } from "../paths.js";
 import { noteReason, readyReasons } from "../reasons.js";
 import { dropSent, SentForm } from "../sent.js";
 import { compared, shown } from "../shown.js";
+import { changedSince, changedWords } from "../stale.js";
 import { steadyButton } from "../steady.js";
-import { submissionsFor } from "../submissions.js";
 import { RANKS, refusalWords, STATES } from "../words.js";
 import { textFault } from "./proposing.js";
 
@@ -34,7 +34,7 @@ export default async function proposal({ number, again }) {
   const it = answer.value;
   const chain = withParents(it.path);
   const [since, changes, ...answers] = await Promise.all([
-    approvedAfter(it), it.state === "approved" ? changesOf(topOf(it.path)) : null,
+    changedSince(it), it.state === "approved" ? changesOf(topOf(it.path)) : null,
     ...chain.map((path) => ask(`/read/${path}`)),
   ]);
   const change = changes?.findLast((one) => one.num === it.num && one.path === it.path);
@@ -57,13 +57,6 @@ export default async function proposal({ number, again }) {
   ];
 }
 
-// What was approved for the same number since it was proposed: its author hadn't seen that name.
-async function approvedAfter({ num, path, state }) {
-  if (state !== "pending") return [];
-  const { value } = await submissionsFor(path);
-  return (value?.submissions ?? []).filter((it) => it.num > num && it.state === "approved");
-}
-
 const dated = (time) => (time ? [", ", when(time)] : null);
 
 function facts(it, names, { since, dates, change }) {
@@ -77,9 +70,7 @@ function facts(it, names, { since, dates, change }) {
       now === undefined ? null : [" ", el("code", {}, wholeNumber(it.path))]),
     it.state === "pending" && was ? row("Now", el("del", {}, was)) : null,
     row(it.name === null ? "Removal" : "Name", el("ins", { class: "proposed" }, wish)),
-    since.length ? row("Since then", el("span", { class: "fault" }, "Changed since it was"
-      + " proposed: "), since.map(({ num, name }) => [link(`/proposals/${num}`, `#${num}`), " ",
-      wishOf(name), " was approved. "])) : null,
+    changedWords(since).map((words) => row(...words)),
     change?.was ? row("Before", el("del", {}, shown(change.was)), " ",
       restoreLink(it.path, change.was, "Restore the former name")) : null,
     row("By", link(`/decided?author=${it.author}`, it.author), dated(dates.proposed(it.num))),

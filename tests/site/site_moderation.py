@@ -91,6 +91,18 @@ def narrowed(cases, world, browser):
     browser.go(f"/proposals/{stale}")
     told = browser.has(f"Changed since it was proposed: #{later} The name of today was approved")
     cases.equal("moderation: stale on its own page", told, True)
+    imported = world.submit("alice", "PC/8086/0007", "Before an import")
+    was = world.ask("/read/PC/8086/0007")["name"]
+    world.publish(1_800_000_000)
+    world.ask("/import", b"8086  Intel Corporation\n\t0007  Of an import\n")
+    world.publish(1_800_086_400)
+    for page in (f"/proposals/{imported}", "/queue"):
+        browser.go(page)
+        if page == "/queue":
+            browser.click(f"{row_of(imported)} .opener")
+        told = browser.has(f"Its author saw\n{was}"), browser.has("by an import")
+        cases.equal(f"moderation: what its author saw, {page[:6]}", told, (True, True))
+    world.ask("/withdraw", {"num": imported}, "alice")
     return stale
 
 
