@@ -38,9 +38,6 @@ class Cases:
         self.left_out += 1
         self.reasons.append(f"{name}: {why}")
 
-    def counts(self):
-        return self.passed, self.failed, self.left_out
-
 
 def last_line(passed, failed, left_out):
     """The last line of a run."""
