@@ -27,7 +27,7 @@ AT_ONCE = AT_ONCE.split()
 ALONE = "progress serving serving_memory".split()
 # What site_parts tries, several at a time.
 OF_SITE = (
-    "site_reader site_joining site_moderation site_history site_pastes site_story"
+    "site_reader site_first site_joining site_moderation site_history site_pastes site_story"
     " site_once site_kept site_safety site_access site_firefox"
 ).split()
 

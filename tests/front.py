@@ -172,10 +172,20 @@ def pages(cases, front):
         ("/history/2026-11.jsonl", 200, "text/plain; charset=utf-8"),
         ("/history/PC/8086.jsonl", 200, "text/plain; charset=utf-8"),
         ("/feeds/changes.atom", 200, "application/atom+xml; charset=utf-8"),
+        ("/opensearch.xml", 200, "application/opensearchdescription+xml"),
+        ("/names/8086", 404, "text/html"),
         ("/history/.names", 404, "text/html"),
         ("/history/PC/..%2f.names", 404, "text/html"),
     ):
         cases.equal(f"front: {path}", front.curl(path, *page)[:2], (status, kind))
+    told = front.curl("/sitemap.xml")[1:]
+    want = b"<loc>https://pciids.example.org/sitemap-1.xml</loc>"
+    cases.equal("front: the map of the site", told, ("text/xml", want))
+    told = front.curl("/robots.txt")[2].splitlines()[-1]
+    cases.equal("front: where it is", told, b"Sitemap: https://pciids.example.org/sitemap.xml")
+    told = front.curl("/opensearch.xml")[2]
+    told = b'template="https://pciids.example.org/search?q={searchTerms}"' in told
+    cases.equal("front: the search", told, True)
     told = front.curl("/vendors", *page)[2]
     cases.equal("front: the published list of vendors", b"<h1>Vendors</h1>" in told, True)
     there = front.curl("/vendors/", "-i", "-H", "Host: evil.example")[2].lower()

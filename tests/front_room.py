@@ -143,6 +143,7 @@ class Front:
             self.write(f"public/{it}", "{}")
         os.mkdir(os.path.join(folder, "accounts"))
         self.write("accounts/passwords", "".join(f"{it}:{hashed(f'pw-{it}')}\n" for it in PEOPLE))
+        self.write("public/sitemap.xml", "<loc>https://site.invalid/sitemap-1.xml</loc>")
         self.write("host.conf", f"server_name {HOST};\n{host}\n")
         self.certificate = certificate(folder)
         self.contexts = {}

@@ -148,16 +148,19 @@ def pages(cases, press):
                     True)
     page = press.read("item/PC/8086/1237.html")
     for part in (
-        "<title>8086/1237 440FX &lt;b&gt;[U+202E]</title>",
-        "<h1>440FX &lt;b&gt;[U+202E]</h1>",
-        "<pre>\t1237  440FX &lt;b&gt;[U+202E]</pre>",
-        '<a href="/propose?path=PC/8086/1237">',
-        "<li>1af4 1100 Qemu</li>",
-        '<a href="/item/PC/8086">Intel</a>',
+        "<title>8086:1237 440FX &lt;b&gt;[U+202E] · Intel · PCI ID registry</title>",
+        '<meta name="description" content="8086:1237 440FX &lt;b&gt;[U+202E] · Intel: its name',
+        '<link rel="canonical" href="/item/PC/8086/1237">',
+        '<h1 tabindex="-1"><bdi>440FX &lt;b&gt;[U+202E]</bdi></h1>',
+        "<pre>\t<bdi>1237  440FX &lt;b&gt;[U+202E]</bdi></pre>",
+        '<a class="button" href="/propose?path=PC/8086/1237">',
+        '<a href="/item/PC/8086/1237/1af41100"><code>1af4 1100</code> <bdi>Qemu</bdi></a></li>',
+        '<a href="/item/PC/8086"><code>8086</code> <bdi>Intel</bdi></a>',
     ):
         cases.equal(f"publish: a page has {part}", part in page, True)
     cases.equal("publish: no markup of a name", "<b>" in page, False)
-    generic = "<h2>Generic subsystems</h2>\n<ul>\n<li>1100 Generic</li>"
+    generic = ('<h2>Generic subsystems</h2>\n<ol class="items">\n'
+               '<li><a href="/item/PS/1af4/1100"><code>1100</code> <bdi>Generic</bdi></a></li>')
     cases.equal("publish: generic ones", generic in press.read("item/PC/1af4.html"), True)
     cases.equal("publish: 404", "No such page" in press.read("404.html"), True)
 
@@ -180,12 +183,12 @@ def lines(cases, press):
     before = press.shell(find)[1]
     cases.equal("publish: line separators in a name", press.run(LINES)[0], 0)
     cases.equal("publish: no other page", press.shell(find)[1], before)
-    shown = "<h1>Intel[U+2028]../../escaped  &lt;b&gt;[U+0085][U+0009]0000  One[U+2029]"
+    shown = "<bdi>Intel[U+2028]../../escaped  &lt;b&gt;[U+0085][U+0009]0000  One[U+2029]"
     cases.equal("publish: they are shown", shown in press.read("item/PC/8086.html"), True)
     marks = "e" + "\u0301" * 300
     status = press.run(TEXT.replace("  Intel\n", f"  \u0406ntel \uff29 {marks}t\u00e9\n"))[0]
-    shown = ("<h1>\u0406[U+0406]ntel \uff29[U+FF29] e" + "\u0301[U+0301]" * 2
-             + "[+298 marks]t\u00e9</h1>")
+    shown = ("<bdi>\u0406[U+0406]ntel \uff29[U+FF29] e" + "\u0301[U+0301]" * 2
+             + "[+298 marks]t\u00e9</bdi></h1>")
     cases.equal("publish: what passes for another letter", (status, shown in press.read(
         "item/PC/8086.html")), (0, True))
     status, told = press.run(f"{TEXT}9999 no name\n")
@@ -207,7 +210,7 @@ def run(cases):
     with tempfile.TemporaryDirectory() as folder:
         press = Press(folder)
         status, told = press.run(TEXT)
-        told = told.startswith("published: names 0 added, 0 renamed, 0 removed; pages 8 written")
+        told = told.startswith("published: names 0 added, 0 renamed, 0 removed; pages 12 written")
         cases.equal("publish: the first run", (status, told), (0, True))
         tools(cases, press)
         pages(cases, press)

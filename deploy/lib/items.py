@@ -88,4 +88,6 @@ def shown_cell(found):
 
 def shown(text):
     """A name as text of a page."""
+    if text.isascii() and text.isprintable():
+        return html.escape(text)
     return CELL.sub(shown_cell, text)

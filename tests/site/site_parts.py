@@ -9,7 +9,8 @@ from concurrent.futures import ThreadPoolExecutor
 import program
 
 TOGETHER = ("site_once", "site_kept", "site_reader", "site_joining", "site_moderation",
-            "site_history", "site_pastes", "site_safety", "site_story", "site_firefox")
+            "site_history", "site_first", "site_pastes", "site_safety", "site_story",
+            "site_firefox")
 ALONE = ("site_access",)
 AT_ONCE = 3
 SECONDS = 900

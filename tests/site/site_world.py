@@ -322,7 +322,7 @@ class World:
             shutil.copy(os.path.join(program.TOP, "deploy", "mirror.sh"), f"{lib}/mirror")
             for it in (copy, there):
                 os.mkdir(it)
-            for it in ("history", "feeds"):
+            for it in ("history", "feeds", "names", "leaf.html"):
                 os.symlink(f"{there}/{it}", f"{self.folder}/public/{it}")
         words = [f"{lib}/publish", f"http://127.0.0.1:{self.server.port}", copy, there, SITE]
         clock = {} if seconds is None else {"PCIIDS_NOW": str(int(seconds))}
