@@ -6,7 +6,7 @@ import sys
 
 import pytest
 
-from gate import Relay, counted
+from gate import counted
 from program import TOP
 
 HERE = os.path.join(TOP, "tests")
@@ -144,34 +144,6 @@ def frame(folder):
 @pytest.mark.parametrize("line", LAST_LINES)
 def test_last_lines(cases, line):
     cases.equal(f"gate: the last line {line!r}", counted(line), LAST_LINES[line])
-
-
-class Told:
-    """A clock that keeps what it is to say."""
-
-    def __init__(self):
-        self.lines = []
-
-    def say(self, text):
-        self.lines.append(text)
-
-
-BY_NAME = (
-    "rt: must-fail pid_x/one.edit: refused, as it must be (only because a proof file names what"
-    " the edit took away, so this says little of the contract: change a value and keep the names):"
-    " ./proofs/one/Answers.antt:3:1: error: `it` is not in scope"
-)
-BY_VALUE = "rt: must-fail pid_x/two.edit: refused, as it must be: src/lib.rt:3:1: error: a clause"
-
-
-def test_edits(cases):
-    """An edit that is refused for a name alone is a failure of the gate."""
-    clock = Told()
-    relay = Relay(clock, None)
-    for text in (BY_VALUE, BY_NAME, BY_VALUE):
-        relay.line(text)
-    cases.equal("how many are refused", (relay.refused, relay.by_name), (2, 1))
-    cases.equal("what is said", clock.lines, [f"FAILED: {BY_NAME}"])
 
 
 def test_broken_parts(cases, frame):
