@@ -220,6 +220,8 @@ def test_lost_replies(cases, unit):
             first = unit.join(name)
             unit.fake.cut = None
             broken += first == 503
+            # What follows the question goes over its connection or not at all.
+            cases.equal(f"{name}, cut at {size}", first == 503 or number == 1, True)
             cases.equal(f"{name}, cut at {size}: again", (first in (200, 503), unit.join(name)),
                         (True, 200))
             cases.equal(f"{name}: acts once", [it for it in unit.fake.commands if it[0] == name],
@@ -344,9 +346,12 @@ def test_adduser(cases, unit):
     got = status, unit.fake.accounts["guestax"], unit.lines()["guestax"].startswith("{SSHA}")
     cases.equal("but for whom one knows", got, (0, 1, True))
     unit.asked("POST", "/session", account="guestbx")
-    status, told = adduser(unit, "--new-password", "--joined", "guestbx", "0")
+    unit.fake.accounts["guestbx"] = 1
+    status, told = adduser(unit, "--new-password", "guestbx")
     got = status, unit.lines()["guestbx"].startswith("$5$"), unit.sessions()
     cases.equal("a password that was lost", got, (0, True, []))
+    cases.equal("and no rank", unit.fake.accounts["guestbx"], 1)
+    cases.equal("of nobody", adduser(unit, "--new-password", "ghost")[0], 2)
     unit.asked("POST", "/session", account="guestbx")
     cases.equal("a lock", adduser(unit, "--lock", "guestbx"), (0, "guestbx: is locked now\n"))
     got = unit.sessions(), unit.status("POST", "/session", account="guestbx")
@@ -354,7 +359,7 @@ def test_adduser(cases, unit):
     cases.equal("twice", adduser(unit, "--lock", "guestbx"), (0, "guestbx: was locked before\n"))
     told = adduser(unit, "--list")[1].splitlines()
     today = time.strftime("%Y-%m-%d", time.gmtime())
-    want = [f"guestax 1 open joined {today}", f"guestbx 0 locked joined {today}", "hosta 1 open"]
+    want = [f"guestax 1 open joined {today}", f"guestbx 1 locked joined {today}", "hosta 1 open"]
     cases.equal("the list", [it for it in want if it not in told], [])
     cases.equal("open again", adduser(unit, "--unlock", "guestbx")[0], 0)
     unit.asked("POST", "/leave", account="guestcx")

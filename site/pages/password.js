@@ -11,23 +11,30 @@ import { basicOf, secretOf, verifierOf } from "../passwords.js";
 import { isDead, setDead, steadyButton } from "../steady.js";
 import { answerWords } from "../words.js";
 
-function presentBox(id) {
-  const box = el("input", {
-    id, type: "password", autocomplete: "current-password", required: true, maxlength: 200,
+// A form that carries something out with the present password, and says what came of it.
+function presentForm({ front, more, words, kind, call }) {
+  const place = el("div", { class: "said" });
+  const present = el("input", {
+    id: `${front}-present`, type: "password", autocomplete: "current-password", required: true,
+    maxlength: 200,
   });
-  return [box, el("p", {}, el("label", { for: id }, "Present password"), box)];
-}
-
-// Carries something out with the present password.
-async function carried(button, place, present, call) {
-  if (isDead(button)) return;
-  setDead(button, true);
-  fill(place);
-  const name = account();
-  const proof = await proofOf(name, present);
-  const answer = proof.value ? await call(name, proof.value) : proof;
-  setDead(button, false);
-  if (!answer.value) fill(place, faultWords(answerWords(answer)));
+  const button = steadyButton(kind ? { class: kind } : {}, words);
+  const submit = async (event) => {
+    event.preventDefault();
+    if (isDead(button)) return;
+    setDead(button, true);
+    fill(place);
+    const name = account();
+    const proof = await proofOf(name, present.value);
+    const answer = proof.value ? await call({
+      name, headers: proof.value, typed: present.value, place,
+    }) : proof;
+    setDead(button, false);
+    if (!answer.value) fill(place, faultWords(answerWords(answer)));
+  };
+  return el("form", { onsubmit: submit },
+    el("p", {}, el("label", { for: present.id }, "Present password"), present), more,
+    el("p", { class: "buttons" }, button), place);
 }
 
 // Where no answer came, the new password tells whether it was done.
@@ -40,59 +47,42 @@ async function changed(name, headers, password) {
 }
 
 function changeForm() {
-  const place = el("div", { class: "said" });
-  const [present, row] = presentBox("password-present");
   const box = passwordBox("password", "New password");
-  const button = steadyButton({ class: "main" }, "Change it");
-  const submit = (event) => {
-    event.preventDefault();
-    carried(button, place, present.value, async (name, headers) => {
-      const [answer, secret] = await changed(name, headers, box.value());
-      if (!answer.value) return answer;
-      await box.offer(name);
-      await logIn({ name, password: secret, stays: true, isBusy: true, isWanted: () => true });
-      tell("The password is another one now. Other log-ins have ended.", 8);
-      fill(place, el("p", { class: "good" }, "Done."));
-      return answer;
-    });
+  const call = async ({ name, headers, place }) => {
+    const [answer, secret] = await changed(name, headers, box.value());
+    if (!answer.value) return answer;
+    await box.offer(name);
+    await logIn({ name, password: secret, stays: true, isBusy: true, isWanted: () => true });
+    tell("The password is another one now. Other log-ins have ended.", 8);
+    fill(place, el("p", { class: "good" }, "Done."));
+    return answer;
   };
-  return el("form", { onsubmit: submit }, row, box.element, el("p", { class: "buttons" }, button),
-    place);
+  return presentForm({
+    front: "password", more: box.element, words: "Change it", kind: "main", call,
+  });
 }
 
 function leaveForm(go) {
-  const place = el("div", { class: "said" });
-  const [present, row] = presentBox("leave-present");
-  const button = steadyButton({}, "Leave for good");
-  const submit = (event) => {
-    event.preventDefault();
-    carried(button, place, present.value, async (name, headers) => {
-      const answer = await send("/leave", headers);
-      if (!answer.value) return answer;
-      dropAccount(name);
-      tell(`${name} can't log in any more.`, 8);
-      go("/");
-      return answer;
-    });
+  const call = async ({ name, headers }) => {
+    const answer = await send("/leave", headers);
+    if (!answer.value) return answer;
+    dropAccount(name);
+    tell(`${name} can't log in any more.`, 8);
+    go("/");
+    return answer;
   };
-  return el("form", { onsubmit: submit }, row, el("p", { class: "buttons" }, button), place);
+  return presentForm({ front: "leave", words: "Leave for good", call });
 }
 
 // Programs send what pages send: a password that was chosen they need in that form.
 function forPrograms() {
-  const told = el("p", { class: "said" });
-  const [present, row] = presentBox("programs-present");
-  const button = steadyButton({}, "Show it");
-  const submit = (event) => {
-    event.preventDefault();
-    carried(button, told, present.value, async (name, headers) => {
-      const secret = await secretOf(name, present.value);
-      const isSent = headers.Authorization === basicOf(name, secret);
-      fill(told, el("code", {}, `${name}:${isSent ? secret : present.value}`));
-      return { value: true };
-    });
+  const call = async ({ name, headers, typed, place }) => {
+    const secret = await secretOf(name, typed);
+    const isSent = headers.Authorization === basicOf(name, secret);
+    fill(place, el("code", {}, `${name}:${isSent ? secret : typed}`));
+    return { value: true };
   };
-  return el("form", { onsubmit: submit }, row, el("p", { class: "buttons" }, button), told);
+  return presentForm({ front: "programs", words: "Show it", call });
 }
 
 /** The page. */

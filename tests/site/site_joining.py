@@ -1,5 +1,7 @@
 """Strangers join by themselves: from a form that is filled to a proposal; a lost reply and a reload
 join once; log-ins on another computer, another password, a lock, and leaving."""
+from http_server import ask_curl
+from site_access import CHECK, CONTRAST, LEAST, SIZES, WIDE
 from site_browser import Browser
 from site_world import World
 
@@ -61,6 +63,9 @@ def stranger(cases, world, browser):
 def names(cases, browser):
     """What is refused, with the reason."""
     browser.go("/join")
+    for name, script, words in (("labels", CHECK, ()), ("sizes", SIZES, ()), ("width", WIDE, ()),
+                                ("contrast", CONTRAST, (LEAST,))):
+        cases.equal(f"joining: {name} of the page", browser.js(script, *words) or [], [])
     for name, words in (("dora-x", "dora-x is taken"), ("adm1n", "adm1n is reserved"),
                         ("d0ra-x", "d0ra-x reads like dora-x"), ("a--b", "two hyphens")):
         join(browser, name)
@@ -113,13 +118,29 @@ def own(cases, browser):
     browser.click("form.join button.main")
     is_in(browser, "gerda")
     browser.go("/password")
+    browser.put("#programs-present", "my own words: 12345")
+    browser.js("document.getElementById('programs-present').form.requestSubmit()")
+    browser.has("gerda:")
+    found = browser.js("return [...document.querySelectorAll('main code')].at(-1).innerText")
+    told = ask_curl("-k", "-u", found, f"{browser.base}/whoami")
+    cases.equal("joining: what programs send", told[2], b'{"account":"gerda"}')
     browser.put("#password-present", "my own words: 12345")
+    new = browser.js("return document.getElementById('password-password').value")
     browser.click("form button.main")
     browser.has("Done.")
     out(browser)
     browser.click("#log")
     enter(browser, "gerda", "my own words: 12345")
     cases.equal("joining: the former one", browser.has("weren't accepted", "#dialog"), True)
+    browser.put("#log-password", new)
+    browser.type("#log-password", browser.keys.ENTER)
+    is_in(browser, "gerda")
+    browser.go("/password")
+    browser.put("#leave-present", new)
+    browser.js("document.getElementById('leave-present').form.requestSubmit()")
+    browser.wait(lambda: browser.text("#log") == "Log in", "gone")
+    told = ask_curl("-k", "-u", f"gerda:{new}", f"{browser.base}/whoami")
+    cases.equal("joining: who leaves", told[0], 401)
 
 
 def locked(cases, world, browser, password):

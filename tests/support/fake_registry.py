@@ -14,16 +14,26 @@ def text_of(told):
     return "ok\n" if told["ok"] else f"refused {told['refused']} {told['word']}\n"
 
 
-class FakeRegistry(threading.Thread):
+class Listener(threading.Thread):
+    """A server at a socket of the file system."""
+
     def __init__(self, path):
         super().__init__(daemon=True)
-        self.accounts, self.receipts, self.commands = {"root": 3}, {}, []
-        # After how many bytes of which response a connection ends; none does by default.
-        self.cut, self.answered = None, 0
-        self.listener = socket.socket(socket.AF_UNIX)
+        self.path, self.listener = path, socket.socket(socket.AF_UNIX)
         self.listener.bind(path)
         self.listener.listen(64)
         self.start()
+
+    def close(self):
+        self.listener.close()
+
+
+class FakeRegistry(Listener):
+    def __init__(self, path):
+        self.accounts, self.receipts, self.commands = {"root": 3}, {}, []
+        # After how many bytes of which response a connection ends; none does by default.
+        self.cut, self.answered = None, 0
+        super().__init__(path)
 
     def run(self):
         while True:
@@ -36,9 +46,6 @@ class FakeRegistry(threading.Thread):
                     self.serve(client)
                 except OSError:
                     pass
-
-    def close(self):
-        self.listener.close()
 
     def serve(self, client):
         """The requests of one connection, until its client closes it."""

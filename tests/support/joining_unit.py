@@ -14,6 +14,7 @@ import threading
 import time
 import urllib.parse
 
+from fake_registry import Listener
 from http_server import ask_curl, free_port
 from program import TOP
 
@@ -112,16 +113,12 @@ class Unit:
         return sorted(os.listdir(os.path.join(self.folder, "sessions")))
 
 
-class Way(threading.Thread):
+class Way(Listener):
     """The way from a socket to a port, as pciids-http.service is one."""
 
     def __init__(self, path, port):
-        super().__init__(daemon=True)
-        self.path, self.port = path, port
-        self.listener = socket.socket(socket.AF_UNIX)
-        self.listener.bind(path)
-        self.listener.listen(64)
-        self.start()
+        self.port = port
+        super().__init__(path)
 
     def run(self):
         while True:
