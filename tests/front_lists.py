@@ -19,7 +19,7 @@ BOUNDS = {
 KEPT, LONG = 2, 600
 LONGER = {
     "pciids_site": ((f"200 {KEPT}s", f"200 {LONG}s"),),
-    "pciids_limits": (("inactive=10s", f"inactive={LONG}s"),),
+    "pciids_limits": (("inactive=3s", f"inactive={LONG}s"),),
 }
 
 LISTS = ("/children", "/children?of=PC/8086", "/status", "/status?format=text",
@@ -85,19 +85,33 @@ def ends(cases, front, recorder):
     time.sleep(KEPT + 1)
     cases.equal("lists: after its time", (first, front.curl("/children")[2]),
                 (b'{"ok":true}', b"later"))
+    # While one asks for the next answer, which takes long, others have the one before.
+    time.sleep(KEPT + 0.2)
+    recorder.seconds, recorder.seen[:] = 2, []
+    told = many(front, "/children")
+    recorder.seconds = 0
+    # On a slow machine some may come after that answer's time, too.
+    got = told, len(recorder.seen) <= 3
+    cases.equal(f"lists: twelve after its time, {len(recorder.seen)}", got, ([200] * 12, True))
+
+
+def many(front, path):
+    """What twelve visitors are answered who ask at the same time."""
+    told = []
+    clients = [threading.Thread(target=lambda at=it: told.append(front.curl(
+        path, "--interface", f"127.0.8.{at}")[0])) for it in range(1, 13)]
+    for it in clients:
+        it.start()
+    for it in clients:
+        it.join()
+    return told
 
 
 def at_once(cases, front, recorder):
     """Of many who ask at the same time one is passed on, while the others wait."""
     recorder.answers["/children?of=PC/10de"] = (200, b"n" * 9)
     recorder.seen.clear()
-    told = []
-    clients = [threading.Thread(target=lambda at=it: told.append(front.curl(
-        "/children?of=PC/10de", "--interface", f"127.0.8.{at}")[0])) for it in range(1, 13)]
-    for it in clients:
-        it.start()
-    for it in clients:
-        it.join()
+    told = many(front, "/children?of=PC/10de")
     cases.equal("lists: twelve at once", (told, len(recorder.seen)), ([200] * 12, 1))
 
 

@@ -77,7 +77,7 @@ class Recorder(threading.Thread):
         super().__init__(daemon=True)
         self.listener = socket.create_server(("127.0.0.1", 0), backlog=256)
         self.port, self.seen = self.listener.getsockname()[1], []
-        self.answers = {}
+        self.answers, self.seconds = {}, 0
         self.start()
 
     def run(self):
@@ -93,6 +93,7 @@ class Recorder(threading.Thread):
         data = self.request(client)
         if data:
             self.seen.append(Request(data))
+            time.sleep(self.seconds)
             target = self.seen[-1].first.split(b" ")[1].decode()
             status, body = self.answers.get(target, (200, b'{"ok":true}'))
             head = f"HTTP/1.1 {status} -\r\nContent-Type: application/json\r\n"

@@ -66,7 +66,8 @@ def test_manual(cases):
     told = told.partition("Numbers that")[0]
     flags = dict(re.findall(r"\b([0-9ab]+)  +(.+?)(?=  |$)", told, re.M))
     cases.equal("the manual page: the help lists flags", len(flags), 11)
-    shown = dict(re.findall(r"^ +([0-9ab]+) +(\S.*)$", page, re.M))
+    table = page.partition("What to look up:")[2].partition("with the numbers in brackets")
+    shown = dict(re.findall(r"^ +([0-9ab]+) +(\S.*)$", table[0] + table[1], re.M))
     cases.equal("the manual page: the flags", {it: shown.get(it) for it in flags}, flags)
     words = words_of(run_program(b"", "--help").out.decode())
     cases.equal("the manual page: the help lists commands", len(words) > 5, True)
