@@ -232,9 +232,29 @@ def backups(cases):
         got = (it.keep(1)[0], it.kept())
         cases.equal("backup: one that does not open is not kept", got, (1, before))
         cases.equal("backup: nothing was copied", it.keep(1)[0], 1)
+    history(cases)
     large(cases)
     odd_files(cases)
     broken_tools(cases)
+
+
+def history(cases):
+    """The history of the published folder is in a copy, if there is one."""
+    with room() as it:
+        public = os.path.join(it.folder, "public")
+        words = (os.path.join(LIB, "backup"), "history", public, it.copies)
+        cases.equal("backup: a history without a copy", ran(*words)[0], 1)
+        it.copy()
+        cases.equal("backup: no history", ran(*words), (0, ""))
+        for name in ("history/2026-11.jsonl", "history/.names", "feeds/.id"):
+            os.makedirs(os.path.join(public, os.path.dirname(name)), exist_ok=True)
+            write(os.path.join(public, name), name)
+        cases.equal("backup: a history", (ran(*words), it.keep(2)[0]), ((0, ""), 0))
+        place = os.path.join(it.copies, it.kept()[0], "history.tar.gz")
+        status, told = ran("tar", "-tzf", place)
+        files = sorted(name for name in told.split() if not name.endswith("/"))
+        cases.equal("backup: its files", (status, files), (
+            0, ["feeds/.id", "history/.names", "history/2026-11.jsonl"]))
 
 
 def large(cases):

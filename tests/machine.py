@@ -330,7 +330,7 @@ def kept(story):
     story.works("a backup", "systemctl start pciids-backup")
     story.is_up("the server is back after a backup")
     copy = story.machine.run("ls /var/backups/pciids")[1].strip()
-    files = "pci.ids.gz\nregistry.db-wal.gz\nregistry.db.gz"
+    files = "history.tar.gz\npci.ids.gz\nregistry.db-wal.gz\nregistry.db.gz"
     story.same("what a copy is", f"ls /var/backups/pciids/{copy}", files)
     told = story.post("carl", "/submit", "path=PC/10ec&name=Realtek")
     story.cases.equal("machine: a later name", told, "ok 2")
