@@ -258,9 +258,10 @@ def moderated(story):
     story.same("the page of the vendor", f"{page} https://{HOST}/item/PC/8086", "200")
     story.same("the page of no vendor", f"{page} https://{HOST}/item/PC/8087", "404")
     story.same("a page of nothing", f"{page} https://{HOST}/nothing", "404")
-    where = f"{ASK_SITE} https://{HOST}/item/PC/8086 | grep -c '<h1>Intel</h1>'"
+    where = f"{ASK_SITE} https://{HOST}/item/PC/8086 | grep -c '<bdi>Intel</bdi></h1>'"
     story.same("the vendor's name is in it", where, "1")
-    where = f"{ASK_SITE} --compressed https://{HOST}/vendors | grep -c 'PC/8086.>8086</a> Intel'"
+    row = "PC/8086.><code>8086</code> <bdi>Intel"
+    where = f"{ASK_SITE} --compressed https://{HOST}/vendors | grep -c '{row}'"
     story.same("the list of vendors has it", where, "1")
 
 
