@@ -407,7 +407,7 @@ def at_its_pace(cases, folder):
     soon = {
         "pciids_limits": (("zone=pciids_texts:1m rate=6r/m", "zone=pciids_texts:1m rate=30r/m"),
                           ("zone=pciids_walks:1m rate=5r/s", "zone=pciids_walks:1m rate=1r/s"),
-                          ("    429 10;", "    429 2;")),
+                          ('"429 /pci.ids" 10;', '"429 /pci.ids" 2;')),
         "pciids_site": (("zone=pciids_walks burst=60", "zone=pciids_walks burst=4"),),
     }
     with Server(database) as server:
