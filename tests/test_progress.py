@@ -10,21 +10,13 @@ import pytest
 
 from program import HEADER, WHOLE
 from registry import bring_in
+from terminals import read_all
 
 LINES = [b"%04x  A vendor of the number %d\n" % (vendor, vendor) for vendor in range(20_000)]
 TEXT = b"".join(LINES)
 TOLD = rb"(\r%s: [0-9]{1,3}(,[0-9]{3})* lines)+\r +\r"
 # Longer than the time before progress is shown.
 PAUSE = 1.4
-
-
-def read_all(file, pieces):
-    """Reads a file to its end, or until the other side of the terminal is closed."""
-    try:
-        while piece := os.read(file, 65_536):
-            pieces.append(piece)
-    except OSError:
-        pass
 
 
 class Running:
