@@ -1,7 +1,7 @@
 """The wrong bodies (edits) of each crate, by the function that each one turns.
 
-`tests/edit_list.py` writes them between the marks of docs/PROOFS.md; run it after an edit was added
-or went. A test compares them.
+`tests/edit_list.py` writes their counts between the marks of docs/PROOFS.md; run it after an edit
+was added or went. A test compares them.
 """
 import os
 import re
@@ -43,7 +43,7 @@ def turned(crate, path):
     return (before[-1:] + after[:1] + [os.path.basename(file)])[0]
 
 
-def by_function(crate, folder="must-fail"):
+def by_function(crate, folder):
     """The edits of the gate, or those on demand, by the functions that they turn."""
     found = {}
     for path in edits(crate, folder):
@@ -54,21 +54,12 @@ def by_function(crate, folder="must-fail"):
 
 def page_part():
     """The part of docs/PROOFS.md between its marks."""
-    counts = {crate: (len(edits(crate, "must-fail")), len(edits(crate, "edits-on-demand")))
+    counts = {crate: [len(edits(crate, it)) for it in ("must-fail", "edits-on-demand")]
               for crate in crates()}
-    gate, others = (sum(it[at] for it in counts.values()) for at in (0, 1))
-    have = sum(it[0] > 0 for it in counts.values())
-    parts = [f"\nThe gate tries {gate} edits of {have} crates; "
-             f"{others} more are tried on demand.\n"]
-    parts.append("\n| crate | in the gate | on demand |\n|---|---|---|\n")
-    parts += [f"| `{crate}` | {it[0]} | {it[1]} |\n" for crate, it in counts.items() if any(it)]
-    parts.append("\nThe edits of the gate, by the function that each one turns:\n\n")
-    for crate in crates():
-        rows = [f"`{name}`: {', '.join(found)}" for name, found in by_function(crate).items()]
-        if rows:
-            lines = textwrap.wrap(f"- **{crate}**: {'; '.join(rows)}", 98, break_on_hyphens=False)
-            parts.append("\n  ".join(lines) + "\n")
-    return "".join(parts) + "\n"
+    gate, others = map(sum, zip(*counts.values()))
+    shown = ", ".join(f"`{crate}` {it[0]} and {it[1]}" for crate, it in counts.items() if any(it))
+    text = f"The gate tries {gate} edits, and {others} are tried on demand: {shown}."
+    return "\n" + textwrap.fill(text, 100, break_on_hyphens=False) + "\n\n"
 
 
 def shown_part():
