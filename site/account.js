@@ -103,8 +103,8 @@ export async function logIn({ name, password, stays, isBusy, isWanted }) {
     return answer;
   }
   keep("localStorage", ENDS, null);
-  keep("localStorage", PLACE, answer.value.account);
-  take(answer.value.account, isBusy);
+  keep("localStorage", PLACE, name);
+  take(name, isBusy);
   learnRank();
   return answer;
 }

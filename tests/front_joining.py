@@ -7,7 +7,7 @@ import tempfile
 
 from fake_registry import FakeRegistry
 from front_room import HOST, Front, Recorder, needed
-from joining_unit import Served, password, verifier
+from joining_unit import Served, password, settings, verifier
 
 # Shares that a test doesn't use up.
 AMPLE = {
@@ -23,7 +23,7 @@ SCARCE = {
         ("zone=pciids_logins:1m rate=1r/s", "zone=pciids_logins:1m rate=1r/m"),
     ),
 }
-SETTINGS = "joins-a-day = 8\njoins-an-hour = 100\ncontact = Ask us.\n"
+SETTINGS = settings(joins_a_day=8, joins_an_hour=100, contact="Ask us.")
 
 
 class Room:
@@ -32,7 +32,6 @@ class Room:
     def __init__(self, folder, **more):
         self.folder, self.recorder = folder, Recorder()
         own = f"{folder}/front"
-        os.makedirs(f"{own}/invites")
         # nginx may look into it, as the group of pciids-web.
         os.makedirs(f"{own}/join/sessions")
         self.registry = FakeRegistry(f"{folder}/http.sock")
@@ -41,8 +40,7 @@ class Room:
             file.write(SETTINGS)
         self.unit = Served({
             "PCIIDS_PASSWORDS": f"{own}/accounts/passwords", "PCIIDS_JOIN_CONF": f"{own}/join.conf",
-            "PCIIDS_INVITES": f"{own}/invites", "PCIIDS_JOIN_RUN": f"{own}/join",
-            "PCIIDS_SOCKET": f"{folder}/http.sock",
+            "PCIIDS_JOIN_RUN": f"{own}/join", "PCIIDS_SOCKET": f"{folder}/http.sock",
         })
         self.front = Front(own, self.recorder.port, join=self.unit.port, **more)
         self.here = ("-H", f"Origin: https://{HOST}:{self.front.port}",
@@ -82,8 +80,8 @@ class Room:
 
 def stranger(cases, room):
     """From nothing to a command, and out again."""
-    told = room.front.curl("/joining")[2]
-    want = b'{"ok": true, "door": "open", "contact": "Ask us.", "rules": ""}'
+    told = room.front.curl("/joining")
+    want = 200, "text/plain; charset=utf-8", SETTINGS.encode()
     cases.equal("joining: what is asked first", told, want)
     page = room.front.curl("/join", "-H", "Accept: text/html")
     cases.equal("joining: the page", (page[0], b"<main" in page[2]), (200, True))
@@ -183,7 +181,7 @@ def locked(cases, room):
     got = [room.sent_as(*room.by(session)), room.sent_as("-u", f"carl:{password()}")]
     cases.equal("joining: carl's commands", got, [(401, []), (401, [])])
     cases.equal("joining: carl's log-in", room.log_in("carl", password()), None)
-    cases.equal("joining: carl joins", room.join("carl"), 403)
+    cases.equal("joining: carl joins", room.join("carl"), 409)
     bob = room.log_in("bob", "pw-bob")
     cases.equal("joining: bob lets carl in", room.post("/unlock", "who=carl", *room.by(bob)), 200)
     cases.equal("joining: carl is back", room.sent_as("-u", f"carl:{password()}")[0], 200)

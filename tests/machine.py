@@ -215,7 +215,7 @@ def joined(story):
     by_session, by_password = "-b /srv/cookies -H 'X-As: dora'", f"-u dora:{password()}"
     story.same("sends a command by a session", f"{ask} {by_session} {command}", "404")
     story.same("and by a password", f"{ask} {by_password} {command}", "404")
-    story.same("a name that is there", f"{ask} {sent.replace('dora', 'anna')}", "400")
+    story.same("a name that is there", f"{ask} {sent.replace('dora', 'anna')}", "409")
     since = time.strftime("%Y-%m-%d", time.gmtime())
     want = f"anna 3 open\ncarl 0 open\ndora 0 open joined {since}"
     story.same("the list of accounts", "pciids-adduser --list", want)
@@ -234,7 +234,7 @@ def joined(story):
     story.works("by invitation alone", "sed -i 's/^door = .*/door = invitation/'"
                 " /etc/pciids/join.conf")
     story.same("who has one joins", f"{ask} {sent}", "200")
-    story.same("once", f"{ask} {sent.replace('fred', 'gina')}", "400")
+    story.same("once", f"{ask} {sent.replace('fred', 'gina')}", "403")
     story.same("it is used", "pciids-invite --list", "good: 0, used: 1")
     as_web = f"{by('pciids-join')} cat /etc/pciids/key.pem"
     story.fails("the key, by who joins people", f"{as_web} 2>&1")

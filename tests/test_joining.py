@@ -11,22 +11,23 @@ import subprocess
 import sys
 import threading
 import time
+import tokenize
 
 import pytest
 
 from fake_registry import FakeRegistry
 from http_server import Server
-from joining_unit import Unit, password, verifier
+from joining_unit import MODULES, PLACE, Unit, password, settings, verifier
 from program import TOP
 
 OTHERS = "anna:$5$rounds=1000$salt$x\nsam:$2y$04$abc\n# a comment: of the operator\nold:{SSHA}=\n"
-ANYBODY = "joins-a-day = 100000\njoins-an-hour = 100000\n"
+ANYBODY = {"joins_a_day": 100_000, "joins_an_hour": 100_000}
 
 
 @pytest.fixture
 def unit(folder):
     found = Unit(folder)
-    found.settings(ANYBODY)
+    found.settings(**ANYBODY)
     found.write(OTHERS)
     found.fake = FakeRegistry(found.registry)
     found.fake.accounts |= {"anna": 3, "sam": 2, "old": 0, "mona": 1}
@@ -93,7 +94,7 @@ def test_names(cases, unit):
 def test_verifiers(cases, unit):
     right = verifier("carl")
     for name, sent in {
-        "none": "", "a password": password(), "another name's": verifier("karl"),
+        "none": "", "a password": password(),
         "another scheme": right.replace("SSHA", "PLAIN"), "a colon": right[:-1] + ":",
         "a line feed": right + "\n", "a line": right + "\nroot:{PLAIN}x", "too long": right + "A",
         "too short": right[:-4], "a blank": right.replace("}", "} "), "bits beyond the last byte":
@@ -105,13 +106,12 @@ def test_verifiers(cases, unit):
     for sent in (b"name=carl&verifier=%ff%fe", b"name=%ff", b"\xff\xfe", b"=", b"name", b"&&"):
         got = raw(unit, sent)
         cases.equal(f"a body {sent!r}", got, 400)
-    cases.equal("a body of 4,097 bytes", raw(unit, b"a" * 4097), 413)
     cases.equal("nothing was done", (unit.fake.commands, others_stand(unit)), ([], True))
 
 
 def raw(unit, sent):
     environ = {"REQUEST_METHOD": "POST", "PATH_INFO": "/join", "CONTENT_LENGTH": str(len(sent)),
-               "wsgi.input": io.BytesIO(sent), "QUERY_STRING": ""}
+               "wsgi.input": io.BytesIO(sent), "HTTP_X_VISITOR": "192.0.2.1"}
     told = []
     unit.application(environ, lambda *it: told.extend(it))
     return int(told[0].split()[0])
@@ -231,7 +231,8 @@ def test_lost_replies(cases, unit):
 
 
 # The functions that do anything; the others only look.
-DOING = "join alone replace put admit take_invitation told set_own end log_in".split()
+DOING = ("join", "alone", "put", "admit", "take_invitation", "told", "end_sessions", "set_own",
+         "set_lock", "log_in", "log_out")
 
 
 def fresh(front, number):
@@ -378,7 +379,7 @@ def test_registry_away(cases, unit):
 
 
 def test_bounds(cases, unit):
-    unit.settings("joins-a-day = 12\n")
+    unit.settings(joins_a_day=12)
     got = [unit.join(f"p{it}q") for it in "abcd"]
     cases.equal("four of one address", got, [200, 200, 200, 429])
     cases.equal("what is there goes on", unit.join("paq"), 200)
@@ -387,28 +388,44 @@ def test_bounds(cases, unit):
     cases.equal("four of one network", got, [200, 200, 200, 429])
     got = [unit.join(f"t{'bcdefghjkm'[it]}u", visitor=f"198.51.100.{it}") for it in range(10)]
     cases.equal("ten addresses", got, [200] * 6 + [429] * 4)
-    unit.settings("joins-a-day = 0\n")
-    cases.equal("a closed door", unit.join("zed", visitor="198.51.100.99"), 403)
-    cases.equal("is shown", unit.asked("GET", "/joining")[2]["door"], "closed")
-    unit.settings("joins-a-day = many\n")
-    cases.equal("a fault in the settings", unit.join("zed", visitor="198.51.100.99"), 403)
-    unit.settings("contact = Ask <b>us</b>: 100%\nrules = Be kind.\n  No spam.\n")
-    told = unit.asked("GET", "/joining")[2]
-    want = {"ok": True, "door": "open", "contact": "Ask <b>us</b>: 100%",
-            "rules": "Be kind.\nNo spam."}
-    cases.equal("the words of the operator", told, want)
+    unit.settings(joins_a_day=0)
+    cases.equal("a closed door", unit.join("zed", visitor="198.51.100.99"), 429)
+    for name, its in {
+        "a number in words": settings(joins_a_day="many"), "no section": "joins-a-day = 100\n",
+        "a line without a sign": settings() + "joins-a-day 0\n", "not UTF-8": "[join]\n\udcff",
+        "a setting that isn't there": "[join]\ndoor = open\njoins-a-day = 100\n", "nothing": "",
+    }.items():
+        with open(unit.conf, "w", encoding="utf-8", errors="surrogateescape") as file:
+            file.write(its)
+        got = unit.join("zed", visitor="198.51.100.99"), "zed" in unit.lines()
+        cases.equal(f"a fault in the settings: {name}", got, (503, False))
+    os.unlink(unit.conf)
+    cases.equal("no settings", unit.join("zed", visitor="198.51.100.99"), 503)
+    unit.settings(joins_a_day=100, contact="Ask <b>us</b>: 100%", rules="Be kind.\n  No spam.")
+    cases.equal("the words of the operator", unit.join("zed", visitor="198.51.100.99"), 200)
 
 
 def test_many(cases, unit):
     """A thousand in a minute, from one address and from a hundred."""
-    unit.settings("joins-a-day = 50\n")
+    unit.settings(joins_a_day=50)
     letters = "bcdefghjkmnpqrstuvwxyz"
-    names = [f"{a}{b}{c}" for a in "hjkm" for b in letters for c in letters][:1000]
-    got = [unit.join(it) for it in names[:500]]
-    cases.equal("of one address", (got.count(200), got.count(429)), (3, 497))
-    got = [unit.join(it, visitor=f"198.51.100.{at % 100}") for at, it in enumerate(names[500:])]
-    cases.equal("of a hundred", (got.count(200), got.count(429)), (47, 453))
-    cases.equal("accounts", len(unit.fake.commands), 50)
+    names = [f"{a}{b}{c}" for a in "hjkmn" for b in letters for c in letters][:2000]
+    one, hundred = names[:1000], list(enumerate(names[1000:]))
+    start, got = time.monotonic(), []
+    for eight in zip(*[iter(one)] * 8):
+        got += at_once([lambda it=it: unit.join(it) for it in eight])
+    cases.equal("of one address", (got.count(200), got.count(429)), (3, 997))
+    for eight in zip(*[iter(hundred)] * 8):
+        got += at_once([lambda at=at, it=it: unit.join(it, visitor=f"198.51.100.{at % 100}")
+                        for at, it in eight])
+    seconds = time.monotonic() - start
+    cases.equal(f"each within a minute: {seconds:.0f} s", seconds < 120, True)
+    cases.equal("of a hundred", (got[1000:].count(200), got[1000:].count(429)), (47, 953))
+    joined = [it for it, status in zip(names, got) if status == 200]
+    cases.equal("accounts", sorted(it[0] for it in unit.fake.commands), sorted(joined))
+    there = sorted(it for it in unit.lines() if it in names)
+    cases.equal("a line for each", there, sorted(joined))
+    cases.equal("others stand", others_stand(unit), True)
 
 
 def invite(unit, number):
@@ -419,7 +436,7 @@ def invite(unit, number):
 
 
 def test_invitations(cases, unit):
-    unit.settings("door = invitation\njoins-a-day = 1000\n")
+    unit.settings(door="invitation", joins_a_day=1000)
     cases.equal("without one", unit.join("carl"), 403)
     for name, token in (("none", "0" * 32), ("a path", "../passwords"), ("empty", ""), ("*", "*")):
         cases.equal(f"one that is {name}", unit.join("carl", invite=token), 403)
@@ -444,7 +461,7 @@ def test_invitations(cases, unit):
 def test_sessions(cases, unit):
     unit.join("carl")
     status, fields, told = unit.asked("POST", "/session", account="carl")
-    cases.equal("a log-in", (status, told["account"]), (200, "carl"))
+    cases.equal("a log-in", (status, told), (200, {"ok": True}))
     cookie = fields["Set-Cookie"]
     name, rules = cookie.split("; ")[0], set(cookie.split("; ")[1:])
     token = name.removeprefix("__Host-pciids=")
@@ -463,7 +480,7 @@ def test_sessions(cases, unit):
     for it in ("../kept/passwords", "..", "/etc/passwd", "", "none"):
         unit.asked("POST", "/session/end", session=it)
     cases.equal("nothing else goes", (others_stand(unit), len(unit.sessions())), (True, 19))
-    cases.equal("without an account", unit.status("POST", "/session"), 401)
+    cases.equal("without an account", unit.status("POST", "/session"), 404)
 
 
 def test_own_passwords(cases, unit):
@@ -474,9 +491,7 @@ def test_own_passwords(cases, unit):
     cases.equal("another one", unit.status("POST", "/password", new, account="carl"), 200)
     cases.equal("is there", unit.lines()["carl"], f"{new['verifier']}:{since}")
     cases.equal("sessions ended", unit.sessions(), [])
-    cases.equal("without an account", unit.status("POST", "/password", new), 401)
-    bad = {"verifier": verifier("anna")}
-    cases.equal("another's", unit.status("POST", "/password", bad, account="carl"), 400)
+    cases.equal("without an account", unit.status("POST", "/password", new), 404)
     cases.equal("who leaves", unit.status("POST", "/leave", account="carl"), 200)
     cases.equal("has no password", unit.lines()["carl"], f"-:{since}")
     for secret in (password(), password(1)):
@@ -491,7 +506,7 @@ def test_locks(cases, unit):
     unit.write(OTHERS + f"mona:{verifier('mona')}:\ncarl:{unit.lines()['carl']}\n")
     for account, who, want in (
         ("carl", "mona", 403), ("mona", "carl", 403), ("sam", "anna", 403), ("sam", "sam", 403),
-        ("sam", "nobody", 404), ("sam", "a\nb", 404), ("sam", "", 404), ("", "carl", 401),
+        ("sam", "nobody", 404), ("sam", "a\nb", 404), ("sam", "", 404), ("", "carl", 404),
         ("ghost", "carl", 403),
     ):
         got = unit.status("POST", "/lock", {"who": who}, account=account)
@@ -503,14 +518,30 @@ def test_locks(cases, unit):
     cases.equal("none begins", unit.status("POST", "/session", account="carl"), 403)
     new = {"verifier": verifier("carl", password(1))}
     cases.equal("no other password", unit.status("POST", "/password", new, account="carl"), 403)
-    cases.equal("joining doesn't unlock", unit.join("carl"), 403)
+    cases.equal("joining doesn't unlock", unit.join("carl"), 409)
     cases.equal("twice is once", unit.status("POST", "/lock", {"who": "carl"}, account="anna"), 200)
     told = unit.asked("GET", "/accounts", account="anna")[2]["accounts"]
-    rows = {it["account"]: (it["rank"], it["state"]) for it in told}
-    cases.equal("the list", rows, {"anna": (3, "open"), "sam": (2, "open"), "old": (0, "open"),
-                                   "mona": (1, "open"), "carl": (0, "locked")})
+    rows = {it["account"]: it["state"] for it in told}
+    cases.equal("the list", rows, {"anna": "open", "carl": "locked", "mona": "open",
+                                   "old": "open", "sam": "open"})
     cases.equal("is for seniors", unit.status("GET", "/accounts", account="mona"), 403)
     got = unit.status("POST", "/unlock", {"who": "carl"}, account="anna")
     is_open = unit.lines()["carl"].startswith(verifier("carl"))
     cases.equal("and unlocks", (got, is_open), (200, True))
     cases.equal("others stand", others_stand(unit), True)
+
+
+def test_it_is_short(cases):
+    """What may act as any account has at most 200 lines, besides what says what it does."""
+    lines, blank = set(), {tokenize.COMMENT, tokenize.NL, tokenize.NEWLINE, tokenize.INDENT,
+                           tokenize.DEDENT, tokenize.ENCODING, tokenize.ENDMARKER}
+    for name in sorted(os.listdir(PLACE)):
+        if not name.endswith(".py"):
+            continue
+        cases.equal(f"{name} is one of them", name[:-3] in MODULES, True)
+        with open(os.path.join(PLACE, name), "rb") as file:
+            for it in tokenize.tokenize(file.readline):
+                is_said = it.type == tokenize.STRING and it.line.strip().startswith('"""')
+                rows = () if it.type in blank or is_said else range(it.start[0], it.end[0] + 1)
+                lines |= {(name, row) for row in rows}
+    cases.equal(f"it has {len(lines)} lines", 100 < len(lines) <= 200, True)

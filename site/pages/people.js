@@ -12,6 +12,7 @@ import { submissions } from "../submissions.js";
 import { answerWords, oneOf, RANKS } from "../words.js";
 
 const SENIOR = 2;
+const PAGE = 50;
 
 // A blank keeps the place of what comes late.
 const BLANK = "\u00a0";
@@ -44,32 +45,42 @@ function lockButton(it, place, draw) {
     `${path === "/lock" ? "Lock" : "Unlock"} ${it.account}`);
 }
 
+function standing({ account: name, rank: its, since, state }) {
+  const words = its === null ? BLANK : RANKS[its] ?? "no account of the registry";
+  return [words, since ? `, joined ${since}` : null,
+    state === "open" ? null : [", ", el("b", {}, state), ": its ",
+      link(`/queue?author=${name}`, "pending proposals")]];
+}
+
+// Nobody locks themselves, or an account of a higher rank.
+const mayLock = (it) => it.state !== "left" && it.account !== account()
+  && it.rank !== null && it.rank <= rank();
+
 function accountRow(first) {
   const element = el("li");
   const record = el("span");
   const place = el("span");
   const draw = (it) => fill(element,
     link(`/decided?author=${it.account}`, it.account), " ",
-    el("small", {}, RANKS[it.rank] ?? "no account of the registry",
-      it.since ? `, joined ${it.since}` : null,
-      it.state === "open" ? null : [", ", el("b", {}, it.state), ": its ",
-        link(`/queue?author=${it.account}`, "pending proposals")], record), " ",
-    it.state === "left" || it.account === account() || it.rank > rank() ? null
-      : lockButton(it, place, draw), place);
-  draw(first);
+    el("small", {}, standing(it), record), " ",
+    mayLock(it) ? lockButton(it, place, draw) : null, place);
+  draw({ ...first, rank: null });
+  rankOf(first.account).then((its) => draw({ ...first, rank: its }));
   recordOf(first.account, record);
   return element;
 }
 
-async function listed(place, after = "") {
-  const path = `/accounts?${new URLSearchParams({ after })}`;
-  const answer = await request("GET", path, { headers: authorization(), isOurs: true });
-  if (!answer.value) return fill(place, faultWords(answerWords(answer)));
-  const { accounts, more } = answer.value;
-  const next = () => { button.remove(); listed(rest, accounts.at(-1).account); };
-  const button = more ? el("button", { type: "button", onclick: next }, "More") : null;
-  const rest = el("div");
-  return fill(place, el("ul", { class: "items" }, accounts.map(accountRow)), button, rest);
+function rowsOf(accounts) {
+  const rest = accounts.slice(PAGE);
+  const next = () => button.replaceWith(...rowsOf(rest));
+  const button = rest.length ? el("button", { type: "button", onclick: next }, "More") : "";
+  return [el("ul", { class: "items" }, accounts.slice(0, PAGE).map(accountRow)), button];
+}
+
+async function listed(place) {
+  const headers = authorization();
+  const answer = await request("GET", "/accounts", { headers, isOurs: true });
+  fill(place, answer.value ? rowsOf(answer.value.accounts) : faultWords(answerWords(answer)));
 }
 
 function rankForm() {

@@ -172,8 +172,6 @@ def locked(cases, world, browser, password):
 
 def run(cases):
     with World() as world:
-        with open(f"{world.folder}/join.conf", "w", encoding="utf-8") as file:
-            file.write("joins-an-hour = 100\ncontact = Ask registry@example.org.\n")
         with Browser(world.base, size=(420, 800)) as browser:
             password = stranger(cases, world, browser)
             names(cases, browser)

@@ -17,7 +17,7 @@ import urllib.request
 
 import program
 from http_server import Server, ask_curl, free_port, to_end
-from joining_unit import Served, Way
+from joining_unit import Served, Way, settings
 from shims import ROOM
 
 SITE = os.path.join(program.TOP, "site")
@@ -263,10 +263,12 @@ class World:
         fill(self.database, list(items_taken()))
         self.server = Server(self.database, connections=100_000)
         self.spoiler = Spoiler(self.server.port)
+        os.makedirs(f"{self.folder}/join/sessions")
+        with open(f"{self.folder}/join.conf", "w", encoding="utf-8") as file:
+            file.write(settings(joins_an_hour=100, contact="Ask registry@example.org."))
         way = Way(f"{self.folder}/http.sock", self.server.port)
         self.unit = Served({
             "PCIIDS_PASSWORDS": f"{self.folder}/accounts/passwords",
-            "PCIIDS_INVITES": f"{self.folder}/accounts/invites",
             "PCIIDS_JOIN_RUN": f"{self.folder}/join", "PCIIDS_SOCKET": way.path,
             "PCIIDS_JOIN_CONF": f"{self.folder}/join.conf",
         })

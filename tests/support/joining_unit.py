@@ -18,8 +18,15 @@ from fake_registry import Listener
 from http_server import ask_curl, free_port
 from program import TOP
 
-MODULES = ("files", "names", "bounds", "join")
+MODULES = ("names", "join")
 PLACE = os.path.join(TOP, "deploy", "lib", "join")
+SETTINGS = {"door": "open", "joins-a-day": 100, "joins-an-hour": 3}
+
+
+def settings(**more):
+    """The text of join.conf, with some of its settings as a test wants them."""
+    its = SETTINGS | {name.replace("_", "-"): value for name, value in more.items()}
+    return "[join]\n" + "".join(f"{name} = {value}\n" for name, value in its.items())
 
 
 def password(number=0):
@@ -41,15 +48,15 @@ class Unit:
         self.invites = os.path.join(folder, "kept", "invites")
         self.conf = os.path.join(folder, "join.conf")
         os.makedirs(self.invites)
+        os.mkdir(os.path.join(folder, "sessions"))
         with open(self.passwords, "w", encoding="ascii"):
             pass
         self.load()
 
     def environment(self):
         return {
-            "PCIIDS_PASSWORDS": self.passwords, "PCIIDS_INVITES": self.invites,
-            "PCIIDS_JOIN_RUN": self.folder, "PCIIDS_JOIN_CONF": self.conf,
-            "PCIIDS_SOCKET": self.registry,
+            "PCIIDS_PASSWORDS": self.passwords, "PCIIDS_JOIN_RUN": self.folder,
+            "PCIIDS_JOIN_CONF": self.conf, "PCIIDS_SOCKET": self.registry,
         }
 
     def load(self):
@@ -67,21 +74,20 @@ class Unit:
                 sys.modules.pop(it, None)
             for name, value in old.items():
                 os.environ.pop(name) if value is None else os.environ.update({name: value})
+        self.modules[-1].print = lambda *_, **__: None
         self.application = self.modules[-1].application
 
-    def asked(self, method, path, form=None, quiet=True, **fields):
+    def asked(self, method, path, form=None, **fields):
         """The status of a request, its fields and its JSON. `fields` are account, session and
         visitor, as nginx names them."""
         body = urllib.parse.urlencode(form or {}).encode() if method == "POST" else b""
         environ = {
             "REQUEST_METHOD": method, "PATH_INFO": path, "CONTENT_LENGTH": str(len(body)),
-            "QUERY_STRING": urllib.parse.urlencode(form or {}) if method == "GET" else "",
             "wsgi.input": io.BytesIO(body), "HTTP_X_VISITOR": fields.pop("visitor", "192.0.2.1"),
             **{f"HTTP_X_{name.upper()}": value for name, value in fields.items()},
         }
         told = []
-        with contextlib.redirect_stderr(io.StringIO() if quiet else sys.stderr):
-            data = b"".join(self.application(environ, lambda *it: told.extend(it)))
+        data = b"".join(self.application(environ, lambda *it: told.extend(it)))
         return int(told[0].split()[0]), dict(told[1]), json.loads(data)
 
     def status(self, *words, **fields):
@@ -93,9 +99,9 @@ class Unit:
         form |= {"invite": more.pop("invite")} if "invite" in more else {}
         return self.status("POST", "/join", form, **more)
 
-    def settings(self, text):
+    def settings(self, **more):
         with open(self.conf, "w", encoding="utf-8") as file:
-            file.write(text)
+            file.write(settings(**more))
 
     def lines(self):
         """The lines of the passwords, by their names."""
@@ -161,6 +167,9 @@ server.serve_forever()
 """
 
 
+VISITOR = ("-H", "X-Visitor: 192.0.2.1")
+
+
 class Served:
     """The application, served by gunicorn as in pciids-join.service, on a port."""
 
@@ -174,7 +183,7 @@ class Served:
             words, cwd=PLACE, env={**os.environ, **environment, "PYTHONDONTWRITEBYTECODE": "1"},
             stdout=subprocess.DEVNULL, stderr=subprocess.DEVNULL)
         for _ in range(600):
-            if ask_curl(f"http://127.0.0.1:{self.port}/joining")[0] == 200:
+            if ask_curl(f"http://127.0.0.1:{self.port}/accounts", *VISITOR)[0] == 404:
                 return
             time.sleep(0.05)
         self.close()

@@ -10,37 +10,46 @@ that there is, or 0 where there is none, on the connection on which it asked for
 serves one connection after the other, so nothing comes between. The command's key is made of the
 name and the verifier: whoever sends both again gets the same answer, and nobody else does.
 """
-import base64
+import configparser
 import contextlib
-import fcntl
 import hashlib
 import http.client
 import ipaddress
 import json
 import os
+import pathlib
 import re
-import secrets
 import socket
-import sys
+import subprocess
 import time
 import urllib.parse
 
-import bounds
 import names
-from files import RUN, Refused, replace
 
-PASSWORDS = os.environ.get("PCIIDS_PASSWORDS", "/etc/pciids/accounts/passwords")
+PASSWORDS = pathlib.Path(os.environ.get("PCIIDS_PASSWORDS", "/etc/pciids/accounts/passwords"))
+SESSIONS = pathlib.Path(os.environ.get("PCIIDS_JOIN_RUN", "/run/pciids-join"), "sessions")
+SETTINGS = os.environ.get("PCIIDS_JOIN_CONF", "/etc/pciids/join.conf")
 SOCKET = os.environ.get("PCIIDS_SOCKET", "/run/pciids/http.sock")
-LIFE, MOST_SESSIONS, MOST_BODY, PAGE, SENIOR = 30 * 86400, 20, 4096, 50, 2
+HOUR, MONTH, MOST_SESSIONS, SENIOR = 3600, 30 * 86400, 20, 2
 LOCKED, LEFT, NO_SUCH_ACCOUNT, NOTHING_TO_DO = "!", "-", 29, 13
+STATES = {LOCKED: "locked", LEFT: "left"}
+FAULTS = (OSError, ValueError, LookupError, http.client.HTTPException, configparser.Error,
+          subprocess.SubprocessError)
+lately = []  # Who joined in the last hour: when, under which key, from where.
+
+
+class Refused(Exception):
+    """A status, and the reason in words."""
 
 
 class Registry(http.client.HTTPConnection):
     """One connection to the registry, which is never opened a second time."""
 
+    auto_open = 0
+
     def __init__(self):
         super().__init__("localhost")
-        self.sock, self.auto_open = socket.socket(socket.AF_UNIX), 0
+        self.sock = socket.socket(socket.AF_UNIX)
         self.sock.settimeout(20)
         self.sock.connect(SOCKET)
 
@@ -51,109 +60,124 @@ class Registry(http.client.HTTPConnection):
     def rank(self, who):
         """The rank of an account; None if there is none."""
         told = self.told("GET", f"/account?who={who}")
-        if "rank" not in told and told.get("refused") != NO_SUCH_ACCOUNT:
-            raise OSError(f"the registry answers {told}")
-        return told.get("rank")
+        return None if told.get("refused") == NO_SUCH_ACCOUNT else told["rank"]
 
 
 class Asks:
     """A request."""
 
     def __init__(self, environ):
-        length = int(environ.get("CONTENT_LENGTH") or 0)
-        if length > MOST_BODY:
-            raise Refused(413, "That is too long.")
-        sent = environ["wsgi.input"].read(length).decode("ascii", "replace")
-        self.form = dict(urllib.parse.parse_qsl(sent or environ.get("QUERY_STRING", ""), True))
-        self.path, self.cookie = environ["PATH_INFO"], None
+        sent = environ["wsgi.input"].read(int(environ.get("CONTENT_LENGTH") or 0))
+        self.form = dict(urllib.parse.parse_qsl(sent.decode("ascii", "replace"), True))
+        self.route = f"{environ['REQUEST_METHOD']} {environ['PATH_INFO']}"
         self.account = environ.get("HTTP_X_ACCOUNT", "")
-        self.session = environ.get("HTTP_X_SESSION", "none")
-        at = ipaddress.ip_address(environ.get("HTTP_X_VISITOR", "0.0.0.0"))
-        self.visitor = str(ipaddress.ip_network((at, 64 if at.version == 6 else 32), strict=False))
+        self.session = os.path.basename(environ.get("HTTP_X_SESSION", "")) or "none"
+        # An address of IPv4, or the network of one of IPv6.
+        self.visitor = ipaddress.ip_address(environ["HTTP_X_VISITOR"]).packed[:8]
+        self.fields = [("Content-Type", "application/json")]
+
+    def give_cookie(self, value):
+        rules = "Path=/; Secure; HttpOnly; SameSite=Strict"
+        self.fields.append(("Set-Cookie", f"__Host-pciids={value}; {rules}"))
 
 
 @contextlib.contextmanager
 def alone():
-    """Nothing else changes passwords or sessions meanwhile."""
-    folder, end = os.open(os.path.dirname(PASSWORDS), os.O_RDONLY), time.monotonic() + 5
+    """Nothing else changes passwords or sessions meanwhile; then the disk has what was changed."""
+    folder = os.open(PASSWORDS.parent, os.O_RDONLY)
     try:
-        while True:
-            try:
-                fcntl.flock(folder, fcntl.LOCK_EX | fcntl.LOCK_NB)
-                break
-            except BlockingIOError:
-                if time.monotonic() > end:
-                    raise Refused(503, "Passwords are being changed. Try again.") from None
-                time.sleep(0.02)
+        subprocess.run(["flock", "-w", "5", str(folder)], pass_fds=[folder], check=True)
         yield
+        os.fsync(folder)
     finally:
         os.close(folder)
 
 
 def people():
     """What is kept of each name: its verifier, and since when if it has joined."""
-    with open(PASSWORDS, encoding="latin-1", newline="") as file:
-        fields = [it.split(":") for it in file.read().split("\n") if ":" in it]
+    text = PASSWORDS.read_bytes().decode("latin-1")
+    lines = re.findall("^([a-z0-9-]{1,32}):([^:\n]*):?([^:\n]*)", text, re.M)
     # nginx goes by the first line of a name.
-    return {name: (verifier, "".join(since[:1])) for name, verifier, *since in reversed(fields)}
+    return {name: (verifier, since) for name, verifier, since in reversed(lines)}
 
 
 def put(name, verifier, since):
-    """Writes the line of a name. All others stay as they are, byte by byte."""
-    with open(PASSWORDS, encoding="latin-1", newline="") as file:
-        kept = [it for it in file.read().split("\n") if it and not it.startswith(f"{name}:")]
-    replace(PASSWORDS, "\n".join([*kept, f"{name}:{verifier}:{since}", ""]))
-    print(f"join: the line of {name} is written", file=sys.stderr)
+    """Replaces the file by one with another line of a name. All others stay, byte by byte."""
+    lines = PASSWORDS.read_bytes().decode("latin-1").split("\n")
+    others = [it for it in lines if it and not it.startswith(f"{name}:")]
+    with open(f"{PASSWORDS}.new", "w", encoding="latin-1", newline="") as file:
+        file.write("\n".join([*others, f"{name}:{verifier}:{since}", ""]))
+        file.flush()
+        os.fsync(file.fileno())
+    os.replace(file.name, PASSWORDS)
+    print(f"join: the line of {name} is written", flush=True)
 
 
-def sessions_of(name):
-    """The sessions of an account, the latest first."""
-    found = [it for it in os.scandir(f"{RUN}/sessions") if it.name.startswith(f"{name}.")]
-    return sorted(found, key=lambda it: -it.stat().st_mtime)
+def end_sessions(name, but=0):
+    """Ends the sessions of an account, except so many of the latest."""
+    for it in sorted(SESSIONS.glob(f"{name}.*"), key=os.path.getmtime, reverse=True)[but:]:
+        it.unlink(missing_ok=True)
 
 
-def end(sessions):
-    for it in sessions:
-        with contextlib.suppress(FileNotFoundError):
-            os.unlink(it)
+def take_invitation(token, key):
+    """Binds an invitation to the key of a command, for good."""
+    path = PASSWORDS.parent / "invites" / (token if re.fullmatch("[0-9a-f]{32}", token) else "none")
+    with contextlib.suppress(FileNotFoundError):
+        path.rename(f"{path}.{key}")
+    if not os.path.exists(f"{path}.{key}"):
+        raise Refused(403, "This invitation isn't good, or was used.")
 
 
-def verifier_for(name, form):
-    """The verifier of a password, if it is one. Its salt is made of the name, so that the same
-    password has the same verifier."""
-    found = re.fullmatch("{SSHA}([A-Za-z0-9+/]{37}[AQgw]==)", form.get("verifier", ""))
-    salt = hashlib.sha256(f"pciids {name}".encode()).digest()[:8]
-    if not found or base64.b64decode(found[1])[20:] != salt:
-        raise Refused(400, "This is no verifier of a password of that name.")
-    return found[0]
+def admit(asks, key, joined_today):
+    """Lets a new account in, if there is room for it. With a fault in the settings there is none.
+    Sent again, a command counts once."""
+    its = configparser.ConfigParser(interpolation=None)
+    its.read(SETTINGS, "utf-8")
+    its, now = its["join"], time.monotonic()
+    lately[:] = [it for it in lately if now - it[0] < HOUR and it[1] != key]
+    # No line counts the new accounts while the disk is full.
+    if max(joined_today, len(lately)) >= int(its["joins-a-day"]):
+        raise Refused(429, "Nobody else can join today.")
+    if "invite" in asks.form:
+        take_invitation(asks.form["invite"], key)
+    elif its["door"] != "open":
+        raise Refused(403, "Joining takes an invitation here.")
+    elif [visitor for _, _, visitor in lately].count(asks.visitor) >= int(its["joins-an-hour"]):
+        raise Refused(429, "Too many have joined from your address. Try again in an hour.")
+    else:
+        lately.append((now, key, asks.visitor))
+
+
+def verifier_in(form):
+    """What nginx is to keep of a password: RFC 2307's salted SHA-1, with 8 bytes of salt."""
+    if not re.fullmatch("{SSHA}[A-Za-z0-9+/]{37}[AQgw]==", form.get("verifier", "")):
+        raise Refused(400, "This is no verifier of a password.")
+    return form["verifier"]
 
 
 def join(asks):
-    name = asks.form.get("name", "")
-    verifier = verifier_for(name, asks.form) if names.is_name(name) else ""
+    name, verifier = asks.form.get("name", ""), verifier_in(asks.form)
     key = f"join-{hashlib.sha256(f'{name}:{verifier}'.encode()).hexdigest()[:32]}"
+    today = time.strftime("%Y-%m-%d", time.gmtime())
     taken = Refused(409, f"{name} is taken. If it is yours, log in.")
     with alone():
         known = people()
-        here = known.get(name, ("", ""))[0]
-        if here and here.removeprefix(LOCKED) != verifier:
+        there = known.get(name)
+        if there and there[0] != verifier:
             raise taken
-        if here.startswith(LOCKED):
-            raise Refused(403, f"{name} is locked.")
-        if fault := not here and names.fault_of(name, known):
+        if fault := not there and names.fault_of(name, known):
             raise Refused(400, fault)
         with contextlib.closing(Registry()) as registry:
             rank = registry.rank(name)
-            if rank is None and not here:
-                bounds.admit(asks.visitor, asks.form.get("invite"), key)
+            if rank is None and not there:
+                admit(asks, key, [since for _, since in known.values()].count(today))
             told = registry.told("POST", "/account", f"who={name}&rank={rank or 0}", key)
-        if told.get("refused", NOTHING_TO_DO) != NOTHING_TO_DO:
-            raise OSError(f"the registry answers {told}")
-        if not here and "refused" in told:
+        # Any other refusal is a fault.
+        is_made = {None: True, NOTHING_TO_DO: False}[told.get("refused")]
+        if not there and not is_made:
             raise taken
-        if not here:
-            put(name, verifier, time.strftime("%Y-%m-%d", time.gmtime()))
-    return {"account": name}
+        if not there:
+            put(name, verifier, today)
 
 
 def own_line(asks):
@@ -165,41 +189,40 @@ def own_line(asks):
 
 
 def log_out(asks):
-    end([f"{RUN}/sessions/{os.path.basename(asks.session) or 'none'}"])
-    asks.cookie = "none; Max-Age=0"
-    return {}
+    with alone():
+        (SESSIONS / asks.session).unlink(missing_ok=True)
+    asks.give_cookie("none; Max-Age=0")
 
 
 def log_in(asks):
     """A session, in place of the one that this browser had."""
     with alone():
         own_line(asks)
-        log_out(asks)
-        end(sessions_of(asks.account)[MOST_SESSIONS - 1 :])
-        token = f"{asks.account}.{secrets.token_hex(16)}"
-        os.close(os.open(f"{RUN}/sessions/{token}", os.O_CREAT | os.O_EXCL, 0o640))
-    asks.cookie = token + (f"; Max-Age={LIFE}" if asks.form.get("stays") == "yes" else "")
-    return {"account": asks.account}
+        (SESSIONS / asks.session).unlink(missing_ok=True)
+        end_sessions(asks.account, but=MOST_SESSIONS - 1)
+        token = f"{asks.account}.{os.urandom(16).hex()}"
+        (SESSIONS / token).touch(0o640, exist_ok=False)
+    asks.give_cookie(token + (f"; Max-Age={MONTH}" if asks.form.get("stays") == "yes" else ""))
 
 
 def set_own(asks):
     """Another password; or none any more, of who leaves."""
-    verifier = LEFT if asks.path == "/leave" else verifier_for(asks.account, asks.form)
+    verifier = LEFT if asks.route == "POST /leave" else verifier_in(asks.form)
     with alone():
-        put(asks.account, verifier, own_line(asks)[1])
-        end(sessions_of(asks.account))
-    return {}
+        since = own_line(asks)[1]
+        end_sessions(asks.account)
+        put(asks.account, verifier, since)
 
 
 def senior_rank(registry, asks):
-    rank = registry.rank(asks.account)
-    if rank is None or rank < SENIOR:
+    rank = registry.rank(asks.account) or 0
+    if rank < SENIOR:
         raise Refused(403, "This is for senior moderators and administrators.")
     return rank
 
 
 def set_lock(asks):
-    who, is_locked = asks.form.get("who", ""), asks.path == "/lock"
+    who, is_locked = asks.form.get("who", ""), asks.route == "POST /lock"
     with alone(), contextlib.closing(Registry()) as registry:
         own = senior_rank(registry, asks)
         verifier, since = people().get(who, (LEFT, ""))
@@ -207,22 +230,18 @@ def set_lock(asks):
             raise Refused(404, "That account has no password here.")
         if who == asks.account or (registry.rank(who) or 0) > own:
             raise Refused(403, "Nobody locks themselves, or an account of a higher rank.")
+        end_sessions(who)
         put(who, LOCKED * is_locked + verifier.removeprefix(LOCKED), since)
-        end(sessions_of(who) if is_locked else [])
-    return {}
 
 
 def accounts(asks):
-    known, states = people(), {LOCKED: "locked", LEFT: "left"}
     with contextlib.closing(Registry()) as registry:
         senior_rank(registry, asks)
-        found = sorted(it for it in known if names.is_name(it) and it > asks.form.get("after", ""))
-        rows = [{"account": it, "rank": registry.rank(it), "since": known[it][1],
-                 "state": states.get(known[it][0][:1], "open")} for it in found[:PAGE]]
-    return {"accounts": rows, "more": len(found) > PAGE}
+    return {"accounts": [{"account": name, "since": since, "state": STATES.get(its[:1], "open")}
+                         for name, (its, since) in sorted(people().items())]}
 
 
-FOR_ALL = {"POST /join": join, "GET /joining": bounds.shown, "POST /session/end": log_out}
+FOR_ALL = {"POST /join": join, "POST /session/end": log_out}
 FOR_ACCOUNTS = {
     "POST /session": log_in, "POST /password": set_own, "POST /leave": set_own,
     "POST /lock": set_lock, "POST /unlock": set_lock, "GET /accounts": accounts,
@@ -230,25 +249,16 @@ FOR_ACCOUNTS = {
 
 
 def application(environ, start):
-    asks = None
+    asks = Asks(environ)
     try:
-        asks, route = Asks(environ), f"{environ['REQUEST_METHOD']} {environ['PATH_INFO']}"
-        if route not in FOR_ALL | FOR_ACCOUNTS:
+        call = (FOR_ALL | FOR_ACCOUNTS if asks.account else FOR_ALL).get(asks.route)
+        if not call:
             raise Refused(404, "There is nothing at this address.")
-        if route in FOR_ACCOUNTS and not asks.account:
-            raise Refused(401, "Log in first.")
-        status, told = 200, {"ok": True, **(FOR_ALL | FOR_ACCOUNTS)[route](asks)}
+        status, told = 200, {"ok": True, **(call(asks) or {})}
     except Refused as refused:
         status, told = refused.args[0], {"ok": False, "why": refused.args[1]}
-    except (OSError, ValueError, LookupError, http.client.HTTPException) as fault:
-        print(f"join: {environ['PATH_INFO']!r}: {fault!r}", file=sys.stderr)
+    except FAULTS as fault:
+        print(f"join: {asks.route}: {fault!r}", flush=True)
         status, told = 503, {"ok": False, "why": "The server failed just now. Try again."}
-    fields = [("Content-Type", "application/json"), ("Cache-Control", "no-store")]
-    if status == 200 and asks.cookie:
-        rules = "Path=/; Secure; HttpOnly; SameSite=Strict"
-        fields.append(("Set-Cookie", f"__Host-pciids={asks.cookie}; {rules}"))
-    start(f"{status} {http.client.responses[status]}", fields)
+    start(f"{status} {http.client.responses[status]}", asks.fields)
     return [json.dumps(told).encode()]
-
-
-os.makedirs(f"{RUN}/sessions", 0o750, exist_ok=True)
