@@ -25,6 +25,9 @@ class Listener(threading.Thread):
         self.start()
 
     def close(self):
+        # Its thread ends first: it would accept at what gets the same number.
+        self.listener.shutdown(socket.SHUT_RDWR)
+        self.join(timeout=60)
         self.listener.close()
 
 
