@@ -2,6 +2,7 @@
 
 import { account, logOut, NONE, rank, watchAccount } from "./account.js";
 import { countNew } from "./answers.js";
+import { el } from "./dom.js";
 import { askToLogIn, isAwaited } from "./login.js";
 import { load } from "./names.js";
 import { currentPage, go, readdress, refresh, watchPages } from "./router.js";
@@ -11,6 +12,7 @@ const RESTS_AFTER = 300;
 const main = document.getElementById("main");
 const box = document.getElementById("q");
 const log = document.getElementById("log");
+const own = el("a", { id: "own", href: "/mine", hidden: true });
 const menu = document.getElementById("menu");
 const mine = document.getElementById("mine");
 const pages = document.getElementById("pages");
@@ -119,8 +121,10 @@ const rankWords = () => (
 
 function showWho() {
   const name = account();
-  log.textContent = name ? `Log out ${name}` : "Log in";
-  log.title = name ? rankWords() : "";
+  log.textContent = name ? "Log out" : "Log in";
+  own.textContent = name ?? "";
+  own.hidden = name === null;
+  own.title = name ? rankWords() : "";
   // Its place is kept, so that the menu doesn't shift.
   mine.classList.toggle("away", name === null);
   if (name !== counted) countAnswers(name);
@@ -148,5 +152,6 @@ export function startHeader() {
     if (!isBusy && !isTyping() && !isAwaited()) refresh();
   });
   log.addEventListener("click", () => (account() ? logOut() : askToLogIn()));
+  log.before(own);
   showWho();
 }

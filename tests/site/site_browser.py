@@ -173,7 +173,7 @@ class Browser:
         if stays:
             self.one("#log-keep").click()
         self.type("#log-password", self.keys.ENTER)
-        self.wait(lambda: self.text("#log") == f"Log out {name}", f"{name} logged in")
+        self.wait(lambda: self.text("#own") == name, f"{name} logged in")
         self.wait(lambda: not self.js("return document.getElementById('dialog').open"), "no window")
 
     def owed(self):

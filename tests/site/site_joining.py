@@ -2,6 +2,7 @@
 join once; log-ins on another computer, another password, a lock, and leaving."""
 from http_server import ask_curl
 from site_access import CHECK, CONTRAST, LEAST, SIZES, WIDE
+from site_acts import Person
 from site_browser import Browser
 from site_world import World
 
@@ -24,7 +25,7 @@ def enter(browser, name, password):
 
 
 def is_in(browser, name):
-    return browser.wait(lambda: browser.text("#log") == f"Log out {name}", f"{name} logged in")
+    return browser.wait(lambda: browser.text("#own") == name, f"{name} logged in")
 
 
 def out(browser):
@@ -58,6 +59,46 @@ def stranger(cases, world, browser):
     cases.equal("joining: out and in", is_in(browser, "dora-x"), True)
     out(browser)
     return password
+
+
+LSPCI = "02:00.0 Ethernet controller [0200]: Intel Corporation Device [8086:e0f1] (rev 01)"
+# In seconds.
+LONGEST = 60
+
+
+def stopwatch(cases, world, browser):
+    """From a line of lspci that has no name to a proposal, by somebody without an account: what a
+    person does takes less than a minute, with a name and a source to be typed."""
+    browser.driver.get("data:text/html,<input id=line>")
+    browser.type("#line", LSPCI, browser.keys.CONTROL, "a")
+    browser.press(browser.keys.CONTROL + "c")
+    person = Person(browser)
+    browser.go("/")
+    person.click("#q")
+    person.press(browser.keys.CONTROL, "v")
+    browser.has("8086:e0f1 has no name")
+    person.click("main a[href^='/propose']")
+    browser.heading("Propose")
+    person.click("#name")
+    person.press("Imaginary X710 Controller", browser.keys.TAB, "from the board's data sheet")
+    person.click("form.propose button.main")
+    person.click("#dialog a[href^='/join']")
+    browser.heading("Join")
+    person.click("#join-name")
+    person.press("newcomer", browser.keys.ENTER)
+    browser.heading("Propose")
+    person.click("form.propose button.main")
+    browser.heading("Proposal ")
+    pending = [(it["author"], it["name"]) for it in world.pending("PC/8086/e0f1")]
+    want = [("newcomer", "Imaginary X710 Controller")]
+    cases.equal("stopwatch: it is in the queue", pending, want)
+    presses, keys = person.seen()
+    # Fewer were not seen: 54 letters and 4 other keys are typed.
+    cases.equal("stopwatch: all acts were seen", (presses, keys >= 58), (7, True))
+    seconds = person.seconds()
+    cases.equal(f"stopwatch: {presses} clicks, {keys} keys, {seconds:.1f} s", seconds < LONGEST,
+                True)
+    out(browser)
 
 
 def names(cases, browser):
@@ -179,3 +220,6 @@ def run(cases):
             own(cases, browser)
             locked(cases, world, browser, password)
             cases.equal("joining: the console", browser.faults(), [])
+        with Browser(world.base) as browser:
+            stopwatch(cases, world, browser)
+            cases.equal("stopwatch: the console", browser.faults(), [])

@@ -2,6 +2,7 @@
 queue by author, vendor and kind; several at once; decisions that are taken back in time."""
 import time
 
+from site_acts import Person
 from site_browser import Browser
 from site_world import World
 
@@ -141,13 +142,15 @@ def vandal(cases, world, browser):
     browser.go("/queue")
     before = revision(world)
     world.spoiler.set("lose", left=2)
-    browser.click(f"{row_of(numbers[0])} .meta a[href^='/queue?author=']")
+    person = Person(browser)
+    person.click(f"{row_of(numbers[0])} .meta a[href^='/queue?author=']")
     browser.has("All proposals by dora")
     browser.wait(lambda: len(rows(browser)) == 11, "the rows of one author")
-    browser.click(".bulk .buttons button")
-    choose(browser, ".bulk select", REASON)
-    browser.click(".bulk form button")
+    person.click(".bulk .buttons button")
+    person.choose(".bulk select", REASON)
+    person.click(".bulk form button")
     browser.has("11 proposals are rejected.", ".bulk")
+    cases.equal("moderation: acts of a person", person.acts, 4)
     got = {(world.state(it), world.ask(f"/submission/{it}")["reason"]) for it in numbers}
     cases.equal("moderation: ten are rejected", (got, revision(world) - before, browser.owed()),
                 ({("rejected", REASON)}, 11, []))

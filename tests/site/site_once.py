@@ -227,7 +227,7 @@ def forgotten(cases, world, browser):
     driver.switch_to.new_window("tab")
     browser.go("/help")
     browser.has("another tab is sending it", "#owed")
-    cases.equal("once: another tab is logged in too", browser.text("#log"), "Log out alice")
+    cases.equal("once: another tab is logged in too", browser.text("#own"), "alice")
     browser.click("#owed button")
     second = driver.current_window_handle
     driver.switch_to.window(first)
@@ -314,7 +314,7 @@ def logged_out_elsewhere(cases, browser):
     driver.get(browser.base + "/pci.ids")
     driver.switch_to.new_window("tab")
     browser.go("/help")
-    browser.wait(lambda: browser.text("#log") == "Log out alice", "the log-in of the other tab")
+    browser.wait(lambda: browser.text("#own") == "alice", "the log-in of the other tab")
     browser.click("#log")
     driver.close()
     driver.switch_to.window(first)
@@ -338,7 +338,7 @@ def logged_in_elsewhere(cases, world, browser):
     browser.go("/help").log_in("alice")
     driver.close()
     driver.switch_to.window(first)
-    browser.wait(lambda: browser.text("#log") == "Log out alice", "the log-in of the other tab")
+    browser.wait(lambda: browser.text("#own") == "alice", "the log-in of the other tab")
     time.sleep(0.3)
     cases.equal("once: a page with a waiting command stays",
                 browser.js("return document.getElementById('name').mark"), 1)

@@ -258,7 +258,7 @@ def secrets(cases, browser):
     got = [(it["httpOnly"], it["secure"], it["sameSite"], it.get("expiry")) for it in its]
     cases.equal("safety: what the session is", got, [(True, True, "Strict", None)])
     browser.go("/help")
-    browser.wait(lambda: browser.text("#log") == "Log out alice", "a reload")
+    browser.wait(lambda: browser.text("#own") == "alice", "a reload")
     browser.click("#log")
     browser.wait(lambda: not browser.driver.get_cookies(), "no cookie after a log-out")
     cases.equal("safety: logged out", browser.text("#log"), "Log in")
