@@ -1,6 +1,6 @@
 -- The service as a handler: what was answered is an answer to what the request comes to.
 use Rattle.std.proofs.Common.{◌≡◌, ℕ, List, [], Option, Some, None, Result, Ok, Err, refl, sym, subst, ◌∙◌, inl, inr}
-use Rattle.std.specs.Prelude.{◌⊎◌, MatchOption, option_copied}
+use Rattle.std.specs.Prelude.{◌⊎◌}
 use Rattle.std.specs.Io.KnownBytes.{IsAtEnd}
 use Rattle.pid_service_laws.specs.declared.moderated.Moderated.{Ghosts}
 use Rattle.pid_service_laws.specs.Calls.{Call}
@@ -16,15 +16,10 @@ use Rattle.pid_http_stream.specs.declared.reply_head.ReplyHead.{ReplyHead}
 use Rattle.pid_http.specs.Api.Questions.{Asking, question}
 use Rattle.pid_http.specs.Api.Senders.{Sending, sender}
 use Rattle.pid_http.specs.declared.api.format.Format.{Format}
-use Rattle.pid_http.specs.declared.api.sender.Sender.{Sender}
 use Rattle.pid_http.specs.Errands.{Errand, errand_asked, errand_of, import_errand}
 use Rattle.pid_http.specs.Known.{Told, ByCalls}
-use Rattle.pid_http.specs.Steps.Replying.{IsBodyMet, IsMetBehind, sending_in}
+use Rattle.pid_http.specs.Steps.Replying.{IsBodyMet, IsMetBehind}
 use Rattle.pid_http.specs.Serving.{AreQuestions, IsErrandMet, most_given_up, most_questions, serving}
-
-pub sender_is : (o : Option Sender) (x : Option Sending) → MatchOption o (x ≡ None) (λ s. x ≡ Some (record { account = s.account.now; key = option_copied s.key })) → sending_in o ≡ x
-sender_is None x e = sym e
-sender_is (Some s) x e = sym e
 
 -- what a head asks is what the request comes to
 pub errand_is : (request : Request) (wanted : Asking) (body : List ℕ) (s : Option Sending) → wanted ≡ question request.head.method request.head.target

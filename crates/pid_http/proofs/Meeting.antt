@@ -23,7 +23,8 @@ use Rattle.pid_http.specs.declared.api.format.Format.{Format}
 use Rattle.pid_http.specs.Api.Outcomes.{outcome_answer}
 use Rattle.pid_http.specs.Api.Replying.{IsReplyOf, IsBodyOf}
 use Rattle.pid_http.specs.Answering.{answer_over, history_behind, IsErrandRefused, LacksForm}
-use Rattle.pid_http.specs.Errands.{Errand, Answered, Denied, Obeys, Children, command_sent, command_errand, import_errand, known_answer}
+use Rattle.pid_http.specs.Errands.{Errand, Answered, Denied, Obeys, Asks, command_sent, command_errand, import_errand, known_answer}
+use Rattle.pid_http.specs.declared.api.question.Question.TheVariants.{Children}
 use Rattle.pid_http.specs.Known.{Known, Live, Between, Down, IsKnownOf, LivesOn, IsToldOf, ByCalls}
 use Rattle.pid_http.specs.Steps.Going.{Goes, calls_join}
 use Rattle.pid_http.specs.Steps.Replying.{IsCommandMet, IsBodyMet, IsMetBy, answer_or}
@@ -56,9 +57,10 @@ one_question = ((refl, tt), omega arith)
 takes_one : (errand : Errand) → known_answer errand ≡ None → 1 ≤ most_questions errand
 takes_one (Answered given) none = absurd cc
 takes_one (Denied refusal format) none = absurd cc
-takes_one (Children None format) none = omega arith
-takes_one (Children (Some path) format) none = omega arith
-takes_one errand none = omega arith
+takes_one (Obeys command format) none = omega arith
+takes_one (Asks (Children None) format) none = omega arith
+takes_one (Asks (Children (Some path)) format) none = omega arith
+takes_one (Asks question format) none = omega arith
 
 asked_once : (errand : Errand) → known_answer errand ≡ None → AreQuestions (most_questions errand) (nothing_sent ∷ [])
 asked_once errand none = ((refl, tt), takes_one errand none)

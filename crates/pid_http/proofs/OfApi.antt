@@ -3,6 +3,7 @@ pub mod Senders
 pub mod Targets
 pub mod Forms
 pub mod FieldCounts
+pub mod FieldNames
 pub mod FieldRows
 pub mod SenderRows
 pub mod Paths

@@ -37,9 +37,13 @@ use Rattle.pid_http.specs.Api.RankAnswers.{rank_answer}
 use Rattle.pid_http.specs.Api.StatusAnswers.{status_answer}
 use Rattle.pid_http.specs.Api.SubmissionAnswers.{submission_answer}
 use Rattle.pid_http.specs.Api.SubmissionPageAnswers.{submissions_answer}
-use Rattle.pid_http.specs.Errands.{Errand, Answered, Denied, Obeys, Export, Read, Children, Lookup}
-use Rattle.pid_http.specs.Errands.{Submission, Pending, Changes, Queue, Submissions, Status, Rank}
-use Rattle.pid_http.specs.Errands.{format_of, known_answer}
+use Rattle.pid_http.specs.Errands.{Errand, Answered, Denied, Obeys, Asks, format_of, known_answer}
+use Rattle.pid_http.specs.declared.api.question.Question.{Question}
+use Rattle.pid_http.specs.declared.api.question.Question.TheVariants.{Export, Read, Children}
+use Rattle.pid_http.specs.declared.api.question.Question.TheVariants.{Lookup, Submission}
+use Rattle.pid_http.specs.declared.api.question.Question.TheVariants.{Pending, Changes}
+use Rattle.pid_http.specs.declared.api.question.Question.TheVariants.{Queue, Submissions}
+use Rattle.pid_http.specs.declared.api.question.Question.TheVariants.{Status, Rank}
 
 -- the item at a path, or that there is none
 abbrev pub item_or_missing : Path → Format → Option (List ℕ) → Answer
@@ -76,27 +80,31 @@ submission_or_missing number format (Some discussion) = submission_answer format
 abbrev pub text_answer : History → Answer
 text_answer h = answer_with 200 Text (print (tree_of h))
 
+-- the answer to a question over a history
+abbrev pub answer_to : History → Question → Format → Answer
+answer_to h Export format = text_answer h
+answer_to h (Read path) format = item_or_missing path format (name_at (path_text path) (items_of h))
+answer_to h (Children above) format = children_or_missing format
+    (children_below above (items_of h))
+answer_to h (Lookup query) format = lookup_answer (lookup_in query h)
+answer_to h (Submission number) format = submission_or_missing number format
+    (discussion_in (views_of h) number)
+answer_to h (Pending number) format = pending_answer format (pending_in PAGE number (views_of h))
+answer_to h (Changes since after) format = changes_answer format
+    (changes_in PAGE since (start_text after) (views_of h))
+answer_to h (Queue after) format = queue_answer format (queue_in PAGE after (views_of h))
+answer_to h (Submissions path author before) format = submissions_answer format
+    (submissions_of PAGE SEARCHED (record { path = path; author = author; before = before })
+    (views_of h))
+answer_to h Status format = status_answer format (status_of_registry h)
+answer_to h (Rank who) format = rank_answer format who (rank_of who h)
+
 -- the answer over a history
 unfoldable pub answer_over : History → Errand → Answer
 answer_over h (Answered given) = given
 answer_over h (Denied refusal format) = outcome_answer format (Err refusal)
 answer_over h (Obeys command format) = outcome_answer format (answer (judge (views_of h) command))
-answer_over h Export = text_answer h
-answer_over h (Read path format) = item_or_missing path format
-    (name_at (path_text path) (items_of h))
-answer_over h (Children above format) = children_or_missing format
-    (children_below above (items_of h))
-answer_over h (Lookup lookup) = lookup_answer (lookup_in lookup h)
-answer_over h (Submission number format) = submission_or_missing number format
-    (discussion_in (views_of h) number)
-answer_over h (Pending number format) = pending_answer format (pending_in PAGE number (views_of h))
-answer_over h (Changes since after format) = changes_answer format
-    (changes_in PAGE since (start_text after) (views_of h))
-answer_over h (Queue after format) = queue_answer format (queue_in PAGE after (views_of h))
-answer_over h (Submissions search format) = submissions_answer format
-    (submissions_of PAGE SEARCHED search (views_of h))
-answer_over h (Status format) = status_answer format (status_of_registry h)
-answer_over h (Rank who format) = rank_answer format who (rank_of who h)
+answer_over h (Asks question format) = answer_to h question format
 
 -- the history after it: only a command that is accepted adds to the one before
 abbrev pub history_behind : History → Option Asked → History

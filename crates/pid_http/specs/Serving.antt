@@ -21,8 +21,10 @@ use Rattle.pid_http_stream.specs.declared.reply_head.ReplyHead.{ReplyHead}
 use Rattle.pid_http.specs.Api.Questions.{Asking, question}
 use Rattle.pid_http.specs.Api.Senders.{Sending, sender}
 use Rattle.pid_http.specs.Answering.{answer_over, history_behind, IsErrandRefused, LacksForm}
-use Rattle.pid_http.specs.Errands.{Errand, Answered, Denied, Export, Children, command_sent}
+use Rattle.pid_http.specs.Errands.{Errand, Answered, Denied, Asks, command_sent}
 use Rattle.pid_http.specs.Errands.{errand_of, known_answer}
+use Rattle.pid_http.specs.declared.api.format.Format.{Format}
+use Rattle.pid_http.specs.declared.api.question.Question.TheVariants.{Export, Children}
 use Rattle.pid_http.specs.Known.{Known, Live, Between, Down, Told, ByCalls}
 
 -- the calls send nothing, and are at most so many
@@ -34,8 +36,8 @@ AreQuestions most calls = AreNothing calls × (length calls ≤ most)
 abbrev pub most_questions : Errand → ℕ
 most_questions (Answered given) = 0
 most_questions (Denied refusal format) = 0
-most_questions Export = 2
-most_questions (Children (Some path) format) = 2
+most_questions (Asks Export format) = 2
+most_questions (Asks (Children (Some path)) format) = 2
 most_questions errand = 1
 
 -- The calls for a request that was answered over the history: by them a command was sent once, and
@@ -98,8 +100,8 @@ pub record IsTextHead (h : History) (head : ReplyHead) (told : ℕ) : Type 0 whe
 
 -- only an export is promised, and only by a registry that is live, by at most one call
 abbrev pub IsPromised : Known → Errand → ReplyHead → ℕ → List Call → Known → Type 0
-IsPromised (Live h) errand head told calls k = (errand ≡ Export) × IsTextHead h head told
-    × AreQuestions 1 calls × (k ≡ Live h)
+IsPromised (Live h) errand head told calls k = ((format : Format) × (errand ≡ Asks Export format))
+    × IsTextHead h head told × AreQuestions 1 calls × (k ≡ Live h)
 IsPromised (Between before behind) errand head told calls k = ⊥
 IsPromised Down errand head told calls k = ⊥
 

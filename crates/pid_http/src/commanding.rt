@@ -1,8 +1,9 @@
 //! Commands, each with its reply.
 ghost use Rattle.std.specs.Prelude.{◌≡◌, Err};
 ghost use Rattle.pid_http.specs.Api.Commands.{command_made};
+ghost use Rattle.pid_http.specs.Api.Senders.{sending_in};
 ghost use Rattle.pid_http.specs.Errands.{sent};
-ghost use Rattle.pid_http.specs.Steps.Replying.{Replies, sending_in};
+ghost use Rattle.pid_http.specs.Steps.Replying.{Replies};
 
 use crate::api::{Format, Sender, command_in, outcome_reply, refusal_reply};
 use pid_http_stream::Reply;

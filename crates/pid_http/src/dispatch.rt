@@ -1,55 +1,79 @@
 //! What a request asks for, answered by the registry.
-ghost use Rattle.std.specs.Prelude.{◌≡◌};
+ghost use Rattle.std.specs.Prelude.{◌≡◌, ℕ, List};
+ghost use Rattle.httparse.specs.Grammar.{RequestHead};
+ghost use Rattle.pid_http_stream.specs.HeadParts.{IsHeadOf};
+ghost use Rattle.pid_http_stream.specs.Requests.{fields_of};
+ghost use Rattle.pid_http.specs.Api.Senders.{sender as sender_in, sending_in};
+ghost use Rattle.pid_http.specs.Errands as errands;
 ghost use Rattle.pid_http.specs.Errands.{errand_for};
-ghost use Rattle.pid_http.specs.Steps.Replying.{Replies, sending_in};
+ghost use Rattle.pid_http.specs.Steps.Replying.{Replies};
 
-use crate::api::{Early, Question, Sender, early_reply};
+use crate::api::{Format, Question, Request, Sender, early_reply, sender_of};
 use crate::commanding::command;
 use crate::exporting::export;
-use crate::overviews::{queue, status, submissions};
-use crate::queries::{changes, children, lookup, pending, rank, read, submission};
-use pid_http_stream::Reply;
+use crate::queries::{
+    changes, children, lookup, pending, queue, rank, read, status, submission, submissions,
+};
+use pid_http_stream::{Head, Reply};
 use pid_service_laws::Consulted;
 use std::alloc::{AllocError, Global};
 
-/// Answers what a request asks for.
-pub(crate) fn answer<R: Consulted>(
+/// The sender of a command. Of what is no command none is looked for.
+pub(crate) fn sender_for<'b>(request: &Request, head: &Head<'b>) -> Option<Sender<'b>>
+    ensures { (h : RequestHead) → IsHeadOf head.now h → (body : List ℕ)
+        → errand_for request.now (sending_in result) body
+        ≡ errand_for request.now (sender_in (fields_of h)) body }
+{
+    match *request {
+        Request::Refused(_) => None,
+        Request::Asks(_, _) => None,
+        Request::Obeys(_, _) => sender_of(head),
+    }
+}
+
+// Answers a question.
+fn ask<R: Consulted>(
     alloc: Global,
     registry: &mut R,
     question: &Question,
+    format: Format,
+) -> Result<Reply, AllocError>
+    ensures { Replies R.Moderated registry.old registry.new (errands.Asks question.now format)
+        result }
+{
+    match *question {
+        Question::Export => export(alloc, registry, format),
+        Question::Read(path) => read(alloc, registry, path, format),
+        Question::Children(above) => children(alloc, registry, above, format),
+        Question::Lookup(query) => lookup(alloc, registry, query),
+        Question::Submission(number) => submission(alloc, registry, number, format),
+        Question::Pending(after) => pending(alloc, registry, after, format),
+        Question::Changes { since, after } => changes(alloc, registry, since, after, format),
+        Question::Queue(after) => queue(alloc, registry, after, format),
+        Question::Submissions {
+            path,
+            ref author,
+            before,
+        } => submissions(alloc, registry, path, author.as_ref(), before, format),
+        Question::Status => status(alloc, registry, format),
+        Question::Rank(ref who) => rank(alloc, registry, who, format),
+    }
+}
+
+/// Answers a request whose body is in memory.
+pub(crate) fn answer<R: Consulted>(
+    alloc: Global,
+    registry: &mut R,
+    request: &Request,
     sender: Option<Sender<'_>>,
     body: &[u8],
 ) -> Result<Reply, AllocError>
     ensures { Replies R.Moderated registry.old registry.new
-        (errand_for question.now (sending_in sender.entry) body.now) result }
+        (errand_for request.now (sending_in sender.entry) body.now) result }
 {
-    match *question {
-        Question::AnotherMethod => early_reply(alloc, Early::AnotherMethod),
-        Question::BadTarget => early_reply(alloc, Early::BadTarget),
-        Question::NoRoute => early_reply(alloc, Early::NoRoute),
-        Question::WantsGet => early_reply(alloc, Early::WantsGet),
-        Question::WantsPost => early_reply(alloc, Early::WantsPost),
-        Question::BadQuery => early_reply(alloc, Early::BadQuery),
-        Question::Export => export(alloc, registry),
-        Question::Read { path, format } => read(alloc, registry, path, format),
-        Question::Children { above, format } => children(alloc, registry, above, format),
-        Question::Lookup(query) => lookup(alloc, registry, query),
-        Question::Submission { number, format } => submission(alloc, registry, number, format),
-        Question::Pending { after, format } => pending(alloc, registry, after, format),
-        Question::Changes {
-            since,
-            start,
-            format,
-        } => changes(alloc, registry, since, start, format),
-        Question::Queue { after, format } => queue(alloc, registry, after, format),
-        Question::Submissions {
-            sought,
-            ref author,
-            before,
-            format,
-        } => submissions(alloc, registry, sought, author.as_ref(), before, format),
-        Question::Status { format } => status(alloc, registry, format),
-        Question::Rank { ref who, format } => rank(alloc, registry, who, format),
-        Question::Command { verb, format } => command(alloc, registry, verb, format, sender, body),
+    match *request {
+        Request::Refused(early) => early_reply(alloc, early),
+        Request::Asks(ref question, format) => ask(alloc, registry, question, format),
+        Request::Obeys(verb, format) => command(alloc, registry, verb, format, sender, body),
     }
 }

@@ -1,8 +1,8 @@
 //! The service as what answers the requests of a stream.
 ghost use Rattle.std.specs.Prelude.{◌≡◌};
 
-use crate::api::{Format, Question, question_of, sender_of};
-use crate::dispatch::answer;
+use crate::api::{Format, Request, question_of, sender_of};
+use crate::dispatch::{answer, sender_for};
 use crate::importing::import;
 use crate::service::Service;
 use pid_http_stream::{BodyStop, Handler, Head, NoReply, Reply, Wanted};
@@ -17,7 +17,7 @@ impl<R: Consulted> Handler for Service<'_, '_, R> {
     ghost use Rattle.pid_http.specs.Serving.{serving};
     ghost use Rattle.pid_http.specs.Api.Questions.{question};
 
-    type Question = Question;
+    type Question = Request;
 
     /// The format of the reply to an import.
     type Upload = Format;
@@ -46,20 +46,16 @@ impl<R: Consulted> Handler for Service<'_, '_, R> {
 
     ghost means = { λ wanted head. wanted ≡ question head.method head.target };
 
-    fn question(&self, head: &Head<'_>) -> Result<Wanted<Question, Format>, NoReply> {
+    fn question(&self, head: &Head<'_>) -> Result<Wanted<Request, Format>, NoReply> {
         match question_of(self.alloc, self.routes, head.method(), head.target()) {
             Ok(wanted) => Ok(wanted),
             Err(_) => Err(NoReply),
         }
     }
 
-    fn answer(
-        &mut self,
-        question: Question,
-        head: &Head<'_>,
-        body: &[u8],
-    ) -> Result<Reply, NoReply> {
-        match answer(self.alloc, self.registry, &question, sender_of(head), body) {
+    fn answer(&mut self, request: Request, head: &Head<'_>, body: &[u8]) -> Result<Reply, NoReply> {
+        let sender = sender_for(&request, head);
+        match answer(self.alloc, self.registry, &request, sender, body) {
             Ok(reply) => Ok(reply),
             Err(_) => Err(NoReply),
         }

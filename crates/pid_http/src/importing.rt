@@ -5,9 +5,10 @@ ghost use Rattle.pid_moderation.specs.Files.{file_reading};
 ghost use Rattle.pid_moderation.specs.BeforeFile.{import_of};
 ghost use Rattle.pid_http.specs.Api.Outcomes.{outcome_answer};
 ghost use Rattle.pid_http.specs.Api.Replying.{MakesReply};
+ghost use Rattle.pid_http.specs.Api.Senders.{sending_in};
 ghost use Rattle.pid_http.specs.Errands as errands;
 ghost use Rattle.pid_http.specs.Errands.{import_errand};
-ghost use Rattle.pid_http.specs.Steps.Replying.{RepliesToFile, sending_in};
+ghost use Rattle.pid_http.specs.Steps.Replying.{RepliesToFile};
 
 use crate::api::{Format, Sender, outcome_reply};
 use pid_http_stream::{LONGEST_BODY, NoReply, Reply};

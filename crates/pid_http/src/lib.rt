@@ -9,7 +9,6 @@ mod exporting;
 mod handling;
 mod importing;
 pub mod laws;
-mod overviews;
 mod queries;
 mod service;
 mod stream;

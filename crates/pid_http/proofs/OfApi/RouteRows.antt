@@ -1,5 +1,5 @@
 -- The rows of a router, as routes come into it one by one.
-use Rattle.std.proofs.Common.{List, [], ◌∷◌, Result, Ok, Err, Some, ◌≡◌, ℕ, ◌+◌, ◌<◌, length, drop, get_or, ap, inl, inr, refl, subst, ◌∙◌, sym, Bool, true, false}
+use Rattle.std.proofs.Common.{List, [], ◌∷◌, map, Result, Ok, Err, Some, ◌≡◌, ℕ, ◌+◌, ◌<◌, length, drop, get_or, ap, inl, inr, refl, subst, ◌∙◌, sym, Bool, true, false}
 use Rattle.std.specs.Prelude.{◌&&◌, is_none}
 use Rattle.std.proofs.lemmas.List.{drop_more}
 use Rattle.matchit.specs.Rows.{RowsOf}
@@ -8,8 +8,24 @@ use Rattle.matchit.specs.Route.{Scan, parse_route}
 use Rattle.matchit.specs.Router.{RouteOf, route_from, InsertsRead, nearest}
 use Rattle.matchit.specs.declared.error.InsertError.{InsertError}
 use Rattle.matchit.specs.declared.error.InsertError.TheVariants.{Conflict, InvalidParam, InvalidParamSegment, InvalidCatchAll, OutOfMemory}
+use Rattle.matchit.proofs.OnLiterals.{matchit_on_literals}
+use Rattle.pid_http.specs.Api.Routes.{table}
 use Rattle.pid_http.specs.declared.api.route.Route.{Route}
-use Rattle.pid_http.specs.Api.Steps.Routes.{route_path}
+use Rattle.pid_http.specs.declared.api.route.TheConstants.{ROUTES}
+use Rattle.std.specs.Borrow.{Bor}
+
+-- a path and its route, as the table has them, and by its text
+abbrev pub Entry : Type 0
+Entry = Bor (List ℕ) × Route
+
+abbrev pub Given : Type 0
+Given = List ℕ × Route
+
+abbrev pub texts : List Entry → List Given
+texts entries = map (λ entry. (entry.0.now, entry.1)) entries
+
+abbrev pub all_routes : List Given
+all_routes = map (λ row. (row.0.now, row.1)) ROUTES
 
 -- the rows with one route more, where its path can be read
 abbrev pub with_read : Result Scan InsertError → Route → RowsOf (RouteOf Route) → RowsOf (RouteOf Route)
@@ -17,9 +33,9 @@ with_read (Ok scan) route rows = placed (scan.pattern, route_from scan route) ro
 with_read (Err error) route rows = rows
 
 -- the rows with these routes
-unfoldable pub with_all : List Route → RowsOf (RouteOf Route) → RowsOf (RouteOf Route)
+unfoldable pub with_all : List Given → RowsOf (RouteOf Route) → RowsOf (RouteOf Route)
 with_all [] rows = rows
-with_all (route ∷ rest) rows = with_all rest (with_read (parse_route (route_path route)) route rows)
+with_all (entry ∷ rest) rows = with_all rest (with_read (parse_route entry.0) entry.1 rows)
 
 -- what `insert` does where it does not fail
 pub inserted : (read : Result Scan InsertError) (route : Route) (old new : RowsOf (RouteOf Route)) (u : Unit {0}) → InsertsRead read route old new (Ok u) → new ≡ with_read read route old
@@ -27,9 +43,9 @@ inserted (Ok scan) route old new u h = h.1
 inserted (Err error) route old new u h = absurd (elim h.1 [ inl e ↦ cc | inr e ↦ cc ])
 
 -- one route more
-pub next : (all : List Route) (rows : RowsOf (RouteOf Route)) (i : ℕ) (route : Route) → i < length all → with_all (drop i all) rows ≡ with_all (drop (i + 1) all) (with_read (parse_route (route_path (get_or all i route))) (get_or all i route) rows)
+pub next : (all : List Entry) (rows : RowsOf (RouteOf Route)) (i : ℕ) (entry : Entry) → i < length all → with_all (texts (drop i all)) rows ≡ with_all (texts (drop (i + 1) all)) (with_read (parse_route (get_or all i entry).0.now) (get_or all i entry).1 rows)
 unfolding with_all
-next all rows i route below = ap (λ rest. with_all rest rows) (drop_more all i route below)
+next all rows i entry below = ap (λ rest. with_all (texts rest) rows) (drop_more all i entry below)
 
 -- the path of a route can be read, and no row conflicts with it
 abbrev pub reads_new : Result Scan InsertError → RowsOf (RouteOf Route) → Bool
@@ -37,9 +53,9 @@ reads_new (Ok scan) rows = is_none (nearest scan.pattern rows)
 reads_new (Err error) rows = false
 
 -- these routes come in, one after another, and none conflicts with those before
-unfoldable pub all_new : List Route → RowsOf (RouteOf Route) → Bool
+unfoldable pub all_new : List Given → RowsOf (RouteOf Route) → Bool
 all_new [] rows = true
-all_new (route ∷ rest) rows = reads_new (parse_route (route_path route)) rows && all_new rest (with_read (parse_route (route_path route)) route rows)
+all_new (entry ∷ rest) rows = reads_new (parse_route entry.0) rows && all_new rest (with_read (parse_route entry.0) entry.1 rows)
 
 -- then nothing but memory is refused
 pub lacks_memory : (read : Result Scan InsertError) (route : Route) (old new : RowsOf (RouteOf Route)) (e : InsertError) → InsertsRead read route old new (Err e) → reads_new read old ≡ true → e ≡ OutOfMemory
@@ -58,12 +74,30 @@ both_second : (a b : Bool) → a && b ≡ true → b ≡ true
 both_second true b h = h
 both_second false b h = absurd cc
 
-one_new : (all : List Route) (rows : RowsOf (RouteOf Route)) (i : ℕ) (route : Route) → i < length all → all_new (drop i all) rows ≡ (reads_new (parse_route (route_path (get_or all i route))) rows && all_new (drop (i + 1) all) (with_read (parse_route (route_path (get_or all i route))) (get_or all i route) rows))
+one_new : (all : List Entry) (rows : RowsOf (RouteOf Route)) (i : ℕ) (entry : Entry) → i < length all → all_new (texts (drop i all)) rows ≡ (reads_new (parse_route (get_or all i entry).0.now) rows && all_new (texts (drop (i + 1) all)) (with_read (parse_route (get_or all i entry).0.now) (get_or all i entry).1 rows))
 unfolding all_new
-one_new all rows i route below = ap (λ rest. all_new rest rows) (drop_more all i route below)
+one_new all rows i entry below = ap (λ rest. all_new (texts rest) rows) (drop_more all i entry below)
 
-pub first_new : (all : List Route) (rows : RowsOf (RouteOf Route)) (i : ℕ) (route : Route) → i < length all → all_new (drop i all) rows ≡ true → reads_new (parse_route (route_path (get_or all i route))) rows ≡ true
-first_new all rows i route below is = both_first _ _ (sym (one_new all rows i route below) ∙ is)
+pub first_new : (all : List Entry) (rows : RowsOf (RouteOf Route)) (i : ℕ) (entry : Entry) → i < length all → all_new (texts (drop i all)) rows ≡ true → reads_new (parse_route (get_or all i entry).0.now) rows ≡ true
+first_new all rows i entry below is = both_first _ _ (sym (one_new all rows i entry below) ∙ is)
 
-pub more_new : (all : List Route) (rows : RowsOf (RouteOf Route)) (i : ℕ) (route : Route) → i < length all → all_new (drop i all) rows ≡ true → all_new (drop (i + 1) all) (with_read (parse_route (route_path (get_or all i route))) (get_or all i route) rows) ≡ true
-more_new all rows i route below is = both_second _ _ (sym (one_new all rows i route below) ∙ is)
+pub more_new : (all : List Entry) (rows : RowsOf (RouteOf Route)) (i : ℕ) (entry : Entry) → i < length all → all_new (texts (drop i all)) rows ≡ true → all_new (texts (drop (i + 1) all)) (with_read (parse_route (get_or all i entry).0.now) (get_or all i entry).1 rows) ≡ true
+more_new all rows i entry below is = both_second _ _ (sym (one_new all rows i entry below) ∙ is)
+
+-- all routes come in
+all_come : all_new all_routes [] ≡ true
+unfolding all_new with_all matchit_on_literals
+all_come = refl
+
+-- before the first of them
+pub start : (rows : RowsOf (RouteOf Route)) → rows ≡ [] → (with_all all_routes rows ≡ with_all all_routes []) × (all_new all_routes rows ≡ true)
+start rows none = (ap (with_all all_routes) none, ap (all_new all_routes) none ∙ all_come)
+
+-- at the last
+pub reached : (all : List Entry) (rows : RowsOf (RouteOf Route)) (i n : ℕ) → i ≡ n → with_all (texts (drop i all)) rows ≡ with_all (texts all) [] → with_all (texts (drop n all)) rows ≡ with_all (texts all) []
+reached all rows i n e same = subst (λ j. with_all (texts (drop j all)) rows ≡ with_all (texts all) []) e same
+
+-- and after it
+pub finish : (rows : RowsOf (RouteOf Route)) → with_all [] rows ≡ with_all all_routes [] → rows ≡ table
+unfolding with_all matchit_on_literals
+finish rows same = same

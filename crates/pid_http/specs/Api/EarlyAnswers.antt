@@ -19,3 +19,4 @@ early_answer early.WantsPost = answer_with 405 AllowPost []
 early_answer early.BadTarget = request_answer BadTarget
 early_answer early.NoRoute = request_answer NoRoute
 early_answer early.BadQuery = outcome_answer Json (Err BadText)
+early_answer (early.BadValue refusal format) = outcome_answer format (Err refusal)

@@ -10,5 +10,5 @@ abbrev pub as_query : Lookup → LookupQuery
 as_query l = record { flags = l.flags; args = l.args; size = l.size }
 
 -- the look-up that the fields say, if they are not bad
-abbrev pub lookup_asked : Fields → Option LookupQuery
-lookup_asked fields = option_map as_query (lookup_from fields)
+abbrev pub query_said : Fields → Option LookupQuery
+query_said fields = option_map as_query (lookup_from fields)

@@ -1,15 +1,17 @@
--- The routes and their methods: choices of this project.
+-- The routes, and what each of them takes: choices of this project.
 use Rattle.std.specs.Prelude.{ℕ, List, [], ◌∷◌, ◌++◌, Option, Some, None, codes}
 use Rattle.matchit.specs.Rows.{RowsOf, param_token, catch_all_token}
 use Rattle.matchit.specs.Router.{RouteOf, map_key}
 use Rattle.matchit.specs.Seek.{first}
+use Rattle.pid_moderation.specs.declared.verb.Verb.TheVariants as verbs
 use Rattle.pid_http.specs.declared.api.route.Route.{Route}
-use Rattle.pid_http.specs.declared.api.route.Route.TheVariants.{Export, Read, Children}
-use Rattle.pid_http.specs.declared.api.route.Route.TheVariants.{Lookup, Submission, Pending}
-use Rattle.pid_http.specs.declared.api.route.Route.TheVariants.{Changes, Queue, Submissions}
-use Rattle.pid_http.specs.declared.api.route.Route.TheVariants.{Status, Account, Submit}
-use Rattle.pid_http.specs.declared.api.route.Route.TheVariants.{Comment, Withdraw, Approve}
-use Rattle.pid_http.specs.declared.api.route.Route.TheVariants.{Confirm, Reject, Import}
+use Rattle.pid_http.specs.declared.api.route.Route.TheVariants.{Get, Post, Both}
+use Rattle.pid_http.specs.declared.api.route.Payload.{Payload}
+use Rattle.pid_http.specs.declared.api.route.Payload.TheVariants.{Command, Import}
+use Rattle.pid_http.specs.declared.api.route.Topic.{Topic}
+use Rattle.pid_http.specs.declared.api.route.Topic.TheVariants.{Export, Read, Children, Lookup}
+use Rattle.pid_http.specs.declared.api.route.Topic.TheVariants.{Submission, Pending, Changes}
+use Rattle.pid_http.specs.declared.api.route.Topic.TheVariants.{Queue, Submissions, Status, Rank}
 
 -- a route with this path alone
 abbrev pub literal : List ℕ → Route → List ℕ × RouteOf Route
@@ -26,7 +28,7 @@ read_route = (
         ∷ [];
     text = codes "/read/{*path}";
     names = (8, 12) ∷ [];
-    value = Read;
+    value = Get Read;
   },
 )
 
@@ -41,54 +43,45 @@ submission_route = (
         ∷ [];
     text = codes "/submission/{num}";
     names = (13, 16) ∷ [];
-    value = Submission;
+    value = Get Submission;
   },
 )
 
 -- all routes, in the order of their patterns, as a router keeps them
 abbrev pub table : RowsOf (RouteOf Route)
 table =
-    literal (codes "/account") Account
-    ∷ literal (codes "/approve") Approve
-    ∷ literal (codes "/changes") Changes
-    ∷ literal (codes "/children") Children
-    ∷ literal (codes "/comment") Comment
-    ∷ literal (codes "/confirm") Confirm
-    ∷ literal (codes "/import") Import
-    ∷ literal (codes "/lookup") Lookup
-    ∷ literal (codes "/pci.ids") Export
-    ∷ literal (codes "/pending") Pending
-    ∷ literal (codes "/queue") Queue
+    literal (codes "/account") (Both Rank (Command verbs.Account))
+    ∷ literal (codes "/approve") (Post (Command verbs.Approve))
+    ∷ literal (codes "/changes") (Get Changes)
+    ∷ literal (codes "/children") (Get Children)
+    ∷ literal (codes "/comment") (Post (Command verbs.Comment))
+    ∷ literal (codes "/confirm") (Post (Command verbs.Confirm))
+    ∷ literal (codes "/import") (Post Import)
+    ∷ literal (codes "/lookup") (Get Lookup)
+    ∷ literal (codes "/pci.ids") (Get Export)
+    ∷ literal (codes "/pending") (Get Pending)
+    ∷ literal (codes "/queue") (Get Queue)
     ∷ read_route
-    ∷ literal (codes "/reject") Reject
-    ∷ literal (codes "/status") Status
+    ∷ literal (codes "/reject") (Post (Command verbs.Reject))
+    ∷ literal (codes "/status") (Get Status)
     ∷ submission_route
-    ∷ literal (codes "/submissions") Submissions
-    ∷ literal (codes "/submit") Submit
-    ∷ literal (codes "/withdraw") Withdraw
+    ∷ literal (codes "/submissions") (Get Submissions)
+    ∷ literal (codes "/submit") (Post (Command verbs.Submit))
+    ∷ literal (codes "/withdraw") (Post (Command verbs.Withdraw))
     ∷ []
 
 -- the route of a path
 unfoldable pub route_at : List ℕ → Option Route
 route_at path = map_key (λ found. found.value) (first table path)
 
--- the one method that a route takes: GET for questions, POST for commands; none if it takes both
-abbrev pub method_at : Route → Option (List ℕ)
-method_at Export = Some (codes "GET")
-method_at Read = Some (codes "GET")
-method_at Children = Some (codes "GET")
-method_at Lookup = Some (codes "GET")
-method_at Submission = Some (codes "GET")
-method_at Pending = Some (codes "GET")
-method_at Changes = Some (codes "GET")
-method_at Queue = Some (codes "GET")
-method_at Submissions = Some (codes "GET")
-method_at Status = Some (codes "GET")
-method_at Account = None
-method_at Submit = Some (codes "POST")
-method_at Comment = Some (codes "POST")
-method_at Withdraw = Some (codes "POST")
-method_at Approve = Some (codes "POST")
-method_at Confirm = Some (codes "POST")
-method_at Reject = Some (codes "POST")
-method_at Import = Some (codes "POST")
+-- what is asked at a route by GET, if it takes that
+abbrev pub topic_at : Route → Option Topic
+topic_at (Get topic) = Some topic
+topic_at (Post payload) = None
+topic_at (Both topic payload) = Some topic
+
+-- the payload of a route by POST, if it takes that
+abbrev pub payload_at : Route → Option Payload
+payload_at (Get topic) = None
+payload_at (Post payload) = Some payload
+payload_at (Both topic payload) = Some payload

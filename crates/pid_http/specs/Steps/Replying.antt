@@ -1,7 +1,7 @@
 -- What the functions that answer one request say of their reply.
 use Rattle.std.specs.Prelude.{◌≡◌, ◌≤◌, ◌⊎◌, ℕ, true, false, List, [], ◌∷◌, length}
 use Rattle.std.specs.Prelude.{Option, Some, None, Result}
-use Rattle.std.specs.Prelude.{Ok, Err, IsErrAnd, MatchResult, option_copied}
+use Rattle.std.specs.Prelude.{Ok, Err, IsErrAnd, MatchResult}
 use Rattle.std.specs.Io.KnownBytes.{IsAtEnd}
 use Rattle.pid_service_laws.specs.declared.moderated.Moderated.{Ghosts}
 use Rattle.pid_service_laws.specs.Calls.{Call, obeyed}
@@ -18,22 +18,12 @@ use Rattle.pid_http_stream.specs.declared.handler.Reply.{Reply}
 use Rattle.pid_http_stream.specs.declared.handler.ReplyBody.{ReplyBody}
 use Rattle.pid_http_stream.specs.declared.handler.ReplyBody.TheVariants.{Bytes, Written}
 use Rattle.pid_http_stream.specs.declared.reply_head.ReplyHead.{ReplyHead}
-use Rattle.pid_http.specs.Api.Senders.{Sending}
 use Rattle.pid_http.specs.declared.api.format.Format.{Format}
-use Rattle.pid_http.specs.declared.api.sender.Sender.{Sender}
 use Rattle.pid_http.specs.Api.Outcomes.{outcome_answer}
 use Rattle.pid_http.specs.Errands.{Errand}
 use Rattle.pid_http.specs.Known.{Known, Live, Between, Down}
 use Rattle.pid_http.specs.Steps.Going.{Goes}
 use Rattle.pid_http.specs.Serving.{AreQuestions, IsErrandMet, IsPromised, most_questions}
-
--- a sender by its bytes
-abbrev pub sending_of : Sender → Sending
-sending_of s = record { account = s.account.now; key = option_copied s.key }
-
-abbrev pub sending_in : Option Sender → Option Sending
-sending_in None = None
-sending_in (Some s) = Some (sending_of s)
 
 -- the answer with what was found, or with the refusal
 abbrev pub answer_or : {X : Type 0} → Format → (X → Answer) → Result X Refusal → Answer

@@ -8,10 +8,10 @@ ghost use Rattle.std.specs.Prelude.{
   IfErr,
   Ok,
   Err,
-  option_copied,
 };
 ghost use Rattle.form_urlencoded.specs.Form.{raw_pairs as pairs_in};
 ghost use Rattle.pid_http.specs.Api.Commands.{command_made};
+ghost use Rattle.pid_http.specs.Api.Senders.{sending_of};
 
 use crate::api::sender::Sender;
 use crate::api::utf8::text_of;
@@ -39,14 +39,10 @@ pub fn command_in(
     sender: Sender,
     body: &[u8],
 ) -> Result<Command, Refusal>
-    ensures ok { IfOk result (λ command. command_made verb
-        (record { account = sender.entry.account.now; key = option_copied sender.entry.key })
-        body.now
+    ensures ok { IfOk result (λ command. command_made verb (sending_of sender.entry) body.now
         ≡ Ok command) }
     ensures err { IfErr result (λ refusal. refusal ≢ Refusal.Memory
-        → command_made verb
-        (record { account = sender.entry.account.now; key = option_copied sender.entry.key })
-        body.now
+        → command_made verb (sending_of sender.entry) body.now
         ≡ Err refusal) }
 {
     let Some(form) = text_of(body) else {

@@ -27,6 +27,8 @@ pub enum Early {
     NoRoute,
     /// Its query has a field that its route has not, one twice, or a wrong value.
     BadQuery,
+    /// A text of its target is no path, or no number of a submission: a refusal in its format.
+    BadValue(Refusal, Format),
 }
 
 // The reply with the methods that are allowed, which has no body.
@@ -37,7 +39,8 @@ fn allow_reply(alloc: Global, content: Content) -> Reply
 }
 
 /// The reply to a request that comes to no call. One of another method gets the list of those that
-/// are allowed, with no body; any other has a refusal as JSON, whatever format it asks for.
+/// are allowed, with no body; any other has a
+/// refusal, which is JSON but for a bad value.
 pub fn early_reply(alloc: Global, early: Early) -> Result<Reply, AllocError>
     ensures { MakesReply result (early_answer early) }
 {
@@ -48,5 +51,6 @@ pub fn early_reply(alloc: Global, early: Early) -> Result<Reply, AllocError>
         Early::BadTarget => request_reply(alloc, RequestRefusal::BadTarget),
         Early::NoRoute => request_reply(alloc, RequestRefusal::NoRoute),
         Early::BadQuery => refusal_reply(alloc, Format::Json, Refusal::BadText),
+        Early::BadValue(refusal, format) => refusal_reply(alloc, format, refusal),
     }
 }

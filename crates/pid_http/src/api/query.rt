@@ -1,73 +1,26 @@
 //! The values of a query's fields.
-ghost use Rattle.std.specs.Prelude.{
-  ◌≡◌,
-  ◌+◌,
-  ◌==◌,
-  ◌&&◌,
-  nat_le,
-  codes,
-  length,
-  None,
-  Some,
-  IfOk,
-};
+ghost use Rattle.std.specs.Prelude.{◌≡◌, codes, map, not, string_bytes, None, Some, IfOk};
+ghost use Rattle.std.specs.List.{list_all, list_any};
 ghost use Rattle.std.specs.Option.{option_copied};
+ghost use Rattle.std.specs.Str.{bytes_eq};
+ghost use Rattle.pid_form.specs.Fields.{is_twice as is_twice_in};
 ghost use Rattle.pid_moderation.specs.Fields.{texts_of};
 ghost use Rattle.pid_http.specs.Api.Queries.{
   format_said,
   format_in,
-  format_beside as format_in_both,
+  are_of as have_names,
   account_said,
   after_said,
-  above_said,
-};
-ghost use Rattle.pid_http.specs.Api.Queries.{
-  format_beside_two as format_in_three,
-  format_beside_three as format_in_four,
   author_said,
+  path_said,
   since_said,
-  sought_said,
-  start_said,
 };
 
 use crate::api::format::Format;
-use pid_form::{number_up_to, times, value};
+use pid_form::{is_twice, number_up_to, value};
 use pid_ident::{Account, Path, PathText, WordFault};
 use pid_moderation::{REVISIONS, submission_number};
 use std::alloc::{AllocError, Global};
-
-/// Below what children are asked for.
-#[derive(Clone, Copy)]
-pub enum Above {
-    /// Below nothing: the vendors and the classes.
-    Top,
-    /// Below the item with this path.
-    Below(Path),
-    /// Below a text that is no path.
-    BadPath,
-}
-
-/// Where a page of items begins.
-#[derive(Clone, Copy)]
-pub enum Start {
-    /// With the first item.
-    First,
-    /// After this path, whether an item is there or not.
-    Behind(Path),
-    /// After a text that is no path.
-    BadPath,
-}
-
-/// For which path submissions are looked for.
-#[derive(Clone, Copy)]
-pub enum Sought {
-    /// For any.
-    Anywhere,
-    /// For this path.
-    At(Path),
-    /// For a text that is no path.
-    BadPath,
-}
 
 // The format that a value says: JSON if none is said.
 fn format_named(value: Option<&str>) -> Option<Format>
@@ -87,68 +40,44 @@ fn format_named(value: Option<&str>) -> Option<Format>
     }
 }
 
-// The format, of fields that may say nothing else.
-pub(crate) fn format_of(fields: &[(String, String)]) -> Option<Format>
-    ensures { result ≡ format_in (texts_of fields.now) }
+// Whether a name is among these.
+fn is_among(name: &str, names: &[&str]) -> bool
+    ensures { result ≡ list_any (λ other. bytes_eq name.now other.now) names.now }
 {
-    let formats = times(fields, "format");
-    if formats <= 1 && fields.len() == formats {
-        format_named(value(fields, "format"))
-    } else {
-        None
-    }
+    names.iter().any(|other| name == *other)
 }
 
-// The format, of fields that may say one other thing.
-pub(crate) fn format_beside(fields: &[(String, String)], other: &str) -> Option<Format>
-    ensures { result ≡ format_in_both other.now (texts_of fields.now) }
+// Whether no field has another name.
+fn has_no_other(fields: &[(String, String)], names: &[&str]) -> bool
+    ensures { result ≡ list_all (λ field. list_any
+        (λ name. bytes_eq (string_bytes field.0) name.now) names.now) fields.now }
 {
-    let formats = times(fields, "format");
-    let others = times(fields, other);
-    if formats <= 1 && others <= 1 && fields.len() == others + formats {
-        format_named(value(fields, "format"))
-    } else {
-        None
-    }
+    fields.iter().all(|field| is_among(field.0.as_str(), names))
 }
 
-// The format, of fields that may say two other things.
-pub(crate) fn format_beside_two(
-    fields: &[(String, String)],
-    first: &str,
-    second: &str,
-) -> Option<Format>
-    ensures { result ≡ format_in_three first.now second.now (texts_of fields.now) }
+// Whether no field with one of these names is there more than once.
+fn has_none_twice(fields: &[(String, String)], names: &[&str]) -> bool
+    ensures { result ≡ list_all (λ name. not (is_twice_in name.now (texts_of fields.now)))
+        names.now }
 {
-    let formats = times(fields, "format");
-    let firsts = times(fields, first);
-    let seconds = times(fields, second);
-    if formats <= 1 && firsts <= 1 && seconds <= 1 && fields.len() == firsts + seconds + formats {
-        format_named(value(fields, "format"))
-    } else {
-        None
-    }
+    names.iter().all(|name| !is_twice(fields, name))
 }
 
-// The format, of fields that may say three other things.
-pub(crate) fn format_beside_three(
-    fields: &[(String, String)],
-    first: &str,
-    second: &str,
-    third: &str,
-) -> Option<Format>
-    ensures { result ≡ format_in_four first.now second.now third.now (texts_of fields.now) }
+// Whether fields have these names alone, each at most once.
+fn are_of(fields: &[(String, String)], names: &[&str]) -> bool
+    ensures { result ≡ have_names (map (λ name. name.now) names.now) (texts_of fields.now) }
 {
-    let formats = times(fields, "format");
-    let firsts = times(fields, first);
-    let seconds = times(fields, second);
-    let thirds = times(fields, third);
-    if formats <= 1
-        && firsts <= 1
-        && seconds <= 1
-        && thirds <= 1
-        && fields.len() == firsts + seconds + thirds + formats
-    {
+    if !has_no_other(fields, names) {
+        return false;
+    }
+    has_none_twice(fields, names)
+}
+
+// The format that fields say, which may have these names alone.
+pub(crate) fn format_of(fields: &[(String, String)], names: &[&str]) -> Option<Format>
+    ensures { result ≡ format_in (map (λ name. name.now) names.now) (texts_of fields.now) }
+{
+    if are_of(fields, names) {
         format_named(value(fields, "format"))
     } else {
         None
@@ -198,19 +127,6 @@ pub(crate) fn after_named(value: Option<&str>) -> Option<u32>
     }
 }
 
-// What children are asked for below, by a text.
-pub(crate) fn above_named(text: &str) -> Above
-    ensures { result ≡ above_said text.now }
-{
-    if text.is_empty() {
-        return Above::Top;
-    }
-    match Path::parse(text) {
-        Some(path) => Above::Below(path),
-        None => Above::BadPath,
-    }
-}
-
 // The number above which changes are asked for: 0 if none is said.
 pub(crate) fn since_named(value: Option<&str>) -> Option<u64>
     ensures { result ≡ since_said (option_copied value.entry) }
@@ -227,28 +143,15 @@ pub(crate) fn since_named(value: Option<&str>) -> Option<u64>
     }
 }
 
-// Where a text says that a page begins.
-pub(crate) fn start_named(text: &str) -> Start
-    ensures { result ≡ start_said text.now }
+// The path that a text names, if it names one; none if it is empty.
+pub(crate) fn path_named(text: &str) -> Option<Option<Path>>
+    ensures { result ≡ path_said text.now }
 {
     if text.is_empty() {
-        return Start::First;
+        return Some(None);
     }
     match Path::parse(text) {
-        Some(path) => Start::Behind(path),
-        None => Start::BadPath,
-    }
-}
-
-// For which path a text says that submissions are looked for.
-pub(crate) fn sought_named(text: &str) -> Sought
-    ensures { result ≡ sought_said text.now }
-{
-    if text.is_empty() {
-        return Sought::Anywhere;
-    }
-    match Path::parse(text) {
-        Some(path) => Sought::At(path),
-        None => Sought::BadPath,
+        Some(path) => Some(Some(path)),
+        None => None,
     }
 }

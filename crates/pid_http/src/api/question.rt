@@ -1,20 +1,20 @@
 //! What a method and a target ask for.
 ghost use Rattle.std.specs.Prelude.{◌≡◌, true, false, IfOk, MatchOption};
 ghost use Rattle.form_urlencoded.specs.Form.{split_once as split_bytes};
-ghost use Rattle.pid_http.specs.Api.Routes.{method_at};
 ghost use Rattle.pid_http.specs.Api.Questions.{
   question,
   with_target,
-  in_other,
+  with_topic,
+  with_payload,
   is_target,
 };
 
-use crate::api::asking::ask_route;
+use crate::api::asking::{ask_payload, ask_topic};
+use crate::api::early::Early;
 use crate::api::format::Format;
 use crate::api::lookup_query::LookupQuery;
 use crate::api::method::method_named;
-use crate::api::query::{Above, Sought, Start};
-use crate::api::route::{Route, method_for};
+use crate::api::route::{Payload, Topic};
 use crate::api::routes::Routes;
 use crate::api::utf8::text_of;
 use http::Method;
@@ -24,80 +24,51 @@ use pid_ident::{Account, Path};
 use pid_moderation::Verb;
 use std::alloc::{AllocError, Global};
 
-/// What a request whose body is held in memory asks for by its method and its target.
-///
-/// The first that holds is answered, in the order of the first six.
+/// What a request asks the registry.
 #[derive(Drop)]
 pub enum Question {
-    /// The method is neither GET nor POST.
-    AnotherMethod,
-    /// The target does not begin with `/`.
-    BadTarget,
-    /// No route has the path.
-    NoRoute,
-    /// The route takes GET.
-    WantsGet,
-    /// The route takes POST.
-    WantsPost,
-    /// A field of the query is unknown to the route, there twice, or has a wrong value.
-    BadQuery,
     /// The canonical text of all items.
     Export,
-    /// The item with a path; none if the text is no path.
-    Read {
-        path: Option<Path>,
-        format: Format,
-    },
-    /// The items right below another one.
-    Children {
-        above: Above,
-        format: Format,
-    },
+    /// The item at a path.
+    Read(Path),
+    /// The items right below a path, or those at the top.
+    Children(Option<Path>),
     /// A look-up.
     Lookup(LookupQuery),
-    /// The submission with a number; none if the text is no number of a submission.
-    Submission {
-        number: Option<u32>,
-        format: Format,
-    },
+    /// The submission with a number.
+    Submission(u32),
     /// The pending submissions with greater numbers than this.
-    Pending {
-        after: u32,
-        format: Format,
-    },
-    /// The items that commands with greater numbers than this added or renamed, after some path.
+    Pending(u32),
+    /// The items that commands with greater numbers than this added or renamed, after a path or
+    /// from the first one on.
     Changes {
         since: u64,
-        start: Start,
-        format: Format,
+        after: Option<Path>,
     },
     /// The queue of a moderator: its pending submissions with greater numbers than this.
-    Queue {
-        after: u32,
-        format: Format,
-    },
-    /// The submissions for a path and of an author, if one is named, with numbers below this one,
-    /// of which 0 stands for no bound.
+    Queue(u32),
+    /// The submissions for a path and of an author, where one is named, with numbers below this
+    /// one, of which 0 stands for no bound.
     Submissions {
-        sought: Sought,
+        path: Option<Path>,
         author: Option<Account>,
         before: u32,
-        format: Format,
     },
     /// How much the registry holds.
-    Status {
-        format: Format,
-    },
+    Status,
     /// The rank of an account.
-    Rank {
-        who: Account,
-        format: Format,
-    },
-    /// A command, whose fields are the body.
-    Command {
-        verb: Verb,
-        format: Format,
-    },
+    Rank(Account),
+}
+
+/// What a request whose body is held in memory asks for by its method and its target.
+#[derive(Drop)]
+pub enum Request {
+    /// Nothing: it is refused before the registry is asked.
+    Refused(Early),
+    /// An answer, in a format.
+    Asks(Question, Format),
+    /// That a command is obeyed, whose fields are the body, with the reply in a format.
+    Obeys(Verb, Format),
 }
 
 // The path and the query of a target.
@@ -123,17 +94,40 @@ fn text_of_target(target: &[u8]) -> Option<&str>
     }
 }
 
-// The refusal, if the route takes the other method.
-fn other_method(method: &Method, route: Route) -> Option<Question>
-    ensures { result ≡ in_other method.now (method_at route) }
+// What a GET asks for, by what it is about and its query.
+fn get(
+    alloc: Global,
+    topic: Option<Topic>,
+    path: &str,
+    query: &str,
+) -> Result<Wanted<Request, Format>, AllocError>
+    ensures { IfOk result (λ wanted. wanted ≡ with_topic topic path.now query.now) }
 {
-    let wanted = method_for(route)?;
-    if *method == wanted {
-        None
-    } else if wanted == Method::GET {
-        Some(Question::WantsGet)
-    } else {
-        Some(Question::WantsPost)
+    let Some(topic) = topic else {
+        return Ok(Wanted::Buffered(Request::Refused(Early::WantsPost)));
+    };
+    let fields = fields_of(alloc, query)?;
+    match ask_topic(alloc, topic, path, &fields)? {
+        Some(request) => Ok(Wanted::Buffered(request)),
+        None => Ok(Wanted::Buffered(Request::Refused(Early::BadQuery))),
+    }
+}
+
+// What a POST asks for, by what it sends and its query.
+fn post(
+    alloc: Global,
+    payload: Option<Payload>,
+    query: &str,
+) -> Result<Wanted<Request, Format>, AllocError>
+    ensures { IfOk result (λ wanted. wanted ≡ with_payload payload query.now) }
+{
+    let Some(payload) = payload else {
+        return Ok(Wanted::Buffered(Request::Refused(Early::WantsGet)));
+    };
+    let fields = fields_of(alloc, query)?;
+    match ask_payload(payload, &fields) {
+        Some(wanted) => Ok(wanted),
+        None => Ok(Wanted::Buffered(Request::Refused(Early::BadQuery))),
     }
 }
 
@@ -144,20 +138,17 @@ fn ask(
     routes: &Routes,
     method: &Method,
     target: &str,
-) -> Result<Wanted<Question, Format>, AllocError>
+) -> Result<Wanted<Request, Format>, AllocError>
     ensures { IfOk result (λ wanted. wanted ≡ with_target method.now target.now) }
 {
     let (path, query) = split_target(target);
     let Some(route) = routes.route_of(path) else {
-        return Ok(Wanted::Buffered(Question::NoRoute));
+        return Ok(Wanted::Buffered(Request::Refused(Early::NoRoute)));
     };
-    if let Some(refusal) = other_method(method, route) {
-        return Ok(Wanted::Buffered(refusal));
-    }
-    let fields = fields_of(alloc, query)?;
-    match ask_route(alloc, method, route, path, &fields)? {
-        Some(wanted) => Ok(wanted),
-        None => Ok(Wanted::Buffered(Question::BadQuery)),
+    if *method == Method::GET {
+        get(alloc, route.topic(), path, query)
+    } else {
+        post(alloc, route.payload(), query)
     }
 }
 
@@ -176,14 +167,14 @@ pub fn question_of(
     routes: &Routes,
     method: &[u8],
     target: &[u8],
-) -> Result<Wanted<Question, Format>, AllocError>
+) -> Result<Wanted<Request, Format>, AllocError>
     ensures { IfOk result (λ wanted. wanted ≡ question method.now target.now) }
 {
     let Some(method) = method_named(method) else {
-        return Ok(Wanted::Buffered(Question::AnotherMethod));
+        return Ok(Wanted::Buffered(Request::Refused(Early::AnotherMethod)));
     };
     let Some(target) = text_of_target(target) else {
-        return Ok(Wanted::Buffered(Question::BadTarget));
+        return Ok(Wanted::Buffered(Request::Refused(Early::BadTarget)));
     };
     ask(alloc, routes, &method, target)
 }

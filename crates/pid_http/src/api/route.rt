@@ -1,99 +1,85 @@
-//! What the paths of targets are the way to.
+//! The table of routes: a path, the methods that it takes, and what each of them asks for.
 ghost use Rattle.std.specs.Prelude.{◌≡◌};
-ghost use Rattle.pid_http.specs.Api.Routes.{method_at};
-ghost use Rattle.pid_http.specs.Api.Steps.Routes.{route_path};
+ghost use Rattle.pid_http.specs.Api.Routes.{topic_at, payload_at};
 
-use http::Method;
+use pid_moderation::Verb;
 
-/// What a path is the way to.
+/// What a question is about.
 #[derive(Clone, Copy)]
-pub enum Route {
-    /// `/pci.ids`
+pub enum Topic {
     Export,
-    /// `/read/` and a path text
     Read,
-    /// `/children`
     Children,
-    /// `/lookup`
     Lookup,
-    /// `/submission/` and a number
     Submission,
-    /// `/pending`
     Pending,
-    /// `/changes`
     Changes,
-    /// `/queue`
     Queue,
-    /// `/submissions`
     Submissions,
-    /// `/status`
     Status,
-    /// `/account`
-    Account,
-    /// `/submit`
-    Submit,
-    /// `/comment`
-    Comment,
-    /// `/withdraw`
-    Withdraw,
-    /// `/approve`
-    Approve,
-    /// `/confirm`
-    Confirm,
-    /// `/reject`
-    Reject,
-    /// `/import`
+    Rank,
+}
+
+/// What a body is.
+#[derive(Clone, Copy)]
+pub enum Payload {
+    /// The fields of a command.
+    Command(Verb),
+    /// A file.
     Import,
 }
 
-// The path of a route, as a router reads it.
-pub(crate) fn path_of(route: Route) -> &'static str
-    ensures { result.now ≡ route_path route }
-{
-    match route {
-        Route::Export => "/pci.ids",
-        Route::Read => "/read/{*path}",
-        Route::Children => "/children",
-        Route::Lookup => "/lookup",
-        Route::Submission => "/submission/{num}",
-        Route::Pending => "/pending",
-        Route::Changes => "/changes",
-        Route::Queue => "/queue",
-        Route::Submissions => "/submissions",
-        Route::Status => "/status",
-        Route::Account => "/account",
-        Route::Submit => "/submit",
-        Route::Comment => "/comment",
-        Route::Withdraw => "/withdraw",
-        Route::Approve => "/approve",
-        Route::Confirm => "/confirm",
-        Route::Reject => "/reject",
-        Route::Import => "/import",
-    }
+/// What a path takes.
+#[derive(Clone, Copy)]
+pub enum Route {
+    Get(Topic),
+    Post(Payload),
+    Both(Topic, Payload),
 }
 
-// The method that a route takes; none if it takes both.
-pub(crate) fn method_for(route: Route) -> Option<Method>
-    ensures { result ≡ method_at route }
-{
-    match route {
-        Route::Export
-        | Route::Read
-        | Route::Children
-        | Route::Lookup
-        | Route::Submission
-        | Route::Pending
-        | Route::Changes
-        | Route::Queue
-        | Route::Submissions
-        | Route::Status => Some(Method::GET),
-        Route::Account => None,
-        Route::Submit
-        | Route::Comment
-        | Route::Withdraw
-        | Route::Approve
-        | Route::Confirm
-        | Route::Reject
-        | Route::Import => Some(Method::POST),
+// Each path, as a router reads it, and what it takes.
+pub(crate) const ROUTES: [(&str, Route); 18] = [
+    ("/pci.ids", Route::Get(Topic::Export)),
+    ("/read/{*path}", Route::Get(Topic::Read)),
+    ("/children", Route::Get(Topic::Children)),
+    ("/lookup", Route::Get(Topic::Lookup)),
+    ("/submission/{num}", Route::Get(Topic::Submission)),
+    ("/pending", Route::Get(Topic::Pending)),
+    ("/changes", Route::Get(Topic::Changes)),
+    ("/queue", Route::Get(Topic::Queue)),
+    ("/submissions", Route::Get(Topic::Submissions)),
+    ("/status", Route::Get(Topic::Status)),
+    (
+        "/account",
+        Route::Both(Topic::Rank, Payload::Command(Verb::Account)),
+    ),
+    ("/submit", Route::Post(Payload::Command(Verb::Submit))),
+    ("/comment", Route::Post(Payload::Command(Verb::Comment))),
+    ("/withdraw", Route::Post(Payload::Command(Verb::Withdraw))),
+    ("/approve", Route::Post(Payload::Command(Verb::Approve))),
+    ("/confirm", Route::Post(Payload::Command(Verb::Confirm))),
+    ("/reject", Route::Post(Payload::Command(Verb::Reject))),
+    ("/import", Route::Post(Payload::Import)),
+];
+
+impl Route {
+    // What a GET asks about, if the path takes one.
+    pub(crate) fn topic(self) -> Option<Topic>
+        ensures { result ≡ topic_at self }
+    {
+        match self {
+            Route::Get(topic) | Route::Both(topic, _) => Some(topic),
+            Route::Post(_) => None,
+        }
+    }
+
+    // What a POST sends, if the path takes one.
+    pub(crate) fn payload(self) -> Option<Payload>
+        ensures { result ≡ payload_at self }
+    {
+        match self {
+            Route::Post(payload) | Route::Both(_, payload) => Some(payload),
+            Route::Get(_) => None,
+        }
     }
 }

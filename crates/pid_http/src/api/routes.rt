@@ -2,7 +2,7 @@
 ghost use Rattle.std.specs.Prelude.{◌≡◌, IfErr};
 ghost use Rattle.pid_http.specs.Api.Routes.{table, route_at};
 
-use crate::api::route::{Route, path_of};
+use crate::api::route::{ROUTES, Route};
 use matchit::{InsertError, Router};
 use std::alloc::Global;
 
@@ -22,29 +22,9 @@ impl Routes {
     pub fn new(alloc: Global) -> Result<Routes, InsertError>
         ensures { IfErr result (λ e. e ≡ InsertError.OutOfMemory) }
     {
-        let all = [
-            Route::Export,
-            Route::Read,
-            Route::Children,
-            Route::Lookup,
-            Route::Submission,
-            Route::Pending,
-            Route::Changes,
-            Route::Queue,
-            Route::Submissions,
-            Route::Status,
-            Route::Account,
-            Route::Submit,
-            Route::Comment,
-            Route::Withdraw,
-            Route::Approve,
-            Route::Confirm,
-            Route::Reject,
-            Route::Import,
-        ];
         let mut router = Router::new(alloc);
-        for route in all {
-            match router.insert(path_of(route), route) {
+        for row in ROUTES {
+            match router.insert(row.0, row.1) {
                 Ok(()) => {}
                 Err(error) => return Err(error),
             }

@@ -1,10 +1,10 @@
 //! Who sends a command.
-ghost use Rattle.std.specs.Prelude.{◌≡◌, MatchOption, None, Some, true, false, option_copied};
+ghost use Rattle.std.specs.Prelude.{◌≡◌, MatchOption, true, false};
 ghost use Rattle.httparse.specs.Grammar.{RequestHead};
-ghost use Rattle.httparse.specs.Spans.{IsRequestAt};
+ghost use Rattle.pid_http_stream.specs.HeadParts.{IsHeadOf};
 ghost use Rattle.pid_http_stream.specs.Requests.{fields_of};
 ghost use Rattle.pid_ident.specs.Words.{is_account as account_test, is_key as key_test};
-ghost use Rattle.pid_http.specs.Api.Senders.{sender};
+ghost use Rattle.pid_http.specs.Api.Senders.{sender, sending_in};
 
 use crate::api::utf8::text_of;
 use pid_http_stream::Head;
@@ -38,11 +38,8 @@ fn key_of(bytes: &[u8]) -> Option<&str>
 /// The sender that a head names: X-Account once, and X-Key at most once, each of which keeps its
 /// rule.
 pub fn sender_of<'b>(head: &Head<'b>) -> Option<Sender<'b>>
-    ensures { (request : RequestHead)
-        → IsRequestAt head.now.bytes.now head.now.fields.now head.now.spans request
-        → MatchOption result (sender (fields_of request) ≡ None)
-        (λ s. sender (fields_of request)
-        ≡ Some (record { account = s.account.now; key = option_copied s.key })) }
+    ensures { (h : RequestHead) → IsHeadOf head.now h
+        → sender (fields_of h) ≡ sending_in result }
 {
     if head.count_named(b"x-account") > 1 {
         return None;

@@ -2,7 +2,7 @@ use Rattle.pid_moderation.specs.declared.refusal.Refusal.TheVariants.{BadText}
 use Rattle.pid_moderation.specs.Files.{asks}
 use Rattle.pid_http.specs.Api.Commands.{command_made}
 use Rattle.pid_http.specs.Errands.{Denied, command_errand}
-use Rattle.pid_http.specs.Steps.Replying.{sending_of}
+use Rattle.pid_http.specs.Api.Senders.{sending_of}
 use Rattle.pid_http.proofs.Meeting.{denied, form_refused, no_call, obeyed, obeyed_met, turned, replied}
 use Rattle.pid_http.proofs.commanding.command.Goals as goal
 

@@ -1,7 +1,7 @@
 use Rattle.std.specs.Prelude.{Some}
 use Rattle.pid_moderation.specs.declared.refusal.Refusal.TheVariants.{BadText}
 use Rattle.pid_http.specs.Errands.{Denied, import_errand}
-use Rattle.pid_http.specs.Steps.Replying.{sending_of}
+use Rattle.pid_http.specs.Api.Senders.{sending_of}
 use Rattle.pid_http.proofs.Imports.{denied_behind, of_owner}
 use Rattle.pid_http.proofs.Meeting.{denied, short_sender}
 use Rattle.pid_http.proofs.importing.import.Goals as goal

@@ -9,18 +9,17 @@ use Rattle.pid_moderation.specs.Items.{name_at}
 use Rattle.pid_moderation.specs.Views.{items_of}
 use Rattle.pid_moderation.specs.ItemPairs.{pair_of}
 use Rattle.pid_moderation.specs.declared.lists.Item.{Item}
-use Rattle.pid_moderation.specs.declared.refusal.Refusal.TheVariants.{BadPath}
 use Rattle.pid_http.specs.declared.api.format.Format.{Format}
 use Rattle.pid_http.specs.Api.ItemAnswers.{children_answer}
-use Rattle.pid_http.specs.Api.Outcomes.{outcome_answer}
 use Rattle.pid_http.specs.Api.Replying.{MakesReply}
 use Rattle.pid_http.specs.Answering.{answer_over, children_below, children_or_missing, items_if}
-use Rattle.pid_http.specs.Errands.{Answered, Children}
-use Rattle.pid_http.proofs.Meeting.{IsQuestion, answered, answers_by, answers_so, no_call, question_met, question_then, refused_call, replied}
+use Rattle.pid_http.specs.Errands.{Asks}
+use Rattle.pid_http.specs.declared.api.question.Question.TheVariants as questions
+use Rattle.pid_http.proofs.Meeting.{IsQuestion, answers_by, answers_so, question_met, question_then, refused_call, replied}
 use Rattle.pid_http.proofs.queries.children.Goals as goal
-use Rattle.pid_http.proofs.queries.children.Goals.{in-Top, in-Below+in-Ok-Some}
+use Rattle.pid_http.proofs.queries.children.Goals.{in-None, in-Some+in-Ok-Some}
 
-question : (above : Option Path) (format : Format) → IsQuestion format (λ (items : Vec Item Global). children_answer format (map pair_of items.items)) (λ h (items : Vec Item Global). Some (map pair_of items.items) ≡ children_below above (items_of h)) (Children above format)
+question : (above : Option Path) (format : Format) → IsQuestion format (λ (items : Vec Item Global). children_answer format (map pair_of items.items)) (λ h (items : Vec Item Global). Some (map pair_of items.items) ≡ children_below above (items_of h)) (Asks (questions.Children above) format)
 unfolding answer_over
 question above format = record {
   over = λ h x e. ap (children_or_missing format) e;
@@ -29,7 +28,7 @@ question above format = record {
 }
 
 -- where nothing is at the path
-missing : (path : Path) (format : Format) → IsQuestion format (λ (x : Unit {0}). children_or_missing format None) (λ h (x : Unit {0}). None ≡ children_below (Some path) (items_of h)) (Children (Some path) format)
+missing : (path : Path) (format : Format) → IsQuestion format (λ (x : Unit {0}). children_or_missing format None) (λ h (x : Unit {0}). None ≡ children_below (Some path) (items_of h)) (Asks (questions.Children (Some path)) format)
 unfolding answer_over
 missing path format = record {
   over = λ h x e. ap (children_or_missing format) e;
@@ -46,33 +45,28 @@ below path under e name h items is told =
     ap Some (told ∙ ap (λ (u : Option Path). children_of (option_map path_text u) (items_of h)) e)
     ∙ ap (λ (n : Option (List ℕ)). items_if n (children_of (Some (path_text path)) (items_of h))) is
 
-pub returns-in-BadPath : goal.returns-in-BadPath
-returns-in-BadPath g c =
-    let given = outcome_answer c.args.format (Err BadPath) in
-    rw c.in-BadPath.is (replied _ _ _ (Answered given) _ given c.refusal_reply-in-BadPath.ensures (no_call _ _ _ (answered given)))
-
 pub returns-in-Ok-None : goal.returns-in-Ok-None
 returns-in-Ok-None g c =
-    rw c.in-Below.is (replied _ _ _ _ _ _ c.missing_reply.ensures (question_met _ g.met.R.Moderated.lives _ _ (Ok tt) _ _ _ _ (missing c.in-Below.path c.args.format)
-    (answers_so _ _ _ None tt _ _ (λ h is. ap (λ (n : Option (List ℕ)). items_if n (children_of (Some (path_text c.in-Below.path)) (items_of h))) is) (rw c.in-Ok-None.field-0-is at c.in-Ok-None.ensures))))
+    rw c.in-Some.is (replied _ _ _ _ _ _ c.missing_reply.ensures (question_met _ g.met.R.Moderated.lives _ _ (Ok tt) _ _ _ _ (missing c.in-Some.path c.args.format)
+    (answers_so _ _ _ None tt _ _ (λ h is. ap (λ (n : Option (List ℕ)). items_if n (children_of (Some (path_text c.in-Some.path)) (items_of h))) is) (rw c.in-Ok-None.field-0-is at c.in-Ok-None.ensures))))
 
 pub returns-in-Err : goal.returns-in-Err
 returns-in-Err g c =
-    let q = question (Some c.in-Below.path) c.args.format in
-    rw c.in-Below.is (replied _ _ _ _ _ _ c.refusal_reply.ensures (refused_call _ g.met.R.Moderated.lives _ _ _ _ c.args.format (Children (Some c.in-Below.path) c.args.format) q.refused q.no_command c.in-Err.ensures))
+    let q = question (Some c.in-Some.path) c.args.format in
+    rw c.in-Some.is (replied _ _ _ _ _ _ c.refusal_reply.ensures (refused_call _ g.met.R.Moderated.lives _ _ _ _ c.args.format (Asks (questions.Children (Some c.in-Some.path)) c.args.format) q.refused q.no_command c.in-Err.ensures))
 
 pub returns-in-Ok : goal.returns-in-Ok
 returns-in-Ok g c =
     let is = subst (λ items. MakesReply c.children_reply.result (children_answer c.args.format (map pair_of items))) c.deref.ensures.value c.children_reply.ensures in
     elim c.match-above.branch [
-      | in-Top w ↦ (rw w.in-Top.is (replied _ _ _ _ _ _ is (question_met _ g.met.R.Moderated.lives _ _ _ _ _ _ _ (question None c.args.format) (answers_by _ _ _ _ _ _ (at_top c.match-above.under w.under-is) (rw w.registry-is at c.in-Ok.ensures)))))
-      | in-Below+in-Ok-Some w ↦ (rw w.in-Below.is (replied _ _ _ _ _ _ is
-          (question_then _ g.met.R.Moderated.lives _ _ _ _ _ _ _ _ _ _ _ (question (Some w.in-Below.path) c.args.format) (omega arith) (below w.in-Below.path c.match-above.under w.under-is _) (rw w.in-Ok-Some.field-0-is at w.in-Ok-Some.ensures) (rw w.registry-is at c.in-Ok.ensures))))
+      | in-None w ↦ (rw w.in-None.is (replied _ _ _ _ _ _ is (question_met _ g.met.R.Moderated.lives _ _ _ _ _ _ _ (question None c.args.format) (answers_by _ _ _ _ _ _ (at_top c.match-above.above (w.above-is ∙ w.in-None.is)) (rw w.registry-is at c.in-Ok.ensures)))))
+      | in-Some+in-Ok-Some w ↦ (rw w.in-Some.is (replied _ _ _ _ _ _ is
+          (question_then _ g.met.R.Moderated.lives _ _ _ _ _ _ _ _ _ _ _ (question (Some w.in-Some.path) c.args.format) (omega arith) (below w.in-Some.path c.match-above.above w.above-is _) (rw w.in-Ok-Some.field-0-is at w.in-Ok-Some.ensures) (rw w.registry-is at c.in-Ok.ensures))))
     ]
 
 pub returns-in-Err-children : goal.returns-in-Err-children
 returns-in-Err-children g c = elim c.match-above.branch [
-  | in-Top w ↦ (rw w.in-Top.is (replied _ _ _ _ _ _ c.refusal_reply-in-Err-children.ensures (question_met _ g.met.R.Moderated.lives _ _ _ _ _ _ _ (question None c.args.format) (answers_by _ _ _ _ _ _ (at_top c.match-above.under w.under-is) (rw w.registry-is at c.in-Err-children.ensures)))))
-  | in-Below+in-Ok-Some w ↦ (rw w.in-Below.is (replied _ _ _ _ _ _ c.refusal_reply-in-Err-children.ensures
-      (question_then _ g.met.R.Moderated.lives _ _ _ _ _ _ _ _ _ _ _ (question (Some w.in-Below.path) c.args.format) (omega arith) (below w.in-Below.path c.match-above.under w.under-is _) (rw w.in-Ok-Some.field-0-is at w.in-Ok-Some.ensures) (rw w.registry-is at c.in-Err-children.ensures))))
+  | in-None w ↦ (rw w.in-None.is (replied _ _ _ _ _ _ c.refusal_reply-in-Err-children.ensures (question_met _ g.met.R.Moderated.lives _ _ _ _ _ _ _ (question None c.args.format) (answers_by _ _ _ _ _ _ (at_top c.match-above.above (w.above-is ∙ w.in-None.is)) (rw w.registry-is at c.in-Err-children.ensures)))))
+  | in-Some+in-Ok-Some w ↦ (rw w.in-Some.is (replied _ _ _ _ _ _ c.refusal_reply-in-Err-children.ensures
+      (question_then _ g.met.R.Moderated.lives _ _ _ _ _ _ _ _ _ _ _ (question (Some w.in-Some.path) c.args.format) (omega arith) (below w.in-Some.path c.match-above.above w.above-is _) (rw w.in-Ok-Some.field-0-is at w.in-Ok-Some.ensures) (rw w.registry-is at c.in-Err-children.ensures))))
 ]

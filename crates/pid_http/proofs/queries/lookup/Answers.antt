@@ -14,7 +14,9 @@ use Rattle.pid_service_laws.specs.Moderating.{LooksUp}
 use Rattle.pid_http.specs.declared.api.lookup_query.LookupQuery.{LookupQuery}
 use Rattle.pid_http.specs.Api.LookupAnswers.{lookup_answer}
 use Rattle.pid_http.specs.Answering.{answer_over, lookup_in, IsErrandRefused}
-use Rattle.pid_http.specs.Errands.{Lookup}
+use Rattle.pid_http.specs.Errands.{Asks}
+use Rattle.pid_http.specs.declared.api.question.Question.TheVariants as questions
+use Rattle.pid_http.specs.declared.api.format.Format.{Format}
 use Rattle.pid_http.specs.Serving.{IsMetOver, AnsweredOver, NotDone, Refused}
 use Rattle.pid_http.specs.Known.{Live}
 use Rattle.pid_http.proofs.Meeting.{from_call, one_call, one_question, replied}
@@ -24,21 +26,21 @@ use Rattle.pid_http.proofs.queries.lookup.Goals as goal
 by_flags : (l : LookupQuery) (h : History) (b : Bool) → is_bad l.flags ≡ b → (if b then Err lookups.BadFlags else Ok (answer_of (tree_of h) l.flags l.args l.size)) ≡ lookup_in l h
 by_flags l h b e = ap (λ (x : Bool). if◌then◌else◌ {A = Result Found (LookupRefusal Refusal)} x (Err lookups.BadFlags) (Ok (answer_of (tree_of h) l.flags l.args l.size))) (sym e)
 
-over : (l : LookupQuery) (h : History) (result : Result Found (LookupRefusal Refusal)) → LooksUp result (tree_of h) l.flags l.args l.size → IsMetOver h (Lookup l) (lookup_answer result) (nothing_sent ∷ []) (Live h)
+over : (l : LookupQuery) (format : Format) (h : History) (result : Result Found (LookupRefusal Refusal)) → LooksUp result (tree_of h) l.flags l.args l.size → IsMetOver h (Asks (questions.Lookup l) format) (lookup_answer result) (nothing_sent ∷ []) (Live h)
 unfolding answer_over
-over l h (Ok found) (good, is) = AnsweredOver (ap lookup_answer (ap Ok is ∙ by_flags l h false good)) one_question refl
-over l h (Err lookups.BadFlags) bad = AnsweredOver (ap lookup_answer (by_flags l h true bad)) one_question refl
-over l h (Err (lookups.Names f)) fault = NotDone f fault (refl, refl) one_question refl
-over l h (Err lookups.Memory) told = NotDone Memory (inl refl) (refl, refl) one_question refl
+over l format h (Ok found) (good, is) = AnsweredOver (ap lookup_answer (ap Ok is ∙ by_flags l h false good)) one_question refl
+over l format h (Err lookups.BadFlags) bad = AnsweredOver (ap lookup_answer (by_flags l h true bad)) one_question refl
+over l format h (Err (lookups.Names f)) fault = NotDone f fault (refl, refl) one_question refl
+over l format h (Err lookups.Memory) told = NotDone Memory (inl refl) (refl, refl) one_question refl
 
-failed : (l : LookupQuery) (result : Result Found (LookupRefusal Refusal)) → result ≡ Err (lookups.Names HasFailed) → IsErrandRefused (Lookup l) HasFailed (lookup_answer result)
-failed l result e = (refl, ap lookup_answer e)
+failed : (l : LookupQuery) (format : Format) (result : Result Found (LookupRefusal Refusal)) → result ≡ Err (lookups.Names HasFailed) → IsErrandRefused (Asks (questions.Lookup l) format) HasFailed (lookup_answer result)
+failed l format result e = (refl, ap lookup_answer e)
 
 pub returns : goal.returns
-returns g c =
+returns g c format =
     let l = c.args.query in
     let e = c.lookup-found.ensures in
     replied _ _ _ _ _ _ c.lookup_reply.ensures (from_call _ g.met.R.Moderated.lives _ _ _ (lookup_answer c.lookup-found.result)
     (one_call _ _ _ nothing_sent e.calls (λ off. (e.failed off).1)) e.honest
-    (λ clean h shows. (Live h, e.kept clean h shows, over l h c.lookup-found.result (e.told clean h shows)))
-    (λ off. Refused (failed l c.lookup-found.result (e.failed off).0) one_question))
+    (λ clean h shows. (Live h, e.kept clean h shows, over l format h c.lookup-found.result (e.told clean h shows)))
+    (λ off. Refused (failed l format c.lookup-found.result (e.failed off).0) one_question))

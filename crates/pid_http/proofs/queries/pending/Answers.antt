@@ -9,11 +9,12 @@ use Rattle.pid_moderation.specs.PendingPages.{pending_in, told_of}
 use Rattle.pid_moderation.specs.declared.lists.TheConstants.{PAGE}
 use Rattle.pid_http.specs.Api.Replying.{MakesReply}
 use Rattle.pid_http.specs.Answering.{answer_over}
-use Rattle.pid_http.specs.Errands as errands
+use Rattle.pid_http.specs.Errands.{Asks}
+use Rattle.pid_http.specs.declared.api.question.Question.TheVariants as questions
 use Rattle.pid_http.proofs.Meeting.{IsQuestion, question_met, replied}
 use Rattle.pid_http.proofs.queries.pending.Goals as goal
 
-question : (after : ℕ) (format : Format) → IsQuestion format (λ (page : Vec Pending Global). pending_answer format (map told_of page.items)) (λ h (page : Vec Pending Global). map told_of page.items ≡ pending_in PAGE after (views_of h)) (errands.Pending after format)
+question : (after : ℕ) (format : Format) → IsQuestion format (λ (page : Vec Pending Global). pending_answer format (map told_of page.items)) (λ h (page : Vec Pending Global). map told_of page.items ≡ pending_in PAGE after (views_of h)) (Asks (questions.Pending after) format)
 unfolding answer_over
 question after format = record {
   over = λ h x e. ap (pending_answer format) e;

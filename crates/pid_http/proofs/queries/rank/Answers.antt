@@ -4,11 +4,12 @@ use Rattle.pid_moderation.specs.declared.rank.Rank.{Rank}
 use Rattle.pid_http.specs.declared.api.format.Format.{Format}
 use Rattle.pid_http.specs.Api.RankAnswers.{rank_answer}
 use Rattle.pid_http.specs.Answering.{answer_over}
-use Rattle.pid_http.specs.Errands as errands
+use Rattle.pid_http.specs.Errands.{Asks}
+use Rattle.pid_http.specs.declared.api.question.Question.TheVariants as questions
 use Rattle.pid_http.proofs.Meeting.{IsQuestion, question_met, replied}
 use Rattle.pid_http.proofs.queries.rank.Goals as goal
 
-question : (who : List ℕ) (format : Format) → IsQuestion format (λ (rank : Option Rank). rank_answer format who rank) (λ h (rank : Option Rank). rank ≡ rank_of who h) (errands.Rank who format)
+question : (who : List ℕ) (format : Format) → IsQuestion format (λ (rank : Option Rank). rank_answer format who rank) (λ h (rank : Option Rank). rank ≡ rank_of who h) (Asks (questions.Rank who) format)
 unfolding answer_over
 question who format = record {
   over = λ h x e. ap (rank_answer format who) e;

@@ -1,12 +1,18 @@
-use Rattle.std.proofs.Common.{ap, ◌∙◌}
-use Rattle.std.specs.Prelude.{option_and_then}
+use Rattle.std.proofs.Common.{ap, sym, ◌∙◌}
 use Rattle.std.specs.Option.{option_map}
-use Rattle.pid_http.specs.Api.Queries.{since_said, start_said}
+use Rattle.pid_http.specs.Api.Questions.{asks_or}
+use Rattle.std.specs.Prelude.{option_and_then}
+use Rattle.pid_http.specs.Api.Queries.{path_said, since_said}
+use Rattle.pid_moderation.specs.declared.refusal.Refusal.TheVariants.{BadPath}
 use Rattle.pid_http.specs.declared.api.question.Question.TheVariants.{Changes}
-use Rattle.pid_http_stream.specs.declared.handler.Wanted.TheVariants.{Buffered}
 use Rattle.pid_http.proofs.api.asking.changes_of.Goals as goal
 
 pub returns : goal.returns
-returns c = λ i. option_map Buffered (option_and_then
-    (λ format. option_map (λ since. Changes since ((c.start_named-start.ensures ∙ ap start_said c.text_at.ensures) i) format) ((c.in_ok-since.ensures ∙ ap since_said c.value.ensures) i))
-    (c.in_ok-format.ensures i))
+returns c = λ i. option_and_then
+    (λ format. option_map (λ since. asks_or BadPath format (option_map (λ after. Changes since after) ((sym c.in-Some.is ∙ c.path_named.ensures ∙ ap path_said c.text_at.ensures) i)))
+    ((c.in_ok-since.ensures ∙ ap since_said c.value.ensures) i)) (c.in_ok-format.ensures i)
+
+pub returns-in_default : goal.returns-in_default
+returns-in_default c = λ i. option_and_then
+    (λ format. option_map (λ since. asks_or BadPath format (option_map (λ after. Changes since after) ((c.in_default.ensures ∙ ap path_said c.text_at.ensures) i)))
+    ((c.in_ok-since.ensures ∙ ap since_said c.value.ensures) i)) (c.in_ok-format.ensures i)

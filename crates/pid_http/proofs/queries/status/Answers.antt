@@ -4,11 +4,12 @@ use Rattle.pid_moderation.specs.declared.lists.Status.{Status}
 use Rattle.pid_http.specs.declared.api.format.Format.{Format}
 use Rattle.pid_http.specs.Api.StatusAnswers.{status_answer}
 use Rattle.pid_http.specs.Answering.{answer_over}
-use Rattle.pid_http.specs.Errands as errands
+use Rattle.pid_http.specs.Errands.{Asks}
+use Rattle.pid_http.specs.declared.api.question.Question.TheVariants as questions
 use Rattle.pid_http.proofs.Meeting.{IsQuestion, question_met, replied}
-use Rattle.pid_http.proofs.overviews.status.Goals as goal
+use Rattle.pid_http.proofs.queries.status.Goals as goal
 
-question : (format : Format) → IsQuestion format (λ (status : Status). status_answer format (registry_status_of status)) (λ h (status : Status). registry_status_of status ≡ status_of_registry h) (errands.Status format)
+question : (format : Format) → IsQuestion format (λ (status : Status). status_answer format (registry_status_of status)) (λ h (status : Status). registry_status_of status ≡ status_of_registry h) (Asks questions.Status format)
 unfolding answer_over
 question format = record {
   over = λ h x e. ap (status_answer format) e;

@@ -9,11 +9,12 @@ use Rattle.pid_http.specs.declared.api.format.Format.{Format}
 use Rattle.pid_http.specs.Api.QueueAnswers.{queue_answer}
 use Rattle.pid_http.specs.Api.Replying.{MakesReply}
 use Rattle.pid_http.specs.Answering.{answer_over}
-use Rattle.pid_http.specs.Errands as errands
+use Rattle.pid_http.specs.Errands.{Asks}
+use Rattle.pid_http.specs.declared.api.question.Question.TheVariants as questions
 use Rattle.pid_http.proofs.Meeting.{IsQuestion, question_met, replied}
-use Rattle.pid_http.proofs.overviews.queue.Goals as goal
+use Rattle.pid_http.proofs.queries.queue.Goals as goal
 
-question : (after : ℕ) (format : Format) → IsQuestion format (λ (page : Vec Queued Global). queue_answer format (map queued_of page.items)) (λ h (page : Vec Queued Global). map queued_of page.items ≡ queue_in PAGE after (views_of h)) (errands.Queue after format)
+question : (after : ℕ) (format : Format) → IsQuestion format (λ (page : Vec Queued Global). queue_answer format (map queued_of page.items)) (λ h (page : Vec Queued Global). map queued_of page.items ≡ queue_in PAGE after (views_of h)) (Asks (questions.Queue after) format)
 unfolding answer_over
 question after format = record {
   over = λ h x e. ap (queue_answer format) e;

@@ -1,0 +1,13 @@
+use Rattle.std.proofs.Common.{refl, sym, ap, ◌∙◌, Some}
+use Rattle.std.specs.Option.{option_map}
+use Rattle.pid_http.proofs.OfApi.Paths.{said_so}
+use Rattle.pid_http.proofs.api.query.path_named.Goals as goal
+
+pub returns-then-is_empty : goal.returns-then-is_empty
+returns-then-is_empty c = rw (said_so _ _ _ c.is_empty.ensures c.if-is_empty.true) refl
+
+pub returns-in-Some : goal.returns-in-Some
+returns-in-Some c = rw (said_so _ _ _ c.is_empty.ensures c.if-is_empty.false) (ap (option_map Some) (sym c.in-Some.is ∙ c.parse.ensures.computed))
+
+pub returns-in-None : goal.returns-in-None
+returns-in-None c = rw (said_so _ _ _ c.is_empty.ensures c.if-is_empty.false) (ap (option_map Some) (sym c.in-None.is ∙ c.parse.ensures.computed))
