@@ -3,10 +3,13 @@ a session; whose command a session's is; and what pages of other sites, other ta
 get."""
 import os
 import re
+import socket
 import tempfile
+import threading
 
 from fake_registry import FakeRegistry
-from front_room import HOST, Front, Recorder, needed
+from front_room import HOST, PEOPLE, Front, Recorder, Request, needed
+from http_server import to_end
 from joining_unit import Served, password, settings, verifier
 
 # Shares that a test doesn't use up.
@@ -29,7 +32,7 @@ SETTINGS = settings(joins_a_day=8, joins_an_hour=100, contact="Ask us.")
 class Room:
     """nginx, the application and a registry of accounts in a folder. Commands go to a recorder."""
 
-    def __init__(self, folder, **more):
+    def __init__(self, folder, joins=SETTINGS, is_cut=False, **more):
         self.folder, self.recorder = folder, Recorder()
         own = f"{folder}/front"
         # nginx may look into it, as the group of pciids-web.
@@ -37,12 +40,14 @@ class Room:
         self.registry = FakeRegistry(f"{folder}/http.sock")
         self.registry.accounts |= {"alice": 0, "bob": 2, "carol": 3}
         with open(f"{own}/join.conf", "w", encoding="utf-8") as file:
-            file.write(SETTINGS)
+            file.write(joins)
         self.unit = Served({
             "PCIIDS_PASSWORDS": f"{own}/accounts/passwords", "PCIIDS_JOIN_CONF": f"{own}/join.conf",
             "PCIIDS_JOIN_RUN": f"{own}/join", "PCIIDS_SOCKET": f"{folder}/http.sock",
         })
-        self.front = Front(own, self.recorder.port, join=self.unit.port, **more)
+        self.cutter = Cutter(self.unit.port) if is_cut else None
+        port = (self.cutter or self.unit).port
+        self.front = Front(own, self.recorder.port, join=port, **more)
         self.here = ("-H", f"Origin: https://{HOST}:{self.front.port}",
                      "-H", "Sec-Fetch-Site: same-origin")
 
@@ -102,6 +107,51 @@ def stranger(cases, room):
     who = room.front.curl("/whoami", *room.by(session), "-i")
     asks = b"www-authenticate" in who[2].lower()
     cases.equal("joining: no window asks for a password", (who[0], asks), (401, False))
+
+
+class Cutter(threading.Thread):
+    """Stands between nginx and the application: of a response as many bytes go on as it has left."""
+
+    def __init__(self, behind):
+        super().__init__(daemon=True)
+        self.behind, self.left, self.passed = behind, None, 0
+        self.listener = socket.create_server(("127.0.0.1", 0), backlog=64)
+        self.port = self.listener.getsockname()[1]
+        self.start()
+
+    def run(self):
+        while True:
+            client, _ = self.listener.accept()
+            with client, socket.create_connection(("127.0.0.1", self.behind)) as server:
+                sent = b""
+                while not Request(sent).is_whole() or b"\r\n\r\n" not in sent:
+                    sent += client.recv(65536)
+                server.sendall(sent)
+                data = to_end(server)
+                self.passed = len(data)
+                client.sendall(data[: self.left])
+
+
+def lost(cases, folder):
+    """The reply is lost at each byte: whoever asks again has one account, with one line."""
+    room = Room(folder, joins=settings(joins_a_day=1000, joins_an_hour=1000), is_cut=True, **AMPLE)
+    try:
+        cases.equal("joining: nothing is lost", room.join("carl"), 200)
+        size, names = room.cutter.passed, []
+        for at in range(size):
+            names.append("l" + "".join("bcdefghjkm"[int(it)] for it in f"{at:03}") + "t")
+            room.cutter.left = at
+            room.join(names[-1])
+            room.cutter.left = None
+            got = room.join(names[-1]), room.join(names[-1], 1)
+            cases.equal(f"joining: cut at {at} of {size} bytes, again", got, (200, 409))
+        made = [it[0] for it in room.registry.commands]
+        cases.equal("joining: an account for each", made, ["carl", *names])
+        with open(f"{room.folder}/front/accounts/passwords", encoding="ascii") as file:
+            lines = [it.split(":")[0] for it in file]
+        cases.equal("joining: a line for each", lines, [*PEOPLE, "carl", *names])
+    finally:
+        room.close()
 
 
 def games(cases, room):
@@ -233,6 +283,7 @@ def run(cases):
         os.chmod(folder, 0o755)
         os.mkdir(f"{folder}/ample")
         os.mkdir(f"{folder}/bare")
+        os.mkdir(f"{folder}/cut")
         room = Room(f"{folder}/ample", **AMPLE)
         try:
             for it in (stranger, games, doors, locked, away):
@@ -240,3 +291,4 @@ def run(cases):
         finally:
             room.close()
         shares(cases, f"{folder}/bare")
+        lost(cases, f"{folder}/cut")

@@ -277,14 +277,28 @@ def test_stops(cases, unit):
         cases.equal(f"killed at {at}: others stand", others_stand(unit), True)
         unit.write(OTHERS)
     cases.equal(f"there were {at} stops", at > 50, True)
-    for path, more in (("/password", {"verifier": verifier("carl", password(1))}), ("/leave", {})):
-        unit.join("carl")
+    new = verifier("carl", password(1))
+    unit.join("carl")
+    line = unit.lines()["carl"]
+    before, since = line.split(":")
+    for path, more, who, after in (
+        ("/lock", {"who": "carl"}, "sam", f"!{before}"), ("/session", {}, "carl", before),
+        ("/password", {"verifier": new}, "carl", new), ("/leave", {}, "carl", "-"),
+    ):
+        unit.write(f"{OTHERS}carl:{line}\n")
         at = 0
-        while not stopped_at(unit, at, lambda: unit.asked("POST", path, more, account="carl")):
-            cases.equal(f"{path}: a line before or after", unit.lines()["carl"].split(":")[0] in (
-                verifier("carl"), verifier("carl", password(1)), "-"), True)
+        while not stopped_at(unit, at, lambda: unit.asked("POST", path, more, account=who)):
+            is_whole = unit.lines()["carl"] in (line, f"{after}:{since}")
+            cases.equal(f"{path}, killed at {at}: before or after", is_whole, True)
+            if after != before and unit.lines()["carl"] != line:
+                cases.equal(f"{path}, killed at {at}: no session is left", unit.sessions(), [])
+            unit.write(f"{OTHERS}carl:{line}\n")
+            cases.equal(f"{path}, killed at {at}: a log-in",
+                        unit.status("POST", "/session", account="carl"), 200)
             at += 1
-        cases.equal(f"{path}: others stand after {at} stops", others_stand(unit), True)
+        got = unit.lines()["carl"], at > 5
+        cases.equal(f"{path}: after {at} stops", got, (f"{after}:{since}", True))
+        cases.equal(f"{path}: others stand", others_stand(unit), True)
 
 
 def test_full_disk(cases, unit):
@@ -305,6 +319,16 @@ def test_full_disk(cases, unit):
         cases.equal(f"room for {room}: no half line", others_stand(unit), True)
         cases.equal(f"room for {room}: {got}, and once there is more", unit.join(name), 200)
     cases.equal(f"{refused} had no room", refused > 20, True)
+    line = unit.lines()[name]
+    for path, more, who in (("/lock", {"who": name}, "sam"), ("/leave", {}, name), (
+            "/password", {"verifier": verifier(name, password(1))}, name)):
+        resource.setrlimit(resource.RLIMIT_FSIZE, (9, hard))
+        try:
+            got = unit.status("POST", path, more, account=who)
+        finally:
+            resource.setrlimit(resource.RLIMIT_FSIZE, (soft, hard))
+        got = got, unit.lines()[name], others_stand(unit)
+        cases.equal(f"{path} without room", got, (503, line, True))
 
 
 def test_lock_of_the_file(cases, unit):

@@ -230,7 +230,7 @@ export class Card {
     if (answer?.trouble === "undone" && document.activeElement === document.body) this.row.focus();
     const number = answer?.refusal?.refused;
     if (answer?.value) {
-      tell(`${it.num} is ${state}.`, 3);
+      if (isHeld) tell(`${it.num} is ${state}.`, 3);
       this.setDecided(state, command.fields.reason);
       if (state === "approved") this.around.renamed(it.path, it.name);
     } else if (number === DECIDED) await this.showOutcome();

@@ -61,9 +61,9 @@ function accountRow(first) {
   const record = el("span");
   const place = el("span");
   const draw = (it) => fill(element,
-    link(`/decided?author=${it.account}`, it.account), " ",
-    el("small", {}, standing(it), record), " ",
-    mayLock(it) ? lockButton(it, place, draw) : null, place);
+    el("span", {}, link(`/decided?author=${it.account}`, it.account), " ",
+      el("small", {}, standing(it), record)),
+    el("span", {}, mayLock(it) ? lockButton(it, place, draw) : null, place));
   draw({ ...first, rank: null });
   rankOf(first.account).then((its) => draw({ ...first, rank: its }));
   recordOf(first.account, record);
@@ -74,7 +74,7 @@ function rowsOf(accounts) {
   const rest = accounts.slice(PAGE);
   const next = () => button.replaceWith(...rowsOf(rest));
   const button = rest.length ? el("button", { type: "button", onclick: next }, "More") : "";
-  return [el("ul", { class: "items" }, accounts.slice(0, PAGE).map(accountRow)), button];
+  return [el("ul", { class: "accounts" }, accounts.slice(0, PAGE).map(accountRow)), button];
 }
 
 async function listed(place) {

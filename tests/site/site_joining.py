@@ -194,7 +194,7 @@ def locked(cases, world, browser, password):
     browser.type("#name", "While locked")
     with Browser(world.base) as sam:
         sam.go("/people").log_in("sam")
-        sam.has("dora-x\ncontributor, joined ")
+        sam.has("dora-x contributor, joined ")
         sam.has("1 pending")
         row = "return [...document.querySelectorAll('main li')].find((it) => it.innerText"
         press = ".startsWith('dora-x')).querySelector('button').click()"
