@@ -1,5 +1,7 @@
 """Strangers join by themselves: from a form that is filled to a proposal; a lost reply and a reload
 join once; log-ins on another computer, another password, a lock, and leaving."""
+import threading
+
 from http_server import ask_curl
 from site_access import CHECK, CONTRAST, LEAST, SIZES, WIDE
 from site_acts import Person
@@ -84,6 +86,7 @@ def stopwatch(cases, world, browser):
     person.click("form.propose button.main")
     person.click("#dialog a[href^='/join']")
     browser.heading("Join")
+    password = browser.js("return document.getElementById('join-password').value")
     person.click("#join-name")
     person.press("newcomer", browser.keys.ENTER)
     browser.heading("Propose")
@@ -98,7 +101,57 @@ def stopwatch(cases, world, browser):
     seconds = person.seconds()
     cases.equal(f"stopwatch: {presses} clicks, {keys} keys, {seconds:.1f} s", seconds < LONGEST,
                 True)
+    return password
+
+
+SUBSYSTEMS = "8086  Intel Corporation\n\t1237  440FX - 82441FX PMC [Natoma]\n" + "".join(
+    f"\t\t1028 0e0{at}  Board {at}\n" for at in range(5))
+
+
+def pasted(cases, world, browser, password):
+    """Five subsystems from a paste, by who has just joined; out, and in again on a phone."""
+    browser.go("/propose?many=yes")
+    browser.put("#pasted", SUBSYSTEMS)
+    browser.click("main form button")
+    browser.wait(lambda: len(browser.all(".many > li")) == 5, "five rows")
+    browser.click("main .buttons button.main")
+    browser.wait(lambda: len(world.pending()) >= 6, "five proposals")
+    got = [(it["author"], it["path"], it["name"]) for it in world.pending()
+           if it["author"] == "newcomer"][1:]
+    want = [("newcomer", f"PC/8086/1237/10280e0{at}", f"Board {at}") for at in range(5)]
+    cases.equal("joining: five subsystems", got, want)
     out(browser)
+    with Browser(world.base, size=(420, 800)) as phone:
+        phone.go("/mine")
+        phone.click("main button.main")
+        enter(phone, "newcomer", password)
+        is_in(phone, "newcomer")
+        cases.equal("joining: on a phone", phone.has("Board 4"), True)
+        out(phone)
+        cases.equal("joining: the console of the phone", phone.faults(), [])
+
+
+def twins(cases, world, one):
+    """Two ask for a name at the same moment: one gets it, and the other reads why not."""
+    before = world.ask("/status")["accounts"]
+    with Browser(world.base) as other:
+        for it in (one, other):
+            it.go("/join").put("#join-name", "twin-x")
+        threads = [threading.Thread(target=it.click, args=("form.join button.main",))
+                   for it in (one, other)]
+        for it in threads:
+            it.start()
+        for it in threads:
+            it.join()
+        first = one.wait(lambda: (one.text("#own") == "twin-x" and one)
+                         or (other.text("#own") == "twin-x" and other), "one of two")
+        second = other if first is one else one
+        second.has("twin-x is taken", "form.join")
+        got = world.ask("/status")["accounts"] - before, second.text("#own"), second.owed()
+        cases.equal("joining: one of two", got, (1, "", []))
+        for it in (first, second):
+            cases.equal("joining: the consoles of two", it.faults(), [])
+        out(first)
 
 
 def names(cases, browser):
@@ -221,5 +274,7 @@ def run(cases):
             locked(cases, world, browser, password)
             cases.equal("joining: the console", browser.faults(), [])
         with Browser(world.base) as browser:
-            stopwatch(cases, world, browser)
+            password = stopwatch(cases, world, browser)
+            pasted(cases, world, browser, password)
+            twins(cases, world, browser)
             cases.equal("stopwatch: the console", browser.faults(), [])
