@@ -427,6 +427,8 @@ def test_bounds(cases, unit):
     cases.equal("no settings", unit.join("zed", visitor="198.51.100.99"), 503)
     unit.settings(joins_a_day=100, contact="Ask <b>us</b>: 100%", rules="Be kind.\n  No spam.")
     cases.equal("the words of the operator", unit.join("zed", visitor="198.51.100.99"), 200)
+    with open(os.path.join(TOP, "deploy/systemd/pciids-join.service"), encoding="utf-8") as file:
+        cases.equal("an hour is counted in one place", "gunicorn --workers 1 " in file.read(), True)
 
 
 def test_many(cases, unit):

@@ -3,6 +3,7 @@ join once; log-ins on another computer, another password, a lock, and leaving.""
 import threading
 
 from http_server import ask_curl
+from joining_unit import settings
 from site_access import CHECK, CONTRAST, LEAST, SIZES, WIDE
 from site_acts import Person
 from site_browser import Browser
@@ -170,6 +171,24 @@ def names(cases, browser):
     cases.equal("joining: a short password", told.startswith("At least 12"), True)
 
 
+def doors(cases, world, browser):
+    """What the operator wrote, as the page has it."""
+    place = f"{world.folder}/join.conf"
+    with open(place, encoding="utf-8") as file:
+        before = file.read()
+    for its, words in (
+        (settings(rules="\n  Be kind.\n  No <b>spam</b>: 100% = 1", contact="Ask: us = 1, 100%"),
+         ("Be kind.", "No <b>spam</b>: 100% = 1", "Ask: us = 1, 100%")),
+        (settings(door="invitation", contact="Ask us."), ("takes an invitation", "Ask us.")),
+        (settings(joins_a_day=0, contact="Ask us."), ("Nobody can join at the moment", "Ask us.")),
+        (before, ("Ask registry@example.org.",)),
+    ):
+        with open(place, "w", encoding="utf-8") as file:
+            file.write(its)
+        browser.go("/join")
+        cases.equal(f"joining: {words}", [browser.has(it) for it in words], [True] * len(words))
+
+
 def lost(cases, world, browser):
     """Replies are lost, and the page is left meanwhile: one account, and the bar says so."""
     before = world.ask("/status")["accounts"]
@@ -269,6 +288,7 @@ def run(cases):
         with Browser(world.base, size=(420, 800)) as browser:
             password = stranger(cases, world, browser)
             names(cases, browser)
+            doors(cases, world, browser)
             lost(cases, world, browser)
             own(cases, browser)
             locked(cases, world, browser, password)
