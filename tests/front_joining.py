@@ -110,7 +110,7 @@ def stranger(cases, room):
 
 
 class Cutter(threading.Thread):
-    """Stands between nginx and the application: of a response as many bytes go on as it has left."""
+    """Stands between nginx and the application: passes on so many bytes of a response, or all."""
 
     def __init__(self, behind):
         super().__init__(daemon=True)
