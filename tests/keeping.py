@@ -126,7 +126,7 @@ def holds(cases):
             if it.state()[0] != "active" or it.state()[1]:
                 # Killed at its very beginning, nothing was stopped.
                 cases.equal(f"hold: killed at its call {number}", it.state(), ("active", []))
-            cases.passed += 1
+            cases.passed()
         if is_over:
             break
     cases.equal("hold: every call was tried", is_over, True)

@@ -3,6 +3,7 @@ import os
 import shutil
 import subprocess
 import sys
+from concurrent.futures import ThreadPoolExecutor
 
 import pytest
 
@@ -11,7 +12,7 @@ from program import TOP
 
 HERE = os.path.join(TOP, "tests")
 FRAME = ("all.py", "conftest.py", "pytest.ini")
-SUPPORT = ("apt.py", "cases.py", "prepare.py", "program.py", "shims.py")
+SUPPORT = ("apt.py", "cases.py", "program.py", "shims.py")
 
 # Files in place of some parts, and what each passes, fails and skips.
 PARTS = {
@@ -52,18 +53,15 @@ PARTS = {
         (1, 1, 0),
     ),
     "proxy": (
-        (
-            "import program\n"
-            "def run(cases):\n    program.PROGRAM = '/no/such/program'\n    program.run(b'')\n"
-        ),
-        (0, 1, 0),
+        "import program\ndef run(cases):\n    raise program.Skip('why')\n",
+        (0, 0, 1),
     ),
     "mirror": (
         (
-            "import threading, time, program\n"
+            "import threading, time\n"
             "def late():\n    time.sleep(1)\n    print('late')\n"
             "def run(cases):\n    threading.Thread(target=late).start()\n"
-            "    cases.equal('', program.PROGRAM == '/no/such/program', False)\n"
+            "    cases.equal('', 1, 1)\n"
         ),
         (1, 0, 0),
     ),
@@ -147,13 +145,17 @@ def test_last_lines(cases, line):
 
 
 def test_broken_parts(cases, frame):
+    with ThreadPoolExecutor(4) as pool:
+        ran = pool.map(lambda name: tried(frame, name), PARTS)
+    for (name, (_, counts)), (lines, status) in zip(PARTS.items(), ran):
+        wanted = line_of(*counts), int(counts[1] > 0)
+        cases.equal(f"a part like {name}", (lines[-1], status), wanted)
     lines, status = tried(frame, *PARTS)
-    for name, (_, counts) in PARTS.items():
-        file = f"{name}.py" if name in RUNS else f"test_{name}.py"
-        found = [line for line in lines if line.startswith(f"{file}: {line_of(*counts)}, ")]
-        cases.equal(f"the counts of a part like {name}", len(found), 1)
     whole = line_of(*map(sum, zip(*(counts for _, counts in PARTS.values()))))
-    cases.equal("the last line and the status", (lines[-1], status), (whole, 1))
+    cases.equal("all of them", (lines[-1], status), (whole, 1))
+    text = "\n".join(lines)
+    for name in ("test_tour.py::test_one", "test_lspci.py::test_one", "machine.py::run"):
+        cases.equal(f"{name} is named", f"FAILED {name}" in text, True)
 
 
 def test_calls(cases, frame):
@@ -170,7 +172,7 @@ def test_calls(cases, frame):
 def test_faulty_calls(cases, frame):
     """What was asked for can't be tried: nothing is."""
     lines, status = tried(frame, "words", "no_such_part")
-    cases.equal("an unknown part", (lines, status), (["0 passed, 1 failed"], 2))
+    cases.equal("an unknown part", (lines[-1], status), ("0 passed, 1 failed", 1))
     lines, status = tried(frame, "words::no_such_test")
     cases.equal("an unknown test", (lines[-1], status), ("0 passed, 1 failed", 1))
     lines, status = tried(frame, "words", "-k", "no_such_test")

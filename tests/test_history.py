@@ -376,7 +376,7 @@ def test_stops(cases, lib, folder):
         wanted = wanted or got
         if got != wanted:
             cases.equal(f"stopped at call {number}", got, wanted)
-        cases.passed += 1
+        cases.passed()
         press.run(BEGIN + 180)
         if press.rows() != wanted[0]:
             cases.equal(f"a run after that, {number}", press.rows(), wanted[0])

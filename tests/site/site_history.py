@@ -118,7 +118,7 @@ def removed(cases, world, browser):
                 browser.has("It was called Back again and was removed 14 days ago."), True)
     browser.click("main .buttons a.button")
     browser.wait(lambda: browser.one("#name").get_property("value") == "Back again", "its name")
-    cases.passed += 1
+    cases.passed()
 
 
 def answers(cases, world, browser):

@@ -1,6 +1,8 @@
 """The program under test."""
 import os
 import subprocess
+# Ends a test, the rest of which is counted as skipped. It says why.
+from unittest import SkipTest as Skip
 
 import apt
 
@@ -41,10 +43,6 @@ def fault_of_installed():
 
 # What is called once the tests have ended.
 AT_END = []
-
-
-class Skip(Exception):
-    """Ends a test, the rest of which is counted as skipped. It says why."""
 
 
 def need(*names):
