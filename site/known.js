@@ -54,6 +54,14 @@ export function recordOf(author) {
   return records.get(author);
 }
 
+/** Counts a decision that this page has made, where the account's record was asked for. */
+export async function countDecision(author, state) {
+  const record = await records.get(author);
+  if (!record) return;
+  record.counts.pending -= 1;
+  record.counts[state] = (record.counts[state] ?? 0) + 1;
+}
+
 /**
  * Which paths had a name approved lately: the number of the latest such proposal, by path. It goes
  * back to a number, and by three questions at most.

@@ -275,7 +275,7 @@ export class Card {
     if (state) fill(this.place, stateMark(state), reason ? [" ", shown(reason)] : null);
     if (this.no) this.no.form.hidden = true;
     // The focus goes on before what has it is disabled.
-    this.around.decided(this);
+    this.around.decided(this, state);
     for (const it of [this.approve, this.openButton, this.mark]) it.disabled = true;
   }
 }

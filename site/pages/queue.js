@@ -4,7 +4,7 @@ import { account, learnRank, maySuffice } from "../account.js";
 import { ask } from "../api.js";
 import { el, fill, link, several } from "../dom.js";
 import { grouped } from "../grouped.js";
-import { approvedSince, knownNames, recordOf, rowsOf } from "../known.js";
+import { approvedSince, countDecision, knownNames, recordOf, rowsOf } from "../known.js";
 import { failed, title } from "../parts.js";
 import { KIND_WORDS, parse, withParents } from "../paths.js";
 import { readdress } from "../router.js";
@@ -79,7 +79,7 @@ class List {
       rivals: byPath.get(it.path).filter(({ num }) => num !== it.num),
       since: later > it.num ? later : null,
       nameOf: (path) => this.names.get(path),
-      decided: (card) => this.decided(card),
+      decided: (card, state) => this.decided(card, state),
       held: (card) => this.held(card),
       marked: () => this.bulk.show(),
       renamed: (path, name) => this.renamed(path, name),
@@ -179,7 +179,8 @@ class List {
   }
 
   /** A row was decided: it stays where it is. */
-  decided(card) {
+  decided(card, state) {
+    if (state) countDecision(card.it.author, state).then(() => this.showing?.());
     this.count();
     this.goOn(card);
   }

@@ -151,6 +151,8 @@ def vandal(cases, world, browser):
     person.click(".bulk form button")
     browser.has("11 proposals are rejected.", ".bulk")
     cases.equal("moderation: acts of a person", person.acts, 4)
+    told = browser.has("All proposals by dora: 1 approved, 12 rejected.")
+    cases.equal("moderation: the record follows", told, True)
     got = {(world.state(it), world.ask(f"/submission/{it}")["reason"]) for it in numbers}
     cases.equal("moderation: ten are rejected", (got, revision(world) - before, browser.owed()),
                 ({("rejected", REASON)}, 11, []))
