@@ -151,7 +151,8 @@ def test_imports(cases, folder):
         )
     cases.equal("export: no room", (ran.stderr, ran.returncode), (b"file: failed\n", 3))
     missing = os.path.join(folder, "new.db")
-    cases.equal("export of a new file", work(b"", "export", "--db", missing), (HEADER, b"", 0))
+    told = f"pciids: {missing} was not there: a new, empty registry was made\n".encode()
+    cases.equal("export of a new file", work(b"", "export", "--db", missing), (HEADER, told, 0))
 
 
 def import_in_two(folder, database, text, cut, *more):

@@ -9,7 +9,7 @@ import time
 import pytest
 
 from program import HEADER, WHOLE
-from registry import bring_in
+from registry import bring_in, script
 from terminals import read_all
 
 LINES = [b"%04x  A vendor of the number %d\n" % (vendor, vendor) for vendor in range(20_000)]
@@ -44,6 +44,7 @@ def slow_import(folder, at_terminal, last):
     """An import of a text that comes from a named pipe, in two parts."""
     db, ids = os.path.join(folder, f"slow{at_terminal}.db"), os.path.join(folder, "pipe")
     os.mkfifo(ids)
+    script(db)
     running = Running(at_terminal, "import", "--db", db, "--account", "root", ids)
     with open(ids, "wb") as pipe:
         pipe.writelines(LINES[:15_000])
@@ -110,6 +111,7 @@ def test_short_import_and_long_export(cases, folder):
     db, ids = os.path.join(folder, "db"), os.path.join(folder, "ids")
     with open(ids, "wb") as file:
         file.write(LINES[0])
+    script(db)
     short = Running(True, "import", "--db", db, "--account", "root", ids).ended()
     cases.equal("a short import at a terminal", short, (b"ok added=1 renamed=0 same=0\n", b"", 0))
     cases.equal(

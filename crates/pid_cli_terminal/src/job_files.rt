@@ -1,0 +1,27 @@
+//! The files that a job names.
+
+use pid_cli_words::Job;
+
+/// The file of the registry, which a job may make.
+pub fn registry_of(job: Job<'_>) -> Option<&str> {
+    match job {
+        Job::Tidy | Job::Check | Job::Lookup(_) => None,
+        Job::Script { db } => db,
+        Job::Import { db, .. } | Job::Export { db } | Job::Serve { db, .. } | Job::Migrate { db } =>
+            Some(db),
+    }
+}
+
+/// The pci.ids file.
+pub fn ids_of(job: Job<'_>) -> Option<&str> {
+    match job {
+        Job::Lookup(words) => Some(words.ids),
+        Job::Import { ids, .. } => Some(ids),
+        Job::Tidy
+        | Job::Check
+        | Job::Script { .. }
+        | Job::Export { .. }
+        | Job::Serve { .. }
+        | Job::Migrate { .. } => None,
+    }
+}

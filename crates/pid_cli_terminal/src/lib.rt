@@ -1,0 +1,21 @@
+//! What the whole program says at a terminal beyond the lines that programs read: a `Session` is
+//! around a run, looks on, and explains its end.
+//!
+//! What is here is outside of what is proved of jobs: it only adds lines for a person to standard
+//! error.
+#![tactic(auto)]
+
+mod fault;
+mod files;
+mod job_files;
+mod port;
+mod registry;
+mod replies;
+mod script;
+mod session;
+mod values;
+
+pub use fault::Faults;
+pub use replies::Replies;
+pub use script::ScriptInput;
+pub use session::Session;

@@ -1,0 +1,113 @@
+//! The file of a registry: that it was made, and why it could not be opened.
+
+use crate::files::{Begin, begin_of};
+use pid_cli_help::reason_of;
+use sqlite_disk::Unknown;
+use sqlite_std_file::{OpenError, open};
+use std::cell::Cell;
+use std::fs;
+use std::io::{ErrorKind, Write};
+
+/// How each SQLite database begins.
+const DATABASE: &[u8] = b"SQLite format 3\0";
+
+/// The file of the registry that a run is on, if it is on one.
+#[derive(Clone, Copy)]
+pub struct RegistryFile<'s> {
+    rt: &'s HostRuntime,
+    path: &'s str,
+    // Whether it was missing before the run, and nothing was said of it yet.
+    is_awaited: &'s Cell<bool>,
+}
+
+impl<'s> RegistryFile<'s> {
+    /// The file at a path, and whether to say so once it is there.
+    pub fn new(
+        rt: &'s HostRuntime,
+        path: Option<&'s str>,
+        is_awaited: &'s Cell<bool>,
+    ) -> RegistryFile<'s> {
+        RegistryFile {
+            rt,
+            path: path.unwrap_or(""),
+            is_awaited,
+        }
+    }
+
+    /// Says once that the file was made, if it was.
+    pub fn tell_made(&self) {
+        if self.is_awaited.get() && !is_missing(self.rt, self.path) {
+            self.is_awaited.set(false);
+            let path = self.path;
+            let _ = write!(
+                self.rt.stderr(),
+                "pciids: {path} was not there: a new, empty registry was made\n"
+            );
+        }
+    }
+
+    /// Says what to do with a damaged registry.
+    pub fn explain_damaged(&self) {
+        let path = self.path;
+        let _ = write!(
+            self.rt.stderr(),
+            "pciids: {path} is damaged: see 'When something fails' in OPERATE.md\n"
+        );
+    }
+
+    /// Says why the file could not be opened. It is opened again.
+    pub fn explain_store(&self) {
+        let (rt, path) = (self.rt, self.path);
+        let reason = if is_folder(rt, path) {
+            reason_of(ErrorKind::IsADirectory)
+        } else {
+            match open(rt, path, Unknown) {
+                Ok(_) => reason_of_contents(rt, path),
+                Err(error) => reason_of_unopened(error),
+            }
+        };
+        let _ = write!(rt.stderr(), "pciids: cannot open {path}: {reason}\n");
+    }
+}
+
+/// Whether there is no file at a path.
+pub fn is_missing(rt: &HostRuntime, path: &str) -> bool {
+    match fs::metadata(rt, path) {
+        Ok(_) => false,
+        Err(error) => error.kind() == ErrorKind::NotFound,
+    }
+}
+
+fn is_folder(rt: &HostRuntime, path: &str) -> bool {
+    match fs::metadata(rt, path) {
+        Ok(found) => found.is_dir(),
+        Err(_) => false,
+    }
+}
+
+fn reason_of_unopened(error: OpenError) -> &'static str {
+    match error {
+        OpenError::Busy => "another program has it open; fuser -v FILE shows which",
+        OpenError::HotJournal => "it has a rollback journal: open it with sqlite3 first",
+        OpenError::OutOfMemory => "out of memory",
+        OpenError::Io(error) => match error.kind() {
+            ErrorKind::NotFound => "there is no such folder",
+            ErrorKind::Unsupported => "it or its -wal is a link or a device, or has a second name",
+            kind => reason_of(kind),
+        },
+    }
+}
+
+// Why a file is no registry that can be opened and locked.
+fn reason_of_contents(rt: &HostRuntime, path: &str) -> &'static str {
+    match begin_of(rt, path) {
+        Begin::Unopened(fault) | Begin::Failed(fault) => reason_of(fault),
+        Begin::Bytes(bytes, _) => {
+            if bytes.as_slice() == DATABASE {
+                "SQLite finds a fault in it, or it has what STORAGE.md does not allow"
+            } else {
+                "it is no SQLite database"
+            }
+        }
+    }
+}
