@@ -120,6 +120,7 @@ impl PlainRegistry {
             submissions: 0,
             items: 0,
             named: None,
+            remarks: 0,
             present: None,
             has_parent: false,
             has_children: false,
@@ -138,13 +139,11 @@ impl PlainRegistry {
         let author = found.author.copy()?;
         let proposal = found.proposal.copy()?;
         let state = standing(past, submission)?;
-        let remarks = number(remark_count(past, submission))?;
         Ok(Some(Named {
             author,
             path: found.path,
             proposal,
             state,
-            remarks,
         }))
     }
 
@@ -178,6 +177,10 @@ impl PlainRegistry {
             Rows::Rank(who) => facts.who = self.rank(who),
             Rows::Submissions => facts.submissions = number(self.submissions())?,
             Rows::Submission(submission) => facts.named = self.named(submission)?,
+            Rows::Remarks(submission) => {
+                facts.named = self.named(submission)?;
+                facts.remarks = number(remark_count(self.accepted.as_slice(), submission))?;
+            }
             Rows::Item(submission) => {
                 let named = self.named(submission)?;
                 return self.look_at_item(named, facts);

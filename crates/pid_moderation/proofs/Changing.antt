@@ -26,7 +26,7 @@ entry c reply = record { asked = c; reply = reply }
 
 -- what is seen of a submission
 abbrev pub seen : Views → ℕ → Submitted → Named
-seen v n s = record { author = s.author; path = s.path; proposal = s.proposal; state = v.state n; remarks = length (v.remarks n) }
+seen v n s = record { author = s.author; path = s.path; proposal = s.proposal; state = v.state n }
 
 proposed_item : (path : List ℕ) (p : Proposal) (present : Option (List ℕ)) (items : Items) → written path p items ≡ edited path (edit_of p present) items
 proposed_item path (Name name) None items = refl

@@ -22,7 +22,7 @@ use Rattle.pid_moderation.specs.FactsOfViews.{facts_of, with_item_facts, known, 
 use Rattle.pid_moderation.specs.CheckTables.{command_checks, if_named, comment_checks, decision_checks, withdraw_checks, is_so}
 use Rattle.pid_moderation.specs.Changes.{with_pairs, FitsWrite, FitsEffect, FitsReceipt, FitsViews, IsThere}
 use Rattle.pid_moderation.specs.Judgement.{Outcome, Refused, Repeated, Accepts, judge, judged}
-use Rattle.pid_moderation.specs.Effects.{edit_of, items_after, write_of, effect_of, receipt_of, change_by, file_pairs, new_pairs, next_place, Decides}
+use Rattle.pid_moderation.specs.Effects.{edit_of, items_after, write_of, effect_of, receipt_of, change_by, file_pairs, new_pairs, Decides}
 use Rattle.pid_moderation.proofs.Changing.{asks, seen}
 use Rattle.pid_moderation.proofs.WriteLemmas.{items_sorted}
 use Rattle.pid_moderation.proofs.Knowing.{to_deed, approving}
@@ -56,9 +56,9 @@ approval_fits : (o : Option Submitted) (v : Views) (n : ℕ) (e : Expected) (acc
 approval_fits None v n e account key sorted passed = let bad = passed.1.0 in absurd cc
 approval_fits (Some s) v n e account key sorted passed = (refl, written_fits s s.proposal v.items (name_at (path_text s.path) v.items) refl sorted passed.1.1.1.1.1.0)
 
-comment_fits : (o : Option Submitted) (v : Views) (n : ℕ) → AllPass (if_named (option_map (seen v n) o) comment_checks) → IsThere o × (next_place (option_map (seen v n) o) ≡ length (v.remarks n) + 1)
-comment_fits None v n passed = let bad = passed.0 in absurd cc
-comment_fits (Some s) v n passed = (refl, refl)
+comment_fits : (o : Option Submitted) (v : Views) (n : ℕ) (f : Facts) → AllPass (if_named (option_map (seen v n) o) (comment_checks f)) → IsThere o
+comment_fits None v n f passed = let bad = passed.0 in absurd cc
+comment_fits (Some s) v n f passed = refl
 
 withdrawal_fits : (o : Option Submitted) (v : Views) (n : ℕ) (account : List ℕ) → AllPass (if_named (option_map (seen v n) o) (withdraw_checks account)) → IsThere o
 withdrawal_fits None v n account passed = let bad = passed.0 in absurd cc
@@ -71,7 +71,7 @@ rejection_fits (Some s) v n account rank passed = refl
 effect_fits : (h : History) (account : List ℕ) (key : Option (List ℕ)) (deed : Deed) → AllPass (command_checks (to_deed h account key deed) (asks account key deed)) → FitsEffect (effect_of account (to_deed h account key deed) deed) (with_pairs (file_pairs deed) (views_of h))
 effect_fits h account key (Ranks who rank) passed = refl
 effect_fits h account key (Submits path proposal note) passed = refl
-effect_fits h account key (Comments n text) passed = comment_fits (submission_at n (submits_of h)) (views_of h) n passed.1
+effect_fits h account key (Comments n text) passed = (comment_fits (submission_at n (submits_of h)) (views_of h) n (to_deed h account key (Comments n text)) passed.1, refl)
 effect_fits h account key (Withdraws n) passed = (withdrawal_fits (submission_at n (submits_of h)) (views_of h) n account passed.1, tt)
 effect_fits h account key (Approves n e) passed = approval_fits (submission_at n (submits_of h)) (views_of h) n e account key (items_sorted h) passed
 effect_fits h account key (Rejects n reason) passed = (rejection_fits (submission_at n (submits_of h)) (views_of h) n account (rank_of account h) passed.1, tt)

@@ -6,6 +6,7 @@ use Rattle.std.proofs.lemmas.Bool.Decides.{nat_tests, Decides-eqb}
 use Rattle.pid_file.specs.Bytes.{is_empty}
 use Rattle.pid_file.specs.Words.{is_text}
 use Rattle.pid_moderation.specs.declared.command.Expected.{Expected}
+use Rattle.pid_moderation.specs.declared.facts.Facts.{Facts}
 use Rattle.pid_moderation.specs.declared.facts.State.{State}
 use Rattle.pid_moderation.specs.declared.facts.State.TheVariants.{Pending, Approved, Rejected, Withdrawn}
 use Rattle.pid_moderation.specs.declared.rank.Rank.{Rank}
@@ -154,9 +155,9 @@ one_remark_more rs r h = rw (length-append rs (r ∷ [])) (within (length rs) h)
     within : (n : ℕ) → nat_le most_remarks n ≡ false → n + 1 ≤ most_remarks
     within n h = grind (arith, nat_tests)
 
-commented_well : (h : History) (o : Option Submitted) (v : Views) (n : ℕ) (rs : List Remark) (r : Remark) → v.remarks n ≡ rs → IsGoodRemark h r → IsRemarkedWell h o rs → AllPass (if_named (option_map (seen v n) o) comment_checks) → IsRemarkedWell h o (rs ++ r ∷ [])
-commented_well h None v n rs r same good old passed = let bad = passed.0 in absurd cc
-commented_well h (Some s) v n rs r same good old passed = (more_remarks h rs r old.0 good, one_remark_more rs r (subst (λ (l : List Remark). nat_le most_remarks (length l) ≡ false) same passed.0))
+commented_well : (h : History) (o : Option Submitted) (v : Views) (n : ℕ) (f : Facts) (rs : List Remark) (r : Remark) → f.remarks ≡ length rs → IsGoodRemark h r → IsRemarkedWell h o rs → AllPass (if_named (option_map (seen v n) o) (comment_checks f)) → IsRemarkedWell h o (rs ++ r ∷ [])
+commented_well h None v n f rs r same good old passed = let bad = passed.0 in absurd cc
+commented_well h (Some s) v n f rs r same good old passed = (more_remarks h rs r old.0 good, one_remark_more rs r (subst (λ (k : ℕ). nat_le most_remarks k ≡ false) same passed.0))
 
 remarked_if : (h : History) (n m : ℕ) (xs : List Submitted) (r : Remark) → IsRemarkedWell h (submission_at m xs) (remarks_of m h ++ r ∷ []) → IsRemarkedWell h (submission_at n xs) (remarks_of n h) → IsRemarkedWell h (submission_at n xs) (cond (eqb n m) (remarks_of n h ++ r ∷ []) (remarks_of n h))
 remarked_if h n m xs r here before = chosen (eqb n m) refl
@@ -167,7 +168,7 @@ remarked_if h n m xs r here before = chosen (eqb n m) refl
 
 remarked_well : (h : History) (account : List ℕ) (key : Option (List ℕ)) (deed : Deed) → IsRegistered account h → IsWellMade (asks account key deed) → is_ill_formed (to_deed h account key deed) deed ≡ false → AreRemarked h → AllPass (command_checks (to_deed h account key deed) (asks account key deed)) → (n : ℕ) → IsRemarkedWell h (submission_at n (submitted account deed (submits_of h))) (remarked n account deed (remarks_of n h))
 remarked_well h account key (Submits path proposal note) caller made formed old passed n = push_remarked h n (submits_of h) _ (remarks_of n h) (old n)
-remarked_well h account key (Comments m text) caller made formed old passed n = remarked_if h n m (submits_of h) (record { author = account; text = text }) (commented_well h (submission_at m (submits_of h)) (views_of h) m (remarks_of m h) _ refl (record { author = caller; text = made.2; filled = formed }) (old m) passed.1) (old n)
+remarked_well h account key (Comments m text) caller made formed old passed n = remarked_if h n m (submits_of h) (record { author = account; text = text }) (commented_well h (submission_at m (submits_of h)) (views_of h) m (to_deed h account key (Comments m text)) (remarks_of m h) _ refl (record { author = caller; text = made.2; filled = formed }) (old m) passed.1) (old n)
 remarked_well h account key deed caller made formed old passed n = old n
 
 pub remarks_stay : Stays AreRemarked

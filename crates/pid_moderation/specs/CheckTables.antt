@@ -91,8 +91,8 @@ account_checks account f who rank =
 abbrev pub submit_checks : Facts → Checks
 submit_checks f = (nat_le most_submissions f.submissions, Full) ∷ []
 
-abbrev pub comment_checks : Named → Checks
-comment_checks s = (nat_le most_remarks s.remarks, Full) ∷ []
+abbrev pub comment_checks : Facts → Named → Checks
+comment_checks f s = (nat_le most_remarks f.remarks, Full) ∷ []
 
 abbrev pub withdraw_checks : List ℕ → Named → Checks
 withdraw_checks account s =
@@ -144,7 +144,7 @@ file_checks (Some (verdicts.Good added renamed same items)) = (nat_lt most_items
 abbrev pub later_checks : List ℕ → Facts → Deed → Checks
 later_checks account f (Ranks who rank) = account_checks account f who rank
 later_checks account f (Submits path proposal note) = submit_checks f
-later_checks account f (Comments n text) = if_named f.named comment_checks
+later_checks account f (Comments n text) = if_named f.named (comment_checks f)
 later_checks account f (Withdraws n) = if_named f.named (withdraw_checks account)
 later_checks account f (Approves n expected) =
     if_named f.named (approval_checks account f expected)

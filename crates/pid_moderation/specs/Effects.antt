@@ -53,16 +53,11 @@ write_of f s = record {
       (edit_of s.proposal f.present) f.items;
 }
 
--- the place of one more remark
-abbrev pub next_place : Option Named → ℕ
-next_place None = 1
-next_place (Some s) = s.remarks + 1
-
 abbrev pub effect_of : List ℕ → Facts → Deed → Effect
 effect_of account f (Ranks who rank) = Ranked who rank (is_none f.who)
 effect_of account f (Submits path proposal note) = Submitted
     (f.submissions + 1) account path proposal note
-effect_of account f (Comments n text) = Remarked n (next_place f.named) account text
+effect_of account f (Comments n text) = Remarked n (f.remarks + 1) account text
 effect_of account f (Withdraws n) = Decided n Withdrawn None
 effect_of account f (Approves n expected) =
     Decided n (Approved account) (option_map (write_of f) f.named)

@@ -25,8 +25,6 @@ named v n = option_map
       path = s.path;
       proposal = s.proposal;
       state = v.state n;
-      remarks = length
-          (v.remarks n);
     }) (submission_at n v.submits)
 
 -- what a file comes to over these items, with how many items there are then; `None` of one that is
@@ -50,6 +48,7 @@ known v account key = record {
   submissions = 0;
   items = 0;
   named = None;
+  remarks = 0;
   present = None;
   has_parent = false;
   has_children = false;
@@ -61,13 +60,14 @@ pub data Wanted : Type 0 where
   RankOf : List ℕ → Wanted
   SubmissionCount : Wanted
   SubmissionOf : ℕ → Wanted
+  RemarksOf : ℕ → Wanted
   ItemOf : ℕ → Wanted
   NoRows : Wanted
 
 abbrev pub wanted : Deed → Wanted
 wanted (Ranks who rank) = RankOf who
 wanted (Submits path proposal note) = SubmissionCount
-wanted (Comments n text) = SubmissionOf n
+wanted (Comments n text) = RemarksOf n
 wanted (Withdraws n) = SubmissionOf n
 wanted (Approves n expected) = ItemOf n
 wanted (Rejects n reason) = SubmissionOf n
@@ -88,6 +88,7 @@ abbrev pub looked_at : Views → Wanted → Facts → Facts
 looked_at v (RankOf who) f = record f { who = v.rank who }
 looked_at v SubmissionCount f = record f { submissions = length v.submits }
 looked_at v (SubmissionOf n) f = record f { named = named v n }
+looked_at v (RemarksOf n) f = record f { named = named v n; remarks = length (v.remarks n) }
 looked_at v (ItemOf n) f = with_item_facts v (named v n) f
 looked_at v NoRows f = f
 

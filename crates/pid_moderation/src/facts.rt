@@ -20,8 +20,6 @@ pub struct Named {
     pub path: Path,
     pub proposal: Proposal,
     pub state: State,
-    /// How many remarks it has.
-    pub remarks: u32,
 }
 
 /// What a file that is not too long comes to.
@@ -56,6 +54,8 @@ pub struct Facts {
     pub items: u32,
     /// The submission with the command's number; None if there is none.
     pub named: Option<Named>,
+    /// How many remarks that submission has, if one more is to be made.
+    pub remarks: u32,
     /// The name at the path of the submission that is to be approved.
     pub present: Option<Name>,
     /// Whether the parent of that path is there, or the path has none.

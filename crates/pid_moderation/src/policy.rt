@@ -153,17 +153,17 @@ fn comment(
 ) -> Result<(Effect, Reply), Refusal>
     ensures { Settles facts.now account.now (Comments number text.now) result }
 {
-    let Some(named) = &facts.named else {
+    if facts.named.is_none() {
         return Err(absent(facts));
-    };
+    }
     pass(&[
         (facts.rank.is_none(), Refusal::NoAccount),
-        (REMARKS <= named.remarks, Refusal::Full),
+        (REMARKS <= facts.remarks, Refusal::Full),
     ])?;
     let (author, text) = signed(account, text)?;
     let effect = Effect::Remarked {
         number,
-        place: named.remarks + 1,
+        place: facts.remarks + 1,
         author,
         text,
     };

@@ -17,6 +17,8 @@ pub enum Rows<'a> {
     Submissions,
     /// The submission with this number.
     Submission(u32),
+    /// The submission with this number, and how many remarks it has.
+    Remarks(u32),
     /// The submission with this number, and the item of its path.
     Item(u32),
     /// None: an import is judged by what its file comes to.
@@ -35,7 +37,7 @@ pub fn needs(command: &Command) -> Rows<'_>
     match &command.act {
         Act::Account { who, .. } => Rows::Rank(who),
         Act::Submit { .. } => Rows::Submissions,
-        Act::Comment { number, .. } => Rows::Submission(*number),
+        Act::Comment { number, .. } => Rows::Remarks(*number),
         Act::Withdraw { number } => Rows::Submission(*number),
         Act::Approve { number, .. } => Rows::Item(*number),
         Act::Reject { number, .. } => Rows::Submission(*number),

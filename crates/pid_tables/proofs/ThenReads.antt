@@ -16,6 +16,11 @@ fault_first store old new {P = P} e r is one = record {
   told = λ clean v rest. passed_on r e (P v) (λ fault. IsReadable v → IsCaused (state store old) (state store new) fault) is (one.told clean v rest);
 }
 
+-- a read that says more says this too
+pub says_less : {S : Type 0} (store : Ghosts S) (old new : Held S) {X : Type 0} {Says P : Views → X → Type 0} (r : Result X TableFault) → Reads store old new r Says → ((v : Views) (x : X) → Says v x → P v x) → Reads store old new r P
+says_less store old new (Ok x) one so = record { rests = one.rests; told = λ clean v rest. so v x (one.told clean v rest) }
+says_less store old new (Err e) one so = record { rests = one.rests; told = λ clean v rest. one.told clean v rest }
+
 module _ {S : Type 0} (store : Ghosts S) (old mid new : Held S) (one : OnlyReads store old mid) where
   -- it answers a fault, and so does the call
   pub fault_after : {X Y : Type 0} {Says : Views → X → Type 0} {P : Views → Y → Type 0} (e : TableFault) (r : Result Y TableFault) → IsErrAnd r (λ y. y ≡ e) → Reads store mid new (Err e) Says → Reads store old new r P

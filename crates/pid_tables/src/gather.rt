@@ -3,6 +3,7 @@ ghost use Rattle.std.specs.Prelude.{◌≡◌, false, length};
 ghost use Rattle.pid_ident.specs.PathReading.{parent_text};
 ghost use Rattle.pid_ident.specs.PathTexts.{path_text};
 ghost use Rattle.pid_moderation.specs.FactsOfViews.{
+  RemarksOf,
   named as named_in,
   known as known_of,
   looked_at,
@@ -61,7 +62,7 @@ pub(crate) fn known<S: Alter>(
     })
 }
 
-// The facts of a command that is no approval.
+// The facts of a command that is neither a comment nor an approval.
 fn plain_facts(
     known: KnownFacts,
     who: Option<Rank>,
@@ -78,6 +79,7 @@ fn plain_facts(
         submissions,
         items: 0,
         named,
+        remarks: 0,
         present: None,
         has_parent: false,
         has_children: false,
@@ -93,7 +95,6 @@ fn named<S: Alter>(
     requires { conn.old.in_transaction ≡ false }
     ensures { Reads S.Store conn.old conn.new result (λ v named. named ≡ named_in v number) }
 {
-    let remarks = remark_count(conn, number)?;
     match standing(conn, alloc, number) {
         Ok(None) => Ok(None),
         Ok(Some(found)) => Ok(Some(Named {
@@ -101,7 +102,6 @@ fn named<S: Alter>(
             path: found.path,
             proposal: found.proposal,
             state: found.state,
-            remarks,
         })),
         Err(fault) => Err(fault),
     }
@@ -177,6 +177,28 @@ fn place_at<S: Alter>(
     }
 }
 
+// The facts of a comment.
+fn remark_facts<S: Alter>(
+    conn: &mut Connection<S>,
+    alloc: Global,
+    number: u32,
+    known: KnownFacts,
+) -> Result<Facts, TableFault>
+    requires { conn.old.in_transaction ≡ false }
+    ensures { Reads S.Store conn.old conn.new result
+        (λ v facts. facts ≡ looked_at v (RemarksOf number) (bare known)) }
+{
+    let remarks = remark_count(conn, number)?;
+    match named(conn, alloc, number) {
+        Ok(named) => {
+            let mut facts = plain_facts(known, None, 0, named);
+            facts.remarks = remarks;
+            Ok(facts)
+        }
+        Err(fault) => Err(fault),
+    }
+}
+
 // The facts of an approval.
 fn item_facts<S: Alter>(
     conn: &mut Connection<S>,
@@ -200,6 +222,7 @@ fn item_facts<S: Alter>(
                 submissions: 0,
                 items: place.items,
                 named: Some(named),
+                remarks: 0,
                 present: place.present,
                 has_parent: place.has_parent,
                 has_children: place.has_children,
@@ -238,6 +261,7 @@ pub(crate) fn with_rows<S: Alter>(
             let named = named(conn, alloc, number)?;
             Ok(plain_facts(known, None, 0, named))
         }
+        Rows::Remarks(number) => remark_facts(conn, alloc, number, known),
         Rows::Item(number) => item_facts(conn, alloc, number, known),
         Rows::Nothing => Ok(plain_facts(known, None, 0, None)),
     }

@@ -69,7 +69,6 @@ fn named_at(alloc: Global, fields: &[(String, String)]) -> Result<Option<Named>,
         path,
         proposal,
         state,
-        remarks: number_at(fields, "remarks"),
     }))
 }
 
@@ -103,6 +102,7 @@ fn facts_in(alloc: Global, row: &str) -> Result<Facts, Fail> {
         submissions: number_at(fields, "submissions"),
         items: number_at(fields, "items"),
         named,
+        remarks: number_at(fields, "remarks"),
         present,
         has_parent: value(fields, "parent").is_some(),
         has_children: value(fields, "children").is_some(),

@@ -100,11 +100,8 @@ fn knows_bob<S: Alter + Drop>(tables: &mut Tables<S>, alloc: Global) -> Result<b
 
 // Whether the third submission has one remark, at the revision 9.
 fn knows_third<S: Alter + Drop>(tables: &mut Tables<S>, alloc: Global) -> Result<bool, TableFault> {
-    let facts = facts_of_bob(tables, alloc, Rows::Submission(3))?;
-    match &facts.named {
-        Some(named) => Ok(named.remarks == 1 && facts.revision == 9),
-        None => Ok(false),
-    }
+    let facts = facts_of_bob(tables, alloc, Rows::Remarks(3))?;
+    Ok(facts.named.is_some() && facts.remarks == 1 && facts.revision == 9)
 }
 
 // Writes items down until it has taken so many; then it refuses, and says where.

@@ -13,6 +13,7 @@ bare known = record {
   submissions = 0;
   items = 0;
   named = None;
+  remarks = 0;
   present = None;
   has_parent = false;
   has_children = false;

@@ -21,4 +21,4 @@ returns g c =
     let kept = rw (c.as_str-2.ensures.text, c.as_str-3.ensures.text) at says in
     let number = c.in_ok-revision.ensures.told clean v (c.rank.ensures.rests.kept v rest) in
     let rank = rw c.as_str.ensures.text at (c.in_ok-rank.ensures.told (c.revision.ensures.rests.clean clean) v rest) in
-    λ i. record { rank = rank i; kept = kept i; revision = number i; who = None; submissions = 0; items = 0; named = None; present = None; has_parent = false; has_children = false; file = None }))
+    λ i. record { rank = rank i; kept = kept i; revision = number i; who = None; submissions = 0; items = 0; named = None; remarks = 0; present = None; has_parent = false; has_children = false; file = None }))

@@ -2,7 +2,7 @@ use Rattle.std.proofs.Common.{◌∙◌}
 use Rattle.sqlite.specs.Held.{state}
 use Rattle.pid_tables.proofs.OfCheck.Asking.{nothing_read}
 use Rattle.pid_tables.specs.Steps.Gathering.{bare}
-use Rattle.pid_tables.proofs.ThenReads.{fault_first}
+use Rattle.pid_tables.proofs.ThenReads.{fault_first, says_less}
 use Rattle.pid_tables.proofs.gather.with_rows.Goals as goal
 
 pub returns-in_ok-who-in-Rank : goal.returns-in_ok-who-in-Rank
@@ -24,6 +24,9 @@ returns-in_ok-named-in-Submission g c = rw c.in-Submission.is (record {
   rests = c.named.ensures.rests;
   told = λ clean v rest all parents. c.plain_facts-in-Submission.ensures ∙ (λ i. record (bare c.args.known) { named = c.in_ok-named-in-Submission.ensures.told clean v rest i });
 })
+
+pub returns-in-Remarks : goal.returns-in-Remarks
+returns-in-Remarks g c = rw c.in-Remarks.is (says_less g.S.Store c.args.conn.now c.remark_facts.new.conn c.remark_facts.result c.remark_facts.ensures (λ v x says all parents. says))
 
 pub returns-in-Item : goal.returns-in-Item
 returns-in-Item g c = rw c.in-Item.is c.item_facts.ensures
