@@ -53,8 +53,7 @@ fn judge_tables<S: Alter + Drop>(tables: &mut Tables<S>, alloc: Global) -> Resul
         (Explains (seen S.Store tables.old.conn)) }
 {
     laws::reached_histories_are_kept(); // proof only
-    // Outside a transaction nothing is uncommitted, so that the check sees what was there before.
-    let _settled = tables.conn.is_autocommit(); // proof only
+    pid_tables::laws::all_is_committed_outside_transactions(&tables.conn); // proof only
     match tables.check(alloc) {
         Err(fault) => Err(fault),
         Ok(found) => {
@@ -76,8 +75,7 @@ fn make_ready<S: Alter + Drop>(tables: &mut Tables<S>, alloc: Global) -> Result<
     ensures explains { ExplainsOpening S.Store tables.old.conn tables.new.conn result }
 {
     laws::reached_histories_are_kept(); // proof only
-    // Outside a transaction nothing is uncommitted, so that both see the same.
-    let _settled = tables.conn.is_autocommit(); // proof only
+    pid_tables::laws::all_is_committed_outside_transactions(&tables.conn); // proof only
     match pid_tables::migrate(&mut tables.conn, alloc) {
         Err(fault) => Err(fault),
         Ok(_) => judge_tables(tables, alloc),

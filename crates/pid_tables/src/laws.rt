@@ -9,9 +9,10 @@ ghost use Rattle.pid_tables.specs.Rows.Schema.{schema_of};
 ghost use Rattle.pid_tables.specs.declared.rows.version.Version.{Version};
 ghost use Rattle.pid_tables.specs.Rows.Shows.{AreViews, Shows, ShowsIn};
 ghost use Rattle.pid_tables.specs.Creation.{ListsNoTable};
-ghost use Rattle.pid_tables.specs.Rows.Clauses.{AtRest, OnlyReads, RestsIn, seen};
+ghost use Rattle.sqlite.specs.Held.{state};
+ghost use Rattle.pid_tables.specs.Rows.Clauses.{AtRest, OnlyReads, RestsIn, is_open, seen};
 ghost use Rattle.pid_tables.specs.Clauses.{IsBlank, IsOpened, ShowsOrBlank};
-ghost use Rattle.std.specs.Prelude.{◌≡◌, ◌↔◌, ◌<◌, ℕ, List, length, true, None};
+ghost use Rattle.std.specs.Prelude.{◌≡◌, ◌↔◌, ◌<◌, ℕ, List, length, true, false, IsTrue, None};
 ghost use Rattle.pid_moderation.specs.declared.command.Command.{Command};
 ghost use Rattle.pid_moderation.specs.CheckTables.{most_file_bytes};
 ghost use Rattle.pid_reader.specs.Lines.{lines_of};
@@ -43,6 +44,14 @@ pub fn opened_tables_rest<S: Alter>(conn: &Connection<S>)
     ensures bare { IsOpened S.Store conn.now → ListsNoTable (seen S.Store conn.now).trees
         → IsBlank S.Store conn.now }
 {}
+
+/// Outside a transaction a connection sees what is committed.
+pub fn all_is_committed_outside_transactions<S: Alter>(conn: &Connection<S>)
+    ensures { conn.now.in_transaction ≡ false → IsTrue (is_open S.Store conn.now)
+        → seen S.Store conn.now ≡ (state S.Store conn.now).committed }
+{
+    let _outside = conn.is_autocommit();
+}
 
 /// A read leaves what was shown, also if there is no table.
 pub fn reads_keep_what_is_shown<S: Alter>(old: &Connection<S>, new: &Connection<S>)

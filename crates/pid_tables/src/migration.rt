@@ -100,8 +100,7 @@ fn standing<S: Alter>(
         (Explains (seen S.Store conn.old)) }
 {
     crate::check::laws::sound_histories_are_registries(); // proof only
-    // Outside a transaction nothing is uncommitted, so that all reads see the same.
-    let _settled = conn.is_autocommit();
+    crate::laws::all_is_committed_outside_transactions(conn); // proof only
     if is_current(conn)? {
         return Ok(Some(Version::Two));
     }

@@ -17,15 +17,15 @@ returns-in-Err-clause-good g c clean h reached rest =
 
 pub returns-in-Err-clause-same : goal.returns-in-Err-clause-same
 returns-in-Err-clause-same g c =
-    seen_still (state g.S.Store c.args.tables.now.conn) (state g.S.Store c.check.new.self.conn) (c.is_autocommit-settled.ensures.settled (c.is_autocommit-settled.ensures.value ∙ ap not c.requires)) c.check.ensures.rests
+    seen_still (state g.S.Store c.args.tables.now.conn) (state g.S.Store c.check.new.self.conn) (c.all_is_committed_outside_transactions.ensures c.requires) c.check.ensures.rests
 
 pub returns-then-is_today-clause-same : goal.returns-then-is_today-clause-same
 returns-then-is_today-clause-same g c =
-    seen_still (state g.S.Store c.args.tables.now.conn) (state g.S.Store c.check.new.self.conn) (c.is_autocommit-settled.ensures.settled (c.is_autocommit-settled.ensures.value ∙ ap not c.requires)) c.check.ensures.rests
+    seen_still (state g.S.Store c.args.tables.now.conn) (state g.S.Store c.check.new.self.conn) (c.all_is_committed_outside_transactions.ensures c.requires) c.check.ensures.rests
 
 pub returns-else-is_today-clause-same : goal.returns-else-is_today-clause-same
 returns-else-is_today-clause-same g c =
-    seen_still (state g.S.Store c.args.tables.now.conn) (state g.S.Store c.check.new.self.conn) (c.is_autocommit-settled.ensures.settled (c.is_autocommit-settled.ensures.value ∙ ap not c.requires)) c.check.ensures.rests
+    seen_still (state g.S.Store c.args.tables.now.conn) (state g.S.Store c.check.new.self.conn) (c.all_is_committed_outside_transactions.ensures c.requires) c.check.ensures.rests
 
 -- ---- what was found
 

@@ -99,7 +99,7 @@ returns-in-Ok-clause-explains g c =
     let new = state g.S.Store c.judge_tables.new.tables.conn in
     record {
       told = λ clean some.
-          told_then old mid new c.judge_tables.result c.in-Ok.field-0 (c.is_autocommit-settled.ensures.settled (c.is_autocommit-settled.ensures.value ∙ ap not c.requires)) c.judge_tables.ensures.rests c.judge_tables.ensures.same
+          told_then old mid new c.judge_tables.result c.in-Ok.field-0 (c.all_is_committed_outside_transactions.ensures c.requires) c.judge_tables.ensures.rests c.judge_tables.ensures.same
           (c.judge_tables.ensures.shut clean) (c.judge_tables.ensures.told clean) (c.in-Ok.ensures.judged.found (c.judge_tables.ensures.rests.clean clean) some);
       only_read = λ clean some none. reads_then old mid new (brought_reads old mid c.in-Ok.field-0 (c.in-Ok.ensures.judged.found (c.judge_tables.ensures.rests.clean clean) some) none) c.judge_tables.ensures.rests;
       explained = λ clean v rest. explained_now (Explains (seen g.S.Store c.args.tables.now.conn)) mid new c.judge_tables.result c.judge_tables.ensures.same (c.judge_tables.ensures.told clean);

@@ -1,6 +1,5 @@
-use Rattle.std.proofs.Common.{refl, sym, ap, ◌∙◌}
+use Rattle.std.proofs.Common.{refl, sym, ◌∙◌}
 use Rattle.std.proofs.lemmas.Bool.{true≢false, false≢true}
-use Rattle.std.specs.Prelude.{not}
 use Rattle.sqlite.specs.Held.{state}
 use Rattle.pid_moderation.specs.Views.{views_of}
 use Rattle.pid_tables.specs.declared.rows.version.Version.TheVariants.{One, Two}
@@ -18,18 +17,18 @@ use Rattle.pid_tables.proofs.migration.standing.Goals as goal
 
 pub returns-in_err-is_current-clause-same : goal.returns-in_err-is_current-clause-same
 returns-in_err-is_current-clause-same g c =
-    seen_still (state g.S.Store c.args.conn.now) (state g.S.Store c.is_current.new.conn) (c.is_autocommit-settled.ensures.settled (c.is_autocommit-settled.ensures.value ∙ ap not c.requires)) c.is_current.ensures.rests
+    seen_still (state g.S.Store c.args.conn.now) (state g.S.Store c.is_current.new.conn) (c.all_is_committed_outside_transactions.ensures c.requires) c.is_current.ensures.rests
 
 pub returns-then-branch-clause-same : goal.returns-then-branch-clause-same
 returns-then-branch-clause-same g c =
-    seen_still (state g.S.Store c.args.conn.now) (state g.S.Store c.is_current.new.conn) (c.is_autocommit-settled.ensures.settled (c.is_autocommit-settled.ensures.value ∙ ap not c.requires)) c.is_current.ensures.rests
+    seen_still (state g.S.Store c.args.conn.now) (state g.S.Store c.is_current.new.conn) (c.all_is_committed_outside_transactions.ensures c.requires) c.is_current.ensures.rests
 
 pub returns-clause-same : goal.returns-clause-same
 returns-clause-same g c =
     let old = state g.S.Store c.args.conn.now in
     let mid = state g.S.Store c.is_current.new.conn in
     let new = state g.S.Store c.check.new.conn in
-    seen_still old new (c.is_autocommit-settled.ensures.settled (c.is_autocommit-settled.ensures.value ∙ ap not c.requires)) (reads_then old mid new c.is_current.ensures.rests c.check.ensures.rests)
+    seen_still old new (c.all_is_committed_outside_transactions.ensures c.requires) (reads_then old mid new c.is_current.ensures.rests c.check.ensures.rests)
 
 -- ---- what is shown
 
@@ -56,7 +55,7 @@ pub returns-clause-shown : goal.returns-clause-shown
 returns-clause-shown g c =
     let old = state g.S.Store c.args.conn.now in
     let mid = state g.S.Store c.is_current.new.conn in
-    let still = seen_still old mid (c.is_autocommit-settled.ensures.settled (c.is_autocommit-settled.ensures.value ∙ ap not c.requires)) c.is_current.ensures.rests in
+    let still = seen_still old mid (c.all_is_committed_outside_transactions.ensures c.requires) c.is_current.ensures.rests in
     record {
       shut = λ clean closed. absurd (true≢false (sym (c.in_ok-is_current.ensures.was_open (c.check.ensures.rests.clean clean)) ∙ closed));
       bare = λ clean none. none_found old.now c.check.result none (told_before old mid c.check.result still (c.check.ensures.shut clean) (c.check.ensures.told clean));
@@ -80,5 +79,5 @@ pub returns-clause-told : goal.returns-clause-told
 returns-clause-told g c clean =
     let old = state g.S.Store c.args.conn.now in
     let mid = state g.S.Store c.is_current.new.conn in
-    let still = seen_still old mid (c.is_autocommit-settled.ensures.settled (c.is_autocommit-settled.ensures.value ∙ ap not c.requires)) c.is_current.ensures.rests in
+    let still = seen_still old mid (c.all_is_committed_outside_transactions.ensures c.requires) c.is_current.ensures.rests in
     as_standing old.now c.check.result (told_before old mid c.check.result still (c.check.ensures.shut clean) (c.check.ensures.told clean))
