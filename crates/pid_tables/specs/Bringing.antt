@@ -14,6 +14,7 @@ use Rattle.pid_tables.specs.declared.rows.version.Version.{Version}
 use Rattle.pid_tables.specs.declared.rows.version.Version.TheVariants.{One, Two}
 use Rattle.pid_tables.specs.Rows.Faults.{IsMemoryOrStore, IsNotNewerSchema}
 use Rattle.pid_tables.specs.Rows.LabelRows.{HasLabel, ShowsNumber}
+use Rattle.pid_tables.specs.Rows.Schema.{latest}
 use Rattle.pid_tables.specs.Rows.Leaves.{AtRest, OnlyReads, RestsIn}
 use Rattle.pid_tables.specs.Check.Checking.{Explains, FindsVersion}
 use Rattle.pid_tables.specs.Check.Conditions.{label_row}
@@ -30,15 +31,15 @@ labels_text = codes "SELECT label, value FROM meta"
 -- the labels show schema 2, whatever else the schema has: the query of its label answers 2 first,
 -- or that of all labels answers it in some row
 abbrev pub ShowsLatest : Database → Type 0
-ShowsLatest db = ShowsNumber db (codes "schema") 2
-    ⊎ ((rows : List Row) × ShowsRows db labels_text rows × Has rows (label_row (codes "schema", 2)))
+ShowsLatest db = ShowsNumber db (codes "schema") (latest)
+    ⊎ ((rows : List Row) × ShowsRows db labels_text rows × Has rows (label_row (codes "schema", latest)))
 
 -- and if the tables of a schema were made first, whatever comes after them, storage has that
 -- label
 pub record NamesLatest (db : Database) : Type 0 where
   pub shown : ShowsLatest db
   pub stored : (version : Version) → IsMadeFirst version db.schema
-      → HasLabel db.trees (codes "schema") 2
+      → HasLabel db.trees (codes "schema") (latest)
 
 -- Some table was there, and this step was made.
 pub data Brings (old : State) (step : Step) (new : State) : Type 0 where

@@ -8,6 +8,7 @@ use Rattle.sqlite.specs.Tree.{Trees}
 use Rattle.sqlite.specs.declared.types.Value.TheVariants.{Text}
 use Rattle.sqlite_trees.specs.declared.store.Store.{Ghosts}
 use Rattle.pid_tables.specs.Rows.Clauses.{Executes, HasCleanDisk, Survives, is_open, seen}
+use Rattle.pid_tables.specs.Rows.Schema.{latest}
 use Rattle.pid_tables.specs.Rows.TableRows.{number}
 use Rattle.pid_tables.specs.declared.rows.fault.TableFault.{TableFault}
 use Rattle.pid_tables.specs.AtOnce.{IsCommitted}
@@ -71,14 +72,14 @@ registry_statements = (meta_text, []) ∷ (account_text, []) ∷ (item_text, [])
     ∷ (new_label_text, Text (codes "revision") ∷ number 0 ∷ [])
     ∷ (new_label_text, Text (codes "submissions") ∷ number 0 ∷ [])
     ∷ (new_label_text, Text (codes "items") ∷ number 0 ∷ [])
-    ∷ (new_label_text, Text (codes "schema") ∷ number 2 ∷ [])
+    ∷ (new_label_text, Text (codes "schema") ∷ number (latest) ∷ [])
     ∷ (new_account_text, Text (codes "root") ∷ number 3 ∷ []) ∷ []
 
 -- schema 1 becomes schema 2: the table of the numbers of changes, the revision, and the schema
 abbrev pub move_statements : List Statement
 move_statements = (item_since_text, []) ∷ (item_since_rows_text, [])
     ∷ (new_label_text, Text (codes "revision") ∷ number 0 ∷ [])
-    ∷ (label_text, Text (codes "schema") ∷ number 2 ∷ []) ∷ []
+    ∷ (label_text, Text (codes "schema") ∷ number (latest) ∷ []) ∷ []
 
 module _ {S : Type 0} (store : Ghosts S) where
   -- from the first connection to the second these were carried out in turn, and nothing else

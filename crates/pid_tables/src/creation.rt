@@ -54,8 +54,8 @@ ghost use Rattle.pid_tables.specs.Clauses.{
 ghost use Rattle.pid_tables.specs.Steps.Clauses.{FindsTables, Makes, Takes};
 
 use crate::batch::commit;
-use crate::rows::TableFault;
 use crate::rows::run::write_one;
+use crate::rows::{LATEST, TableFault};
 use pid_moderation::Rank;
 use sqlite::types::ToSql;
 use sqlite::{Alter, Connection, Transaction};
@@ -181,7 +181,7 @@ fn add_labels<S: Alter>(tx: &mut Transaction<'_, S>) -> Result<(), TableFault>
     add_label(tx, "revision", 0)?;
     add_label(tx, "submissions", 0)?;
     add_label(tx, "items", 0)?;
-    add_label(tx, "schema", 2)
+    add_label(tx, "schema", LATEST)
 }
 
 fn fill<S: Alter>(tx: &mut Transaction<'_, S>) -> Result<(), TableFault>

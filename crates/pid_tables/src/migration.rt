@@ -41,7 +41,7 @@ use crate::check::{check, has_some_table};
 use crate::creation::create;
 use crate::moving::move_tables;
 use crate::rows::meta::schema_number;
-use crate::rows::{TableFault, Version};
+use crate::rows::{LATEST, TableFault, Version};
 use sqlite::{Alter, Connection};
 use std::alloc::Global;
 
@@ -78,7 +78,7 @@ fn is_current<S: Alter>(conn: &mut Connection<S>) -> Result<bool, TableFault>
         return Ok(false);
     }
     match schema_number(conn) {
-        Ok(number) => Ok(number == 2),
+        Ok(number) => Ok(number == LATEST),
         Err(TableFault::Damaged) => Ok(false),
         Err(fault) => Err(fault),
     }

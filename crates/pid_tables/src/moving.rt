@@ -6,8 +6,8 @@ ghost use Rattle.pid_tables.specs.Statements.{move_statements};
 ghost use Rattle.pid_tables.specs.Steps.Clauses.{Moves};
 ghost use Rattle.pid_tables.specs.Steps.Making.{CarriesOut};
 
-use crate::rows::TableFault;
 use crate::rows::run::write_one;
+use crate::rows::{LATEST, TableFault};
 use sqlite::types::ToSql;
 use sqlite::{Alter, Transaction};
 
@@ -41,10 +41,10 @@ pub(crate) fn move_tables<S: Alter>(tx: &mut Transaction<'_, S>) -> Result<(), T
         &[revision, none],
     )?;
     let schema = "schema".to_sql();
-    let two = 2u32.to_sql();
+    let latest = LATEST.to_sql();
     write_one(
         tx,
         "UPDATE meta SET value = ?2 WHERE label = ?1",
-        &[schema, two],
+        &[schema, latest],
     )
 }

@@ -17,4 +17,4 @@ pub mod value;
 mod version;
 
 pub use fault::TableFault;
-pub use version::Version;
+pub use version::{LATEST, Version};

@@ -20,7 +20,7 @@ use Rattle.pid_moderation.specs.CheckTables.{most_revision}
 use Rattle.pid_moderation.specs.WellMade.{ProposesName}
 use Rattle.pid_tables.specs.declared.rows.version.Version.{Version}
 use Rattle.pid_tables.specs.declared.rows.version.Version.TheVariants.{One, Two}
-use Rattle.pid_tables.specs.Rows.Schema.{version_number}
+use Rattle.pid_tables.specs.Rows.Schema.{latest, version_number}
 use Rattle.pid_tables.specs.Rows.Schema as tables
 use Rattle.pid_tables.specs.Rows.TableRows.{number, reply_kind, first_number, second_number}
 use Rattle.pid_tables.specs.Rows.TableRows.{third_number}
@@ -85,7 +85,7 @@ pub record AreLabels (version : Version) (items submissions revision : ℕ)
 
 -- a later schema says its number
 abbrev pub IsNewer : ℕ → List Row → Type 0
-IsNewer n meta = (2 < n) × Has meta (label_row (codes "schema", n))
+IsNewer n meta = (latest < n) × Has meta (label_row (codes "schema", n))
 
 -- ---- account
 

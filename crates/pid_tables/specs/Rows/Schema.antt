@@ -120,6 +120,10 @@ abbrev pub version_number : Version → ℕ
 version_number One = 1
 version_number Two = 2
 
+-- that of the schema that this program makes
+abbrev pub latest : ℕ
+latest = version_number Two
+
 -- what a schema has after the six tables and their indexes
 abbrev pub more_tables : Version → List Table
 more_tables One = []

@@ -11,6 +11,7 @@ use Rattle.pid_tables.specs.Rows.Clauses.{HasCleanDisk, is_open, seen}
 use Rattle.pid_tables.specs.Rows.Faults.{IsMemoryOrStore}
 use Rattle.pid_tables.specs.Rows.PairRows.{Map}
 use Rattle.pid_tables.specs.Rows.Schema as tables
+use Rattle.pid_tables.specs.Rows.Schema.{latest}
 use Rattle.pid_tables.specs.Rows.Shows.{Shows}
 use Rattle.pid_tables.specs.Rows.TableRows.{number}
 use Rattle.pid_tables.specs.Creation.{AreMade}
@@ -40,7 +41,7 @@ abbrev pub label_statements : List Statement
 label_statements = (new_label_text, Text (codes "revision") ∷ number 0 ∷ [])
     ∷ (new_label_text, Text (codes "submissions") ∷ number 0 ∷ [])
     ∷ (new_label_text, Text (codes "items") ∷ number 0 ∷ [])
-    ∷ (new_label_text, Text (codes "schema") ∷ number 2 ∷ []) ∷ []
+    ∷ (new_label_text, Text (codes "schema") ∷ number (latest) ∷ []) ∷ []
 
 -- the one that adds the account
 abbrev pub root_statement : Statement

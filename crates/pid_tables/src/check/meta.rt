@@ -33,7 +33,7 @@ ghost use Rattle.pid_tables.specs.declared.check.shape.Table.TheVariants as tabl
 use crate::check::read::{Keeper, keep_rows};
 use crate::check::shape::Table;
 use crate::check::value::{is_text_at, number_at};
-use crate::rows::{TableFault, Version};
+use crate::rows::{LATEST, TableFault, Version};
 use pid_moderation::REVISIONS;
 use sqlite::{Alter, Connection, Row};
 
@@ -62,7 +62,11 @@ fn later_so_far(found: Option<u64>, row: &Row) -> Option<u64>
     let Some(number) = labelled(row, "schema") else {
         return None;
     };
-    if number > 2 { Some(number) } else { None }
+    if number > LATEST as u64 {
+        Some(number)
+    } else {
+        None
+    }
 }
 
 /// What rows say of a label: no number, one, or several.
@@ -194,7 +198,7 @@ fn is_told_of_schema(labels: Labels, version: Version, revision: u64) -> bool
 {
     match version {
         Version::One => is_once(labels.schema, 1) && is_never(labels.revision),
-        Version::Two => is_once(labels.schema, 2) && is_once(labels.revision, revision),
+        Version::Two => is_once(labels.schema, LATEST as u64) && is_once(labels.revision, revision),
     }
 }
 

@@ -28,6 +28,7 @@ ghost use Rattle.pid_tables.specs.Rows.LabelRows.{
   value_text,
 };
 ghost use Rattle.pid_tables.specs.declared.rows.version.Version.TheVariants.{One};
+ghost use Rattle.pid_tables.specs.Rows.Schema.{latest};
 ghost use Rattle.pid_tables.specs.Rows.Shows.{Counts, labels_of, counts_of};
 ghost use Rattle.pid_tables.specs.Rows.Steps.Shows.{meta_of};
 ghost use Rattle.pid_tables.specs.Rows.Leaves.{recounting};
@@ -186,7 +187,7 @@ pub fn revision<S: Alter>(conn: &mut Connection<S>) -> Result<u64, TableFault>
 /// `Damaged`.
 pub fn schema_number<S: Alter>(conn: &mut Connection<S>) -> Result<u32, TableFault>
     requires { conn.old.in_transaction ≡ false }
-    ensures reads { Reads S.Store conn.old conn.new result (λ v n. n ≡ 2) }
+    ensures reads { Reads S.Store conn.old conn.new result (λ v n. n ≡ latest) }
     // Whatever the schema: it is what the query of the label answers first, and `Damaged` if
     // that is no number.
     ensures shown { HasCleanDisk S.Store conn.new

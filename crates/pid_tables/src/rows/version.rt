@@ -1,5 +1,8 @@
 //! The schemas of the tables.
 
+/// The number of the schema that this program makes, `Version::Two`.
+pub const LATEST: u32 = 2;
+
 /// A schema of the tables.
 ///
 /// - `One`: six tables, which keep no number of a change.

@@ -36,7 +36,7 @@ returns-clause-shows g c clean inside counts v shows =
     let between = table_added start a b counts v there (one.runs.ran first inside) (two.runs.ran second in_one) in
     let added = rw (c.to_sql-revision.ensures, c.to_sql-none.ensures) at (three.runs.ran third in_two) in
     led c.write_one-4.result (labels_raised b d end counts v between added)
-    (rw (c.to_sql-schema.ensures, c.to_sql-two.ensures) at (c.write_one-4.ensures.runs.ran clean (three.goes.going third in_two).1))
+    (rw (c.to_sql-schema.ensures, c.to_sql-latest.ensures) at (c.write_one-4.ensures.runs.ran clean (three.goes.going third in_two).1))
     (c.write_one-4.ensures.runs.untold clean (schema_of Two) (λ opened. between_schema b d end counts v between added) (update_writes (update_meta_is Two)))
 
 pub returns-in_err-write_one-clause-shows : goal.returns-in_err-write_one-clause-shows
@@ -101,7 +101,7 @@ returns-clause-carried g c clean inside =
     carried_then g.S.Store ((item_since_text, []) ∷ (item_since_rows_text, []) ∷ (new_label_text, Text (codes "revision") ∷ number 0 ∷ []) ∷ []) ((label_text, schema) ∷ []) start d end c.write_one-4.result
     (a, made.0, made.1, (b, filled.0, filled.1, (d, added.0, added.1, refl)))
     (carried_one g.S.Store label_text schema d end c.write_one-4.result
-    (rw (c.to_sql-schema.ensures, c.to_sql-two.ensures) at (c.write_one-4.ensures.runs.ran clean (three.goes.going third in_two).1)))
+    (rw (c.to_sql-schema.ensures, c.to_sql-latest.ensures) at (c.write_one-4.ensures.runs.ran clean (three.goes.going third in_two).1)))
 
 pub returns-in_err-write_one-clause-carried : goal.returns-in_err-write_one-clause-carried
 returns-in_err-write_one-clause-carried g c clean inside = not_on_ok c.from_residual.result _ _ c.from_residual.ensures.1

@@ -9,11 +9,11 @@ returns-in-Some c rows was = later_before rows c.args.row.now c.in-Some.number (
 pub returns-in_default-labelled : goal.returns-in_default-labelled
 returns-in_default-labelled c rows was = later_here rows c.args.row.now None tt (λ n later is. c.in_default-labelled.ensures.none n is) (subst (λ (o : Option ℕ). IsLater rows o) c.in_default.is was)
 
-pub returns-then-number-gt2 : goal.returns-then-number-gt2
-returns-then-number-gt2 c rows was = later_here rows c.args.row.now (Some c.in-Some-labelled.number) (c.if-number-gt2.true, c.in-Some-labelled.ensures.found) tt (subst (λ (o : Option ℕ). IsLater rows o) c.in_default.is was)
+pub returns-then-number : goal.returns-then-number
+returns-then-number c rows was = later_here rows c.args.row.now (Some c.in-Some-labelled.number) (c.if-number.true, c.in-Some-labelled.ensures.found) tt (subst (λ (o : Option ℕ). IsLater rows o) c.in_default.is was)
 
-pub returns-else-number-gt2 : goal.returns-else-number-gt2
-returns-else-number-gt2 c rows was =
+pub returns-else-number : goal.returns-else-number
+returns-else-number c rows was =
     let r = c.args.row.now in
     let m = c.in-Some-labelled.number in
-    later_here rows r None tt (λ n later is. let same : n ≡ m = one_number r _ n m is c.in-Some-labelled.ensures.found in omega (arith, later, same, c.if-number-gt2.false)) (subst (λ (o : Option ℕ). IsLater rows o) c.in_default.is was)
+    later_here rows r None tt (λ n later is. let same : n ≡ m = one_number r _ n m is c.in-Some-labelled.ensures.found in omega (arith, later, same, c.if-number.false)) (subst (λ (o : Option ℕ). IsLater rows o) c.in_default.is was)
