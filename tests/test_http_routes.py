@@ -5,8 +5,9 @@ import os
 
 import pytest
 
+import http_rows
 import refusals
-from http_server import JSON, TEXT, Server
+from http_server import JSON, TEXT, Server, posted, reply
 from registry import asked, script
 
 pytestmark = pytest.mark.needs("curl")
@@ -443,3 +444,30 @@ def test_routes(cases, folder):
         )
         remarks = [len(it["text"]) for it in json.loads(first.curl("/submission/6")[2])["remarks"]]
         cases.equal("a submission with three remarks", remarks, [4_000, 4_000, 6])
+
+
+@pytest.mark.parametrize("name", http_rows.ROWS)
+def test_rows(cases, folder, name):
+    with Server(os.path.join(folder, "rows")) as server:
+        for line, request, answer in http_rows.pairs_of(http_rows.ROWS[name]):
+            cases.equal(line[:90], server.raw(request), answer)
+
+
+@pytest.mark.parametrize("size", (1_000_000, 4_096, 7))
+def test_rows_in_one_stream(cases, folder, size):
+    """All requests in one connection, at once and in many pieces."""
+    _, requests, answers = zip(*http_rows.pairs_of(http_rows.EACH_ROUTE))
+    sent = b"".join(requests)
+    pieces = [sent[at : at + size] for at in range(0, len(sent), size)]
+    with Server(os.path.join(folder, "rows")) as server:
+        cases.equal("all replies", server.raw(*pieces), b"".join(answers))
+
+
+def test_bodies_of_any_bytes(cases, folder):
+    """Of a form that is not UTF-8 nothing is read; of such a file the line is reported."""
+    of_a_form = b'{"ok":false,"refused":3,"word":"BadText"}'
+    of_a_file = b'{"kind":1,"line":2,"ok":false,"refused":14,"word":"FileFault"}'
+    with Server(os.path.join(folder, "bytes")) as server:
+        got = server.raw(posted("/submit", "root", b"a\xff"), posted("/import", "root", b"#\n#\xff"))
+        wanted = reply("400 Bad Request", JSON, of_a_form)
+        cases.equal("bytes", got, wanted + reply("422 Unprocessable Entity", JSON, of_a_file))
