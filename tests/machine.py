@@ -13,7 +13,7 @@ from machine_room import Machine
 from program import TOP
 
 HOST = "pciids.example.org"
-UNITS = "http join publish backup restore@x web failed@x"
+UNITS = "http join publish sign announce backup restore@x web failed@x"
 UNITS = ["pciids"] + [f"pciids-{it}" for it in UNITS.split()]
 # The most that `systemd-analyze security` may say of a unit.
 EXPOSURE = 1.5
@@ -426,6 +426,30 @@ def distributed(story):
     story.same("lspci takes it", "lspci -i /srv/pci.ids 2>&1 > /dev/null", "")
 
 
+def signed(story):
+    """The operator's key and program: what is published is signed, and passed on."""
+    hook, public = "/etc/pciids/on-publish", "/var/lib/pciids-public"
+    story.machine.run(f"printf '#!/bin/sh\\nid -un; sed s/^/heard:/\\n' > {hook}; chmod 755 {hook}")
+    story.example("Signatures")
+    is_signed = f"cd {public} && gpgv -q --keyring ./key.gpg pci.ids.asc pci.ids 2> /dev/null"
+    story.cases.equal("machine: the published file is signed", story.machine.until(is_signed), True)
+    story.fails("the key, by publishing", f"{by('pciids')} cat /etc/pciids/signing-key 2>&1")
+    mirror = (f"mkdir -p /srv/signed && HOME=/srv {public}/../../../usr/lib/pciids-registry/mirror"
+              f" --key {public}/key.gpg --history https://{HOST} /srv/signed > /dev/null")
+    story.works("a mirror that verifies", f"{mirror} 2>&1")
+    same = f"cmp {public}/pci.ids /srv/signed/pci.ids"
+    story.works("it has the published file, signed", same)
+    told = story.post("carl", "/submit", "path=PC/8086/7d8a&name=Imaginary+Controller")
+    number = told.split()[-1]
+    story.cases.equal("machine: a name", story.post("anna", "/approve", f"num={number}"), "ok")
+    story.works("it is published", "systemctl start pciids-publish")
+    heard = "journalctl -q -u pciids-announce | grep -q 'heard:.*\"now\":\"Imaginary Controller\"'"
+    story.cases.equal("machine: it is passed on", story.machine.until(heard), True)
+    who = "journalctl -q -u pciids-announce -o cat | head -1"
+    story.same("by a user without rights", who, "pciids-announce")
+    story.machine.run(f"rm {hook}")
+
+
 def cached(story):
     """The cache among the examples is an nginx of Debian as it is, but for IPv6."""
     place = "/etc/nginx/conf.d/cache.conf"
@@ -456,16 +480,20 @@ def removed(story):
         " ! -path '*/dpkg/*' ! -name '*.pem' ! -path '*/replaced.*'"
         " ! -path '/var/backups/pciids/*' ! -path '*/journal/*' | sort",
         "/etc/pciids\n/etc/pciids/accounts\n/etc/pciids/accounts/invites\n"
-        "/etc/pciids/accounts/passwords\n/var/backups/pciids\n"
-        "/var/lib/pciids\n/var/lib/pciids/registry.db\n/var/lib/pciids/registry.db-wal",
+        "/etc/pciids/accounts/passwords\n/etc/pciids/signing-key\n/var/backups/pciids\n"
+        "/var/lib/pciids\n/var/lib/pciids/registry.db\n/var/lib/pciids/registry.db-wal"
+        "\n/var/lib/pciids-public",
     )
+    left = "ls /var/lib/pciids-public"
+    story.same("and the history", left, "feeds\nhistory")
     story.same("both backups stay", "ls /var/backups/pciids | wc -l", "2")
     left = "find /etc/systemd/system /var/lib/systemd -name '*pciids*' ! -name 'stamp-*'"
     story.same("no link of a unit stays", left, "")
 
 
 def run(cases):
-    program.need("curl", "gunicorn", "nginx-light", "openssl", "pciutils", "systemd-container")
+    program.need("curl", "gnupg", "gunicorn", "nginx-light", "openssl", "pciutils",
+                 "systemd-container")
     built_packages.packages()
     with tempfile.TemporaryDirectory() as folder, Machine() as machine:
         story = Story(cases, machine)
@@ -481,6 +509,7 @@ def run(cases):
         upgraded(story, folder)
         imported(story)
         distributed(story)
+        signed(story)
         cached(story)
         removed(story)
         cases.equal("machine: examples of docs/OPERATE.md that were not run", story.examples, [])

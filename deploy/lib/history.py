@@ -44,10 +44,8 @@ class Log:
 
     def __init__(self, folder, front=""):
         self.folder, self.front = folder, front
-        os.makedirs(folder, exist_ok=True)
         form = re.compile(rf"{front}\d{{4}}-\d\d\.jsonl")
         self.names = sorted(filter(form.fullmatch, os.listdir(folder)))
-        self.mend()
 
     def path(self, name):
         return os.path.join(self.folder, name)
@@ -77,7 +75,7 @@ class Log:
         return [row for name in self.names if name >= mark[0]
                 for row in self.rows(name, mark[1] if name == mark[0] else 0)]
 
-    def rows(self, name, start):
+    def rows(self, name, start=0):
         """The rows of a file from a place on."""
         with open(self.path(name), "rb") as file:
             file.seek(start)
@@ -86,7 +84,7 @@ class Log:
     def month(self, month):
         """The rows of a month."""
         name = f"{self.front}{month}.jsonl"
-        return self.rows(name, 0) if name in self.names else []
+        return self.rows(name) if name in self.names else []
 
     def last(self):
         """The last row, or None."""
@@ -132,12 +130,15 @@ class History:
 
     def __init__(self, folder):
         self.folder = folder
+        os.makedirs(folder, exist_ok=True)
         self.changes, self.decisions = Log(folder), Log(folder, "decisions-")
         self.calendar = Log(folder, "calendar-")
         self.names_at = os.path.join(folder, ".names")
         self.followed_at = os.path.join(folder, ".followed")
         self.kept = read_json(self.followed_at, {})
         logs = (self.changes, self.decisions, self.calendar)
+        for log in logs:
+            log.mend()
         # Times rise from run to run, whatever the clock does.
         self.now = stamp(max(clock(), *(seconds_of(log.last()) + 1 for log in logs)))
 

@@ -20,6 +20,8 @@ SHOWN_BY = {
     "fail2ban": "fail2ban-regex",
     "firefox-esr": "firefox-esr",
     "gcc": "gcc",
+    "gnupg": "gpg",
+    "gpgv": "gpgv",
     "gunicorn": "gunicorn",
     "iproute2": "ip",
     "jing": "jing",
