@@ -434,7 +434,7 @@ def signed(story):
     is_signed = f"cd {public} && gpgv -q --keyring ./key.gpg pci.ids.asc pci.ids 2> /dev/null"
     story.cases.equal("machine: the published file is signed", story.machine.until(is_signed), True)
     story.fails("the key, by publishing", f"{by('pciids')} cat /etc/pciids/signing-key 2>&1")
-    mirror = (f"mkdir -p /srv/signed && HOME=/srv {public}/../../../usr/lib/pciids-registry/mirror"
+    mirror = (f"mkdir -p /srv/signed && HOME=/srv /usr/lib/pciids-registry/mirror"
               f" --key {public}/key.gpg --history https://{HOST} /srv/signed > /dev/null")
     story.works("a mirror that verifies", f"{mirror} 2>&1")
     same = f"cmp {public}/pci.ids /srv/signed/pci.ids"

@@ -163,6 +163,11 @@ def pages(cases, press):
                '<li><a href="/item/PS/1af4/1100"><code>1100</code> <bdi>Generic</bdi></a></li>')
     cases.equal("publish: generic ones", generic in press.read("item/PC/1af4.html"), True)
     cases.equal("publish: 404", "No such page" in press.read("404.html"), True)
+    row = '<li><a href="/item/PC/8086/1237/1af41100"><code>8086:1237 1af4:1100</code> Qemu</a>'
+    cases.equal("publish: a word", row in press.read("words/qe.html"), True)
+    found = press.shell("cd words; ls")[1].split()
+    want = "01 11 12 1a 44 80 ge ha id in ma qe re".split()
+    cases.equal("publish: first letters of words", found, [f"{it}.html" for it in want])
 
 
 def packed(cases, press):
@@ -179,7 +184,7 @@ def packed(cases, press):
 
 def lines(cases, press):
     """Only a line feed ends a line: a name makes no other page than its own."""
-    find = "find .. -type f ! -path '*/history/*' ! -path '*/feeds/*' | sort"
+    find = "find .. -type f ! -path '*/history/*' ! -path '*/feeds/*' ! -path '*/words/*' | sort"
     before = press.shell(find)[1]
     cases.equal("publish: line separators in a name", press.run(LINES)[0], 0)
     cases.equal("publish: no other page", press.shell(find)[1], before)
@@ -210,7 +215,7 @@ def run(cases):
     with tempfile.TemporaryDirectory() as folder:
         press = Press(folder)
         status, told = press.run(TEXT)
-        told = told.startswith("published: names 0 added, 0 renamed, 0 removed; pages 12 written")
+        told = told.startswith("published: names 0 added, 0 renamed, 0 removed; pages 26 written")
         cases.equal("publish: the first run", (status, told), (0, True))
         tools(cases, press)
         pages(cases, press)

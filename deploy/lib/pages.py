@@ -2,7 +2,7 @@
 
 Vendors, classes and all that others are below have a page. The others are composed by nginx: it has
 their names from `names/8086.html`, a file for each vendor and class in its language SSI, and puts
-them into `leaf.html`.
+them into `leaf.html`. So it composes the search page, for those without scripts.
 """
 import html
 import os
@@ -10,6 +10,7 @@ import re
 
 from files import write_file, write_packed
 from items import number_of, shown
+from words import PAGE, words_of
 
 # Without an index.html that has all places, pages are this one.
 PLAIN = """<!doctype html>
@@ -28,8 +29,8 @@ PLAIN = """<!doctype html>
 </html>
 """
 SITE = "PCI ID registry"
-# Of a vendor with more items that have no page, their names are in a file for each first digit.
-MOST_LEAVES = 100
+# Of a vendor with more items below it, their names are in a file for each first digit.
+MOST_BELOW = 100
 KINDS = {
     ("PC", 1): "Vendor", ("PC", 2): "Device", ("PC", 3): "Subsystem", ("PD", 1): "Class",
     ("PD", 2): "Subclass", ("PD", 3): "Programming interface", ("PS", 2): "Generic subsystem",
@@ -120,17 +121,17 @@ def put(name, value):
     return f"<!--# set var='{name}' value='{value}' -->"
 
 
-def names_of_leaves(top, leaves, items):
-    """The names of items of a vendor or class that have no page, for `leaf.html`."""
+def names_below(top, below, items):
+    """The names of items below a vendor or class, for `leaf.html` and `search.html`."""
     parts = [put("root", root_of(top.path)), put("first", step_of(top)),
              put("firstname", f" · {shown(top.name)}")]
-    middle = {it.path.rpartition("/")[0] for it in leaves if it.path.count("/") == 3}
+    middle = {it.path.rpartition("/")[0] for it in below if it.path.count("/") == 3}
     parts += [f"<!--# if expr='$pciids_item = /^{path.replace('/', chr(92) + '/')}.+/' -->"
               f"{put('second', step_of(items[path]))}"
               f"{put('secondname', f' · {shown(items[path].name)}')}<!--# endif -->"
               for path in sorted(middle)]
     parts += [f"<!--# if expr='$pciids_item = {it.path}' -->{put('name', shown(it.name))}"
-              "<!--# endif -->" for it in leaves]
+              "<!--# endif -->" for it in below]
     return "".join(parts)
 
 
@@ -175,11 +176,14 @@ class Template:
         return "".join(part + value for part, value in zip(self.parts, values))
 
 
+CANONICAL = '<link rel="canonical" href="/{}">\n'
+
+
 def head_of(place):
     """Links of the head of a page: its own address, and the feed of a vendor or class."""
     path = place.removesuffix(".html")
     feed = path.removeprefix("item/")
-    links = f'<link rel="canonical" href="/{path}">\n'
+    links = CANONICAL.format(path)
     if path.startswith("item/") and path.count("/") == 2:
         links += (f'<link rel="alternate" type="application/atom+xml" title="What changed here"'
                   f' href="/feeds/{feed}.atom">\n')
@@ -187,26 +191,34 @@ def head_of(place):
 
 
 def files_of(items, template):
-    """The places of all pages and files of names, each with its text."""
+    """The places of all pages, each with its text."""
     for place, (title, text) in pages_of(items):
         yield place, template.filled(title, text, "" if place == "404.html" else head_of(place))
+
+
+def parts_of(items, template):
+    """The places of the pages that nginx composes, and of what it puts into them."""
     names = "<!--# include virtual='/names/$pciids_top' wait='yes' -->"
-    yield "leaf.html", names + template.filled(*leaf_page())
-    for name, leaves in leaves_of(items).items():
-        top = above(leaves[0].path)[0]
-        yield f"names/{name}.html", names_of_leaves(items[top], leaves, items)
+    place = f"item/{echo('pciids_item')}"
+    yield "leaf.html", names + template.filled(*leaf_page(), CANONICAL.format(place))
+    yield "search.html", template.filled("Search", PAGE)
+    for name, below in below_tops(items).items():
+        top = above(below[0].path)[0]
+        yield f"names/{name}.html", names_below(items[top], below, items)
+    for name, text in words_of(items).items():
+        yield f"words/{name}.html", text
 
 
-def leaves_of(items):
-    """The items without a page by the files that have their names: one for a vendor or class, or,
-    of many, one for each first digit of what is below."""
-    leaves, found = {}, {}
+def below_tops(items):
+    """The items below others by the files that have their names: one for a vendor or class, or, of
+    many, one for each first digit of what is below."""
+    below, found = {}, {}
     for path, item in items.items():
-        if not item.has_page():
-            leaves.setdefault(path.split("/")[1], []).append(item)
-    for top, its in leaves.items():
+        if path.count("/") > 1:
+            below.setdefault(path.split("/")[1], []).append(item)
+    for top, its in below.items():
         for it in its:
-            digit = f"-{it.path.split('/')[2][0]}" if len(its) > MOST_LEAVES else ""
+            digit = f"-{it.path.split('/')[2][0]}" if len(its) > MOST_BELOW else ""
             found.setdefault(top + digit, []).append(it)
     return found
 
@@ -242,6 +254,9 @@ def write_pages(public, items, template):
         path = os.path.join(public, place)
         wanted |= {path, path + ".gz"}
         written += write_packed(path, text.encode())
+    for place, text in parts_of(items, template):
+        wanted.add(os.path.join(public, place))
+        written += write_file(os.path.join(public, place), text.encode())
     gone = 0
     for folder, _, names in os.walk(public):
         for path in {os.path.join(folder, it) for it in names if ".html" in it} - wanted:
