@@ -74,9 +74,9 @@ export const stateMark = (state, more = "") => (
   el("span", { class: `state ${state}` }, STATES[state] + more));
 
 /** Said where the published file stands in for the registry. */
-export const copyWords = () => el("p", { class: "old", role: "status" },
-  "The registry doesn't answer at the moment. What is shown here is from the published file,"
-  + " and may lack the latest changes.");
+export const COPY_WORDS = "The registry doesn't answer at the moment. What is shown here is from the"
+  + " published file, and may lack the latest changes.";
+export const copyWords = () => el("p", { class: "old", role: "status" }, COPY_WORDS);
 
 /** A button that copies a text. */
 export function copyButton(text) {

@@ -5,6 +5,7 @@ import { account, maySuffice } from "../account.js";
 import { ask } from "../api.js";
 import { faultWords } from "../carry.js";
 import { el, fill, link, several } from "../dom.js";
+import { when } from "../happened.js";
 import { tell } from "../notice.js";
 import { kindOf, stateMark, wishOf } from "../parts.js";
 import { parentOf, rankFor, spoken, wholeNumber, withParents } from "../paths.js";
@@ -111,7 +112,8 @@ export class Card {
         [" ", link(`/proposals/${num}`, `#${num}`)]))] : null].filter(Boolean);
     fill(this.meta,
       warnings.map((words) => [el("span", { class: "fault" }, words), " · "]),
-      "by ", link(`/queue?author=${it.author}`, it.author), ` · ${kindOf(it.path)}`,
+      "by ", link(`/queue?author=${it.author}`, it.author), it.proposed ? [", ", when(it.proposed)]
+        : null, ` · ${kindOf(it.path)}`,
       above.some(Boolean) ? [" of ", shown(above.filter(Boolean).join(" › "))] : null,
       it.note ? [" · ", shown(it.note)] : null,
       it.remarks ? ` · ${several(it.remarks, "comment")}` : null);

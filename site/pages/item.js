@@ -11,6 +11,7 @@ import {
   BELOW, KIND_WORDS, lineOf, lookupOf, parse, rankFor, wholeNumber, withParents,
 } from "../paths.js";
 import { shown } from "../shown.js";
+import { correct, orCopy } from "../sooner.js";
 import { submissionList, submissionsFor } from "../submissions.js";
 import { RANKS } from "../words.js";
 
@@ -18,15 +19,15 @@ const MANY = {
   vendor: "Devices", device: "Subsystems", class: "Subclasses", subclass: "Programming interfaces",
 };
 const SHORT_WAIT = 150;
+const LATER = "\u00a0";
 
 // On a phone what one came for is what is below the item.
 const isFolded = (path) => BELOW[parse(path).kind].length > 0
   && matchMedia("(max-width: 40rem)").matches;
 const MOST_PROPOSALS = 10;
 
-/** The item as the registry has it, or as the published file does: { name, nameOf, below, .. }. */
-async function found(path) {
-  const chain = withParents(path);
+/** The item as the registry has it, or as the file does: { answer, known, below, isCopy }. */
+async function found(path, chain) {
   const hasBelow = BELOW[parse(path).kind].length > 0;
   const [children, ...answers] = await Promise.all([
     hasBelow ? ask(`/children?of=${path}`) : { value: [] },
@@ -47,10 +48,17 @@ async function foundInFile(path, chain) {
 /** The page of an item. */
 export default async function item({ path, again }) {
   if (!parse(path)) return failed({ refusal: { refused: 1 } });
-  const { answer, known, below, isCopy } = await found(path);
+  const chain = withParents(path);
+  const asked = found(path, chain);
+  const first = await orCopy(asked, () => foundInFile(path, chain));
+  return first.isFirst ? fromFile(path, first, asked, again) : asFound(path, first, again);
+}
+
+/** As the registry answered, or as the file has it since it didn't. */
+async function asFound(path, it, again) {
+  const { answer, known, isCopy } = it;
   if (answer.refusal?.refused === 25) return absent(path, known);
   if (!answer.value) return failed(answer, again);
-  const name = known.get(path);
   const history = el("div", { class: "history" });
   // Waited for a moment, so that it comes with the page.
   const wait = new Promise((go) => { setTimeout(go, SHORT_WAIT); });
@@ -59,11 +67,30 @@ export default async function item({ path, again }) {
     isCopy ? null : Promise.race([showHistory(path, history), wait]),
   ]);
   if (!isCopy && !history.firstChild) fill(history, historyPlace());
+  return parts(path, it, facts(path, known.get(path), text), history);
+}
+
+/** As the file has it, until the registry answers. What that adds finds its room. */
+function fromFile(path, first, asked, again) {
+  const history = el("div", { class: "history" }, historyPlace());
+  const own = facts(path, first.known.get(path), lookupOf(path) ? LATER : null);
+  const place = el("div", {}, parts(path, { ...first, isCopy: false }, own, history));
+  const asText = ({ known, below }) => JSON.stringify([[...known], below]);
+  correct(place, asked, async (it) => {
+    if (!it.answer.value || asText(it) !== asText(first)) return asFound(path, it, again);
+    own.replaceWith(facts(path, first.known.get(path), await lspciText(path)));
+    return null;
+  });
+  showHistory(path, history);
+  return place;
+}
+
+function parts(path, { known, below, isCopy }, own, history) {
   return [
     crumbs(path, (it) => known.get(it)),
     heading(path, known),
     isCopy ? copyWords() : null,
-    facts(path, name, text),
+    own,
     actions(path),
     isFolded(path) ? el("details", {}, el("summary", {}, "Proposals and history"), history)
       : history,
@@ -146,19 +173,22 @@ const historyHeading = () => el("h2", {}, "Proposals and history");
 const later = () => el("div", { class: "said" });
 const historyPlace = () => [historyHeading(), later(), later()];
 
-// What was proposed for this path, and what it was called when.
+// What it was called when, and what was proposed for this path: together, or each in its room.
 async function showHistory(path, place, isThere = true) {
-  const [answer, rows, known] = await Promise.all([
-    submissionsFor(path), namesOf(path), index()]);
-  const { list, words } = await proposals(path, answer.value);
-  const names = rows?.length ? namesList(path, rows, isThere) : null;
-  const [first, second] = place.querySelectorAll(".said");
-  if (first) {
-    fill(first, folded(sinceWords(rows, known), names));
-    fill(second, folded(words, list));
-  } else if (list || names || isThere) {
-    fill(place, historyHeading(),
-      isThere ? el("p", { class: "aside" }, sinceWords(rows, known)) : null, names,
+  const show = (at, nodes) => {
+    const room = place.querySelectorAll(":scope > .said")[at];
+    if (room && !room.firstChild) fill(room, nodes);
+    return Boolean(room);
+  };
+  const past = Promise.all([namesOf(path), index()]).then(([rows, known]) => ({
+    since: sinceWords(rows, known), names: rows?.length ? namesList(path, rows, isThere) : null,
+  }));
+  past.then(({ since, names }) => show(0, folded(since, names)));
+  const { list, words } = await proposals(path, (await submissionsFor(path)).value);
+  const { since, names } = await past;
+  if (show(0, folded(since, names)) && show(1, folded(words, list))) return;
+  if (list || names || isThere) {
+    fill(place, historyHeading(), isThere ? el("p", { class: "aside" }, since) : null, names,
       list ?? el("p", { class: "aside" }, words));
   }
 }

@@ -5,18 +5,34 @@ import { el, link } from "../dom.js";
 import { itemList } from "../lists.js";
 import { childrenOf } from "../names.js";
 import { copyWords, failed, title } from "../parts.js";
+import { correct, orCopy } from "../sooner.js";
+
+const fromFile = async () => {
+  const value = await childrenOf("");
+  return value && { value };
+};
+
+/** All that is at the top, or what the file has of it since the registry doesn't answer. */
+async function found() {
+  const answer = await ask("/children");
+  return answer.trouble ? { ...answer, ...await fromFile(), isCopy: true } : answer;
+}
 
 async function list({ again }, front, what, one) {
-  let answer = await ask("/children");
-  const isCopy = Boolean(answer.trouble);
-  if (isCopy) answer = { ...answer, value: await childrenOf("") };
+  const asked = found();
+  const answer = await orCopy(asked, fromFile);
   if (!answer.value) return failed(answer, again);
-  const items = answer.value.filter(({ path }) => path.startsWith(front));
+  const of = ({ value }) => value.filter(({ path }) => path.startsWith(front));
+  const place = el("div", {}, itemList(of(answer), what));
+  if (answer.isFirst) {
+    const asText = (it) => JSON.stringify(of(it));
+    correct(place, asked, (it) => (asText(it) === asText(answer) ? null : itemList(of(it), what)));
+  }
   return [
     title(what[0].toUpperCase() + what.slice(1)),
-    isCopy ? copyWords() : null,
+    answer.isCopy ? copyWords() : null,
     el("p", {}, link(`/propose?kind=${one}`, `Propose a ${one}`)),
-    itemList(items, what),
+    place,
   ];
 }
 

@@ -4,6 +4,7 @@ import { account, learnRank, maySuffice } from "../account.js";
 import { ask } from "../api.js";
 import { el, fill, link, several } from "../dom.js";
 import { grouped } from "../grouped.js";
+import { datesOf } from "../history.js";
 import { approvedSince, countDecision, knownNames, recordOf, rowsOf } from "../known.js";
 import { failed, title } from "../parts.js";
 import { KIND_WORDS, parse, withParents } from "../paths.js";
@@ -259,10 +260,12 @@ export default async function queue({ query, again }) {
   const [answer] = await Promise.all([rowsOf("/queue", MOST_QUESTIONS), learnRank()]);
   if (!answer.value) return failed(answer, again);
   const { rows, isWhole } = answer.value;
-  const [names, since] = await Promise.all([
+  const [names, since, dates] = await Promise.all([
     knownNames(rows.flatMap((it) => withParents(it.path).slice(0, -1))),
     rows.length ? approvedSince(rows[0].num) : new Map(),
+    datesOf(rows.map((it) => it.num)),
   ]);
+  rows.forEach((it) => { it.proposed = dates.proposed(it.num); });
   const list = new List(rows, names, since, query);
   return [
     title("Queue"),
