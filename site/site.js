@@ -19,6 +19,7 @@ import "./shown.js";
 import "./words.js";
 
 import { restoreAccount } from "./account.js";
+import { startFeeds } from "./feeds.js";
 import { startHeader } from "./header.js";
 import { load } from "./names.js";
 import { loadPages, startRouter } from "./router.js";
@@ -37,6 +38,7 @@ refuseHeldKeys();
 addEventListener("dragover", keepPage);
 addEventListener("drop", keepPage);
 startHeader();
+startFeeds();
 startRouter().then(() => {
   import("./bar.js");
   // What later pages need is fetched when there is time, and where data isn't spared.

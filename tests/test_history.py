@@ -244,6 +244,7 @@ def test_feeds(cases, lib, folder):
     """Feeds by the grammar of RFC 4287, with what people read in them."""
     press = Press(lib, folder)
     registry = press.registry
+    registry.import_names({"PD/02": "Network"})
     press.run(BEGIN)
     registry.import_names({"PC/8086": "Intel", **{f"PC/8086/{it:04x}": ODD for it in range(25)}})
     press.run(BEGIN + 60)
@@ -277,6 +278,11 @@ def test_feeds(cases, lib, folder):
     whole = ElementTree.parse(os.path.join(feeds, "changes.atom"))
     ids = [it.text for it in whole.iter("{http://www.w3.org/2005/Atom}id")]
     cases.equal("ids are unlike", len(set(ids)), len(want) + 1)
+    for it, want in (("PC/8086", True), ("PD/02", False)):
+        with open(os.path.join(press.public, "item", f"{it}.html"), encoding="utf-8") as file:
+            got = f'<link rel="alternate" type="application/atom+xml" title="What changed here" ' \
+                f'href="/feeds/{it}.atom">' in file.read()
+        cases.equal(f"the page of {it} names its feed", got, want)
     before = os.stat(os.path.join(feeds, "changes.atom")).st_mtime_ns
     registry.settle(registry.submit("bob", "PD/01", "Mass"), "withdrawn", "bob")
     press.run(BEGIN + 600)
@@ -358,6 +364,9 @@ def prepared(press):
     press.run(BEGIN)
     press.registry.settle(1, "approved", "mona")
     press.registry.settle(2, "rejected", "mona", "no")
+    # Made and decided between two runs.
+    new = press.registry.submit("alice", "PC/8086/0003", "Three")
+    press.registry.settle(new, "approved", "mona")
     press.registry.import_names({"PC/8086/0001": "Uno", "PC/10de": "NVIDIA"})
 
 
@@ -385,5 +394,5 @@ def test_stops(cases, lib, folder):
         if number > calls[0]:
             break
         number += 1
-    cases.equal("rows of the run", len(wanted[0]), 5)
+    cases.equal("rows of the run", len(wanted[0]), 7)
     cases.equal("many calls were tried", number > 20, True)

@@ -179,21 +179,23 @@ class Template:
 CANONICAL = '<link rel="canonical" href="/{}">\n'
 
 
-def head_of(place):
-    """Links of the head of a page: its own address, and the feed of a vendor or class."""
+def head_of(place, public):
+    """Links of the head of a page: its own address, and the feed of a vendor or class that has
+    one."""
     path = place.removesuffix(".html")
-    feed = path.removeprefix("item/")
+    feed = f"feeds/{path.removeprefix('item/')}.atom"
     links = CANONICAL.format(path)
-    if path.startswith("item/") and path.count("/") == 2:
+    if path.count("/") == 2 and os.path.exists(os.path.join(public, feed)):
         links += (f'<link rel="alternate" type="application/atom+xml" title="What changed here"'
-                  f' href="/feeds/{feed}.atom">\n')
+                  f' href="/{feed}">\n')
     return links
 
 
-def files_of(items, template):
+def files_of(items, template, public):
     """The places of all pages, each with its text."""
     for place, (title, text) in pages_of(items):
-        yield place, template.filled(title, text, "" if place == "404.html" else head_of(place))
+        head = "" if place == "404.html" else head_of(place, public)
+        yield place, template.filled(title, text, head)
 
 
 def parts_of(items, template):
@@ -250,7 +252,7 @@ def write_pages(public, items, template):
     for place, text in maps_of(items):
         write_file(os.path.join(public, place), text.encode())
     wanted, written = set(), 0
-    for place, text in files_of(items, template):
+    for place, text in files_of(items, template, public):
         path = os.path.join(public, place)
         wanted |= {path, path + ".gz"}
         written += write_packed(path, text.encode())

@@ -47,7 +47,7 @@ class Followed:
     """The proposals that were pending when a run last looked, and those that were approved then."""
 
     def __init__(self, kept):
-        self.pending = set(kept.get("pending", ()))
+        self.pending, self.settled = set(kept.get("pending", ())), set()
         self.count = kept.get("submissions", 0)
         self.approved = kept.get("approved", [])
 
@@ -62,11 +62,12 @@ class Followed:
 
     def settle(self, rows):
         """Takes decisions that are in the log already."""
-        self.pending -= {it["num"] for it in rows}
+        self.settled = {it["num"] for it in rows}
 
     def decisions(self, registry, counts):
         """The proposals that were decided since, in the order of their numbers."""
-        known = self.pending | set(range(self.count + 1, counts["submissions"] + 1))
+        new = range(self.count + 1, counts["submissions"] + 1)
+        known = {*self.pending, *new} - self.settled
         gone = set()
         if len(known) != counts["pending"]:
             gone = known - registry.pending()

@@ -1,6 +1,7 @@
 // The latest proposals in all states: all, those for a path, or those by an account.
 
 import { el } from "../dom.js";
+import { feedLine } from "../feeds.js";
 import { failed, title } from "../parts.js";
 import { parse, spoken } from "../paths.js";
 import { olderLink, submissionList, submissions } from "../submissions.js";
@@ -14,7 +15,11 @@ function titleWords({ path, author }) {
 /** The page. */
 export default async function decided({ query, again }) {
   const which = { path: query.get("path"), author: query.get("author") };
-  const answer = await submissions({ ...which, before: query.get("before") });
+  const by = /^[a-z0-9-]+$/.exec(which.author ?? "");
+  const [answer, feed] = await Promise.all([
+    submissions({ ...which, before: query.get("before") }),
+    by ? feedLine(`by/${by}`, `The proposals of ${by}`) : null,
+  ]);
   if (!answer.value) return failed(answer, again);
   const { before, submissions: rows } = answer.value;
   return [
@@ -22,5 +27,6 @@ export default async function decided({ query, again }) {
     rows.length ? await submissionList(rows, which)
       : el("p", { class: "none" }, before ? "None among the latest." : "None."),
     olderLink("/decided", which, before),
+    feed,
   ];
 }

@@ -2,6 +2,7 @@
 
 import { ask } from "../api.js";
 import { el, fill, link, several } from "../dom.js";
+import { feedLine } from "../feeds.js";
 import { cause, exactly, restoreLink, when } from "../happened.js";
 import { index, namesOf } from "../history.js";
 import { itemList } from "../lists.js";
@@ -95,7 +96,15 @@ function parts(path, { known, below, isCopy }, own, history) {
     isFolded(path) ? el("details", {}, el("summary", {}, "Proposals and history"), history)
       : history,
     lists(path, below),
+    withParents(path).length === 1 ? follow(path) : null,
   ];
+}
+
+// The last of the page: nothing shifts.
+function follow(path) {
+  const place = el("div");
+  feedLine(path, `What changed of ${wholeNumber(path)}`).then((it) => fill(place, it));
+  return place;
 }
 
 function heading(path, known) {

@@ -3,6 +3,7 @@
 import { account } from "../account.js";
 import { seen } from "../answers.js";
 import { el, link } from "../dom.js";
+import { feedLine } from "../feeds.js";
 import { keep, recall } from "../kept.js";
 import { askToLogIn } from "../login.js";
 import { failed, title } from "../parts.js";
@@ -37,7 +38,10 @@ export default async function mine({ query, again }) {
       "Log in");
     return [title("My proposals"), el("p", {}, enter)];
   }
-  const answer = await submissions({ author, before: query.get("before") });
+  const [answer, feed] = await Promise.all([
+    submissions({ author, before: query.get("before") }),
+    feedLine(`by/${author}`, `The proposals of ${author}`),
+  ]);
   if (!answer.value) return failed(answer, again);
   const { before, submissions: rows } = answer.value;
   const news = newsAmong(author, rows);
@@ -47,6 +51,7 @@ export default async function mine({ query, again }) {
     rows.length ? await submissionList(rows, { author }, (it) => news.includes(it.num))
       : el("p", { class: "none" }, before ? "None among the latest." : "None."),
     olderLink("/mine", {}, before),
+    feed,
     el("p", { class: "aside" }, link("/password", "Change the password, or leave")),
   ];
 }

@@ -1,6 +1,7 @@
 // What changed: the latest, of a vendor or class, on a day, in a month.
 
 import { counted, el, link, several } from "../dom.js";
+import { feedLine } from "../feeds.js";
 import { changeList, countWords, kindOfChange } from "../happened.js";
 import { changesOf, changesOn, index, latest, month } from "../history.js";
 import { failed, title } from "../parts.js";
@@ -46,9 +47,6 @@ function byDay(rows, counts) {
       counts.has(day) ? el("small", {}, countWords(counts.get(day))) : null),
     changeList(its)));
 }
-
-const feedLink = (name) => el("p", { class: "aside" }, "Follow it as a ",
-  el("a", { href: `/feeds/${name}.atom` }, "feed"), ".");
 
 /** How much changed on the days of months. */
 async function countsOf(months) {
@@ -111,12 +109,14 @@ async function ofMonth(name, again) {
 /** The latest changes, or the latest of a vendor or class. */
 async function ofLatest(query, again) {
   const top = topIn(query.get("of"));
-  const [known, rows] = await Promise.all([index(), top ? changesOf(top) : latest()]);
+  const what = top ? `What changed of ${wholeNumber(top)}` : "Recent changes";
+  const [known, rows, feed] = await Promise.all([
+    index(), top ? changesOf(top) : latest(), feedLine(top ?? "changes", what)]);
   if (!rows) return failed({ trouble: "offline" }, again);
   const its = fitting(top ? rows.reverse() : rows, query.get("kind")).slice(0, MOST);
   const counts = top ? new Map() : await countsOf((known?.months ?? []).slice(-2));
   return [
-    title(top ? `What changed of ${wholeNumber(top)}` : "Recent changes"),
+    title(what),
     el("p", {}, known ? `All changes since ${known.began.slice(0, 10)} are known. `
       : "Nothing was published here yet. ", link("/decided", "The latest proposals")),
     filters(query),
@@ -125,7 +125,7 @@ async function ofLatest(query, again) {
     its.length ? byDay(its, counts) : el("p", { class: "none" }, "None."),
     known ? el("p", {}, "Months: ", [...known.months].reverse().map((it, at) => (
       [at ? ", " : null, link(`/recent?month=${it}`, it)]))) : null,
-    feedLink(top ?? "changes"),
+    feed,
   ];
 }
 

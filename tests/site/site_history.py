@@ -2,6 +2,7 @@
 and the way back to a former name."""
 import calendar
 import os
+import re
 import time
 
 from http_server import ask_curl
@@ -150,6 +151,37 @@ def files(cases, world):
                 (200, "application/atom+xml; charset=utf-8", 5))
 
 
+def etag(world, path, *words):
+    """The status of a file, and its ETag."""
+    head = ask_curl("-k", "-I", *words, f"{world.base}{path}")
+    found = re.search(rb"(?mi)^etag: (.*?)\r$", head[2])
+    return head[0], found and found[1].decode()
+
+
+def followed(cases, world, browser):
+    """Feeds as readers find and ask for them."""
+    for path in ("/feeds/changes.atom", "/feeds/PC/8086.atom", "/feeds/by/alice.atom",
+                 "/history/latest.json"):
+        status, tag = etag(world, path)
+        again = etag(world, path, "-H", f"If-None-Match: {tag}")[0]
+        cases.equal(f"history: {path}, and once more", (status, again), (200, 304))
+    tags = [etag(world, f"/feeds/{it}.atom")[1] for it in ("by/alice", "by/dora")]
+    approved(world, "PC/8086/7d8e", "For a feed")
+    world.publish(BEGIN + 8 * DAY)
+    now = [etag(world, f"/feeds/{it}.atom")[1] for it in ("by/alice", "by/dora")]
+    cases.equal("history: another ETag where something changed",
+                [one != other for one, other in zip(tags, now)], [True, False])
+    feeds = ("return [...document.head.querySelectorAll('link[type=\"application/atom+xml\"]')]"
+             ".map((it) => it.getAttribute('href').replace(location.origin, ''))")
+    for path, named in (("/decided?author=alice", "by/alice"), ("/mine", "by/alice"),
+                        ("/item/PC/8086", "PC/8086"), ("/recent?of=8086", "PC/8086"),
+                        ("/decided?author=mona", None), ("/item/PC/10de", None)):
+        browser.go(path)
+        want = ["/feeds/changes.atom", *([f"/feeds/{named}.atom"] if named else [])]
+        browser.wait(lambda want=want: browser.js(feeds) == want or None, f"{want} in {path}")
+        cases.passed += 1
+
+
 SHOTS = os.environ.get("SITE_SHOTS")
 
 
@@ -178,5 +210,6 @@ def run(cases):
         removed(cases, world, browser)
         files(cases, world)
         answers(cases, world, browser)
+        followed(cases, world, browser)
         pictures(world, numbers)
         cases.equal("history: the console", browser.faults(), [])

@@ -1,10 +1,12 @@
 """What the tests of the site stand on: a registry with a part of Debian's file, the program that
 serves it, a proxy that spoils responses on demand, and the real nginx with the site's own
 configuration in front."""
+import glob
 import json
 import os
 import re
 import shutil
+import signal
 import socket
 import sqlite3
 import subprocess
@@ -244,6 +246,27 @@ def missing():
     return None if os.geteuid() == 0 else "nginx of Debian is started by root"
 
 
+# A script that is killed at one of its calls that write.
+KILLED = """
+import os, runpy, signal, sys
+stop, calls = int(sys.argv[1]), 0
+def counted(real):
+    def call(*words, **more):
+        global calls
+        calls += 1
+        if calls == stop:
+            os.kill(os.getpid(), signal.SIGKILL)
+        return real(*words, **more)
+    return call
+for it in ("fsync", "replace", "remove"):
+    setattr(os, it, counted(getattr(os, it)))
+sys.argv[:2] = []
+sys.path.insert(0, os.path.dirname(sys.argv[0]))
+sys.dont_write_bytecode = True
+runpy.run_path(sys.argv[0], run_name="__main__")
+"""
+
+
 class World:
     """All of it, in a folder of its own."""
 
@@ -315,22 +338,44 @@ class World:
         except urllib.error.HTTPError as fault:
             return json.load(fault)
 
-    def publish(self, seconds=None):
+    def keep(self):
+        """A copy of the registry, as a backup has it."""
+        kept = tempfile.mkdtemp(dir=self.folder)
+        self.stop_server()
+        for path in glob.glob(f"{self.database}*"):
+            shutil.copy(path, kept)
+        self.start_server()
+        return kept
+
+    def restore(self, kept):
+        """Puts a copy back, and has the mirror of publishing begin anew, as the packages do."""
+        self.stop_server()
+        for path in [*glob.glob(f"{self.database}*"), *glob.glob(f"{self.folder}/copy/*")]:
+            os.remove(path)
+        for path in glob.glob(f"{kept}/*"):
+            shutil.copy(path, self.folder)
+        self.start_server()
+
+    def publish(self, seconds=None, stop=0):
         """What the packages' timer does each minute, at a time: the history and its feeds. The
-        published file of these tests stays as it is."""
+        published file of these tests stays as it is. Returns whether it was killed, which it is at
+        the call with the number `stop` of those that write."""
         lib, copy, there = (f"{self.folder}/{it}" for it in ("lib", "copy", "published"))
         if not os.path.exists(lib):
             shutil.copytree(os.path.join(program.TOP, "deploy", "lib"), lib)
             shutil.copy(os.path.join(program.TOP, "deploy", "mirror.sh"), f"{lib}/mirror")
             for it in (copy, there):
                 os.mkdir(it)
-            for it in ("history", "feeds", "names", "leaf.html"):
+            for it in ("history", "feeds", "names", "leaf.html", "words", "search.html"):
                 os.symlink(f"{there}/{it}", f"{self.folder}/public/{it}")
         words = [f"{lib}/publish", f"http://127.0.0.1:{self.server.port}", copy, there, SITE]
         clock = {} if seconds is None else {"PCIIDS_NOW": str(int(seconds))}
-        subprocess.run(words, env={**os.environ, **clock}, stdout=subprocess.DEVNULL, check=True,
-                       timeout=PATIENCE)
+        ran = subprocess.run(["python3", "-c", KILLED, str(stop), *words], timeout=PATIENCE,
+                             env={**os.environ, **clock}, stdout=subprocess.DEVNULL)
+        if ran.returncode not in (0, -signal.SIGKILL):
+            raise subprocess.CalledProcessError(ran.returncode, words)
         subprocess.run(["chmod", "-R", "a+rX", there], check=True)
+        return ran.returncode != 0
 
     def submit(self, account, path, name, note=""):
         """The number of a new proposal."""
