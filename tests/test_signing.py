@@ -1,6 +1,6 @@
 """What becomes of what was published: signatures, mirrors that verify them and carry the history,
-and the operator's program that hears of each run. nginx is that of the site; the registry is a small
-one of these tests."""
+and the operator's program that hears of each run. nginx is that of the site; the registry is a
+small one of these tests."""
 import json
 import os
 import shutil
@@ -100,7 +100,7 @@ def read(*place):
 
 
 class Mirrored:
-    """A published folder behind the site's nginx, and a mirror of it."""
+    """A published folder that the site's nginx serves, and a mirror of it."""
 
     def __init__(self, press, folder, key):
         self.press, self.key, self.folder = press, key, folder

@@ -1,6 +1,6 @@
-"""A month of a registry: proposals, approvals, an import, removals, a restore, with publishing killed
-at each of its writes. Every page, feed and file says the right dates and names, and so do gpg, lspci
-and a validator of feeds."""
+"""A month of a registry: proposals, approvals, an import, removals, a restore, with publishing
+killed at each of its writes. Every page, feed and file says the right dates and names, as gpg,
+lspci and a validator of feeds take them."""
 import calendar
 import os
 import re
@@ -20,7 +20,8 @@ DAY = 86_400
 # So many days ago at noon that there are two months, and no test meets the end of a day.
 BEGIN = calendar.timegm((*time.gmtime(time.time() - 40 * DAY)[:3], 12, 0, 0))
 CHIP, SHORT = "PC/8086/7d8a", "PC/8086/7d8c"
-FILE = "".join(["0001  A vendor of a file\n", *(f"\t{at:04x}  Its device {at}\n" for at in range(9))])
+FILE = "0001  A vendor of a file\n" + "".join(
+    f"\t{at:04x}  Its device {at}\n" for at in range(9))
 
 
 def day(number):
