@@ -32,7 +32,7 @@ def new_key(folder, name):
     subprocess.run([*gpg, *make], check=True, capture_output=True)
     with open(place, "wb") as file:
         subprocess.run([*gpg, "--export-secret-keys"], check=True, stdout=file)
-    shutil.rmtree(home)
+    shutil.rmtree(home, ignore_errors=True)
     return place
 
 
