@@ -168,6 +168,7 @@ class Front:
                 ("/var/cache/pciids-long", f"{self.folder}/long"),
             ),
             "pciids-headers": (),
+            "pciids-page": (),
             "pciids-question": (),
             "pciids-command": (),
             "pciids-join": (),

@@ -171,15 +171,12 @@ def pages(cases, press):
 
 
 def packed(cases, press):
-    """Long pages have packed copies, which go when the pages are short or gone."""
+    """A page has no packed copy: nginx would send it without its styles. Older ones go."""
+    press.shell("gzip -k vendors.html")
     entries = "".join(f"{it:04x}  Vendor {it}\n\t0000  Device\n" for it in range(500))
     cases.equal("publish: a long list", press.run(f"# PCI ID registry\n{entries}")[0], 0)
-    find = "find . -name '*.html.gz'"
-    cases.equal("publish: it is packed", press.shell(find), (0, "./vendors.html.gz\n"))
-    same = press.shell("gzip -dc vendors.html.gz | cmp - vendors.html")
-    cases.equal("publish: it is the same page", same, (0, ""))
+    cases.equal("publish: it is not packed", press.shell("find . -name '*.html.gz'"), (0, ""))
     cases.equal("publish: a short list", press.run(TEXT)[0], 0)
-    cases.equal("publish: it is not", press.shell(find), (0, ""))
 
 
 def lines(cases, press):

@@ -5,10 +5,11 @@ their names from `names/8086.html`, a file for each vendor and class in its lang
 them into `leaf.html`. So it composes the search page, for those without scripts.
 """
 import html
+import itertools
 import os
 import re
 
-from files import write_file, write_packed
+from files import write_file
 from items import number_of, shown
 from words import PAGE, words_of
 
@@ -252,13 +253,11 @@ def write_pages(public, items, template):
     for place, text in maps_of(items):
         write_file(os.path.join(public, place), text.encode())
     wanted, written = set(), 0
-    for place, text in files_of(items, template, public):
+    pages = files_of(items, template, public), parts_of(items, template)
+    for place, text in itertools.chain(*pages):
         path = os.path.join(public, place)
-        wanted |= {path, path + ".gz"}
-        written += write_packed(path, text.encode())
-    for place, text in parts_of(items, template):
-        wanted.add(os.path.join(public, place))
-        written += write_file(os.path.join(public, place), text.encode())
+        wanted.add(path)
+        written += write_file(path, text.encode())
     gone = 0
     for folder, _, names in os.walk(public):
         for path in {os.path.join(folder, it) for it in names if ".html" in it} - wanted:
