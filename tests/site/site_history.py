@@ -1,6 +1,5 @@
 """The story of a month in the browser: what changed when, what it was called before, who did it,
 and the way back to a former name."""
-import calendar
 import os
 import re
 import time
@@ -10,13 +9,14 @@ from site_browser import Browser
 from site_world import World
 
 DAY = 86_400
-# Some days ago at noon, so that no test meets the end of a day.
-BEGIN = calendar.timegm((*time.gmtime(time.time() - 20 * DAY)[:3], 12, 0, 0))
+# Some days and an hour ago, in whole minutes, and not at the end of a day.
+BEGIN = (int(time.time()) - 20 * DAY - 3_600) // 60 * 60
+BEGIN -= 600 if BEGIN % DAY > DAY - 600 else 0
 CHIP = "PC/8086/7d8a"
 
 
-def day(number):
-    return time.strftime("%Y-%m-%d", time.gmtime(BEGIN + number * DAY))
+def day(number, form="%Y-%m-%d"):
+    return time.strftime(form, time.gmtime(BEGIN + number * DAY))
 
 
 def approved(world, path, name, author="alice", decider="mona"):
@@ -55,7 +55,7 @@ def recent(cases, browser, numbers):
     first = row_texts(browser)
     cases.equal("history: it says how long ago", first[0].endswith(", 15 days ago"), True)
     exact = browser.one(".changes time").get_attribute("title")
-    cases.equal("history: and when exactly", exact, f"{day(5)} 12:00 UTC")
+    cases.equal("history: and when exactly", exact, day(5, '%F %H:%M UTC'))
     got = [it.partition(" days ago")[0].rpartition(",")[0] for it in first]
     cases.equal("history: the latest changes", got, [
         f"8086:7d8a Back again #{numbers['again']} by dora, approved by mona",
@@ -103,7 +103,7 @@ def item(cases, browser, numbers):
     cases.equal("history: when it was decided", "17 days ago" in browser.text(".facts"), True)
     cases.equal("history: when it was proposed", "18 days ago" in browser.text(".facts"), True)
     browser.go("/item/PC/8086/1237")
-    words = f"It had its name before {day(0)} 12:00 UTC, when the history begins."
+    words = f"It had its name before {day(0, '%F %H:%M UTC')}, when the history begins."
     cases.equal("history: no guess", browser.has(words, ".history"), True)
     browser.go("/decided")
     got = [it for it in row_texts(browser, ".items li") if "17 days ago" in it]

@@ -163,8 +163,13 @@ def without_scripts(cases, world):
     cases.equal("safety: links without scripts", len(links) >= 4, True)
     for it in links:
         cases.equal(f"safety: {it}", ask_curl("-k", world.base + it)[0], 200)
-    inline = [it for it in ("style=", "onclick=", "<style", "<script>") if it in page]
+    inline = [it for it in ("style=", "onclick=", "<script>") if it in page]
     cases.equal("safety: nothing inline", inline, [])
+    told = [ask_curl("-k", "-i", world.base + it)[2].decode() for it in ("/", "/", "/help")]
+    allowed = [re.findall("'nonce-([0-9a-f]{32})'", it) for it in told]
+    used = [re.findall('<style nonce="(.*?)">', it) for it in told]
+    cases.equal("safety: but the styles, by a number of the response", used, allowed)
+    cases.equal("safety: which is another one each time", len({it for it, in allowed}), 3)
 
 
 def statuses(cases, world):
