@@ -208,6 +208,8 @@ def joined(story):
     ask = f"{ASK_SITE} -o /dev/null -w '%{{http_code}}' -H 'Origin: https://{HOST}'"
     sent = f"-d name=dora --data-urlencode 'verifier={verifier('dora')}' https://{HOST}/join"
     story.same("a stranger joins", f"{ask} {sent}", "200")
+    mode = "stat -c '%A %U:%G' /etc/pciids/accounts/passwords"
+    story.same("and the passwords stay closed", mode, "-rw-r----- pciids-join:pciids-web")
     login = f"-u dora:{password()} -d stays=yes https://{HOST}/session"
     story.same("logs in", f"{ask} -c /srv/cookies {login}", "200")
     # The registry knows the account, and no submission of this number.

@@ -140,8 +140,8 @@ def ranks(cases, world, browser):
     browser.wait(lambda: browser.text("#log") == "Log in", "logged out")
     world.spoiler.seen.clear()
     browser.log_in("alice")
-    browser.wait(lambda: browser.js("return document.getElementById('log').title"), "her rank")
-    told = browser.js("return document.getElementById('log').title")
+    browser.wait(lambda: browser.js("return document.getElementById('own').title"), "her rank")
+    told = browser.js("return document.getElementById('own').title")
     asked = [it for it in world.spoiler.seen if not it.startswith(b"GET ")]
     cases.equal("story: a log-in sends no command", (told, asked), ("contributor", []))
 
@@ -280,6 +280,7 @@ def administrator(cases, world, browser):
     browser.click("#log")
     browser.wait(lambda: browser.text("#log") == "Log in", "logged out")
     browser.log_in("root")
+    browser.wait(lambda: browser.all(".accounts li"), "the page made anew, with the accounts")
     browser.type("#who-name", "emil", browser.keys.TAB)
     cases.equal("story: a new account", browser.has("emil is no account yet."), True)
     browser.click("main form button.main")
