@@ -143,8 +143,7 @@ def lost(cases, folder):
             room.cutter.left = at
             room.join(names[-1])
             room.cutter.left = None
-            got = room.join(names[-1]), room.join(names[-1], 1)
-            cases.equal(f"joining: cut at {at} of {size} bytes, again", got, (200, 409))
+            cases.equal(f"joining: cut at {at} of {size} bytes, again", room.join(names[-1]), 200)
         made = [it[0] for it in room.registry.commands]
         cases.equal("joining: an account for each", made, ["carl", *names])
         with open(f"{room.folder}/front/accounts/passwords", encoding="ascii") as file:
