@@ -179,7 +179,7 @@ def followed(cases, world, browser):
         browser.go(path)
         want = ["/feeds/changes.atom", *([f"/feeds/{named}.atom"] if named else [])]
         browser.wait(lambda want=want: browser.js(feeds) == want or None, f"{want} in {path}")
-        cases.passed += 1
+        cases.passed()
 
 
 SHOTS = os.environ.get("SITE_SHOTS")
@@ -189,10 +189,13 @@ def pictures(world, numbers):
     """Each page of the history: light, dark, and on a phone."""
     if not SHOTS:
         return
+    world.submit("alice", "PC/8086/7d90", "Pending since a day")
+    world.publish(BEGIN + 19 * DAY)
     places = {"recent": "/recent", "day": f"/recent/{day(4)}", "start": "/",
               "month": f"/recent?month={day(1)[:7]}", "item": f"/item/{CHIP}",
-              "gone": "/item/PC/8086/7d8f", "decided": "/decided",
-              "proposal": f"/proposals/{numbers['better']}"}
+              "gone": "/item/PC/8086/7d8a", "decided": "/decided", "search": "/search?q=imaginary",
+              "account": "/decided?author=alice", "vendor": "/item/PC/8086", "queue": "/queue",
+              "proposal": f"/proposals/{numbers['better']}", "propose": f"/propose?path={CHIP}"}
     for name, size, dark in (("light", (1100, 900), False), ("dark", (1100, 900), True),
                              ("phone", (400, 800), False)):
         with Browser(world.base, size, dark) as browser:
