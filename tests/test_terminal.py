@@ -244,17 +244,21 @@ def test_values(cases, folder):
 
 
 def test_looks_of_files(cases, folder):
-    """A file that is no text of pci.ids, of an import."""
+    """A file that is no text of pci.ids, of a lookup and of an import."""
     ids, db = os.path.join(folder, "ids"), new_registry(folder)
+    look_up = ["lookup", "--ids", ids, "--flags", "1"]
     bring_in = ["import", "--db", db, "--account", "root", ids]
     for text, fault, looks in LOOKS:
         with open(ids, "wb") as file:
             file.write(text)
-        refused = "refused 14 FileFault line=1 kind={} {}\n".format(*fault.split())
+        line, refused = f"line 1: {fault}\n", "refused 14 FileFault line=1 kind={} {}\n"
+        refused = refused.format(*fault.split())
         said = f"{ids} {looks}"
+        tells(cases, f"lookup: {text[:4]}", look_up, (b"", line.encode(), 1), said)
         tells(cases, f"import: {text[:4]}", bring_in, (refused.encode(), b"", 1), said)
     with open(ids, "wb") as file:
         file.write(TEXT + gzip.compress(TEXT))
+    tells(cases, "another line", look_up, (b"", b"line 3: 1 NotUtf8\n", 1))
     refused = b"refused 14 FileFault line=3 kind=1 NotUtf8\n"
     tells(cases, "another line: import", bring_in, (refused, b"", 1))
 

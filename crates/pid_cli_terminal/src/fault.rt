@@ -20,12 +20,13 @@ pub enum Fault {
     Unopened,
     /// `socket: failed`
     Socket,
-    /// A fault of the first line of a pci.ids file.
-    FirstLine,
-    /// Anything else, such as a fault of another line.
+    /// A fault of a line of a pci.ids file.
+    Line,
+    /// Anything else.
     Other,
 }
 
+// What a line reports, by the part of it that is written first.
 fn fault_of(line: &[u8]) -> Fault {
     if line.starts_with(b"file: failed") {
         Fault::File
@@ -37,8 +38,8 @@ fn fault_of(line: &[u8]) -> Fault {
         Fault::Unopened
     } else if line.starts_with(b"socket: failed") {
         Fault::Socket
-    } else if line.starts_with(b"line 1: ") {
-        Fault::FirstLine
+    } else if line.starts_with(b"line ") {
+        Fault::Line
     } else {
         Fault::Other
     }

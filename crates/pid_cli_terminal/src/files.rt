@@ -30,7 +30,7 @@ fn explain_failed(rt: &HostRuntime, path: &str, fault: ErrorKind) {
     let _ = write!(rt.stderr(), "pciids: cannot read {path}: {reason}\n");
 }
 
-/// Says what a file looks like whose first line is a fault.
+/// Says what a file looks like whose lines were refused, if its first bytes say it.
 pub fn explain_looks(rt: &HostRuntime, path: &str) {
     if !is_regular(rt, path) {
         return;

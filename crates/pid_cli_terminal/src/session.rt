@@ -96,7 +96,7 @@ impl<'r> Session<'r> {
     fn explain_fault(&self, job: Job<'_>, fault: Fault, read: &Met, written: &Met) {
         match fault {
             Fault::File => self.explain_file(job, read, written),
-            Fault::FirstLine => {
+            Fault::Line => {
                 if let Some(ids) = ids_of(job) {
                     explain_looks(self.rt, ids);
                 }
