@@ -32,32 +32,24 @@ import apt  # noqa: E402
 import program  # noqa: E402
 from cases import Counts, last_line  # noqa: E402
 
-# How many processes try the parts of a place, in this order. Those that wait are tried at once, of
-# the site a few, since each has browsers; beside what takes times or measures memory is nothing.
-PLACES = {"together": len(os.sched_getaffinity(0)), "waiting": 99, "site": 3, "alone": 1}
-WAITING = (
-    "machine machine_load reboot packages front front_http2 front_joining front_lists"
-    " front_programs caches keeping installing publishing proxy mirror"
-).split()
+# How many processes try the parts of a folder, in this order: many those that mostly wait for
+# servers and machines, a few those of the site, since each has browsers. Beside what takes times or
+# measures memory nothing is tried.
+FOLDERS = {"": len(os.sched_getaffinity(0)), "service": 99, "site": 3, "alone": 1}
 ALONE = ("progress", "serving", "serving_memory", "site_access")
-HELPERS = ("site_browser", "site_world")
 # Where tests of the first program are: those that have the mark `first`.
 OF_FIRST = ("fault_gallery", "limits", "lspci", "real_file", "words", "worked_rows")
 
 
 def files_of_parts():
     """The file of each part, by its name."""
-    paths = glob.glob(f"{HERE}/test_*.py") + glob.glob(f"{HERE}/site/site_*.py")
-    found = {os.path.basename(it)[:-3].removeprefix("test_"): it for it in sorted(paths)}
-    found |= {it: f"{HERE}/{it}.py" for it in WAITING if it not in found}
-    return {name: path for name, path in found.items() if name not in HELPERS}
+    paths = [it for folder in FOLDERS for it in glob.glob(os.path.join(HERE, folder, "test_*.py"))]
+    return {os.path.basename(it)[len("test_"):-len(".py")]: it for it in sorted(paths)}
 
 
-def place_of(part):
-    """Where a part is tried."""
-    if part in ALONE:
-        return "alone"
-    return "site" if part.startswith("site_") else "waiting" if part in WAITING else "together"
+def folder_of(part, path):
+    """The folder by which a part is tried."""
+    return "alone" if part in ALONE else os.path.relpath(os.path.dirname(path), HERE).strip(".")
 
 
 def help_text():
@@ -66,11 +58,11 @@ def help_text():
 
 
 def run_pytest(tests, words, counts):
-    """Runs pytest for each place, on the tests of its parts: pairs of a part and a path."""
+    """Runs pytest for each folder, on the tests of its parts: pairs of a part and a path."""
     import pytest
 
-    for place, most in PLACES.items():
-        paths = [path for part, path in tests if place_of(part) == place]
+    for folder, most in FOLDERS.items():
+        paths = [path for part, path in tests if folder_of(part, path) == folder]
         # Not in groups (loadgroup): xdist 3.1 waits for a process that has ended there for ever.
         how = ["-v", "--dist", "load", "-n", str(min(most, len(paths)))]
         status = pytest.main([*how, *paths, *words], plugins=[counts]) if paths else 5
@@ -91,9 +83,8 @@ def main(words, counts):
     words, is_first = words[len(names):], names == ["first"]
     if is_first:
         names, words = OF_FIRST, ["-m", "first", *words]
-    site = [it for it in files if it.startswith("site_")]
-    chosen = [it for name in names or files for it in (site if name == "site" else [name])]
-    parts = [it.partition("::") for it in chosen]
+    of = {it: [part for part in files if folder_of(part, files[part]) == it] for it in FOLDERS}
+    parts = [it.partition("::") for name in names or files for it in of.get(name) or [name]]
     unknown = [part for part, *_ in parts if part not in files]
     if unknown:
         return f"tests/run: unknown part: {', '.join(unknown)}\n{help_text()}"

@@ -113,7 +113,7 @@ def missing_evidence():
     text = " ".join(text_of("SECURITY.md").partition("## What is not")[0].split())
     text = text.partition("A client of `serve`:")[2]
     named, missing = 0, []
-    for place, first, others in re.findall(r"`(pid_\w+|\w+\.py): (\w+)`((?:, `\w+`)*)", text):
+    for place, first, others in re.findall(r"`(pid_\w+|[\w/]+\.py): (\w+)`((?:, `\w+`)*)", text):
         for name in [first, *re.findall(r"\w+", others)]:
             file = os.path.join("tests", place)
             found = text_of(file) if place.endswith(".py") else sources_in(place)

@@ -53,14 +53,14 @@ PARTS = {
         (1, 1, 0),
     ),
     "proxy": (
-        "import program\ndef run(cases):\n    raise program.Skip('why')\n",
+        "import program\ndef test_one(cases):\n    raise program.Skip('why')\n",
         (0, 0, 1),
     ),
     "mirror": (
         (
             "import threading, time\n"
             "def late():\n    time.sleep(1)\n    print('late')\n"
-            "def run(cases):\n    threading.Thread(target=late).start()\n"
+            "def test_one(cases):\n    threading.Thread(target=late).start()\n"
             "    cases.equal('', 1, 1)\n"
         ),
         (1, 0, 0),
@@ -80,16 +80,16 @@ PARTS = {
         (1, 1, 0),
     ),
     # These are tried at once.
-    "front": ("def run(cases):\n    cases.equal('', 1, 1)\n", (1, 0, 0)),
+    "front": ("def test_one(cases):\n    cases.equal('', 1, 1)\n", (1, 0, 0)),
     "caches": (
-        "def run(cases):\n    cases.equal('', 1, 2)\n    cases.skipped('one', 'why')\n",
+        "def test_one(cases):\n    cases.equal('', 1, 2)\n    cases.skipped('one', 'why')\n",
         (0, 1, 1),
     ),
     "machine": (
-        "import os, time\ndef run(cases):\n    time.sleep(0.5)\n    os._exit(0)\n", (0, 1, 0)
+        "import os, time\ndef test_one(cases):\n    time.sleep(0.5)\n    os._exit(0)\n", (0, 1, 0)
     ),
 }
-RUNS = ("proxy", "mirror", "front", "caches", "machine")
+SERVICE = ("proxy", "mirror", "front", "caches", "machine")
 
 # The last lines of runs, and what the gate reads in them.
 LAST_LINES = {
@@ -115,7 +115,7 @@ def tried(folder, *words, **environment):
         if name != "PCIIDS" and not name.startswith("PYTEST")
     }
     words = [sys.executable, "-B", os.path.join(folder, "all.py"), *words]
-    ran = subprocess.run(words, capture_output=True, env={**outer, **environment}, timeout=120)
+    ran = subprocess.run(words, capture_output=True, env={**outer, **environment}, timeout=300)
     return ran.stdout.decode().splitlines(), ran.returncode
 
 
@@ -131,10 +131,11 @@ def frame(folder):
     with open(settings, encoding="utf-8") as file:
         text = file.read()
     with open(settings, "w", encoding="utf-8") as file:
-        file.write(text.replace("timeout = 1800", "timeout = 5"))
+        file.write(text.replace("timeout = 1800", "timeout = 15"))
+    os.mkdir(os.path.join(folder, "service"))
     for name, (text, _) in PARTS.items():
-        name = f"{name}.py" if name in RUNS else f"test_{name}.py"
-        with open(os.path.join(folder, name), "w", encoding="utf-8") as file:
+        place = "service" if name in SERVICE else ""
+        with open(os.path.join(folder, place, f"test_{name}.py"), "w", encoding="utf-8") as file:
             file.write(text)
     return folder
 
@@ -154,13 +155,15 @@ def test_broken_parts(cases, frame):
     whole = line_of(*map(sum, zip(*(counts for _, counts in PARTS.values()))))
     cases.equal("all of them", (lines[-1], status), (whole, 1))
     text = "\n".join(lines)
-    for name in ("test_tour.py::test_one", "test_lspci.py::test_one", "machine.py::run"):
-        cases.equal(f"{name} is named", f"FAILED {name}" in text, True)
+    for name in ("test_tour.py", "test_lspci.py", "service/test_machine.py"):
+        cases.equal(f"{name} is named", f"FAILED {name}::test_one" in text, True)
 
 
 def test_calls(cases, frame):
     lines, status = tried(frame, "words", "mirror")
     cases.equal("all is well", (lines[-1], status), ("2 passed, 0 failed", 0))
+    lines, status = tried(frame, "service", "-k", "mirror or proxy")
+    cases.equal("a folder", (lines[-1], status), ("1 passed, 0 failed, 1 skipped", 0))
     lines, status = tried(frame, "limits::test_two")
     cases.equal("one test", (lines[-1], status), ("1 passed, 0 failed", 0))
     lines, status = tried(frame, "words", "limits", "-k", "two")

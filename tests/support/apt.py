@@ -45,7 +45,7 @@ SHOWN_BY = {
     "valgrind": "valgrind",
 }
 TESTS = os.path.dirname(os.path.dirname(os.path.abspath(__file__)))
-FOLDERS = ("", "support", "site")
+FOLDERS = ("", "support", "service", "site")
 PYTEST = {"python3-pytest", "python3-pytest-timeout", "python3-pytest-xdist"}
 INSTALL = ["apt-get", "install", "-y", "--no-install-recommends"]
 # What more than this many bytes have to be fetched for is asked about at a terminal.

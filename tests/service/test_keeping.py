@@ -414,7 +414,7 @@ def answers(cases):
     cases.equal("answers: the process has ended", ran(script, str(process.pid))[0], 1)
 
 
-def run(cases):
+def test_keeping(cases):
     holds(cases)
     backups(cases)
     restores(cases)

@@ -187,7 +187,7 @@ def real_file(cases, page):
     cases.equal("reader: tidy of the real file", printed == program.tidy(text).out, True)
 
 
-def run(cases):
+def test_site_reader(cases):
     with World() as world, Browser(world.base) as browser:
         page = Page(browser)
         cuts(cases, world, page)

@@ -5,7 +5,7 @@ import re
 import tempfile
 import time
 
-from front import faults_of
+from test_front import faults_of
 from front_room import HOST, Front, Recorder, needed, placed, started, stopped
 from http_server import free_port
 
@@ -183,7 +183,7 @@ def down(cases, cache):
     cases.equal("cache: the registry then", told, (502, 502))
 
 
-def run(cases):
+def test_caches(cases):
     needed()
     recorder = Recorder()
     with tempfile.TemporaryDirectory() as folder:

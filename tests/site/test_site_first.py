@@ -129,7 +129,7 @@ def taken(cases, world, browser):
         cases.equal(f"first: {path} does not jump: {far}", max(far) <= 4, True)
 
 
-def run(cases):
+def test_site_first(cases):
     with World() as world, Browser(world.base) as browser:
         named(world)
         composed(cases, world)

@@ -246,7 +246,7 @@ def items(cases, browser):
     cases.equal("month: the start page", first.startswith("8086:7d8c Short-lived removed #6"), True)
 
 
-def run(cases):
+def test_site_month(cases):
     program.need("gnupg", "gpgv", "jing", "pciutils")
     with World() as world, Browser(world.base) as browser:
         month = Month(world)

@@ -143,7 +143,7 @@ def story(cases, world, firefox):
     cases.equal("firefox: Trusted Types refuse markup", bold, [0, True])
 
 
-def run(cases):
+def test_site_firefox(cases):
     program.need("firefox-esr")
     with World() as world:
         firefox = Firefox(world.base)

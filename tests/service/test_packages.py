@@ -147,7 +147,7 @@ def completed(cases):
         cases.equal("packages: bash offers options", "--db" in offered("export", "--", "2"), True)
 
 
-def run(cases):
+def test_packages(cases):
     built_packages.packages()
     files(cases)
     completed(cases)

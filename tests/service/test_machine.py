@@ -493,7 +493,7 @@ def removed(story):
     story.same("no link of a unit stays", left, "")
 
 
-def run(cases):
+def test_machine(cases):
     program.need("curl", "gnupg", "gunicorn", "nginx-light", "openssl", "pciutils",
                  "systemd-container")
     built_packages.packages()

@@ -305,7 +305,7 @@ def renewed(cases, world, browser):
     cases.equal("safety: sent once it is known", len(world.pending("PC/8086/be10")), 1)
 
 
-def run(cases):
+def test_site_safety(cases):
     with World() as world, Browser(world.base) as browser:
         hostile(cases, world, browser)
         cases.equal("safety: the console after markup", browser.faults(), [])

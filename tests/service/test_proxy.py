@@ -312,7 +312,7 @@ def passed_on(cases, proxy, port):
         cases.equal(f"proxy: {name} as it comes to the server", [first, *known], want)
 
 
-def run(cases):
+def test_proxy(cases):
     is_known = in_place(config(), "/", 1, 2) is not None
     cases.equal("deploy/nginx.conf has the ports and places that are known", is_known, True)
     program.need("apache2-utils", "curl", "nginx-light", "openssl", "pci.ids")

@@ -432,7 +432,7 @@ def at_its_pace(cases, folder):
         cases.equal(f"mirror: {path} was refused {refused} times", refused > 0, True)
 
 
-def run(cases):
+def test_mirror(cases):
     program.need("curl")
     with tempfile.TemporaryDirectory() as folder:
         database = os.path.join(folder, "registry.db")

@@ -219,7 +219,7 @@ def limits(cases):
         cases.equal(f"limits: {limit}", found, ["limits.js"])
 
 
-def run(cases):
+def test_site_pastes(cases):
     limits(cases)
     with World() as world, Browser(world.base) as browser:
         browser.go("/help")

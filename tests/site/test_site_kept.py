@@ -4,7 +4,7 @@ import os
 import time
 
 from site_browser import Browser
-from site_once import mouse
+from test_site_once import mouse
 from site_world import World
 
 SHIFTS = """
@@ -398,7 +398,7 @@ def long_file(cases, world, browser):
     cases.equal("kept: a name of a long file is found", browser.has("8086:10e1", "#found"), True)
 
 
-def run(cases):
+def test_site_kept(cases):
     with World() as world:
         with Browser(world.base) as browser:
             browser.go("/").log_in("alice")

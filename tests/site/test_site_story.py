@@ -366,7 +366,7 @@ def counts(cases, world, browser):
     cases.equal("story: the counts", browser.has(words, ".status"), True)
 
 
-def run(cases):
+def test_site_story(cases):
     with World() as world:
         with Browser(world.base) as one, Browser(world.base) as two, Browser(world.base) as three:
             visitor(cases, one)

@@ -144,7 +144,7 @@ def removed(cases, root):
     cases.equal("installing: no link of a unit is left", enabled, [])
 
 
-def run(cases):
+def test_installing(cases):
     program.need("debhelper", "dpkg-dev", "deb-systemd-helper", "systemd-sysusers")
     if os.geteuid() != 0:
         raise program.Skip("only root can give files to other users")

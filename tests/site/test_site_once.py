@@ -439,7 +439,7 @@ def stopped(cases, world, browser):
     cases.equal("stopped: tried again by itself", browser.heading("Queue"), True)
 
 
-def run(cases):
+def test_site_once(cases):
     with World() as world, Browser(world.base) as alice, Browser(world.base) as mona:
         alice.go("/")
         alice.log_in("alice")

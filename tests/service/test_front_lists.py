@@ -132,7 +132,7 @@ def bounds(cases, front):
     cases.equal("lists: those of another one", told, 200)
 
 
-def run(cases):
+def test_front_lists(cases):
     needed()
     for name, tests, more in (
         ("long", (kept, anew, at_once), LONGER), ("short", (ends,), {}),

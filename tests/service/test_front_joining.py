@@ -276,7 +276,7 @@ def shares(cases, folder):
         room.close()
 
 
-def run(cases):
+def test_front_joining(cases):
     needed()
     with tempfile.TemporaryDirectory() as folder:
         os.chmod(folder, 0o755)

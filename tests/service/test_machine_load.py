@@ -9,9 +9,9 @@ import time
 
 import built_packages
 import program
-from machine import ASK, ASK_SITE, HOST, KILL, Story, put_packages
+from test_machine import ASK, ASK_SITE, HOST, KILL, Story, put_packages
 from machine_room import Machine
-from program import TOP
+from program import SUPPORT
 
 PEOPLE = ("anna", "bert", "cora", "dora")
 FOLDER = "/srv/visitors"
@@ -65,7 +65,7 @@ class Visitors:
     def __init__(self, story):
         self.story, self.told = story, None
         people = "".join(f"{it}:{story.passwords[it]}\n" for it in PEOPLE)
-        story.machine.put(os.path.join(TOP, "tests", "visitors.py"), f"{FOLDER}/visitors.py")
+        story.machine.put(os.path.join(SUPPORT, "visitors.py"), f"{FOLDER}/visitors.py")
         story.machine.run(f"cat > {FOLDER}/people", text=people.encode())
         story.machine.run(f"cp /etc/pciids/certificate.pem {FOLDER}; rm -f {FOLDER}/stop")
 
@@ -172,7 +172,7 @@ def greedy(story):
     """A visitor who asks for all that takes the registry long, 32 at once, and another one: nobody
     waits for more than a few of his requests, however long the registry takes for one here."""
     for name in ("greedy.py", "visitors.py"):
-        story.machine.put(os.path.join(TOP, "tests", name), f"{FOLDER}/{name}")
+        story.machine.put(os.path.join(SUPPORT, name), f"{FOLDER}/{name}")
     run = f"cp /etc/pciids/certificate.pem {FOLDER};"
     run += f" /usr/bin/python3 -B {FOLDER}/greedy.py {FOLDER} 2>&1"
     status, said = story.machine.run(run, within=600)
@@ -217,7 +217,7 @@ def too_long(story):
     story.same("too long: it is enough for that list", rows, str(REMARKS * 1_000))
 
 
-def run(cases):
+def test_machine_load(cases):
     program.need("curl", "nginx-light", "openssl", "sqlite3", "systemd-container")
     built_packages.packages()
     with tempfile.TemporaryDirectory() as folder, Machine() as machine:

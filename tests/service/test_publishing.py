@@ -208,7 +208,7 @@ def changed(cases, press):
 
 
 @pytest.mark.needs("bzip2", "curl", "pci.ids", "pciutils")
-def run(cases):
+def test_publishing(cases):
     with tempfile.TemporaryDirectory() as folder:
         press = Press(folder)
         status, told = press.run(TEXT)

@@ -205,7 +205,7 @@ def pictures(world, numbers):
                 browser.save(os.path.join(SHOTS, f"history-{place}-{name}.png"))
 
 
-def run(cases):
+def test_site_history(cases):
     with World() as world, Browser(world.base) as browser:
         numbers = month(world)
         recent(cases, browser, numbers)

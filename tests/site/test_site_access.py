@@ -427,7 +427,7 @@ def found(cases, browser):
         cases.equal(f"access: how many are found for {query!r}", said[1]["count"], want)
 
 
-def run(cases):
+def test_site_access(cases):
     with World() as world, Browser(world.base, (1100, 900)) as browser:
         contents(world)
         browser.go("/")

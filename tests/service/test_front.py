@@ -329,7 +329,7 @@ def slow(cases, front, recorder):
             it.client.close()
 
 
-def run(cases):
+def test_front(cases):
     needed()
     recorder = Recorder()
     with tempfile.TemporaryDirectory() as folder:

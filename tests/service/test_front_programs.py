@@ -179,7 +179,7 @@ def connections(cases):
     cases.equal("programs: connections of one visitor", got, (want, ""))
 
 
-def run(cases):
+def test_front_programs(cases):
     needed()
     recorder = Recorder()
     with tempfile.TemporaryDirectory() as folder:

@@ -311,7 +311,7 @@ def left_meanwhile(cases, world, browser, numbers):
     cases.equal("grace: several at once, taken back", revision(world) - before, 1)
 
 
-def run(cases):
+def test_site_moderation(cases):
     with World() as world:
         with Browser(world.base) as mona:
             mona.go("/").log_in("mona")

@@ -3,7 +3,7 @@ frames and the rules are those of RFC 9113, and the fields are written as RFC 75
 import tempfile
 import time
 
-from front import SECOND, arrived, faults_of
+from test_front import SECOND, arrived, faults_of
 from front_room import HOST, Front, Recorder, basic, needed
 
 DATA, HEADERS, RESET, SETTINGS, PING, AWAY, CONTINUATION = 0, 1, 3, 4, 6, 7, 9
@@ -223,7 +223,7 @@ def timed(front, address):
     return told, time.monotonic() - start
 
 
-def run(cases):
+def test_front_http2(cases):
     needed()
     recorder = Recorder()
     with tempfile.TemporaryDirectory() as folder:

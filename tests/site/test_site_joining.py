@@ -4,7 +4,7 @@ import threading
 
 from http_server import ask_curl
 from joining_unit import settings
-from site_access import CHECK, CONTRAST, LEAST, SIZES, WIDE
+from test_site_access import CHECK, CONTRAST, LEAST, SIZES, WIDE
 from site_acts import Person
 from site_browser import Browser
 from site_world import World
@@ -283,7 +283,7 @@ def locked(cases, world, browser, password):
         cases.equal("joining: the console of sam", sam.faults(), [])
 
 
-def run(cases):
+def test_site_joining(cases):
     with World() as world:
         with Browser(world.base, size=(420, 800)) as browser:
             password = stranger(cases, world, browser)
