@@ -1,5 +1,6 @@
 """Files of both schemas that the real sqlite3 damaged and mended, and others' tables beside a
 registry's: what the program's openings and migrations say, and how it goes on."""
+import gzip
 import os
 
 import pytest
@@ -14,6 +15,7 @@ DAMAGED = (b"", b"open: Damaged\n", 3)
 NEWER = (b"", b"open: NewerSchema 3\n", 3)
 STORE = (b"", b"open: Store\n", 3)
 OPENED = (b"", b"", 0)
+ALREADY = (b"schema 2 already\n", b"", 0)
 
 # Lines of scripts, each with its reply.
 RUN = (
@@ -33,18 +35,45 @@ GOES_ON = (
 )
 
 
-# What the toolchain's sqlite does not read, and how docs/STORAGE.md has it undone.
+# What the toolchain's sqlite does not read, what is said of it, and how docs/STORAGE.md has it
+# undone.
 UNREAD = (
-    ("CREATE INDEX i ON item(name) WHERE name > 'M'", "DROP INDEX i"),
-    ("CREATE INDEX i ON item(upper(name))", "DROP INDEX i"),
-    ("CREATE VIEW v AS SELECT path, count(*) OVER () FROM item", "DROP VIEW v"),
-    ("CREATE VIRTUAL TABLE f USING fts5(path, name)", "DROP TABLE f"),
-    ("CREATE VIRTUAL TABLE r USING rtree(id, low, high)", "DROP TABLE r"),
+    ("CREATE INDEX i ON item(name) WHERE name > 'M'", DAMAGED, "DROP INDEX i"),
+    ("CREATE INDEX i ON item(upper(name))", DAMAGED, "DROP INDEX i"),
+    ("CREATE VIEW v AS SELECT path, count(*) OVER () FROM item", DAMAGED, "DROP VIEW v"),
+    ("CREATE VIRTUAL TABLE f USING fts5(path, name)", DAMAGED, "DROP TABLE f"),
+    ("CREATE VIRTUAL TABLE r USING rtree(id, low, high)", DAMAGED, "DROP TABLE r"),
     ("CREATE TABLE o (a); INSERT INTO o VALUES (1); ALTER TABLE o ADD COLUMN b DEFAULT 5",
-     "ALTER TABLE o DROP COLUMN b"),
+     DAMAGED, "ALTER TABLE o DROP COLUMN b"),
     ("ALTER TABLE item ADD COLUMN extra TEXT NOT NULL DEFAULT 'e'",
-     "ALTER TABLE item DROP COLUMN extra"),
-    ("PRAGMA auto_vacuum = 1; VACUUM", "PRAGMA auto_vacuum = 0; VACUUM"),
+     DAMAGED, "ALTER TABLE item DROP COLUMN extra"),
+    ("PRAGMA auto_vacuum = 1; VACUUM", STORE, "PRAGMA auto_vacuum = 0; VACUUM"),
+)
+
+# Rows that break a rule of their table, what docs/OPERATE.md has sqlite3 asked of them and what it
+# says, and what mends them.
+UNRULY = (
+    (
+        "INSERT INTO receipt VALUES ('nobody', 'k', 0, 0, 0, 0)",
+        "ok\nreceipt|2|account|0\n",
+        "DELETE FROM receipt WHERE account = 'nobody'",
+    ),
+    (
+        "PRAGMA ignore_check_constraints = 1; INSERT INTO account VALUES ('carol', 7)",
+        "CHECK constraint failed in account\n",
+        "DELETE FROM account WHERE name = 'carol'",
+    ),
+    (
+        "CREATE TABLE o (a TEXT); CREATE UNIQUE INDEX u ON o (a);"
+        " INSERT INTO o VALUES ('x'), ('y'); PRAGMA writable_schema = 1;"
+        " UPDATE sqlite_schema SET sql = 'CREATE INDEX u ON o (a)' WHERE name = 'u';"
+        " PRAGMA writable_schema = RESET; INSERT INTO o VALUES ('x');"
+        " PRAGMA writable_schema = 1;"
+        " UPDATE sqlite_schema SET sql = 'CREATE UNIQUE INDEX u ON o (a)' WHERE name = 'u';"
+        " PRAGMA writable_schema = RESET",
+        "non-unique entry in index u\n",
+        "DELETE FROM o WHERE rowid = 3",
+    ),
 )
 
 
@@ -184,12 +213,11 @@ def test_older_damage(cases, folder):
 
 def test_moved_once(cases, folder):
     path = os.path.join(folder, "older.db")
-    already = (b"schema 2 already\n", b"", 0)
     got = (old_file(path), migrate(path), migrate(path))
-    cases.equal("moved once", got, ("", (b"moved to schema 2\n", b"", 0), already))
+    cases.equal("moved once", got, ("", (b"moved to schema 2\n", b"", 0), ALREADY))
     is_moved(cases, "moved once", path)
     goes_on(cases, "moved once", path)
-    cases.equal("moved once: again", migrate(path), already)
+    cases.equal("moved once: again", migrate(path), ALREADY)
     later = {"/changes?format=text&since=2": "revision 3\n3 PC/8086 X\n"}
     answers(cases, "moved once: opened again", path, later)
 
@@ -271,11 +299,11 @@ TAKEN = (
 def test_refused(cases, folder):
     """What the page of the file lists as not read: nothing opens, and the file is as it was, until
     it is undone as the page says."""
-    for number, (added, undone) in enumerate(UNREAD):
+    for number, (added, told, undone) in enumerate(UNREAD):
         path = os.path.join(folder, f"{number}.db")
         script(path, *(line for line, _ in RUN))
         got = (asked(path, added), script(path), script(path), asked(path, undone))
-        cases.equal(f"refused: {added}", got, ("", STORE, STORE, ""))
+        cases.equal(f"refused: {added}", got, ("", told, told, ""))
         obeys(cases, f"refused: {undone}", path, AGAIN)
     for suffix in ("", "-wal"):
         path = os.path.join(folder, f"linked{suffix}.db")
@@ -284,6 +312,40 @@ def test_refused(cases, folder):
         cases.equal(f"refused: another name of {suffix}", script(path), STORE)
         os.remove(path + ".other")
         obeys(cases, f"refused: {suffix} without it", path, AGAIN)
+
+
+def test_unruly(cases, folder):
+    """Rows that break a rule of their table are damage, which sqlite3 shows as the page says."""
+    question = "PRAGMA integrity_check; PRAGMA foreign_key_check"
+    for number, (broken, shown, mend) in enumerate(UNRULY):
+        path = os.path.join(folder, f"{number}.db")
+        script(path, *(line for line, _ in RUN))
+        got = (asked(path, broken), script(path), migrate(path), asked(path, question))
+        cases.equal(f"unruly: {broken}", got, ("", DAMAGED, DAMAGED, shown))
+        cases.equal(f"unruly: {mend}", asked(path, mend), "")
+        obeys(cases, f"unruly: after {mend}", path, AGAIN)
+
+
+def test_no_database(cases, folder):
+    """What does not begin as a database is none, and not a damaged one; it stays as it is. An
+    empty file becomes a registry."""
+    whole, path = os.path.join(folder, "whole.db"), os.path.join(folder, "r.db")
+    script(whole, *(line for line, _ in RUN))
+    with open(whole, "rb") as file:
+        database = file.read()
+    for name, contents in (
+        ("a text", b"SQLite format 3: what a database begins with\n" * 200),
+        ("gzip", gzip.compress(database)),
+        ("a database after a line", b"\n" + database),
+    ):
+        with open(path, "wb") as file:
+            file.write(contents)
+        got = (script(path), migrate(path), script(path))
+        cases.equal(f"no database: {name}", got, (STORE, STORE, STORE))
+        with open(path, "rb") as file:
+            cases.equal(f"no database: {name} stays", file.read() == contents, True)
+    open(path, "wb").close()
+    cases.equal("no database: an empty file", (script(path), migrate(path)), (OPENED, ALREADY))
 
 
 def test_taken(cases, folder):

@@ -58,7 +58,7 @@ CHANGED = {
         "damaged",
     ),
     "an item without a number": ("DELETE FROM item_since WHERE path = 'PC/8086/1237'", "damaged"),
-    "a number of no item": ("INSERT INTO item_since VALUES ('PC/9999', 0)", "store"),
+    "a number of no item": ("INSERT INTO item_since VALUES ('PC/9999', 0)", "damaged"),
     "another number": ("UPDATE item_since SET since = 0 WHERE path = 'PC/8086'", None),
     "a number above the revision": (
         "UPDATE item_since SET since = 1000 WHERE path = 'PC/8086'",
@@ -83,7 +83,7 @@ CHANGED = {
     "no path": (moved("PC/0001", "PC/80A6"), "damaged"),
     "a path without its number": (
         "UPDATE item SET path = 'PC/0007' WHERE path = 'PC/0001'",
-        "store",
+        "damaged",
     ),
     "an item without its parent": (moved("PC/8086/1237", "PC/9999/1237"), "damaged"),
     "a generic subsystem without its vendor": (moved("PS/1af4/1100", "PS/9999/1100"), "damaged"),
@@ -126,7 +126,6 @@ CHANGED = {
 TOLD = {
     None: (b"", b"", 0),
     "damaged": (b"", b"open: Damaged\n", 3),
-    "store": (b"", b"open: Store\n", 3),
     "newer": (b"", b"open: NewerSchema 3\n", 3),
 }
 

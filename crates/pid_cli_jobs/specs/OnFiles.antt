@@ -10,7 +10,7 @@ use Rattle.sqlite_trees.specs.declared.store.Store.{Ghosts}
 use Rattle.sqlite_wal.specs.Recovery.{Image}
 use Rattle.pid_file.specs.declared.io.Output as outputs
 use Rattle.pid_ident.specs.declared.incoming.Incoming as incoming
-use Rattle.pid_tables.specs.Rows.Faults.{IsMemoryOrStore}
+use Rattle.pid_tables.specs.Rows.Faults.{IsNotNewerSchema}
 use Rattle.pid_tables.specs.declared.rows.fault.TableFault.{TableFault}
 use Rattle.pid_tables.specs.declared.rows.fault.TableFault.TheVariants.{Memory}
 use Rattle.pid_cli_jobs.specs.declared.on_files.FileJob.{FileJob}
@@ -70,10 +70,10 @@ module _ {E R W : Type 0} (files : disk.Ghosts E) (image : Image) (writer : outp
     pub fresh : IsNew conn
     pub there : DoesThere files writer conn task (from_there w between)
 
-  -- a job on the files, or why they were not opened: out of memory, or they cannot be
+  -- a job on the files, or why they were not opened: out of memory, they cannot be, or are damaged
   pub data DoesInFiles (path : List ℕ) (task : FileTask) (w : Wrote R W) : Type 0 where
     InFiles : OpensAndDoes path task w → DoesInFiles path task w
-    NoFiles : (fault : TableFault) → IsMemoryOrStore fault
+    NoFiles : (fault : TableFault) → IsNotNewerSchema fault
         → AsksOnce w (DatabaseAt path (Some fault)) → TellsUnopened fault w
         → DoesInFiles path task w
 

@@ -1,10 +1,12 @@
 //! The machine that jobs run on.
-ghost use Rattle.std.specs.Prelude.{◌≡◌, IfOk};
+ghost use Rattle.std.specs.Prelude.{◌≡◌, true, IfOk};
+ghost use Rattle.sqlite.specs.Opening.{is_open_error};
+ghost use Rattle.pid_tables.specs.Rows.Faults.{IsNotNewerSchema};
 ghost use Rattle.pid_cli_jobs.specs.Steps.Serving.{IsLoopback};
 
 use pid_http_stream::listener::{Serving, StreamServer, serve_on};
 use pid_service::TableFault;
-use sqlite::{Connection, FileStore};
+use sqlite::{Connection, Error as SqlError, ErrorCode, FileStore, Leftover};
 use sqlite_disk::{Disk, Start};
 use sqlite_std_file::FileFrom;
 use std::alloc::Global;
@@ -20,7 +22,7 @@ pub trait Machine {
     ghost use Rattle.sqlite_wal.specs.Files.{image_at};
     ghost use Rattle.pid_http_stream.specs.Listener.Servings.{CountsStreams, IsLiveAt};
     ghost use Rattle.pid_http_stream.specs.Listener.Streams.{IsGivenMore};
-    ghost use Rattle.pid_tables.specs.Rows.Faults.{IsMemoryOrStore};
+    ghost use Rattle.pid_tables.specs.Rows.Faults.{IsNotNewerSchema};
     ghost use Rattle.pid_cli_jobs.specs.Files.{ClosesFiles, OpensFiles};
     ghost use Rattle.pid_cli_jobs.specs.Machines.{
       AsksFor,
@@ -55,8 +57,8 @@ pub trait Machine {
 
     /// Opens the database file at a path, which is created if it does not exist. `start` stands for
     /// what the files hold, and says how a crash is read (`Unknown`: a torn write leaves each byte
-    /// old or new; `Wary`: it may leave anything). Fails with `Memory` or `Store`: no table is read
-    /// yet.
+    /// old or new; `Wary`: it may leave anything). Fails with `Damaged` if the file begins as a
+    /// database and breaks its own schema, and else with `Memory` or `Store`: no table is read yet.
     fn open_database<S: Start>(
         &mut self,
         path: &str,
@@ -66,7 +68,7 @@ pub trait Machine {
             (DatabaseAt path.now (why_unopened result)) }
         ensures opened { IfOk result (λ conn. OpensFiles (image_at S.Start) conn) }
         ensures fresh { IfOk result IsNew }
-        ensures fault { IfErr result IsMemoryOrStore };
+        ensures fault { IfErr result IsNotNewerSchema };
 
     /// Closes a database. Its log is copied into the file, and the answer says whether it could be;
     /// if not, it stays next to the file for the next opening.
@@ -128,7 +130,7 @@ impl Machine for Host<'_> {
     ) -> Result<Connection<FileStore<FileFrom<S>>>, TableFault> {
         match Connection::open_from(self.0, path, false, start) {
             Ok(conn) => Ok(conn),
-            Err((error, _)) => Err(TableFault::from(error)),
+            Err((error, left)) => Err(opening_fault(error, left)),
         }
     }
 
@@ -154,6 +156,31 @@ impl Machine for Host<'_> {
     ) -> Serving {
         serve_on(self.alloc(), &listener.listener, server, connections)
     }
+}
+
+// Why a database was not opened, by the error and what is left of its files. `sqlite` answers
+// NotADatabase for a database whose rows or schema it refuses, and for what is none.
+fn opening_fault<D: Disk + Drop>(error: SqlError, left: Option<Leftover<D>>) -> TableFault
+    requires { is_open_error error ≡ true }
+    ensures { IsNotNewerSchema result }
+{
+    match (error, left) {
+        (SqlError::SqliteFailure(ErrorCode::NotADatabase), Some(left)) => {
+            let mut files = left.into_files();
+            if begins_as_database(&mut files.db) {
+                TableFault::Damaged
+            } else {
+                TableFault::Store
+            }
+        }
+        (error, _) => TableFault::from(error),
+    }
+}
+
+// Whether the header of an SQLite database is at the beginning of a file.
+fn begins_as_database<D: Disk>(file: &mut D) -> bool {
+    let mut header = [0; 16];
+    file.may_be_used() && file.read_at(0, &mut header).is_ok() && header == *b"SQLite format 3\0"
 }
 
 // The address of a port for clients on this machine, and for no others.
