@@ -1,3 +1,4 @@
+pub mod NamedFiles
 pub mod Lines
 pub mod Machines
 pub mod Wrote

@@ -2,11 +2,13 @@
 //! and the lines and the statuses with which they end.
 #![tactic(auto)]
 
+mod host_names;
 mod job_end;
 mod jobs;
 pub mod laws;
 mod lookups;
 mod machine;
+mod named_file;
 mod on_files;
 mod read_behind;
 mod replies;
@@ -16,6 +18,7 @@ mod serving;
 pub use job_end::JobEnd;
 pub use jobs::{RegistryJob, migrate_on, work_on};
 pub use machine::Machine;
+pub use named_file::{FileNames, NamedFile};
 pub use replies::{print_answer, print_reply, tell_reply, tell_unopened};
 pub use running::{PlainJob, answer_plain, export_through, report_end, run_words};
 pub use serving::Port;

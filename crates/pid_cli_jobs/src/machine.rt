@@ -4,6 +4,8 @@ ghost use Rattle.sqlite.specs.Opening.{is_open_error};
 ghost use Rattle.pid_tables.specs.Rows.Faults.{IsNotNewerSchema};
 ghost use Rattle.pid_cli_jobs.specs.Steps.Serving.{IsLoopback};
 
+use crate::host_names::{HostNames, open_named};
+use crate::named_file::{FileNames, NamedFile};
 use pid_http_stream::listener::{Serving, StreamServer, serve_on};
 use pid_service::TableFault;
 use sqlite::{Connection, Error as SqlError, ErrorCode, FileStore, Leftover};
@@ -43,6 +45,9 @@ pub trait Machine {
     /// A port that is listened on.
     type Listener: Drop;
 
+    /// The names of a database's files.
+    type Names: FileNames + Drop;
+
     /// The port that a listener is for.
     ghost port_of: { Self.Listener → ℕ };
 
@@ -63,7 +68,7 @@ pub trait Machine {
         &mut self,
         path: &str,
         start: S,
-    ) -> Result<Connection<FileStore<FileFrom<S>>>, TableFault>
+    ) -> Result<Connection<FileStore<NamedFile<FileFrom<S>, Self::Names>>>, TableFault>
         ensures asks { AsksFor (asked self.old) (asked self.new)
             (DatabaseAt path.now (why_unopened result)) }
         ensures opened { IfOk result (λ conn. OpensFiles (image_at S.Start) conn) }
@@ -108,10 +113,12 @@ pub struct PortListener {
 #[derive(Drop)]
 pub struct Host<'r>(pub &'r HostRuntime);
 
-impl Machine for Host<'_> {
+impl<'r> Machine for Host<'r> {
     type Opened = File;
 
     type Listener = PortListener;
+
+    type Names = HostNames<'r>;
 
     ghost port_of = { λ listener. listener.port };
 
@@ -127,8 +134,8 @@ impl Machine for Host<'_> {
         &mut self,
         path: &str,
         start: S,
-    ) -> Result<Connection<FileStore<FileFrom<S>>>, TableFault> {
-        match Connection::open_from(self.0, path, false, start) {
+    ) -> Result<Connection<FileStore<NamedFile<FileFrom<S>, HostNames<'r>>>>, TableFault> {
+        match open_named(self.0, path, start) {
             Ok(conn) => Ok(conn),
             Err((error, left)) => Err(opening_fault(error, left)),
         }

@@ -16,6 +16,7 @@ ghost use Rattle.pid_cli_jobs.specs.Wrote.{job_wrote};
 use crate::job_end::JobEnd;
 use crate::jobs::{RegistryJob, migrate_on, work_on};
 use crate::machine::Machine;
+use crate::named_file::NamedFile;
 use crate::replies::tell_unopened;
 use pid_ident::{Incoming, Output};
 use pid_service::TableFault;
@@ -96,7 +97,7 @@ pub fn do_in_files<M: Machine, S: Start, I: Incoming<O>, O: Output, F: Output>(
     output: &mut O,
     faults: &mut F,
 ) -> JobEnd
-    ensures does { DoesInFiles ⟦<FileFrom<S> as Disk>⟧ (image_at S.Start) O.Output path.now
+    ensures does { DoesInFiles ⟦<NamedFile<FileFrom<S>, M::Names> as Disk>⟧ (image_at S.Start) O.Output path.now
         (file_task_of job (uses I.Incoming input.old input.new))
         (job_wrote (output.old, output.new) (use_of F.Output faults.old faults.new)
         (M.asked machine.old, M.asked machine.new) result) }

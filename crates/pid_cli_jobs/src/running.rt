@@ -26,6 +26,7 @@ use crate::job_end::JobEnd;
 use crate::jobs::RegistryJob;
 use crate::lookups::{Lookup, print_lookup, read_words};
 use crate::machine::{Host, Machine};
+use crate::named_file::NamedFile;
 use crate::on_files::{FileJob, do_in_files, work_on_memory};
 use crate::replies::{print_reply, tell_reply};
 use crate::serving::Port;
@@ -139,7 +140,7 @@ pub fn answer_plain<M: Machine, S: Start, I: Incoming<O>, O: Output, F: Output>(
     output: &mut O,
     faults: &mut F,
 ) -> JobEnd
-    ensures answers { AnswersPlain ⟦<FileFrom<S> as Disk>⟧ (image_at S.Start)
+    ensures answers { AnswersPlain ⟦<NamedFile<FileFrom<S>, M::Names> as Disk>⟧ (image_at S.Start)
         ⟦<MemStore as Store>⟧ M.Opened.remaining O.Output job.entry
         (uses I.Incoming input.old input.new)
         (job_wrote (output.old, output.new) (use_of F.Output faults.old faults.new)
@@ -161,7 +162,7 @@ fn do_plain<M: Machine, S: Start, I: Incoming<O>, O: Output, F: Output>(
     output: &mut O,
     faults: &mut F,
 ) -> JobEnd
-    ensures does { DoesPlain ⟦<FileFrom<S> as Disk>⟧ (image_at S.Start) ⟦<MemStore as Store>⟧
+    ensures does { DoesPlain ⟦<NamedFile<FileFrom<S>, M::Names> as Disk>⟧ (image_at S.Start) ⟦<MemStore as Store>⟧
         M.Opened.remaining O.Output job.entry (uses I.Incoming input.old input.new)
         (job_wrote (output.old, output.new) (use_of F.Output faults.old faults.new)
         (M.asked machine.old, M.asked machine.new) result) }
@@ -254,7 +255,7 @@ pub fn export_through<M: Machine, S: Start, O: Write + Drop, F: Output>(
     buffer: BufWriter<O>,
     faults: &mut F,
 ) -> (JobEnd, O)
-    ensures { ExportsThrough ⟦<FileFrom<S> as Disk>⟧ (image_at S.Start)
+    ensures { ExportsThrough ⟦<NamedFile<FileFrom<S>, M::Names> as Disk>⟧ (image_at S.Start)
         ⟦<Plain<BufWriter<O>> as Output>⟧ db.now
         (job_wrote (writer_contents O.contents buffer, O.contents result.1)
         (use_of F.Output faults.old faults.new) (M.asked machine.old, M.asked machine.new) result.0) }
@@ -320,7 +321,7 @@ fn run_import<M: Machine, S: Start, O: Output, F: Output>(
     output: &mut O,
     faults: &mut F,
 ) -> JobEnd
-    ensures { ImportsFile ⟦<FileFrom<S> as Disk>⟧ (image_at S.Start)
+    ensures { ImportsFile ⟦<NamedFile<FileFrom<S>, M::Names> as Disk>⟧ (image_at S.Start)
         M.Opened.remaining O.Output (paths.entry.0.now, paths.entry.1.now) sender.entry.0.now
         (text_given sender.entry.1)
         (job_wrote (output.old, output.new) (use_of F.Output faults.old faults.new)
@@ -343,7 +344,7 @@ fn import_at<M: Machine, S: Start, O: Output, F: Output>(
     output: &mut O,
     faults: &mut F,
 ) -> JobEnd
-    ensures { ImportsAt ⟦<FileFrom<S> as Disk>⟧ (image_at S.Start)
+    ensures { ImportsAt ⟦<NamedFile<FileFrom<S>, M::Names> as Disk>⟧ (image_at S.Start)
         M.Opened.remaining O.Output (paths.entry.0.now, paths.entry.1.now) sender.0 sender.1
         (job_wrote (output.old, output.new) (use_of F.Output faults.old faults.new)
         (M.asked machine.old, M.asked machine.new) result) }
