@@ -3,10 +3,7 @@ use Rattle.std.proofs.Common.{refl}
 use Rattle.pid_ident.specs.declared.incoming.Incoming.{Ghosts}
 use Rattle.pid_cli_jobs.specs.declared.jobs.RegistryJob.{RegistryJob}
 use Rattle.pid_cli_jobs.specs.declared.jobs.RegistryJob.TheVariants as jobs
-use Rattle.pid_cli_jobs.specs.declared.on_files.FileJob.{FileJob}
-use Rattle.pid_cli_jobs.specs.declared.on_files.FileJob.TheVariants as files
 use Rattle.pid_cli_jobs.specs.Jobs.{JobReads}
-use Rattle.pid_cli_jobs.specs.OnFiles.{FileReads}
 
 module _ {I W : Type 0} (reader : Ghosts I W) where
   pub unread : (job : RegistryJob) (input : I) → reader.goes input input
@@ -15,8 +12,3 @@ module _ {I W : Type 0} (reader : Ghosts I W) where
   unread (jobs.Import account key) input stays = stays
   unread jobs.Export input stays = refl
   unread (jobs.Serve port) input stays = refl
-
-  pub file_unread : (job : FileJob) (input : I) → reader.goes input input
-      → FileReads reader job input input
-  file_unread (files.Work job) input stays = unread job input stays
-  file_unread files.Migrate input stays = refl

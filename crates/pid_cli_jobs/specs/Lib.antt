@@ -11,5 +11,5 @@ pub mod OnFiles
 pub mod Exports
 pub mod Ends
 pub mod Lookups
-pub mod Plain
+pub mod TextFiles
 pub mod Steps

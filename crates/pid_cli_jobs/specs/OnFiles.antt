@@ -9,40 +9,16 @@ use Rattle.sqlite_trees.specs.declared.memory.MemStore.{MemStore}
 use Rattle.sqlite_trees.specs.declared.store.Store.{Ghosts}
 use Rattle.sqlite_wal.specs.Recovery.{Image}
 use Rattle.pid_file.specs.declared.io.Output as outputs
-use Rattle.pid_ident.specs.declared.incoming.Incoming as incoming
 use Rattle.pid_tables.specs.Rows.Faults.{IsNotNewerSchema}
 use Rattle.pid_tables.specs.declared.rows.fault.TableFault.{TableFault}
 use Rattle.pid_tables.specs.declared.rows.fault.TableFault.TheVariants.{Memory}
-use Rattle.pid_cli_jobs.specs.declared.on_files.FileJob.{FileJob}
-use Rattle.pid_cli_jobs.specs.declared.on_files.FileJob.TheVariants as jobs
 use Rattle.pid_cli_jobs.specs.Files.{ClosesFiles, OpensFiles}
-use Rattle.pid_cli_jobs.specs.Inputs.{InputUse}
-use Rattle.pid_cli_jobs.specs.Jobs.{JobReads, Work, work_of}
+use Rattle.pid_cli_jobs.specs.Jobs.{Work}
 use Rattle.pid_cli_jobs.specs.Machines.{AsksFor, CloseOf, DatabaseAt, MachineCall, MachineCalls}
 use Rattle.pid_cli_jobs.specs.Sessions.{Migrates, TellsUnopened, WorksOn}
-use Rattle.pid_cli_jobs.specs.Wrote.{AsksNothing, AsksOnce, Wrote, from_there, up_to_there}
+use Rattle.pid_cli_jobs.specs.Wrote.{AsksNothing, AsksOnce, Wrote}
 
--- what a job is to do on files
-pub data FileTask : Type 0 where
-  ToWork : Work → FileTask
-  ToMigrate : FileTask
-
-abbrev pub file_task_of : FileJob → InputUse → FileTask
-file_task_of (jobs.Work job) input = ToWork (work_of job input)
-file_task_of jobs.Migrate input = ToMigrate
-
--- a job of a registry reads its input as it does on any store, and a migration reads none
-abbrev pub FileReads : {I W : Type 0} → incoming.Ghosts I W → FileJob → I → I → Type 0
-FileReads reader (jobs.Work job) old new = JobReads reader job old new
-FileReads reader jobs.Migrate old new = new ≡ old
-
--- a session of the registry on a connection, or a migration of its tables
-abbrev pub DoesOn : {S R W : Type 0} → (store : Ghosts S) → outputs.Ghosts W → Held S → FileTask
-    → Wrote R W → Result (Option (Held S)) (Held S) → Type 0
-DoesOn store writer conn (ToWork work) w back = WorksOn store writer conn work w back
-DoesOn store writer conn ToMigrate w back = Migrates store writer conn w back
-
-module _ {E R W : Type 0} (files : disk.Ghosts E) (writer : outputs.Ghosts W) where
+module _ {E R : Type 0} (files : disk.Ghosts E) where
   -- what a session or a migration hands back was closed, and nothing else asked of the machine
   abbrev pub ClosesLast : Result (Option (Held (FileStore E files))) (Held (FileStore E files))
       → MachineCalls R → Type 0
@@ -51,31 +27,42 @@ module _ {E R W : Type 0} (files : disk.Ghosts E) (writer : outputs.Ghosts W) wh
   ClosesLast (Ok (Some conn)) asked = (is_copied : Bool) × ClosesFiles conn is_copied
       × AsksFor asked.before asked.after (CloseOf is_copied)
 
-  -- the same, on a connection to files, and after it what came back was closed
-  pub record DoesThere (conn : Held (FileStore E files)) (task : FileTask) (w : Wrote R W)
-      : Type 0 where
-    pub between : Option (List (MachineCall R))
-    pub back : Result (Option (Held (FileStore E files))) (Held (FileStore E files))
-    pub does : DoesOn over_files writer conn task (up_to_there w between) back
-    pub closes : ClosesLast back (record w.asked { before = between })
+-- What is done on a connection to files, what is written of it, and what comes back.
+abbrev pub Doing : {E : Type 0} → disk.Ghosts E → (R W : Type 0) → Type 1
+Doing {E} files R W = Held (FileStore E files) → Wrote R W
+    → Result (Option (Held (FileStore E files))) (Held (FileStore E files)) → Type 0
 
-module _ {E R W : Type 0} (files : disk.Ghosts E) (image : Image) (writer : outputs.Ghosts W) where
-  -- the database at the path was asked for, a new connection was opened on what the files held, and
-  -- the task was done there
-  pub record OpensAndDoes (path : List ℕ) (task : FileTask) (w : Wrote R W) : Type 0 where
-    pub between : Option (List (MachineCall R))
-    pub asks : AsksFor w.asked.before between (DatabaseAt path None)
+module _ {E R W : Type 0} (files : disk.Ghosts E) (image : Image) where
+  -- The database at the path was asked for, a new connection was opened on what the files held, this
+  -- was done there, and then what came back was closed.
+  pub record OpensAndDoes (Does : Doing files R W) (path : List ℕ) (w : Wrote R W) : Type 0 where
+    pub opened : Option (List (MachineCall R))
+    pub asks : AsksFor w.asked.before opened (DatabaseAt path None)
     pub conn : Held (FileStore E files)
     pub opens : OpensFiles image conn
     pub fresh : IsNew conn
-    pub there : DoesThere files writer conn task (from_there w between)
+    pub done : Option (List (MachineCall R))
+    pub back : Result (Option (Held (FileStore E files))) (Held (FileStore E files))
+    pub does : Does conn (record w { asked = record { before = opened; after = done } }) back
+    pub closes : ClosesLast files back (record w.asked { before = done })
 
-  -- a job on the files, or why they were not opened: out of memory, they cannot be, or are damaged
-  pub data DoesInFiles (path : List ℕ) (task : FileTask) (w : Wrote R W) : Type 0 where
-    InFiles : OpensAndDoes path task w → DoesInFiles path task w
+  -- The same, or why the files were not opened: out of memory, they cannot be, or are damaged.
+  pub data DoesInFiles (Does : Doing files R W) (path : List ℕ) (w : Wrote R W) : Type 0 where
+    InFiles : OpensAndDoes Does path w → DoesInFiles Does path w
     NoFiles : (fault : TableFault) → IsNotNewerSchema fault
         → AsksOnce w (DatabaseAt path (Some fault)) → TellsUnopened fault w
-        → DoesInFiles path task w
+        → DoesInFiles Does path w
+
+-- a session of the registry in the files, and a migration of its tables
+abbrev pub WorksInFiles : {E R W : Type 0} → disk.Ghosts E → Image → outputs.Ghosts W → List ℕ
+    → Work → Wrote R W → Type 0
+WorksInFiles files image writer path work w =
+    DoesInFiles files image (λ conn. WorksOn over_files writer conn work) path w
+
+abbrev pub MigratesInFiles : {E R W : Type 0} → disk.Ghosts E → Image → outputs.Ghosts W → List ℕ
+    → Wrote R W → Type 0
+MigratesInFiles files image writer path w =
+    DoesInFiles files image (Migrates over_files writer) path w
 
 module _ {R W : Type 0} (memory : Ghosts MemStore) (writer : outputs.Ghosts W) where
   -- a new connection to an empty database was opened in memory, and this was done there

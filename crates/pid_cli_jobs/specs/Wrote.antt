@@ -53,9 +53,6 @@ AsksNothing w = w.asked.after ≡ w.asked.before
 abbrev pub AsksOnce : {R W : Type 0} → Wrote R W → MachineCall R → Type 0
 AsksOnce w one = AsksFor w.asked.before w.asked.after one
 
--- a job, up to where its first part had asked for so much, and from there
-abbrev pub up_to_there : {R W : Type 0} → Wrote R W → Option (List (MachineCall R)) → Wrote R W
-up_to_there w between = record w { asked = record w.asked { after = between } }
-
+-- a job, from where its first part had asked for so much
 abbrev pub from_there : {R W : Type 0} → Wrote R W → Option (List (MachineCall R)) → Wrote R W
 from_there w between = record w { asked = record w.asked { before = between } }

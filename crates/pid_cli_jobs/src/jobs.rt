@@ -8,7 +8,7 @@ ghost use Rattle.pid_cli_jobs.specs.Jobs.{
   DoesWork,
   JobReads,
   PrintsAll,
-  RunsLines,
+  end_of_script,
   work_of,
 };
 ghost use Rattle.pid_cli_jobs.specs.Sessions.{IsPartOfSession, Migrates, WorksOn};
@@ -24,7 +24,6 @@ use pid_ident::{Account, Incoming, Key, Output};
 use pid_script::{ScriptEnd, run_script};
 use pid_service::{ExportFault, ImportEnd, Registry, migrate, open};
 use sqlite::{Alter, Connection};
-use std::alloc::Global;
 
 /// The number of reads that a script may use.
 const TURNS: u64 = 10_000_000;
@@ -38,19 +37,11 @@ pub enum RegistryJob {
     Serve(Port),
 }
 
-// Answers the lines of a script.
-fn run_lines<S: Alter + Drop, I: Incoming<O>, O: Output>(
-    alloc: Global,
-    registry: &mut Registry<S>,
-    input: &mut I,
-    output: &mut O,
-) -> JobEnd
-    ensures goes { IsPartOfSession S.Store registry.old registry.new }
-    ensures ran { RunsLines S.Store registry.old registry.new
-        (uses I.Incoming input.old input.new) (use_of O.Output output.old output.new) result }
-    ensures reads { I.goes input.old input.new }
+// A fault of the reader or the writer is still to be reported.
+fn end_of(script: ScriptEnd) -> JobEnd
+    ensures { result ≡ end_of_script script }
 {
-    match run_script(alloc, registry, input, output, TURNS) {
+    match script {
         ScriptEnd::ReadFault | ScriptEnd::WriteFault => JobEnd::FileFailed,
         end => JobEnd::Told(end.status()),
     }
@@ -108,7 +99,7 @@ fn do_job<M: Machine, S: Alter + Drop, I: Incoming<O>, O: Output, F: Output>(
     ensures reads { JobReads I.Incoming job input.old input.new }
 {
     match job {
-        RegistryJob::Script => run_lines(machine.alloc(), registry, input, output),
+        RegistryJob::Script => end_of(run_script(machine.alloc(), registry, input, output, TURNS)),
         RegistryJob::Import { account, key } => bring_in(registry, account, key, input, output),
         RegistryJob::Export => print_all(registry, output),
         RegistryJob::Serve(port) => serve_registry(machine, registry, port, output, faults),

@@ -11,21 +11,21 @@ pub returns : goal.returns
 returns g c = record {
   into = record {
     output = c.new-output.result;
-    output_after = c.do_in_files-end.new.output;
-    faults = use_of g.F.Output c.args.faults.now c.do_in_files-end.new.faults;
+    output_after = c.work_in_files-end.new.output;
+    faults = use_of g.F.Output c.args.faults.now c.work_in_files-end.new.faults;
     asked = record {
       before = g.M.Machine.asked c.args.machine.now;
-      after = g.M.Machine.asked c.do_in_files-end.new.machine;
+      after = g.M.Machine.asked c.work_in_files-end.new.machine;
     };
-    end = c.do_in_files-end.result;
+    end = c.work_in_files-end.result;
   };
-  exports = c.do_in_files-end.ensures.does;
+  exports = c.work_in_files-end.ensures.works;
   begins = ap (writer_contents g.O.Write.contents) c.new-output.ensures.wraps;
   reports = (
-    refl {a = use_of g.F.Output c.args.faults.now c.do_in_files-end.new.faults},
+    refl {a = use_of g.F.Output c.args.faults.now c.work_in_files-end.new.faults},
     refl {a = record {
       before = g.M.Machine.asked c.args.machine.now;
-      after = g.M.Machine.asked c.do_in_files-end.new.machine;
+      after = g.M.Machine.asked c.work_in_files-end.new.machine;
     }},
   );
   ends = elim c.match-end.branch [
@@ -36,7 +36,7 @@ returns g c = record {
   ];
   sent = λ done. elim c.match-end.branch [
     | in-Told-eq0-Err w ↦ absurd (not_told 0 (sym w.end-is ∙ done))
-    | in_default w ↦ kept_through g.O.Write.contents c.do_in_files-end.new.output.inner c.into_inner-buffer.result
+    | in_default w ↦ kept_through g.O.Write.contents c.work_in_files-end.new.output.inner c.into_inner-buffer.result
         c.flush.new.self c.into_parts-output.result.0 c.into_inner-buffer.ensures w.in_default.ensures.ok
         c.into_parts-output.ensures.inner w.in_default.ensures.bytes
     | in_default-2 w ↦ absurd (w.in_default.field-0-0-test.1

@@ -1,39 +1,22 @@
--- What a command of the program does, but for those whose output is buffered: `tidy`, `check` and
--- `export`. Choices of this project.
+-- Jobs on a pci.ids file: a look-up in it, and its import into a registry. Choices of this project.
 use Rattle.std.specs.Prelude.{◌≡◌, ◌⊎◌, ℕ, true, false, List, None, Some, Option, Ok, Err}
 use Rattle.std.specs.Prelude.{IfSome, IsSomeAnd}
 use Rattle.sqlite_disk.specs.declared.Disk as disk
-use Rattle.sqlite_trees.specs.declared.memory.MemStore.{MemStore}
-use Rattle.sqlite_trees.specs.declared.store.Store.{Ghosts}
 use Rattle.sqlite_wal.specs.Recovery.{Image}
 use Rattle.pid_file.specs.declared.io.Output as outputs
-use Rattle.pid_ident.specs.declared.incoming.Incoming as incoming
-use Rattle.pid_file.specs.Writing.{use_of}
 use Rattle.pid_file.specs.Words.{is_account, is_key}
 use Rattle.pid_lookup.specs.declared.fields.BadField.{BadField}
 use Rattle.pid_moderation.specs.declared.refusal.Refusal.TheVariants.{BadText}
-use Rattle.pid_cli_jobs.specs.declared.job_end.JobEnd.{JobEnd}
 use Rattle.pid_cli_jobs.specs.declared.job_end.JobEnd.TheVariants.{Replied, FileFailed}
 use Rattle.pid_cli_jobs.specs.declared.lookups.Lookup.{Lookup}
-use Rattle.pid_cli_jobs.specs.declared.running.PlainJob.{PlainJob}
-use Rattle.pid_cli_jobs.specs.declared.running.PlainJob.TheVariants as plain
-use Rattle.pid_cli_jobs.specs.Ends.{PrintsReply}
 use Rattle.pid_cli_jobs.specs.Inputs.{InputUse}
-use Rattle.pid_cli_jobs.specs.Jobs.{ToAnswer, ToImport, ToServe}
+use Rattle.pid_cli_jobs.specs.Jobs.{ToImport}
 use Rattle.pid_cli_jobs.specs.Lookups.{IsReadFrom, LooksUpText, fields_given}
 use Rattle.pid_cli_jobs.specs.Machines.{AsksFor, MachineCall, TextAt}
-use Rattle.pid_cli_jobs.specs.OnFiles.{DoesInFiles, ToMigrate, ToWork, WorksOnNew}
+use Rattle.pid_cli_jobs.specs.OnFiles.{WorksInFiles}
 use Rattle.pid_cli_jobs.specs.Wrote.{AsksNothing, AsksOnce, IsSilent, TellsMemory, Wrote}
 use Rattle.pid_cli_jobs.specs.Wrote.{from_there, streams_of}
 use Rattle.pid_cli_words.specs.Jobs.{text_given}
-
--- a script reads the input of the process, and no other job does
-abbrev pub PlainReads : {I W : Type 0} → incoming.Ghosts I W → PlainJob → I → I → Type 0
-PlainReads reader (plain.Lookup words) old new = new ≡ old
-PlainReads reader (plain.Script db) old new = reader.goes old new
-PlainReads reader (plain.Import names sender) old new = new ≡ old
-PlainReads reader (plain.Serve db port) old new = new ≡ old
-PlainReads reader (plain.Migrate db) old new = new ≡ old
 
 -- an account or a key that breaks its rule
 abbrev pub IsBadSender : List ℕ → Option (List ℕ) → Type 0
@@ -73,7 +56,7 @@ module _ {E R W : Type 0} (files : disk.Ghosts E) (image : Image) (holds : R →
     ImportsHere : (file : R) (between : Option (List (MachineCall R)))
         → AsksFor w.asked.before between (TextAt paths.1 (Some file))
         → (input : InputUse) → input.to_come ≡ holds file → input.fault_before ≡ None
-        → DoesInFiles files image writer paths.0 (ToWork (ToImport account key input))
+        → WorksInFiles files image writer paths.0 (ToImport account key input)
         (from_there w between)
         → ImportsAt paths account key w
 
@@ -87,27 +70,3 @@ module _ {E R W : Type 0} (files : disk.Ghosts E) (image : Image) (holds : R →
         → ImportsFile paths account key w
     Imports : IsGoodSender account key → ImportsAt paths account key w
         → ImportsFile paths account key w
-
-module _ {E R W : Type 0} (files : disk.Ghosts E) (image : Image) (memory : Ghosts MemStore)
-    (holds : R → Option (List ℕ)) (writer : outputs.Ghosts W) where
-  -- what a job does, if this becomes of its input
-  abbrev pub DoesPlain : PlainJob → InputUse → Wrote R W → Type 0
-  DoesPlain (plain.Lookup words) input w = LooksUpInFile holds writer words.now.ids.now
-      (fields_given words.now) w
-  DoesPlain (plain.Script (Some db)) input w = DoesInFiles files image writer db.now
-      (ToWork (ToAnswer input)) w
-  DoesPlain (plain.Script None) input w = WorksOnNew memory writer (ToAnswer input) w
-  DoesPlain (plain.Import names sender) input w = ImportsFile files image holds writer
-      (names.0.now, names.1.now) sender.0.now (text_given sender.1) w
-  DoesPlain (plain.Serve db port) input w = DoesInFiles files image writer db.now
-      (ToWork (ToServe port)) w
-  DoesPlain (plain.Migrate db) input w = DoesInFiles files image writer db.now ToMigrate w
-
-  -- The same, and then the reply goes to the output if there is one: after all files are closed.
-  pub record AnswersPlain (job : PlainJob) (input : InputUse) (w : Wrote R W)
-      : Type 0 where
-    -- what the output was before the reply, and to what the job came
-    pub between : W
-    pub done : JobEnd
-    pub does : DoesPlain job input (record w { output_after = between; end = done })
-    pub prints : PrintsReply done w.end (use_of writer between w.output_after)

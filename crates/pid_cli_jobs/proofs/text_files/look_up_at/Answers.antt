@@ -1,6 +1,6 @@
 use Rattle.std.proofs.Common.{refl}
-use Rattle.pid_cli_jobs.specs.Plain.{Looks, NoFileToLookUp}
-use Rattle.pid_cli_jobs.proofs.running.look_up_at.Goals as goal
+use Rattle.pid_cli_jobs.specs.TextFiles.{Looks, NoFileToLookUp}
+use Rattle.pid_cli_jobs.proofs.text_files.look_up_at.Goals as goal
 
 pub returns-in-Some : goal.returns-in-Some
 returns-in-Some g c = Looks c.in-Some.file c.in-Some.ensures (rw c.new.ensures.wraps at c.print_lookup.ensures.looks)

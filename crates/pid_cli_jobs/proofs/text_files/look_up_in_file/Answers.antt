@@ -1,7 +1,7 @@
 use Rattle.std.proofs.Common.{refl, subst}
 use Rattle.pid_cli_jobs.specs.Lookups.{IsReadFrom, fields_given}
-use Rattle.pid_cli_jobs.specs.Plain.{BadFields, LooksUp}
-use Rattle.pid_cli_jobs.proofs.running.run_lookup.Goals as goal
+use Rattle.pid_cli_jobs.specs.TextFiles.{BadFields, LooksUp}
+use Rattle.pid_cli_jobs.proofs.text_files.look_up_in_file.Goals as goal
 
 pub returns-in-Ok-Ok : goal.returns-in-Ok-Ok
 returns-in-Ok-Ok g c = LooksUp c.in-Ok-Ok.lookup

@@ -1,7 +1,7 @@
 use Rattle.std.proofs.Common.{Err, ap, refl, sym}
-use Rattle.pid_cli_jobs.specs.Plain.{BadSender, Imports, NoMemoryToImport}
+use Rattle.pid_cli_jobs.specs.TextFiles.{BadSender, Imports, NoMemoryToImport}
 use Rattle.pid_cli_jobs.specs.declared.job_end.JobEnd.TheVariants.{Told}
-use Rattle.pid_cli_jobs.proofs.running.run_import.Goals as goal
+use Rattle.pid_cli_jobs.proofs.text_files.import_file.Goals as goal
 
 pub returns-in-Ok : goal.returns-in-Ok
 returns-in-Ok g c = Imports c.in-Ok.ensures.good

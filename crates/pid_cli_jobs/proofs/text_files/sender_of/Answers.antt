@@ -1,5 +1,5 @@
 use Rattle.std.proofs.Common.{◌≡◌, Bool, true, false, Result, Ok, Err, refl, sym, ◌∙◌}
-use Rattle.pid_cli_jobs.proofs.running.sender_of.Goals as goal
+use Rattle.pid_cli_jobs.proofs.text_files.sender_of.Goals as goal
 
 -- what was taken does not break its rule
 keeps_rule : {X Y : Type 0} (test : Bool) (r : Result X Y) (x : X) (bad : Y) → r ≡ Ok x
