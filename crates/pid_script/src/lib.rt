@@ -5,6 +5,7 @@ mod answering;
 mod fields;
 pub mod laws;
 mod line;
+mod line_command;
 mod line_end;
 mod lookup;
 mod output;
@@ -12,6 +13,7 @@ mod reply;
 mod script;
 mod script_end;
 
+pub use line_command::command_in_line;
 pub use pid_service_laws::Moderated;
 pub use script::run_script;
 pub use script_end::ScriptEnd;
