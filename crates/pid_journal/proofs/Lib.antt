@@ -1,0 +1,7 @@
+pub mod Appending
+pub mod Reading
+pub mod Probing
+pub mod Noted
+pub mod Pairing
+pub mod Forms
+pub mod Scripts

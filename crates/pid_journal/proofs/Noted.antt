@@ -1,0 +1,97 @@
+-- A command whose entry was written: what its end leaves.
+use Rattle.std.proofs.Common.{◌≡◌, ◌⊎◌, inl, inr, ℕ, Bool, true, false, List, [], ◌++◌, length, Option, Some, None, Result, Ok, Err, refl, sym, ap, subst, ◌∙◌, append_assoc, append-nil}
+use Rattle.std.specs.Prelude.{IfSome, IsErrAnd}
+use Rattle.pid_moderation.specs.declared.command.Reply.{Reply}
+use Rattle.pid_moderation.specs.declared.refusal.Refusal.{Refusal}
+use Rattle.pid_moderation.specs.History.{Asked, History}
+use Rattle.pid_moderation.specs.Judgement.{after, answer, judge}
+use Rattle.pid_moderation.specs.Views.{views_of}
+use Rattle.pid_service_laws.specs.Outcomes.{IsMemoryOrStore, is_outcome}
+use Rattle.pid_service_laws.specs.Registries.{CommandLeaves, Showing}
+use Rattle.pid_service_laws.specs.declared.moderated.Moderated.{Ghosts}
+use Rattle.pid_journal.specs.declared.file.JournalFile as files
+use Rattle.pid_journal.specs.declared.journaled.Journaled.{Journaled}
+use Rattle.pid_journal.specs.Doubts.{IsInDoubt}
+use Rattle.pid_journal.specs.Files.{LeavesPart}
+use Rattle.pid_journal.specs.Journals.{IsEntry, JournalLeads}
+use Rattle.pid_journal.specs.Pairs.{PairFailsBetween, PairShows, pair_showing, pair_showing_from}
+use Rattle.pid_journal.specs.Steps.Parts.{IsProbed, IsCutBack}
+use Rattle.pid_journal.proofs.Appending.{appended}
+
+-- a part of an entry after the text of a journal
+in_doubt : (start h : History) (text entry part gone : List ℕ) (c : Asked) → JournalLeads start text h → IsEntry entry c → entry ≡ part ++ gone → IsInDoubt start (text ++ part) h (after h c)
+in_doubt start h text entry part gone c leads is parts = record {
+  before = text;
+  part = part;
+  gone = gone;
+  command = c;
+  parts = refl;
+  leads = leads;
+  entry = subst (λ (l : List ℕ). IsEntry l c) parts is;
+  ends = refl;
+}
+
+-- a judgement is no fault
+no_fault : (h : History) (c : Asked) (result : Result Reply Refusal) → is_outcome (answer (judge (views_of h) c)) ≡ true → result ≡ answer (judge (views_of h) c) → IsErrAnd result IsMemoryOrStore → ⊥
+no_fault h c (Ok reply) judged is fault = fault
+no_fault h c (Err e) judged is (inl same) = let no : is_outcome (Err e) ≡ true = ap is_outcome is ∙ judged in let is-not : is_outcome (Err e) ≡ false = ap (λ (r : Refusal). is_outcome (Err r)) same in cc
+no_fault h c (Err e) judged is (inr same) = let no : is_outcome (Err e) ≡ true = ap is_outcome is ∙ judged in let is-not : is_outcome (Err e) ≡ false = ap (λ (r : Refusal). is_outcome (Err r)) same in cc
+
+-- what a `?` hands on
+pub is_error : (result : Result Reply Refusal) (e : Refusal) → IsErrAnd result (λ d. d ≡ e) → result ≡ Err e
+is_error (Ok x) e h = absurd h
+is_error (Err d) e h = ap Err h
+
+pub fault_of : (result : Result Reply Refusal) (e : Refusal) → IsErrAnd result (λ d. d ≡ e) → IsMemoryOrStore e → IsErrAnd result IsMemoryOrStore
+fault_of (Ok x) e h fault = absurd h
+fault_of (Err d) e h fault = subst IsMemoryOrStore (sym h) fault
+
+-- the count of the bytes that are safe
+pub counted : (safe : Option (List ℕ)) (text : List ℕ) (count : ℕ) → safe ≡ Some text → IfSome safe (λ bytes. count ≡ length bytes) → length text ≡ count
+counted None text count is counts = absurd (let no : ⊥ = cc in no)
+counted (Some bytes) text count is counts = let same : bytes ≡ text = cc in ap length (sym same) ∙ sym counts
+
+-- of a fault nothing was judged, so that the registry shows the history before, or has failed
+pub done : {A B : Type 0} (h : History) (c : Asked) (result : Result Reply Refusal) → is_outcome (answer (judge (views_of h) c)) ≡ true → IsErrAnd result IsMemoryOrStore → ((result ≡ answer (judge (views_of h) c)) × A) ⊎ (IsErrAnd result IsMemoryOrStore × B) → B
+done h c result outcome fault (inl told) = absurd (no_fault h c result outcome told.0 fault)
+done h c result outcome fault (inr left) = left.1
+
+module _ {R J : Type 0} (registry : Ghosts R) (file : files.Ghosts J) where
+  -- a registry that has stayed shows what it showed
+  pub shows_same : (r s : R) (h : History) → r ≡ s → registry.showing.shows s h → registry.showing.shows r h
+  shows_same r s h same shown = subst (λ (x : R). registry.showing.shows x h) (sym same) shown
+
+  -- the entry was cut off again, or a part of it is left
+  pub taken_back : (start h : History) (mid new : Journaled R J) (text entry part gone : List ℕ) (c : Asked) → JournalLeads start text h → IsEntry entry c → entry ≡ part ++ gone → registry.showing.shows new.registry h
+      → file.safe mid.journal ≡ Some (text ++ part) → mid.failed ≡ false → IsCutBack file mid new (length text)
+      → PairShows registry file start new h ⊎ PairFailsBetween registry file start new h (after h c)
+  taken_back start h mid new text entry part gone c leads is parts shown safe settled back =
+      elim (back text part safe refl settled) [
+        | inl cut ↦ inl (record { shown = shown; settled = cut.0; text = text; safe = cut.1; leads = leads })
+        | inr left ↦ inr (record {
+          text = text ++ left.1.part;
+          safe = left.1.left;
+          doubt = in_doubt start h text entry left.1.part (left.1.gone ++ gone) c leads is (parts ∙ ap (λ (l : List ℕ). l ++ gone) left.1.parts ∙ append_assoc left.1.part left.1.gone gone);
+          fails = inl (left.0, shown);
+        })
+      ]
+
+  -- the command was judged
+  pub judged : (start h : History) (new : Journaled R J) (text entry : List ℕ) (c : Asked) → JournalLeads start text h → IsEntry entry c → registry.showing.shows new.registry (after h c)
+      → file.safe new.journal ≡ Some (text ++ entry) → new.failed ≡ false
+      → PairShows registry file start new (after h c)
+  judged start h new text entry c leads is shown safe settled =
+      record { shown = shown; settled = settled; text = text ++ entry; safe = safe; leads = appended start h text entry c leads is }
+
+  -- the registry has failed at the command
+  pub fallen : (start h : History) (new : Journaled R J) (text entry : List ℕ) (c : Asked) → JournalLeads start text h → IsEntry entry c → registry.showing.fails_between new.registry h (after h c)
+      → file.safe new.journal ≡ Some (text ++ entry)
+      → PairFailsBetween registry file start new h (after h c)
+  fallen start h new text entry c leads is fails safe =
+      record { text = text ++ entry; safe = safe; doubt = in_doubt start h text entry entry [] c leads is (sym (append-nil entry)); fails = inr fails }
+
+  -- a command leaves the same wherever the journal begins
+  pub anywhere : (start h : History) (new : Journaled R J) (result : Result Reply Refusal) (c : Asked) → CommandLeaves (pair_showing_from registry file start) result new h c → CommandLeaves (pair_showing registry file) result new h c
+  anywhere start h new result c (inl done) = inl (done.0, (start, done.1))
+  anywhere start h new result c (inr (fault, inl shows)) = inr (fault, inl (start, shows))
+  anywhere start h new result c (inr (fault, inr fails)) = inr (fault, inr (start, fails))

@@ -1,0 +1,72 @@
+use Rattle.std.proofs.Common.{◌≡◌, ◌⊎◌, inl, inr, ℕ, List, [], ◌++◌, length, Option, Some, Err, refl, sym, ap, subst, ◌∙◌, append-nil, true, false}
+use Rattle.pid_moderation.specs.Files.{asks}
+use Rattle.pid_moderation.specs.History.{History}
+use Rattle.pid_moderation.specs.Judgement.{after}
+use Rattle.pid_moderation.specs.Views.{views_of}
+use Rattle.pid_journal.specs.Steps.Parts.{IsCutBack}
+use Rattle.pid_journal.proofs.Noted.{counted, done, fallen, judged, shows_same, taken_back}
+use Rattle.pid_journal.proofs.Pairing.{not_both}
+use Rattle.pid_journal.proofs.journaled.Journaled.obey_noted.Goals as goal
+
+-- the entry was not written whole
+pub returns-in-Err-clause-honest : goal.returns-in-Err-clause-honest
+returns-in-Err-clause-honest g c clean = subst g.R.Moderated.showing.is_clean c.take_back-in-Err.ensures.same clean
+
+pub returns-in-Err-clause-obeyed : goal.returns-in-Err-clause-obeyed
+returns-in-Err-clause-obeyed g c clean start h shows is =
+    let mid = record c.args.self.now { journal = c.append.new.self } in
+    let part = c.in-Err.ensures shows.text shows.safe in
+    let count = counted (g.J.JournalFile.safe c.args.self.now.journal) shows.text c.count-count.result shows.safe c.count-count.ensures in
+    inr (
+      inr refl,
+      taken_back g.R.Moderated g.J.JournalFile start h mid c.take_back-in-Err.new.self shows.text c.args.entry.now part.part part.gone (asks c.args.command) shows.leads is part.parts
+          (shows_same g.R.Moderated g.J.JournalFile _ _ h c.take_back-in-Err.ensures.same shows.shown) part.left shows.settled
+          (subst (IsCutBack g.J.JournalFile mid c.take_back-in-Err.new.self) (sym count) c.take_back-in-Err.ensures.taken),
+    )
+
+-- the command was judged
+pub returns-then-not-is_fault-clause-obeyed : goal.returns-then-not-is_fault-clause-obeyed
+returns-then-not-is_fault-clause-obeyed g c clean start h shows is =
+    let new = record c.args.self.now { registry = c.obey-answer.new.self; journal = c.append.new.self } in
+    elim (c.obey-answer.ensures.obeys clean h shows.shown) [
+      | inl told ↦ inl (told.0, judged g.R.Moderated g.J.JournalFile start h new shows.text c.args.entry.now (asks c.args.command) shows.leads is told.1 (c.in-Ok.ensures shows.text shows.safe) shows.settled)
+      | inr fault ↦ absurd (c.is_fault.ensures.no c.if-not-is_fault.true fault.0)
+    ]
+
+-- the registry has failed
+pub returns-then-not-is_answering-clause-honest : goal.returns-then-not-is_answering-clause-honest
+returns-then-not-is_answering-clause-honest g c clean = c.obey-answer.ensures.honest (c.is_answering.ensures.clean clean)
+
+pub returns-then-not-is_answering-clause-obeyed : goal.returns-then-not-is_answering-clause-obeyed
+returns-then-not-is_answering-clause-obeyed g c clean start h shows is =
+    let new = record c.args.self.now { registry = c.is_answering.new.registry; journal = c.append.new.self } in
+    let probe = c.is_answering.ensures in
+    let fault = c.is_fault.ensures.yes c.if-not-is_fault.false in
+    let end = c.obey-answer.ensures.obeys (probe.clean clean) h shows.shown in
+    elim (done h (asks c.args.command) c.obey-answer.result (c.judgements_are_outcomes.ensures (views_of h) (asks c.args.command)) fault end) [
+      | inl shown ↦ absurd (not_both c.is_answering.result (probe.shown clean h shown).0 c.if-not-is_answering.true)
+      | inr fails ↦ inr (fault, inr (fallen g.R.Moderated g.J.JournalFile start h new shows.text c.args.entry.now (asks c.args.command) shows.leads is (probe.fallen h (after h (asks c.args.command)) fails).1 (c.in-Ok.ensures shows.text shows.safe)))
+    ]
+
+-- it was not obeyed
+pub returns-else-not-is_answering-clause-honest : goal.returns-else-not-is_answering-clause-honest
+returns-else-not-is_answering-clause-honest g c clean = c.obey-answer.ensures.honest (c.is_answering.ensures.clean (subst g.R.Moderated.showing.is_clean c.take_back.ensures.same clean))
+
+pub returns-else-not-is_answering-clause-obeyed : goal.returns-else-not-is_answering-clause-obeyed
+returns-else-not-is_answering-clause-obeyed g c clean start h shows is =
+    let mid = record c.args.self.now { registry = c.is_answering.new.registry; journal = c.append.new.self } in
+    let same = c.take_back.ensures.same in
+    let probe = c.is_answering.ensures in
+    let asked = subst g.R.Moderated.showing.is_clean same clean in
+    let fault = c.is_fault.ensures.yes c.if-not-is_fault.false in
+    let end = c.obey-answer.ensures.obeys (probe.clean asked) h shows.shown in
+    let count = counted (g.J.JournalFile.safe c.args.self.now.journal) shows.text c.count-count.result shows.safe c.count-count.ensures in
+    elim (done h (asks c.args.command) c.obey-answer.result (c.judgements_are_outcomes.ensures (views_of h) (asks c.args.command)) fault end) [
+      | inl shown ↦ inr (
+        fault,
+        taken_back g.R.Moderated g.J.JournalFile start h mid c.take_back.new.self shows.text c.args.entry.now c.args.entry.now [] (asks c.args.command) shows.leads is (sym (append-nil c.args.entry.now))
+            (shows_same g.R.Moderated g.J.JournalFile _ _ h same (probe.shown asked h shown).1) (c.in-Ok.ensures shows.text shows.safe) shows.settled
+            (subst (IsCutBack g.J.JournalFile mid c.take_back.new.self) (sym count) c.take_back.ensures.taken),
+      )
+      | inr fails ↦ absurd (not_both c.is_answering.result c.if-not-is_answering.false (probe.fallen h (after h (asks c.args.command)) fails).0)
+    ]

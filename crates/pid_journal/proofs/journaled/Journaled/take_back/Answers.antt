@@ -1,0 +1,8 @@
+use Rattle.std.proofs.Common.{inl, inr, refl}
+use Rattle.pid_journal.proofs.journaled.Journaled.take_back.Goals as goal
+
+pub returns-in-Ok-clause-taken : goal.returns-in-Ok-clause-taken
+returns-in-Ok-clause-taken g c front behind safe counted settled = inl (settled, c.in-Ok.ensures front behind safe counted)
+
+pub returns-in-Err-clause-taken : goal.returns-in-Err-clause-taken
+returns-in-Err-clause-taken g c front behind safe counted settled = inr (refl, c.in-Err.ensures front behind safe counted)

@@ -1,0 +1,25 @@
+use Rattle.std.proofs.Common.{ap}
+use Rattle.pid_journal.specs.Steps.Living.{registry_off}
+use Rattle.pid_journal.proofs.Pairing.{looks_nowhere, looks_on, not_both, still_shows, with_registry}
+use Rattle.pid_journal.proofs.moderated.JournaledModerated.export.Goals as goal
+
+pub returns-then-self-clause-calls : goal.returns-then-self-clause-calls
+returns-then-self-clause-calls g c = looks_nowhere g.R.Moderated g.J.JournalFile c.args.self.now
+
+pub returns-then-self-clause-told : goal.returns-then-self-clause-told
+returns-then-self-clause-told g c clean h shows = absurd (not_both c.args.self.now.failed c.if-self.true shows.1.settled)
+
+pub returns-clause-calls : goal.returns-clause-calls
+returns-clause-calls g c = looks_on g.R.Moderated g.J.JournalFile c.args.self.now c.export.new.self c.export.ensures.calls c.export.ensures.kept c.if-self.false
+
+pub returns-clause-kept : goal.returns-clause-kept
+returns-clause-kept g c clean h shows =
+    (shows.0, still_shows g.R.Moderated g.J.JournalFile shows.0 h c.args.self.now c.export.new.self shows.1 (c.export.ensures.kept clean h shows.1.shown))
+
+pub returns-clause-told : goal.returns-clause-told
+returns-clause-told g c clean h shows = c.export.ensures.told clean h shows.1.shown
+
+pub returns-clause-failed : goal.returns-clause-failed
+returns-clause-failed g c off =
+    let f = c.export.ensures.failed (registry_off c.args.self.now.failed (g.R.Moderated.is_live c.args.self.now.registry) c.if-self.false off) in
+    (f.0, ap (with_registry g.R.Moderated g.J.JournalFile c.args.self.now) f.1, f.2)

@@ -1,0 +1,19 @@
+-- What a journal says at each exit of each call, and after a stop: cited by `laws`. A choice of this
+-- project.
+use Rattle.std.specs.Prelude.{◌≡◌, ◌⊎◌, ℕ, List}
+use Rattle.pid_file.specs.Lines.{lines_of}
+use Rattle.pid_file.specs.WholeLines.{whole_lines}
+use Rattle.pid_moderation.specs.History.{History}
+use Rattle.pid_script.specs.Replies.{history_after}
+use Rattle.pid_journal.specs.Doubts.{IsInDoubt}
+use Rattle.pid_journal.specs.Journals.{JournalLeads}
+
+-- as a script, the text of a journal leads from the one history to the other
+abbrev pub JournalsAreScripts : Type 0
+JournalsAreScripts = (start h : History) (text : List ℕ) → JournalLeads start text h
+    → history_after start (lines_of text) ≡ h
+
+-- its whole lines lead to one of the two histories between which a registry has failed
+abbrev pub DoubtsLeaveEither : Type 0
+DoubtsLeaveEither = (start h next : History) (text : List ℕ) → IsInDoubt start text h next
+    → (history_after start (whole_lines text) ≡ h) ⊎ (history_after start (whole_lines text) ≡ next)

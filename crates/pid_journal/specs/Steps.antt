@@ -1,0 +1,3 @@
+-- What serves private functions alone; no promise rests on it.
+pub mod Parts
+pub mod Living

@@ -1,0 +1,24 @@
+//! A registry with a journal in front of it: each command is safe in a file of its own before it is
+//! judged.
+//!
+//! A journal is a script. It has the line of each command, in the order in which commands are
+//! judged, below a comment with the time and with what the registry holds before it. `Journaled` is
+//! a registry under moderation, so scripts are run over it as over any other; questions and exports
+//! go past the journal. `laws` says to which history a journal leads.
+//!
+//! An entry is read back before it is written. So it never says another command than the one that
+//! is obeyed.
+#![tactic(auto)]
+
+mod beginning;
+mod composing;
+mod entry;
+mod file;
+mod journaled;
+pub mod laws;
+mod moderated;
+mod obeying;
+mod sameness;
+
+pub use file::JournalFile;
+pub use journaled::Journaled;

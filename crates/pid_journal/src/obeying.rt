@@ -1,0 +1,119 @@
+//! One command: its entry is safe before it is judged.
+ghost use Rattle.std.specs.Prelude.{◌≡◌, ◌≢◌, true, false, IsErrAnd};
+ghost use Rattle.pid_moderation.specs.Faults.{IsMemoryOrStore};
+ghost use Rattle.pid_moderation.specs.Files.{asks};
+ghost use Rattle.pid_moderation.specs.History.{History};
+ghost use Rattle.pid_service_laws.specs.CallLaws.{StaysClean};
+ghost use Rattle.pid_service_laws.specs.Registries.{CommandLeaves};
+ghost use Rattle.pid_journal.specs.Journals.{IsEntry};
+ghost use Rattle.pid_journal.specs.Pairs.{
+  ObeysAnywhere,
+  PairShows,
+  StaysFailed,
+  pair_showing,
+  pair_showing_from,
+};
+ghost use Rattle.pid_journal.specs.Steps.Parts.{IsProbed, IsCutBack};
+
+use crate::entry::entry_of;
+use crate::file::JournalFile;
+use crate::journaled::Journaled;
+use pid_moderation::{Command, Refusal, Reply, breaks_form};
+use pid_service_laws::Consulted;
+
+// Whether an answer says that memory ran out or that the store failed.
+fn is_fault(answer: &Result<Reply, Refusal>) -> bool
+    ensures yes { result ≡ true → IsErrAnd answer.now IsMemoryOrStore }
+    ensures no { result ≡ false → IsErrAnd answer.now IsMemoryOrStore → ⊥ }
+{
+    match answer {
+        Ok(_) => false,
+        Err(refusal) => matches!(refusal, Refusal::Memory | Refusal::Store),
+    }
+}
+
+fn is_failed(refusal: Refusal) -> bool
+    ensures yes { result ≡ true → refusal ≡ Refusal.Failed }
+    ensures no { result ≡ false → refusal ≢ Refusal.Failed }
+{
+    matches!(refusal, Refusal::Failed)
+}
+
+// Whether a registry is live: one that has failed answers nothing else.
+fn is_answering<R: Consulted>(registry: &mut R) -> bool
+    ensures { IsProbed R.showing registry.old registry.new result }
+{
+    match registry.status() {
+        Ok(_) => true,
+        Err(refusal) => !is_failed(refusal),
+    }
+}
+
+impl<R: Consulted, J: JournalFile> Journaled<R, J> {
+    // Cuts off what comes after so many bytes. If that fails, the registry counts as failed.
+    fn take_back(&mut self, count: u64)
+        ensures same { self.new.registry ≡ self.old.registry }
+        ensures taken { IsCutBack J.JournalFile self.old self.new count }
+    {
+        match self.journal.cut(count) {
+            Ok(()) => {}
+            Err(_) => self.failed = true,
+        }
+    }
+
+    // Obeys a command that has this entry.
+    fn obey_noted(&mut self, entry: &[u8], command: Command) -> Result<Reply, Refusal>
+        ensures honest { R.showing.is_clean self.new.registry → R.showing.is_clean self.old.registry }
+        ensures obeyed { R.showing.is_clean self.new.registry → (start h : History)
+            → PairShows R.Moderated J.JournalFile start self.old h → IsEntry entry.now (asks command)
+            → CommandLeaves (pair_showing_from R.Moderated J.JournalFile start) result self.new h
+            (asks command) }
+    {
+        pid_service_laws::judgements_are_outcomes(); // proof only
+        let count = self.journal.count();
+        match self.journal.append(entry) {
+            Ok(()) => {
+                let answer = self.registry.obey(command);
+                if !is_fault(&answer) {
+                    return answer;
+                }
+                if !is_answering(&mut self.registry) {
+                    return answer;
+                }
+                self.take_back(count);
+                answer
+            }
+            Err(_) => {
+                self.take_back(count);
+                Err(Refusal::Store)
+            }
+        }
+    }
+
+    /// Obeys a command, or says why not. Its entry is safe in the journal before it is judged.
+    ///
+    /// - A command that breaks its form is refused without an entry, as a registry refuses it.
+    /// - `Store` if its entry could not be written, or if there is none: then nothing was done. What
+    ///   was written of the entry is cut off again.
+    /// - `Memory` and `Store` of a registry that stays live: the command was not obeyed, and its
+    ///   entry is cut off again.
+    /// - If a cut fails, the registry has failed, as a registry fails whose commit failed: the
+    ///   command is in doubt.
+    pub fn obey(&mut self, command: Command) -> Result<Reply, Refusal>
+        ensures honest { StaysClean (pair_showing R.Moderated J.JournalFile) self.old self.new }
+        // It shows the history to which its journal leads.
+        ensures obeyed { ObeysAnywhere R.Moderated J.JournalFile self.old (asks command) result self.new }
+        ensures failed { StaysFailed R.Moderated J.JournalFile self.old result self.new }
+    {
+        if self.failed {
+            return Err(Refusal::Failed);
+        }
+        let status = self.registry.status()?;
+        if breaks_form(&command) {
+            return Err(Refusal::BadText);
+        }
+        let seconds = self.journal.seconds();
+        let entry = entry_of(self.alloc, seconds, &status, &command)?;
+        self.obey_noted(entry.as_bytes(), command)
+    }
+}
