@@ -116,11 +116,13 @@ def pasted(cases, world, browser, password):
     browser.click("main form button")
     browser.wait(lambda: len(browser.all(".many > li")) == 5, "five rows")
     browser.click("main .buttons button.main")
-    browser.wait(lambda: len(world.pending()) >= 6, "five proposals")
-    got = [(it["author"], it["path"], it["name"]) for it in world.pending()
-           if it["author"] == "newcomer"][1:]
-    want = [("newcomer", f"PC/8086/1237/10280e0{at}", f"Board {at}") for at in range(5)]
-    cases.equal("joining: five subsystems", got, want)
+
+    def proposed():
+        return [(it["path"], it["name"]) for it in world.pending() if it["author"] == "newcomer"]
+
+    browser.wait(lambda: len(proposed()) == 6, "five more proposals")
+    want = [(f"PC/8086/1237/10280e0{at}", f"Board {at}") for at in range(5)]
+    cases.equal("joining: five subsystems", proposed()[1:], want)
     out(browser)
     with Browser(world.base, size=(420, 800)) as phone:
         phone.go("/mine")
