@@ -70,7 +70,7 @@ function submissionRow(it, shared, isNews, dates) {
       shared.author ? null : `by ${it.author} `,
       stateMark(it.state, by), isNews ? " (new)" : null, dateWords(it, dates),
       it.remarks ? ` ${several(it.remarks, "comment")}` : null,
-      it.reason ? [" ", shown(it.reason)] : null)));
+      it.reason ? [": ", shown(it.reason)] : null)));
 }
 
 /** A link to the page with those before these, or null at the end. */

@@ -22,16 +22,15 @@ function topIn(text) {
 function filters(query) {
   const kind = query.get("kind");
   const option = (value, words) => el("option", { value, selected: value === kind }, words);
-  return el("form", { class: "narrow", action: "/recent" },
-    el("label", { for: "of" }, "Vendor or class"),
-    el("input", {
+  const field = (name, words, box) => el("p", {}, el("label", { for: name }, words), box);
+  return el("form", { class: "filters", action: "/recent" },
+    field("of", "Vendor or class", el("input", {
       id: "of", name: "of", class: "hex", size: 6, maxlength: 4, value: query.get("of") ?? "",
       placeholder: "8086", autocomplete: "off", spellcheck: "false",
-    }),
-    el("label", { for: "kind" }, "Kind"),
-    el("select", { id: "kind", name: "kind" }, option("", "all"),
-      KINDS.map((it) => option(it, it))),
-    el("button", {}, "Show"));
+    })),
+    field("kind", "Kind", el("select", { id: "kind", name: "kind" }, option("", "all"),
+      KINDS.map((it) => option(it, it)))),
+    el("button", { class: "beside" }, "Show"));
 }
 
 const fitting = (rows, kind) => (KINDS.includes(kind)

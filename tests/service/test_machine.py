@@ -483,8 +483,8 @@ def removed(story):
         " ! -path '/var/backups/pciids/*' ! -path '*/journal/*' | sort",
         "/etc/pciids\n/etc/pciids/accounts\n/etc/pciids/accounts/invites\n"
         "/etc/pciids/accounts/passwords\n/etc/pciids/signing-key\n/var/backups/pciids\n"
-        "/var/lib/pciids\n/var/lib/pciids/registry.db\n/var/lib/pciids/registry.db-wal"
-        "\n/var/lib/pciids-public",
+        "/var/lib/pciids\n/var/lib/pciids-public\n"
+        "/var/lib/pciids/registry.db\n/var/lib/pciids/registry.db-wal",
     )
     left = "ls /var/lib/pciids-public"
     story.same("and the history", left, "feeds\nhistory")

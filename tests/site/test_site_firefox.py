@@ -143,11 +143,32 @@ def story(cases, world, firefox):
     cases.equal("firefox: Trusted Types refuse markup", bold, [0, True])
 
 
+def dates(cases, world, firefox):
+    """The pages of what changed, with their dates."""
+    world.publish(time.time() - 3 * 86_400)
+    number = world.submit("alice", "PC/8086/a091", "Known since yesterday")
+    world.ask("/approve", {"num": number}, "mona")
+    world.publish(time.time() - 86_400)
+    day = time.strftime("%Y-%m-%d", time.gmtime(time.time() - 86_400))
+    for path, text in (("/recent", "Known since yesterday"), (f"/recent/{day}", "1 added."),
+                       (f"/recent?month={day[:7]}", "changed by proposals"),
+                       ("/item/PC/8086/a091", "It has its name since yesterday"),
+                       (f"/proposals/{number}", "by mona, yesterday"),
+                       ("/decided?author=alice", "Follow it as a feed"), ("/", "yesterday")):
+        firefox.go(path)
+        it = f"document.querySelector('main').innerText.includes({json.dumps(text)})"
+        cases.equal(f"firefox: {path}", firefox.wait(it), True)
+        cases.equal(f"firefox: no breach on {path}", firefox.js("return breaches"), [])
+    styled = "return getComputedStyle(document.querySelector('header')).display"
+    cases.equal("firefox: the styles in the page", firefox.js(styled) != "block", True)
+
+
 def test_site_firefox(cases):
     program.need("firefox-esr")
     with World() as world:
         firefox = Firefox(world.base)
         try:
             story(cases, world, firefox)
+            dates(cases, world, firefox)
         finally:
             firefox.close()

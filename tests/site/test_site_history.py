@@ -182,6 +182,33 @@ def followed(cases, world, browser):
         cases.passed()
 
 
+LOADED = "import('/site/names.js').then((it) => it.load()).then(() => arguments[0]())"
+
+
+def slow(cases, world, browser):
+    """While the registry is slow its items are shown as the file has them; then as they are."""
+    browser.go("/vendors").driver.execute_async_script(LOADED)
+    approved(world, "PC/10de/0020", "Newer than the file", "root", "sam")
+    for path, first, then in (("PC/8086", "Intel Corporation", "lspci -nn"),
+                              ("PC/10de/0020", "NV4 [Riva TNT]", "Newer than the file")):
+        world.spoiler.set("hold", seconds=4)
+        start = time.monotonic()
+        browser.js("const it = document.createElement('a'); it.href = arguments[0];"
+                   "document.querySelector('main').append(it); it.click()", f"/item/{path}")
+        browser.heading(first)
+        took = time.monotonic() - start
+        cases.equal(f"history: {path} is shown after {took:.1f} s", took < 4, True)
+        cases.equal("history: and corrected", browser.has(then), True)
+        world.spoiler.set("pass")
+    titles = browser.driver.title, browser.text("h1")
+    want = "10de:0020 Newer than the file · NVIDIA Corporation · PCI ID registry"
+    cases.equal("history: its title too", titles, (want, "Newer than the file"))
+    world.spoiler.set("blind")
+    browser.js("document.querySelector('.crumbs a[href=\"/item/PC/10de\"]').click()")
+    cases.equal("history: without an answer", browser.heading("NVIDIA Corporation"), True)
+    world.spoiler.set("pass")
+
+
 SHOTS = os.environ.get("SITE_SHOTS")
 
 
@@ -214,5 +241,6 @@ def test_site_history(cases):
         files(cases, world)
         answers(cases, world, browser)
         followed(cases, world, browser)
+        slow(cases, world, browser)
         pictures(world, numbers)
         cases.equal("history: the console", browser.faults(), [])
