@@ -6,9 +6,10 @@ import re
 import socket
 import tempfile
 import threading
+import time
 
 from fake_registry import FakeRegistry
-from front_room import HOST, PEOPLE, Front, Recorder, Request, needed
+from front_room import HOST, PEOPLE, Front, Recorder, Request, basic, needed
 from http_server import to_end
 from joining_unit import Served, password, settings, verifier
 
@@ -26,6 +27,11 @@ SCARCE = {
         ("zone=pciids_logins:1m rate=1r/s", "zone=pciids_logins:1m rate=1r/m"),
     ),
 }
+# A request has to come within three seconds.
+AMPLE_AND_SHORT = {"pciids_limits": (
+    *AMPLE["pciids_limits"], ('"~^[0-9]\\."', '"~^[0-2]\\."'),
+    ('"~^command [0-5]?[0-9]?[0-9]\\."', '"~^command [0-2]\\."'),
+)}
 SETTINGS = settings(joins_a_day=8, joins_an_hour=100, contact="Ask us.")
 
 
@@ -247,6 +253,49 @@ def locked(cases, room):
     cases.equal("joining: and is gone", (got, room.join("carl", 2)), ((401, []), 409))
 
 
+def held_back(cases, folder):
+    """A body that is held back until the password is another one, or the account is locked: nothing
+    is done by what nginx looked at before."""
+    room = Room(folder, **AMPLE_AND_SHORT)
+    try:
+        cases.equal("joining: dora joins", room.join("dora"), 200)
+        paths = {"/session": b"stays=yes", "/password": f"verifier={verifier('dora', password(7))}"
+                 .replace("+", "%2B").encode(), "/leave": b"a=b", "/submit": b"a=b"}
+        quick = ended(*held(room, "/session", paths["/session"]))
+        cases.equal("joining: not so long", b" 200 OK" in quick, True)
+        late = [held(room, path, body) for path, body in paths.items()]
+        time.sleep(4)
+        new = ("--data-urlencode", f"verifier={verifier('dora', password(2))}")
+        told = room.front.curl("/password", *room.here, "-u", f"dora:{password()}", *new)[0]
+        cases.equal("joining: another password meanwhile", told, 200)
+        room.recorder.seen.clear()
+        got = [ended(*it).split(b" ")[1] for it in late[:3]]
+        cases.equal("joining: too late", got, [b"404"] * 3)
+        cases.equal("joining: the password counts", bool(room.log_in("dora", password(2))), True)
+        ended(*late[3])
+        came = [it.values(rb"x-account") for it in room.recorder.seen]
+        cases.equal("joining: a late command is nobody's", came, [[]])
+    finally:
+        room.close()
+
+
+def held(room, path, body):
+    """A request of dora's whose body has not come yet, and the body."""
+    client = room.front.connect()
+    head = (f"POST {path} HTTP/1.1\r\nHost: {HOST}:{room.front.port}\r\n"
+            f"Authorization: {basic('dora', password())}\r\nContent-Length: {len(body)}\r\n"
+            "Content-Type: application/x-www-form-urlencoded\r\nConnection: close\r\n\r\n")
+    client.sendall(head.encode())
+    return client, body
+
+
+def ended(client, body):
+    """The response, once the body is sent."""
+    with client:
+        client.sendall(body)
+        return to_end(client)
+
+
 def away(cases, room):
     """Without the application the site and its sessions go on."""
     session = room.log_in("alice", "pw-alice")
@@ -283,6 +332,7 @@ def test_front_joining(cases):
         os.mkdir(f"{folder}/ample")
         os.mkdir(f"{folder}/bare")
         os.mkdir(f"{folder}/cut")
+        os.mkdir(f"{folder}/late")
         room = Room(f"{folder}/ample", **AMPLE)
         try:
             for it in (stranger, games, doors, locked, away):
@@ -291,3 +341,4 @@ def test_front_joining(cases):
             room.close()
         shares(cases, f"{folder}/bare")
         lost(cases, f"{folder}/cut")
+        held_back(cases, f"{folder}/late")

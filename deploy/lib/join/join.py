@@ -253,7 +253,7 @@ def application(environ, start):
     try:
         call = (FOR_ALL | FOR_ACCOUNTS if asks.account else FOR_ALL).get(asks.route)
         if not call:
-            raise Refused(404, "There is nothing at this address.")
+            raise Refused(404, "There is nothing at this address, or it took too long.")
         status, told = 200, {"ok": True, **(call(asks) or {})}
     except Refused as refused:
         status, told = refused.args[0], {"ok": False, "why": refused.args[1]}
