@@ -32,9 +32,8 @@ import apt  # noqa: E402
 import program  # noqa: E402
 from cases import Counts, last_line  # noqa: E402
 
-# How many processes try the parts of a folder, in this order: many those that mostly wait for
-# servers and machines, a few those of the site, since each has browsers. Beside what takes times or
-# measures memory nothing is tried.
+# How many processes try the parts of a folder, in this order: many those that mostly wait, a few
+# those that have browsers. Beside what takes times or measures memory nothing is tried.
 FOLDERS = {"": len(os.sched_getaffinity(0)), "service": 99, "site": 3, "alone": 1}
 ALONE = ("progress", "serving", "serving_memory", "site_access")
 # Where tests of the first program are: those that have the mark `first`.
@@ -60,7 +59,6 @@ def help_text():
 def run_pytest(tests, words, counts):
     """Runs pytest for each folder, on the tests of its parts: pairs of a part and a path."""
     import pytest
-
     for folder, most in FOLDERS.items():
         paths = [path for part, path in tests if folder_of(part, path) == folder]
         # Not in groups (loadgroup): xdist 3.1 waits for a process that has ended there for ever.
@@ -90,9 +88,9 @@ def main(words, counts):
         return f"tests/run: unknown part: {', '.join(unknown)}\n{help_text()}"
     fault = program.fault_of_installed()
     if prepares and not fault:
-        import prepare
-
         apt.make_ready([files[part] for part, *_ in parts], installs)
+    if prepares and program.INSTALLED is None:
+        import prepare
         fault = prepare.fault_of(["pid_cli_first"] if is_first else ["pid_cli_first", "pid_cli"])
     if fault or not all(map(find_spec, ("pytest", "pytest_timeout", "xdist"))):
         return fault or f"tests/run: needs Debian's packages {', '.join(sorted(apt.PYTEST))}"

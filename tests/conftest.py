@@ -70,10 +70,9 @@ def first(monkeypatch):
         pytest.skip("the first program belongs to the source tree, and PCIIDS names another one")
 
 
-OF_FIRST = pytest.mark.first
-EITHER = ["script", pytest.param("first", marks=OF_FIRST)]
+EITHER = ["script", pytest.param("first", marks=pytest.mark.first)]
 if program.INSTALLED is not None:
-    EITHER = [pytest.param("installed", marks=OF_FIRST)]
+    EITHER = [pytest.param("installed", marks=pytest.mark.first)]
 
 
 @pytest.fixture(params=EITHER)

@@ -1,10 +1,9 @@
 """usage: ./test [--edits]
 
 Proves every crate and its tests from nothing, runs the tests and the programs as two compilers
-build them (`rt ci`, in a copy of the repository without the must-fail edits), and then tries the
-built program against real peers (tests/run). With --edits nothing is left out: `rt ci` runs in the
-repository itself, and the prover has to refuse each must-fail edit.
-The last line is 'N passed, N failed', followed by ', N skipped' if cases were skipped.
+build them (`rt ci`, in a copy without the must-fail edits), and tries the built program against
+real peers (tests/run). With --edits `rt ci` runs in the repository itself, and the prover has to
+refuse each edit. The last line is 'N passed, N failed', and ', N skipped' if cases were skipped.
 """
 import glob
 import os
@@ -61,7 +60,7 @@ def gate(folder):
     programs = [os.path.join(folder, it) for it in PROGRAMS]
     if all(map(os.path.exists, programs)):
         for it in programs:
-            # A source that has changed since `rt ci` began is newer.
+            # A source that has changed since then is newer.
             os.utime(it, ns=(start, start))
         tried = ran(folder, os.path.join(folder, "tests", "run"))
     counts = [sum(it) for it in zip(proved, tried)]

@@ -1,4 +1,4 @@
-"""The counting of cases: the comparisons of a test, of which one that fails does not end it."""
+"""Cases: the comparisons of a test, of which one that fails does not end it."""
 from program import entries_of, run, tidy
 
 
@@ -39,7 +39,6 @@ class Cases:
 
 class Counts:
     """A plugin of pytest: counts cases. A test without any is one; so is what ends one early."""
-
     def __init__(self):
         self.all, self.broken, self.is_interrupted = (0, 0, 0), set(), False
 

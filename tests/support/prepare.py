@@ -3,15 +3,14 @@ import os
 import subprocess
 import sys
 
-from program import INSTALLED, PROGRAM, TOP
+from program import TOP
 
 sys.path.append(os.path.join(TOP, "tools"))
 import build  # noqa: E402
 
 
 def is_current(name):
-    """Whether no source is newer than a program, nor a folder from which one was removed: what the
-    script `pciids` asks before it runs one."""
+    """Whether no source is newer than a program, nor a folder from which one was removed."""
     path = os.path.join(build.folder(name), "out", name)
     crates = [*build.below(build.read_uses(), name), name]
     places = [os.path.join(build.folder(it), part) for it in crates for part in build.SOURCES]
@@ -22,9 +21,6 @@ def is_current(name):
 
 def fault_of(names):
     """Builds what isn't current of these programs. Returns why they can't be tried, or None."""
-    if INSTALLED is not None:
-        print(f"{PROGRAM}: tried as PCIIDS names it, and nothing is built")
-        return None
     for name in filter(lambda it: not is_current(it), names):
         print(f"{name}: missing, or older than a source: proving and building it")
         words = [sys.executable, "-B", build.__file__, name]
