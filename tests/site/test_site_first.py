@@ -108,6 +108,16 @@ def without_scripts(cases, world, browser):
     cdp("Emulation.setScriptExecutionDisabled", {"value": False})
 
 
+def unblocked(cases, browser):
+    """What is read first waits for no other file."""
+    waits = ("return performance.getEntriesByType('resource')"
+             ".filter((it) => it.renderBlockingStatus === 'blocking').map((it) => it.name)")
+    for path in ("/", "/item/PC/8086/1237/1af41101", "/item/PC/8086", "/search?q=natoma", "/help"):
+        browser.go(path)
+        styled = browser.js("return getComputedStyle(document.querySelector('header')).display")
+        cases.equal(f"first: what {path} waits for", (browser.js(waits), styled), ([], "grid"))
+
+
 def top_of(browser, selector):
     return browser.js("return document.querySelector(arguments[0])?.getBoundingClientRect().top",
                       selector)
@@ -136,5 +146,6 @@ def test_site_first(cases):
         sought(cases, world)
         without_scripts(cases, world, browser)
         taken(cases, world, browser)
+        unblocked(cases, browser)
         faults = [it for it in browser.faults() if "ERR_BLOCKED" not in it]
         cases.equal("first: the console", faults, [])

@@ -157,6 +157,7 @@ def policy(cases, world, browser):
 
 def without_scripts(cases, world):
     """What a browser without scripts is led to is there."""
+    world.publish()
     page = ask_curl("-k", "-H", "Accept: text/html", world.base + "/")[2].decode()
     text = page.partition("<noscript>")[2].partition("</noscript>")[0]
     links = [it.partition('"')[0].replace("&amp;", "&") for it in text.split('href="')[1:]]
