@@ -346,10 +346,10 @@ def test_lock_of_the_file(cases, unit):
 ADDUSER = os.path.join(TOP, "deploy", "bin", "pciids-adduser")
 
 
-def adduser(unit, *words):
+def adduser(unit, *words, **more):
     """The status of pciids-adduser and what it prints."""
     ran = subprocess.run([ADDUSER, *words], env={**os.environ, **unit.environment()}, text=True,
-                         stdout=subprocess.PIPE, stderr=subprocess.STDOUT, timeout=120)
+                         stdout=subprocess.PIPE, stderr=subprocess.STDOUT, timeout=120, **more)
     return ran.returncode, ran.stdout
 
 
@@ -387,10 +387,35 @@ def test_adduser(cases, unit):
     want = [f"guestax 1 open joined {today}", f"guestbx 1 locked joined {today}", "hosta 1 open"]
     cases.equal("the list", [it for it in want if it not in told], [])
     cases.equal("open again", adduser(unit, "--unlock", "guestbx")[0], 0)
+    unit.asked("POST", "/password", {"verifier": verifier("hosta")}, account="hosta")
+    got = [adduser(unit, it, "hosta") for it in ("--lock", "--unlock")]
+    want = [(0, "hosta: is locked now\n"), (0, "hosta: is open now\n")]
+    cases.equal("who has set a password, and not joined", got, want)
     unit.asked("POST", "/leave", account="guestcx")
     cases.equal("who left has no lock", adduser(unit, "--lock", "guestcx")[0], 1)
     cases.equal("and is let in by name", adduser(unit, "--joined", "guestcx", "0")[0], 0)
     cases.equal("others stand still", others_stand(unit), True)
+
+
+def test_adduser_on_a_full_disk(cases, unit):
+    """As in test_full_disk: a file of passwords is replaced by a whole one, or stays as it is."""
+    text = f"{OTHERS}carl:{verifier('carl')}:\ndora:!{verifier('dora')}:\n"
+    unit.write(text)
+    signal.signal(signal.SIGXFSZ, signal.SIG_IGN)
+    soft, hard = resource.getrlimit(resource.RLIMIT_FSIZE)
+    for words in (("--lock", "carl"), ("--unlock", "dora"), ("--new-password", "carl")):
+        for room in (0, 20, len(OTHERS), len(text) - 20):
+            resource.setrlimit(resource.RLIMIT_FSIZE, (room, hard))
+            try:
+                status = adduser(unit, *words, restore_signals=False)[0]
+            finally:
+                resource.setrlimit(resource.RLIMIT_FSIZE, (soft, hard))
+            with open(unit.passwords, encoding="ascii") as file:
+                got = status, file.read(), sorted(os.listdir(os.path.dirname(unit.passwords)))
+            cases.equal(f"{words}, room for {room}", got, (1, text, ["invites", "passwords"]))
+            unit.write(text)
+    cases.equal("once there is room", adduser(unit, "--lock", "carl")[0], 0)
+    cases.equal("all others stand", others_stand(unit), True)
 
 
 def test_registry_away(cases, unit):
