@@ -579,6 +579,13 @@ def test_locks(cases, unit):
     got = unit.status("POST", "/unlock", {"who": "carl"}, account="anna")
     is_open = unit.lines()["carl"].startswith(verifier("carl"))
     cases.equal("and unlocks", (got, is_open), (200, True))
+    cases.equal("anna locks sam", unit.status("POST", "/lock", {"who": "sam"}, account="anna"), 200)
+    for method, path in (("POST", "/lock"), ("POST", "/unlock"), ("GET", "/accounts")):
+        got = unit.status(method, path, {"who": "carl"}, account="sam")
+        cases.equal(f"who is locked: {path}", got, 403)
+    unit.asked("POST", "/unlock", {"who": "sam"}, account="anna")
+    sam = next(it for it in OTHERS.splitlines() if it.startswith("sam:"))
+    unit.write(OTHERS.replace(sam, f"sam:{unit.lines()['sam'].removesuffix(':')}"))
     cases.equal("others stand", others_stand(unit), True)
 
 

@@ -215,8 +215,8 @@ def set_own(asks):
 
 
 def senior_rank(registry, asks):
-    rank = registry.rank(asks.account) or 0
-    if rank < SENIOR:
+    own_line(asks)
+    if (rank := registry.rank(asks.account) or 0) < SENIOR:
         raise Refused(403, "This is for senior moderators and administrators.")
     return rank
 
