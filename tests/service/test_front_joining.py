@@ -316,6 +316,9 @@ def shares(cases, folder):
         got = {room.front.curl("/session", *room.here, "-u", "bob:no", "-d", "",
                                "--interface", "127.0.5.2")[0] for _ in range(16)}
         cases.equal("joining: guesses of one address", got, {401, 429})
+        got = {room.front.curl("/accounts", "-u", "bob:no", "--interface", "127.0.5.5")[0]
+               for _ in range(16)}
+        cases.equal("joining: where a session does, too", got, {401, 429})
         told = room.log_in("bob", "pw-bob", "--interface", "127.0.5.3")
         cases.equal("joining: who has guessed nothing", bool(told), True)
         words = ("--interface", "127.0.5.4")
