@@ -61,6 +61,12 @@ def test_joins(cases, unit):
     unit.fake.receipts.clear()
     cases.equal("after a restore that has lost the account", unit.join("carl"), 200)
     cases.equal("it is there again, with the lowest rank", unit.fake.accounts["carl"], 0)
+    unit.write(OTHERS)
+    cases.equal("after a restore that has lost the line", unit.join("carl"), 200)
+    unit.write(OTHERS)
+    unit.fake.accounts["carl"] = 1
+    cases.equal("with a rank it isn't joined", unit.join("carl"), 409)
+    cases.equal("and has no line", "carl" in unit.lines(), False)
 
 
 def test_accounts_that_are_there(cases, unit):

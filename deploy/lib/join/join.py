@@ -174,7 +174,8 @@ def join(asks):
             told = registry.told("POST", "/account", f"who={name}&rank={rank or 0}", key)
         # Any other refusal is a fault.
         is_made = {None: True, NOTHING_TO_DO: False}[told.get("refused")]
-        if not there and not is_made:
+        # A receipt tells of the first time: an account may have got a rank, and lost its line.
+        if not there and (rank or not is_made):
             raise taken
         if not there:
             put(name, verifier, today)
