@@ -422,7 +422,7 @@ def stopped(cases, world, browser):
     browser.heading("Vendors")
     world.spoiler.set("gone")
     browser.go("/item/PC/8086/1237")
-    got = "published file" in browser.text(), "440FX" in browser.text("h1")
+    got = browser.has("published file", "body"), "440FX" in browser.text("h1")
     cases.equal("stopped: an item from the published file", got, (True, True))
     browser.go("/vendors")
     cases.equal("stopped: all vendors", "2,3" in browser.text(".narrow output"), True)
