@@ -2,7 +2,7 @@
 import pathlib
 import re
 
-RESERVED = pathlib.Path(__file__).with_name("reserved.txt").read_text("ascii").split()
+RESERVED = pathlib.Path(__file__).with_name("reserved").read_text("ascii").split()
 
 
 def readings(name):
