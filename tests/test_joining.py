@@ -462,6 +462,11 @@ def test_bounds(cases, unit):
         cases.equal("an hour is counted in one place", "gunicorn --workers 1 " in file.read(), True)
 
 
+def join_at_last(unit, name, **how):
+    """The status of a join that is sent again while a busy machine keeps it waiting too long."""
+    return next((it for it in (unit.join(name, **how) for _ in range(20)) if it != 503), 503)
+
+
 def test_many(cases, unit):
     """A thousand, eight at a time, from one address and from a hundred."""
     unit.settings(joins_a_day=50)
@@ -470,11 +475,13 @@ def test_many(cases, unit):
     one, hundred = names[:1000], list(enumerate(names[1000:]))
     start, got = time.monotonic(), []
     for eight in zip(*[iter(one)] * 8):
-        got += at_once([lambda it=it: unit.join(it) for it in eight])
+        got += at_once([lambda it=it: join_at_last(unit, it) for it in eight])
     cases.equal("of one address", (got.count(200), got.count(429)), (3, 997))
     for eight in zip(*[iter(hundred)] * 8):
-        got += at_once([lambda at=at, it=it: unit.join(it, visitor=f"198.51.100.{at % 100}")
-                        for at, it in eight])
+        got += at_once([
+            lambda at=at, it=it: join_at_last(unit, it, visitor=f"198.51.100.{at % 100}")
+            for at, it in eight
+        ])
     seconds = time.monotonic() - start
     cases.equal(f"on a busy machine too: {seconds:.0f} s", seconds < 600, True)
     cases.equal("of a hundred", (got[1000:].count(200), got[1000:].count(429)), (47, 953))
