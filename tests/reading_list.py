@@ -1,10 +1,12 @@
 """What to read of crates/*/specs to know what a promise of docs/PROMISES.md says: the definitions
 that are reached from the contract of its public calls.
 
+`tests/promise.py 7` prints them for promise 7.
+
 `tests/reading_list.py` writes the table and the lists between the marks of that page; run it after
 a change of a definition. A test compares them. The walk goes by the names that `use` lines
 bring in, over the clauses of a call and the ghost members of the traits in its signature. The
-definitions of the toolchain's own crates are not counted.
+types of the sources and the definitions of the toolchain's own crates are not counted.
 """
 import os
 import re
@@ -27,10 +29,12 @@ PROMISES = (
     ("4. Look-ups", ("pid_lookup::lookup",)),
     ("5. Judgement", ("pid_moderation::decide", "pid_moderation::keys_stand_once")),
     ("6. The registry", ("pid_service::Registry::obey",)),
-    # The law, and those that give its premises from the clauses of public calls.
+    # The law; the one that goes from session to session; and those that give the premises of both
+    # from the clauses of public calls.
     ("7. Crash prefix",
-     ("pid_service::openings_tell_prefixes", "pid_service::clauses_meet_lives",
-      "pid_service::first_openings_show_what_is_there", "pid_service::openings_find_histories")),
+     ("pid_service::openings_tell_prefixes", "pid_service::reopened_registries_show_prefixes",
+      "pid_service::clauses_meet_lives", "pid_service::first_openings_show_what_is_there",
+      "pid_service::openings_find_histories")),
     ("8. Migration", ("pid_service::migrate",)),
     ("9. Scripts", ("pid_script::run_script",)),
     ("10. HTTP", ("pid_http::serve_stream",)),
@@ -75,7 +79,14 @@ class Definition:
     def __init__(self, module, name, kind, indent, start):
         self.module, self.name, self.kind, self.indent = module, name, kind, indent
         self.start = start
-        self.code, self.size = "", 0
+        # its lines, the comment before it counted, and those alone that are no comment
+        self.lines, self.code = [], ""
+        # the place of its first line, and of the line that gives it more arguments
+        self.first, self.scope = start, None
+
+    @property
+    def size(self):
+        return len(self.lines)
 
 
 def definitions_of(module, lines):
@@ -102,17 +113,32 @@ def definitions_of(module, lines):
                 continue
         opened = Definition(module, name, kind, indent, at)
         found.append(opened)
-    starts = []
-    for it in found:
-        start = it.start
-        while start and lines[start - 1].strip().startswith("--"):
-            start -= 1
-        starts.append(start)
+    # a line that gives all definitions below it the same arguments is of none of them
+    scopes = [at for at, line in enumerate(lines) if re.match(r"\s*module _", line)]
+    starts = [commented_from(lines, it.start) for it in found]
     for it, start, end in zip(found, starts, [*starts[1:], len(lines)]):
-        body = [line for line in lines[start:end] if line.strip()]
-        it.size = len(body)
-        it.code = "\n".join(line for line in body if not line.strip().startswith("--"))
+        end = min([end, *(at for at in scopes if at > start)])
+        it.scope = max((at for at in scopes if at < start and it.indent), default=None)
+        it.first = start
+        while lines[end - 1].strip().startswith("--") or not lines[end - 1].strip():
+            end -= 1
+        it.lines = [line for line in lines[start:end] if line.strip()]
+        it.code = "\n".join(line for line in it.lines if not line.strip().startswith("--"))
     return found
+
+
+def commented_from(lines, at):
+    """The place of the first line of the comment that ends before this line."""
+    while at and lines[at - 1].strip().startswith("--"):
+        at -= 1
+    return at
+
+
+def cases_of(definition):
+    """The names of the cases of a type; none of another definition."""
+    if definition.kind != "data":
+        return []
+    return re.findall(rf"^\s+({NAME}) :", definition.code, re.M)
 
 
 class Specs:
@@ -120,6 +146,8 @@ class Specs:
 
     def __init__(self):
         self.definitions, self.uses, self.local, self.handed_on = {}, {}, {}, {}
+        # The names that a file hands on from another, and the cases of its types.
+        self.other_names = {}
         for crate in crates():
             folder = os.path.join(CRATES, crate, "specs")
             for path in files_in(folder, ".antt"):
@@ -130,15 +158,25 @@ class Specs:
                     for there in re.findall(r"^pub use (Rattle\.[\w.]+)", "\n".join(lines), re.M):
                         self.handed_on[f"Rattle.{crate}.specs.{there.split('.')[-1]}"] = there
                     continue
-                self.uses[module] = used_names("\n".join(lines))
+                text = "\n".join(lines)
+                self.uses[module] = used_names(text)
+                handed = "\n".join(re.findall(r"^\s*pub use .*", text, re.M))
+                for name, there in used_names(handed)[0].items():
+                    self.other_names[module, name] = there
                 found = definitions_of(module, lines)
+                for it in found:
+                    for case in cases_of(it):
+                        self.other_names[module, case] = (module, it.name)
                 self.local[module] = {it.name: (module, it.name) for it in found}
                 self.definitions |= {(module, it.name): it for it in found}
 
     def key(self, module, name):
         while module in self.handed_on and self.handed_on[module] != module:
             module = self.handed_on[module]
-        return (module, name) if (module, name) in self.definitions else None
+        if (module, name) in self.definitions:
+            return module, name
+        there = self.other_names.get((module, name))
+        return self.key(*there) if there else None
 
     def cited(self, text, uses, local=()):
         names, modules = uses
@@ -242,18 +280,17 @@ def says(specs, sources, call):
     return [it for key in keys for it in fields_of(specs.definitions[key])]
 
 
-def definitions_for(specs, sources, calls):
-    """What is reached from the contracts of calls."""
-    keys = set()
+def cited_first(specs, sources, calls):
+    """What the contracts of calls cite, in the order of the calls."""
     for call in calls:
         lines, contract = sources.contract(call)
         for file, text in ((lines, contract), *sources.traits(contract)):
-            keys |= specs.cited(text, used_names("\n".join(file)))
-    return specs.reached(keys)
+            yield from sorted(specs.cited(text, used_names("\n".join(file))))
 
 
-def order(specs, keys):
-    """The files of definitions: of the highest crate first, and each before those that it cites."""
+def order(specs, keys, first):
+    """The files of definitions: of the highest crate first, and each before those that it cites;
+    else those of the first definitions in their order."""
     cites = {}
     for key in keys:
         cites.setdefault(key[0], set()).update(it[0] for it in specs.cited_by(key) if it in keys)
@@ -266,18 +303,18 @@ def order(specs, keys):
                 visit(it)
             listed.append(module)
 
-    for module in sorted(cites):
+    for module, _ in reversed(first):
         visit(module)
     place = {crate: at for at, crate in enumerate(crates())}
     return sorted(reversed(listed), key=lambda it: -place[it.split(".")[1]])
 
 
-def lists(specs, keys):
+def lists(specs, keys, first):
     """For each crate its files in order, each with how many of its lines are to be read."""
     sizes, by_crate = {}, {}
     for key in keys:
         sizes[key[0]] = sizes.get(key[0], 0) + specs.definitions[key].size
-    for module in order(specs, keys):
+    for module in order(specs, keys, first):
         _, crate, _, *inner = module.split(".")
         by_crate.setdefault(crate, []).append(f"`{'/'.join(inner)}` {sizes[module]}")
     for crate, files in by_crate.items():
@@ -295,7 +332,8 @@ def page_part():
     specs, sources = Specs(), Sources()
     rows, parts, read = [], [], set()
     for promise, calls in PROMISES:
-        keys = definitions_for(specs, sources, calls)
+        first = list(cited_first(specs, sources, calls))
+        keys = specs.reached(first)
         read |= keys
         size = sum(specs.definitions[key].size for key in keys)
         shown = ", ".join(map(name_of, calls if len(calls) < 4 else calls[:1]))
@@ -307,7 +345,7 @@ def page_part():
             what = f"clauses {names}" if names else "clause"
             text = f"`{sources.places[call]}`, {name_of(call)}: {what}"
             parts.append("- " + "\n  ".join(textwrap.wrap(text, 98, **WHOLE)) + "\n")
-        parts.append("\n".join(lists(specs, keys)) + "\n")
+        parts.append("\n".join(lists(specs, keys, first)) + "\n")
     size = sum(specs.definitions[key].size for key in read)
     rows.append(f"| all ten | | {len(read)} | {size:,} |\n")
     head = "\n| promise | public calls | definitions | lines |\n|---|---|---|---|\n"

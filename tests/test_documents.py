@@ -10,6 +10,7 @@ import pytest
 
 import contracts
 import edit_list
+import promise
 import reading_list
 import refusals
 from program import TOP
@@ -335,6 +336,21 @@ def test_reading_list(cases):
     cases.equal("ARCHITECTURE.md: the steps that promises rest on", named, steps)
 
 
+def test_promise(cases):
+    """What tests/promise.py prints: all that the page lists, with the types that it names."""
+    specs = reading_list.Specs()
+    lost = sorted(it for it in promise.others(specs, specs.definitions)
+                  if it[0].startswith("Rattle.pid_") and ".declared." not in it[0])
+    cases.equal("names in specs that lead to no definition", lost, [])
+    rows = re.findall(r"^\| (\d+)\. .*\| ([\d,]+) \| ([\d,]+) \|$", reading_list.shown_part(), re.M)
+    for number, count, size in rows:
+        parts = list(promise.reading(int(number)))
+        cases.equal(f"promise {number}", parts[-1], f"{count} definitions, {size} lines")
+    headline = [part.partition("\n")[2] for part in promise.reading(7)]
+    for start in ("pub trait Output", "pub enum Reply", "pub struct Registry"):
+        cases.equal(f"promise 7: {start}", any(it.startswith(start) for it in headline), True)
+
+
 def test_edits(cases):
     shown, printed = edit_list.shown_part(), edit_list.page_part()
     cases.equal("PROOFS.md: wrong bodies (run tests/edit_list.py)", shown == printed, True)
@@ -364,16 +380,29 @@ def test_glossary(cases):
     cases.equal("it names some", count > 30, True)
 
 
+def fields_left_out(quote):
+    """The fields of a record that a quote of it lacks."""
+    name = re.match(r"\s*pub record (\w+)", quote)
+    if not name:
+        return []
+    quoted = re.findall(r"^\s+pub (\w+) :", quote, re.M)
+    records = [reading_list.fields_of(it) for it in reading_list.Specs().definitions.values()
+               if it.name == name[1]]
+    return next(it[len(quoted):] for it in records if it[:len(quoted)] == quoted)
+
+
 def test_headline(cases):
-    """Each definition that the page quotes stands so in a file of specs, comments aside."""
-    with open(os.path.join(TOP, "docs", "HEADLINE.md"), encoding="utf-8") as page:
-        quotes = page.read().split("```\n")[1::2]
-    specs = []
+    """Each definition that the page quotes is so in a file of specs; and where a quote of a record
+    is cut, the page says so."""
+    parts = text_of("docs/HEADLINE.md").split("```\n")
+    quotes, specs = parts[1::2], []
     for path in glob.glob(os.path.join(TOP, "crates", "*", "specs", "**", "*.antt"),
                           recursive=True):
         with open(path, encoding="utf-8") as file:
             specs.append(" ".join(file.read().split()))
     cases.equal("HEADLINE.md: it quotes definitions", len(quotes) >= 10, True)
-    for quote in quotes:
+    for quote, after in zip(quotes, parts[2::2]):
         words = " ".join(quote.split())
         cases.equal(f"HEADLINE.md: {words[:60]}", any(words in it for it in specs), True)
+        cut = bool(fields_left_out(quote))
+        cases.equal(f"HEADLINE.md: cut {words[:60]}", "more fields" in after[:40], cut)

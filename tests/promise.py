@@ -1,0 +1,112 @@
+#!/usr/bin/env python3
+"""What to read to know what a promise of docs/PROMISES.md says.
+
+`tests/promise.py NUMBER` prints it in one piece, in the order of reading: the contracts of the
+promise's calls; the definitions that these reach, each file before those that it cites; the types
+of the sources that the definitions name; and the names that they have from the toolchain, with the
+file of each. `tests/promise.py 7 | less` is the reading of the headline.
+"""
+import os
+import re
+import signal
+import sys
+
+from reading_list import CRATES, PROMISES, TOP, Sources, Specs, cited_first, lines_of, order
+
+NAMES = r"\b(\w+)\.([^\s(){}\[\].,;:]+)"
+
+
+def path_of(module):
+    """The file of a module of specs."""
+    _, crate, _, *inner = module.split(".")
+    return os.path.join(CRATES, crate, "specs", *inner) + ".antt"
+
+
+def contracts(sources, calls):
+    """The signature and the clauses of each call."""
+    for call in calls:
+        lines, contract = sources.contract(call)
+        at = next(i for i, line in enumerate(lines)
+                  if re.match(rf"\s*pub fn {call.rpartition('::')[2]}\b", line))
+        yield f"{sources.places[call]}:{at + 1}\n{contract}"
+
+
+def definitions(specs, keys, first):
+    """The definitions file by file, with the lines that give several of them more arguments."""
+    for module in order(specs, keys, first):
+        path, scope = path_of(module), None
+        yield os.path.relpath(path, TOP)
+        found = (specs.definitions[it] for it in keys if it[0] == module)
+        for it in sorted(found, key=lambda it: it.first):
+            if it.scope not in (None, scope):
+                scope = it.scope
+                yield scope_at(lines_of(path), scope)
+            yield "\n".join(it.lines)
+
+
+def scope_at(lines, at):
+    end = next(i for i in range(at, len(lines)) if lines[i].rstrip().endswith("where"))
+    return "\n".join(lines[at:end + 1])
+
+
+def others(specs, keys):
+    """The names that the definitions have from elsewhere, each with its module."""
+    for key in keys:
+        names, modules = specs.uses[key[0]]
+        code = specs.definitions[key].code
+        words = set(re.findall(r"[^\s(){}\[\].,;]+", code))
+        found = {names[it] for it in words if it in names and it not in specs.local[key[0]]}
+        found |= {(modules[module], name) for module, name in re.findall(NAMES, code)
+                  if module in modules}
+        yield from (it for it in found if specs.key(*it) is None)
+
+
+def types(named):
+    """The types of the sources among the names, with their places."""
+    for module, name in sorted(named):
+        _, crate, _, _, *inner = module.split(".")
+        if inner[-1] == "TheConstants":
+            inner[-1] = name
+        inner = [it for it in inner if it != "TheVariants"]
+        path = os.path.join(CRATES, crate, "src", *inner[:-1]) + ".rt"
+        lines = lines_of(path)
+        at = next(i for i, line in enumerate(lines) if re.match(
+            rf"pub(\(crate\))? (struct|enum|trait|const) {inner[-1]}\b", line))
+        end = next(i for i in range(at, len(lines)) if lines[i] == "}" or lines[i].endswith(";"))
+        yield f"{os.path.relpath(path, TOP)}:{at + 1}\n" + "\n".join(lines[at:end + 1])
+
+
+def reading(number):
+    """All that is to be read for a promise, in parts."""
+    specs, sources = Specs(), Sources()
+    calls = PROMISES[number - 1][1]
+    first = list(cited_first(specs, sources, calls))
+    keys = specs.reached(first)
+    named = set(others(specs, keys))
+    declared = {it for it in named if ".specs.declared." in it[0]
+                and os.path.isdir(os.path.join(CRATES, it[0].split(".")[1]))}
+    kit = {}
+    for module, name in named - declared:
+        _, crate, *inner = module.split(".")
+        kit.setdefault("/".join([crate, *inner]), []).append(name)
+    yield from contracts(sources, calls)
+    yield from definitions(specs, keys, first)
+    yield from dict.fromkeys(types(declared))
+    yield ("From the toolchain, below the folder `rattle` next to the page that `rt doc` prints;\n"
+           "if a file is not there, `specs/Lib.antt` of its crate says where it is:")
+    yield "\n".join(f"{it}: {', '.join(sorted(kit[it]))}" for it in sorted(kit))
+    size = sum(specs.definitions[key].size for key in keys)
+    yield f"{len(keys)} definitions, {size:,} lines"
+
+
+def main(words):
+    if len(words) != 1 or words[0] not in map(str, range(1, len(PROMISES) + 1)):
+        print(f"usage: promise.py NUMBER, from 1 to {len(PROMISES)}", file=sys.stderr)
+        return 2
+    print("\n\n".join(reading(int(words[0]))))
+    return 0
+
+
+if __name__ == "__main__":
+    signal.signal(signal.SIGPIPE, signal.SIG_DFL)
+    sys.exit(main(sys.argv[1:]))
