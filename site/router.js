@@ -78,7 +78,7 @@ async function show({ focus = true, scroll = 0 } = {}) {
   const mine = turn += 1;
   const pathname = mended(location.pathname);
   if (pathname !== location.pathname) {
-    history.replaceState(history.state, "", pathname + location.search);
+    history.replaceState(history.state, "", pathname + location.search + location.hash);
   }
   const address = new URL(location.href);
   wanted = addressOf(address);

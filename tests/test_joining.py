@@ -403,6 +403,24 @@ def test_adduser(cases, unit):
     cases.equal("others stand still", others_stand(unit), True)
 
 
+def test_adduser_killed(cases, unit):
+    """What one that was killed has left of the other file goes at the next start."""
+    tools = os.path.join(unit.folder, "tools")
+    os.mkdir(tools)
+    with open(os.path.join(tools, "sync"), "w", encoding="ascii") as file:
+        file.write("#!/bin/sh\nkill -KILL $PPID\n")
+    os.chmod(file.name, 0o755)
+    unit.write(f"{OTHERS}carl:{verifier('carl')}:\n")
+    words = {**os.environ, **unit.environment(), "PATH": f"{tools}:{os.environ['PATH']}"}
+    ran = subprocess.run([ADDUSER, "--lock", "carl"], env=words, timeout=60,
+                         stdout=subprocess.DEVNULL)
+    kept = os.path.dirname(unit.passwords)
+    cases.equal("killed, with a file left", (ran.returncode, len(os.listdir(kept))), (-9, 3))
+    cases.equal("nothing was done", others_stand(unit) and "!" not in unit.lines()["carl"], True)
+    got = adduser(unit, "--unlock", "carl")[1], sorted(os.listdir(kept))
+    cases.equal("the next one", got, ("carl: was open before\n", ["invites", "passwords"]))
+
+
 def test_adduser_on_a_full_disk(cases, unit):
     """As in test_full_disk: a file of passwords is replaced by a whole one, or stays as it is."""
     text = f"{OTHERS}carl:{verifier('carl')}:\ndora:!{verifier('dora')}:\n"
@@ -434,13 +452,17 @@ def test_registry_away(cases, unit):
 
 
 def test_bounds(cases, unit):
-    unit.settings(joins_a_day=12)
+    unit.settings(joins_a_day=16)
     got = [unit.join(f"p{it}q") for it in "abcd"]
     cases.equal("four of one address", got, [200, 200, 200, 429])
     cases.equal("what is there goes on", unit.join("paq"), 200)
     network = [f"2001:db8::{it}" for it in range(1, 5)]
     got = [unit.join(f"r{it[-1]}s".replace("1", "b"), visitor=it) for it in network]
     cases.equal("four of one network", got, [200, 200, 200, 429])
+    mapped = ["203.0.113.1", "::ffff:203.0.113.1", "::ffff:cb00:7101", "::ffff:203.0.113.1",
+              "::ffff:203.0.113.2"]
+    got = [unit.join(f"m{'bcdef'[at]}u", visitor=it) for at, it in enumerate(mapped)]
+    cases.equal("addresses of IPv4, however written", got, [200, 200, 200, 429, 200])
     got = [unit.join(f"t{'bcdefghjkm'[it]}u", visitor=f"198.51.100.{it}") for it in range(10)]
     cases.equal("ten addresses", got, [200] * 6 + [429] * 4)
     unit.settings(joins_a_day=0)

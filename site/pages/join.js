@@ -8,6 +8,8 @@ import { tell } from "../notice.js";
 import { title } from "../parts.js";
 import { passwordBox } from "../passbox.js";
 import { secretOf, verifierOf } from "../passwords.js";
+import { note, notedOf } from "../place.js";
+import { readdress, refresh } from "../router.js";
 import { steadyButton } from "../steady.js";
 
 // Only an address of this site: a text such as //example.org leads elsewhere.
@@ -20,6 +22,26 @@ function pageOf(text) {
     return other.href;
   }
 }
+
+const isHere = () => location.pathname === "/join";
+
+// The token of an invitation, in the part of the link that goes to no server; links of old have it
+// in the query. It leaves the address bar, and is kept with this place of the history.
+function invitation() {
+  const address = new URL(location.href);
+  const token = new URLSearchParams(address.hash.slice(1)).get("invite")
+    ?? address.searchParams.get("invite");
+  if (token && isHere()) {
+    address.hash = "";
+    address.searchParams.delete("invite");
+    readdress(address.href);
+    note("invite", token);
+  }
+  return notedOf("invite");
+}
+
+// A link that is opened on this very page loads nothing.
+addEventListener("hashchange", () => { if (isHere() && location.hash) refresh(); });
 
 const lines = (text) => text.split("\n").filter(Boolean).map((it) => el("p", {}, it));
 
@@ -37,14 +59,13 @@ function nameBox() {
 }
 
 async function entered(name, secret, back, go) {
-  const isWanted = () => location.pathname === "/join";
-  await logIn({ name, password: secret, stays: true, isBusy: true, isWanted });
-  if (!isWanted()) return;
+  await logIn({ name, password: secret, stays: true, isBusy: true, isWanted: isHere });
+  if (!isHere()) return;
   tell(`Welcome, ${name}.`, 6);
   go(back);
 }
 
-function formOf({ invite, back, go }) {
+function formOf({ back, go }) {
   const place = el("div", { class: "said" });
   const name = nameBox();
   const box = passwordBox("join");
@@ -54,10 +75,13 @@ function formOf({ invite, back, go }) {
     const who = name.value, password = box.value();
     const secret = await secretOf(who, password);
     const fields = { name: who, verifier: await verifierOf(who, secret) };
+    const invite = notedOf("invite");
     if (invite) fields.invite = invite;
     const answer = await carryOut({
       route: "/join", fields, about: `Join as ${who}`, button, place,
     });
+    // One that isn't good stands in nobody's way.
+    if (answer?.status === 403) note("invite", "");
     if (!answer?.value) return;
     await box.offer(who);
     fill(place, el("p", { role: "status" }, `${who} is your account.`));
@@ -72,6 +96,7 @@ function formOf({ invite, back, go }) {
 /** The page. */
 export default async function join({ query, go }) {
   const back = pageOf(query.get("back"));
+  const invite = invitation();
   const its = await joining();
   const words = [title("Join"), its.rules ? lines(its.rules) : null];
   const contact = its.contact ? el("p", { class: "aside" }, its.contact) : null;
@@ -79,7 +104,6 @@ export default async function join({ query, go }) {
     return [...words, el("p", {}, `You are logged in as ${account()}. `, link(back, "Go on"))];
   }
   if (SHUT[its.door]) return [...words, el("p", {}, SHUT[its.door]), contact];
-  const invite = query.get("invite");
   if (its.door === "invitation" && !invite) {
     return [...words, el("p", {}, "Joining takes an invitation here: a link from those who run"
       + " this registry."), contact];
@@ -87,5 +111,5 @@ export default async function join({ query, go }) {
   return [...words,
     el("p", {}, "With an account you propose names and comment. There is no mail address: keep the"
       + " password, it can't be sent to you again."),
-    formOf({ invite, back, go }), contact];
+    formOf({ back, go }), contact];
 }

@@ -224,7 +224,8 @@ def limits(cases, front):
 
 
 def networks(cases, front):
-    """A visitor of IPv6 is the /64 that his address is in."""
+    """A visitor of IPv6 is the /64 that his address is in; an address of IPv4 is one visitor,
+    however a proxy writes it."""
     def told(address):
         named = ("--interface", PROXY, "-H", f"X-Forwarded-For: {address}")
         return front.curl("/pci.ids", "-H", "Cache-Control: no-cache", *named)[0]
@@ -233,6 +234,10 @@ def networks(cases, front):
     cases.equal("front: the text, from eight addresses of a /64", got, [200] * 6 + [429] * 2)
     got = [told(it) for it in ("2001:db8:0:1::1", "198.51.100.1")]
     cases.equal("front: from another one, and from an address of IPv4", got, [200, 200])
+    got = [told(f"::ffff:203.0.113.{number}") for number in range(1, 9)]
+    cases.equal("front: from eight of IPv4, written as of IPv6", got, [200] * 8)
+    got = [told(it) for it in ("203.0.113.9", "::ffff:203.0.113.9") * 4]
+    cases.equal("front: from one, written in two ways", got, [200] * 6 + [429] * 2)
 
 
 def shares(cases, front):

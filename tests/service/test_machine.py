@@ -229,7 +229,7 @@ def joined(story):
     story.same("and open again", "pciids-adduser --unlock dora", "dora: is open now")
     story.same("it is", f"{ask} {login}", "200")
     told = story.works("an invitation", "pciids-invite")
-    is_link = re.fullmatch(rf"https://{HOST}/join\?invite=[0-9a-f]{{32}}\n", told) is not None
+    is_link = re.fullmatch(rf"https://{HOST}/join#invite=[0-9a-f]{{32}}\n", told) is not None
     story.cases.equal("machine: the link of an invitation", is_link, True)
     sent = f"-d name=fred -d invite={told.strip()[-32:]}"
     sent += f" --data-urlencode 'verifier={verifier('fred')}' https://{HOST}/join"

@@ -1,5 +1,6 @@
 """Strangers join by themselves: from a form that is filled to a proposal; a lost reply and a reload
 join once; log-ins on another computer, another password, a lock, and leaving."""
+import hashlib
 import threading
 
 from http_server import ask_curl
@@ -191,6 +192,54 @@ def doors(cases, world, browser):
         cases.equal(f"joining: {words}", [browser.has(it) for it in words], [True] * len(words))
 
 
+def links_of_invitations(world):
+    """Three invitations, as pciids-invite makes them. Yields the link and the token of each."""
+    tokens = [hashlib.md5(f"invitation {at}".encode()).hexdigest() for at in range(3)]
+    for it in tokens:
+        open(f"{world.folder}/accounts/invites/{it}", "w", encoding="ascii").close()
+    yield f"/join#invite={tokens[0]}", tokens[0]
+    # As they were before, and both.
+    yield f"/join?invite={tokens[1]}&back=/help", tokens[1]
+    yield f"/join?invite={tokens[0]}#invite={tokens[2]}", tokens[2]
+
+
+def invited(cases, world, browser):
+    """The token of an invitation leaves the address bar, and is kept over a reload. After a # it is
+    in no request."""
+    place = f"{world.folder}/join.conf"
+    with open(place, encoding="utf-8") as file:
+        before = file.read()
+    with open(place, "w", encoding="utf-8") as file:
+        file.write(settings(door="invitation"))
+    links = list(links_of_invitations(world))
+    for at, (link, token) in enumerate(links):
+        browser.go(link)
+        browser.one("#join-name")
+        left = browser.js("return location.href.slice(location.origin.length)")
+        want = "/join?back=%2Fhelp" if at == 1 else "/join"
+        cases.equal(f"joining: {link}: the address bar", left, want)
+        browser.driver.refresh()
+        browser.ready()
+        join(browser, f"guest-{at}x")
+        cases.equal(f"joining: {link}", is_in(browser, f"guest-{at}x"), True)
+        with open(f"{world.folder}/access.log", encoding="utf-8") as log:
+            logged = token in log.read()
+        cases.equal(f"joining: {link}: the log has its token", logged, at == 1)
+        out(browser)
+    browser.go("/join")
+    browser.has("takes an invitation")
+    browser.js("location.hash = '#invite=00'")
+    browser.one("#join-name")
+    cases.equal("joining: a link on the page itself", browser.js("return location.hash"), "")
+    with open(place, "w", encoding="utf-8") as file:
+        file.write(before)
+    join(browser, "guest-3x")
+    cases.equal("joining: a bad link", browser.has("This invitation isn't good", "form.join"), True)
+    browser.click("form.join button.main")
+    cases.equal("joining: and without it", is_in(browser, "guest-3x"), True)
+    out(browser)
+
+
 def lost(cases, world, browser):
     """Replies are lost, and the page is left meanwhile: one account, and the bar says so."""
     before = world.ask("/status")["accounts"]
@@ -291,6 +340,7 @@ def test_site_joining(cases):
             password = stranger(cases, world, browser)
             names(cases, browser)
             doors(cases, world, browser)
+            invited(cases, world, browser)
             lost(cases, world, browser)
             own(cases, browser)
             locked(cases, world, browser, password)

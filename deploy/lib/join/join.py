@@ -72,8 +72,9 @@ class Asks:
         self.route = f"{environ['REQUEST_METHOD']} {environ['PATH_INFO']}"
         self.account = environ.get("HTTP_X_ACCOUNT", "")
         self.session = os.path.basename(environ.get("HTTP_X_SESSION", "")) or "none"
-        # An address of IPv4, or the network of one of IPv6.
-        self.visitor = ipaddress.ip_address(environ["HTTP_X_VISITOR"]).packed[:8]
+        # An address of IPv4, also written as ::ffff:192.0.2.1; or the network of one of IPv6.
+        its = ipaddress.ip_address(environ["HTTP_X_VISITOR"])
+        self.visitor = (getattr(its, "ipv4_mapped", None) or its).packed[:8]
         self.fields = [("Content-Type", "application/json")]
 
     def give_cookie(self, value):
@@ -243,10 +244,8 @@ def accounts(asks):
 
 
 FOR_ALL = {"POST /join": join, "POST /session/end": log_out}
-FOR_ACCOUNTS = {
-    "POST /session": log_in, "POST /password": set_own, "POST /leave": set_own,
-    "POST /lock": set_lock, "POST /unlock": set_lock, "GET /accounts": accounts,
-}
+FOR_ACCOUNTS = {"POST /session": log_in, "POST /password": set_own, "POST /leave": set_own,
+                "POST /lock": set_lock, "POST /unlock": set_lock, "GET /accounts": accounts}
 
 
 def application(environ, start):
