@@ -7,6 +7,7 @@ import pytest
 
 import http_rows
 import refusals
+from answer_texts import as_json, as_text
 from http_server import JSON, TEXT, Server, posted, reply
 from registry import asked, script
 
@@ -28,6 +29,7 @@ COMMANDS = [
     ("/account", "root", b"who=dora", 3),
     ("/account", "root", b"who=dora&rank=0&rank=0", 3),
     ("/account", "root", b"who=dora&rank=0&of=us", 3),
+    ("/account", "root", b"who=dora&rank=0&key=k1", 3),
     ("/account", "root", b"who=dora&rank=0\xff", 3),
     ("/account", "carol", b"who=dora&rank=0", 4),
     ("/account", "mona", b"who=dora&rank=0", 5),
@@ -237,66 +239,6 @@ ANSWERS = [
 ]
 
 
-def line_of(it):
-    """The line for one of a list."""
-    if "num" not in it:
-        return f"{it['path']} {it['name']}\n"
-    what = f"remove {it['path']}" if it["name"] is None else f"name {it['path']} {it['name']}"
-    state = f"{it['state']} " if "state" in it else ""
-    return f"{it['num']} {state}{it['author']} {what}\n"
-
-
-def discussion(told):
-    lines = [f"{word} {told[word]}" for word in ("num", "author", "path")]
-    lines.append("remove" if told["name"] is None else f"name {told['name']}")
-    lines += [f"{word} {told[word]}" for word in ("note", "state", "decider", "reason")]
-    return lines + [f"remark {it['author']} {it['text']}" for it in told["remarks"]]
-
-
-KINDS = {5: "NoName", 7: "Duplicate"}
-
-
-def as_text(told):
-    """The text that says what a JSON reply says."""
-    if isinstance(told, list):
-        return "".join(line_of(it) for it in told)
-    if "before" in told:
-        return f"before {told['before']}\n" + as_text(told["submissions"])
-    if "state" in told:
-        lines = discussion(told)
-    elif "accounts" in told:
-        lines = [f"{key} {count}" for key, count in told.items()]
-    elif "revision" in told:
-        lines = [f"revision {told['revision']}"] + [
-            f"{it['since']} {it['path']} {it['name']}" for it in told["items"]
-        ]
-    elif "rank" in told:
-        lines = [f"{told['who']} {told['rank']}"]
-    elif "ok" not in told:
-        lines = [told["name"]]
-    elif not told["ok"]:
-        lines = [f"refused {told['refused']} {told['word']}"]
-        if told["refused"] == 14:
-            lines[0] += (
-                f" line={told['line']} kind={told['kind']} {KINDS[told['kind']]}"
-                if told["line"]
-                else " too many entries"
-            )
-    elif "num" in told:
-        lines = [f"ok {told['num']}"]
-    else:
-        counts = [f" {word}={told[word]}" for word in ("added", "renamed", "same") if word in told]
-        lines = ["ok" + "".join(counts)]
-    return "".join(line + "\n" for line in lines)
-
-
-def in_canonical_form(told):
-    """Compact JSON, keys in order, nothing escaped that need not be."""
-    return json.dumps(
-        json.loads(told), sort_keys=True, separators=(",", ":"), ensure_ascii=False
-    ).encode()
-
-
 def asked_alike(cases, known, servers, name, target, refusal, *words):
     """The same asked of the server that is asked in JSON and of the one that is asked in text."""
     both = target + ("&" if "?" in target else "?") + "format=text"
@@ -311,7 +253,7 @@ def asked_alike(cases, known, servers, name, target, refusal, *words):
         else (status, kind)
     )
     cases.equal(name, got, (want_status, JSON, refusal, word) if refusal else (200, JSON))
-    cases.equal(f"{name}: its form", body, in_canonical_form(body))
+    cases.equal(f"{name}: its form", body, as_json(json.loads(body)))
     cases.equal(
         f"{name}: as text",
         (text_status, text_kind, text.decode()),
@@ -472,3 +414,21 @@ def test_bodies_of_any_bytes(cases, folder):
         wanted = reply("400 Bad Request", JSON, of_a_form)
         wanted += reply("422 Unprocessable Entity", JSON, of_a_file)
         cases.equal("bytes", server.raw(form, file), wanted)
+
+
+def test_files_are_passed_over(cases, folder):
+    """The next request of a connection comes after the whole file, whatever the import came to."""
+    comment = b"\n#" + b"x" * 9_000
+    texts = (b"8086  Intel" + comment, b"8086  I\n8086  I" + comment + b"\n1237  I",
+             b"\xff" + comment)
+    with Server(os.path.join(folder, "files")) as server:
+        script = [posted("/account?format=text", "root", b"who=bob&rank=1")]
+        script += [posted("/import?format=text", who, text, "X-Key: k1")
+                   for text in texts for who in ("carol", "bob", "root")]
+        script.append(b"GET /pci.ids HTTP/1.1\r\n\r\n")
+        lines = ["ok", *["refused 4 NoAccount", "refused 5 RankTooLow",
+                         "ok added=1 renamed=0 same=0"] * 3]
+        statuses = {"ok": "200 OK", "refused": "403 Forbidden"}
+        wanted = [reply(statuses[line.split()[0]], TEXT, line.encode() + b"\n") for line in lines]
+        wanted.append(reply("200 OK", TEXT, b"# PCI ID registry\n8086  Intel\n"))
+        cases.equal("replies", server.raw(b"".join(script)), b"".join(wanted))

@@ -144,6 +144,8 @@ def test_imports(cases, folder):
     with open(ids, "wb") as file:
         file.write(b"#" * 4_194_305)
     cases.equal("import: too long", bring_in("root", ids), BAD)
+    cases.equal("import: too long under a key", bring_in("root", ids, "--key", "k1"), BAD)
+    cases.equal("import: too long of nobody", bring_in("bob", ids), BAD)
     cases.equal("export", work(b"", "export", "--db", db), (HEADER + b"8086  Intel\n", b"", 0))
     with open("/dev/full", "wb") as full:
         ran = subprocess.run(

@@ -164,6 +164,9 @@ def test_damage(cases, folder):
     for damage, told, mend in DAMAGES:
         got = (asked(path, damage), script(path), script(path), asked(path, mend))
         cases.equal(f"damage: {damage}", got, ("", told, told, ""))
+    newer, older = (f"UPDATE meta SET value = {it} WHERE label = 'schema'" for it in (3, 2))
+    got = (asked(path, newer), migrate(path), migrate(path), asked(path, older))
+    cases.equal("damage: a later schema is not moved", got, ("", NEWER, NEWER, ""))
     obeys(cases, "damage: mended", path, AGAIN)
 
 
@@ -207,6 +210,9 @@ def test_older_damage(cases, folder):
     for damage, told, mend in OLDER_DAMAGES:
         got = (asked(path, damage), migrate(path), script(path), script(path), asked(path, mend))
         cases.equal(f"older damage: {damage}", got, ("", told, told, told, ""))
+    second, first = (f"UPDATE meta SET value = {it} WHERE label = 'schema'" for it in (2, 1))
+    got = (asked(path, second), script(path), asked(path, first))
+    cases.equal("older damage: called schema 2", got, ("", DAMAGED, ""))
     is_moved(cases, "older damage", path)
     goes_on(cases, "older damage", path)
 
@@ -351,6 +357,6 @@ def test_no_database(cases, folder):
 def test_taken(cases, folder):
     for number, (taken, mend) in enumerate(TAKEN):
         path = os.path.join(folder, f"{number}.db")
-        got = (asked(path, taken), script(path), script(path), asked(path, mend))
-        cases.equal(f"taken: {taken}", got, ("", DAMAGED, DAMAGED, ""))
+        got = (asked(path, taken), script(path), migrate(path), script(path), asked(path, mend))
+        cases.equal(f"taken: {taken}", got, ("", DAMAGED, DAMAGED, DAMAGED, ""))
         obeys(cases, f"taken: {mend}", path, RUN)

@@ -77,8 +77,30 @@ CHANGED = {
     "missing labels": ("DROP TABLE meta", "damaged"),
     "one more account": ("INSERT INTO account VALUES ('carol', 0)", None),
     "no administrator": ("UPDATE account SET rank = 2 WHERE name = 'root'", "damaged"),
+    "no root": (
+        (
+            "INSERT INTO account VALUES ('sue', 3); UPDATE submission SET decider = 'sue';"
+            " DELETE FROM account WHERE name = 'root'"
+        ),
+        "damaged",
+    ),
     "no account's name": ("INSERT INTO account VALUES ('Carol', 0)", "damaged"),
     "another name": ("UPDATE item SET name = 'AMD' WHERE path = 'PC/8086'", None),
+    "an item less": (
+        (
+            "PRAGMA foreign_keys = 1; DELETE FROM item WHERE path = 'PC/8086/1237';"
+            " UPDATE meta SET value = 6 WHERE label = 'items'"
+        ),
+        None,
+    ),
+    "an item more": (
+        (
+            "INSERT INTO item VALUES ('PC/10ec', 'Realtek');"
+            " INSERT INTO item_since VALUES ('PC/10ec', 2);"
+            " UPDATE meta SET value = 8 WHERE label = 'items'"
+        ),
+        None,
+    ),
     "no name": ("UPDATE item SET name = ' AMD' WHERE path = 'PC/8086'", "damaged"),
     "no path": (moved("PC/0001", "PC/80A6"), "damaged"),
     "a path without its number": (
@@ -413,6 +435,45 @@ def test_last_revision(cases, folder):
     cases.equal(
         "last revision: meta as it was", asked(path, "SELECT * FROM meta ORDER BY label"), rows
     )
+
+
+def test_most_items(cases, folder):
+    """A registry of 100,000 items takes no new one; names and removals go on."""
+    path = os.path.join(folder, "items.db")
+    text = b"".join(b"%04x  a\n" % vendor for vendor in range(65_536))
+    text += b"".join(b"\t%04x  a\n" % device for device in range(34_464))
+    cases.equal("items: all", bring_in(path, text), (b"ok added=100000 renamed=0 same=0\n", b"", 0))
+    full = b"refused 15 Full\n"
+    lines = (
+        ("import root file=0000++a%0A%090000++a", full),
+        ("import root file=0000++b", b"ok added=0 renamed=1 same=0\n"),
+        ("account root who=bob&rank=2", b"ok\n"),
+        ("submit root path=PC/0000/0000&name=a", b"ok 1\n"),
+        ("submit root path=PC/0000&name=c", b"ok 2\n"),
+        ("submit root path=PC/0001&remove=yes", b"ok 3\n"),
+        ("approve bob num=1", full),
+        ("confirm bob num=1&was=", full),
+        ("approve bob num=2", b"ok\n"),
+        ("approve bob num=3", b"ok\n"),
+        ("approve bob num=1", b"ok\n"),
+        ("import root file=0001++a", full),
+    )
+    answered(cases, "items: at the limit", path, *lines)
+
+
+def test_most_remarks(cases, folder):
+    """A submission with 1,000,000 remarks takes no more; another one does."""
+    path = os.path.join(folder, "remarks.db")
+    submit = "submit root path=PC/8086&name=Intel"
+    answered(cases, "remarks: begun", path, (submit, b"ok 1\n"), (submit, b"ok 2\n"))
+    sql = """WITH RECURSIVE made (seq) AS
+        (VALUES (1) UNION ALL SELECT seq + 1 FROM made WHERE seq < 999999)
+        INSERT INTO remark SELECT 1, seq, 'root', 'a' FROM made"""
+    cases.equal("remarks: all but one", asked(path, sql), "")
+    comment = "comment root num=1&text=last"
+    lines = (comment, b"ok\n"), (comment, b"refused 15 Full\n"), (submit, b"ok 3\n")
+    answered(cases, "remarks: at the limit", path, *lines)
+    answered(cases, "remarks: of another", path, ("comment root num=2&text=a", b"ok\n"))
 
 
 # What somebody makes in the file of a registry.

@@ -1,12 +1,14 @@
 """Scripts on the built program: the example of docs/SCRIPT.md line for line, each request for
 memory refused in turn, and the memory that a line of many fields takes."""
 import os
+import re
 import subprocess
 import tempfile
 
 import pytest
 
 from examples import example_of
+from form_rows import ROWS as FORMS
 from program import HEADER, PROGRAM, TOP, WHOLE, run as run_program
 from resident import KIB, told
 from script_rows import A_MODERATOR, ROWS
@@ -72,6 +74,16 @@ def test_script(cases, name):
     script, replies = SCRIPTS.get(name) or texts_of(ROWS[name])
     ran = run_program(script, "script")
     cases.equal(f"script: {name}", (ran.out, ran.err, ran.status), (replies, b"", 0))
+
+
+def test_forms(cases):
+    """The first fault of a form is answered before all else; a good form is refused for none."""
+    script = "".join(f"{line}\n" for line, _ in FORMS).encode()
+    replies = run_program(script, "script").out.splitlines()
+    cases.equal("script: a reply to each form", len(replies), len(FORMS))
+    for (line, want), reply in zip(FORMS, replies):
+        found = re.match(rb"refused ([123]) ", reply)
+        cases.equal(f"script: {line[:80]}", found[1].decode() if found else "good", want)
 
 
 # A script of one line at a limit of its texts, and its reply.

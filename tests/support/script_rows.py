@@ -62,6 +62,83 @@ ROWS = {
             "refused 14 FileFault line=3 kind=7 Duplicate\n",
         ),
         ("export", HEADER),
+        ("import bob file=8086++I", "refused 4 NoAccount\n"),
+        ("account root who=bob&rank=1", "ok\n"),
+        ("import bob file=8086++I", "refused 5 RankTooLow\n"),
+        ("import bob file=junk", "refused 5 RankTooLow\n"),
+        ("export", HEADER),
+    ],
+    "imports of many kinds": [
+        ("import root key=k1&file=8086++Intel", "ok added=1 renamed=0 same=0\n"),
+        ("import root key=k1&file=junk", "ok added=1 renamed=0 same=0\n"),
+        (
+            "import root file=10ec++Realtek%0A8086++Intel+Corporation%0A%091237++440FX",
+            "ok added=2 renamed=1 same=0\n",
+        ),
+        ("import root file=", "ok added=0 renamed=0 same=0\n"),
+        ("import root file=%23+nothing", "ok added=0 renamed=0 same=0\n"),
+        ("export", HEADER + "10ec  Realtek\n8086  Intel Corporation\n\t1237  440FX\n"),
+    ],
+    "keys": [
+        ("account root who=bob&rank=2&key=a1", "ok\n"),
+        ("account root who=bob&rank=0&key=a1", "ok\n"),
+        ("submit bob path=PC/8086&name=Intel&key=s1", "ok 1\n"),
+        ("submit root path=PC/8086&name=I&key=s1", "ok 2\n"),
+        ("submit bob path=PC/10ec&name=Realtek&key=s1", "ok 1\n"),
+        ("comment bob num=9&text=seen&key=s1", "ok 1\n"),
+        ("reject root num=3&reason=no&key=r1", "refused 7 NoSubmission\n"),
+        ("reject root num=1&reason=no&key=r1", "ok\n"),
+        ("approve root num=1&key=r1", "ok\n"),
+        ("approve root num=1", "refused 8 NotPending\n"),
+        ("approve bob num=2", "ok\n"),
+        ("account root who=bob&rank=1", "ok\n"),
+        ("approve bob num=2", "refused 8 NotPending\n"),
+        ("import bob file=8086++Intel", "refused 5 RankTooLow\n"),
+        ("export", HEADER + "8086  I\n"),
+    ],
+    "removals of all kinds": [
+        (
+            (
+                "import root file=8086++a%0A%091237++b%0A%09%091af4+1100++c%0AS+8086%0A%090001++d"
+                "%0AC+01++e%0A%0901++f%0A%09%0980++g"
+            ),
+            "ok added=7 renamed=0 same=0\n",
+        ),
+        ("account root who=bob&rank=0", "ok\n"),
+        ("submit bob path=PC/8086&remove=yes", "ok 1\n"),
+        ("submit bob path=PC/8086/1237&remove=yes", "ok 2\n"),
+        ("submit bob path=PC/8086/1237/1af41100&remove=yes", "ok 3\n"),
+        ("submit bob path=PS/8086/0001&remove=yes", "ok 4\n"),
+        ("submit bob path=PD/01&remove=yes", "ok 5\n"),
+        ("submit bob path=PD/01/01&remove=yes", "ok 6\n"),
+        ("submit bob path=PD/01/01/80&remove=yes", "ok 7\n"),
+        ("approve root num=2", "refused 12 HasChildren\n"),
+        ("approve root num=3", "ok\n"),
+        ("approve root num=2", "ok\n"),
+        ("approve root num=1", "refused 12 HasChildren\n"),
+        ("approve root num=4", "ok\n"),
+        ("approve root num=1", "ok\n"),
+        ("approve root num=5", "refused 12 HasChildren\n"),
+        ("approve root num=6", "refused 12 HasChildren\n"),
+        ("approve root num=7", "ok\n"),
+        ("approve root num=6", "ok\n"),
+        ("approve root num=5", "ok\n"),
+        ("export", HEADER),
+    ],
+    "the longest texts": [
+        (f"account root who={'a' * 32}&rank=2&key={'k' * 64}", "ok\n"),
+        (
+            f"submit {'a' * 32} path=PC/8086&name={'n' * 1000}&note={'t' * 4000}&key={'k' * 64}",
+            "ok 1\n",
+        ),
+        (f"comment root num=1&text={'t' * 4000}", "ok\n"),
+        (f"reject root num=1&reason={'t' * 4000}", "ok\n"),
+        (f"reject root num=1&reason={'t' * 4000}", "refused 8 NotPending\n"),
+        (f"submit root path=PC/8086&name={'n' * 1000}&note={'t' * 4000}", "ok 2\n"),
+        (f"approve {'a' * 32} num=2", "ok\n"),
+        (f"submit {'a' * 32} path=PC/8086&name={'n' * 1000}&note={'t' * 4000}", "ok 3\n"),
+        ("approve root num=3", "refused 13 NothingToDo\n"),
+        (f"withdraw {'a' * 32} num=3", "ok\n"),
     ],
     "limits": [
         ("account root who=bob&rank=1", "ok\n"),
@@ -135,6 +212,9 @@ ROWS = {
             "flags=40010&class=0101&progif=00": "text  [00]",
             "flags=10&class=0101&progif=10": "text ProgIf 10",
             "flags=10&class=0102&progif=8a": "text ProgIf 8a",
+            "flags=10&class=0101&progif=8f": "text Master SecP SecO PriP PriO",
+            "flags=10&class=0101&progif=05": "text SecO PriO",
+            "flags=10&class=0101&progif=00&size=0": TOO_SMALL,
         },
     ),
     "look-ups into small buffers": look_ups(
@@ -147,6 +227,25 @@ ROWS = {
             "flags=1&vendor=8086&size=0": TOO_SMALL,
             # Cut within a character: the byte is written as surrogateescape has it.
             "flags=1&vendor=1d00&size=9": "text Soci\udcc3...",
+            **{
+                f"flags=1&vendor=8086&size={size}": f"text {'Intel Corpora'[:size - 4]}..."
+                for size in range(4, 18)
+            },
+            "flags=1&vendor=8086&size=1": TOO_SMALL,
+            "flags=1&vendor=8086&size=2": TOO_SMALL,
+            "flags=5&size=0": INVALID,
+            "flags=10000&size=4": INVALID,
+        },
+    ),
+    "look-ups of a long name": look_ups(
+        f"8086  {'n' * 1000}",
+        {
+            "flags=1&vendor=8086&size=999": f"text {'n' * 995}...",
+            "flags=1&vendor=8086&size=1000": f"text {'n' * 996}...",
+            **{
+                f"flags=1&vendor=8086&size={size}": f"text {'n' * 1000}"
+                for size in (1001, 1024, 65_535, 65_536, 999_999_999)
+            },
         },
     ),
     "look-ups of subsystems": look_ups(
@@ -160,12 +259,26 @@ ROWS = {
             "flags=b&vendor=8086&device=1237&subvendor=8086&subdevice=1237": (
                 "text Intel Corporation 440FX"
             ),
+            (
+                "size=000000012&class=0101&subdevice=1100&vendor=8086&flags=0004000b"
+                "&subvendor=1AF4&device=1237&progif=8A"
+            ): "text Red Hat,...",
         },
     ),
     "look-ups of generic subsystems": look_ups(
         "1af4  Red Hat\n\t0000  Zero\n\t\t1af4 1100  Per device\nS 1af4\n\t1100  Generic\n",
         {
             "flags=a&vendor=1af4&device=0000&subvendor=1af4&subdevice=1100": "text Generic",
+        },
+    ),
+    "look-ups of an own subsystem": look_ups(
+        "1af4  Red Hat\n\t0000  Zero\n\t\t1af4 1100  Per device\n\t1000  Net\n"
+        "\t\t1af4 1100  Per net\n\t1100  Own\nS 1af4\n\t1100  Generic\n",
+        {
+            "flags=a&vendor=1af4&device=0000&subvendor=1af4&subdevice=1100": "text Generic",
+            "flags=a&vendor=1af4&device=1000&subvendor=1af4&subdevice=1100": "text Per net",
+            "flags=a&vendor=1af4&device=1100&subvendor=1af4&subdevice=1100": "text Generic",
+            "flags=a&vendor=1af4&device=0000&subvendor=1af4&subdevice=0000": "text Zero",
         },
     ),
     "look-ups after another import": look_ups(A_CARD, {}) + [
@@ -189,6 +302,8 @@ ROWS = {
             "flags=30001&vendor=8086": "refused 26 BadFlags",
             "flags=80001&vendor=8086": "refused 26 BadFlags",
             "flags=30000&vendor=8086": "refused 26 BadFlags",
+            "flags=80000001&vendor=8086": "refused 26 BadFlags",
+            "flags=b0000&vendor=8086": "refused 26 BadFlags",
             "flags=0&vendor=8086": INVALID,
             "flags=5&vendor=8086": INVALID,
             "flags=20&vendor=8086": INVALID,

@@ -1,0 +1,257 @@
+"""Histories that are drawn, through the program and through a slow registry: the same replies to
+all commands, and the same answers to all questions. The registry's file is opened again and again,
+by scripts, and by servers, which are killed."""
+import json
+import os
+import random
+from urllib.parse import urlencode
+
+import pytest
+
+import refusals
+from answer_texts import as_json, as_text
+from generated import ACCOUNTS, NAMES, PATHS, Commands
+from http_server import Server, posted, read_reply
+from old_registry import canonical
+from program import WHOLE
+from registry import asked, work
+from shims import SAMPLE
+from slow_registry import Refused, SlowRegistry, check_who, command_of
+
+STATUSES = {number: status for number, (_, status) in refusals.shown().items()}
+# Commands in a session at most, after how many everything is asked, and how many make a history.
+SESSION, EACH, HISTORY = 24, 8, 500
+# Items, submissions and remarks of a history that begins with more than pages have.
+MANY = 130
+
+
+def told(question, *words):
+    """The answer to a question, or its refusal."""
+    try:
+        return question(*words)
+    except Refused as refused:
+        return refused.told
+
+
+class History:
+    """The same commands for both, over one file."""
+
+    def __init__(self, cases, path, seed):
+        self.cases, self.path, self.seed = cases, path, seed
+        self.slow, self.random = SlowRegistry(), random.Random(seed)
+        self.commands, self.count = Commands(self.slow, seed), 0
+
+    def expect(self, asked, got, want):
+        """Compares. After a difference there is nothing more to compare."""
+        at = f"history {self.seed}, command {self.count}: {asked}"
+        self.cases.equal(at, got, want)
+        if got != want:
+            pytest.fail(f"PCIIDS_SAMPLE={SAMPLE}: {at}", pytrace=False)
+
+    def draw(self):
+        self.count += 1
+        return self.commands.one()
+
+    # Scripts.
+
+    def line_and_reply(self, verb, account, key, pairs):
+        """The line of a command, and its reply."""
+        # What is not UTF-8 in a field is replaced as it is decoded.
+        pairs = [(name, value.decode(errors="replace") if name == "file" else value)
+                 for name, value in pairs]
+        fields = pairs + [("key", key)] * (key is not None)
+        self.random.shuffle(fields)
+        read = [(name, value.encode() if name == "file" else value) for name, value in pairs]
+        reply = told(lambda: self.slow.obey(command_of(verb, account, key, read)))
+        return f"{verb} {account} {urlencode(fields)}", as_text(reply)
+
+    def questions_of_scripts(self):
+        path = self.random.choice((*PATHS, "PC/80A6"))
+        item, vendor = told(self.slow.read, path), self.slow.names().get("PC/8086")
+        yield f"read path={path}", f"name {item['name']}\n" if "name" in item else as_text(item)
+        yield "lookup flags=1&vendor=8086", f"text {vendor or 'Vendor 8086'}\n"
+        yield "export", self.slow.text().decode()
+
+    def run_script(self, rows):
+        """Runs a script of rows: lines, each with its reply."""
+        out, err, status = work("".join(f"{line}\n" for line, _ in rows).encode(),
+                                "script", "--db", self.path)
+        for line, reply in rows:
+            got, out = out[:len(reply.encode())], out[len(reply.encode()):]
+            self.expect(line, got.decode(errors="replace"), reply)
+        self.expect("the end of a script", (out, err, status), (b"", b"", 0))
+
+    def session_of_script(self, commands):
+        rows = []
+        for number, command in enumerate(commands):
+            rows.append(self.line_and_reply(*command))
+            if number % EACH == 0:
+                rows += self.questions_of_scripts()
+        self.run_script(rows)
+
+    # HTTP.
+
+    def send(self, verb, account, key, pairs):
+        """A command, and its reply in one of the formats."""
+        def reply():
+            check_who(account, key)
+            return self.slow.obey(command_of(verb, account, key, pairs))
+
+        body = pairs[0][1] if verb == "import" else urlencode(pairs).encode()
+        target, fields = f"/{verb}", [f"X-Key: {key}"] * (key is not None)
+        self.expect_answer(target, told(reply), lambda it: posted(it, account, body, *fields))
+
+    def expect_answer(self, target, want, request, formats=None):
+        for form in formats or [self.random.choice(("", "json", "text"))]:
+            asked = f"{target}{'&' if '?' in target else '?'}format={form}" if form else target
+            self.client.sendall(request(asked))
+            body = as_text(want).encode() if form == "text" else as_json(want)
+            status = STATUSES[want["refused"]] if "refused" in want else 200
+            self.expect(asked, read_reply(self.stream), (status, body))
+
+    def ask(self, target, want, formats=("json", "text")):
+        def request(it):
+            return f"GET {it} HTTP/1.1\r\n\r\n".encode()
+
+        self.expect_answer(target, want, request, formats)
+
+    def ask_pages(self, words, want):
+        """The pages of a list of submissions, each of which says where the next one begins."""
+        rows, before = [], words.get("before", 0)
+        while not rows or before:
+            query = urlencode({**words, "before": before})
+            self.client.sendall(f"GET /submissions?{query} HTTP/1.1\r\n\r\n".encode())
+            page = json.loads(read_reply(self.stream)[1])
+            self.expect("the rows of a page", len(page["submissions"]) <= 100, True)
+            rows, before = rows + page["submissions"], page["before"]
+            if before == 0:
+                break
+        self.expect(f"/submissions: {words}", rows, want)
+
+    def ask_everything(self):
+        slow, chance = self.slow, self.random
+        rows, revision = len(slow.submissions()), len(slow.accepted)
+        self.client.sendall(b"GET /pci.ids HTTP/1.1\r\n\r\n")
+        self.expect("/pci.ids", read_reply(self.stream), (200, slow.text()))
+        for path in chance.sample((*PATHS, "PC/80A6", "PD"), 4):
+            self.ask(f"/read/{path}", told(slow.read, path))
+            self.ask(f"/children?of={path}", told(slow.children, path))
+        self.ask("/children", slow.children(""))
+        for number in (chance.randint(1, rows + 1), "0", "01"):
+            self.ask(f"/submission/{number}", told(slow.submission, str(number)))
+        for after in (0, chance.randint(0, rows)):
+            self.ask(f"/pending?after={after}", slow.pending(after))
+            self.ask(f"/queue?after={after}", slow.queue(after))
+        for since, after in (0, ""), (chance.randint(0, revision), chance.choice(("", *PATHS))):
+            self.ask(f"/changes?since={since}&after={after}", slow.changes(since, after))
+        self.ask("/status", slow.status())
+        for who in (*ACCOUNTS, "carol"):
+            self.ask(f"/account?who={who}", told(slow.account, who))
+        for path in ("", chance.choice(PATHS)):
+            for author in (None, chance.choice(ACCOUNTS)):
+                before = chance.choice((0, chance.randint(1, rows + 2)))
+                words = {"path": path, "before": before, **({"author": author} if author else {})}
+                self.ask_pages(words, slow.listed(path, author, before))
+
+    def session_of_server(self, commands):
+        with Server(self.path, program=WHOLE) as server, server.connect() as self.client:
+            self.stream = self.client.makefile("rb")
+            for number, command in enumerate(commands):
+                self.send(*command)
+                if number % EACH == 0:
+                    self.ask_everything()
+
+    def go_on(self):
+        """Sessions of scripts and of servers in turn, until the history has its commands."""
+        sessions = [self.session_of_script, self.session_of_server]
+        while self.count < HISTORY:
+            count = self.random.randint(1, SESSION)
+            sessions[0](self.draw() for _ in range(count))
+            sessions.reverse()
+
+
+def many(history):
+    """More items, submissions and remarks than a page has."""
+    devices = "".join(f"\t{number:04x}  {NAMES[0]}\n" for number in range(MANY))
+    yield "import", "root", None, [("file", f"10ec  Many\n{devices}".encode())]
+    for number in range(MANY):
+        path = PATHS[2] if number % 3 else f"PC/8086/{number:04x}"
+        yield "submit", "root", None, [("path", path), ("name", f"{number}")]
+        yield "comment", "root", None, [("num", "1"), ("text", f"{number}")]
+
+
+@pytest.mark.parametrize("number", range(3))
+def test_near(cases, room, number):
+    """Of few paths, accounts and keys."""
+    history = History(cases, os.path.join(room, "near.db"), SAMPLE + number)
+    history.go_on()
+
+
+def test_many(cases, room):
+    """From more than pages have."""
+    history = History(cases, os.path.join(room, "many.db"), SAMPLE)
+    history.session_of_script(many(history))
+    history.go_on()
+
+
+# Paths of items with others below and without, and of others with a parent and without; and the
+# names of the items.
+EACH_PATH = ("PC/8086", "PC/10ec", "PC/1af4", "PC/8086/1237", "PC/8086/7000", "PC/1af4/1000",
+             "PC/8086/1237/1af41100", "PD/01/01", "PS/8086/1100")
+ITEMS = {**dict.fromkeys(EACH_PATH, NAMES[0]), "PD/01": NAMES[0]}
+for missing in ("PC/1af4", "PC/8086/7000", "PC/1af4/1000"):
+    del ITEMS[missing]
+RANKS = {"adm": "3", "mona": "2", "bob": "1", "sue": "0"}
+
+
+def each_submission(registry):
+    """Commands after which there is an account of each rank, and a submission of each kind."""
+    for who, rank in RANKS.items():
+        yield "account", "root", None, [("who", who), ("rank", rank)]
+    yield "import", "root", "used", [("file", canonical(ITEMS))]
+    for author in ("mona", "bob"):
+        for path in EACH_PATH:
+            for proposal in (("name", NAMES[0]), ("name", NAMES[1]), ("remove", "yes")):
+                yield "submit", author, None, [("path", path), proposal]
+    for verb, by, more in (("withdraw", "bob", []), ("reject", "mona", [("reason", "no")]),
+                           ("approve", "mona", [])):
+        for proposal in (("name", verb), ("remove", "yes")):
+            yield "submit", "bob", None, [("path", "PC/10ec"), proposal]
+            yield verb, by, None, [("num", str(len(registry.submissions()))), *more]
+
+
+def each_command(registry):
+    """Each command by each account on each submission, and on one that is not there."""
+    rows, names = registry.submissions(), registry.names()
+    for account in (*RANKS, "root", "joe"):
+        for row in [*rows, {"num": len(rows) + 1, "path": ""}]:
+            number, now = ("num", str(row["num"])), names.get(row["path"], "")
+            for verb in ("approve", "withdraw"):
+                yield verb, account, None, [number]
+            for was in ("", now or "a", NAMES[1]):
+                yield "confirm", account, None, [number, ("was", was)]
+            yield "reject", account, None, [number, ("reason", "no")]
+            yield "comment", account, None, [number, ("text", "seen")]
+        for who in (*RANKS, "root", "joe"):
+            for rank in "0123":
+                yield "account", account, None, [("who", who), ("rank", rank)]
+        for key in (None, "used"):
+            yield "submit", account, key, [("path", "PC/1af4"), ("name", NAMES[0])]
+            for file in (canonical(ITEMS), b"8086 ", b"1af4  New"):
+                yield "import", account, key, [("file", file)]
+
+
+@pytest.mark.needs("sqlite3")
+def test_each_check(cases, room):
+    """In a registry that counts no more commands, what passes all other checks is refused as full.
+    So each command is judged over the same history."""
+    history = History(cases, os.path.join(room, "full.db"), 0)
+    slow = history.slow
+    history.session_of_script(each_submission(slow))
+    sql = "UPDATE meta SET value = 9000000000000000000 WHERE label = 'revision'"
+    history.expect("the revision is set", asked(history.path, sql), "")
+    slow.is_full = True
+    rows = [history.line_and_reply(*it) for it in each_command(slow)]
+    numbers = {int(reply.split()[1]) for _, reply in rows if reply.startswith("refused")}
+    cases.equal("all refusals", numbers, {4, 5, 7, 8, 9, 10, 11, 12, 13, 14, 15, 30})
+    history.run_script(rows)
