@@ -117,8 +117,8 @@ class History:
 
     def ask_pages(self, words, want):
         """The pages of a list of submissions, each of which says where the next one begins."""
-        rows, before = [], words.get("before", 0)
-        while not rows or before:
+        rows, before = [], words["before"]
+        for _ in range(len(want) + 2):
             query = urlencode({**words, "before": before})
             self.client.sendall(f"GET /submissions?{query} HTTP/1.1\r\n\r\n".encode())
             page = json.loads(read_reply(self.stream)[1])
@@ -126,7 +126,7 @@ class History:
             rows, before = rows + page["submissions"], page["before"]
             if before == 0:
                 break
-        self.expect(f"/submissions: {words}", rows, want)
+        self.expect(f"/submissions: {words}", (rows, before), (want, 0))
 
     def ask_everything(self):
         slow, chance = self.slow, self.random

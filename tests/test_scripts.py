@@ -149,6 +149,19 @@ class Lines:
         return told(self.process.pid, "VmHWM")
 
 
+def test_large_buffers(cases):
+    """A look-up takes the memory of its text, however many bytes may be answered."""
+    with Lines() as script:
+        script.reply(b"import root file=8086++" + b"n" * 1_000)
+        line = b"lookup flags=1&vendor=8086&size="
+        want = b"text " + b"n" * 1_000 + b"\n"
+        cases.equal("script: a buffer of 1,024 bytes", script.reply(line + b"1024"), want)
+        before = script.held()
+        cases.equal("script: a large buffer", script.reply(line + b"999999999"), want)
+        took = script.held() - before
+        cases.equal(f"script: a large buffer took {took} KiB", took <= KIB, True)
+
+
 @pytest.mark.parametrize("start", (b"submit root ", b"read ", b"lookup "))
 @pytest.mark.parametrize("length", (4_194_304, 16_777_216))
 def test_many_fields(cases, start, length):
