@@ -1,10 +1,12 @@
 """A registry's file, made by the program's words, as the real sqlite3 sees it."""
 import os
+import re
 import shutil
 import subprocess
 
 import pytest
 
+import refusals
 from http_server import JSON, TEXT, Server, posted
 from program import HEADER, REAL_FILE, WHOLE
 from registry import asked, bring_in, copied, moderated, script, texts_of_schema, work
@@ -435,6 +437,24 @@ def test_last_revision(cases, folder):
     cases.equal(
         "last revision: meta as it was", asked(path, "SELECT * FROM meta ORDER BY label"), rows
     )
+
+
+# The limits of docs/REGISTRY.md and their names in the definitions.
+MOST = {
+    "items of the registry": "most_items",
+    "submissions": "most_submissions",
+    "remarks on one submission": "most_remarks",
+    "commands that are counted": "most_revision",
+}
+
+
+def test_limits(cases):
+    """The definitions have the limits of the page: that of submissions no test can reach."""
+    page, text = refusals.text_of("docs", "REGISTRY.md"), refusals.spec("pid_moderation", "CheckTables")
+    for what, name in MOST.items():
+        shown = re.search(rf"^\| {what} \| ([0-9,]+) \| 15 \|$", page, re.M)
+        defined = re.search(rf"^{name} = (\d+)$", text, re.M)
+        cases.equal(what, int(defined[1]), int(shown[1].replace(",", "")))
 
 
 def test_most_items(cases, folder):
