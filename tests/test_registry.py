@@ -450,7 +450,8 @@ MOST = {
 
 def test_limits(cases):
     """The definitions have the limits of the page: that of submissions no test can reach."""
-    page, text = refusals.text_of("docs", "REGISTRY.md"), refusals.spec("pid_moderation", "CheckTables")
+    page = refusals.text_of("docs", "REGISTRY.md")
+    text = refusals.spec("pid_moderation", "CheckTables")
     for what, name in MOST.items():
         shown = re.search(rf"^\| {what} \| ([0-9,]+) \| 15 \|$", page, re.M)
         defined = re.search(rf"^{name} = (\d+)$", text, re.M)
