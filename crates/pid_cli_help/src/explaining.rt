@@ -20,25 +20,23 @@ pub fn tell_input(rt: &HostRuntime, what: &str) {
 /// Says which standard stream failed and why, if the exit status is 3; or what the input looks like
 /// that was refused, if it is 1.
 pub fn explain_streams(rt: &HostRuntime, status: u8, input: &Met, output: &Met) {
-    match (status, input.looks, input.fault, output.fault) {
-        (1, Some(looks), _, _) => {
-            let _ = write!(rt.stderr(), "pciids: standard input {looks}\n");
-        }
-        (3, _, Some(fault), _) => {
-            let reason = reason_of(fault);
-            let _ = write!(
-                rt.stderr(),
-                "pciids: cannot read standard input: {reason}\n"
-            );
-        }
-        (3, _, _, Some(fault)) if fault != ErrorKind::BrokenPipe => {
-            let reason = reason_of(fault);
-            let _ = write!(
-                rt.stderr(),
-                "pciids: cannot write standard output: {reason}\n"
-            );
-        }
-        _ => {}
+    if let Some((front, why)) = reason_for(status, input, output) {
+        let _ = write!(rt.stderr(), "pciids: {front} {why}\n");
+    }
+}
+
+// What to say of the streams: which one, and why.
+fn reason_for(status: u8, input: &Met, output: &Met) -> Option<(&'static str, &'static str)> {
+    match status {
+        1 => Some(("standard input", input.looks?)),
+        3 => match input.fault {
+            Some(fault) => Some(("cannot read standard input:", reason_of(fault))),
+            None => match output.fault? {
+                ErrorKind::BrokenPipe => None,
+                fault => Some(("cannot write standard output:", reason_of(fault))),
+            },
+        },
+        _ => None,
     }
 }
 

@@ -8,31 +8,40 @@ const ALIKE: f64 = 0.7;
 
 /// The usage, after a tip if the word is like a command.
 pub fn usage_after(alloc: Global, word: &str) -> Result<String, AllocError> {
-    let similar = similar_to(alloc, word)?;
+    let mut similar = Vec::new(alloc);
+    add_similar(alloc, &mut similar, word)?;
     let mut text = String::new(alloc);
+    add_tip(&mut text, similar.as_slice())?;
+    Ok(text)
+}
+
+// Writes the tip and the usage. What owns nothing costs the prover little at each exit.
+fn add_tip(text: &mut String, similar: &[(f64, &'static str)]) -> Result<(), AllocError> {
     text.push_str(match similar.len() {
         0 => "",
         1 => "  tip: a similar subcommand exists: ",
         _ => "  tip: some similar subcommands exist: ",
     })?;
-    for (place, (_, command)) in similar.iter().enumerate() {
-        text.push_str(if place == 0 { "'" } else { ", '" })?;
+    let mut front = "'";
+    for (_, command) in similar {
+        text.push_str(front)?;
         text.push_str(command)?;
-        text.push_str("'")?;
+        front = "', '";
     }
-    text.push_str(if similar.is_empty() { "" } else { "\n\n" })?;
-    text.push_str(USAGE_PAGE)?;
-    Ok(text)
+    text.push_str(if similar.is_empty() { "" } else { "'\n\n" })?;
+    text.push_str(USAGE_PAGE)
 }
 
-// The commands that are like a word, each after those that are less so.
-fn similar_to(alloc: Global, word: &str) -> Result<Vec<(f64, &'static str)>, AllocError> {
-    let mut similar = Vec::new(alloc);
-    for (command, _) in COMMANDS {
-        add_if_like(alloc, &mut similar, word, command)?;
+// Adds the commands that are like a word, each after those that are less so.
+fn add_similar(
+    alloc: Global,
+    similar: &mut Vec<(f64, &'static str)>,
+    word: &str,
+) -> Result<(), AllocError> {
+    for (command, _) in &COMMANDS {
+        add_if_like(alloc, similar, word, command)?;
     }
-    add_if_like(alloc, &mut similar, word, "help")?;
-    Ok(similar)
+    add_if_like(alloc, similar, word, "help")
 }
 
 fn add_if_like(
@@ -43,10 +52,20 @@ fn add_if_like(
 ) -> Result<(), AllocError> {
     let likeness = jaro(alloc, word, command)?;
     if likeness > ALIKE {
-        let place = similar.iter().filter(|it| it.0 <= likeness).count();
+        let place = place_of(similar.as_slice(), likeness);
         if place <= similar.len() {
             similar.insert(place, (likeness, command))?;
         }
     }
     Ok(())
+}
+
+// After those that are not more alike.
+fn place_of(similar: &[(f64, &'static str)], likeness: f64) -> usize {
+    for (place, (other, _)) in similar.iter().enumerate() {
+        if *other > likeness {
+            return place;
+        }
+    }
+    similar.len()
 }
