@@ -1,5 +1,5 @@
 -- A command that breaks its form.
-use Rattle.std.proofs.Common.{◌≡◌, ℕ, List, length, true, false, Bool, Result, Err, refl, sym, ap, subst, ◌∙◌}
+use Rattle.std.proofs.Common.{◌≡◌, ℕ, List, length, true, false, Bool, Err, refl, sym, ap}
 use Rattle.std.specs.Prelude.{if◌then◌else◌, nat_lt}
 use Rattle.pid_file.specs.Lines.{lines_of}
 use Rattle.pid_file.specs.Reading.{entries_of, refused}

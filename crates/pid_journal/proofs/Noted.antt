@@ -1,5 +1,5 @@
 -- A command whose entry was written: what its end leaves.
-use Rattle.std.proofs.Common.{◌≡◌, ◌⊎◌, inl, inr, ℕ, Bool, true, false, List, [], ◌++◌, length, Option, Some, None, Result, Ok, Err, refl, sym, ap, subst, ◌∙◌, append_assoc, append-nil}
+use Rattle.std.proofs.Common.{◌≡◌, ◌⊎◌, inl, inr, ℕ, true, false, List, [], ◌++◌, length, Option, Some, None, Result, Ok, Err, refl, sym, ap, subst, ◌∙◌, append_assoc, append-nil}
 use Rattle.std.specs.Prelude.{IfSome, IsErrAnd}
 use Rattle.pid_moderation.specs.declared.command.Reply.{Reply}
 use Rattle.pid_moderation.specs.declared.refusal.Refusal.{Refusal}
@@ -7,15 +7,14 @@ use Rattle.pid_moderation.specs.History.{Asked, History}
 use Rattle.pid_moderation.specs.Judgement.{after, answer, judge}
 use Rattle.pid_moderation.specs.Views.{views_of}
 use Rattle.pid_service_laws.specs.Outcomes.{IsMemoryOrStore, is_outcome}
-use Rattle.pid_service_laws.specs.Registries.{CommandLeaves, Showing}
+use Rattle.pid_service_laws.specs.Registries.{CommandLeaves}
 use Rattle.pid_service_laws.specs.declared.moderated.Moderated.{Ghosts}
 use Rattle.pid_journal.specs.declared.file.JournalFile as files
 use Rattle.pid_journal.specs.declared.journaled.Journaled.{Journaled}
 use Rattle.pid_journal.specs.Doubts.{IsInDoubt}
-use Rattle.pid_journal.specs.Files.{LeavesPart}
 use Rattle.pid_journal.specs.Journals.{IsEntry, JournalLeads}
 use Rattle.pid_journal.specs.Pairs.{PairFailsBetween, PairShows, pair_showing, pair_showing_from}
-use Rattle.pid_journal.specs.Steps.Parts.{IsProbed, IsCutBack}
+use Rattle.pid_journal.specs.Steps.Parts.{IsCutBack}
 use Rattle.pid_journal.proofs.Appending.{appended}
 
 -- a part of an entry after the text of a journal

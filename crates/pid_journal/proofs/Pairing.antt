@@ -1,13 +1,12 @@
 -- A registry with a journal in front of it is a registry under moderation.
-use Rattle.std.proofs.Common.{◌≡◌, ◌⊎◌, inl, inr, ℕ, Bool, true, false, List, Some, Result, Ok, Err, refl, sym, ap, subst, ◌∙◌}
-use Rattle.std.specs.Prelude.{IsErrAnd, MatchResult, not, ◌&&◌}
+use Rattle.std.proofs.Common.{◌≡◌, inl, inr, Bool, true, false, Result, Err, refl, sym, ap, subst}
 use Rattle.pid_moderation.specs.declared.command.Reply.{Reply}
 use Rattle.pid_moderation.specs.declared.refusal.Refusal.{Refusal}
 use Rattle.pid_moderation.specs.declared.refusal.Refusal.TheVariants.{Failed}
 use Rattle.pid_moderation.specs.History.{Asked, History}
 use Rattle.pid_service_laws.specs.Calls.{nothing_sent, obeyed}
 use Rattle.pid_service_laws.specs.Questions.{IsAsked, ShowsWhileLive}
-use Rattle.pid_service_laws.specs.Registries.{CommandLeaves, Does, Showing}
+use Rattle.pid_service_laws.specs.Registries.{CommandLeaves, Does}
 use Rattle.pid_service_laws.specs.declared.moderated.Moderated.{Ghosts}
 use Rattle.pid_service_laws.proofs.Calling.{looked_does, obeyed_does}
 use Rattle.pid_journal.specs.declared.file.JournalFile as files

@@ -4,10 +4,10 @@ use Rattle.std.specs.Prelude.{nat_lt, not}
 use Rattle.std.specs.Str.{is_utf8}
 use Rattle.pid_file.proofs.Cuts.{ended_line, open_line}
 use Rattle.pid_file.specs.Lines.{drop_cr}
-use Rattle.pid_file.specs.WholeLines.{ended_pieces, open_part, whole_lines}
+use Rattle.pid_file.specs.WholeLines.{ended_pieces}
 use Rattle.pid_moderation.specs.History.{Asked}
 use Rattle.pid_script.specs.Replies.{command_of, commands_of_lines}
-use Rattle.pid_script.specs.ScriptLines.{LONGEST, Ask, AsksNothing, TooLong, Unclear, ask_of, is_idle_line, text_ask}
+use Rattle.pid_script.specs.ScriptLines.{LONGEST, Ask, AsksNothing, TooLong, Unclear, ask_of, is_idle_line}
 use Rattle.pid_journal.specs.Journals.{IsEntry}
 
 says_none : (long fits idle : Bool) (other : Ask) → idle ≡ true → command_of (cond long TooLong (cond (not fits) Unclear (cond idle AsksNothing other))) ≡ []

@@ -6,7 +6,6 @@ use Rattle.pid_file.specs.WholeLines.{ended_pieces, open_part, whole_lines}
 use Rattle.pid_moderation.specs.History.{Asked, History}
 use Rattle.pid_moderation.specs.Judgement.{after, after_all}
 use Rattle.pid_script.specs.Replies.{commands_of_lines, history_after}
-use Rattle.pid_journal.specs.Doubts.{IsInDoubt}
 use Rattle.pid_journal.specs.Journals.{IsEntry, JournalLeads}
 use Rattle.pid_journal.specs.Laws.{DoubtsLeaveEither, JournalsAreScripts}
 use Rattle.pid_journal.proofs.Appending.{after_both, commands_both, whole_both}

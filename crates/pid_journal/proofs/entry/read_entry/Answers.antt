@@ -1,4 +1,4 @@
-use Rattle.std.proofs.Common.{◌≡◌, true, List, [], ℕ, Result, Ok, Err, IfOk, refl, sym, ap, ◌∙◌, ◌∷◌, length, nat_eq}
+use Rattle.std.proofs.Common.{◌≡◌, true, List, [], ℕ, Result, Ok, Err, IfOk, sym, ap, ◌∙◌, ◌∷◌, length}
 use Rattle.std.specs.Prelude.{◌==◌}
 use Rattle.std.proofs.Common.{arith}
 use Rattle.std.proofs.lemmas.Bool.Decides.{nat_tests}

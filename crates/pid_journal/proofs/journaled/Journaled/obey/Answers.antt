@@ -1,9 +1,8 @@
-use Rattle.std.proofs.Common.{◌≡◌, inl, inr, ℕ, List, Result, Ok, Err, refl, sym, ap, subst, ◌∙◌}
+use Rattle.std.proofs.Common.{inl, inr, ℕ, List, Result, Err, sym, ap, subst, ◌∙◌}
 use Rattle.pid_moderation.specs.declared.lists.Status.{Status}
 use Rattle.pid_moderation.specs.declared.refusal.Refusal.{Refusal}
 use Rattle.pid_moderation.specs.declared.refusal.Refusal.TheVariants.{Failed}
 use Rattle.pid_moderation.specs.Files.{asks, reading_of}
-use Rattle.pid_moderation.specs.History.{History}
 use Rattle.pid_moderation.specs.Views.{views_of}
 use Rattle.pid_journal.specs.Journals.{IsEntry}
 use Rattle.pid_journal.specs.Pairs.{PairShows}

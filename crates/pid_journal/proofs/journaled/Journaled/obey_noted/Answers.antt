@@ -1,6 +1,5 @@
-use Rattle.std.proofs.Common.{◌≡◌, ◌⊎◌, inl, inr, ℕ, List, [], ◌++◌, length, Option, Some, Err, refl, sym, ap, subst, ◌∙◌, append-nil, true, false}
+use Rattle.std.proofs.Common.{inl, inr, [], refl, sym, subst, append-nil, true, false}
 use Rattle.pid_moderation.specs.Files.{asks}
-use Rattle.pid_moderation.specs.History.{History}
 use Rattle.pid_moderation.specs.Judgement.{after}
 use Rattle.pid_moderation.specs.Views.{views_of}
 use Rattle.pid_journal.specs.Steps.Parts.{IsCutBack}
