@@ -7,7 +7,7 @@
 //! go past the journal. `laws` says to which history a journal leads.
 //!
 //! An entry is read back before it is written. So it never says another command than the one that
-//! is obeyed.
+//! is obeyed; that each kind of command has an entry is tested.
 #![tactic(auto)]
 
 mod beginning;

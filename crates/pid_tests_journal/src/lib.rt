@@ -1,0 +1,10 @@
+//! Tests of a registry with a journal in front of it, over memory. They call public functions
+//! alone.
+#![tactic(auto)]
+
+#[cfg(test)]
+mod faults;
+#[cfg(test)]
+mod paper;
+#[cfg(test)]
+mod replays;
