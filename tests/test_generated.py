@@ -196,11 +196,10 @@ def test_many(cases, room):
 
 # Paths of items with others below and without, and of others with a parent and without; and the
 # names of the items.
-EACH_PATH = ("PC/8086", "PC/10ec", "PC/1af4", "PC/8086/1237", "PC/8086/7000", "PC/1af4/1000",
-             "PC/8086/1237/1af41100", "PD/01/01", "PS/8086/1100")
-ITEMS = {**dict.fromkeys(EACH_PATH, NAMES[0]), "PD/01": NAMES[0]}
-for missing in ("PC/1af4", "PC/8086/7000", "PC/1af4/1000"):
-    del ITEMS[missing]
+MISSING = ("PC/1af4", "PC/8086/7000", "PC/1af4/1000", "PD/02")
+EACH_PATH = ("PC/8086", "PC/10ec", "PC/8086/1237", "PC/8086/1237/1af41100", "PD/01", "PD/01/01",
+             "PD/01/01/80", "PS/8086/1100", *MISSING)
+ITEMS = {path: NAMES[0] for path in EACH_PATH if path not in MISSING}
 RANKS = {"adm": "3", "mona": "2", "bob": "1", "sue": "0"}
 
 
