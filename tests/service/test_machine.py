@@ -452,6 +452,89 @@ def signed(story):
     story.machine.run(f"rm {hook}")
 
 
+def replaced(story):
+    """The files of the registry are moved away while it runs: what the operator sees, and does. And
+    who stops publishing is heard of: a server that ends at each start."""
+    hook, files = "/etc/pciids/on-failure", "/var/lib/pciids/registry.db*"
+    story.machine.run(f"printf '#!/bin/sh\\necho told of $1\\n' > {hook}; chmod 755 {hook}")
+    heard = "journalctl -q -o cat -u 'pciids-failed@*' --since '{}' | grep -q 'told of pciids-pub'"
+    begun = story.machine.run("date '+%F %T'")[1].strip()
+    text = story.machine.run(f"{ASK}/pci.ids | sha256sum")[1]
+    story.works("the files are moved away", f"mkdir /srv/away; mv {files} /srv/away")
+    told = story.post("carl", "/submit", "path=PC/8086/7d8b&name=Lost")
+    story.cases.equal("machine: a command without the file", told, "refused 17 Store")
+    empty = f"{ASK}/status?format=text | grep -q 'items 0'"
+    story.cases.equal("machine: a new registry", story.machine.until(empty), True)
+    story.fails("publishing that", "systemctl start pciids-publish 2> /dev/null")
+    said = "journalctl -q -o cat -u pciids-publish | grep -q 'the registry went back from revision'"
+    story.cases.equal("machine: it says why", story.machine.until(said), True)
+    told = story.machine.until(heard.format(begun))
+    story.cases.equal("machine: the operator's program is told of it", told, True)
+    story.works("a copy of what is there", "systemctl start pciids-backup")
+    copies = "journalctl -q -o cat -u pciids-backup | grep -o 'ok [0-9]*' | tail -1"
+    story.same("how many items that has", copies, "ok 0")
+    told = story.example("When something fails")
+    story.cases.equal("machine: the files of now", told.count("registry.db"), 2)
+    story.example("When something fails")
+    story.is_up("the server answers over the former files")
+    story.same("nothing is lost", f"{ASK}/pci.ids | sha256sum", text.strip())
+    story.machine.run("sleep 1; systemctl reset-failed")
+    begun = story.machine.run("date '+%F %T'")[1].strip()
+    story.works("a file that is none",
+                f"systemctl stop pciids; cp -a {files} /srv/away; rm {files};"
+                f" yes | head -c 9000 > {files[:-1]};"
+                " systemctl start --no-block pciids pciids-publish")
+    told = story.machine.until(heard.format(begun))
+    story.cases.equal("machine: it is told of a server that ends at each start", told, True)
+    story.works("the former file", f"systemctl stop pciids; cp -a /srv/away/* /var/lib/pciids;"
+                f" rm {hook}; systemctl reset-failed; systemctl start pciids")
+    story.works("publishing as before", "systemctl start pciids-publish")
+
+
+def mended(story):
+    """A name that was approved wrongly."""
+    read = f"{ASK}/read/PC/8086/7d8a?format=text"
+    told = story.post("carl", "/submit", "path=PC/8086/7d8a&name=Imaginery")
+    told = story.post("anna", "/approve", f"num={told.split()[-1]}")
+    story.cases.equal("machine: a wrong name", told, "ok")
+    story.same("it is there", read, "Imaginery")
+    told = story.example("When something fails")
+    got = told.count('"now":"Imaginary Controller"'), told.endswith("ok\n")
+    story.cases.equal("machine: what it was, and its end", got, (1, True))
+    story.same("the right one", read, "Imaginary Controller")
+
+
+def saved(story):
+    """What the operator keeps of a machine elsewhere, before that is gone."""
+    story.works("a last backup", "systemctl start pciids-backup")
+    story.is_up("the server is back")
+    story.works("a copy of it elsewhere", "mkdir /srv/next/saved; cd /srv/next/saved;"
+                " cp -r /var/backups/pciids/$(ls /var/backups/pciids | tail -1) .;"
+                " cp -r /etc/pciids etc; chown -R nobody: .")
+    return story.machine.run(f"{ASK}/pci.ids | sha256sum")[1].strip()
+
+
+def on_another(story, text):
+    """On a new machine, with what was kept."""
+    copy = story.machine.run("ls -d /srv/next/saved/2*Z")[1].strip().rpartition("/")[2]
+    story.works("nothing is left of the first", "rm -r /etc/pciids /var/lib/pciids*"
+                " /var/backups/pciids; for it in -join -web ''; do userdel pciids$it; done")
+    story.example("When something fails", "/srv/next", **{"2026-11-25T031700Z": copy})
+    story.is_up("the server of another machine")
+    story.same("all names", f"{ASK}/pci.ids | sha256sum", text)
+    page = f"{ASK_SITE} -o /dev/null -w '%{{http_code}}' https://{HOST}/item/PC/8086"
+    story.same("the pages", page, "200")
+    told = story.post("carl", "/submit", "path=PC/8086/7d8c&name=Next")
+    story.cases.equal("machine: passwords are those of before", told[:3], "ok ")
+    days = "cat /var/lib/pciids-public/history/????-??.jsonl | wc -l"
+    lines = story.machine.run(days)[1].strip()
+    story.cases.equal(f"machine: a history of {lines} lines", int(lines) > 30_000, True)
+    story.same("who owns what", "stat -c '%a %U:%G %n' /etc/pciids/accounts/* /etc/pciids/key.pem",
+               "750 pciids-join:pciids-web /etc/pciids/accounts/invites\n"
+               "640 pciids-join:pciids-web /etc/pciids/accounts/passwords\n"
+               "640 root:pciids-web /etc/pciids/key.pem")
+
+
 def cached(story):
     """The cache among the examples is an nginx of Debian as it is, but for IPv6."""
     place = "/etc/nginx/conf.d/cache.conf"
@@ -488,7 +571,7 @@ def removed(story):
     )
     left = "ls /var/lib/pciids-public"
     story.same("and the history", left, "feeds\nhistory")
-    story.same("both backups stay", "ls /var/backups/pciids | wc -l", "2")
+    story.same("all backups stay", "ls /var/backups/pciids | wc -l", "4")
     left = "find /etc/systemd/system /var/lib/systemd -name '*pciids*' ! -name 'stamp-*'"
     story.same("no link of a unit stays", left, "")
 
@@ -512,6 +595,10 @@ def test_machine(cases):
         imported(story)
         distributed(story)
         signed(story)
+        replaced(story)
+        mended(story)
         cached(story)
+        text = saved(story)
         removed(story)
+        on_another(story, text)
         cases.equal("machine: examples of docs/OPERATE.md that were not run", story.examples, [])
