@@ -10,7 +10,7 @@ import time
 
 from fake_registry import FakeRegistry
 from front_room import HOST, PEOPLE, Front, Recorder, Request, basic, needed
-from http_server import to_end
+from http_server import clients_of, to_end
 from joining_unit import Served, password, settings, verifier
 
 # Shares that a test doesn't use up.
@@ -126,8 +126,7 @@ class Cutter(threading.Thread):
         self.start()
 
     def run(self):
-        while True:
-            client, _ = self.listener.accept()
+        for client in clients_of(self.listener):
             with client, socket.create_connection(("127.0.0.1", self.behind)) as server:
                 sent = b""
                 while not Request(sent).is_whole() or b"\r\n\r\n" not in sent:

@@ -1,6 +1,7 @@
 """The packages on a machine of their own: from `apt install` to a moderated name in the published
 file, then stops, backup, restore, upgrade, removal and purge. Each example of docs/OPERATE.md is
 run on the way."""
+import contextlib
 import os
 import re
 import tempfile
@@ -576,12 +577,18 @@ def removed(story):
     story.same("no link of a unit stays", left, "")
 
 
+@contextlib.contextmanager
+def machine_for(cases):
+    """A machine of its own for a story, with the packages at hand, and a folder."""
+    built_packages.packages()
+    with tempfile.TemporaryDirectory() as folder, Machine() as machine:
+        yield Story(cases, machine), folder
+
+
 def test_machine(cases):
     program.need("curl", "gnupg", "gunicorn", "nginx-light", "openssl", "pciutils",
                  "systemd-container")
-    built_packages.packages()
-    with tempfile.TemporaryDirectory() as folder, Machine() as machine:
-        story = Story(cases, machine)
+    with machine_for(cases) as (story, folder):
         install(story)
         sandbox(story)
         accounts(story)

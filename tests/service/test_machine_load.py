@@ -4,13 +4,10 @@ get of a registry of 100,000 items, and how long a backup stops its server."""
 import json
 import os
 import re
-import tempfile
 import time
 
-import built_packages
 import program
-from test_machine import ASK, ASK_SITE, HOST, KILL, Story, put_packages
-from machine_room import Machine
+from test_machine import ASK, ASK_SITE, HOST, KILL, machine_for, put_packages
 from program import SUPPORT
 
 PEOPLE = ("anna", "bert", "cora", "dora")
@@ -219,9 +216,7 @@ def too_long(story):
 
 def test_machine_load(cases):
     program.need("curl", "nginx-light", "openssl", "sqlite3", "systemd-container")
-    built_packages.packages()
-    with tempfile.TemporaryDirectory() as folder, Machine() as machine:
-        story = Story(cases, machine)
+    with machine_for(cases) as (story, folder):
         installed(story)
         restarts(story)
         too_long(story)

@@ -20,35 +20,29 @@ from registry import script
 
 MIRROR = os.path.join(TOP, "deploy", "mirror.sh")
 
-# nginx keeps the file, and nothing else: at the first port it goes by what a request says of that,
-# at the second not.
-CACHES = """worker_processes 1; daemon off; user root; pid {folder}/pid; error_log {folder}/errors;
+# nginx keeps the file, and nothing else, at each of its ports.
+NGINX = """worker_processes 1; daemon off; user root; pid {folder}/pid; error_log {folder}/errors;
 events {{ worker_connections 64; }}
 http {{
     access_log off;
-    proxy_cache_path {folder}/good keys_zone=good:1m;
-    proxy_cache_path {folder}/deaf keys_zone=deaf:1m;
-    server {{
-        listen 127.0.0.1:{good};
-        location / {{ proxy_pass http://127.0.0.1:{server}; }}
-        location = /pci.ids {{
-            proxy_pass http://127.0.0.1:{server};
-            proxy_cache good;
-            proxy_cache_valid 200 1h;
-            proxy_cache_bypass $http_cache_control;
-        }}
-    }}
-    server {{
-        listen 127.0.0.1:{deaf};
-        location / {{ proxy_pass http://127.0.0.1:{server}; }}
-        location = /pci.ids {{
-            proxy_pass http://127.0.0.1:{server};
-            proxy_cache deaf;
-            proxy_cache_valid 200 1h;
-        }}
-    }}
+    {caches}
 }}
 """
+CACHE = """
+    proxy_cache_path {folder}/{name} keys_zone={name}:1m;
+    server {{
+        listen 127.0.0.1:{port};
+        location / {{ proxy_pass http://127.0.0.1:{server}; }}
+        location = /pci.ids {{
+            proxy_pass http://127.0.0.1:{server};
+            proxy_cache {name};
+            proxy_cache_valid 200 1h;
+            {rule}
+        }}
+    }}
+"""
+# A good one goes by what a request says of that.
+RULES = {"good": "proxy_cache_bypass $http_cache_control;", "deaf": ""}
 
 # So many items are 21 pages of changes; of the nginx of this test an address may ask for five at
 # once.
@@ -360,12 +354,14 @@ def is_listening(port):
 def behind_nginx(cases, server, folder):
     places = [os.path.join(folder, name) for name in ("one", "two")]
     config = os.path.join(folder, "nginx.conf")
-    good, deaf_port = free_port(), free_port()
+    good, deaf_port = ports = free_port(), free_port()
     for place in places:
         os.mkdir(place)
+    caches = "".join(
+        CACHE.format(folder=folder, name=name, port=port, server=server.port, rule=rule)
+        for (name, rule), port in zip(RULES.items(), ports))
     with open(config, "w", encoding="utf-8") as file:
-        ports = {"good": good, "deaf": deaf_port, "server": server.port}
-        file.write(CACHES.format(folder=folder, **ports))
+        file.write(NGINX.format(folder=folder, caches=caches))
     words = ["nginx", "-c", config, "-p", folder, "-e", os.path.join(folder, "errors")]
     nginx = subprocess.Popen(words, stderr=subprocess.DEVNULL)
     try:

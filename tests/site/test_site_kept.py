@@ -402,9 +402,8 @@ def test_site_kept(cases):
     with World() as world:
         with Browser(world.base) as browser:
             browser.go("/").log_in("alice")
-            asked_in_the_bar(cases, world, browser)
-            asked_in_the_form(cases, world, browser)
-            asked_in_another_tab(cases, world, browser)
+            for part in (asked_in_the_bar, asked_in_the_form, asked_in_another_tab):
+                part(cases, world, browser)
             taken = refused(cases, world, browser)
             typed(cases, world, browser)
             fallen(cases, world, browser)
@@ -412,12 +411,9 @@ def test_site_kept(cases):
         with Browser(world.base) as browser:
             browser.go("/").log_in("sam")
             rejected(cases, world, browser, taken)
-            beside_decision(cases, world, browser)
-            late_rows(cases, world, browser)
-            called_today(cases, world, browser)
-            changed_meanwhile(cases, world, browser)
-            looked_again(cases, world, browser)
-            unfetched(cases, world, browser)
+            for part in (beside_decision, late_rows, called_today, changed_meanwhile,
+                         looked_again, unfetched):
+                part(cases, world, browser)
             browser.faults()
             browser.said = []
             shifts(cases, world, browser)

@@ -445,17 +445,12 @@ def test_site_once(cases):
         alice.log_in("alice")
         mona.go("/")
         mona.log_in("mona")
-        lost(cases, world, alice)
-        reloaded(cases, world, alice)
-        doubled(cases, world, alice)
-        queued(cases, world, mona)
-        late_row(cases, world, mona)
-        elsewhere_decided(cases, world, mona)
-        killed(cases, world, alice)
-        late(cases, world, alice)
-        forgotten(cases, world, alice)
-        unkept(cases, world, alice)
-        others_key(cases, world, alice)
+        for part in (lost, reloaded, doubled):
+            part(cases, world, alice)
+        for part in (queued, late_row, elsewhere_decided):
+            part(cases, world, mona)
+        for part in (killed, late, forgotten, unkept, others_key):
+            part(cases, world, alice)
         logged_out_elsewhere(cases, alice)
         logged_in_elsewhere(cases, world, alice)
         drafts(cases, world, alice)

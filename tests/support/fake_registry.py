@@ -1,10 +1,13 @@
 """A server that stands for the registry at a socket: accounts with ranks, and keys, as docs/HTTP.md
 says of them. It serves one connection after the other."""
+import contextlib
 import json
 import re
 import socket
 import threading
 import urllib.parse
+
+from http_server import clients_of
 
 
 def text_of(told):
@@ -39,16 +42,9 @@ class FakeRegistry(Listener):
         super().__init__(path)
 
     def run(self):
-        while True:
-            try:
-                client, _ = self.listener.accept()
-            except OSError:
-                return
-            with client:
-                try:
-                    self.serve(client)
-                except OSError:
-                    pass
+        for client in clients_of(self.listener):
+            with client, contextlib.suppress(OSError):
+                self.serve(client)
 
     def serve(self, client):
         """The requests of one connection, until its client closes it."""

@@ -1,6 +1,7 @@
 """The nginx of deploy/nginx with the site, in front of a recorder that stands for the server. Its
 traffic stays on loopback, whose addresses stand for visitors."""
 import base64
+import contextlib
 import os
 import re
 import resource
@@ -11,7 +12,7 @@ import threading
 import time
 
 import program
-from http_server import ask_curl, free_port, to_end
+from http_server import ask_curl, clients_of, free_port, to_end
 from program import SITE, TOP
 
 HOST = "pciids.example.org"
@@ -81,13 +82,9 @@ class Recorder(threading.Thread):
         self.start()
 
     def run(self):
-        while True:
-            client, _ = self.listener.accept()
-            with client:
-                try:
-                    self.answer(client)
-                except OSError:
-                    pass
+        for client in clients_of(self.listener):
+            with client, contextlib.suppress(OSError):
+                self.answer(client)
 
     def answer(self, client):
         data = self.request(client)

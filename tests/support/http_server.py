@@ -18,6 +18,16 @@ def free_port():
         return listener.getsockname()[1]
 
 
+def clients_of(listener):
+    """Whoever connects to a listener, until that is closed."""
+    while True:
+        try:
+            client, _ = listener.accept()
+        except OSError:
+            return
+        yield client
+
+
 def to_end(client):
     taken = b""
     while piece := client.recv(65536):

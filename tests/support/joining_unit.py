@@ -15,7 +15,7 @@ import time
 import urllib.parse
 
 from fake_registry import Listener
-from http_server import ask_curl, free_port
+from http_server import ask_curl, clients_of, free_port
 from program import TOP
 
 MODULES = ("names", "join")
@@ -127,8 +127,7 @@ class Way(Listener):
         super().__init__(path)
 
     def run(self):
-        while True:
-            client, _ = self.listener.accept()
+        for client in clients_of(self.listener):
             try:
                 server = socket.create_connection(("127.0.0.1", self.port), timeout=30)
             except OSError:

@@ -18,7 +18,7 @@ import urllib.parse
 import urllib.request
 
 import program
-from http_server import Server, ask_curl, free_port, to_end
+from http_server import Server, ask_curl, clients_of, free_port, to_end
 from joining_unit import Served, Way, settings
 from shims import ROOM
 
@@ -102,11 +102,7 @@ class Spoiler:
             self.changed.notify_all()
 
     def listen(self):
-        while True:
-            try:
-                client, _ = self.listener.accept()
-            except OSError:
-                return
+        for client in clients_of(self.listener):
             threading.Thread(target=self.serve, args=(client,), daemon=True).start()
 
     def serve(self, client):
