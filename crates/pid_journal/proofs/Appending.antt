@@ -1,13 +1,17 @@
 -- An entry more in a journal.
-use Rattle.std.proofs.Common.{◌≡◌, ℕ, List, [], ◌∷◌, ◌++◌, map, refl, sym, ap, ◌∙◌, append_assoc}
+use Rattle.std.proofs.Common.{◌≡◌, ℕ, Bool, true, false, cond, List, [], ◌∷◌, ◌++◌, map, Option, Some, None, refl, sym, ap, subst, ◌∙◌, append_assoc}
+use Rattle.std.specs.Prelude.{IfSome, is_some, ◌||◌}
 use Rattle.pid_file.proofs.Cuts.{ended_more, map_append, open_more}
 use Rattle.pid_file.specs.Lines.{drop_cr}
 use Rattle.pid_file.specs.WholeLines.{ended_pieces, open_part, whole_lines}
 use Rattle.pid_moderation.specs.History.{Asked, History}
 use Rattle.pid_moderation.specs.Judgement.{after, after_all}
 use Rattle.pid_script.specs.Replies.{command_of, commands_of_lines, history_after}
-use Rattle.pid_script.specs.ScriptLines.{ask_of}
-use Rattle.pid_journal.specs.Journals.{IsEntry, JournalLeads}
+use Rattle.pid_script.specs.ScriptLines.{ask_of, is_idle_line}
+use Rattle.pid_journal.specs.declared.counts.Counts.{Counts}
+use Rattle.pid_journal.specs.Comments.{counts_held, counts_said}
+use Rattle.pid_journal.specs.Journals.{AreTrue, IsEntry, JournalLeads, after_line, noted_after}
+use Rattle.pid_journal.proofs.Reading.{idle_says_none, said_is_idle}
 
 pub after_both : (h : History) (xs ys : List Asked) → after_all h (xs ++ ys) ≡ after_all (after_all h xs) ys
 after_both h [] ys = refl
@@ -24,14 +28,56 @@ whole_both text more whole =
     ∙ map_append drop_cr (ended_pieces text) (ended_pieces (open_part text ++ more))
     ∙ ap (λ (o : List ℕ). whole_lines text ++ map drop_cr (ended_pieces (o ++ more))) whole
 
+-- an entry asks its command alone
+pub entry_asks : (text : List ℕ) (k : Counts) (c : Asked) → IsEntry text k c → commands_of_lines (whole_lines text) ≡ c ∷ []
+entry_asks text k c is = ap commands_of_lines is.lines ∙ (λ i. idle_says_none is.comment (said_is_idle is.comment k is.says) i ++ (is.asks i ++ []))
+
+-- COMMENTS
+
+pub after_first : (h : History) (x : List ℕ) (xs : List (List ℕ)) → history_after h (x ∷ xs) ≡ history_after (after_line h x) xs
+after_first h x xs = after_both h (command_of (ask_of x)) (commands_of_lines xs)
+
+pub true_both : (xs ys : List (List ℕ)) (h : History) (noted : Bool) → AreTrue h noted xs → ((m : Bool) → AreTrue (history_after h xs) m ys) → AreTrue h noted (xs ++ ys)
+true_both [] ys h noted t u = u noted
+true_both (x ∷ xs) ys h noted t u = (t.0, true_both xs ys (after_line h x) (noted_after noted x) t.1 (λ m. subst (λ (g : History). AreTrue g m ys) (after_first h x xs) (u m)))
+
+if_said : (o : Option Counts) (k : Counts) → o ≡ Some k → IfSome o (λ x. x ≡ k)
+if_said o k is = subst (λ (x : Option Counts). IfSome x (λ y. y ≡ k)) (sym is) refl
+
+if_none : (o : Option Counts) (k : Counts) → ((x : Counts) → o ≡ Some x → ⊥) → IfSome o (λ x. x ≡ k)
+if_none None k never = tt
+if_none (Some x) k never = absurd (never x refl)
+
+not_idle : (line : List ℕ) (c : Asked) → command_of (ask_of line) ≡ c ∷ [] → is_idle_line line ≡ true → ⊥
+not_idle line c asks idle = let none : command_of (ask_of line) ≡ [] = idle_says_none line idle in cc
+
+-- an entry is true at its place
+pub entry_true : (h : History) (noted : Bool) (text : List ℕ) (c : Asked) → IsEntry text (counts_held h) c → AreTrue h noted (whole_lines text)
+entry_true h noted text c is =
+    let idle : is_idle_line is.comment ≡ true = said_is_idle is.comment (counts_held h) is.says in
+    let g : History = after_line h is.comment in
+    subst (λ (ls : List (List ℕ)). AreTrue h noted ls) (sym is.lines) (
+      record { counts = if_said (counts_said is.comment) (counts_held h) is.says; below = λ off. absurd (let no : ⊥ = cc in no) },
+      (
+        record {
+          counts = if_none (counts_said is.line) (counts_held g) (λ x says. not_idle is.line c is.asks (said_is_idle is.line x says));
+          below = λ off. λ i. cond (idle i) (is_some (is.says i) || noted) false;
+        },
+        tt,
+      ),
+    )
+
 -- a journal with an entry more leads on to the history after its command
-pub appended : (start h : History) (text entry : List ℕ) (c : Asked) → JournalLeads start text h → IsEntry entry c → JournalLeads start (text ++ entry) (after h c)
+pub appended : (start h : History) (text entry : List ℕ) (c : Asked) → JournalLeads start text h → IsEntry entry (counts_held h) c → JournalLeads start (text ++ entry) (after h c)
 appended start h text entry c before is = record {
   whole = open_more text entry ∙ ap (λ (o : List ℕ). open_part (o ++ entry)) before.whole ∙ is.whole;
+  told =
+      subst (λ (ls : List (List ℕ)). AreTrue start false ls) (sym (whole_both text entry before.whole))
+      (true_both (whole_lines text) (whole_lines entry) start false before.told (λ m. subst (λ (g : History). AreTrue g m (whole_lines entry)) (sym before.leads) (entry_true h m entry c is)));
   leads =
       ap (history_after start) (whole_both text entry before.whole)
       ∙ ap (after_all start) (commands_both (whole_lines text) (whole_lines entry))
       ∙ after_both start (commands_of_lines (whole_lines text)) (commands_of_lines (whole_lines entry))
       ∙ ap (λ (g : History). after_all g (commands_of_lines (whole_lines entry))) before.leads
-      ∙ ap (after_all h) is.asks;
+      ∙ ap (after_all h) (entry_asks entry (counts_held h) c is);
 }

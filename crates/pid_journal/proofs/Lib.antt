@@ -5,3 +5,7 @@ pub mod Noted
 pub mod Pairing
 pub mod Forms
 pub mod Scripts
+pub mod Places
+pub mod LinesObeyed
+pub mod Resuming
+pub mod Imported

@@ -11,6 +11,7 @@ use Rattle.pid_service_laws.specs.Registries.{CommandLeaves}
 use Rattle.pid_service_laws.specs.declared.moderated.Moderated.{Ghosts}
 use Rattle.pid_journal.specs.declared.file.JournalFile as files
 use Rattle.pid_journal.specs.declared.journaled.Journaled.{Journaled}
+use Rattle.pid_journal.specs.Comments.{counts_held}
 use Rattle.pid_journal.specs.Doubts.{IsInDoubt}
 use Rattle.pid_journal.specs.Journals.{IsEntry, JournalLeads}
 use Rattle.pid_journal.specs.Pairs.{PairFailsBetween, PairShows, pair_showing, pair_showing_from}
@@ -18,7 +19,7 @@ use Rattle.pid_journal.specs.Steps.Parts.{IsCutBack}
 use Rattle.pid_journal.proofs.Appending.{appended}
 
 -- a part of an entry after the text of a journal
-in_doubt : (start h : History) (text entry part gone : List ℕ) (c : Asked) → JournalLeads start text h → IsEntry entry c → entry ≡ part ++ gone → IsInDoubt start (text ++ part) h (after h c)
+in_doubt : (start h : History) (text entry part gone : List ℕ) (c : Asked) → JournalLeads start text h → IsEntry entry (counts_held h) c → entry ≡ part ++ gone → IsInDoubt start (text ++ part) h (after h c)
 in_doubt start h text entry part gone c leads is parts = record {
   before = text;
   part = part;
@@ -26,7 +27,7 @@ in_doubt start h text entry part gone c leads is parts = record {
   command = c;
   parts = refl;
   leads = leads;
-  entry = subst (λ (l : List ℕ). IsEntry l c) parts is;
+  entry = subst (λ (l : List ℕ). IsEntry l (counts_held h) c) parts is;
   ends = refl;
 }
 
@@ -61,7 +62,7 @@ module _ {R J : Type 0} (registry : Ghosts R) (file : files.Ghosts J) where
   shows_same r s h same shown = subst (λ (x : R). registry.showing.shows x h) (sym same) shown
 
   -- the entry was cut off again, or a part of it is left
-  pub taken_back : (start h : History) (mid new : Journaled R J) (text entry part gone : List ℕ) (c : Asked) → JournalLeads start text h → IsEntry entry c → entry ≡ part ++ gone → registry.showing.shows new.registry h
+  pub taken_back : (start h : History) (mid new : Journaled R J) (text entry part gone : List ℕ) (c : Asked) → JournalLeads start text h → IsEntry entry (counts_held h) c → entry ≡ part ++ gone → registry.showing.shows new.registry h
       → file.safe mid.journal ≡ Some (text ++ part) → mid.failed ≡ false → IsCutBack file mid new (length text)
       → PairShows registry file start new h ⊎ PairFailsBetween registry file start new h (after h c)
   taken_back start h mid new text entry part gone c leads is parts shown safe settled back =
@@ -76,18 +77,19 @@ module _ {R J : Type 0} (registry : Ghosts R) (file : files.Ghosts J) where
       ]
 
   -- the command was judged
-  pub judged : (start h : History) (new : Journaled R J) (text entry : List ℕ) (c : Asked) → JournalLeads start text h → IsEntry entry c → registry.showing.shows new.registry (after h c)
+  pub judged : (start h : History) (new : Journaled R J) (text entry : List ℕ) (c : Asked) → JournalLeads start text h → IsEntry entry (counts_held h) c → registry.showing.shows new.registry (after h c)
       → file.safe new.journal ≡ Some (text ++ entry) → new.failed ≡ false
       → PairShows registry file start new (after h c)
   judged start h new text entry c leads is shown safe settled =
       record { shown = shown; settled = settled; text = text ++ entry; safe = safe; leads = appended start h text entry c leads is }
 
   -- the registry has failed at the command
-  pub fallen : (start h : History) (new : Journaled R J) (text entry : List ℕ) (c : Asked) → JournalLeads start text h → IsEntry entry c → registry.showing.fails_between new.registry h (after h c)
+  pub fallen : (start h : History) (new : Journaled R J) (text entry : List ℕ) (c : Asked) → JournalLeads start text h → IsEntry entry (counts_held h) c → registry.showing.fails_between new.registry h (after h c)
       → file.safe new.journal ≡ Some (text ++ entry)
       → PairFailsBetween registry file start new h (after h c)
+  unfolding in_doubt
   fallen start h new text entry c leads is fails safe =
-      record { text = text ++ entry; safe = safe; doubt = in_doubt start h text entry entry [] c leads is (sym (append-nil entry)); fails = inr fails }
+      record { text = text ++ entry; safe = safe; doubt = in_doubt start h text entry entry [] c leads is (sym (append-nil entry)); fails = inr (refl, fails) }
 
   -- a command leaves the same wherever the journal begins
   pub anywhere : (start h : History) (new : Journaled R J) (result : Result Reply Refusal) (c : Asked) → CommandLeaves (pair_showing_from registry file start) result new h c → CommandLeaves (pair_showing registry file) result new h c

@@ -1,5 +1,5 @@
 -- A registry with a journal in front of it is a registry under moderation.
-use Rattle.std.proofs.Common.{◌≡◌, inl, inr, Bool, true, false, Result, Err, refl, sym, ap, subst}
+use Rattle.std.proofs.Common.{◌≡◌, inl, inr, Bool, true, false, [], Result, Err, refl, sym, ap, subst}
 use Rattle.pid_moderation.specs.declared.command.Reply.{Reply}
 use Rattle.pid_moderation.specs.declared.refusal.Refusal.{Refusal}
 use Rattle.pid_moderation.specs.declared.refusal.Refusal.TheVariants.{Failed}
@@ -41,11 +41,11 @@ module _ {R J : Type 0} (registry : Ghosts R) (file : files.Ghosts J) where
   pub still_shows : (start h : History) (p : Journaled R J) (r : R) → PairShows registry file start p h → registry.showing.shows r h → PairShows registry file start (with_registry p r) h
   still_shows start h p r shows shown = record { shown = shown; settled = shows.settled; text = shows.text; safe = shows.safe; leads = shows.leads }
 
-  still_fails : (start h next : History) (p : Journaled R J) (r : R) → PairFailsBetween registry file start p h next → p.failed ≡ false → registry.showing.fails_between r h next → PairFailsBetween registry file start (with_registry p r) h next
-  still_fails start h next p r fails settled down = record { text = fails.text; safe = fails.safe; doubt = fails.doubt; fails = inr down }
+  still_fails : (start h next : History) (p : Journaled R J) (r : R) (fails : PairFailsBetween registry file start p h next) → fails.doubt.gone ≡ [] → registry.showing.fails_between r h next → PairFailsBetween registry file start (with_registry p r) h next
+  still_fails start h next p r fails none down = record { text = fails.text; safe = fails.safe; doubt = fails.doubt; fails = inr (none, down) }
 
   -- what failed between two and has no entry left
-  registry_fails : (start h next : History) (p : Journaled R J) → PairFailsBetween registry file start p h next → p.failed ≡ false → registry.showing.fails_between p.registry h next
+  registry_fails : (start h next : History) (p : Journaled R J) (fails : PairFailsBetween registry file start p h next) → p.failed ≡ false → (fails.doubt.gone ≡ []) × registry.showing.fails_between p.registry h next
   registry_fails start h next p fails settled = elim fails.fails [ inl left ↦ absurd (not_both p.failed left.0 settled) | inr down ↦ down ]
 
   -- the registry was asked
@@ -54,7 +54,7 @@ module _ {R J : Type 0} (registry : Ghosts R) (file : files.Ghosts J) where
   looks_on p r calls kept settled =
       looked_does (pair_showing registry file) p (with_registry p r) calls.clean
       (λ clean h shows. (shows.0, still_shows shows.0 h p r shows.1 (kept clean h shows.1.shown)))
-      (λ h next fails. (fails.0, still_fails fails.0 h next p r fails.1 settled (calls.failed h next (registry_fails fails.0 h next p fails.1 settled)).1))
+      (λ h next fails. let d = registry_fails fails.0 h next p fails.1 settled in (fails.0, still_fails fails.0 h next p r fails.1 d.0 (calls.failed h next d.1).1))
 
   -- nothing was asked of it
   pub looks_nowhere : (p : Journaled R J) → Does (pair_showing registry file) p nothing_sent p

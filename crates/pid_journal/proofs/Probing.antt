@@ -23,16 +23,18 @@ refusal_or (Ok x) d = d
 refusal_or (Err e) d = e
 
 module _ {R X : Type 0} (w : Showing R) (is_live : R → Bool) (lives : ShowsWhileLive w is_live) (old new : R) (Says : History → X → Type 0) where
-  pub ok_probed : (x : X) → IsAnswered w is_live old new (Ok x) Says → IsProbed w old new true
+  pub ok_probed : (x : X) → IsAnswered w is_live old new (Ok x) Says → IsProbed w is_live old new true
   ok_probed x asked = record {
     clean = asked.calls.clean;
     shown = λ clean h shows. (refl, (asked.told clean h shows).1);
     fallen = λ h next fails. absurd (let is = (asked.failed (lives.fallen old h next fails)).0 in let no : ⊥ = cc in no);
+    off = λ down. absurd (let is = (asked.failed down).0 in let no : ⊥ = cc in no);
   }
 
-  pub err_probed : (e : Refusal) (b : Bool) → (b ≡ true → e ≡ Failed) → (b ≡ false → e ≡ Failed → ⊥) → IsAnswered w is_live old new (Err e) Says → IsProbed w old new (not b)
+  pub err_probed : (e : Refusal) (b : Bool) → (b ≡ true → e ≡ Failed) → (b ≡ false → e ≡ Failed → ⊥) → IsAnswered w is_live old new (Err e) Says → IsProbed w is_live old new (not b)
   err_probed e b on off asked = record {
     clean = asked.calls.clean;
     shown = λ clean h shows. let told = asked.told clean h shows in (must_live b e on told.0, told.1);
     fallen = λ h next fails. let is = (asked.failed (lives.fallen old h next fails)).0 in (must_fall b e off (ap (λ (r : Result X Refusal). refusal_or r Failed) is), (asked.calls.failed h next fails).1);
+    off = λ down. let f = asked.failed down in (must_fall b e off (ap (λ (r : Result X Refusal). refusal_or r Failed) f.0), f.1);
   }

@@ -1,13 +1,21 @@
 -- A comment and a line are the entry of the command that the line says.
-use Rattle.std.proofs.Common.{◌≡◌, ℕ, Bool, true, false, cond, List, [], ◌∷◌, ◌++◌, length, map, refl, sym, ap, subst, ◌∙◌}
-use Rattle.std.specs.Prelude.{nat_lt, not}
+use Rattle.std.proofs.Common.{◌≡◌, ℕ, Bool, true, false, cond, List, [], ◌∷◌, ◌++◌, length, map, Option, Some, None, Result, Ok, Err, refl, sym, ap, subst, ◌∙◌}
+use Rattle.std.specs.Prelude.{nat_lt, not, slice_index, MatchOption, MatchResult, IsUtf8, ◌&&◌, ◌||◌, ◌==◌}
+use Rattle.std.specs.Borrow.{Bor}
+use Rattle.std.specs.Result.{result_ok}
 use Rattle.std.specs.Str.{is_utf8}
+use Rattle.std.proofs.lemmas.Str.{is_utf8-from_IsUtf8}
+use Rattle.pid_file.proofs.LineLemmas.{not_utf8}
+use Rattle.pid_file.specs.Bytes.{is_empty}
 use Rattle.pid_file.proofs.Cuts.{ended_line, open_line}
 use Rattle.pid_file.specs.Lines.{drop_cr}
 use Rattle.pid_file.specs.WholeLines.{ended_pieces}
+use Rattle.pid_form.specs.FormFields.{fields_in}
 use Rattle.pid_moderation.specs.History.{Asked}
-use Rattle.pid_script.specs.Replies.{command_of, commands_of_lines}
+use Rattle.pid_script.specs.Replies.{command_of}
 use Rattle.pid_script.specs.ScriptLines.{LONGEST, Ask, AsksNothing, TooLong, Unclear, ask_of, is_idle_line}
+use Rattle.pid_journal.specs.declared.counts.Counts.{Counts}
+use Rattle.pid_journal.specs.Comments.{counts_in_fields, counts_said}
 use Rattle.pid_journal.specs.Journals.{IsEntry}
 
 says_none : (long fits idle : Bool) (other : Ask) → idle ≡ true → command_of (cond long TooLong (cond (not fits) Unclear (cond idle AsksNothing other))) ≡ []
@@ -16,22 +24,63 @@ says_none false false idle other h = refl
 says_none false true idle other h = ap (λ (b : Bool). command_of (cond b AsksNothing other)) h
 
 -- a comment asks no command
-idle_says_none : (line : List ℕ) → is_idle_line line ≡ true → command_of (ask_of line) ≡ []
+pub idle_says_none : (line : List ℕ) → is_idle_line line ≡ true → command_of (ask_of line) ≡ []
 unfolding ask_of
 idle_says_none line h = says_none (nat_lt LONGEST (length line)) (is_utf8 line) (is_idle_line line) _ h
 
-joined : (comment line : List ℕ) (c : Asked) → ended_pieces comment ≡ [] → ended_pieces line ≡ [] → is_idle_line (drop_cr comment) ≡ true → command_of (ask_of (drop_cr line)) ≡ c ∷ []
-    → IsEntry (comment ++ 10 ∷ (line ++ 10 ∷ [])) c
-joined comment line c one two idle says = record {
+-- WHAT A COMMENT SAYS
+
+by_letter : (t u : Bool) (said : Option Counts) (k : Counts) → cond (t && u) said None ≡ Some k → t ≡ true
+by_letter true u said k h = refl
+by_letter false u said k h = cc
+
+or_right : (a b : Bool) → b ≡ true → (a || b) ≡ true
+or_right true b on = refl
+or_right false b on = on
+
+-- a line that says counts is a comment
+pub said_is_idle : (line : List ℕ) (k : Counts) → counts_said line ≡ Some k → is_idle_line line ≡ true
+unfolding counts_said
+said_is_idle line k h = or_right (is_empty line) (slice_index line 0 == 35) (by_letter (slice_index line 0 == 35) (is_utf8 line) (counts_in_fields (fields_in line)) k h)
+
+pub not_comment : (line : List ℕ) → (slice_index line 0 == 35) ≡ false → counts_said line ≡ None
+unfolding counts_said
+not_comment line off = λ i. cond (off i && is_utf8 line) (counts_in_fields (fields_in line)) None
+
+by_text : (t u : Bool) (said : Option Counts) → u ≡ false → cond (t && u) said None ≡ None
+by_text true u said off = λ i. cond (off i) said None
+by_text false u said off = refl
+
+pub not_text : (line : List ℕ) → is_utf8 line ≡ false → counts_said line ≡ None
+unfolding counts_said
+not_text line off = by_text (slice_index line 0 == 35) (is_utf8 line) (counts_in_fields (fields_in line)) off
+
+pub says_fields : (line form : List ℕ) → (slice_index line 0 == 35) ≡ true → is_utf8 line ≡ true → form ≡ line → counts_said line ≡ counts_in_fields (fields_in form)
+unfolding counts_said
+says_fields line form on text same = (λ i. cond (on i && text i) (counts_in_fields (fields_in line)) None) ∙ ap (λ (l : List ℕ). counts_in_fields (fields_in l)) (sym same)
+
+-- bytes as text
+pub text_found : {E : Type 0} (More : E → Type 0) (bytes : List ℕ) (read : Result (Bor (List ℕ)) E) → MatchResult read (λ text. (text.now ≡ bytes) × IsUtf8 bytes) (λ e. (¬ (IsUtf8 bytes)) × More e)
+    → MatchOption (result_ok read) (is_utf8 bytes ≡ false) (λ text. (text.now ≡ bytes) × (is_utf8 bytes ≡ true))
+text_found More bytes (Ok text) h = (h.0, is_utf8-from_IsUtf8 bytes h.1)
+text_found More bytes (Err e) h = not_utf8 bytes h.0
+
+-- AN ENTRY
+
+joined : (comment line : List ℕ) (k : Counts) (c : Asked) → ended_pieces comment ≡ [] → ended_pieces line ≡ [] → counts_said (drop_cr comment) ≡ Some k → command_of (ask_of (drop_cr line)) ≡ c ∷ []
+    → IsEntry (comment ++ 10 ∷ (line ++ 10 ∷ [])) k c
+joined comment line k c one two says asks = record {
   whole = open_line comment (line ++ 10 ∷ []) one ∙ open_line line [] two;
-  asks =
-      ap (λ (pieces : List (List ℕ)). commands_of_lines (map drop_cr pieces)) (ended_line comment (line ++ 10 ∷ []) one ∙ ap (λ (pieces : List (List ℕ)). comment ∷ pieces) (ended_line line [] two))
-      ∙ (λ i. idle_says_none (drop_cr comment) idle i ++ (says i ++ []));
+  comment = drop_cr comment;
+  line = drop_cr line;
+  lines = ap (map drop_cr) (ended_line comment (line ++ 10 ∷ []) one ∙ ap (λ (pieces : List (List ℕ)). comment ∷ pieces) (ended_line line [] two));
+  says = says;
+  asks = asks;
 }
 
-pub reads : (entry comment rest line behind : List ℕ) (c : Asked) → entry ≡ comment ++ 10 ∷ rest → ended_pieces comment ≡ [] → rest ≡ line ++ 10 ∷ behind → ended_pieces line ≡ []
-    → is_idle_line (drop_cr comment) ≡ true → behind ≡ [] → command_of (ask_of (drop_cr line)) ≡ c ∷ []
-    → IsEntry entry c
-reads entry comment rest line behind c first one second two idle none says =
+pub reads : (entry comment rest line behind : List ℕ) (k : Counts) (c : Asked) → entry ≡ comment ++ 10 ∷ rest → ended_pieces comment ≡ [] → rest ≡ line ++ 10 ∷ behind → ended_pieces line ≡ []
+    → behind ≡ [] → counts_said (drop_cr comment) ≡ Some k → command_of (ask_of (drop_cr line)) ≡ c ∷ []
+    → IsEntry entry k c
+reads entry comment rest line behind k c first one second two none says asks =
     let is : entry ≡ comment ++ 10 ∷ (line ++ 10 ∷ []) = first ∙ ap (λ (l : List ℕ). comment ++ 10 ∷ l) (second ∙ ap (λ (l : List ℕ). line ++ 10 ∷ l) none) in
-    subst (λ (l : List ℕ). IsEntry l c) (sym is) (joined comment line c one two idle says)
+    subst (λ (l : List ℕ). IsEntry l k c) (sym is) (joined comment line k c one two says asks)

@@ -1,14 +1,17 @@
 -- What the text of a journal says as a script.
-use Rattle.std.proofs.Common.{◌≡◌, ◌⊎◌, inl, inr, ℕ, List, [], ◌∷◌, ◌++◌, map, refl, sym, ap, ◌∙◌, append-nil}
+use Rattle.std.proofs.Common.{◌≡◌, ◌⊎◌, inl, inr, ℕ, Bool, false, List, [], ◌∷◌, ◌++◌, map, refl, sym, ap, subst, ◌∙◌, append-nil}
 use Rattle.pid_file.proofs.Cuts.{ended_more, lines_split, map_append}
 use Rattle.pid_file.specs.Lines.{drop_cr, lines_of}
 use Rattle.pid_file.specs.WholeLines.{ended_pieces, open_part, whole_lines}
 use Rattle.pid_moderation.specs.History.{Asked, History}
 use Rattle.pid_moderation.specs.Judgement.{after, after_all}
 use Rattle.pid_script.specs.Replies.{commands_of_lines, history_after}
-use Rattle.pid_journal.specs.Journals.{IsEntry, JournalLeads}
-use Rattle.pid_journal.specs.Laws.{DoubtsLeaveEither, JournalsAreScripts}
-use Rattle.pid_journal.proofs.Appending.{after_both, commands_both, whole_both}
+use Rattle.pid_journal.specs.declared.counts.Counts.{Counts}
+use Rattle.pid_journal.specs.Comments.{counts_held}
+use Rattle.pid_journal.specs.Doubts.{IsInDoubt}
+use Rattle.pid_journal.specs.Journals.{AreTrue, IsEntry, JournalLeads, after_line, noted_after}
+use Rattle.pid_journal.specs.Laws.{CopiesAreOnWay, DoubtsAreOnWay, DoubtsLeaveEither, JournalsAreScripts}
+use Rattle.pid_journal.proofs.Appending.{after_both, commands_both, entry_asks, entry_true, true_both, whole_both}
 
 pub scripts : JournalsAreScripts
 scripts start h text is =
@@ -20,12 +23,15 @@ one_part h [] ys c is = inl refl
 one_part h (x ∷ []) ys c is = inr (let same : x ≡ c = cc in ap (after h) same)
 one_part h (x ∷ y ∷ xs) ys c is = absurd (let no : ⊥ = cc in no)
 
+part_lines : (part gone : List ℕ) → whole_lines part ++ map drop_cr (ended_pieces (open_part part ++ gone)) ≡ whole_lines (part ++ gone)
+part_lines part gone = sym (ap (map drop_cr) (ended_more part gone) ∙ map_append drop_cr (ended_pieces part) (ended_pieces (open_part part ++ gone)))
+
 -- the whole lines of a part of an entry
-part_asks : (part gone : List ℕ) (c : Asked) → IsEntry (part ++ gone) c → commands_of_lines (whole_lines part) ++ commands_of_lines (map drop_cr (ended_pieces (open_part part ++ gone))) ≡ c ∷ []
-part_asks part gone c is =
+part_asks : (part gone : List ℕ) (k : Counts) (c : Asked) → IsEntry (part ++ gone) k c → commands_of_lines (whole_lines part) ++ commands_of_lines (map drop_cr (ended_pieces (open_part part ++ gone))) ≡ c ∷ []
+part_asks part gone k c is =
     sym (commands_both (whole_lines part) (map drop_cr (ended_pieces (open_part part ++ gone))))
-    ∙ ap commands_of_lines (sym (ap (map drop_cr) (ended_more part gone) ∙ map_append drop_cr (ended_pieces part) (ended_pieces (open_part part ++ gone))))
-    ∙ is.asks
+    ∙ ap commands_of_lines (part_lines part gone)
+    ∙ entry_asks (part ++ gone) k c is
 
 -- the history after the whole lines of a text and a part
 joined_history : (start h : History) (text before part : List ℕ) → text ≡ before ++ part → JournalLeads start before h → history_after start (whole_lines text) ≡ after_all h (commands_of_lines (whole_lines part))
@@ -40,7 +46,49 @@ pub either : DoubtsLeaveEither
 either start h next text doubt =
     let joined = joined_history start h text doubt.before doubt.part doubt.parts doubt.leads in
     let rest = commands_of_lines (map drop_cr (ended_pieces (open_part doubt.part ++ doubt.gone))) in
-    elim (one_part h (commands_of_lines (whole_lines doubt.part)) rest doubt.command (part_asks doubt.part doubt.gone doubt.command doubt.entry)) [
+    elim (one_part h (commands_of_lines (whole_lines doubt.part)) rest doubt.command (part_asks doubt.part doubt.gone (counts_held h) doubt.command doubt.entry)) [
       | inl same ↦ inl (joined ∙ same)
       | inr one ↦ inr (joined ∙ one ∙ sym doubt.ends)
     ]
+
+-- THE WAY
+
+pub copies : CopiesAreOnWay
+copies start h last text more one two = record {
+  told = two.told;
+  before = whole_lines text;
+  later = whole_lines more;
+  parts = whole_both text more one.whole;
+  so_far = one.leads;
+}
+
+true_front : (xs ys : List (List ℕ)) (h : History) (noted : Bool) → AreTrue h noted (xs ++ ys) → AreTrue h noted xs
+true_front [] ys h noted all = tt
+true_front (x ∷ xs) ys h noted all = (all.0, true_front xs ys (after_line h x) (noted_after noted x) all.1)
+
+-- the comments of a journal and of a part of an entry
+part_true : (start h next : History) (text : List ℕ) (doubt : IsInDoubt start text h next) → AreTrue start false (whole_lines doubt.before ++ whole_lines doubt.part)
+part_true start h next text doubt =
+    let rest = map drop_cr (ended_pieces (open_part doubt.part ++ doubt.gone)) in
+    true_both (whole_lines doubt.before) (whole_lines doubt.part) start false doubt.leads.told (λ m. subst (λ (g : History). AreTrue g m (whole_lines doubt.part)) (sym doubt.leads.leads)
+    (true_front (whole_lines doubt.part) rest h m (subst (λ (ls : List (List ℕ)). AreTrue h m ls) (sym (part_lines doubt.part doubt.gone)) (entry_true h m (doubt.part ++ doubt.gone) doubt.command doubt.entry))))
+
+doubt_lines : (start h next : History) (text : List ℕ) (doubt : IsInDoubt start text h next) → whole_lines text ≡ whole_lines doubt.before ++ whole_lines doubt.part
+doubt_lines start h next text doubt = ap whole_lines doubt.parts ∙ whole_both doubt.before doubt.part doubt.leads.whole
+
+pub doubts : DoubtsAreOnWay
+doubts start h next text doubt =
+    let lines = doubt_lines start h next text doubt in
+    let told = subst (λ (ls : List (List ℕ)). AreTrue start false ls) (sym lines) (part_true start h next text doubt) in (
+      record { told = told; before = whole_lines doubt.before; later = whole_lines doubt.part; parts = lines; so_far = doubt.leads.leads },
+      λ none. record {
+        told = told;
+        before = whole_lines text;
+        later = [];
+        parts = sym (append-nil (whole_lines text));
+        so_far =
+            joined_history start h text doubt.before doubt.part doubt.parts doubt.leads
+            ∙ ap (after_all h) (entry_asks doubt.part (counts_held h) doubt.command (subst (λ (l : List ℕ). IsEntry l (counts_held h) doubt.command) (ap (λ (l : List ℕ). doubt.part ++ l) none ∙ append-nil doubt.part) doubt.entry))
+            ∙ sym doubt.ends;
+      },
+    )

@@ -2,6 +2,7 @@
 use Rattle.std.specs.Prelude.{◌≡◌, ℕ, List, ◌++◌}
 use Rattle.pid_moderation.specs.History.{Asked, History}
 use Rattle.pid_moderation.specs.Judgement.{after}
+use Rattle.pid_journal.specs.Comments.{counts_held}
 use Rattle.pid_journal.specs.Journals.{IsEntry, JournalLeads}
 
 -- The text is that of a journal that leads to the one history, and a prefix of an entry more, maybe
@@ -13,5 +14,5 @@ pub record IsInDoubt (start : History) (text : List ℕ) (h next : History) : Ty
   pub command : Asked
   pub parts : text ≡ before ++ part
   pub leads : JournalLeads start before h
-  pub entry : IsEntry (part ++ gone) command
+  pub entry : IsEntry (part ++ gone) (counts_held h) command
   pub ends : next ≡ after h command

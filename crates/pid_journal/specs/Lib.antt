@@ -1,6 +1,8 @@
 pub mod Files
+pub mod Comments
 pub mod Journals
 pub mod Doubts
 pub mod Pairs
+pub mod Openings
 pub mod Laws
 pub mod Steps

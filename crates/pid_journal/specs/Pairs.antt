@@ -1,5 +1,5 @@
 -- A registry and the journal in front of it: what they show. Choices of this project.
-use Rattle.std.specs.Prelude.{◌≡◌, ◌⊎◌, ℕ, Bool, true, false, not, ◌&&◌, List, Some, Result, Err}
+use Rattle.std.specs.Prelude.{◌≡◌, ◌⊎◌, ℕ, Bool, true, false, not, ◌&&◌, List, [], Some, Result, Err}
 use Rattle.std.specs.Prelude.{IfOk}
 use Rattle.pid_moderation.specs.declared.command.Reply.{Reply}
 use Rattle.pid_moderation.specs.declared.refusal.Refusal.{Refusal}
@@ -31,13 +31,14 @@ module _ {R J : Type 0} (registry : Ghosts R) (file : files.Ghosts J) where
     pub leads : JournalLeads start text h
 
   -- It has failed at a command, of whose entry the journal may have a part: the registry shows the
-  -- history before, and the entry could not be cut off; or the registry itself has failed.
+  -- history before, and the entry could not be cut off; or the registry itself has failed, and the
+  -- entry is whole.
   pub record PairFailsBetween (start : History) (p : Journaled R J) (h next : History) : Type 0 where
     pub text : List ℕ
     pub safe : file.safe p.journal ≡ Some text
     pub doubt : IsInDoubt start text h next
     pub fails : ((p.failed ≡ true) × registry.showing.shows p.registry h)
-        ⊎ registry.showing.fails_between p.registry h next
+        ⊎ ((doubt.gone ≡ []) × registry.showing.fails_between p.registry h next)
 
   -- the relations by which sessions describe it, if its journal begins at a history
   abbrev pub pair_showing_from : History → Showing (Journaled R J)

@@ -91,6 +91,16 @@ fn form_of(alloc: Global, command: &Command) -> Result<String, AllocError> {
     Ok(form.finish())
 }
 
+// The comment, and its LF.
+fn comment_of(alloc: Global, seconds: u64, status: &Status) -> Result<String, AllocError> {
+    let revision = status.revision;
+    let accounts = status.accounts;
+    let items = status.items;
+    let submissions = status.submissions;
+    let counts = format!(in alloc; "accounts={accounts}&items={items}&submissions={submissions}")?;
+    format!(in alloc; "# time={seconds}&revision={revision}&{counts}\n")
+}
+
 /// The entry of a command: a comment with the time, in seconds since the beginning of 1970, and
 /// what the registry holds before the command; and the line of the command.
 pub fn compose(
@@ -102,13 +112,7 @@ pub fn compose(
     let form = form_of(alloc, command)?;
     let word = verb_of(&command.act).word();
     let account = command.account.as_str();
-    let revision = status.revision;
-    let accounts = status.accounts;
-    let items = status.items;
-    let submissions = status.submissions;
-    let mut entry = format!(in alloc;
-        "# {seconds} revision={revision} accounts={accounts} items={items} submissions={submissions}\n"
-    )?;
+    let mut entry = comment_of(alloc, seconds, status)?;
     entry.push_str(word)?;
     entry.push_str(" ")?;
     entry.push_str(account)?;

@@ -2,25 +2,22 @@
 ghost use Rattle.std.specs.Prelude.{◌≡◌, IfOk, IfErr, string_bytes};
 ghost use Rattle.pid_moderation.specs.Faults.{IsMemoryOrStore};
 ghost use Rattle.pid_moderation.specs.Files.{asks};
-ghost use Rattle.pid_script.specs.ScriptLines.{is_idle_line};
+ghost use Rattle.pid_moderation.specs.RegistryStatus.{registry_status_of};
+ghost use Rattle.pid_journal.specs.Comments.{counts_in};
 ghost use Rattle.pid_journal.specs.Journals.{IsEntry};
 
 use crate::composing::compose;
+use crate::counts::{Counts, counts_said};
 use crate::sameness::is_same;
+use crate::status_counts::counts_of;
 use pid_moderation::{Command, Refusal, Status};
 use pid_reader::{split_line, without_cr};
 use pid_script::command_in_line;
 use std::alloc::Global;
 
-fn is_comment(line: &[u8]) -> bool
-    ensures { result ≡ is_idle_line line.now }
-{
-    matches!(line, [] | [b'#', ..])
-}
-
-// The command of an entry that is a comment and one line.
-fn read_entry(alloc: Global, entry: &[u8]) -> Result<Command, Refusal>
-    ensures { IfOk result (λ c. IsEntry entry.now (asks c)) }
+// What an entry says that is a comment and one line: counts and a command.
+fn read_entry(alloc: Global, entry: &[u8]) -> Result<(Counts, Command), Refusal>
+    ensures { IfOk result (λ said. IsEntry entry.now said.0 (asks said.1)) }
 {
     let Some((comment, rest)) = split_line(entry) else {
         return Err(Refusal::Store);
@@ -28,10 +25,14 @@ fn read_entry(alloc: Global, entry: &[u8]) -> Result<Command, Refusal>
     let Some((line, behind)) = split_line(rest) else {
         return Err(Refusal::Store);
     };
-    if !is_comment(without_cr(comment)) || !behind.is_empty() {
+    if !behind.is_empty() {
         return Err(Refusal::Store);
     }
-    command_in_line(alloc, without_cr(line))
+    let Some(counts) = counts_said(alloc, without_cr(comment))? else {
+        return Err(Refusal::Store);
+    };
+    let command = command_in_line(alloc, without_cr(line))?;
+    Ok((counts, command))
 }
 
 /// The entry of a command, from which a script reads this command. `Store` if there is none: no
@@ -43,13 +44,14 @@ pub fn entry_of(
     status: &Status,
     command: &Command,
 ) -> Result<String, Refusal>
-    ensures reads_back { IfOk result (λ entry. IsEntry (string_bytes entry) (asks command.now)) }
+    ensures reads_back { IfOk result (λ entry. IsEntry (string_bytes entry)
+        (counts_in (registry_status_of status.now)) (asks command.now)) }
     ensures fault { IfErr result IsMemoryOrStore }
 {
     let entry = compose(alloc, seconds, status, command)?;
     match read_entry(alloc, entry.as_bytes()) {
-        Ok(read) => {
-            if is_same(&read, command) {
+        Ok((counts, read)) => {
+            if counts == counts_of(status) && is_same(&read, command) {
                 Ok(entry)
             } else {
                 Err(Refusal::Store)

@@ -1,8 +1,10 @@
 //! The file of a journal.
-ghost use Rattle.std.specs.Prelude.{◌≡◌, ℕ, List, Option, IfSome, length};
+ghost use Rattle.std.specs.Prelude.{◌≡◌, ℕ, List, Option, IfOk, IfSome, length};
 ghost use Rattle.pid_journal.specs.Files.{IsAppended, IsCut};
 
 use pid_ident::WriteFault;
+use pid_moderation::Refusal;
+use std::alloc::Global;
 
 /// A file that a journal is written to, and a clock.
 pub trait JournalFile {
@@ -15,6 +17,12 @@ pub trait JournalFile {
     /// How many bytes are safe in the file.
     fn count(&self) -> u64
         ensures { IfSome (safe self.now) (λ text. result ≡ length text) };
+
+    /// The bytes that are safe in the file. `Memory` or `Store` if they cannot be read.
+    fn text(&mut self, alloc: Global) -> Result<Vec<u8>, Refusal>
+        ensures same { safe self.new ≡ safe self.old }
+        ensures read { IfOk result
+            (λ text. IfSome (safe self.old) (λ bytes. text.items ≡ bytes)) };
 
     /// Writes bytes to the end of the file and syncs it. After a fault any prefix of them may be
     /// there.

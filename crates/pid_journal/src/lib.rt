@@ -12,13 +12,22 @@
 
 mod beginning;
 mod composing;
+mod consulted;
+mod counts;
 mod entry;
 mod file;
+mod following;
+mod importing;
 mod journaled;
 pub mod laws;
 mod moderated;
 mod obeying;
+mod open_fault;
+mod opening;
+mod placing;
 mod sameness;
+mod status_counts;
 
 pub use file::JournalFile;
 pub use journaled::Journaled;
+pub use open_fault::OpenFault;

@@ -20,7 +20,7 @@ impl<R: Consulted, J: JournalFile> Moderated for Journaled<R, J> {
       shown = λ p h shows. both_live p.failed (R.is_live p.registry) shows.1.settled
           (R.lives.shown p.registry h shows.1.shown);
       fallen = λ p h next fails. either_fails p.failed (R.is_live p.registry) fails.1.fails
-          (R.lives.fallen p.registry h next);
+          (λ down. R.lives.fallen p.registry h next down.1);
     } };
 
     fn obey(&mut self, command: Command) -> Result<Reply, Refusal> {

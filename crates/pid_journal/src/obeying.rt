@@ -5,6 +5,7 @@ ghost use Rattle.pid_moderation.specs.Files.{asks};
 ghost use Rattle.pid_moderation.specs.History.{History};
 ghost use Rattle.pid_service_laws.specs.CallLaws.{StaysClean};
 ghost use Rattle.pid_service_laws.specs.Registries.{CommandLeaves};
+ghost use Rattle.pid_journal.specs.Comments.{counts_held};
 ghost use Rattle.pid_journal.specs.Journals.{IsEntry};
 ghost use Rattle.pid_journal.specs.Pairs.{
   ObeysAnywhere,
@@ -40,8 +41,8 @@ fn is_failed(refusal: Refusal) -> bool
 }
 
 // Whether a registry is live: one that has failed answers nothing else.
-fn is_answering<R: Consulted>(registry: &mut R) -> bool
-    ensures { IsProbed R.showing registry.old registry.new result }
+pub(crate) fn is_answering<R: Consulted>(registry: &mut R) -> bool
+    ensures { IsProbed R.showing R.is_live registry.old registry.new result }
 {
     match registry.status() {
         Ok(_) => true,
@@ -65,7 +66,8 @@ impl<R: Consulted, J: JournalFile> Journaled<R, J> {
     fn obey_noted(&mut self, entry: &[u8], command: Command) -> Result<Reply, Refusal>
         ensures honest { R.showing.is_clean self.new.registry → R.showing.is_clean self.old.registry }
         ensures obeyed { R.showing.is_clean self.new.registry → (start h : History)
-            → PairShows R.Moderated J.JournalFile start self.old h → IsEntry entry.now (asks command)
+            → PairShows R.Moderated J.JournalFile start self.old h
+            → IsEntry entry.now (counts_held h) (asks command)
             → CommandLeaves (pair_showing_from R.Moderated J.JournalFile start) result self.new h
             (asks command) }
     {

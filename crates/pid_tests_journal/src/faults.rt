@@ -50,7 +50,7 @@ fn an_entry_that_stays_fails_the_registry(rt: HostRuntime) -> Result<(), Fail> {
     Ok(())
 }
 
-fn root_of(alloc: Global) -> Result<Account, Fail> {
+pub(crate) fn root_of(alloc: Global) -> Result<Account, Fail> {
     match Account::of(alloc, "root") {
         Ok(account) => Ok(account),
         Err(_) => Err("root is an account")?,

@@ -3,7 +3,11 @@
 #![tactic(auto)]
 
 #[cfg(test)]
+mod consulting;
+#[cfg(test)]
 mod faults;
+#[cfg(test)]
+mod openings;
 #[cfg(test)]
 mod paper;
 #[cfg(test)]

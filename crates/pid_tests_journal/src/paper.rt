@@ -1,6 +1,7 @@
 //! A journal in memory, and a registry in front of which it stands.
 use pid_ident::{FaultyInput, FaultyOutput, WriteFault};
 use pid_journal::{JournalFile, Journaled};
+use pid_moderation::Refusal;
 use pid_script::{Moderated, ScriptEnd, run_script};
 use pid_service::{Registry, open};
 use sqlite::{Connection, MemStore};
@@ -53,6 +54,13 @@ impl JournalFile for Paper {
         self.bytes.len() as u64
     }
 
+    fn text(&mut self, alloc: Global) -> Result<Vec<u8>, Refusal> {
+        match Vec::from_slice(alloc, self.bytes.as_slice()) {
+            Ok(text) => Ok(text),
+            Err(_) => Err(Refusal::Memory),
+        }
+    }
+
     fn append(&mut self, bytes: &[u8]) -> Result<(), WriteFault> {
         self.take(bytes)
     }
@@ -75,6 +83,15 @@ pub(crate) fn new_in_memory(alloc: Global) -> Result<Registry<MemStore>, Fail> {
         Ok(registry) => Ok(registry),
         Err((_, _)) => Err("no registry")?,
     }
+}
+
+/// A journal with these bytes.
+pub(crate) fn paper_of(alloc: Global, bytes: &[u8]) -> Result<Paper, Fail> {
+    Ok(Paper {
+        bytes: Vec::from_slice(alloc, bytes)?,
+        good_appends: 1_000,
+        cuts: true,
+    })
 }
 
 /// A new registry, and in front of it a journal that takes so many appends.

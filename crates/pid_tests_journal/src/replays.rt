@@ -51,7 +51,7 @@ fn each_command_has_its_line_below_a_comment(rt: HostRuntime) -> Result<(), Fail
     let mut lines = Vec::new(alloc);
     let mut comments: u32 = 0;
     for line in paper.bytes.as_slice().split(|b| *b == b'\n') {
-        if line.starts_with(b"# 1764370000 revision=") {
+        if line.starts_with(b"# time=1764370000&revision=") {
             comments = u32::saturating_add(comments, 1);
         } else if !line.is_empty() {
             lines.extend_from_slice(line)?;

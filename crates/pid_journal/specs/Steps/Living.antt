@@ -34,5 +34,5 @@ module _ {R J : Type 0} (registry : Ghosts R) (file : files.Ghosts J) where
         (lives.shown p.registry h shows.1.shown);
     fallen = λ p h next fails.
         either_fails p.failed (registry.is_live p.registry) fails.1.fails
-        (lives.fallen p.registry h next);
+        (λ down. lives.fallen p.registry h next down.1);
   }

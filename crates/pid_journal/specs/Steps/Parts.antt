@@ -4,14 +4,20 @@ use Rattle.pid_moderation.specs.History.{History}
 use Rattle.pid_service_laws.specs.Registries.{Showing}
 use Rattle.pid_journal.specs.declared.file.JournalFile as files
 use Rattle.pid_journal.specs.declared.journaled.Journaled.{Journaled}
+use Rattle.pid_service_laws.specs.declared.moderated.Moderated.{Ghosts}
+use Rattle.pid_moderation.specs.declared.refusal.Refusal.{Refusal}
+use Rattle.pid_moderation.specs.declared.refusal.Refusal.TheVariants.{Failed}
 use Rattle.pid_journal.specs.Files.{LeavesPart}
+use Rattle.pid_journal.specs.Pairs.{PairShows}
 
 -- A registry was asked whether it is live.
-pub record IsProbed {R : Type 0} (w : Showing R) (old new : R) (live : Bool) : Type 0 where
+pub record IsProbed {R : Type 0} (w : Showing R) (is_live : R → Bool) (old new : R)
+    (live : Bool) : Type 0 where
   pub clean : w.is_clean new → w.is_clean old
   pub shown : w.is_clean new → (h : History) → w.shows old h → (live ≡ true) × w.shows new h
   pub fallen : (h next : History) → w.fails_between old h next
       → (live ≡ false) × w.fails_between new h next
+  pub off : is_live old ≡ false → (live ≡ false) × (new ≡ old)
 
 -- The entry after so many bytes was cut off, or the registry counts as failed.
 abbrev pub IsCutBack : {R J : Type 0} → files.Ghosts J → (old new : Journaled R J) → ℕ → Type 0
@@ -19,3 +25,11 @@ IsCutBack file old new count = (front behind : List ℕ)
     → file.safe old.journal ≡ Some (front ++ behind) → length front ≡ count → old.failed ≡ false
     → ((new.failed ≡ false) × (file.safe new.journal ≡ Some front))
     ⊎ ((new.failed ≡ true) × LeavesPart (file.safe new.journal) front behind)
+
+-- a refusal was answered for something that was not done, or that the registry has failed
+pub record RefusesNothing {R J : Type 0} (registry : Ghosts R) (file : files.Ghosts J)
+    (old new : Journaled R J) (refusal answered : Refusal) : Type 0 where
+  pub either : (answered ≡ refusal) ⊎ (answered ≡ Failed)
+  pub shown : registry.showing.is_clean new.registry → (start h : History)
+      → PairShows registry file start old h
+      → (answered ≡ refusal) × PairShows registry file start new h

@@ -1,16 +1,16 @@
-use Rattle.std.proofs.Common.{inl, inr, ℕ, List, Result, Err, sym, ap, subst, ◌∙◌}
+use Rattle.std.proofs.Common.{inl, inr, Result, Err, ap, subst, ◌∙◌}
 use Rattle.pid_moderation.specs.declared.lists.Status.{Status}
 use Rattle.pid_moderation.specs.declared.refusal.Refusal.{Refusal}
 use Rattle.pid_moderation.specs.declared.refusal.Refusal.TheVariants.{Failed}
 use Rattle.pid_moderation.specs.Files.{asks, reading_of}
 use Rattle.pid_moderation.specs.Views.{views_of}
-use Rattle.pid_journal.specs.Journals.{IsEntry}
 use Rattle.pid_journal.specs.Pairs.{PairShows}
 use Rattle.pid_journal.specs.Steps.Living.{registry_off}
 use Rattle.pid_journal.proofs.Forms.{broken_stays, tells_any}
 use Rattle.pid_journal.proofs.Noted.{fault_of, is_error}
 use Rattle.pid_journal.proofs.Probing.{refusal_or}
 use Rattle.pid_journal.proofs.Pairing.{not_both, still_shows, with_registry}
+use Rattle.pid_journal.proofs.Resuming.{entry_at}
 use Rattle.pid_journal.proofs.journaled.Journaled.obey.Goals as goal
 
 pub returns-then-self-clause-obeyed : goal.returns-then-self-clause-obeyed
@@ -52,7 +52,7 @@ pub returns-clause-obeyed : goal.returns-clause-obeyed
 returns-clause-obeyed g c clean start h shows =
     let t = c.in_ok-status.ensures.told (c.obey_noted.ensures.honest clean) h shows.shown in
     c.obey_noted.ensures.obeyed clean start h (still_shows g.R.Moderated g.J.JournalFile start h c.args.self.now c.status.new.self shows t.1)
-    (subst (λ (l : List ℕ). IsEntry l (asks c.args.command)) (sym c.as_bytes.ensures.value) c.in_ok-entry.ensures.reads_back)
+    (entry_at _ _ _ h (asks c.args.command) c.as_bytes.ensures.value t.0 c.in_ok-entry.ensures.reads_back)
 
 pub returns-clause-failed : goal.returns-clause-failed
 returns-clause-failed g c off =

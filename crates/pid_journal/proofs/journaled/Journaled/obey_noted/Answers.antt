@@ -1,4 +1,4 @@
-use Rattle.std.proofs.Common.{inl, inr, [], refl, sym, subst, append-nil, true, false}
+use Rattle.std.proofs.Common.{inl, inr, [], refl, sym, subst, append-nil}
 use Rattle.pid_moderation.specs.Files.{asks}
 use Rattle.pid_moderation.specs.Judgement.{after}
 use Rattle.pid_moderation.specs.Views.{views_of}

@@ -1,0 +1,19 @@
+//! Why a journal was not put in front of a registry.
+use pid_moderation::Refusal;
+use thiserror::Error;
+
+/// Why a journal was not put in front of a registry.
+#[derive(Clone, Copy, Debug, Error)]
+pub enum OpenFault {
+    /// Memory ran out, the registry has failed, or its store or the file of the journal failed.
+    /// Lines may have been obeyed; another opening goes on after them.
+    #[error("{0}")]
+    Refused(Refusal),
+    /// The journal is that of another registry: what it says was held where this registry stands
+    /// is not what this registry holds.
+    #[error("the journal is that of another registry")]
+    Another,
+    /// The registry has obeyed commands that the journal has not.
+    #[error("the registry is newer than the journal")]
+    Newer,
+}

@@ -1,0 +1,65 @@
+//! What HTTP asks of a registry with a journal in front of it.
+use crate::faults::root_of;
+use crate::paper::on_paper;
+use pid_ident::FaultyInput;
+use pid_moderation::Refusal;
+use pid_service_laws::{Consulted, ImportEnd};
+use std::process::Abort;
+use std::test::Fail;
+
+const FILE: &[u8] = b"8086  Intel\n";
+
+// The file comes in chunks, and is in one line.
+#[test]
+fn an_import_that_comes_as_an_input_has_its_line(rt: HostRuntime) -> Result<(), Fail> {
+    let alloc = rt.alloc();
+    let mut registry = on_paper(alloc, 10, true)?;
+    let mut input = FaultyInput::new(FILE, 5);
+    let answer = registry.import_from(root_of(alloc)?, None, &mut input);
+    assert!(rt; answer.is_ok());
+    assert!(rt; matches!(registry.status(), Ok(status) if status.items == 1));
+    let (_, paper) = registry.into_parts();
+    assert!(rt;
+        paper
+            .bytes
+            .as_slice()
+            .ends_with(b"\nimport root file=8086++Intel%0A\n")
+    );
+    Ok(())
+}
+
+// Nothing is written of an input that fails.
+#[test]
+fn an_input_that_fails_has_no_line(rt: HostRuntime) -> Result<(), Fail> {
+    let alloc = rt.alloc();
+    let mut registry = on_paper(alloc, 10, true)?;
+    let mut input = FaultyInput::new(FILE, 5).failing_after(1);
+    let answer = registry.import_from(root_of(alloc)?, None, &mut input);
+    assert!(rt; matches!(answer, Err(ImportEnd::Body)));
+    assert!(rt; matches!(registry.status(), Ok(status) if status.items == 0));
+    let (_, paper) = registry.into_parts();
+    assert!(rt; paper.bytes.is_empty());
+    Ok(())
+}
+
+// One that has failed answers nothing else.
+#[test]
+fn questions_find_out_that_it_has_failed(rt: HostRuntime) -> Result<(), Fail> {
+    let alloc = rt.alloc();
+    let mut registry = on_paper(alloc, 0, false)?;
+    let mut input = FaultyInput::new(FILE, 5);
+    let answer = registry.import_from(root_of(alloc)?, None, &mut input);
+    assert!(rt; matches!(answer, Err(ImportEnd::Refused(Refusal::Store))));
+    let mut input = FaultyInput::new(FILE, 5);
+    let answer = registry.import_from(root_of(alloc)?, None, &mut input);
+    assert!(rt; matches!(answer, Err(ImportEnd::Refused(Refusal::Failed))));
+    assert!(rt; matches!(registry.status(), Err(Refusal::Failed)));
+    assert!(rt; matches!(registry.children(None), Err(Refusal::Failed)));
+    assert!(rt; matches!(registry.submission(1), Err(Refusal::Failed)));
+    assert!(rt; matches!(registry.pending(0), Err(Refusal::Failed)));
+    assert!(rt; matches!(registry.queue(0), Err(Refusal::Failed)));
+    assert!(rt; matches!(registry.changes(0, None), Err(Refusal::Failed)));
+    assert!(rt; matches!(registry.submissions(None, None, 0), Err(Refusal::Failed)));
+    assert!(rt; matches!(registry.export_length(), Err(Refusal::Failed)));
+    Ok(())
+}
