@@ -3,7 +3,8 @@
 Proves every crate and its tests from nothing, runs the tests and the programs as two compilers
 build them (`rt ci`, in a copy without the must-fail edits), and tries the built program against
 real peers (tests/run). With --edits `rt ci` runs in the repository itself, and the prover has to
-refuse each edit. The last line is 'N passed, N failed', and ', N skipped' if cases were skipped.
+refuse each edit, and for more than a name that it takes away. The last line is 'N passed,
+N failed', and ', N skipped' if cases were skipped.
 """
 import glob
 import os
@@ -26,6 +27,8 @@ GOOD = re.compile(
     r"(?!rt: ).*: proved|statements .*|by-macro: .*|== .*|test .* ok|test result: ok.*|rt: chose.*"
     r"|running \d+ test.*|rt: must-fail .*: refused, as it must be(?!.*says little).*|"
 )
+# What it counts as passed, though no contract refused the edit: a proof names what that took away.
+FOR_A_NAME = re.compile(r"rt: must-fail .*: refused, as it must be.*says little.*")
 
 
 def counted(line):
@@ -36,17 +39,20 @@ def counted(line):
 
 def ran(folder, *words):
     """Runs a command and shows what it prints, each line with the minutes until then. Returns the
-    counts of the last line, with a failure if the status says so."""
+    counts of the last line, with a failure if the status says so, and each edit that was refused
+    for a name alone as failed."""
     how = {"stdin": subprocess.DEVNULL, "stdout": subprocess.PIPE, "stderr": subprocess.STDOUT}
     # What is tried was built in the folder, whatever the caller's PCIIDS names.
     environment = {name: value for name, value in os.environ.items() if name != "PCIIDS"}
-    start, line = time.monotonic(), ""
+    start, line, named = time.monotonic(), "", 0
     with subprocess.Popen(words, cwd=folder, env=environment, errors="replace", **how) as running:
         for line in map(str.rstrip, running.stdout):
             if not GOOD.fullmatch(line):
                 print(f"{(time.monotonic() - start) / 60:6.1f}  {line}", flush=True)
+            named += FOR_A_NAME.fullmatch(line) is not None
     passed, failed, skipped = counted(line)
-    return passed, failed + (running.returncode != 0 and not failed), skipped
+    failed += running.returncode != 0 and not failed
+    return max(passed - named, 0), failed + named, skipped
 
 
 def gate(folder):

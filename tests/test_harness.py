@@ -7,7 +7,7 @@ from concurrent.futures import ThreadPoolExecutor
 
 import pytest
 
-from gate import counted
+from gate import PROGRAMS, counted, gate
 from program import TOP
 
 HERE = os.path.join(TOP, "tests")
@@ -102,6 +102,14 @@ LAST_LINES = {
     "": (0, 1, 0),
 }
 
+# What `rt must-fail` prints of an edit: one that a clause refuses, and one for a name alone.
+REFUSED = "rt: must-fail pid_a/one.edit: refused, as it must be: src/lib.rt:9:5: error: goal `says`"
+FOR_A_NAME = (
+    "rt: must-fail pid_a/two.edit: refused, as it must be (only because a proof file names what the"
+    " edit took away, so this says little of the contract: change a value and keep the names):"
+    " proofs/one/Answers.antt:3:7: error: `c` is not in scope"
+)
+
 
 def line_of(passed, failed, skipped):
     return f"{passed} passed, {failed} failed" + (f", {skipped} skipped" if skipped else "")
@@ -143,6 +151,34 @@ def frame(folder):
 @pytest.mark.parametrize("line", LAST_LINES)
 def test_last_lines(cases, line):
     cases.equal(f"gate: the last line {line!r}", counted(line), LAST_LINES[line])
+
+
+@pytest.fixture
+def proved(folder, monkeypatch):
+    """A folder for the gate, in which `rt ci` prints the file `said` and the tests pass."""
+    scripts = {"rt": "cat said\n", "tests/run": "echo 2 passed, 0 failed\n"}
+    scripts.update(dict.fromkeys(PROGRAMS, ""))
+    for name, text in scripts.items():
+        path = os.path.join(folder, name)
+        os.makedirs(os.path.dirname(path), exist_ok=True)
+        with open(path, "w", encoding="utf-8") as file:
+            file.write("#!/bin/sh\n" + text)
+        os.chmod(path, 0o755)
+    monkeypatch.setenv("PATH", folder + os.pathsep + os.environ["PATH"])
+    return folder
+
+
+@pytest.mark.parametrize("names", range(3))
+def test_edits_refused_for_a_name(cases, proved, capsys, names):
+    """Each fails the gate, though `rt ci` counts it as passed."""
+    said = [REFUSED, *[FOR_A_NAME] * names, f"{4 + names} passed, 0 failed"]
+    with open(os.path.join(proved, "said"), "w", encoding="utf-8") as file:
+        file.write("\n".join(said) + "\n")
+    has_failed = gate(proved)
+    lines = capsys.readouterr().out.splitlines()
+    cases.equal("the last line", lines[-1], line_of(6, names, 0))
+    cases.equal("the gate has failed", has_failed, names > 0)
+    cases.equal("edits shown", sum("must-fail" in it for it in lines), names)
 
 
 def test_broken_parts(cases, frame):
