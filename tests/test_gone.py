@@ -1,5 +1,6 @@
 """A registry whose file or log was removed, replaced, moved or emptied while a script or a server
 has it open: the next command is refused as 17 and ends it, since what it wrote would be lost."""
+import itertools
 import os
 import shutil
 import subprocess
@@ -29,7 +30,13 @@ def away(path):
     os.rename(path, path + ".away")
 
 
-DEEDS = (os.remove, replaced, emptied, away)
+def linked(path):
+    """The name leads to the file by a link, whose log would have another name."""
+    away(path)
+    os.symlink(path + ".away", path)
+
+
+DEEDS = (os.remove, replaced, emptied, away, linked)
 
 
 def opened(path):
@@ -48,17 +55,32 @@ def sent(running, line):
 
 
 def test_script(cases, folder):
-    for deed in DEEDS:
-        for end in ("", "-wal"):
-            name = f"script: {deed.__name__} {end or 'the file'}"
-            path = os.path.join(folder, f"{deed.__name__}{end}.db")
-            cases.equal(f"{name}: a registry", script(path, IMPORT)[2], 0)
-            running, first = opened(path)
-            deed(path + end)
-            told = sent(running, "account root who=bob&rank=0")
-            rest = running.communicate(b"export\n", timeout=60)
-            got = (first, told, *rest, running.returncode)
-            cases.equal(name, got, (b"ok\n", REFUSED, b"", b"", 3))
+    """Of a registry that was there, and of one that the script itself has made."""
+    for deed, end, lines in itertools.product(DEEDS, ("", "-wal"), ((IMPORT,), ())):
+        name = f"{deed.__name__} {end or 'the file'}, {'old' if lines else 'new'}"
+        path = os.path.join(folder, f"{deed.__name__}{end}{len(lines)}.db")
+        for line in lines:
+            cases.equal(f"script: {name}: a registry", script(path, line)[2], 0)
+        running, first = opened(path)
+        deed(path + end)
+        told = sent(running, "account root who=bob&rank=0")
+        rest = running.communicate(b"export\n", timeout=60)
+        got = (first, told, *rest, running.returncode)
+        cases.equal(f"script: {name}", got, (b"ok\n", REFUSED, b"", b"", 3))
+
+
+def test_link(cases, folder):
+    """A registry that is opened by a link: what counts is the file that the link led to."""
+    path, link = os.path.join(folder, "r.db"), os.path.join(folder, "link.db")
+    cases.equal("a link: a registry", script(path, IMPORT)[2], 0)
+    os.symlink(path, link)
+    running, first = opened(link)
+    kept = sent(running, "account root who=bob&rank=0")
+    replaced(path)
+    told = sent(running, "account root who=carol&rank=0")
+    running.communicate(timeout=60)
+    got = (first, kept, told, running.returncode)
+    cases.equal("a link: its file is replaced", got, (b"ok\n", b"ok\n", REFUSED, 3))
 
 
 def test_folder(cases, folder):
