@@ -1,0 +1,3 @@
+pub mod Filings
+pub mod KeptNumbers
+pub mod Steps
