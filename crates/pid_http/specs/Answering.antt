@@ -20,8 +20,8 @@ use Rattle.pid_moderation.specs.Children.{children_of}
 use Rattle.pid_moderation.specs.PendingPages.{pending_in}
 use Rattle.pid_moderation.specs.QueuePages.{queue_in}
 use Rattle.pid_moderation.specs.RegistryStatus.{status_of_registry}
-use Rattle.pid_moderation.specs.SubmissionPages.{submissions_of}
-use Rattle.pid_moderation.specs.declared.lists.TheConstants.{PAGE, SEARCHED}
+use Rattle.pid_service_laws.specs.Searching.{sought_page}
+use Rattle.pid_moderation.specs.declared.lists.TheConstants.{PAGE}
 use Rattle.pid_file.specs.Printing.{print}
 use Rattle.pid_http_stream.specs.Replies.{Answer, answer_with}
 use Rattle.pid_http_stream.specs.declared.reply_head.Content.TheVariants.{Text}
@@ -94,7 +94,7 @@ answer_to h (Changes since after) format = changes_answer format
     (changes_in PAGE since (start_text after) (views_of h))
 answer_to h (Queue after) format = queue_answer format (queue_in PAGE after (views_of h))
 answer_to h (Submissions path author before) format = submissions_answer format
-    (submissions_of PAGE SEARCHED (record { path = path; author = author; before = before })
+    (sought_page (record { path = path; author = author; before = before })
     (views_of h))
 answer_to h Status format = status_answer format (status_of_registry h)
 answer_to h (Rank who) format = rank_answer format who (rank_of who h)

@@ -7,6 +7,8 @@ use Rattle.pid_moderation.specs.Items.{Items, name_at}
 use Rattle.pid_moderation.specs.Views.{Views}
 use Rattle.pid_service.specs.ItemTexts.{text_of_items}
 use Rattle.pid_moderation.specs.declared.lists.Item.{Item}
+use Rattle.pid_service_searches.specs.KeptNumbers.{HoldsNumbers}
+use Rattle.pid_service_searches.specs.declared.numbers.Searches.{Searches}
 use Rattle.pid_service.specs.KeptViews.{HoldsChanges, HoldsTop, HoldsWaiting, IsRightFor, KeepsNothing, LeavesKept, nothing}
 use Rattle.pid_service.specs.declared.changes.KeptChanges.{KeptChanges}
 use Rattle.pid_service.specs.declared.kept_views.KeptItems.{KeptItems}
@@ -46,7 +48,7 @@ no_changes changes v none = subst (λ (c : Option KeptChanges). HoldsChanges c v
 
 -- nothing is right about any views
 pub nothing_kept : (k : KeptViews) (v : Views) → KeepsNothing k → IsRightFor k v
-nothing_kept k v none = let items = no_items k.items v.items none.items in record { names = items.0; text = items.1; top = no_top k.top v none.top; changes = no_changes k.changes v none.changes; pending = no_numbers k.pending v none.pending }
+nothing_kept k v none = let items = no_items k.items v.items none.items in record { names = items.0; text = items.1; top = no_top k.top v none.top; changes = no_changes k.changes v none.changes; pending = no_numbers k.pending v none.pending; numbers = subst (λ (n : Searches). HoldsNumbers n v) (sym none.numbers) tt }
 
 -- what is right about the items stays so while they are the same
 pub same_items : (k : KeptItems) (old new : Items) → new ≡ old → ItemsRight k old → ItemsRight k new

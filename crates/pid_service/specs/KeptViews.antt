@@ -17,7 +17,9 @@ use Rattle.pid_service.specs.declared.changes.KeptChanges.{KeptChanges}
 use Rattle.pid_service.specs.declared.kept_views.KeptItems.{KeptItems}
 use Rattle.pid_service.specs.declared.kept_views.KeptViews.{KeptViews}
 use Rattle.pid_service.specs.declared.registry.Registry.{Registry}
+use Rattle.pid_service_searches.specs.declared.numbers.Searches.TheVariants.{Unread}
 use Rattle.pid_service.specs.ItemTexts.{text_of_items}
+use Rattle.pid_service_searches.specs.KeptNumbers.{HoldsNumbers}
 use Rattle.pid_service.specs.Registries.{HasCleanDisk}
 
 -- what it keeps
@@ -39,6 +41,7 @@ pub record KeepsNothing (k : KeptViews) : Type 0 where
   pub changes : k.changes ≡ None
   pub pending : k.pending ≡ None
   pub read : k.pending_read ≡ false
+  pub numbers : k.numbers ≡ Unread
 
 -- What is kept stays: the names, and the text, the vendors and classes and the numbers if there are
 -- any. If there are none, they may come to be kept: the numbers only if they were not read before.
@@ -102,6 +105,8 @@ pub record IsRightFor (k : KeptViews) (v : Views) : Type 0 where
   pub changes : HoldsChanges k.changes v
   -- the numbers of what is pending, if they are kept
   pub pending : HoldsWaiting k.pending v
+  -- the numbers of all submissions by path and by author, if they are kept
+  pub numbers : HoldsNumbers k.numbers v
 
 -- while the disk returns what was written, what is kept is right about the history
 abbrev pub KeepsRight : {S : Type 0} (store : Ghosts S) → Registry S store → History → Type 0

@@ -10,7 +10,8 @@ ghost use Rattle.pid_moderation.specs.ItemPairs.{pair_of};
 ghost use Rattle.pid_moderation.specs.PendingPages.{pending_in, told_of};
 ghost use Rattle.pid_moderation.specs.QueuePages.{queue_in, queued_of};
 ghost use Rattle.pid_moderation.specs.RegistryStatus.{registry_status_of, status_of_registry};
-ghost use Rattle.pid_moderation.specs.SubmissionPages.{submission_page_of, submissions_of};
+ghost use Rattle.pid_moderation.specs.SubmissionPages.{submission_page_of};
+ghost use Rattle.pid_service_laws.specs.Searching.{sought_page};
 ghost use Rattle.pid_moderation.specs.Submissions.{discussion_in, discussion_of};
 ghost use Rattle.pid_moderation.specs.Views.{items_of, rank_of, views_of};
 ghost use Rattle.pid_moderation.specs.Writes.{tree_of};
@@ -26,8 +27,7 @@ ghost use Rattle.pid_service.specs.Registries.{is_live as lives};
 use crate::registry::Registry;
 use pid_ident::{Account, Input, Key, Path};
 use pid_moderation::{
-    Changes, Discussion, Item, PAGE, Pending, Queued, Rank, Refusal, Reply, SEARCHED, Status,
-    SubmissionPage,
+    Changes, Discussion, Item, PAGE, Pending, Queued, Rank, Refusal, Reply, Status, SubmissionPage,
 };
 use pid_service_laws::{Consulted, ImportEnd};
 use sqlite::Alter;
@@ -74,18 +74,18 @@ impl<S: Alter + Drop> Consulted for Registry<S> {
         before: u32,
     ) -> Result<SubmissionPage, Refusal>
         ensures answered { AnswersAsAny S.Store self.old self.new result
-            (λ h page. submission_page_of page ≡ submissions_of PAGE SEARCHED (record {
+            (λ h page. submission_page_of page ≡ sought_page (record {
               path = option_copied path.entry;
               author = option_copied author.entry;
               before = before;
             }) (views_of h)) }
         ensures own { Answers S.Store self.old self.new result
-            (λ h page. submission_page_of page ≡ submissions_of PAGE SEARCHED (record {
+            (λ h page. submission_page_of page ≡ sought_page (record {
               path = option_copied path.entry;
               author = option_copied author.entry;
               before = before;
             }) (views_of h)) }
-        ensures stays { kept_views self.new ≡ kept_views self.old }
+        ensures stays { LeavesUnread (kept_views self.old) (kept_views self.new) }
     {
         Registry::submissions(self, path, author, before)
     }

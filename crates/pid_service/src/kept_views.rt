@@ -23,7 +23,9 @@ use crate::top::top_after;
 use crate::waiting::add_number;
 use pid_lookup::NameCache;
 use pid_moderation::{Change, Effect, Item, State};
+use pid_service_searches::{Searches, numbers_after};
 use std::alloc::{AllocError, Global};
+use std::mem::replace;
 
 /// Views of the items that the tables show, or nothing: the names that were asked for last, 1,024
 /// at most, and the canonical text of all items, of 16,777,216 bytes at most.
@@ -34,8 +36,9 @@ pub struct KeptItems {
 }
 
 /// Views of the history that the tables show, or nothing: those of the items, the vendors and the
-/// classes with their names, the items that were changed last, 99 at most, and the numbers of what
-/// is pending, rising, 1,000,000 at most.
+/// classes with their names, the items that were changed last, 99 at most, the numbers of what is
+/// pending, rising, 1,000,000 at most, and those of all submissions, 10,000,000 at most, by their
+/// paths and by their authors.
 #[derive(Drop)]
 pub struct KeptViews {
     pub(crate) items: KeptItems,
@@ -44,6 +47,7 @@ pub struct KeptViews {
     pub(crate) pending: Option<Vec<u32>>,
     /// Whether the numbers were read. If none are kept then, they were too many, or memory ran out.
     pub(crate) pending_read: bool,
+    pub(crate) numbers: Searches,
 }
 
 fn writes_items(effect: &Effect) -> bool
@@ -116,6 +120,7 @@ impl KeptViews {
             changes: None,
             pending: None,
             pending_read: false,
+            numbers: Searches::Unread,
         })
     }
 
@@ -128,12 +133,13 @@ impl KeptViews {
         self.changes = None;
         self.pending = None;
         self.pending_read = false;
+        self.numbers = Searches::Unread;
     }
 
     /// Follows a change: what is kept of the items and the changed items are dropped if it writes
     /// one, and the vendors and the classes if it writes one of them; the number of a submission is
     /// added when it is made, and taken away when it is decided.
-    pub(crate) fn follow(&mut self, change: &Change)
+    pub(crate) fn follow(&mut self, alloc: Global, change: &Change)
         ensures right { (v : Views) → AreViews v → FitsViews change.now v → IsRightFor self.old v
             → IsRightFor self.new (changed change.now v) }
         ensures spares { (self.new.items ≡ nothing)
@@ -143,6 +149,8 @@ impl KeptViews {
     {
         let numbers = self.pending.take();
         self.pending = waiting_after(numbers, &change.effect);
+        let kept = replace(&mut self.numbers, Searches::Lacking);
+        self.numbers = numbers_after(alloc, kept, &change.effect);
         let top = self.top.take();
         self.top = top_after(top, &change.effect);
         if !writes_items(&change.effect) {

@@ -35,7 +35,7 @@ impl<S: Alter + Drop> Registry<S> {
         match judged {
             Judged::Kept(reply) => Ok(*reply),
             Judged::Accepted { change, reply } => {
-                self.kept.follow(change);
+                self.kept.follow(self.alloc, change);
                 match write(&mut self.tables.conn, self.alloc, change) {
                     Ok(()) => Ok(*reply),
                     Err(fault) => {

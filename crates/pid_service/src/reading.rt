@@ -7,7 +7,8 @@ ghost use Rattle.pid_moderation.specs.ItemPairs.{pair_of};
 ghost use Rattle.pid_moderation.specs.ChangePages.{changes_in, page_of, start_text};
 ghost use Rattle.pid_moderation.specs.Children.{children_of};
 ghost use Rattle.pid_moderation.specs.Submissions.{discussion_in, discussion_of};
-ghost use Rattle.pid_moderation.specs.SubmissionPages.{submission_page_of, submissions_of};
+ghost use Rattle.pid_moderation.specs.SubmissionPages.{submission_page_of};
+ghost use Rattle.pid_service_laws.specs.Searching.{sought_page};
 ghost use Rattle.pid_service.specs.Asking.{Answers, AnswersIfThere};
 ghost use Rattle.pid_service.specs.KeptViews.{LeavesUnread, kept_views};
 ghost use Rattle.pid_service.specs.Steps.Asking.{answered_as};
@@ -16,8 +17,8 @@ use crate::changes::{kept_after, kept_page};
 use crate::laws;
 use crate::registry::Registry;
 use pid_ident::{Account, Name, Path};
-use pid_moderation::{Changes, Discussion, Item, PAGE, Rank, Refusal, SEARCHED, SubmissionPage};
-use pid_tables::lists::submissions_page;
+use pid_moderation::{Changes, Discussion, Item, PAGE, Rank, Refusal, SubmissionPage};
+use pid_service_searches::{Searches, page_by, read_numbers};
 use pid_tables::rows::account::rank;
 use pid_tables::rows::meta::revision;
 use pid_tables::{TableFault, refusal_of};
@@ -99,9 +100,12 @@ impl<S: Alter + Drop> Registry<S> {
     }
 
     /// The submissions for a path, if one is named, and of an author, if one is named, the latest
-    /// first, whose numbers are below `before`, of which 0 stands for no bound: `PAGE` at most, out
-    /// of at most `SEARCHED` that are looked at. The page says where the next one begins; 0 at the
-    /// end.
+    /// first, whose numbers are below `before`, of which 0 stands for no bound: `PAGE` at most. The
+    /// page says where the next one begins; 0 at the end.
+    ///
+    /// The first call that names a path or an author reads those of all submissions, once, and keeps
+    /// their numbers; after that a page costs what it has. If memory runs out for the numbers, or if
+    /// they are more than 10,000,000, each page is found by a walk.
     pub fn submissions(
         &mut self,
         path: Option<&Path>,
@@ -109,18 +113,54 @@ impl<S: Alter + Drop> Registry<S> {
         before: u32,
     ) -> Result<SubmissionPage, Refusal>
         ensures answers { Answers S.Store self.old self.new result
-            (λ h page. submission_page_of page ≡ submissions_of PAGE SEARCHED (record {
+            (λ h page. submission_page_of page ≡ sought_page (record {
               path = option_copied path.entry;
               author = option_copied author.entry;
               before = before;
             }) (views_of h)) }
-        ensures stays { kept_views self.new ≡ kept_views self.old }
+        ensures stays { LeavesUnread (kept_views self.old) (kept_views self.new) }
+    {
+        laws::reached_histories_are_kept(); // proof only
+        match self.keep_numbers(path.is_some() || author.is_some()) {
+            Ok(()) => or_refusal(page_by(
+                &mut self.tables.conn,
+                self.alloc,
+                &self.kept.numbers,
+                path,
+                author,
+                before,
+            )),
+            Err(refusal) => Err(refusal),
+        }
+    }
+
+    // Reads the numbers of all submissions, if they are wanted, unless that was done, and keeps them
+    // if memory is there for them.
+    fn keep_numbers(&mut self, wanted: bool) -> Result<(), Refusal>
+        ensures answers { Answers S.Store self.old self.new result (λ h _. Unit {0}) }
+        ensures stays { LeavesUnread (kept_views self.old) (kept_views self.new) }
     {
         if !self.live {
             return Err(Refusal::Failed);
         }
         laws::reached_histories_are_kept(); // proof only
-        or_refusal(submissions_page(&mut self.tables.conn, self.alloc, path, author, before))
+        if !wanted {
+            return Ok(());
+        }
+        let Searches::Unread = &self.kept.numbers else {
+            return Ok(());
+        };
+        match read_numbers(&mut self.tables.conn, self.alloc) {
+            Ok(numbers) => {
+                self.kept.numbers = numbers;
+                Ok(())
+            }
+            Err(TableFault::Memory) => {
+                self.kept.numbers = Searches::Lacking;
+                Ok(())
+            }
+            Err(fault) => Err(refusal_of(fault)),
+        }
     }
 
     /// The items that were added or renamed after a revision, in the canonical order, `PAGE` at

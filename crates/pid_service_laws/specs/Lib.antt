@@ -9,6 +9,7 @@ pub mod CrashPrefix
 pub mod LifeLaws
 pub mod CallLaws
 pub mod Questions
+pub mod Searching
 pub mod WholeFronts
 pub mod FaultNumbers
 pub mod Moderating

@@ -10,7 +10,8 @@ ghost use Rattle.pid_moderation.specs.ItemPairs.{pair_of};
 ghost use Rattle.pid_moderation.specs.PendingPages.{pending_in, told_of};
 ghost use Rattle.pid_moderation.specs.QueuePages.{queue_in, queued_of};
 ghost use Rattle.pid_moderation.specs.RegistryStatus.{registry_status_of, status_of_registry};
-ghost use Rattle.pid_moderation.specs.SubmissionPages.{submission_page_of, submissions_of};
+ghost use Rattle.pid_moderation.specs.SubmissionPages.{submission_page_of};
+ghost use Rattle.pid_service_laws.specs.Searching.{sought_page};
 ghost use Rattle.pid_moderation.specs.Submissions.{discussion_in, discussion_of};
 ghost use Rattle.pid_moderation.specs.Views.{items_of, rank_of, views_of};
 ghost use Rattle.pid_moderation.specs.Writes.{tree_of};
@@ -21,8 +22,7 @@ use crate::faults::ImportEnd;
 use crate::moderated::Moderated;
 use pid_ident::{Account, Input, Key, Path};
 use pid_moderation::{
-    Changes, Discussion, Item, PAGE, Pending, Queued, Rank, Refusal, Reply, SEARCHED, Status,
-    SubmissionPage,
+    Changes, Discussion, Item, PAGE, Pending, Queued, Rank, Refusal, Reply, Status, SubmissionPage,
 };
 
 /// A registry under moderation, as HTTP asks it.
@@ -56,7 +56,7 @@ pub trait Consulted: Moderated {
         before: u32,
     ) -> Result<SubmissionPage, Refusal>
         ensures { IsAnswered Self.showing Self.is_live self.old self.new result
-            (λ h page. submission_page_of page ≡ submissions_of PAGE SEARCHED (record {
+            (λ h page. submission_page_of page ≡ sought_page (record {
               path = option_copied path.entry;
               author = option_copied author.entry;
               before = before;

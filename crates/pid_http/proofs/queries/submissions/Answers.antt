@@ -3,9 +3,9 @@ use Rattle.pid_file.specs.declared.path.Path.{Path}
 use Rattle.pid_moderation.specs.History.{History}
 use Rattle.std.specs.Option.{option_copied}
 use Rattle.pid_moderation.specs.Views.{views_of}
-use Rattle.pid_moderation.specs.SubmissionPages.{submissions_of, submission_page_of}
+use Rattle.pid_moderation.specs.SubmissionPages.{submission_page_of}
+use Rattle.pid_service_laws.specs.Searching.{sought_page}
 use Rattle.pid_moderation.specs.declared.lists.SubmissionPage.{SubmissionPage}
-use Rattle.pid_moderation.specs.declared.lists.TheConstants.{PAGE, SEARCHED}
 use Rattle.pid_http.specs.declared.api.format.Format.{Format}
 use Rattle.pid_http.specs.Api.SubmissionPageAnswers.{submissions_answer}
 use Rattle.pid_http.specs.Answering.{answer_over}
@@ -15,7 +15,7 @@ use Rattle.pid_http.proofs.Meeting.{IsQuestion, answers_by, question_met, replie
 use Rattle.pid_http.proofs.queries.submissions.Goals as goal
 
 question : (path : Option Path) (author : Option (List ℕ)) (before : ℕ) (format : Format)
-    → IsQuestion format (λ (page : SubmissionPage). submissions_answer format (submission_page_of page)) (λ h (page : SubmissionPage). submission_page_of page ≡ submissions_of PAGE SEARCHED (record { path = path; author = author; before = before }) (views_of h))
+    → IsQuestion format (λ (page : SubmissionPage). submissions_answer format (submission_page_of page)) (λ h (page : SubmissionPage). submission_page_of page ≡ sought_page (record { path = path; author = author; before = before }) (views_of h))
     (Asks (questions.Submissions path author before) format)
 unfolding answer_over
 question path author before format = record {
@@ -25,9 +25,9 @@ question path author before format = record {
 }
 
 -- the path that was asked for
-over : (author : Option (List ℕ)) (before : ℕ) (path other : Option Path) → path ≡ other → (h : History) (page : SubmissionPage) → submission_page_of page ≡ submissions_of PAGE SEARCHED (record { path = path; author = author; before = before }) (views_of h)
-    → submission_page_of page ≡ submissions_of PAGE SEARCHED (record { path = other; author = author; before = before }) (views_of h)
-over author before path other e h page told = told ∙ ap (λ (p : Option Path). submissions_of PAGE SEARCHED (record { path = p; author = author; before = before }) (views_of h)) e
+over : (author : Option (List ℕ)) (before : ℕ) (path other : Option Path) → path ≡ other → (h : History) (page : SubmissionPage) → submission_page_of page ≡ sought_page (record { path = path; author = author; before = before }) (views_of h)
+    → submission_page_of page ≡ sought_page (record { path = other; author = author; before = before }) (views_of h)
+over author before path other e h page told = told ∙ ap (λ (p : Option Path). sought_page (record { path = p; author = author; before = before }) (views_of h)) e
 
 pub returns-in-Ok : goal.returns-in-Ok
 returns-in-Ok g c =

@@ -5,11 +5,14 @@ use Rattle.pid_moderation.specs.declared.change.Receipt.{Receipt}
 use Rattle.pid_moderation.specs.Changes.{affected, changed, keeping}
 use Rattle.pid_moderation.specs.Views.{Views}
 use Rattle.pid_moderation.specs.declared.lists.Item.{Item}
+use Rattle.pid_service_searches.specs.KeptNumbers.{HoldsNumbers}
 use Rattle.pid_service.specs.KeptViews.{HoldsTop, HoldsWaiting}
+use Rattle.pid_service_searches.specs.declared.numbers.Searches.{Searches}
 use Rattle.pid_service.specs.Steps.Obeying.{writes_items}
 use Rattle.pid_service.proofs.Keeping.{no_items, same_items}
 use Rattle.pid_service.proofs.PendingNumbers.{still_waiting}
 use Rattle.pid_service.proofs.ChangedLists.{kept_since, same_changes}
+use Rattle.pid_service_searches.proofs.NumberLists.{still_numbers}
 use Rattle.pid_service.proofs.TopItems.{still_top}
 use Rattle.pid_service.proofs.kept_views.KeptViews.follow.Goals as goal
 
@@ -22,6 +25,7 @@ returns-then-not-writes_items-clause-right c v views fits right =
     let change = c.args.change.now in
     let taken : c.take-numbers.result ≡ c.args.self.now.pending = search rules in
     let held : c.take-top.result ≡ c.args.self.now.top = search rules in
+    let numbers : c.replace-kept.result ≡ c.args.self.now.numbers = search rules in
     let off : c.writes_items.result ≡ false = search rules in
     let same : (changed change v).items ≡ v.items = kept_items change.receipt (affected change.revision change.effect v) ∙ c.writes_items.ensures.spares change.revision v off in
     let since : (changed change v).since ≡ v.since = kept_since change.receipt (affected change.revision change.effect v) ∙ c.writes_items.ensures.numbers change.revision v off in
@@ -32,6 +36,7 @@ returns-then-not-writes_items-clause-right c v views fits right =
       top = still_top change v _ (c.top_after.ensures change.revision v (subst (λ (o : Option (Vec Item Global)). HoldsTop o v) (sym held) right.top));
       changes = same_changes c.args.self.now.changes v (changed change v) same since right.changes;
       pending = still_waiting change v _ (c.waiting_after.ensures.holds change.revision v views fits.0 (subst (λ (o : Option (Vec ℕ Global)). HoldsWaiting o v) (sym taken) right.pending));
+      numbers = still_numbers change v _ (c.numbers_after.ensures change.revision v fits.0 (subst (λ (n : Searches). HoldsNumbers n v) (sym numbers) right.numbers));
     }
 
 pub returns-then-not-writes_items-clause-spares : goal.returns-then-not-writes_items-clause-spares
@@ -47,6 +52,7 @@ returns-clause-right c v views fits right =
     let change = c.args.change.now in
     let taken : c.take-numbers.result ≡ c.args.self.now.pending = search rules in
     let held : c.take-top.result ≡ c.args.self.now.top = search rules in
+    let numbers : c.replace-kept.result ≡ c.args.self.now.numbers = search rules in
     let items = no_items _ (changed change v).items c.clear.ensures in
     record {
       names = items.0;
@@ -54,6 +60,7 @@ returns-clause-right c v views fits right =
       top = still_top change v _ (c.top_after.ensures change.revision v (subst (λ (o : Option (Vec Item Global)). HoldsTop o v) (sym held) right.top));
       changes = tt;
       pending = still_waiting change v _ (c.waiting_after.ensures.holds change.revision v views fits.0 (subst (λ (o : Option (Vec ℕ Global)). HoldsWaiting o v) (sym taken) right.pending));
+      numbers = still_numbers change v _ (c.numbers_after.ensures change.revision v fits.0 (subst (λ (n : Searches). HoldsNumbers n v) (sym numbers) right.numbers));
     }
 
 -- ---- no more is dropped than has to be

@@ -35,7 +35,7 @@ returns-in-Ok-Some-clause-kept g c =
         lives = shows.lives;
         history = shows.history;
         tables = shows.tables;
-        kept = λ clean. record { names = c.get.ensures.agrees (λ path. name_at path (items_of h)) (shows.kept clean).names; text = (shows.kept clean).text; top = (shows.kept clean).top; changes = (shows.kept clean).changes; pending = (shows.kept clean).pending };
+        kept = λ clean. record { names = c.get.ensures.agrees (λ path. name_at path (items_of h)) (shows.kept clean).names; text = (shows.kept clean).text; top = (shows.kept clean).top; changes = (shows.kept clean).changes; pending = (shows.kept clean).pending; numbers = (shows.kept clean).numbers };
       };
       was_honest = λ clean. clean;
       faults = λ f. (λ may. may, λ may. may);
@@ -52,7 +52,7 @@ returns-in-Err-clause-kept g c =
         lives = shows.lives;
         history = shows.history;
         tables = shows.tables;
-        kept = λ clean. record { names = c.get.ensures.agrees (λ path. name_at path (items_of h)) (shows.kept clean).names; text = (shows.kept clean).text; top = (shows.kept clean).top; changes = (shows.kept clean).changes; pending = (shows.kept clean).pending };
+        kept = λ clean. record { names = c.get.ensures.agrees (λ path. name_at path (items_of h)) (shows.kept clean).names; text = (shows.kept clean).text; top = (shows.kept clean).top; changes = (shows.kept clean).changes; pending = (shows.kept clean).pending; numbers = (shows.kept clean).numbers };
       };
       was_honest = λ clean. clean;
       faults = λ f. (λ may. may, λ may. may);
@@ -79,7 +79,7 @@ returns-in-Ok-clause-kept g c =
         kept = λ clean.
             let at : List ℕ → Option (List ℕ) = λ path. name_at path (items_of h) in
             let kept = shows.kept (rests.clean clean) in
-            record { names = c.put.ensures.agrees at (sym (c.in-Ok.ensures.told clean (views_of h) shows.tables)) (c.get.ensures.agrees at kept.names); text = kept.text; top = kept.top; changes = kept.changes; pending = kept.pending };
+            record { names = c.put.ensures.agrees at (sym (c.in-Ok.ensures.told clean (views_of h) shows.tables)) (c.get.ensures.agrees at kept.names); text = kept.text; top = kept.top; changes = kept.changes; pending = kept.pending; numbers = kept.numbers };
       };
       was_honest = rests.clean;
       faults = λ f. (λ may. may, λ may. may);
@@ -98,7 +98,7 @@ returns-in-Err-item-clause-kept g c =
         tables = rests.kept (views_of h) shows.tables;
         kept = λ clean.
             let kept = shows.kept (rests.clean clean) in
-            record { names = c.get.ensures.agrees (λ path. name_at path (items_of h)) kept.names; text = kept.text; top = kept.top; changes = kept.changes; pending = kept.pending };
+            record { names = c.get.ensures.agrees (λ path. name_at path (items_of h)) kept.names; text = kept.text; top = kept.top; changes = kept.changes; pending = kept.pending; numbers = kept.numbers };
       };
       was_honest = rests.clean;
       faults = λ f. (λ may. may, λ may. may);

@@ -91,6 +91,7 @@ returns-in-Ok-changes_page-clause-answers g c =
                 top = kept.top;
                 changes = c.kept_after.ensures (views_of h) (subst (λ (k : Option KeptChanges). HoldsChanges k (views_of h)) (sym taken) kept.changes) (ap (map changed_of) c.as_slice-page.ensures.value ∙ asked);
                 pending = kept.pending;
+                numbers = kept.numbers;
               };
             },
           );

@@ -47,7 +47,7 @@ returns-in-Ok g c = record {
     leaves = record { names = refl; text = search rules; top = λ some. refl; pending = λ some. refl; read = λ was. (was, refl) };
     told = λ clean h shows.
         let told = c.in-Ok.ensures.told clean (views_of h) shows.tables (c.reached_histories_are_kept.ensures.readable h shows.history) in
-        (told.counted ∙ ap length (c.items_print_as_their_tree.ensures h), text_kept g.S.Store c.args.self.now _ h shows refl refl refl refl refl c.items_text.ensures.rests told.kept);
+        (told.counted ∙ ap length (c.items_print_as_their_tree.ensures h), text_kept g.S.Store c.args.self.now _ h shows refl refl refl refl refl refl c.items_text.ensures.rests told.kept);
     caused = λ clean h shows. tt;
   };
   by_text = search rules;

@@ -34,7 +34,7 @@ returns-in-Ok-clause-answers g c =
       };
       told = λ clean h shows.
           let kept = shows.kept (rests.clean clean) in
-          (tt, record { lives = shows.lives; history = shows.history; tables = rests.kept (views_of h) shows.tables; kept = λ still. record { names = kept.names; text = kept.text; top = kept.top; changes = kept.changes; pending = c.in-Ok.ensures.told clean (views_of h) shows.tables } });
+          (tt, record { lives = shows.lives; history = shows.history; tables = rests.kept (views_of h) shows.tables; kept = λ still. record { names = kept.names; text = kept.text; top = kept.top; changes = kept.changes; pending = c.in-Ok.ensures.told clean (views_of h) shows.tables; numbers = kept.numbers } });
       caused = λ clean h shows. tt;
     }
 
@@ -52,7 +52,7 @@ returns-in-Err-Memory-clause-answers g c =
       leaves = record { names = refl; text = λ some. refl; top = λ some. refl; pending = λ some. refl; read = λ was. (refl, refl) };
       told = λ clean h shows.
           let kept = shows.kept (rests.clean clean) in
-          (tt, record { lives = shows.lives; history = shows.history; tables = rests.kept (views_of h) shows.tables; kept = λ still. record { names = kept.names; text = kept.text; top = kept.top; changes = kept.changes; pending = kept.pending } });
+          (tt, record { lives = shows.lives; history = shows.history; tables = rests.kept (views_of h) shows.tables; kept = λ still. record { names = kept.names; text = kept.text; top = kept.top; changes = kept.changes; pending = kept.pending; numbers = kept.numbers } });
       caused = λ clean h shows. tt;
     }
 

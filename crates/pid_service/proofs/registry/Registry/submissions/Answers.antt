@@ -1,10 +1,10 @@
 use Rattle.std.proofs.Common.{refl}
-use Rattle.pid_service.proofs.Questions.{answers_read, failed_here}
+use Rattle.pid_service.proofs.Questions.{answers_behind, answers_refused}
 use Rattle.pid_service.proofs.registry.Registry.submissions.Goals as goal
 
-pub returns-then-not-self-clause-answers : goal.returns-then-not-self-clause-answers
-returns-then-not-self-clause-answers g c = failed_here g.S.Store c.args.self.now _ c.if-not-self.true c.args.self.now.settled
+pub returns-in-Ok-clause-answers : goal.returns-in-Ok-clause-answers
+returns-in-Ok-clause-answers g c =
+    answers_behind g.S.Store c.args.self.now c.keep_numbers.new.self _ _ c.page_by.result c.or_refusal.result _ _ _ c.in-Ok.ensures.answers refl refl c.page_by.ensures c.or_refusal.ensures c.reached_histories_are_kept.ensures.readable (λ h page shows clean told. told (shows.kept clean).numbers)
 
-pub returns-clause-answers : goal.returns-clause-answers
-returns-clause-answers g c =
-    answers_read g.S.Store c.args.self.now _ c.submissions_page.result c.or_refusal.result _ _ c.if-not-self.false refl refl c.submissions_page.ensures c.or_refusal.ensures c.reached_histories_are_kept.ensures.readable (λ h page shows clean told. told)
+pub returns-in-Err-clause-answers : goal.returns-in-Err-clause-answers
+returns-in-Err-clause-answers g c = answers_refused g.S.Store c.args.self.now c.keep_numbers.new.self c.in-Err.refusal _ _ c.in-Err.ensures.answers

@@ -33,7 +33,7 @@ returns-in-Ok-clause-answers g c =
       told = λ clean h shows.
           let kept = shows.kept (rests.clean clean) in
           let told = c.in-Ok.ensures.told clean (views_of h) shows.tables (c.reached_histories_are_kept.ensures.items h shows.history).0 in
-          (told, record { lives = shows.lives; history = shows.history; tables = rests.kept (views_of h) shows.tables; kept = λ still. record { names = kept.names; text = kept.text; top = copied_holds _ _ (views_of h) told (rw c.as_slice-in-Ok.ensures.value at c.copied-in-Ok.ensures); changes = kept.changes; pending = kept.pending } });
+          (told, record { lives = shows.lives; history = shows.history; tables = rests.kept (views_of h) shows.tables; kept = λ still. record { names = kept.names; text = kept.text; top = copied_holds _ _ (views_of h) told (rw c.as_slice-in-Ok.ensures.value at c.copied-in-Ok.ensures); changes = kept.changes; pending = kept.pending; numbers = kept.numbers } });
       caused = λ clean h shows. tt;
     }
 
