@@ -39,11 +39,7 @@ use Rattle.pid_http.specs.Api.SubmissionAnswers.{submission_answer}
 use Rattle.pid_http.specs.Api.SubmissionPageAnswers.{submissions_answer}
 use Rattle.pid_http.specs.Errands.{Errand, Answered, Denied, Obeys, Asks, format_of, known_answer}
 use Rattle.pid_http.specs.declared.api.question.Question.{Question}
-use Rattle.pid_http.specs.declared.api.question.Question.TheVariants.{Export, Read, Children}
-use Rattle.pid_http.specs.declared.api.question.Question.TheVariants.{Lookup, Submission}
-use Rattle.pid_http.specs.declared.api.question.Question.TheVariants.{Pending, Changes}
-use Rattle.pid_http.specs.declared.api.question.Question.TheVariants.{Queue, Submissions}
-use Rattle.pid_http.specs.declared.api.question.Question.TheVariants.{Status, Rank}
+use Rattle.pid_http.specs.declared.api.question.Question.TheVariants as questions
 
 -- the item at a path, or that there is none
 abbrev pub item_or_missing : Path → Format → Option (List ℕ) → Answer
@@ -82,22 +78,24 @@ text_answer h = answer_with 200 Text (print (tree_of h))
 
 -- the answer to a question over a history
 abbrev pub answer_to : History → Question → Format → Answer
-answer_to h Export format = text_answer h
-answer_to h (Read path) format = item_or_missing path format (name_at (path_text path) (items_of h))
-answer_to h (Children above) format = children_or_missing format
+answer_to h questions.Export format = text_answer h
+answer_to h (questions.Read path) format = item_or_missing path format
+    (name_at (path_text path) (items_of h))
+answer_to h (questions.Children above) format = children_or_missing format
     (children_below above (items_of h))
-answer_to h (Lookup query) format = lookup_answer (lookup_in query h)
-answer_to h (Submission number) format = submission_or_missing number format
+answer_to h (questions.Lookup query) format = lookup_answer (lookup_in query h)
+answer_to h (questions.Submission number) format = submission_or_missing number format
     (discussion_in (views_of h) number)
-answer_to h (Pending number) format = pending_answer format (pending_in PAGE number (views_of h))
-answer_to h (Changes since after) format = changes_answer format
+answer_to h (questions.Pending number) format = pending_answer format
+    (pending_in PAGE number (views_of h))
+answer_to h (questions.Changes since after) format = changes_answer format
     (changes_in PAGE since (start_text after) (views_of h))
-answer_to h (Queue after) format = queue_answer format (queue_in PAGE after (views_of h))
-answer_to h (Submissions path author before) format = submissions_answer format
+answer_to h (questions.Queue after) format = queue_answer format (queue_in PAGE after (views_of h))
+answer_to h (questions.Submissions path author before) format = submissions_answer format
     (sought_page (record { path = path; author = author; before = before })
     (views_of h))
-answer_to h Status format = status_answer format (status_of_registry h)
-answer_to h (Rank who) format = rank_answer format who (rank_of who h)
+answer_to h questions.Status format = status_answer format (status_of_registry h)
+answer_to h (questions.Rank who) format = rank_answer format who (rank_of who h)
 
 -- the answer over a history
 unfoldable pub answer_over : History → Errand → Answer

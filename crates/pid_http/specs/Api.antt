@@ -1,4 +1,3 @@
-pub mod Methods
 pub mod Routes
 pub mod Queries
 pub mod Lookups

@@ -8,12 +8,10 @@ ghost use Rattle.pid_http.specs.Errands as errands;
 ghost use Rattle.pid_http.specs.Errands.{errand_for};
 ghost use Rattle.pid_http.specs.Steps.Replying.{Replies};
 
-use crate::api::{Format, Question, Request, Sender, early_reply, sender_of};
+use crate::api::{Format, Question, Request, Sender, early_reply, found_reply, sender_of};
 use crate::commanding::command;
 use crate::exporting::export;
-use crate::queries::{
-    changes, children, lookup, pending, queue, rank, read, status, submission, submissions,
-};
+use crate::queries::{children, lookup, rank, read, submission};
 use pid_http_stream::{Head, Reply};
 use pid_service_laws::Consulted;
 use std::alloc::{AllocError, Global};
@@ -47,15 +45,20 @@ fn ask<R: Consulted>(
         Question::Children(above) => children(alloc, registry, above, format),
         Question::Lookup(query) => lookup(alloc, registry, query),
         Question::Submission(number) => submission(alloc, registry, number, format),
-        Question::Pending(after) => pending(alloc, registry, after, format),
-        Question::Changes { since, after } => changes(alloc, registry, since, after, format),
-        Question::Queue(after) => queue(alloc, registry, after, format),
+        Question::Pending(after) => found_reply(alloc, format, registry.pending(after)),
+        Question::Changes { since, after } => {
+            found_reply(alloc, format, registry.changes(since, after.as_ref()))
+        }
+        Question::Queue(after) => found_reply(alloc, format, registry.queue(after)),
         Question::Submissions {
             path,
             ref author,
             before,
-        } => submissions(alloc, registry, path, author.as_ref(), before, format),
-        Question::Status => status(alloc, registry, format),
+        } => {
+            let page = registry.submissions(path.as_ref(), author.as_ref(), before);
+            found_reply(alloc, format, page)
+        }
+        Question::Status => found_reply(alloc, format, registry.status()),
         Question::Rank(ref who) => rank(alloc, registry, who, format),
     }
 }

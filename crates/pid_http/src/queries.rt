@@ -1,13 +1,12 @@
 //! Questions to the registry, each with its reply.
-ghost use Rattle.std.specs.Prelude.{◌≡◌, option_copied};
+ghost use Rattle.std.specs.Prelude.{◌≡◌};
 ghost use Rattle.pid_http.specs.Errands.{Asks};
 ghost use Rattle.pid_http.specs.declared.api.question.Question.TheVariants as questions;
 ghost use Rattle.pid_http.specs.Steps.Replying.{Replies};
 
 use crate::api::{
-    Format, LookupQuery, changes_reply, children_reply, item_reply, lookup_reply, missing_reply,
-    pending_reply, queue_reply, rank_reply, refusal_reply, status_reply, submission_reply,
-    submissions_reply,
+    Format, LookupQuery, children_reply, item_reply, lookup_reply, missing_reply, rank_reply,
+    refusal_reply, submission_reply,
 };
 use pid_http_stream::Reply;
 use pid_ident::{Account, Path};
@@ -84,39 +83,6 @@ pub(crate) fn submission<R: Consulted>(
     }
 }
 
-/// The pending submissions with numbers above `after`.
-pub(crate) fn pending<R: Consulted>(
-    alloc: Global,
-    registry: &mut R,
-    after: u32,
-    format: Format,
-) -> Result<Reply, AllocError>
-    ensures { Replies R.Moderated registry.old registry.new (Asks (questions.Pending after) format)
-        result }
-{
-    match registry.pending(after) {
-        Ok(page) => pending_reply(alloc, format, &page),
-        Err(refusal) => refusal_reply(alloc, format, refusal),
-    }
-}
-
-/// The items that commands after `since` added or renamed, after a path or from the first one on.
-pub(crate) fn changes<R: Consulted>(
-    alloc: Global,
-    registry: &mut R,
-    since: u64,
-    after: Option<Path>,
-    format: Format,
-) -> Result<Reply, AllocError>
-    ensures { Replies R.Moderated registry.old registry.new
-        (Asks (questions.Changes since after) format) result }
-{
-    match registry.changes(since, after.as_ref()) {
-        Ok(changes) => changes_reply(alloc, format, &changes),
-        Err(refusal) => refusal_reply(alloc, format, refusal),
-    }
-}
-
 /// The rank of an account.
 pub(crate) fn rank<R: Consulted>(
     alloc: Global,
@@ -129,54 +95,6 @@ pub(crate) fn rank<R: Consulted>(
 {
     match registry.rank(who) {
         Ok(rank) => rank_reply(alloc, format, who, rank),
-        Err(refusal) => refusal_reply(alloc, format, refusal),
-    }
-}
-
-/// The queue of pending submissions with numbers above `after`.
-pub(crate) fn queue<R: Consulted>(
-    alloc: Global,
-    registry: &mut R,
-    after: u32,
-    format: Format,
-) -> Result<Reply, AllocError>
-    ensures { Replies R.Moderated registry.old registry.new (Asks (questions.Queue after) format)
-        result }
-{
-    match registry.queue(after) {
-        Ok(page) => queue_reply(alloc, format, &page),
-        Err(refusal) => refusal_reply(alloc, format, refusal),
-    }
-}
-
-/// The submissions for a path and of an author, where one is named, below a number.
-pub(crate) fn submissions<R: Consulted>(
-    alloc: Global,
-    registry: &mut R,
-    path: Option<Path>,
-    author: Option<&Account>,
-    before: u32,
-    format: Format,
-) -> Result<Reply, AllocError>
-    ensures { Replies R.Moderated registry.old registry.new
-        (Asks (questions.Submissions path (option_copied author.entry) before) format) result }
-{
-    match registry.submissions(path.as_ref(), author, before) {
-        Ok(page) => submissions_reply(alloc, format, &page),
-        Err(refusal) => refusal_reply(alloc, format, refusal),
-    }
-}
-
-/// How much the registry holds.
-pub(crate) fn status<R: Consulted>(
-    alloc: Global,
-    registry: &mut R,
-    format: Format,
-) -> Result<Reply, AllocError>
-    ensures { Replies R.Moderated registry.old registry.new (Asks questions.Status format) result }
-{
-    match registry.status() {
-        Ok(status) => status_reply(alloc, format, &status),
         Err(refusal) => refusal_reply(alloc, format, refusal),
     }
 }

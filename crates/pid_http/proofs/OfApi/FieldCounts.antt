@@ -1,20 +1,17 @@
 -- A form of more fields than any command has says none.
-use Rattle.std.proofs.Common.{◌≡◌, ℕ, ◌<◌, ◌≤◌, ◌+◌, ◌&&◌, ◌==◌, Bool, true, false, cond, List, length, map, Some, Err, refl, sym, ap, subst, ◌∙◌, arith}
-use Rattle.std.specs.Prelude.{nat_le, nat_lt, nat_eq, codes, not, Option, Result}
+use Rattle.std.proofs.Common.{◌≡◌, ℕ, ◌<◌, ◌≤◌, ◌+◌, ◌&&◌, ◌==◌, Bool, true, false, List, length, Err, refl, sym, subst, arith}
+use Rattle.std.specs.Prelude.{nat_le, nat_lt, codes}
 use Rattle.std.specs.Str.{is_utf8}
 use Rattle.std.proofs.lemmas.Bool.{leb-true, ltb-true, ne_eqb}
 use Rattle.std.proofs.lemmas.List.{length-map}
 use Rattle.form_urlencoded.specs.Form.{raw_pairs}
 use Rattle.pid_form.specs.FormFields.{field, fields_in}
-use Rattle.pid_moderation.specs.CheckTables.{first_failing}
 use Rattle.pid_moderation.specs.Fields.{Fields, times}
-use Rattle.pid_moderation.specs.Forms.{command_said, form_checks, has_fields}
-use Rattle.pid_moderation.specs.declared.command.Command.{Command}
-use Rattle.pid_moderation.specs.declared.refusal.Refusal.{Refusal}
+use Rattle.pid_moderation.specs.Forms.{has_fields}
 use Rattle.pid_moderation.specs.declared.refusal.Refusal.TheVariants.{BadText}
 use Rattle.pid_moderation.specs.declared.verb.Verb.{Verb}
 use Rattle.pid_moderation.specs.declared.verb.Verb.TheVariants.{Account, Submit, Comment, Withdraw, Approve, Confirm, Reject, Import}
-use Rattle.pid_http.specs.Api.Commands.{command_made, unless_refused}
+use Rattle.pid_http.specs.Api.Commands.{command_made}
 use Rattle.pid_http.specs.Api.Senders.{Sending}
 
 none_and : (a b : Bool) → b ≡ false → (a && b) ≡ false

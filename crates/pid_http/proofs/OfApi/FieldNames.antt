@@ -1,11 +1,11 @@
 -- The names of fields, as strings and as their bytes.
-use Rattle.std.proofs.Common.{◌≡◌, ℕ, Bool, List, [], ◌∷◌, map, refl, sym, ap, ◌∙◌, String}
+use Rattle.std.proofs.Common.{◌≡◌, ℕ, List, [], ◌∷◌, map, refl, sym, ap, String}
 use Rattle.std.specs.Prelude.{string_bytes, not, ◌&&◌, ◌||◌}
 use Rattle.std.specs.Borrow.{Bor}
 use Rattle.std.specs.List.{list_all, list_any}
 use Rattle.std.specs.Str.{bytes_eq}
 use Rattle.std.proofs.lemmas.List.Folds.{list_all-map}
-use Rattle.pid_form.specs.Fields.{Fields, is_twice}
+use Rattle.pid_form.specs.Fields.{is_twice}
 use Rattle.pid_form.specs.FormFields.{bytes_of}
 use Rattle.pid_http.specs.Api.Queries.{are_of}
 

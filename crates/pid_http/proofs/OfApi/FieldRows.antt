@@ -11,8 +11,8 @@ use Rattle.pid_lookup.specs.Fields.{lookup_from}
 use Rattle.pid_moderation.specs.declared.refusal.Refusal.TheVariants.{BadPath, BadText}
 use Rattle.pid_moderation.specs.declared.verb.Verb.{Verb}
 use Rattle.pid_moderation.specs.declared.verb.Verb.TheVariants as verbs
-use Rattle.pid_http.specs.Api.Questions.{Asking, question, with_target, topic_asked}
-use Rattle.pid_http.specs.Api.Routes.{route_at}
+use Rattle.pid_http.specs.Api.Questions.{Asking, question, target_asked, topic_asked}
+use Rattle.pid_http.specs.Api.Routes.{route_at, with_all}
 use Rattle.pid_http.specs.declared.api.early.Early.{Early}
 use Rattle.pid_http.specs.declared.api.early.Early.TheVariants.{AnotherMethod, BadTarget, NoRoute, WantsGet, WantsPost, BadQuery, BadValue}
 use Rattle.pid_http.specs.declared.api.format.Format.{Format}
@@ -38,7 +38,52 @@ obeys target verb format = (codes "POST", target, Buffered (Obeys verb format))
 abbrev AreAsked : List Row → Type 0
 AreAsked rows = map (λ row. question row.0 row.1) rows ≡ map (λ row. row.2) rows
 
-methods_asked : AreAsked (
+-- what is asked at each path by GET
+questions_asked : AreAsked (
+    asks (codes "/pci.ids") Export Json
+    ∷ asks (codes "/pci.ids?&&") Export Json
+    ∷ asks (codes "/read/PC/8086?format=text") (Read (Vendor 32902)) Text
+    ∷ asks (codes "/children?of=&format=text") (Children None) Text
+    ∷ asks (codes "/children?format=%6a%73on&of=PD%2f01") (Children (Some (Class 1))) Json
+    ∷ asks (codes "/lookup?flags=3&vendor=8086&device=ffff") (Lookup (record { flags = 3; args = record { vendor = 32902; device = 65535; subvendor = 0; subdevice = 0; class = 0; progif = 0 }; size = 1024 })) Json
+    ∷ asks (codes "/submission/1") (Submission 1) Json
+    ∷ asks (codes "/submission/2000000000") (Submission 2000000000) Json
+    ∷ asks (codes "/pending") (Pending 0) Json
+    ∷ asks (codes "/pending?after=100") (Pending 100) Json
+    ∷ asks (codes "/pending?after=0") (Pending 0) Json
+    ∷ asks (codes "/changes") (Changes 0 None) Json
+    ∷ asks (codes "/changes?since=3&format=text") (Changes 3 None) Text
+    ∷ asks (codes "/changes?after=PC/10ec&since=0") (Changes 0 (Some (Vendor 4332))) Json
+    ∷ asks (codes "/changes?after=") (Changes 0 None) Json
+    ∷ asks (codes "/changes?since=9000000000000000000") (Changes 9000000000000000000 None) Json
+    ∷ asks (codes "/queue") (Queue 0) Json
+    ∷ asks (codes "/queue?format=text&after=100") (Queue 100) Text
+    ∷ asks (codes "/submissions") (Submissions None None 0) Json
+    ∷ asks (codes "/submissions?before=9801&author=alice&path=PC/8086&format=text") (Submissions (Some (Vendor 32902)) (Some (codes "alice")) 9801) Text
+    ∷ asks (codes "/submissions?before=0") (Submissions None None 0) Json
+    ∷ asks (codes "/status?format=text") Status Text
+    ∷ asks (codes "/account?who=alice") (Rank (codes "alice")) Json
+    ∷ asks (codes "/account?format=text&who=al%69ce") (Rank (codes "alice")) Text
+    ∷ [])
+unfolding question target_asked topic_asked lookup_from route_at with_all matchit_on_literals form_urlencoded_on_literals is_utf8 utf8_lossy utf8_valid_len chars encode
+questions_asked = refl
+
+-- and by POST
+commands_asked : AreAsked (
+    obeys (codes "/account") verbs.Account Json
+    ∷ obeys (codes "/submit?format=text") verbs.Submit Text
+    ∷ obeys (codes "/comment") verbs.Comment Json
+    ∷ obeys (codes "/withdraw") verbs.Withdraw Json
+    ∷ obeys (codes "/approve") verbs.Approve Json
+    ∷ obeys (codes "/confirm") verbs.Confirm Json
+    ∷ obeys (codes "/reject") verbs.Reject Json
+    ∷ (codes "POST", codes "/import", Streamed Json)
+    ∷ [])
+unfolding question target_asked topic_asked lookup_from route_at with_all matchit_on_literals form_urlencoded_on_literals is_utf8 utf8_lossy utf8_valid_len chars encode
+commands_asked = refl
+
+-- what is refused before the registry is asked
+refusals_asked : AreAsked (
     refused (codes "HEAD") (codes "/pci.ids") AnotherMethod
     ∷ refused (codes "get") (codes "/pci.ids") AnotherMethod
     ∷ refused (codes "GET") (codes "pci.ids") BadTarget
@@ -48,136 +93,39 @@ methods_asked : AreAsked (
     ∷ refused (codes "GET") (codes "/submit") WantsPost
     ∷ refused (codes "POST") (codes "/pending?after=00") WantsGet
     ∷ refused (codes "POST") (codes "/status") WantsGet
-    ∷ [])
-unfolding question with_target topic_asked lookup_from route_at matchit_on_literals form_urlencoded_on_literals is_utf8 utf8_lossy utf8_valid_len chars encode
-methods_asked = refl
-
-exports_asked : AreAsked (
-    asks (codes "/pci.ids") Export Json
-    ∷ asks (codes "/pci.ids?&&") Export Json
     ∷ refused (codes "GET") (codes "/pci.ids?=") BadQuery
-    ∷ [])
-unfolding question with_target topic_asked lookup_from route_at matchit_on_literals form_urlencoded_on_literals is_utf8 utf8_lossy utf8_valid_len chars encode
-exports_asked = refl
-
-reads_asked : AreAsked (
-    asks (codes "/read/PC/8086?format=text") (Read (Vendor 32902)) Text
     ∷ refused (codes "GET") (codes "/read/PC/80A6") (BadValue BadPath Json)
     ∷ refused (codes "GET") (codes "/read/PC%2f8086") (BadValue BadPath Json)
     ∷ refused (codes "GET") (codes "/read/PC/8086?of=") BadQuery
-    ∷ [])
-unfolding question with_target topic_asked lookup_from route_at matchit_on_literals form_urlencoded_on_literals is_utf8 utf8_lossy utf8_valid_len chars encode
-reads_asked = refl
-
-children_asked : AreAsked (
-    asks (codes "/children?of=&format=text") (Children None) Text
-    ∷ asks (codes "/children?format=%6a%73on&of=PD%2f01") (Children (Some (Class 1))) Json
     ∷ refused (codes "GET") (codes "/children?of=PC") (BadValue BadPath Json)
     ∷ refused (codes "GET") (codes "/children?of=&of=") BadQuery
-    ∷ [])
-unfolding question with_target topic_asked lookup_from route_at matchit_on_literals form_urlencoded_on_literals is_utf8 utf8_lossy utf8_valid_len chars encode
-children_asked = refl
-
-lookups_asked : AreAsked (
-    asks (codes "/lookup?flags=3&vendor=8086&device=ffff") (Lookup (record { flags = 3; args = record { vendor = 32902; device = 65535; subvendor = 0; subdevice = 0; class = 0; progif = 0 }; size = 1024 })) Json
     ∷ refused (codes "GET") (codes "/lookup?vendor=8086") BadQuery
     ∷ refused (codes "GET") (codes "/lookup?flags=3&format=json") BadQuery
-    ∷ [])
-unfolding question with_target topic_asked lookup_from route_at matchit_on_literals form_urlencoded_on_literals is_utf8 utf8_lossy utf8_valid_len chars encode
-lookups_asked = refl
-
-submission_asked : AreAsked (
-    asks (codes "/submission/1") (Submission 1) Json
-    ∷ asks (codes "/submission/2000000000") (Submission 2000000000) Json
     ∷ refused (codes "GET") (codes "/submission/2000000001") (BadValue BadText Json)
     ∷ refused (codes "GET") (codes "/submission/01?format=text") (BadValue BadText Text)
     ∷ refused (codes "GET") (codes "/submission/0") (BadValue BadText Json)
     ∷ refused (codes "GET") (codes "/submission/1/2") NoRoute
-    ∷ [])
-unfolding question with_target topic_asked lookup_from route_at matchit_on_literals form_urlencoded_on_literals is_utf8 utf8_lossy utf8_valid_len chars encode
-submission_asked = refl
-
-pending_asked : AreAsked (
-    asks (codes "/pending") (Pending 0) Json
-    ∷ asks (codes "/pending?after=100") (Pending 100) Json
-    ∷ asks (codes "/pending?after=0") (Pending 0) Json
     ∷ refused (codes "GET") (codes "/pending?after=") BadQuery
     ∷ refused (codes "GET") (codes "/pending?after=01") BadQuery
-    ∷ [])
-unfolding question with_target topic_asked lookup_from route_at matchit_on_literals form_urlencoded_on_literals is_utf8 utf8_lossy utf8_valid_len chars encode
-pending_asked = refl
-
-changes_asked : AreAsked (
-    asks (codes "/changes") (Changes 0 None) Json
-    ∷ asks (codes "/changes?since=3&format=text") (Changes 3 None) Text
-    ∷ asks (codes "/changes?after=PC/10ec&since=0") (Changes 0 (Some (Vendor 4332))) Json
-    ∷ asks (codes "/changes?after=") (Changes 0 None) Json
     ∷ refused (codes "GET") (codes "/changes?after=PC") (BadValue BadPath Json)
-    ∷ [])
-unfolding question with_target topic_asked lookup_from route_at matchit_on_literals form_urlencoded_on_literals is_utf8 utf8_lossy utf8_valid_len chars encode
-changes_asked = refl
-
-changes_refused_asked : AreAsked (
-    asks (codes "/changes?since=9000000000000000000") (Changes 9000000000000000000 None) Json
     ∷ refused (codes "GET") (codes "/changes?since=9000000000000000001") BadQuery
     ∷ refused (codes "GET") (codes "/changes?since=03") BadQuery
     ∷ refused (codes "GET") (codes "/changes?since=") BadQuery
     ∷ refused (codes "GET") (codes "/changes?since=1&since=1") BadQuery
-    ∷ [])
-unfolding question with_target topic_asked lookup_from route_at matchit_on_literals form_urlencoded_on_literals is_utf8 utf8_lossy utf8_valid_len chars encode
-changes_refused_asked = refl
-
-queue_asked : AreAsked (
-    asks (codes "/queue") (Queue 0) Json
-    ∷ asks (codes "/queue?format=text&after=100") (Queue 100) Text
     ∷ refused (codes "GET") (codes "/queue?after=01") BadQuery
-    ∷ [])
-unfolding question with_target topic_asked lookup_from route_at matchit_on_literals form_urlencoded_on_literals is_utf8 utf8_lossy utf8_valid_len chars encode
-queue_asked = refl
-
-submissions_asked : AreAsked (
-    asks (codes "/submissions") (Submissions None None 0) Json
-    ∷ asks (codes "/submissions?before=9801&author=alice&path=PC/8086&format=text") (Submissions (Some (Vendor 32902)) (Some (codes "alice")) 9801) Text
     ∷ refused (codes "GET") (codes "/submissions?path=PC") (BadValue BadPath Json)
-    ∷ asks (codes "/submissions?before=0") (Submissions None None 0) Json
-    ∷ [])
-unfolding question with_target topic_asked lookup_from route_at matchit_on_literals form_urlencoded_on_literals is_utf8 utf8_lossy utf8_valid_len chars encode
-submissions_asked = refl
-
-submissions_refused_asked : AreAsked (
-    refused (codes "GET") (codes "/submissions?author=Alice&path=PC") BadQuery
+    ∷ refused (codes "GET") (codes "/submissions?author=Alice&path=PC") BadQuery
     ∷ refused (codes "GET") (codes "/submissions?author=") BadQuery
     ∷ refused (codes "GET") (codes "/submissions?before=") BadQuery
     ∷ refused (codes "GET") (codes "/submissions?author=alice&author=alice") BadQuery
     ∷ refused (codes "GET") (codes "/submissions?after=1") BadQuery
-    ∷ [])
-unfolding question with_target topic_asked lookup_from route_at matchit_on_literals form_urlencoded_on_literals is_utf8 utf8_lossy utf8_valid_len chars encode
-submissions_refused_asked = refl
-
-status_asked : AreAsked (
-    asks (codes "/status?format=text") Status Text
     ∷ refused (codes "GET") (codes "/status?who=alice") BadQuery
-    ∷ [])
-unfolding question with_target topic_asked lookup_from route_at matchit_on_literals form_urlencoded_on_literals is_utf8 utf8_lossy utf8_valid_len chars encode
-status_asked = refl
-
-rank_asked : AreAsked (
-    asks (codes "/account?who=alice") (Rank (codes "alice")) Json
-    ∷ asks (codes "/account?format=text&who=al%69ce") (Rank (codes "alice")) Text
     ∷ refused (codes "GET") (codes "/account") BadQuery
     ∷ refused (codes "GET") (codes "/account?who=Alice") BadQuery
     ∷ refused (codes "GET") (codes "/account?who=alice&who=alice") BadQuery
     ∷ refused (codes "GET") (codes "/account?who=alice&rank=0") BadQuery
-    ∷ [])
-unfolding question with_target topic_asked lookup_from route_at matchit_on_literals form_urlencoded_on_literals is_utf8 utf8_lossy utf8_valid_len chars encode
-rank_asked = refl
-
-commands_asked : AreAsked (
-    obeys (codes "/account") verbs.Account Json
     ∷ refused (codes "POST") (codes "/account?who=alice") BadQuery
-    ∷ obeys (codes "/submit?format=text") verbs.Submit Text
     ∷ refused (codes "POST") (codes "/submit?format=xml") BadQuery
-    ∷ (codes "POST", codes "/import", Streamed Json)
     ∷ [])
-unfolding question with_target topic_asked lookup_from route_at matchit_on_literals form_urlencoded_on_literals is_utf8 utf8_lossy utf8_valid_len chars encode
-commands_asked = refl
+unfolding question target_asked topic_asked lookup_from route_at with_all matchit_on_literals form_urlencoded_on_literals is_utf8 utf8_lossy utf8_valid_len chars encode
+refusals_asked = refl

@@ -3,39 +3,21 @@ use Rattle.std.proofs.Common.{List, [], ◌∷◌, map, Result, Ok, Err, Some, �
 use Rattle.std.specs.Prelude.{◌&&◌, is_none}
 use Rattle.std.proofs.lemmas.List.{drop_more}
 use Rattle.matchit.specs.Rows.{RowsOf}
-use Rattle.matchit.specs.Order.{placed}
 use Rattle.matchit.specs.Route.{Scan, parse_route}
-use Rattle.matchit.specs.Router.{RouteOf, route_from, InsertsRead, nearest}
+use Rattle.matchit.specs.Router.{RouteOf, InsertsRead, nearest}
 use Rattle.matchit.specs.declared.error.InsertError.{InsertError}
 use Rattle.matchit.specs.declared.error.InsertError.TheVariants.{Conflict, InvalidParam, InvalidParamSegment, InvalidCatchAll, OutOfMemory}
 use Rattle.matchit.proofs.OnLiterals.{matchit_on_literals}
-use Rattle.pid_http.specs.Api.Routes.{table}
+use Rattle.pid_http.specs.Api.Routes.{Given, all_routes, with_all, with_read}
 use Rattle.pid_http.specs.declared.api.route.Route.{Route}
-use Rattle.pid_http.specs.declared.api.route.TheConstants.{ROUTES}
 use Rattle.std.specs.Borrow.{Bor}
 
 -- a path and its route, as the table has them, and by its text
 abbrev pub Entry : Type 0
 Entry = Bor (List ℕ) × Route
 
-abbrev pub Given : Type 0
-Given = List ℕ × Route
-
 abbrev pub texts : List Entry → List Given
 texts entries = map (λ entry. (entry.0.now, entry.1)) entries
-
-abbrev pub all_routes : List Given
-all_routes = map (λ row. (row.0.now, row.1)) ROUTES
-
--- the rows with one route more, where its path can be read
-abbrev pub with_read : Result Scan InsertError → Route → RowsOf (RouteOf Route) → RowsOf (RouteOf Route)
-with_read (Ok scan) route rows = placed (scan.pattern, route_from scan route) rows
-with_read (Err error) route rows = rows
-
--- the rows with these routes
-unfoldable pub with_all : List Given → RowsOf (RouteOf Route) → RowsOf (RouteOf Route)
-with_all [] rows = rows
-with_all (entry ∷ rest) rows = with_all rest (with_read (parse_route entry.0) entry.1 rows)
 
 -- what `insert` does where it does not fail
 pub inserted : (read : Result Scan InsertError) (route : Route) (old new : RowsOf (RouteOf Route)) (u : Unit {0}) → InsertsRead read route old new (Ok u) → new ≡ with_read read route old
@@ -98,6 +80,6 @@ pub reached : (all : List Entry) (rows : RowsOf (RouteOf Route)) (i n : ℕ) →
 reached all rows i n e same = subst (λ j. with_all (texts (drop j all)) rows ≡ with_all (texts all) []) e same
 
 -- and after it
-pub finish : (rows : RowsOf (RouteOf Route)) → with_all [] rows ≡ with_all all_routes [] → rows ≡ table
-unfolding with_all matchit_on_literals
+pub finish : (rows : RowsOf (RouteOf Route)) → with_all [] rows ≡ with_all all_routes [] → rows ≡ with_all all_routes []
+unfolding with_all
 finish rows same = same

@@ -1,24 +1,22 @@
 -- What a request asks for by its method and its target: choices of this project.
-use Rattle.std.specs.Prelude.{ℕ, Bool, false, ◌&&◌, ◌==◌, if◌then◌else◌, List, [], ◌∷◌, length}
-use Rattle.std.specs.Prelude.{drop, Option, Some, None, unwrap_or, option_and_then, codes}
+use Rattle.std.specs.Prelude.{ℕ, Bool, true, false, ◌&&◌, ◌||◌, ◌==◌, if◌then◌else◌}
+use Rattle.std.specs.Prelude.{List, [], ◌∷◌, length, drop, codes}
+use Rattle.std.specs.Prelude.{Option, Some, None, Ok, Err}
 use Rattle.std.specs.List.{starts_with}
-use Rattle.std.specs.Option.{option_map}
+use Rattle.std.specs.Option.{ok_or}
 use Rattle.std.specs.Str.{bytes_eq, is_utf8}
 use Rattle.form_urlencoded.specs.Form.{split_once}
-use Rattle.pid_ident.specs.PathReading.{path_of}
 use Rattle.pid_form.specs.FormFields.{fields_in}
 use Rattle.pid_moderation.specs.Fields.{Fields, value, text_at}
 use Rattle.pid_moderation.specs.Forms.{number_in}
-use Rattle.pid_moderation.specs.declared.refusal.Refusal.{Refusal}
-use Rattle.pid_moderation.specs.declared.refusal.Refusal.TheVariants.{BadPath, BadText}
+use Rattle.pid_moderation.specs.declared.refusal.Refusal.TheVariants.{BadText}
 use Rattle.pid_http.specs.Api.Lookups.{query_said}
-use Rattle.pid_http.specs.Api.Methods.{method_in}
-use Rattle.pid_http.specs.Api.Queries.{format_alone, format_beside, format_in}
-use Rattle.pid_http.specs.Api.Queries.{account_said, author_said}
-use Rattle.pid_http.specs.Api.Queries.{after_said, path_said, since_said}
-use Rattle.pid_http.specs.Api.Routes.{route_at, topic_at, payload_at}
+use Rattle.pid_http.specs.Api.Queries.{Said, on_said, then_said, format_in}
+use Rattle.pid_http.specs.Api.Queries.{account_said, author_said, after_said}
+use Rattle.pid_http.specs.Api.Queries.{named_path, path_said, revision_said}
+use Rattle.pid_http.specs.Api.Routes.{names_of, route_at, topic_at, payload_at}
 use Rattle.pid_http.specs.declared.api.format.Format.{Format}
-use Rattle.pid_http.specs.declared.api.format.Format.TheVariants.{Json}
+use Rattle.pid_http.specs.declared.api.route.Query.{Query}
 use Rattle.pid_http.specs.declared.api.route.Route.{Route}
 use Rattle.pid_http.specs.declared.api.route.Payload.{Payload}
 use Rattle.pid_http.specs.declared.api.route.Payload.TheVariants as payloads
@@ -28,11 +26,7 @@ use Rattle.pid_http.specs.declared.api.early.Early.TheVariants.{AnotherMethod, B
 use Rattle.pid_http.specs.declared.api.early.Early.TheVariants.{NoRoute, WantsGet, WantsPost}
 use Rattle.pid_http.specs.declared.api.early.Early.TheVariants.{BadQuery, BadValue}
 use Rattle.pid_http.specs.declared.api.question.Question.{Question}
-use Rattle.pid_http.specs.declared.api.question.Question.TheVariants.{Export, Read, Children}
-use Rattle.pid_http.specs.declared.api.question.Question.TheVariants.{Lookup, Submission}
-use Rattle.pid_http.specs.declared.api.question.Question.TheVariants.{Pending, Changes}
-use Rattle.pid_http.specs.declared.api.question.Question.TheVariants.{Queue, Submissions}
-use Rattle.pid_http.specs.declared.api.question.Question.TheVariants.{Status, Rank}
+use Rattle.pid_http.specs.declared.api.question.Question.TheVariants as questions
 use Rattle.pid_http.specs.declared.api.question.Request.{Request}
 use Rattle.pid_http.specs.declared.api.question.Request.TheVariants.{Refused, Asks, Obeys}
 use Rattle.pid_http_stream.specs.declared.handler.Wanted.{Wanted}
@@ -42,88 +36,46 @@ use Rattle.pid_http_stream.specs.declared.handler.Wanted.TheVariants.{Buffered, 
 abbrev pub rest_after : List ℕ → List ℕ → List ℕ
 rest_after front path = if starts_with ◌==◌ path front then drop (length front) path else []
 
--- a question; or the refusal of a value that is none, in the format of the request
-abbrev pub asks_or : Refusal → Format → Option Question → Request
-asks_or refusal format None = Refused (BadValue refusal format)
-asks_or refusal format (Some question) = Asks question format
-
--- the whole text has no query
-abbrev pub export_asked : Fields → Option Request
-export_asked fields = option_map (λ format. Asks Export format) (format_in [] fields)
-
 -- the item at the path after `/read/`
-abbrev pub read_asked : List ℕ → Fields → Option Request
-read_asked path fields = option_map (λ format. asks_or BadPath format
-    (option_map Read (path_of (rest_after (codes "/read/") path)))) (format_alone fields)
-
--- the items below `of`
-abbrev pub children_asked : Fields → Option Request
-children_asked fields = option_map (λ format. asks_or BadPath format
-    (option_map Children (path_said (text_at (codes "of") fields))))
-    (format_beside (codes "of") fields)
-
--- a look-up, which has no format
-abbrev pub lookup_asked : Fields → Option Request
-lookup_asked fields = option_map (λ query. Asks (Lookup query) Json) (query_said fields)
+abbrev pub item_asked : List ℕ → Format → Said Question
+item_asked path format = on_said questions.Read
+    (named_path format (rest_after (codes "/read/") path))
 
 -- the submission with the number after `/submission/`
-abbrev pub submission_asked : List ℕ → Fields → Option Request
-submission_asked path fields = option_map (λ format. asks_or BadText format
-    (option_map Submission (number_in (rest_after (codes "/submission/") path))))
-    (format_alone fields)
+abbrev pub number_asked : List ℕ → Format → Said Question
+number_asked path format = on_said questions.Submission
+    (ok_or (number_in (rest_after (codes "/submission/") path)) (BadValue BadText format))
 
--- the pending submissions above `after`
-abbrev pub pending_asked : Fields → Option Request
-pending_asked fields =
-    option_and_then (λ format. option_map (λ after. Asks (Pending after) format)
-    (after_said (value (codes "after") fields))) (format_beside (codes "after") fields)
-
--- the items whose changes have numbers above `since`, after the path `after`
-abbrev pub changes_asked : Fields → Option Request
-changes_asked fields =
-    option_and_then (λ format. option_map (λ since. asks_or BadPath format
-    (option_map (λ after. Changes since after) (path_said (text_at (codes "after") fields))))
-    (since_said (value (codes "since") fields)))
-    (format_in (codes "format" ∷ codes "since" ∷ codes "after" ∷ []) fields)
-
--- the queue above `after`
-abbrev pub queue_asked : Fields → Option Request
-queue_asked fields =
-    option_and_then (λ format. option_map (λ after. Asks (Queue after) format)
-    (after_said (value (codes "after") fields))) (format_beside (codes "after") fields)
+-- a look-up
+abbrev pub lookup_asked : Fields → Said Question
+lookup_asked fields = on_said questions.Lookup (ok_or (query_said fields) BadQuery)
 
 -- the submissions for `path`, of `author`, below `before`
-abbrev pub submissions_asked : Fields → Option Request
-submissions_asked fields =
-    option_and_then (λ format. option_and_then (λ before. option_map
-    (λ author. asks_or BadPath format (option_map (λ path. Submissions path author before)
-    (path_said (text_at (codes "path") fields))))
-    (author_said (value (codes "author") fields))) (after_said (value (codes "before") fields)))
-    (format_in (codes "format" ∷ codes "path" ∷ codes "author" ∷ codes "before" ∷ []) fields)
+abbrev pub submissions_asked : Fields → Format → Said Question
+submissions_asked fields format = then_said (λ before. then_said (λ author. on_said
+    (λ path. questions.Submissions path author before)
+    (path_said format (text_at (codes "path") fields)))
+    (author_said (value (codes "author") fields))) (after_said (value (codes "before") fields))
 
--- how much the registry holds
-abbrev pub status_asked : Fields → Option Request
-status_asked fields = option_map (λ format. Asks Status format) (format_alone fields)
-
--- the rank of the account `who`
-abbrev pub rank_asked : Fields → Option Request
-rank_asked fields =
-    option_and_then (λ format. option_map (λ who. Asks (Rank who) format)
-    (account_said (text_at (codes "who") fields))) (format_beside (codes "who") fields)
-
--- what a question about a topic asks; none if the query is bad
-unfoldable pub topic_asked : Topic → List ℕ → Fields → Option Request
-topic_asked topics.Export path fields = export_asked fields
-topic_asked topics.Read path fields = read_asked path fields
-topic_asked topics.Children path fields = children_asked fields
-topic_asked topics.Lookup path fields = lookup_asked fields
-topic_asked topics.Submission path fields = submission_asked path fields
-topic_asked topics.Pending path fields = pending_asked fields
-topic_asked topics.Changes path fields = changes_asked fields
-topic_asked topics.Queue path fields = queue_asked fields
-topic_asked topics.Submissions path fields = submissions_asked fields
-topic_asked topics.Status path fields = status_asked fields
-topic_asked topics.Rank path fields = rank_asked fields
+-- what is asked about a topic, by the path and the fields of a query
+unfoldable pub topic_asked : Topic → List ℕ → Fields → Format → Said Question
+topic_asked topics.Export path fields format = Ok questions.Export
+topic_asked topics.Read path fields format = item_asked path format
+topic_asked topics.Children path fields format = on_said questions.Children
+    (path_said format (text_at (codes "of") fields))
+topic_asked topics.Lookup path fields format = lookup_asked fields
+topic_asked topics.Submission path fields format = number_asked path format
+topic_asked topics.Pending path fields format = on_said questions.Pending
+    (after_said (value (codes "after") fields))
+topic_asked topics.Changes path fields format = then_said
+    (λ since. on_said (questions.Changes since) (path_said format (text_at (codes "after") fields)))
+    (revision_said (value (codes "since") fields))
+topic_asked topics.Queue path fields format = on_said questions.Queue
+    (after_said (value (codes "after") fields))
+topic_asked topics.Submissions path fields format = submissions_asked fields format
+topic_asked topics.Status path fields format = Ok questions.Status
+topic_asked topics.Rank path fields format = on_said questions.Rank
+    (account_said (text_at (codes "who") fields))
 
 -- a request whose body is held in memory, or an import with the format of its reply
 abbrev pub Asking : Type 0
@@ -134,27 +86,24 @@ abbrev pub payload_as : Payload → Format → Asking
 payload_as (payloads.Command verb) format = Buffered (Obeys verb format)
 payload_as payloads.Import format = Streamed format
 
--- by a query, which has a format alone; none if it is bad
-abbrev pub payload_asked : Payload → Fields → Option Asking
-payload_asked payload fields = option_map (payload_as payload) (format_alone fields)
+-- by GET: the names of the fields, their format, and then what they say of the topic
+abbrev pub get_asked : Option (Topic × Query) → List ℕ → List ℕ → Said Request
+get_asked None path query = Err WantsPost
+get_asked (Some (topic, allowed)) path query = then_said (λ format. on_said
+    (λ asked. Asks asked format) (topic_asked topic path (fields_in query) format))
+    (format_in (names_of allowed) (fields_in query))
 
--- at a route by GET: its topic, then the query
-abbrev pub with_topic : Option Topic → List ℕ → List ℕ → Asking
-with_topic None path query = Buffered (Refused WantsPost)
-with_topic (Some topic) path query =
-    Buffered (unwrap_or (topic_asked topic path (fields_in query)) (Refused BadQuery))
+-- by POST: a format alone
+abbrev pub post_asked : Option Payload → List ℕ → Said Asking
+post_asked None query = Err WantsGet
+post_asked (Some payload) query = on_said (payload_as payload)
+    (format_in (codes "format" ∷ []) (fields_in query))
 
--- and by POST: its payload, then the query
-abbrev pub with_payload : Option Payload → List ℕ → Asking
-with_payload None query = Buffered (Refused WantsGet)
-with_payload (Some payload) query =
-    unwrap_or (payload_asked payload (fields_in query)) (Buffered (Refused BadQuery))
-
--- at a route: its method, then the query
-abbrev pub with_route : List ℕ → Option Route → List ℕ → List ℕ → Asking
-with_route method None path query = Buffered (Refused NoRoute)
-with_route method (Some route) path query = if bytes_eq method (codes "GET")
-    then with_topic (topic_at route) path query else with_payload (payload_at route) query
+-- at a route, by GET or else by POST
+abbrev pub route_asked : Bool → Option Route → List ℕ → List ℕ → Said Asking
+route_asked is_get None path query = Err NoRoute
+route_asked true (Some route) path query = on_said Buffered (get_asked (topic_at route) path query)
+route_asked false (Some route) path query = post_asked (payload_at route) query
 
 -- the first byte is `/`
 abbrev pub begins_slash : List ℕ → Bool
@@ -167,16 +116,25 @@ is_target target = is_utf8 target && begins_slash target
 
 -- at a target: the route of its path, which is what comes before the first `?`; the query is what
 -- comes after it
-unfoldable pub with_target : List ℕ → List ℕ → Asking
-with_target method target = with_route method (route_at (split_once 63 target).0)
+unfoldable pub target_asked : Bool → List ℕ → Said Asking
+target_asked is_get target = route_asked is_get (route_at (split_once 63 target).0)
     (split_once 63 target).0 (split_once 63 target).1
 
--- by a method: the target
-abbrev pub with_method : Option (List ℕ) → List ℕ → Asking
-with_method None target = Buffered (Refused AnotherMethod)
-with_method (Some method) target = if is_target target then with_target method target
-    else Buffered (Refused BadTarget)
+-- a method is a name with a case (RFC 9110, section 9.1)
+abbrev pub is_get : List ℕ → Bool
+is_get method = bytes_eq method (codes "GET")
+
+-- by a method and a target: the method is judged first
+abbrev pub asked_by : List ℕ → List ℕ → Said Asking
+asked_by method target = if is_get method || bytes_eq method (codes "POST")
+    then (if is_target target then target_asked (is_get method) target else Err BadTarget)
+    else Err AnotherMethod
+
+-- a request that is refused early needs no body but the one in memory
+abbrev pub unless_early : Said Asking → Asking
+unless_early (Ok wanted) = wanted
+unless_early (Err early) = Buffered (Refused early)
 
 -- what is asked by a method and a target, neither of which is decoded
 unfoldable pub question : List ℕ → List ℕ → Asking
-question method target = with_method (method_in method) target
+question method target = unless_early (asked_by method target)

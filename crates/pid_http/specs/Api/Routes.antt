@@ -1,87 +1,63 @@
--- The routes, and what each of them takes: choices of this project.
-use Rattle.std.specs.Prelude.{ℕ, List, [], ◌∷◌, ◌++◌, Option, Some, None, codes}
-use Rattle.matchit.specs.Rows.{RowsOf, param_token, catch_all_token}
-use Rattle.matchit.specs.Router.{RouteOf, map_key}
+-- The routes, and what each of them takes: the rows of `ROUTES`, choices of this project.
+use Rattle.std.specs.Prelude.{ℕ, List, [], ◌∷◌, map, codes, Option, Some, None, Result, Ok, Err}
+use Rattle.matchit.specs.Order.{placed}
+use Rattle.matchit.specs.Route.{Scan, parse_route}
+use Rattle.matchit.specs.Router.{RouteOf, map_key, route_from}
+use Rattle.matchit.specs.Rows.{RowsOf}
 use Rattle.matchit.specs.Seek.{first}
-use Rattle.pid_moderation.specs.declared.verb.Verb.TheVariants as verbs
+use Rattle.matchit.specs.declared.error.InsertError.{InsertError}
 use Rattle.pid_http.specs.declared.api.route.Route.{Route}
 use Rattle.pid_http.specs.declared.api.route.Route.TheVariants.{Get, Post, Both}
 use Rattle.pid_http.specs.declared.api.route.Payload.{Payload}
-use Rattle.pid_http.specs.declared.api.route.Payload.TheVariants.{Command, Import}
+use Rattle.pid_http.specs.declared.api.route.Query.{Query}
+use Rattle.pid_http.specs.declared.api.route.Query.TheVariants as queries
 use Rattle.pid_http.specs.declared.api.route.Topic.{Topic}
-use Rattle.pid_http.specs.declared.api.route.Topic.TheVariants.{Export, Read, Children, Lookup}
-use Rattle.pid_http.specs.declared.api.route.Topic.TheVariants.{Submission, Pending, Changes}
-use Rattle.pid_http.specs.declared.api.route.Topic.TheVariants.{Queue, Submissions, Status, Rank}
+use Rattle.pid_http.specs.declared.api.route.TheConstants.{ROUTES}
 
--- a route with this path alone
-abbrev pub literal : List ℕ → Route → List ℕ × RouteOf Route
-literal text route = (text, record { pattern = text; text = text; names = []; value = route })
+-- the path of a route, and what it takes
+abbrev pub Given : Type 0
+Given = List ℕ × Route
 
--- one or more bytes after `/read/`; the word `path` of the text begins at place 8 and ends before
--- 12
-abbrev pub read_route : List ℕ × RouteOf Route
-read_route = (
-  codes "/read/" ++ catch_all_token
-      ∷ [],
-  record {
-    pattern = codes "/read/" ++ catch_all_token
-        ∷ [];
-    text = codes "/read/{*path}";
-    names = (8, 12) ∷ [];
-    value = Get Read;
-  },
-)
+-- the rows with one route more, where its path can be read
+abbrev pub with_read : Result Scan InsertError → Route → RowsOf (RouteOf Route)
+    → RowsOf (RouteOf Route)
+with_read (Ok scan) route rows = placed (scan.pattern, route_from scan route) rows
+with_read (Err error) route rows = rows
 
--- one or more bytes after `/submission/`, none of them a slash; the word `num` of the text begins
--- at place 13 and ends before 16
-abbrev pub submission_route : List ℕ × RouteOf Route
-submission_route = (
-  codes "/submission/" ++ param_token
-      ∷ [],
-  record {
-    pattern = codes "/submission/" ++ param_token
-        ∷ [];
-    text = codes "/submission/{num}";
-    names = (13, 16) ∷ [];
-    value = Get Submission;
-  },
-)
+-- the rows with these routes, as a router keeps them
+unfoldable pub with_all : List Given → RowsOf (RouteOf Route) → RowsOf (RouteOf Route)
+with_all [] rows = rows
+with_all (entry ∷ rest) rows = with_all rest (with_read (parse_route entry.0) entry.1 rows)
 
--- all routes, in the order of their patterns, as a router keeps them
-abbrev pub table : RowsOf (RouteOf Route)
-table =
-    literal (codes "/account") (Both Rank (Command verbs.Account))
-    ∷ literal (codes "/approve") (Post (Command verbs.Approve))
-    ∷ literal (codes "/changes") (Get Changes)
-    ∷ literal (codes "/children") (Get Children)
-    ∷ literal (codes "/comment") (Post (Command verbs.Comment))
-    ∷ literal (codes "/confirm") (Post (Command verbs.Confirm))
-    ∷ literal (codes "/import") (Post Import)
-    ∷ literal (codes "/lookup") (Get Lookup)
-    ∷ literal (codes "/pci.ids") (Get Export)
-    ∷ literal (codes "/pending") (Get Pending)
-    ∷ literal (codes "/queue") (Get Queue)
-    ∷ read_route
-    ∷ literal (codes "/reject") (Post (Command verbs.Reject))
-    ∷ literal (codes "/status") (Get Status)
-    ∷ submission_route
-    ∷ literal (codes "/submissions") (Get Submissions)
-    ∷ literal (codes "/submit") (Post (Command verbs.Submit))
-    ∷ literal (codes "/withdraw") (Post (Command verbs.Withdraw))
-    ∷ []
+-- all routes
+abbrev pub all_routes : List Given
+all_routes = map (λ row. (row.0.now, row.1)) ROUTES
 
 -- the route of a path
 unfoldable pub route_at : List ℕ → Option Route
-route_at path = map_key (λ found. found.value) (first table path)
+route_at path = map_key (λ found. found.value) (first (with_all all_routes []) path)
 
--- what is asked at a route by GET, if it takes that
-abbrev pub topic_at : Route → Option Topic
-topic_at (Get topic) = Some topic
+-- the names of the fields that a query may have
+abbrev pub names_of : Query → List (List ℕ)
+names_of queries.Empty = []
+names_of queries.Format = codes "format" ∷ []
+names_of queries.Of = codes "format" ∷ codes "of" ∷ []
+names_of queries.Lookup = codes "flags" ∷ codes "size" ∷ codes "vendor" ∷ codes "device"
+    ∷ codes "subvendor" ∷ codes "subdevice" ∷ codes "class" ∷ codes "progif" ∷ []
+names_of queries.After = codes "format" ∷ codes "after" ∷ []
+names_of queries.SinceAfter = codes "format" ∷ codes "since" ∷ codes "after" ∷ []
+names_of queries.PathAuthorBefore = codes "format" ∷ codes "path" ∷ codes "author"
+    ∷ codes "before" ∷ []
+names_of queries.Who = codes "format" ∷ codes "who" ∷ []
+
+-- what is asked at a route by GET, and by which query, if it takes that
+abbrev pub topic_at : Route → Option (Topic × Query)
+topic_at (Get topic query) = Some (topic, query)
 topic_at (Post payload) = None
-topic_at (Both topic payload) = Some topic
+topic_at (Both topic query payload) = Some (topic, query)
 
 -- the payload of a route by POST, if it takes that
 abbrev pub payload_at : Route → Option Payload
-payload_at (Get topic) = None
+payload_at (Get topic query) = None
 payload_at (Post payload) = Some payload
-payload_at (Both topic payload) = Some payload
+payload_at (Both topic query payload) = Some payload

@@ -1,35 +1,27 @@
-//! What each route asks for.
-ghost use Rattle.std.specs.Prelude.{◌≡◌, IfOk};
+//! The question that a topic, the path and the fields of a query make.
+ghost use Rattle.std.specs.Prelude.{◌≡◌};
 ghost use Rattle.pid_moderation.specs.Fields.{texts_of};
-ghost use Rattle.pid_http.specs.Api.Questions.{rest_after, payload_asked, topic_asked};
 ghost use Rattle.pid_http.specs.Api.Questions.{
-  export_asked,
-  read_asked,
-  children_asked,
+  item_asked,
   lookup_asked,
-  submission_asked,
-  pending_asked,
-  changes_asked,
-  queue_asked,
+  number_asked,
+  rest_after,
   submissions_asked,
-  status_asked,
-  rank_asked,
+  topic_asked,
 };
+ghost use Rattle.pid_http.specs.Api.Steps.Making.{MakesSaid};
 
-use crate::api::early::Early;
+use crate::api::early::{Early, Unasked};
 use crate::api::format::Format;
 use crate::api::lookup_query::LookupQuery;
-use crate::api::query::{
-    account_named, after_named, author_named, format_of, path_named, since_named,
-};
-use crate::api::question::{Question, Request};
-use crate::api::route::{Payload, Topic};
+use crate::api::query::{account_named, author_named, number_named, path_named, revision_named};
+use crate::api::question::Question;
+use crate::api::route::Topic;
 use pid_form::{text_at, value};
-use pid_http_stream::Wanted;
 use pid_ident::{Path, PathText};
 use pid_lookup::args_of;
 use pid_moderation::{Refusal, submission_number};
-use std::alloc::{AllocError, Global};
+use std::alloc::Global;
 
 // What follows a prefix of a path.
 fn rest_behind<'a>(path: &'a str, front: &str) -> &'a str
@@ -38,159 +30,77 @@ fn rest_behind<'a>(path: &'a str, front: &str) -> &'a str
     path.strip_prefix(front).unwrap_or("")
 }
 
-fn export_of(fields: &[(String, String)]) -> Option<Request>
-    ensures { result ≡ export_asked (texts_of fields.now) }
+fn item_of(path: &str, format: Format) -> Result<Question, Early>
+    ensures { result ≡ item_asked path.now format }
 {
-    let format = format_of(fields, &[])?;
-    Some(Request::Asks(Question::Export, format))
+    match Path::parse(rest_behind(path, "/read/")) {
+        Some(path) => Ok(Question::Read(path)),
+        None => Err(Early::BadValue(Refusal::BadPath, format)),
+    }
 }
 
-fn read_of(path: &str, fields: &[(String, String)]) -> Option<Request>
-    ensures { result ≡ read_asked path.now (texts_of fields.now) }
+fn number_of(path: &str, format: Format) -> Result<Question, Early>
+    ensures { result ≡ number_asked path.now format }
 {
-    let format = format_of(fields, &["format"])?;
-    let Some(path) = Path::parse(rest_behind(path, "/read/")) else {
-        return Some(Request::Refused(Early::BadValue(Refusal::BadPath, format)));
-    };
-    Some(Request::Asks(Question::Read(path), format))
+    match submission_number(rest_behind(path, "/submission/")) {
+        Some(number) => Ok(Question::Submission(number)),
+        None => Err(Early::BadValue(Refusal::BadText, format)),
+    }
 }
 
-fn children_of(fields: &[(String, String)]) -> Option<Request>
-    ensures { result ≡ children_asked (texts_of fields.now) }
-{
-    let format = format_of(fields, &["format", "of"])?;
-    let Some(above) = path_named(text_at(fields, "of")) else {
-        return Some(Request::Refused(Early::BadValue(Refusal::BadPath, format)));
-    };
-    Some(Request::Asks(Question::Children(above), format))
-}
-
-fn lookup_of(fields: &[(String, String)]) -> Option<Request>
+fn lookup_of(fields: &[(String, String)]) -> Result<Question, Early>
     ensures { result ≡ lookup_asked (texts_of fields.now) }
 {
     match args_of(fields) {
-        Ok((flags, args, size)) => {
-            let query = LookupQuery { flags, args, size };
-            Some(Request::Asks(Question::Lookup(query), Format::Json))
-        }
-        Err(_) => None,
+        Ok((flags, args, size)) => Ok(Question::Lookup(LookupQuery { flags, args, size })),
+        Err(_) => Err(Early::BadQuery),
     }
 }
 
-fn submission_of(path: &str, fields: &[(String, String)]) -> Option<Request>
-    ensures { result ≡ submission_asked path.now (texts_of fields.now) }
+fn submissions_of(
+    alloc: Global,
+    fields: &[(String, String)],
+    format: Format,
+) -> Result<Question, Unasked>
+    ensures { MakesSaid result (submissions_asked (texts_of fields.now) format) }
 {
-    let format = format_of(fields, &["format"])?;
-    let Some(number) = submission_number(rest_behind(path, "/submission/")) else {
-        return Some(Request::Refused(Early::BadValue(Refusal::BadText, format)));
-    };
-    Some(Request::Asks(Question::Submission(number), format))
-}
-
-fn pending_of(fields: &[(String, String)]) -> Option<Request>
-    ensures { result ≡ pending_asked (texts_of fields.now) }
-{
-    let format = format_of(fields, &["format", "after"])?;
-    let after = after_named(value(fields, "after"))?;
-    Some(Request::Asks(Question::Pending(after), format))
-}
-
-fn changes_of(fields: &[(String, String)]) -> Option<Request>
-    ensures { result ≡ changes_asked (texts_of fields.now) }
-{
-    let format = format_of(fields, &["format", "since", "after"])?;
-    let since = since_named(value(fields, "since"))?;
-    let Some(after) = path_named(text_at(fields, "after")) else {
-        return Some(Request::Refused(Early::BadValue(Refusal::BadPath, format)));
-    };
-    Some(Request::Asks(Question::Changes { since, after }, format))
-}
-
-fn queue_of(fields: &[(String, String)]) -> Option<Request>
-    ensures { result ≡ queue_asked (texts_of fields.now) }
-{
-    let format = format_of(fields, &["format", "after"])?;
-    let after = after_named(value(fields, "after"))?;
-    Some(Request::Asks(Question::Queue(after), format))
-}
-
-fn submissions_of(alloc: Global, fields: &[(String, String)]) -> Result<Option<Request>, AllocError>
-    ensures { IfOk result (λ asked. asked ≡ submissions_asked (texts_of fields.now)) }
-{
-    let Some(format) = format_of(fields, &["format", "path", "author", "before"]) else {
-        return Ok(None);
-    };
-    let Some(before) = after_named(value(fields, "before")) else {
-        return Ok(None);
-    };
-    let Some(author) = author_named(alloc, value(fields, "author"))? else {
-        return Ok(None);
-    };
-    let Some(path) = path_named(text_at(fields, "path")) else {
-        return Ok(Some(Request::Refused(Early::BadValue(Refusal::BadPath, format))));
-    };
-    let question = Question::Submissions {
+    let before = number_named(value(fields, "before"))?;
+    let author = author_named(alloc, value(fields, "author"))?;
+    let path = path_named(text_at(fields, "path"), format)?;
+    Ok(Question::Submissions {
         path,
         author,
         before,
-    };
-    Ok(Some(Request::Asks(question, format)))
+    })
 }
 
-fn status_of(fields: &[(String, String)]) -> Option<Request>
-    ensures { result ≡ status_asked (texts_of fields.now) }
-{
-    let format = format_of(fields, &["format"])?;
-    Some(Request::Asks(Question::Status, format))
-}
-
-fn rank_of(alloc: Global, fields: &[(String, String)]) -> Result<Option<Request>, AllocError>
-    ensures { IfOk result (λ asked. asked ≡ rank_asked (texts_of fields.now)) }
-{
-    let Some(format) = format_of(fields, &["format", "who"]) else {
-        return Ok(None);
-    };
-    match account_named(alloc, text_at(fields, "who"))? {
-        Some(who) => Ok(Some(Request::Asks(Question::Rank(who), format))),
-        None => Ok(None),
-    }
-}
-
-// What a question about a topic asks, by its path and the fields of its query; nothing if the query
-// is bad.
+// The question about a topic, by the path of its target and the fields of its query, whose names
+// are good and which say this format.
+#[tactic(auto, unfolding(crate::specs::Api::Questions::topic_asked))]
 pub(crate) fn ask_topic(
     alloc: Global,
     topic: Topic,
     path: &str,
     fields: &[(String, String)],
-) -> Result<Option<Request>, AllocError>
-    ensures { IfOk result (λ asked. asked ≡ topic_asked topic path.now (texts_of fields.now)) }
+    format: Format,
+) -> Result<Question, Unasked>
+    ensures { MakesSaid result (topic_asked topic path.now (texts_of fields.now) format) }
 {
     match topic {
-        Topic::Export => Ok(export_of(fields)),
-        Topic::Read => Ok(read_of(path, fields)),
-        Topic::Children => Ok(children_of(fields)),
-        Topic::Lookup => Ok(lookup_of(fields)),
-        Topic::Submission => Ok(submission_of(path, fields)),
-        Topic::Pending => Ok(pending_of(fields)),
-        Topic::Changes => Ok(changes_of(fields)),
-        Topic::Queue => Ok(queue_of(fields)),
-        Topic::Submissions => submissions_of(alloc, fields),
-        Topic::Status => Ok(status_of(fields)),
-        Topic::Rank => rank_of(alloc, fields),
-    }
-}
-
-// What a payload asks for, by the fields of the query; nothing if that is bad.
-pub(crate) fn ask_payload(
-    payload: Payload,
-    fields: &[(String, String)],
-) -> Option<Wanted<Request, Format>>
-    ensures { result ≡ payload_asked payload (texts_of fields.now) }
-{
-    let format = format_of(fields, &["format"])?;
-    match payload {
-        Payload::Command(verb) => Some(Wanted::Buffered(Request::Obeys(verb, format))),
-        Payload::Import => Some(Wanted::Streamed(format)),
+        Topic::Export => Ok(Question::Export),
+        Topic::Read => Ok(item_of(path, format)?),
+        Topic::Children => Ok(Question::Children(path_named(text_at(fields, "of"), format)?)),
+        Topic::Lookup => Ok(lookup_of(fields)?),
+        Topic::Submission => Ok(number_of(path, format)?),
+        Topic::Pending => Ok(Question::Pending(number_named(value(fields, "after"))?)),
+        Topic::Changes => {
+            let since = revision_named(value(fields, "since"))?;
+            let after = path_named(text_at(fields, "after"), format)?;
+            Ok(Question::Changes { since, after })
+        }
+        Topic::Queue => Ok(Question::Queue(number_named(value(fields, "after"))?)),
+        Topic::Submissions => submissions_of(alloc, fields, format),
+        Topic::Status => Ok(Question::Status),
+        Topic::Rank => Ok(Question::Rank(account_named(alloc, text_at(fields, "who"))?)),
     }
 }

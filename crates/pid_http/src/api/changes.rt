@@ -5,13 +5,12 @@ ghost use Rattle.pid_moderation.specs.ChangePages.{Changed, changed_of, page_of}
 ghost use Rattle.pid_http.specs.Api.ChangeAnswers.{
   changed_data,
   changed_line,
-  changes_answer,
   changes_data,
   changes_text as text_of_changes,
 };
-ghost use Rattle.pid_http.specs.Api.Replying.{MakesReply};
 
 use crate::api::Format;
+use crate::api::found::Found;
 use crate::api::list::{Row, push_lines, rows_value};
 use crate::api::members::{with_path, with_text, with_value};
 use crate::api::reply::{json_reply, text_reply};
@@ -68,21 +67,26 @@ fn push_changes(alloc: Global, text: &mut String, changes: &Changes) -> Result<(
     push_lines(alloc, text, changes.items.as_slice())
 }
 
-/// The reply with items that were added or renamed, in their order. The text has the line
-/// `revision` with the revision, and then a line for each item: the number of the last change of
-/// its name, its path and its name.
-pub fn changes_reply(alloc: Global, format: Format, changes: &Changes) -> Result<Reply, AllocError>
-    ensures { MakesReply result (changes_answer format (page_of changes.now)) }
-{
-    match format {
-        Format::Json => {
-            let value = changes_value(alloc, changes)?;
-            json_reply(alloc, StatusCode::OK, value)
-        }
-        Format::Text => {
-            let mut text = String::new(alloc);
-            push_changes(alloc, &mut text, changes)?;
-            Ok(text_reply(StatusCode::OK, text))
+// The reply with items that were added or renamed, in their order. The text has the line
+// `revision` with the revision, and then a line for each item: the number of the last change of
+// its name, its path and its name.
+impl Found for Changes {
+    ghost use Rattle.pid_moderation.specs.ChangePages.{page_of};
+    ghost use Rattle.pid_http.specs.Api.ChangeAnswers.{changes_answer};
+
+    ghost answer = { λ format found. changes_answer format (page_of found) };
+
+    fn reply(&self, alloc: Global, format: Format) -> Result<Reply, AllocError> {
+        match format {
+            Format::Json => {
+                let value = changes_value(alloc, self)?;
+                json_reply(alloc, StatusCode::OK, value)
+            }
+            Format::Text => {
+                let mut text = String::new(alloc);
+                push_changes(alloc, &mut text, self)?;
+                Ok(text_reply(StatusCode::OK, text))
+            }
         }
     }
 }

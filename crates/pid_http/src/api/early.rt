@@ -12,7 +12,7 @@ use pid_http_stream::{Content, Reply, RequestRefusal};
 use pid_moderation::Refusal;
 use std::alloc::{AllocError, Global};
 
-/// Why a request comes to no call.
+/// Why a request is refused before the registry is asked.
 #[derive(Clone, Copy)]
 pub enum Early {
     /// Its method is neither GET nor POST.
@@ -29,6 +29,37 @@ pub enum Early {
     BadQuery,
     /// A text of its target is no path, or no number of a submission: a refusal in its format.
     BadValue(Refusal, Format),
+}
+
+/// Why a request comes to no call.
+#[derive(Clone, Copy)]
+pub enum Unasked {
+    /// It is refused.
+    Early(Early),
+    /// There is no memory to read it.
+    Memory,
+}
+
+impl From<Early> for Unasked {
+    ghost use Rattle.std.specs.Prelude.{◌≡◌};
+    ghost use Rattle.pid_http.specs.declared.api.early.Unasked.TheVariants as unasked;
+
+    ghost from_gives = { λ early e. e ≡ unasked.Early early };
+
+    fn from(early: Early) -> Unasked {
+        Unasked::Early(early)
+    }
+}
+
+impl From<AllocError> for Unasked {
+    ghost use Rattle.std.specs.Prelude.{◌≡◌};
+    ghost use Rattle.pid_http.specs.declared.api.early.Unasked.TheVariants as unasked;
+
+    ghost from_gives = { λ _ e. e ≡ unasked.Memory };
+
+    fn from(_fault: AllocError) -> Unasked {
+        Unasked::Memory
+    }
 }
 
 // The reply with the methods that are allowed, which has no body.

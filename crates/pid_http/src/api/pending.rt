@@ -1,26 +1,22 @@
-//! Replies with pending submissions.
+//! Rows of pending submissions.
 ghost use Rattle.std.specs.Prelude.{◌≡◌, ◌++◌, ℕ, codes, map, string_bytes, IfOk, OnOk};
 ghost use Rattle.pid_moderation.specs.PendingPages.{told_of};
 ghost use Rattle.pid_moderation.specs.Submissions.{Standing, standing_of};
 ghost use Rattle.serde_json.specs.Data.{put as with_member};
 ghost use Rattle.serde_json.specs.View.{members_view};
 ghost use Rattle.pid_http.specs.Api.PendingAnswers.{
-  pending_answer,
   pending_data,
   pending_line,
   proposal_words,
   proposed_data,
 };
-ghost use Rattle.pid_http.specs.Api.Replying.{MakesReply};
 ghost use Rattle.pid_http.specs.Api.Steps.SubmissionParts.{pending_members};
 ghost use Rattle.pid_http.specs.Api.Steps.NoFloats.{pending_has_none};
 
-use crate::api::Format;
-use crate::api::list::{Row, list_reply};
+use crate::api::list::Row;
 use crate::api::members::{with_path, with_text, with_value};
 use crate::api::text::{push_line, push_word};
 use itoa::Buffer;
-use pid_http_stream::Reply;
 use pid_ident::PathText;
 use pid_moderation::{Pending, Proposal, Submission};
 use serde_json::{Map, Value};
@@ -92,6 +88,8 @@ pub(crate) fn push_submission(
     push_proposal(text, &submission.proposal, path.as_str())
 }
 
+// The line has its number, its author, what is proposed (`name` or `remove`), its path, and after
+// `name` the name.
 impl Row for Pending {
     ghost Seen = { ℕ × Standing };
 
@@ -111,12 +109,4 @@ impl Row for Pending {
     }
 
     ghost no_float = { pending_has_none };
-}
-
-/// The reply with pending submissions, in their order. The text has a line for each: its number,
-/// its author, what is proposed (`name` or `remove`), its path, and after `name` the name.
-pub fn pending_reply(alloc: Global, format: Format, page: &[Pending]) -> Result<Reply, AllocError>
-    ensures { MakesReply result (pending_answer format (map told_of page.now)) }
-{
-    list_reply(alloc, format, page)
 }

@@ -1,5 +1,5 @@
 //! The values of a query's fields.
-ghost use Rattle.std.specs.Prelude.{◌≡◌, codes, map, not, string_bytes, None, Some, IfOk};
+ghost use Rattle.std.specs.Prelude.{◌≡◌, codes, map, not, string_bytes, None, Some};
 ghost use Rattle.std.specs.List.{list_all, list_any};
 ghost use Rattle.std.specs.Option.{option_copied};
 ghost use Rattle.std.specs.Str.{bytes_eq};
@@ -10,31 +10,33 @@ ghost use Rattle.pid_http.specs.Api.Queries.{
   format_in,
   are_of as have_names,
   account_said,
-  after_said,
   author_said,
+  after_said,
   path_said,
-  since_said,
+  revision_said,
 };
+ghost use Rattle.pid_http.specs.Api.Steps.Making.{MakesSaid};
 
+use crate::api::early::{Early, Unasked};
 use crate::api::format::Format;
 use pid_form::{is_twice, number_up_to, value};
 use pid_ident::{Account, Path, PathText, WordFault};
-use pid_moderation::{REVISIONS, submission_number};
-use std::alloc::{AllocError, Global};
+use pid_moderation::{REVISIONS, Refusal, submission_number};
+use std::alloc::Global;
 
 // The format that a value says: JSON if none is said.
-fn format_named(value: Option<&str>) -> Option<Format>
+fn format_named(value: Option<&str>) -> Result<Format, Early>
     ensures { result ≡ format_said (option_copied value.entry) }
 {
     match value {
-        None => Some(Format::Json),
+        None => Ok(Format::Json),
         Some(text) => {
             if text == "json" {
-                Some(Format::Json)
+                Ok(Format::Json)
             } else if text == "text" {
-                Some(Format::Text)
+                Ok(Format::Text)
             } else {
-                None
+                Err(Early::BadQuery)
             }
         }
     }
@@ -74,84 +76,81 @@ fn are_of(fields: &[(String, String)], names: &[&str]) -> bool
 }
 
 // The format that fields say, which may have these names alone.
-pub(crate) fn format_of(fields: &[(String, String)], names: &[&str]) -> Option<Format>
+pub(crate) fn format_of(fields: &[(String, String)], names: &[&str]) -> Result<Format, Early>
     ensures { result ≡ format_in (map (λ name. name.now) names.now) (texts_of fields.now) }
 {
     if are_of(fields, names) {
         format_named(value(fields, "format"))
     } else {
-        None
+        Err(Early::BadQuery)
     }
 }
 
 // The account with this name, if a text may be one.
-pub(crate) fn account_named(alloc: Global, text: &str) -> Result<Option<Account>, AllocError>
-    ensures { IfOk result (λ account. account ≡ account_said text.now) }
+pub(crate) fn account_named(alloc: Global, text: &str) -> Result<Account, Unasked>
+    ensures { MakesSaid result (account_said text.now) }
 {
     match Account::of(alloc, text) {
-        Ok(account) => Ok(Some(account)),
-        Err(WordFault::Bad) => Ok(None),
-        Err(WordFault::Memory) => Err(AllocError),
+        Ok(account) => Ok(account),
+        Err(WordFault::Bad) => Err(Unasked::Early(Early::BadQuery)),
+        Err(WordFault::Memory) => Err(Unasked::Memory),
     }
 }
 
-// The author that a value names, if it names one; none if it may be none.
-pub(crate) fn author_named(
-    alloc: Global,
-    value: Option<&str>,
-) -> Result<Option<Option<Account>>, AllocError>
-    ensures { IfOk result (λ author. author ≡ author_said (option_copied value.entry)) }
+// The author that a value names, if it names one.
+pub(crate) fn author_named(alloc: Global, value: Option<&str>) -> Result<Option<Account>, Unasked>
+    ensures { MakesSaid result (author_said (option_copied value.entry)) }
 {
     match value {
-        None => Ok(Some(None)),
-        Some(text) => match account_named(alloc, text)? {
-            Some(account) => Ok(Some(Some(account))),
-            None => Ok(None),
+        None => Ok(None),
+        Some(text) => match account_named(alloc, text) {
+            Ok(account) => Ok(Some(account)),
+            Err(unasked) => Err(unasked),
         },
     }
 }
 
 // The number after which, or below which, a page begins: 0 if none is said.
-pub(crate) fn after_named(value: Option<&str>) -> Option<u32>
+pub(crate) fn number_named(value: Option<&str>) -> Result<u32, Early>
     ensures { result ≡ after_said (option_copied value.entry) }
 {
     match value {
-        None => Some(0),
+        None => Ok(0),
         Some(text) => {
             if text == "0" {
-                Some(0)
+                Ok(0)
             } else {
-                submission_number(text)
+                submission_number(text).ok_or(Early::BadQuery)
             }
         }
     }
 }
 
 // The number above which changes are asked for: 0 if none is said.
-pub(crate) fn since_named(value: Option<&str>) -> Option<u64>
-    ensures { result ≡ since_said (option_copied value.entry) }
+pub(crate) fn revision_named(value: Option<&str>) -> Result<u64, Early>
+    ensures { result ≡ revision_said (option_copied value.entry) }
 {
     match value {
-        None => Some(0),
+        None => Ok(0),
         Some(text) => {
             if text == "0" {
-                Some(0)
+                Ok(0)
             } else {
-                number_up_to(text, REVISIONS, 19)
+                number_up_to(text, REVISIONS, 19).ok_or(Early::BadQuery)
             }
         }
     }
 }
 
 // The path that a text names, if it names one; none if it is empty.
-pub(crate) fn path_named(text: &str) -> Option<Option<Path>>
-    ensures { result ≡ path_said text.now }
+pub(crate) fn path_named(text: &str, format: Format) -> Result<Option<Path>, Early>
+    ensures { result ≡ path_said format text.now }
 {
     if text.is_empty() {
-        return Some(None);
+        return Ok(None);
     }
     match Path::parse(text) {
-        Some(path) => Some(Some(path)),
-        None => None,
+        Some(path) => Ok(Some(path)),
+        None => Err(Early::BadValue(Refusal::BadPath, format)),
     }
 }

@@ -2,22 +2,24 @@
 ghost use Rattle.std.specs.Prelude.{◌≡◌, true, false, IfOk, MatchOption};
 ghost use Rattle.form_urlencoded.specs.Form.{split_once as split_bytes};
 ghost use Rattle.pid_http.specs.Api.Questions.{
-  question,
-  with_target,
-  with_topic,
-  with_payload,
+  asked_by,
+  get_asked,
   is_target,
+  post_asked,
+  question,
+  target_asked,
 };
+ghost use Rattle.pid_http.specs.Api.Routes.{payload_at, topic_at};
+ghost use Rattle.pid_http.specs.Api.Steps.Making.{MakesSaid};
 
-use crate::api::asking::{ask_payload, ask_topic};
-use crate::api::early::Early;
+use crate::api::asking::ask_topic;
+use crate::api::early::{Early, Unasked};
 use crate::api::format::Format;
 use crate::api::lookup_query::LookupQuery;
-use crate::api::method::method_named;
-use crate::api::route::{Payload, Topic};
+use crate::api::query::format_of;
+use crate::api::route::{Payload, Route};
 use crate::api::routes::Routes;
 use crate::api::utf8::text_of;
-use http::Method;
 use pid_form::fields_of;
 use pid_http_stream::Wanted;
 use pid_ident::{Account, Path};
@@ -94,62 +96,72 @@ fn text_of_target(target: &[u8]) -> Option<&str>
     }
 }
 
-// What a GET asks for, by what it is about and its query.
-fn get(
-    alloc: Global,
-    topic: Option<Topic>,
-    path: &str,
-    query: &str,
-) -> Result<Wanted<Request, Format>, AllocError>
-    ensures { IfOk result (λ wanted. wanted ≡ with_topic topic path.now query.now) }
+// What a GET asks for at a route, by its path and its query.
+fn get(alloc: Global, route: Route, path: &str, query: &str) -> Result<Request, Unasked>
+    ensures { MakesSaid result (get_asked (topic_at route) path.now query.now) }
 {
-    let Some(topic) = topic else {
-        return Ok(Wanted::Buffered(Request::Refused(Early::WantsPost)));
+    let Some((topic, allowed)) = route.topic() else {
+        return Err(Unasked::Early(Early::WantsPost));
     };
     let fields = fields_of(alloc, query)?;
-    match ask_topic(alloc, topic, path, &fields)? {
-        Some(request) => Ok(Wanted::Buffered(request)),
-        None => Ok(Wanted::Buffered(Request::Refused(Early::BadQuery))),
+    let format = format_of(&fields, allowed.names())?;
+    let question = ask_topic(alloc, topic, path, &fields, format)?;
+    Ok(Request::Asks(question, format))
+}
+
+// What a POST asks for at a route, by its query.
+fn post(alloc: Global, route: Route, query: &str) -> Result<Wanted<Request, Format>, Unasked>
+    ensures { MakesSaid result (post_asked (payload_at route) query.now) }
+{
+    let Some(payload) = route.payload() else {
+        return Err(Unasked::Early(Early::WantsGet));
+    };
+    let fields = fields_of(alloc, query)?;
+    let format = format_of(&fields, &["format"])?;
+    match payload {
+        Payload::Command(verb) => Ok(Wanted::Buffered(Request::Obeys(verb, format))),
+        Payload::Import => Ok(Wanted::Streamed(format)),
     }
 }
 
-// What a POST asks for, by what it sends and its query.
-fn post(
-    alloc: Global,
-    payload: Option<Payload>,
-    query: &str,
-) -> Result<Wanted<Request, Format>, AllocError>
-    ensures { IfOk result (λ wanted. wanted ≡ with_payload payload query.now) }
-{
-    let Some(payload) = payload else {
-        return Ok(Wanted::Buffered(Request::Refused(Early::WantsGet)));
-    };
-    let fields = fields_of(alloc, query)?;
-    match ask_payload(payload, &fields) {
-        Some(wanted) => Ok(wanted),
-        None => Ok(Wanted::Buffered(Request::Refused(Early::BadQuery))),
-    }
-}
-
-// The question of a method and of a target that is text and begins with a slash.
-#[tactic(auto, unfolding(crate::specs::Api::Questions::with_target))]
+// What is asked for by a target that is text and begins with a slash, by GET or else by POST.
+#[tactic(auto, unfolding(crate::specs::Api::Questions::target_asked))]
 fn ask(
     alloc: Global,
     routes: &Routes,
-    method: &Method,
+    is_get: bool,
     target: &str,
-) -> Result<Wanted<Request, Format>, AllocError>
-    ensures { IfOk result (λ wanted. wanted ≡ with_target method.now target.now) }
+) -> Result<Wanted<Request, Format>, Unasked>
+    ensures { MakesSaid result (target_asked is_get target.now) }
 {
     let (path, query) = split_target(target);
     let Some(route) = routes.route_of(path) else {
-        return Ok(Wanted::Buffered(Request::Refused(Early::NoRoute)));
+        return Err(Unasked::Early(Early::NoRoute));
     };
-    if *method == Method::GET {
-        get(alloc, route.topic(), path, query)
-    } else {
-        post(alloc, route.payload(), query)
+    if is_get {
+        let request = get(alloc, route, path, query)?;
+        return Ok(Wanted::Buffered(request));
     }
+    post(alloc, route, query)
+}
+
+// The same, by a method and a target.
+fn judge(
+    alloc: Global,
+    routes: &Routes,
+    method: &[u8],
+    target: &[u8],
+) -> Result<Wanted<Request, Format>, Unasked>
+    ensures { MakesSaid result (asked_by method.now target.now) }
+{
+    let is_get = method == b"GET".as_slice();
+    if !is_get && method != b"POST".as_slice() {
+        return Err(Unasked::Early(Early::AnotherMethod));
+    }
+    let Some(target) = text_of_target(target) else {
+        return Err(Unasked::Early(Early::BadTarget));
+    };
+    ask(alloc, routes, is_get, target)
 }
 
 /// What a method and a target ask for. The file of an import is read as it comes; the format is
@@ -170,11 +182,9 @@ pub fn question_of(
 ) -> Result<Wanted<Request, Format>, AllocError>
     ensures { IfOk result (λ wanted. wanted ≡ question method.now target.now) }
 {
-    let Some(method) = method_named(method) else {
-        return Ok(Wanted::Buffered(Request::Refused(Early::AnotherMethod)));
-    };
-    let Some(target) = text_of_target(target) else {
-        return Ok(Wanted::Buffered(Request::Refused(Early::BadTarget)));
-    };
-    ask(alloc, routes, &method, target)
+    match judge(alloc, routes, method, target) {
+        Ok(wanted) => Ok(wanted),
+        Err(Unasked::Early(early)) => Ok(Wanted::Buffered(Request::Refused(early))),
+        Err(Unasked::Memory) => Err(AllocError),
+    }
 }

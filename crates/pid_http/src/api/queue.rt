@@ -1,22 +1,18 @@
-//! Replies with the queue of a moderator.
+//! Rows of the queue of a moderator.
 ghost use Rattle.std.specs.Prelude.{◌≡◌, codes, map, IfOk};
 ghost use Rattle.pid_moderation.specs.QueuePages.{QueueEntry, queued_of};
 ghost use Rattle.serde_json.specs.Data.{put as with_member};
 ghost use Rattle.serde_json.specs.View.{members_view};
 ghost use Rattle.pid_http.specs.Api.QueueAnswers.{
   now_data,
-  queue_answer,
   queued_data,
   queued_line,
 };
-ghost use Rattle.pid_http.specs.Api.Replying.{MakesReply};
 ghost use Rattle.pid_http.specs.Api.Steps.NoFloats.{queued_has_none};
 
-use crate::api::Format;
-use crate::api::list::{Row, list_reply};
+use crate::api::list::Row;
 use crate::api::members::{with_text, with_value};
 use crate::api::pending::{push_submission, submission_members};
-use pid_http_stream::Reply;
 use pid_ident::Name;
 use pid_moderation::Queued;
 use serde_json::{Map, Value};
@@ -37,6 +33,7 @@ fn with_now(
     }
 }
 
+// The line is that of a pending submission.
 impl Row for Queued {
     ghost Seen = { QueueEntry };
 
@@ -59,12 +56,4 @@ impl Row for Queued {
     }
 
     ghost no_float = { queued_has_none };
-}
-
-/// The reply with pending submissions, each with its note, the name that its path has today and the
-/// count of the remarks on it, in their order. The text has the lines of `pending_reply`.
-pub fn queue_reply(alloc: Global, format: Format, page: &[Queued]) -> Result<Reply, AllocError>
-    ensures { MakesReply result (queue_answer format (map queued_of page.now)) }
-{
-    list_reply(alloc, format, page)
 }

@@ -1,6 +1,6 @@
 //! The table of routes: a path, the methods that it takes, and what each of them asks for.
-ghost use Rattle.std.specs.Prelude.{◌≡◌};
-ghost use Rattle.pid_http.specs.Api.Routes.{topic_at, payload_at};
+ghost use Rattle.std.specs.Prelude.{◌≡◌, map};
+ghost use Rattle.pid_http.specs.Api.Routes.{names_of, topic_at, payload_at};
 
 use pid_moderation::Verb;
 
@@ -29,29 +29,49 @@ pub enum Payload {
     Import,
 }
 
-/// What a path takes.
+/// The fields that a query may have besides `format`, which `Empty` and `Lookup` have not.
 #[derive(Clone, Copy)]
-pub enum Route {
-    Get(Topic),
-    Post(Payload),
-    Both(Topic, Payload),
+pub enum Query {
+    Empty,
+    Format,
+    Of,
+    Lookup,
+    After,
+    SinceAfter,
+    PathAuthorBefore,
+    Who,
 }
 
-// Each path, as a router reads it, and what it takes.
-pub(crate) const ROUTES: [(&str, Route); 18] = [
-    ("/pci.ids", Route::Get(Topic::Export)),
-    ("/read/{*path}", Route::Get(Topic::Read)),
-    ("/children", Route::Get(Topic::Children)),
-    ("/lookup", Route::Get(Topic::Lookup)),
-    ("/submission/{num}", Route::Get(Topic::Submission)),
-    ("/pending", Route::Get(Topic::Pending)),
-    ("/changes", Route::Get(Topic::Changes)),
-    ("/queue", Route::Get(Topic::Queue)),
-    ("/submissions", Route::Get(Topic::Submissions)),
-    ("/status", Route::Get(Topic::Status)),
+/// What a path takes: what a GET asks about there, with the fields that its query may have, and
+/// what a POST sends. The query of a POST may have a format alone.
+#[derive(Clone, Copy)]
+pub enum Route {
+    Get(Topic, Query),
+    Post(Payload),
+    Both(Topic, Query, Payload),
+}
+
+/// Each path, as a router reads it, and what it takes.
+pub const ROUTES: [(&str, Route); 18] = [
+    ("/pci.ids", Route::Get(Topic::Export, Query::Empty)),
+    ("/read/{*path}", Route::Get(Topic::Read, Query::Format)),
+    ("/children", Route::Get(Topic::Children, Query::Of)),
+    ("/lookup", Route::Get(Topic::Lookup, Query::Lookup)),
+    (
+        "/submission/{num}",
+        Route::Get(Topic::Submission, Query::Format),
+    ),
+    ("/pending", Route::Get(Topic::Pending, Query::After)),
+    ("/changes", Route::Get(Topic::Changes, Query::SinceAfter)),
+    ("/queue", Route::Get(Topic::Queue, Query::After)),
+    (
+        "/submissions",
+        Route::Get(Topic::Submissions, Query::PathAuthorBefore),
+    ),
+    ("/status", Route::Get(Topic::Status, Query::Format)),
     (
         "/account",
-        Route::Both(Topic::Rank, Payload::Command(Verb::Account)),
+        Route::Both(Topic::Rank, Query::Who, Payload::Command(Verb::Account)),
     ),
     ("/submit", Route::Post(Payload::Command(Verb::Submit))),
     ("/comment", Route::Post(Payload::Command(Verb::Comment))),
@@ -62,13 +82,43 @@ pub(crate) const ROUTES: [(&str, Route); 18] = [
     ("/import", Route::Post(Payload::Import)),
 ];
 
+// The fields of a look-up.
+const LOOKUP: [&str; 8] = [
+    "flags",
+    "size",
+    "vendor",
+    "device",
+    "subvendor",
+    "subdevice",
+    "class",
+    "progif",
+];
+
+impl Query {
+    // The names of the fields.
+    pub(crate) fn names(self) -> &'static [&'static str]
+        ensures { map (λ name. name.now) result.now ≡ names_of self }
+    {
+        match self {
+            Query::Empty => &[],
+            Query::Format => &["format"],
+            Query::Of => &["format", "of"],
+            Query::Lookup => &LOOKUP,
+            Query::After => &["format", "after"],
+            Query::SinceAfter => &["format", "since", "after"],
+            Query::PathAuthorBefore => &["format", "path", "author", "before"],
+            Query::Who => &["format", "who"],
+        }
+    }
+}
+
 impl Route {
-    // What a GET asks about, if the path takes one.
-    pub(crate) fn topic(self) -> Option<Topic>
+    // What a GET asks about, and the fields of its query, if the path takes one.
+    pub(crate) fn topic(self) -> Option<(Topic, Query)>
         ensures { result ≡ topic_at self }
     {
         match self {
-            Route::Get(topic) | Route::Both(topic, _) => Some(topic),
+            Route::Get(topic, query) | Route::Both(topic, query, _) => Some((topic, query)),
             Route::Post(_) => None,
         }
     }
@@ -78,8 +128,8 @@ impl Route {
         ensures { result ≡ payload_at self }
     {
         match self {
-            Route::Post(payload) | Route::Both(_, payload) => Some(payload),
-            Route::Get(_) => None,
+            Route::Post(payload) | Route::Both(_, _, payload) => Some(payload),
+            Route::Get(_, _) => None,
         }
     }
 }

@@ -1,6 +1,6 @@
 //! The routes, found by their paths.
-ghost use Rattle.std.specs.Prelude.{◌≡◌, IfErr};
-ghost use Rattle.pid_http.specs.Api.Routes.{table, route_at};
+ghost use Rattle.std.specs.Prelude.{◌≡◌, [], IfErr};
+ghost use Rattle.pid_http.specs.Api.Routes.{all_routes, route_at, with_all};
 
 use crate::api::route::{ROUTES, Route};
 use matchit::{InsertError, Router};
@@ -10,7 +10,7 @@ use std::alloc::Global;
 #[derive(Drop)]
 pub struct Routes {
     router: Router<Route>,
-    ghost whole: { router ≡ table },
+    ghost whole: { router ≡ with_all all_routes [] },
 }
 
 impl Routes {

@@ -2,15 +2,14 @@
 ghost use Rattle.std.specs.Prelude.{◌≡◌, ◌++◌, decimal, string_bytes, IfOk, OnOk};
 ghost use Rattle.pid_moderation.specs.RegistryStatus.{registry_status_of};
 ghost use Rattle.serde_json.specs.View.{view};
-ghost use Rattle.pid_http.specs.Api.Replying.{MakesReply};
 ghost use Rattle.pid_http.specs.Api.StatusAnswers.{
-  status_answer,
   status_data,
   status_text as text_of_status,
 };
 ghost use Rattle.pid_http.specs.Api.WordLines.{word_line};
 
 use crate::api::Format;
+use crate::api::found::Found;
 use crate::api::members::with_value;
 use crate::api::reply::{json_reply, text_reply};
 use crate::api::text::push_line;
@@ -61,20 +60,25 @@ fn push_status(text: &mut String, status: &Status) -> Result<(), AllocError>
     push_count(text, "submissions", u64::from(status.submissions))
 }
 
-/// The reply with how many accounts, items, pending submissions, accepted commands and submissions
-/// a registry has. The text has a line for each count: its key and the count.
-pub fn status_reply(alloc: Global, format: Format, status: &Status) -> Result<Reply, AllocError>
-    ensures { MakesReply result (status_answer format (registry_status_of status.now)) }
-{
-    match format {
-        Format::Json => {
-            let value = status_value(alloc, status)?;
-            json_reply(alloc, StatusCode::OK, value)
-        }
-        Format::Text => {
-            let mut text = String::new(alloc);
-            push_status(&mut text, status)?;
-            Ok(text_reply(StatusCode::OK, text))
+// The reply with how many accounts, items, pending submissions, accepted commands and submissions
+// a registry has. The text has a line for each count: its key and the count.
+impl Found for Status {
+    ghost use Rattle.pid_moderation.specs.RegistryStatus.{registry_status_of};
+    ghost use Rattle.pid_http.specs.Api.StatusAnswers.{status_answer};
+
+    ghost answer = { λ format found. status_answer format (registry_status_of found) };
+
+    fn reply(&self, alloc: Global, format: Format) -> Result<Reply, AllocError> {
+        match format {
+            Format::Json => {
+                let value = status_value(alloc, self)?;
+                json_reply(alloc, StatusCode::OK, value)
+            }
+            Format::Text => {
+                let mut text = String::new(alloc);
+                push_status(&mut text, self)?;
+                Ok(text_reply(StatusCode::OK, text))
+            }
         }
     }
 }

@@ -2,17 +2,16 @@
 ghost use Rattle.std.specs.Prelude.{◌≡◌, ◌++◌, string_bytes, IfOk, OnOk};
 ghost use Rattle.pid_moderation.specs.SubmissionPages.{Listing, listed_of, submission_page_of};
 ghost use Rattle.serde_json.specs.View.{view};
-ghost use Rattle.pid_http.specs.Api.Replying.{MakesReply};
 ghost use Rattle.pid_http.specs.Api.SubmissionPageAnswers.{
   listed_data,
   listed_line,
-  submissions_answer,
   submissions_data,
   submissions_text as text_of_submissions,
 };
 ghost use Rattle.pid_http.specs.Api.Steps.NoFloats.{listed_has_none};
 
 use crate::api::Format;
+use crate::api::found::Found;
 use crate::api::list::{Row, push_lines, rows_value};
 use crate::api::members::{with_text, with_value};
 use crate::api::pending::{push_proposal, submission_members};
@@ -76,26 +75,27 @@ fn push_page(alloc: Global, text: &mut String, page: &SubmissionPage) -> Result<
     push_lines(alloc, text, page.submissions.as_slice())
 }
 
-/// The reply with a page of submissions, the latest first, and the number below which the next page
-/// begins. The text has the line `before` with that number, and then a line for each submission:
-/// its number, its state, its author, what is proposed (`name` or `remove`), its path, and after
-/// `name` the name.
-pub fn submissions_reply(
-    alloc: Global,
-    format: Format,
-    page: &SubmissionPage,
-) -> Result<Reply, AllocError>
-    ensures { MakesReply result (submissions_answer format (submission_page_of page.now)) }
-{
-    match format {
-        Format::Json => {
-            let value = submissions_value(alloc, page)?;
-            json_reply(alloc, StatusCode::OK, value)
-        }
-        Format::Text => {
-            let mut text = String::new(alloc);
-            push_page(alloc, &mut text, page)?;
-            Ok(text_reply(StatusCode::OK, text))
+// The reply with a page of submissions, the latest first, and the number below which the next page
+// begins. The text has the line `before` with that number, and then a line for each submission:
+// its number, its state, its author, what is proposed (`name` or `remove`), its path, and after
+// `name` the name.
+impl Found for SubmissionPage {
+    ghost use Rattle.pid_moderation.specs.SubmissionPages.{submission_page_of};
+    ghost use Rattle.pid_http.specs.Api.SubmissionPageAnswers.{submissions_answer};
+
+    ghost answer = { λ format found. submissions_answer format (submission_page_of found) };
+
+    fn reply(&self, alloc: Global, format: Format) -> Result<Reply, AllocError> {
+        match format {
+            Format::Json => {
+                let value = submissions_value(alloc, self)?;
+                json_reply(alloc, StatusCode::OK, value)
+            }
+            Format::Text => {
+                let mut text = String::new(alloc);
+                push_page(alloc, &mut text, self)?;
+                Ok(text_reply(StatusCode::OK, text))
+            }
         }
     }
 }

@@ -1,5 +1,5 @@
 use Rattle.std.proofs.Common.{◌≡◌, Bool, true, false, [], ◌∷◌, Result, Ok, Err, refl, sym, ap, ◌∙◌, inl}
-use Rattle.std.specs.Prelude.{◌↔◌, if◌then◌else◌}
+use Rattle.std.specs.Prelude.{if◌then◌else◌}
 use Rattle.pid_lookup.specs.Answers.{answer_of}
 use Rattle.pid_lookup.specs.Flags.{is_bad}
 use Rattle.pid_lookup.specs.declared.answer.Answer.{Answer as Found}

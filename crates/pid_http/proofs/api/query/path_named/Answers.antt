@@ -1,5 +1,8 @@
 use Rattle.std.proofs.Common.{refl, sym, ap, ◌∙◌, Some}
-use Rattle.std.specs.Option.{option_map}
+use Rattle.std.specs.Prelude.{ok_or}
+use Rattle.pid_moderation.specs.declared.refusal.Refusal.TheVariants.{BadPath}
+use Rattle.pid_http.specs.Api.Queries.{on_said}
+use Rattle.pid_http.specs.declared.api.early.Early.TheVariants.{BadValue}
 use Rattle.pid_http.proofs.OfApi.Paths.{said_so}
 use Rattle.pid_http.proofs.api.query.path_named.Goals as goal
 
@@ -7,7 +10,7 @@ pub returns-then-is_empty : goal.returns-then-is_empty
 returns-then-is_empty c = rw (said_so _ _ _ c.is_empty.ensures c.if-is_empty.true) refl
 
 pub returns-in-Some : goal.returns-in-Some
-returns-in-Some c = rw (said_so _ _ _ c.is_empty.ensures c.if-is_empty.false) (ap (option_map Some) (sym c.in-Some.is ∙ c.parse.ensures.computed))
+returns-in-Some c = rw (said_so _ _ _ c.is_empty.ensures c.if-is_empty.false) (ap (λ path. on_said Some (ok_or path (BadValue BadPath c.args.format))) (sym c.in-Some.is ∙ c.parse.ensures.computed))
 
 pub returns-in-None : goal.returns-in-None
-returns-in-None c = rw (said_so _ _ _ c.is_empty.ensures c.if-is_empty.false) (ap (option_map Some) (sym c.in-None.is ∙ c.parse.ensures.computed))
+returns-in-None c = rw (said_so _ _ _ c.is_empty.ensures c.if-is_empty.false) (ap (λ path. on_said Some (ok_or path (BadValue BadPath c.args.format))) (sym c.in-None.is ∙ c.parse.ensures.computed))

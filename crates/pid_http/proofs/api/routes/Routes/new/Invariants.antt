@@ -1,5 +1,6 @@
 use Rattle.std.proofs.Common.{◌≡◌, [], drop, true}
-use Rattle.pid_http.proofs.OfApi.RouteRows.{with_all, all_new, texts}
+use Rattle.pid_http.specs.Api.Routes.{with_all}
+use Rattle.pid_http.proofs.OfApi.RouteRows.{all_new, texts}
 use Rattle.pid_http.proofs.api.routes.Routes.new.Given as goal
 
 -- the routes still to come lead to the same rows, and none of them conflicts
