@@ -4,15 +4,20 @@
 use pid_cli_help::Met;
 use pid_cli_jobs::run_words;
 use pid_cli_terminal::Session;
-use pid_cli_words::words_given;
+use pid_file::tell_no_words;
 use sqlite_disk::Unknown;
 use std::process::ExitCode;
+use std::{env, io};
 
 fn main(rt: HostRuntime) -> ExitCode {
-    match words_given(&rt) {
-        Ok(words) => ExitCode::from(run(&rt, words.as_slice())),
-        Err(status) => ExitCode::from(status),
-    }
+    ExitCode::from(match words_given(&rt) {
+        Ok(words) => run(&rt, words.as_slice()),
+        Err(error) => tell_no_words(error.kind(), rt.stderr()),
+    })
+}
+
+fn words_given(rt: &HostRuntime) -> io::Result<Vec<String>> {
+    Ok(env::args(rt)?.collect(rt.alloc())?)
 }
 
 // Runs the words, and says more where a person reads standard error.

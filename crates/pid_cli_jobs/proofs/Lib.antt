@@ -1,7 +1,5 @@
 pub mod Runs
-pub mod Sessions
+pub mod Calling
 pub mod Lines
-pub mod Streams
-pub mod Inputs
 pub mod Exports
 pub mod Ends

@@ -1,6 +1,6 @@
 -- Runs of the program on the files of a database, each with a store of its own. Choices of this
 -- project.
-use Rattle.std.specs.Prelude.{◌≡◌, Bool, true, false, List, [], ◌∷◌, ◌++◌, IsTrue, Ok}
+use Rattle.std.specs.Prelude.{◌≡◌, false, List, [], ◌∷◌, ◌++◌, IsTrue, Ok}
 use Rattle.sqlite.specs.Closing.{IsCopied}
 use Rattle.sqlite.specs.Files.{FailsToClose, IsBlankAs, IsClosed, IsOpened, file_state, over_files}
 use Rattle.sqlite.specs.Held.{AreDatabases, Held}
@@ -51,11 +51,11 @@ pub data IsLeftIn {D : Type 0} {g : disk.Ghosts D} (earlier : Held (FileStore D 
 -- A connection to files was closed. The log was copied: if the disk returned what was written, the
 -- last commit is in the database file. Or it was not: a stop leaves nothing new, and if the disk
 -- returned what was written, it failed, or memory ran out.
-abbrev pub ClosesFiles : {D : Type 0} {g : disk.Ghosts D} → Held (FileStore D g) → Bool → Type 0
-ClosesFiles {D} {g} conn true = (files : Files D)
-    × (AreClean g files.log files.db → IsCopied conn files)
-ClosesFiles {D} {g} conn false = (last : FileStore D g) × IsClosed conn last
-    × (IsClean (view last) → (error : Error) × FailsToClose conn last error)
+pub data ClosesFiles {D : Type 0} {g : disk.Ghosts D} (conn : Held (FileStore D g)) : Type 0 where
+  Copied : (files : Files D) → (AreClean g files.log files.db → IsCopied conn files)
+      → ClosesFiles conn
+  Uncopied : (last : FileStore D g) → IsClosed conn last
+      → (IsClean (view last) → (error : Error) × FailsToClose conn last error) → ClosesFiles conn
 
 module _ {D E : Type 0} {g : disk.Ghosts D} {k : disk.Ghosts E} where
   -- The next run: its connection was opened on what an earlier one left. The earlier disk returned

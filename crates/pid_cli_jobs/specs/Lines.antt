@@ -1,7 +1,7 @@
 -- The lines that a job prints, and the status with which it ends: choices of this project.
-use Rattle.std.specs.Prelude.{◌≡◌, ℕ, List, ◌++◌, codes, decimal, Result, Ok, Err}
-use Rattle.std.specs.Io.KnownBytes.{Appends}
-use Rattle.pid_file.specs.TextEnds.{fault_line}
+use Rattle.std.specs.Prelude.{◌≡◌, ℕ, Bool, true, false, List, ◌++◌, codes, decimal, Result, Ok, Err}
+use Rattle.std.specs.Io.KnownBytes.{Appends, Keeps}
+use Rattle.pid_file.specs.TextEnds.{failed_line, fault_line}
 use Rattle.pid_file.specs.Writing.{FailsWithin, TriesLine, WriterUse}
 use Rattle.pid_file.specs.declared.text_end.TextEnd.TheVariants.{Memory}
 use Rattle.pid_lookup.specs.declared.answer.Answer.{Answer}
@@ -10,6 +10,7 @@ use Rattle.pid_lookup.specs.declared.answering.LookupRefusal.{LookupRefusal}
 use Rattle.pid_lookup.specs.declared.answering.LookupRefusal.TheVariants as look_ups
 use Rattle.pid_lookup.specs.declared.unanswered.Unanswered.TheVariants as unanswered
 use Rattle.pid_lookup.specs.Unanswered.{unanswered_line}
+use Rattle.pid_moderation.specs.ReplyLines.{outcome_line}
 use Rattle.pid_moderation.specs.declared.command.Reply.{Reply}
 use Rattle.pid_moderation.specs.declared.refusal.Refusal.{Refusal}
 use Rattle.pid_moderation.specs.declared.refusal.Refusal.TheVariants as refusals
@@ -18,7 +19,7 @@ use Rattle.pid_tables.specs.declared.migration.Step.TheVariants.{Created, Moved,
 use Rattle.pid_tables.specs.declared.rows.fault.TableFault.{TableFault}
 use Rattle.pid_tables.specs.declared.rows.fault.TableFault.TheVariants as faults
 use Rattle.pid_cli_jobs.specs.declared.job_end.JobEnd.{JobEnd}
-use Rattle.pid_cli_jobs.specs.declared.job_end.JobEnd.TheVariants.{Told, Replied, FileFailed}
+use Rattle.pid_cli_jobs.specs.declared.job_end.JobEnd.TheVariants.{Told, Refused, FileFailed}
 
 -- the status after the reply to a command: 0 if it was accepted, 3 if memory, the store or the
 -- registry failed, else 1
@@ -68,26 +69,61 @@ pub record Streams : Type 0 where
   pub output : WriterUse
   pub faults : WriterUse
 
+abbrev pub streams : WriterUse → WriterUse → Streams
+streams output faults = record { output = output; faults = faults }
+
+-- nothing was printed; nothing was reported
+abbrev pub IsUnprinted : Streams → Type 0
+IsUnprinted w = w.output.after ≡ w.output.before
+
+abbrev pub IsUnreported : Streams → Type 0
+IsUnreported w = w.faults.after ≡ w.faults.before
+
 -- A job that prints this line and then ends with this status: the writer took the whole line, or it
 -- failed within it.
 abbrev pub PrintsLine : JobEnd → WriterUse → List ℕ → ℕ → Type 0
 PrintsLine (Told status) w line wanted = (status ≡ wanted) × Appends w.before w.after line
 PrintsLine FileFailed w line wanted = FailsWithin w line
-PrintsLine (Replied reply) w line wanted = ⊥
+PrintsLine (Refused refusal) w line wanted = ⊥
+
+-- a job that prints the line of a reply, and reports nothing
+abbrev pub PrintsReply : Result Reply Refusal → Streams → JobEnd → Type 0
+PrintsReply reply w end = PrintsLine end w.output (outcome_line reply) (reply_status reply)
+    × IsUnreported w
+
+-- a job that prints nothing, reports this line and ends with status 3
+pub record ReportsOnly (line : List ℕ) (w : Streams) (end : JobEnd) : Type 0 where
+  pub silent : IsUnprinted w
+  pub told : TriesLine w.faults line
+  pub ends : end ≡ Told 3
+
+-- out of memory, and why a registry was not opened
+abbrev pub TellsMemory : Streams → JobEnd → Type 0
+TellsMemory = ReportsOnly (fault_line Memory)
+
+abbrev pub TellsUnopened : TableFault → Streams → JobEnd → Type 0
+TellsUnopened fault = ReportsOnly (unopened_line fault)
 
 -- What becomes of the answer to a look-up, or of its refusal: its line, and the status after it.
--- Out of memory nothing is printed.
-abbrev pub PrintsAnswer : {X : Type 0} → Result Answer (LookupRefusal X) → JobEnd → WriterUse
-    → Type 0
-PrintsAnswer (Ok answer) end w = PrintsLine end w (lookup_line answer) (lookup_status answer)
-PrintsAnswer (Err look_ups.BadFlags) end w = PrintsLine end w
-    (unanswered_line unanswered.BadFlags) 1
-PrintsAnswer (Err look_ups.Memory) end w = (end ≡ Told 3) × (w.after ≡ w.before)
-PrintsAnswer (Err (look_ups.Names fault)) end w = (end ≡ Told 3) × (w.after ≡ w.before)
+-- Out of memory nothing is printed, and that is reported.
+abbrev pub PrintsAnswer : {X : Type 0} → Result Answer (LookupRefusal X) → Streams → JobEnd → Type 0
+PrintsAnswer (Ok answer) w end =
+    PrintsLine end w.output (lookup_line answer) (lookup_status answer) × IsUnreported w
+PrintsAnswer (Err look_ups.BadFlags) w end =
+    PrintsLine end w.output (unanswered_line unanswered.BadFlags) 1 × IsUnreported w
+PrintsAnswer (Err look_ups.Memory) w end = TellsMemory w end
+PrintsAnswer (Err (look_ups.Names fault)) w end = TellsMemory w end
 
--- What standard error gets of it: out of memory is reported, and nothing else.
-abbrev pub ReportsAnswer : {X : Type 0} → Result Answer (LookupRefusal X) → WriterUse → Type 0
-ReportsAnswer (Ok _) w = w.after ≡ w.before
-ReportsAnswer (Err look_ups.BadFlags) w = w.after ≡ w.before
-ReportsAnswer (Err look_ups.Memory) w = TriesLine w (fault_line Memory)
-ReportsAnswer (Err (look_ups.Names _)) w = TriesLine w (fault_line Memory)
+-- the exit status
+abbrev pub exit_status : JobEnd → ℕ
+exit_status (Told status) = status
+exit_status (Refused refusal) = 3
+exit_status FileFailed = 3
+
+-- What is reported at the end: that an export was refused; that a file failed, unless the output's
+-- reader has gone away.
+abbrev pub ReportsLast : JobEnd → Bool → WriterUse → Type 0
+ReportsLast (Told status) is_unread w = w.after ≡ w.before
+ReportsLast (Refused refusal) is_unread w = TriesLine w (outcome_line (Err refusal))
+ReportsLast FileFailed true w = Keeps w.before w.after
+ReportsLast FileFailed false w = TriesLine w failed_line

@@ -17,12 +17,14 @@ use Rattle.pid_lookup.specs.declared.answering.LookupRefusal.TheVariants.{BadFla
 use Rattle.pid_lookup.specs.Fields.{are_bad, as_lookup, lookup_from}
 use Rattle.pid_lookup.specs.Flags.{is_bad}
 use Rattle.pid_lookup.specs.declared.fields.BadField.{BadField}
+use Rattle.pid_moderation.specs.declared.refusal.Refusal.TheVariants.{BadText}
 use Rattle.pid_cli_words.specs.Jobs.{text_given}
 use Rattle.pid_cli_words.specs.declared.job.LookupWords.{LookupWords}
 use Rattle.pid_cli_jobs.specs.declared.job_end.JobEnd.{JobEnd}
 use Rattle.pid_cli_jobs.specs.declared.job_end.JobEnd.TheVariants.{Told, FileFailed}
 use Rattle.pid_cli_jobs.specs.declared.lookups.Lookup.{Lookup}
-use Rattle.pid_cli_jobs.specs.Lines.{PrintsAnswer, ReportsAnswer, Streams}
+use Rattle.pid_cli_jobs.specs.Lines.{IsUnprinted, IsUnreported, PrintsAnswer, PrintsReply, Streams}
+use Rattle.pid_cli_jobs.specs.Lines.{TellsMemory}
 
 -- a text that was read, of an input that keeps no fault of a sink
 abbrev pub ok_of_input : {D : Type 0} → D → Result D (InputEnd Never)
@@ -67,13 +69,22 @@ IsFoundIn lookup text found = ReadsInput (IsAnswerOfText lookup.flags lookup.arg
 
 -- A look-up in the text of an input: the line of the answer that the tree of the text has, or of
 -- bad flags, or why there is none.
-pub data LooksUpText (lookup : Lookup) (to_come : Option (List ℕ)) (w : Streams) (end : JobEnd)
+pub data LooksUpText (lookup : Lookup) (come : Option (List ℕ)) (w : Streams) (end : JobEnd)
     : Type 0 where
   Answered : (found : Result Answer (LookupRefusal AllocError)) → RefusesFlags lookup found
-      → IfSome to_come (λ text. IsFoundIn lookup text found)
-      → PrintsAnswer found end w.output → ReportsAnswer found w.faults
-      → LooksUpText lookup to_come w end
+      → IfSome come (λ text. IsFoundIn lookup text found)
+      → PrintsAnswer found w end → LooksUpText lookup come w end
   Unread : (why : TextEnd) → why ≢ Done → ReportsEnd why w.faults
-      → IfSome to_come (λ text. IsTold why text w.faults.before w.faults.after)
-      → w.output.after ≡ w.output.before → end ≡ end_of_unread why
-      → LooksUpText lookup to_come w end
+      → IfSome come (λ text. IsTold why text w.faults.before w.faults.after)
+      → IsUnprinted w → end ≡ end_of_unread why → LooksUpText lookup come w end
+
+-- The look-up that fields say, in a file that was opened at the path of the arguments, of which the
+-- bytes may be known.
+pub data LooksUpInFile {R : Type 0} (IsText : R → Type 0) (holds : R → Option (List ℕ))
+    (fields : List (List ℕ × List ℕ)) (w : Streams) (end : JobEnd) : Type 0 where
+  BadFields : (bad : BadField) → IsReadFrom fields (Err bad) → PrintsReply (Err BadText) w end
+      → LooksUpInFile IsText holds fields w end
+  NoMemory : TellsMemory w end → LooksUpInFile IsText holds fields w end
+  NoFile : end ≡ FileFailed → IsUnprinted w → IsUnreported w → LooksUpInFile IsText holds fields w end
+  InFile : (lookup : Lookup) → IsReadFrom fields (Ok lookup) → (text : R) → IsText text
+      → LooksUpText lookup (holds text) w end → LooksUpInFile IsText holds fields w end

@@ -1,9 +1,8 @@
 -- What serving a registry prints, and how it ends by that. Choices of this project.
-use Rattle.std.specs.Prelude.{◌≡◌, ℕ, Bool, true, false, List, codes, Option, ⊤}
+use Rattle.std.specs.Prelude.{◌≡◌, ℕ, Bool, List, codes, Option, ⊤}
 use Rattle.std.specs.Io.KnownBytes.{Appends}
 use Rattle.sqlite_trees.specs.declared.store.Store.{Ghosts}
-use Rattle.pid_file.specs.declared.io.Output as outputs
-use Rattle.pid_file.specs.Writing.{FailsWithin, TriesLine, use_of}
+use Rattle.pid_file.specs.Writing.{FailsWithin, TriesLine}
 use Rattle.pid_http_stream.specs.declared.listener.serving.Serving.{Serving}
 use Rattle.pid_http_stream.specs.declared.listener.serving.ServingEnd.{ServingEnd}
 use Rattle.pid_http_stream.specs.declared.listener.serving.ServingEnd.TheVariants.{All, NotLive}
@@ -21,10 +20,8 @@ use Rattle.pid_service.specs.Registries.{is_live}
 use Rattle.pid_cli_jobs.specs.declared.job_end.JobEnd.{JobEnd}
 use Rattle.pid_cli_jobs.specs.declared.job_end.JobEnd.TheVariants.{Told, FileFailed}
 use Rattle.pid_cli_jobs.specs.declared.serving.Port.{Port}
-use Rattle.pid_cli_jobs.specs.Lines.{PrintsLine, Streams, count_line}
-use Rattle.pid_cli_jobs.specs.Machines.{AsksFor, GivesStreams, InTurn, PortAt, WhileLive}
-use Rattle.pid_cli_jobs.specs.Machines.{MachineCall, MachineCalls}
-use Rattle.pid_cli_jobs.specs.Wrote.{AsksOnce, TellsMemory, Wrote, streams_of}
+use Rattle.pid_cli_jobs.specs.Lines.{IsUnprinted, IsUnreported, PrintsLine, Streams, ReportsOnly}
+use Rattle.pid_cli_jobs.specs.Lines.{TellsMemory, count_line}
 
 -- where it listens; how many streams were started; that a socket failed
 abbrev pub listening_line : ℕ → List ℕ
@@ -40,9 +37,9 @@ socket_line = codes "socket: failed\n"
 -- were served, 3 if the registry failed. That no connection could be accepted is reported too.
 abbrev pub ReportsServing : ServingEnd → ℕ → Streams → JobEnd → Type 0
 ReportsServing All streams w end = PrintsLine end w.output (served_line streams) 0
-    × (w.faults.after ≡ w.faults.before)
+    × IsUnreported w
 ReportsServing NotLive streams w end = PrintsLine end w.output (served_line streams) 3
-    × (w.faults.after ≡ w.faults.before)
+    × IsUnreported w
 ReportsServing AcceptFault streams w end = (end ≡ Told 3)
     × TriesLine w.output (served_line streams)
     × TriesLine w.faults socket_line
@@ -67,44 +64,32 @@ pub record AnswersStream {S : Type 0} (store : Ghosts S) (old new : Registry S s
     turns = x.turns;
   })
 
--- Streams of at most so many connections were served, and of what became of them this holds. The
--- server was live before them and is live after them, unless the serving ended because it is not.
--- It is reported how many there were.
-pub record ReportsStreams {R : Type 0} (Holds : List Exchange → Type 0) (connections : ℕ)
-    (live : Bool × Bool) (asked : MachineCalls R) (w : Streams) (end : JobEnd) : Type 0 where
-  pub serving : Serving
-  pub counted : CountsStreams serving.end connections serving.streams
-  pub lasts : IsLiveAt serving.end serving.streams live
-  pub given : GivesStreams asked.before asked.after connections serving Holds
-  pub reports : ReportsServing serving.end serving.streams w end
-
--- the same, after the line of where it listens
-pub record HasServed {R : Type 0} (Holds : List Exchange → Type 0) (port : Port)
-    (live : Bool × Bool) (asked : MachineCalls R) (w : Streams) (end : JobEnd) : Type 0 where
+-- Streams of at most so many connections were served, after the line of where it listens, and it is
+-- reported how many. The server was live before them and is live after them, unless the serving
+-- ended because it is not.
+pub record HasServed (port : Port) (live : Bool × Bool) (w : Streams) (end : JobEnd) : Type 0 where
   -- what the output had taken before the first of them
   pub between : Option (List ℕ)
   pub listens : Appends w.output.before between (listening_line port.number)
-  pub streams : ReportsStreams Holds port.connections live asked
+  pub serving : Serving
+  pub counted : CountsStreams serving.end port.connections serving.streams
+  pub lasts : IsLiveAt serving.end serving.streams live
+  pub reports : ReportsServing serving.end serving.streams
       (record w { output = record w.output { before = between } }) end
 
-module _ {S R W : Type 0} (store : Ghosts S) (writer : outputs.Ghosts W) where
+-- A server was given streams; or the line of where it listens did not go out whole, nothing was
+-- accepted, and the server is as before.
+pub data GivesTo {T : Type 0} (live : T → Bool) (port : Port) (w : Streams) (end : JobEnd)
+    (old new : T) : Type 0 where
+  Unheard : FailsWithin w.output (listening_line port.number) → IsUnreported w → end ≡ FileFailed
+      → new ≡ old → GivesTo live port w end old new
+  Gave : HasServed port (live old, live new) w end → GivesTo live port w end old new
+
+module _ {S : Type 0} (store : Ghosts S) where
   -- Serving a registry on a port. Without a stream the registry is as before.
-  pub data Serves (port : Port) (old new : Registry S store) (w : Wrote R W) : Type 0 where
-    -- the port could not be had
-    Unbound : AsksOnce w (PortAt port.number false) → new ≡ old → w.output_after ≡ w.output
-        → TriesLine w.faults socket_line → w.end ≡ Told 3 → Serves port old new w
-    -- out of memory for the table of routes
-    Unrouted : AsksOnce w (PortAt port.number true) → new ≡ old → TellsMemory w
-        → Serves port old new w
-    -- the line of where it listens did not go out whole, and nothing was accepted
-    Unheard : AsksOnce w (PortAt port.number true) → new ≡ old
-        → FailsWithin (use_of writer w.output w.output_after) (listening_line port.number)
-        → w.faults.after ≡ w.faults.before → w.end ≡ FileFailed → Serves port old new w
-    -- each stream was answered in turn over the registry, which was live before it and was given
-    -- no other command
-    Served : (between : Option (List (MachineCall R)))
-        → AsksFor w.asked.before between (PortAt port.number true)
-        → HasServed (λ streams. InTurn (WhileLive is_live (AnswersStream store)) old streams new)
-        port (is_live old, is_live new) (record w.asked { before = between }) (streams_of writer w)
-        w.end
-        → Serves port old new w
+  pub data Serves (port : Port) (w : Streams) (end : JobEnd) (old new : Registry S store)
+      : Type 0 where
+    -- the port could not be had; out of memory for the table of routes
+    Unbound : ReportsOnly socket_line w end → new ≡ old → Serves port w end old new
+    Unrouted : TellsMemory w end → new ≡ old → Serves port w end old new
+    Served : GivesTo is_live port w end old new → Serves port w end old new

@@ -1,41 +1,30 @@
-//! The jobs of a registry, on any store. Each returns the connection if the registry is live, and
-//! as an error if none was opened there.
+//! The jobs on the registry at a path: a script, an export, a migration.
 ghost use Rattle.std.specs.Prelude.{◌≡◌};
+ghost use Rattle.std.specs.Io.Buffered.{writer_contents};
 ghost use Rattle.pid_file.specs.Writing.{use_of};
-ghost use Rattle.pid_cli_jobs.specs.Inputs.{uses};
+ghost use Rattle.pid_http_stream.specs.Listener.Streams.{use_of_reader};
 ghost use Rattle.pid_cli_jobs.specs.Jobs.{
-  BringsIn,
-  DoesWork,
-  JobReads,
+  ExportsThrough,
+  Migrates,
   PrintsAll,
+  RunsLines,
   end_of_script,
-  work_of,
+  export_end,
 };
-ghost use Rattle.pid_cli_jobs.specs.Sessions.{IsPartOfSession, Migrates, WorksOn};
-ghost use Rattle.pid_cli_jobs.specs.Sessions.{handed_back as back_of};
-ghost use Rattle.pid_cli_jobs.specs.Wrote.{job_wrote};
+ghost use Rattle.pid_cli_jobs.specs.Lines.{streams};
+ghost use Rattle.pid_cli_jobs.specs.Sessions.{Works};
 
 use crate::job_end::JobEnd;
-use crate::machine::Machine;
-use crate::read_behind::ReadBehind;
+use crate::machine::Databases;
 use crate::replies::{print_step, tell_unopened};
-use crate::serving::{Port, serve_registry};
-use pid_ident::{Account, Incoming, Key, Output};
+use crate::sessions::{close_at, open_at};
+use pid_ident::{Incoming, Output, Plain};
 use pid_script::{ScriptEnd, run_script};
-use pid_service::{ExportFault, ImportEnd, Registry, migrate, open};
-use sqlite::{Alter, Connection};
+use pid_service::ExportFault;
+use std::io::{BufWriter, Write};
 
 /// The number of reads that a script may use.
 const TURNS: u64 = 10_000_000;
-
-/// A job of a registry. The input of a script has its lines, and that of an import the file.
-#[derive(Drop)]
-pub enum RegistryJob {
-    Script,
-    Import { account: Account, key: Option<Key> },
-    Export,
-    Serve(Port),
-}
 
 // A fault of the reader or the writer is still to be reported.
 fn end_of(script: ScriptEnd) -> JobEnd
@@ -47,122 +36,112 @@ fn end_of(script: ScriptEnd) -> JobEnd
     }
 }
 
-// Imports a file.
-fn bring_in<S: Alter + Drop, I: Incoming<O>, O: Output>(
-    registry: &mut Registry<S>,
-    account: Account,
-    key: Option<Key>,
+/// Answers the lines of the input as a script.
+pub fn script<D: Databases, I: Incoming<O>, O: Output, F: Output>(
+    databases: &mut D,
+    path: &str,
     input: &mut I,
-    output: &O,
+    output: &mut O,
+    faults: &mut F,
 ) -> JobEnd
-    ensures goes { IsPartOfSession S.Store registry.old registry.new }
-    ensures imported { BringsIn S.Store registry.old registry.new account key
-        (uses I.Incoming input.old input.new) result }
+    ensures works { Works D.Kept.Store (D.is_at path.now) D.is_closed
+        (RunsLines D.Kept.Store (use_of_reader I.Incoming input.old input.new))
+        (streams (use_of O.Output output.old output.new)
+        (use_of F.Output faults.old faults.new)) result }
     ensures reads { I.goes input.old input.new }
 {
-    pid_service::laws::clauses_meet_lives::<S>(); // proof only
-    let mut input = ReadBehind { input, output };
-    match registry.import_from(account, key, &mut input) {
-        Ok(reply) => JobEnd::Replied(Ok(reply)),
-        Err(ImportEnd::Refused(refusal)) => JobEnd::Replied(Err(refusal)),
-        Err(ImportEnd::Body) => JobEnd::FileFailed,
+    match open_at(databases, path) {
+        Ok(registry) => {
+            let mut registry = registry;
+            let end = run_script(databases.alloc(), &mut registry, input, output, TURNS);
+            close_at(databases, registry);
+            end_of(end)
+        }
+        Err(fault) => JobEnd::Told(tell_unopened(fault, faults)),
     }
 }
 
-// Prints the canonical text.
-fn print_all<S: Alter + Drop, O: Output>(registry: &mut Registry<S>, output: &mut O) -> JobEnd
-    ensures goes { IsPartOfSession S.Store registry.old registry.new }
-    ensures printed { PrintsAll S.Store O.Output registry.old registry.new output.old output.new
-        result }
+fn end_of_export(printed: Result<(), ExportFault>) -> JobEnd
+    ensures { result ≡ export_end printed }
 {
-    pid_service::laws::clauses_meet_lives::<S>(); // proof only
-    match registry.export(output) {
+    match printed {
         Ok(()) => JobEnd::Told(0),
-        Err(ExportFault::Refused(refusal)) => JobEnd::Replied(Err(refusal)),
+        Err(ExportFault::Refused(refusal)) => JobEnd::Refused(refusal),
         Err(ExportFault::Write(_)) => JobEnd::FileFailed,
     }
 }
 
-fn do_job<M: Machine, S: Alter + Drop, I: Incoming<O>, O: Output, F: Output>(
-    machine: &mut M,
-    registry: &mut Registry<S>,
-    job: RegistryJob,
-    input: &mut I,
+fn print_all<D: Databases, O: Output, F: Output>(
+    databases: &mut D,
+    path: &str,
     output: &mut O,
     faults: &mut F,
 ) -> JobEnd
-    ensures goes { IsPartOfSession S.Store registry.old registry.new }
-    ensures does { DoesWork S.Store O.Output
-        (work_of job (uses I.Incoming input.old input.new)) registry.old registry.new
-        (job_wrote (output.old, output.new) (use_of F.Output faults.old faults.new)
-        (M.asked machine.old, M.asked machine.new) result) }
-    ensures reads { JobReads I.Incoming job input.old input.new }
+    ensures { Works D.Kept.Store (D.is_at path.now) D.is_closed
+        (PrintsAll D.Kept.Store O.Output output.old output.new)
+        (streams (use_of O.Output output.old output.new)
+        (use_of F.Output faults.old faults.new)) result }
 {
-    match job {
-        RegistryJob::Script => end_of(run_script(machine.alloc(), registry, input, output, TURNS)),
-        RegistryJob::Import { account, key } => bring_in(registry, account, key, input, output),
-        RegistryJob::Export => print_all(registry, output),
-        RegistryJob::Serve(port) => serve_registry(machine, registry, port, output, faults),
-    }
-}
-
-// The connection of a registry that has not failed.
-fn handed_back<S: Alter + Drop>(registry: Registry<S>) -> Option<Connection<S>>
-    ensures { result ≡ back_of S.Store registry }
-{
-    if registry.is_live() {
-        Some(registry.close())
-    } else {
-        None
-    }
-}
-
-/// Opens or creates the registry of a connection, and does the job.
-///
-/// It is a session of the registry: what `pid_service::reopened_registries_show_prefixes` says of
-/// calls between an opening and an end holds of it. What is printed is that of the job: the replies
-/// to a script, the canonical text of an export, the lines of a server; the reply to an import is
-/// returned. Where the registry is not opened, `faults` gets the reason (`open: Store`), and the
-/// exit status is 3; the connection comes back as an error, as `open` left it. The machine is asked
-/// for nothing but the port of a server.
-pub fn work_on<M: Machine, S: Alter + Drop, I: Incoming<O>, O: Output, F: Output>(
-    machine: &mut M,
-    conn: Connection<S>,
-    job: RegistryJob,
-    input: &mut I,
-    output: &mut O,
-    faults: &mut F,
-) -> (JobEnd, Result<Option<Connection<S>>, Connection<S>>)
-    ensures works { WorksOn S.Store O.Output conn
-        (work_of job (uses I.Incoming input.old input.new))
-        (job_wrote (output.old, output.new) (use_of F.Output faults.old faults.new)
-        (M.asked machine.old, M.asked machine.new) result.0) result.1 }
-    ensures reads { JobReads I.Incoming job input.old input.new }
-{
-    match open(machine.alloc(), conn) {
+    pid_service::laws::clauses_meet_lives::<D::Kept>(); // proof only
+    match open_at(databases, path) {
         Ok(registry) => {
             let mut registry = registry;
-            let end = do_job(machine, &mut registry, job, input, output, faults);
-            (end, Ok(handed_back(registry)))
+            let printed = registry.export(output);
+            close_at(databases, registry);
+            end_of_export(printed)
         }
-        Err((fault, conn)) => (JobEnd::Told(tell_unopened(fault, faults)), Err(conn)),
+        Err(fault) => JobEnd::Told(tell_unopened(fault, faults)),
     }
 }
 
-/// Moves the tables of a connection to the newest schema; opens no registry. Prints what was done,
-/// or reports why not, as `work_on` does.
-pub fn migrate_on<M: Machine, S: Alter + Drop, O: Output, F: Output>(
-    machine: &M,
-    conn: Connection<S>,
+/// Prints the canonical text of a registry through a buffer, and hands back the writer that this is
+/// over: if the end is `Told(0)`, all of the text went there.
+pub fn export<D: Databases, O: Write + Drop, F: Output>(
+    databases: &mut D,
+    path: &str,
+    buffer: BufWriter<O>,
+    faults: &mut F,
+) -> (JobEnd, O)
+    ensures { ExportsThrough D.Kept.Store (D.is_at path.now) D.is_closed
+        ⟦<Plain<BufWriter<O>> as Output>⟧ (use_of F.Output faults.old faults.new)
+        (writer_contents O.contents buffer) (O.contents result.1) result.0 }
+{
+    let mut output = Plain::new(buffer);
+    let end = print_all(databases, path, &mut output, faults);
+    let mut buffer = output.into_inner();
+    let end = match (end, buffer.flush()) {
+        (JobEnd::Told(0), Err(_)) => JobEnd::FileFailed,
+        _ => end,
+    };
+    let (output, _) = buffer.into_parts();
+    (end, output)
+}
+
+/// Moves the tables at a path to the newest schema, or creates them; opens no registry. Prints what
+/// was done, or reports why not.
+pub fn migrate<D: Databases, O: Output, F: Output>(
+    databases: &mut D,
+    path: &str,
     output: &mut O,
     faults: &mut F,
-) -> (JobEnd, Result<Option<Connection<S>>, Connection<S>>)
-    ensures { Migrates S.Store O.Output conn
-        (job_wrote (output.old, output.new) (use_of F.Output faults.old faults.new)
-        (M.asked machine.now, M.asked machine.now) result.0) result.1 }
+) -> JobEnd
+    ensures { Migrates D.Kept.Store (D.is_at path.now) D.is_closed
+        (streams (use_of O.Output output.old output.new)
+        (use_of F.Output faults.old faults.new)) result }
 {
-    match migrate(machine.alloc(), conn) {
-        Ok((conn, step)) => (print_step(step, output), Ok(Some(conn))),
-        Err((fault, conn)) => (JobEnd::Told(tell_unopened(fault, faults)), Err(conn)),
+    let conn = match databases.open(path) {
+        Ok(conn) => conn,
+        Err(fault) => return JobEnd::Told(tell_unopened(fault, faults)),
+    };
+    match pid_service::migrate(databases.alloc(), conn) {
+        Ok((conn, step)) => {
+            let end = print_step(step, output);
+            databases.close(&mut Some(conn));
+            end
+        }
+        Err((fault, refused)) => {
+            drop(refused);
+            JobEnd::Told(tell_unopened(fault, faults))
+        }
     }
 }

@@ -1,27 +1,27 @@
-//! The jobs of a registry, over any store, any input and any output: sessions from opening to end,
-//! and the lines and the statuses with which they end.
+//! The jobs of the program, over any machine, any input and any output: sessions from opening to
+//! end, and the lines and the statuses with which they end.
 #![tactic(auto)]
 
+mod host;
 mod host_names;
+mod imports;
 mod job_end;
 mod jobs;
 pub mod laws;
 mod lookups;
 mod machine;
 mod named_file;
-mod on_files;
-mod read_behind;
 mod replies;
 mod running;
 mod serving;
-mod text_files;
+mod sessions;
 
+pub use host::Host;
+pub use imports::import;
 pub use job_end::JobEnd;
-pub use jobs::{RegistryJob, migrate_on, work_on};
-pub use machine::Machine;
+pub use jobs::{export, migrate, script};
+pub use lookups::answer_lookup;
+pub use machine::{Databases, InMemory, Machine};
 pub use named_file::{FileNames, NamedFile};
-pub use on_files::{migrate_in_files, work_in_files, work_on_memory};
-pub use replies::{print_answer, print_reply, tell_reply, tell_unopened};
-pub use running::{export_through, report_end, run_words};
-pub use serving::Port;
-pub use text_files::{answer_import, answer_lookup};
+pub use running::{report_end, run_words};
+pub use serving::{Port, serve};

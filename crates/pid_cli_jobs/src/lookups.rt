@@ -1,16 +1,25 @@
 //! Lookups in a pci.ids file.
-ghost use Rattle.std.specs.Prelude.{◌≡◌, ◌⊎◌, ◌++◌, [], IfOk, IsSome, OnOk};
+ghost use Rattle.std.specs.Prelude.{◌≡◌, ◌++◌, [], IfOk, OnOk};
 ghost use Rattle.pid_file.specs.Writing.{use_of};
 ghost use Rattle.pid_lookup.specs.Fields.{bytes_of};
 ghost use Rattle.pid_cli_words.specs.Jobs.{text_given};
-ghost use Rattle.pid_cli_jobs.specs.Lookups.{IsReadFrom, LooksUpText, field_given, fields_given};
+ghost use Rattle.pid_cli_jobs.specs.Lines.{streams};
+ghost use Rattle.pid_cli_jobs.specs.Lookups.{
+  IsReadFrom,
+  LooksUpInFile,
+  LooksUpText,
+  field_given,
+  fields_given,
+};
 
 use crate::job_end::JobEnd;
-use crate::replies::print_answer;
+use crate::machine::Machine;
+use crate::replies::{print_answer, print_reply};
 use pid_cli_words::LookupWords;
-use pid_file::{LARGEST, TextEnd, tell_unread};
-use pid_ident::{Input, Output};
+use pid_file::{LARGEST, TextEnd, tell_end, tell_unread};
+use pid_ident::{Input, Output, Plain};
 use pid_lookup::{Args, BadField, args_of, lookup_in};
+use pid_moderation::Refusal;
 use std::alloc::{AllocError, Global};
 
 /// A lookup whose values were checked.
@@ -60,8 +69,8 @@ fn push_fields(
     Ok(())
 }
 
-/// Checks the values of the arguments and returns the lookup that they ask for.
-pub fn read_words(
+// Checks the values of the arguments and returns the lookup that they ask for.
+fn read_words(
     alloc: Global,
     words: &LookupWords<'_>,
 ) -> Result<Result<Lookup, BadField>, AllocError>
@@ -75,22 +84,16 @@ pub fn read_words(
     }
 }
 
-/// Answers a lookup in the text of the input, or reports the fault of the text. The end is
-/// `FileFailed` if the input failed, and else only if a writer did.
-pub fn print_lookup<I: Input, O: Output, F: Output>(
+// Answers a lookup in the text of the input, or reports the fault of the text.
+fn look_up<I: Input, O: Output, F: Output>(
     alloc: Global,
     lookup: &Lookup,
     input: &mut I,
     output: &mut O,
     faults: &mut F,
 ) -> JobEnd
-    ensures looks { LooksUpText lookup.now (I.to_come input.old) (record {
-      output = use_of O.Output output.old output.new;
-      faults = use_of F.Output faults.old faults.new;
-    }) result }
-    ensures failed { result ≡ JobEnd.FileFailed → IsSome (I.read_fault input.new)
-        ⊎ (IsSome (O.write_fault output.new) ⊎ IsSome (F.write_fault faults.new)) }
-    ensures read_fault { IsSome (I.read_fault input.new) → result ≡ JobEnd.FileFailed }
+    ensures { LooksUpText lookup.now (I.to_come input.old) (streams
+        (use_of O.Output output.old output.new) (use_of F.Output faults.old faults.new)) result }
 {
     let Lookup { flags, args, size } = *lookup;
     match lookup_in(alloc, LARGEST, input, flags, &args, size) {
@@ -99,5 +102,28 @@ pub fn print_lookup<I: Input, O: Output, F: Output>(
             TextEnd::ReadFault | TextEnd::WriteFault => JobEnd::FileFailed,
             end => JobEnd::Told(end.status()),
         },
+    }
+}
+
+/// Answers the lookup of the arguments in the file that they name; bad values get a refusal.
+pub fn answer_lookup<M: Machine, O: Output, F: Output>(
+    machine: &mut M,
+    words: &LookupWords<'_>,
+    output: &mut O,
+    faults: &mut F,
+) -> JobEnd
+    ensures { LooksUpInFile (M.is_text words.now.ids.now) M.Opened.remaining (fields_given words.now)
+        (streams (use_of O.Output output.old output.new)
+        (use_of F.Output faults.old faults.new)) result }
+{
+    let alloc = machine.alloc();
+    let lookup = match read_words(alloc, words) {
+        Ok(Ok(lookup)) => lookup,
+        Ok(Err(_)) => return print_reply(Err(Refusal::BadText), output),
+        Err(_) => return JobEnd::Told(tell_end(TextEnd::Memory, faults)),
+    };
+    match machine.open_text(words.ids) {
+        Some(file) => look_up(alloc, &lookup, &mut Plain::new(file), output, faults),
+        None => JobEnd::FileFailed,
     }
 }

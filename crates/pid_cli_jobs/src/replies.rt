@@ -5,13 +5,13 @@ ghost use Rattle.pid_file.specs.Writing.{TriesLine, use_of};
 ghost use Rattle.pid_moderation.specs.ReplyLines.{outcome_line};
 ghost use Rattle.pid_cli_jobs.specs.Lines.{
   PrintsAnswer,
-  ReportsAnswer,
   PrintsLine,
+  count_line,
   lookup_line,
   lookup_status,
-  count_line,
   reply_status,
   step_line,
+  streams,
   unopened_line,
   unopened_word,
 };
@@ -97,8 +97,8 @@ pub fn print_answer<O: Output, F: Output>(
     output: &mut O,
     faults: &mut F,
 ) -> JobEnd
-    ensures printed { PrintsAnswer found result (use_of O.Output output.old output.new) }
-    ensures reported { ReportsAnswer found (use_of F.Output faults.old faults.new) }
+    ensures { PrintsAnswer found (streams (use_of O.Output output.old output.new)
+        (use_of F.Output faults.old faults.new)) result }
 {
     match found {
         Ok(answer) => {

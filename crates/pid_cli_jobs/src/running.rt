@@ -1,30 +1,26 @@
 //! The job that the arguments name, on the streams of the process.
 ghost use Rattle.std.specs.Prelude.{◌≡◌};
-ghost use Rattle.std.specs.Io.Buffered.{writer_contents};
-ghost use Rattle.sqlite_wal.specs.Files.{image_at};
 ghost use Rattle.pid_file.specs.Writing.{use_of};
-ghost use Rattle.pid_cli_jobs.specs.Ends.{ReportsLast, exit_status};
-ghost use Rattle.pid_cli_jobs.specs.Exports.{ExportsThrough};
-ghost use Rattle.pid_cli_jobs.specs.Wrote.{job_wrote};
+ghost use Rattle.pid_cli_jobs.specs.Lines.{ReportsLast, exit_status};
 
+use crate::host::Host;
+use crate::imports::import;
 use crate::job_end::JobEnd;
-use crate::jobs::RegistryJob;
-use crate::machine::{Host, Machine};
-use crate::named_file::NamedFile;
-use crate::on_files::{migrate_in_files, work_in_files, work_on_memory};
+use crate::jobs::{export, migrate, script};
+use crate::lookups::answer_lookup;
+use crate::machine::{InMemory, Machine};
 use crate::replies::tell_reply;
-use crate::serving::Port;
-use crate::text_files::{answer_import, answer_lookup};
-use pid_cli_words::{Counted, Job, LookupWords, Progress, job_of, tell_no_job};
+use crate::serving::{Port, serve};
+use pid_cli_terminal::{Counted, Progress};
+use pid_cli_words::{Job, job_of, tell_no_job};
 use pid_file::{TextEnd, Watched, run_check, run_tidy, tell_end, tell_failed};
 use pid_ident::{Output, Plain};
-use sqlite_disk::{Disk, Start};
-use sqlite_std_file::FileFrom;
+use sqlite_disk::Start;
 use std::io::{BufWriter, IsTerminal, Read, Write};
 
 const BUFFER: usize = 65_536;
 
-/// Does what the arguments ask for, and returns the exit status.
+/// Does what the arguments ask for, and returns the exit status. `start` is as for `Host::new`.
 ///
 /// Faults are found in this order: the arguments; the account, the key and the values of a lookup;
 /// the opening of the pci.ids file; the database; the port; the rest.
@@ -36,52 +32,86 @@ pub fn run_words<S: Start, I: Read + Drop, O: Write + Drop, F: Write + Drop>(
     output: O,
     faults: F,
 ) -> u8 {
-    let job = match job_of(rt.alloc(), words) {
+    run_on(rt, &mut Host::new(rt, start), words, input, output, faults)
+}
+
+// The same on any machine. The progress is shown by the runtime, which nothing else is asked for.
+fn run_on<M: Machine, I: Read + Drop, O: Write + Drop, F: Write + Drop>(
+    rt: &HostRuntime,
+    machine: &mut M,
+    words: &[String],
+    input: I,
+    output: O,
+    faults: F,
+) -> u8 {
+    let alloc = machine.alloc();
+    let job = match job_of(alloc, words) {
         Ok(job) => job,
         Err(fault) => return tell_no_job(&fault, words, output, faults),
     };
     match job {
-        Job::Tidy => run_tidy(rt.alloc(), input, output, faults).0,
-        Job::Check => run_check(rt.alloc(), input, output, faults).0,
-        Job::Export { db } => run_export(rt, start, db, output, faults),
-        Job::Lookup(words) => run_lookup(rt, &words, Streams::of(input, output, faults)),
-        Job::Script { db } => run_lines(rt, start, db, Streams::of(input, output, faults)),
-        Job::Import {
-            db,
-            account,
-            key,
-            ids,
-        } => {
-            let streams = Streams::of(input, output, faults);
-            run_import(rt, start, (db, ids), (account, key), streams)
+        Job::Tidy => run_tidy(alloc, input, output, faults).0,
+        Job::Check => run_check(alloc, input, output, faults).0,
+        Job::Export { db } => {
+            let is_told = rt.stderr().is_terminal() && !rt.stdout().is_terminal();
+            let mut progress = Progress::new(rt, "exporting", is_told);
+            run_export(machine, &mut progress, db, output, faults)
+        }
+        Job::Lookup(words) => {
+            let mut to = Streams::of(output, faults);
+            let end = answer_lookup(machine, &words, &mut to.output, &mut to.faults);
+            to.report(end)
+        }
+        Job::Script { db: Some(db) } => {
+            let mut to = Streams::of(output, faults);
+            let input = &mut Plain::new(input);
+            let end = script(machine, db, input, &mut to.output, &mut to.faults);
+            to.report(end)
+        }
+        Job::Script { db: None } => {
+            let mut to = Streams::of(output, faults);
+            let input = &mut Plain::new(input);
+            let memory = &mut InMemory(alloc);
+            let end = script(memory, "", input, &mut to.output, &mut to.faults);
+            to.report(end)
+        }
+        Job::Import(words) => {
+            let mut to = Streams::of(output, faults);
+            let progress = &mut Progress::new(rt, "importing", rt.stderr().is_terminal());
+            let end = import(machine, progress, &words, &mut to.output, &mut to.faults);
+            to.report(end)
         }
         Job::Serve {
             db,
             port,
             connections,
         } => {
+            let mut to = Streams::of(output, faults);
             let port = Port {
                 number: port,
                 connections,
             };
-            run_server(rt, start, db, port, Streams::of(input, output, faults))
+            let end = serve(machine, db, port, &mut to.output, &mut to.faults);
+            to.report(end)
         }
-        Job::Migrate { db } => run_migration(rt, start, db, Streams::of(input, output, faults)),
+        Job::Migrate { db } => {
+            let mut to = Streams::of(output, faults);
+            let end = migrate(machine, db, &mut to.output, &mut to.faults);
+            to.report(end)
+        }
     }
 }
 
-// The streams of the process, as jobs are given them.
+// The streams that a job writes to.
 #[derive(Drop)]
-struct Streams<I, O: Write, F> {
-    input: Plain<I>,
+struct Streams<O: Write, F> {
     output: Plain<Watched<O>>,
     faults: Plain<F>,
 }
 
-impl<I: Read + Drop, O: Write + Drop, F: Write + Drop> Streams<I, O, F> {
-    fn of(input: I, output: O, faults: F) -> Streams<I, O, F> {
+impl<O: Write + Drop, F: Write + Drop> Streams<O, F> {
+    fn of(output: O, faults: F) -> Streams<O, F> {
         Streams {
-            input: Plain::new(input),
             output: Plain::new(Watched::new(output)),
             faults: Plain::new(faults),
         }
@@ -94,173 +124,23 @@ impl<I: Read + Drop, O: Write + Drop, F: Write + Drop> Streams<I, O, F> {
     }
 }
 
-fn run_lookup<I: Read + Drop, O: Write + Drop, F: Write + Drop>(
-    rt: &HostRuntime,
-    words: &LookupWords<'_>,
-    streams: Streams<I, O, F>,
-) -> u8 {
-    let mut streams = streams;
-    let end = answer_lookup(
-        &mut Host(rt),
-        words,
-        &mut streams.output,
-        &mut streams.faults,
-    );
-    streams.report(end)
-}
-
-// A script is answered over a registry in memory if no file is named.
-fn run_lines<S: Start, I: Read + Drop, O: Write + Drop, F: Write + Drop>(
-    rt: &HostRuntime,
-    start: S,
-    db: Option<&str>,
-    streams: Streams<I, O, F>,
-) -> u8 {
-    let mut machine = Host(rt);
-    let mut streams = streams;
-    let end = match db {
-        Some(db) => {
-            work_in_files(
-                &mut machine,
-                start,
-                db,
-                RegistryJob::Script,
-                &mut streams.input,
-                &mut streams.output,
-                &mut streams.faults,
-            )
-        }
-        None => {
-            work_on_memory(
-                &mut machine,
-                RegistryJob::Script,
-                &mut streams.input,
-                &mut streams.output,
-                &mut streams.faults,
-            )
-        }
-    };
-    streams.report(end)
-}
-
-// `paths` and `sender` are as for `answer_import`.
-fn run_import<S: Start, I: Read + Drop, O: Write + Drop, F: Write + Drop>(
-    rt: &HostRuntime,
-    start: S,
-    paths: (&str, &str),
-    sender: (&str, Option<&str>),
-    streams: Streams<I, O, F>,
-) -> u8 {
-    let mut progress = Progress::new(rt, "importing", rt.stderr().is_terminal());
-    let mut streams = streams;
-    let end = answer_import(
-        &mut Host(rt),
-        &mut progress,
-        start,
-        paths,
-        sender,
-        &mut streams.output,
-        &mut streams.faults,
-    );
-    streams.report(end)
-}
-
-fn run_server<S: Start, I: Read + Drop, O: Write + Drop, F: Write + Drop>(
-    rt: &HostRuntime,
-    start: S,
-    db: &str,
-    port: Port,
-    streams: Streams<I, O, F>,
-) -> u8 {
-    let mut streams = streams;
-    let end = work_in_files(
-        &mut Host(rt),
-        start,
-        db,
-        RegistryJob::Serve(port),
-        &mut streams.input,
-        &mut streams.output,
-        &mut streams.faults,
-    );
-    streams.report(end)
-}
-
-fn run_migration<S: Start, I: Read + Drop, O: Write + Drop, F: Write + Drop>(
-    rt: &HostRuntime,
-    start: S,
-    db: &str,
-    streams: Streams<I, O, F>,
-) -> u8 {
-    let mut streams = streams;
-    let end = migrate_in_files(
-        &mut Host(rt),
-        start,
-        db,
-        &mut streams.output,
-        &mut streams.faults,
-    );
-    streams.report(end)
-}
-
-// If standard output is a terminal too, the text itself shows the progress.
-fn run_export<S: Start, O: Write + Drop, F: Write + Drop>(
-    rt: &HostRuntime,
-    start: S,
+fn run_export<M: Machine, O: Write + Drop, F: Write + Drop>(
+    machine: &mut M,
+    progress: &mut Progress<'_>,
     db: &str,
     output: O,
     faults: F,
 ) -> u8 {
-    let is_told = rt.stderr().is_terminal() && !rt.stdout().is_terminal();
-    let mut progress = Progress::new(rt, "exporting", is_told);
     let mut faults = Plain::new(faults);
-    let output = Watched::new(Counted::new(output, &mut progress));
-    let (end, is_unread) = export_watched(&mut Host(rt), start, db, output, &mut faults);
+    let output = Watched::new(Counted::new(output, progress));
+    let Ok(buffer) = BufWriter::with_capacity(machine.alloc(), BUFFER, output) else {
+        return tell_end(TextEnd::Memory, &mut faults);
+    };
+    let (end, output) = export(machine, db, buffer, &mut faults);
+    let is_unread = output.is_unread();
+    drop(output);
     progress.clear();
     report_end(end, is_unread, &mut faults)
-}
-
-// Exports through a buffer, and says whether the reader of the output has gone away.
-fn export_watched<M: Machine, S: Start, O: Write + Drop, F: Output>(
-    machine: &mut M,
-    start: S,
-    db: &str,
-    output: Watched<O>,
-    faults: &mut F,
-) -> (JobEnd, bool) {
-    match BufWriter::with_capacity(machine.alloc(), BUFFER, output) {
-        Ok(buffer) => {
-            let (end, output) = export_through(machine, start, db, buffer, faults);
-            (end, output.is_unread())
-        }
-        Err(_) => (JobEnd::Told(tell_end(TextEnd::Memory, faults)), false),
-    }
-}
-
-/// Prints the registry of a file through a buffer, and hands back the writer that this is over: if
-/// the end is `Told(0)`, all of the text went there. `start` is as for `open_database`.
-pub fn export_through<M: Machine, S: Start, O: Write + Drop, F: Output>(
-    machine: &mut M,
-    start: S,
-    db: &str,
-    buffer: BufWriter<O>,
-    faults: &mut F,
-) -> (JobEnd, O)
-    ensures { ExportsThrough ⟦<NamedFile<FileFrom<S>, M::Names> as Disk>⟧ (image_at S.Start)
-        ⟦<Plain<BufWriter<O>> as Output>⟧ db.now
-        (job_wrote (writer_contents O.contents buffer, O.contents result.1)
-        (use_of F.Output faults.old faults.new) (M.asked machine.old, M.asked machine.new) result.0) }
-{
-    let mut output = Plain::new(buffer);
-    let mut nothing = Plain::new(b"".as_slice());
-    let job = RegistryJob::Export;
-    let end = work_in_files(machine, start, db, job, &mut nothing, &mut output, faults);
-    let mut buffer = output.into_inner();
-    let end = match (end, buffer.flush()) {
-        (JobEnd::Told(0), Err(_)) => JobEnd::FileFailed,
-        _ => end,
-    };
-    let (output, _) = buffer.into_parts();
-    (end, output)
 }
 
 /// Reports what is still to be reported at an end, and returns the exit status. `is_unread` says
@@ -271,7 +151,7 @@ pub fn report_end<F: Output>(end: JobEnd, is_unread: bool, faults: &mut F) -> u8
 {
     match end {
         JobEnd::Told(status) => status,
-        JobEnd::Replied(reply) => tell_reply(reply, faults),
+        JobEnd::Refused(refusal) => tell_reply(Err(refusal), faults),
         JobEnd::FileFailed => tell_failed(is_unread, faults),
     }
 }

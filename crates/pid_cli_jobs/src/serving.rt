@@ -1,20 +1,19 @@
 //! Serving a registry over HTTP to clients on this machine.
 ghost use Rattle.std.specs.Prelude.{◌≡◌};
 ghost use Rattle.pid_file.specs.Writing.{TriesLine, use_of};
-ghost use Rattle.pid_http.specs.Known.{LivesOn};
-ghost use Rattle.pid_cli_jobs.specs.Serving.{ReportsServing, Serves, socket_line};
-ghost use Rattle.pid_cli_jobs.specs.Sessions.{IsPartOfSession};
-ghost use Rattle.pid_cli_jobs.specs.Steps.Serving.{GivesTo};
-ghost use Rattle.pid_cli_jobs.specs.Wrote.{job_wrote};
+ghost use Rattle.pid_cli_jobs.specs.Lines.{streams};
+ghost use Rattle.pid_cli_jobs.specs.Serving.{GivesTo, ReportsServing, Serves, socket_line};
+ghost use Rattle.pid_cli_jobs.specs.Sessions.{IsPartOfSession, Works};
 
 use crate::job_end::JobEnd;
 use crate::machine::Machine;
-use crate::replies::write_count;
+use crate::replies::{tell_unopened, write_count};
+use crate::sessions::{close_at, open_at};
 use pid_file::{FAILED, TextEnd, tell_end};
 use pid_http::{Routes, serve_with};
 use pid_http_stream::Served;
 use pid_http_stream::listener::{Serving, ServingEnd, StreamServer};
-use pid_ident::{Incoming, Output, WriteFault, write_all};
+use pid_ident::{Incoming, Output, write_all};
 use pid_service::Registry;
 use sqlite::Alter;
 use std::alloc::Global;
@@ -82,10 +81,8 @@ fn tell_socket<F: Output>(faults: &mut F) -> JobEnd
 
 // Reports the number of streams that were started, and how the serving ended.
 fn report<O: Output, F: Output>(serving: Serving, output: &mut O, faults: &mut F) -> JobEnd
-    ensures { ReportsServing serving.end serving.streams (record {
-      output = use_of O.Output output.old output.new;
-      faults = use_of F.Output faults.old faults.new;
-    }) result }
+    ensures { ReportsServing serving.end serving.streams (streams
+        (use_of O.Output output.old output.new) (use_of F.Output faults.old faults.new)) result }
 {
     let printed = write_count("served ", u64::from(serving.streams), output);
     match (serving.end, printed) {
@@ -106,11 +103,8 @@ fn give_streams<M: Machine, T: StreamServer, O: Output, F: Output>(
     faults: &mut F,
 ) -> JobEnd
     ensures goes { T.goes server.old server.new }
-    ensures gives { GivesTo T.StreamServer (server.old, server.new) port
-        (M.asked machine.old, M.asked machine.new) (record {
-          output = use_of O.Output output.old output.new;
-          faults = use_of F.Output faults.old faults.new;
-        }) result }
+    ensures gives { GivesTo T.live port (streams (use_of O.Output output.old output.new)
+        (use_of F.Output faults.old faults.new)) result server.old server.new }
 {
     let number = u64::from(port.number);
     match write_count("listening on 127.0.0.1:", number, output) {
@@ -122,12 +116,8 @@ fn give_streams<M: Machine, T: StreamServer, O: Output, F: Output>(
     }
 }
 
-/// Listens on a port of this machine and serves a registry to so many connections, one at a time.
-///
-/// Prints where it listens before it accepts the first connection, and the number of streams that
-/// were started at the end. A registry that has failed is given no stream. The exit status is 0 if
-/// both lines went out, all connections were served, and the registry is live; else it is 3.
-pub fn serve_registry<M: Machine, S: Alter + Drop, O: Output, F: Output>(
+// Listens on a port of this machine and serves a registry to so many connections, one at a time.
+fn serve_registry<M: Machine, S: Alter + Drop, O: Output, F: Output>(
     machine: &mut M,
     registry: &mut Registry<S>,
     port: Port,
@@ -135,9 +125,8 @@ pub fn serve_registry<M: Machine, S: Alter + Drop, O: Output, F: Output>(
     faults: &mut F,
 ) -> JobEnd
     ensures goes { IsPartOfSession S.Store registry.old registry.new }
-    ensures serves { Serves S.Store O.Output port registry.old registry.new
-        (job_wrote (output.old, output.new) (use_of F.Output faults.old faults.new)
-        (M.asked machine.old, M.asked machine.new) result) }
+    ensures serves { Serves S.Store port (streams (use_of O.Output output.old output.new)
+        (use_of F.Output faults.old faults.new)) result registry.old registry.new }
 {
     let alloc = machine.alloc();
     let Some(listener) = machine.listen(port.number) else {
@@ -152,4 +141,31 @@ pub fn serve_registry<M: Machine, S: Alter + Drop, O: Output, F: Output>(
         routes: &routes,
     };
     give_streams(machine, &listener, &mut server, port, output, faults)
+}
+
+/// Serves the registry at a path.
+///
+/// Prints where it listens before it accepts the first connection, and the number of streams that
+/// were started at the end. A registry that has failed is given no stream. The exit status is 0 if
+/// both lines went out, all connections were served, and the registry is live; else it is 3.
+pub fn serve<M: Machine, O: Output, F: Output>(
+    machine: &mut M,
+    path: &str,
+    port: Port,
+    output: &mut O,
+    faults: &mut F,
+) -> JobEnd
+    ensures { Works M.Kept.Store (M.is_at path.now) M.is_closed (Serves M.Kept.Store port)
+        (streams (use_of O.Output output.old output.new)
+        (use_of F.Output faults.old faults.new)) result }
+{
+    match open_at(machine, path) {
+        Ok(registry) => {
+            let mut registry = registry;
+            let end = serve_registry(machine, &mut registry, port, output, faults);
+            close_at(machine, registry);
+            end
+        }
+        Err(fault) => JobEnd::Told(tell_unopened(fault, faults)),
+    }
 }

@@ -7,8 +7,8 @@ pub fn registry_of(job: Job<'_>) -> Option<&str> {
     match job {
         Job::Tidy | Job::Check | Job::Lookup(_) => None,
         Job::Script { db } => db,
-        Job::Import { db, .. } | Job::Export { db } | Job::Serve { db, .. } | Job::Migrate { db } =>
-            Some(db),
+        Job::Import(words) => Some(words.db),
+        Job::Export { db } | Job::Serve { db, .. } | Job::Migrate { db } => Some(db),
     }
 }
 
@@ -16,7 +16,7 @@ pub fn registry_of(job: Job<'_>) -> Option<&str> {
 pub fn ids_of(job: Job<'_>) -> Option<&str> {
     match job {
         Job::Lookup(words) => Some(words.ids),
-        Job::Import { ids, .. } => Some(ids),
+        Job::Import(words) => Some(words.ids),
         Job::Tidy
         | Job::Check
         | Job::Script { .. }

@@ -9,6 +9,7 @@ mod fault;
 mod files;
 mod job_files;
 mod port;
+mod progress;
 mod registry;
 mod replies;
 mod script;
@@ -16,6 +17,7 @@ mod session;
 mod values;
 
 pub use fault::Faults;
+pub use progress::{Counted, Progress};
 pub use replies::Replies;
 pub use script::ScriptInput;
 pub use session::Session;

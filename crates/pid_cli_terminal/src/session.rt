@@ -128,17 +128,12 @@ impl<'r> Session<'r> {
         match job {
             Job::Script { .. } => self.lines.tell_refused(self.rt),
             Job::Lookup(words) if refusal == "3 BadText" => explain_lookup(self.rt, &words),
-            Job::Import {
-                account,
-                key,
-                ids,
-                ..
-            } => {
+            Job::Import(words) => {
                 if refusal == "3 BadText" {
-                    explain_sender(self.rt, account, key);
-                    explain_size(self.rt, ids);
+                    explain_sender(self.rt, words.account, words.key);
+                    explain_size(self.rt, words.ids);
                 } else if refusal.starts_with("14 FileFault line=1 ") {
-                    explain_looks(self.rt, ids);
+                    explain_looks(self.rt, words.ids);
                 }
             }
             _ => {}

@@ -1,5 +1,5 @@
 -- What the arguments ask for, as the command line parser `clap` hands them to the subcommands.
-use Rattle.std.specs.Prelude.{◌&&◌, ◌^◌, ℕ, Bool, List, [], ◌∷◌, Option, Some, None, codes, find}
+use Rattle.std.specs.Prelude.{◌&&◌, ◌^◌, ◌≡◌, ◌≢◌, ℕ, Bool, List, [], ◌∷◌, Option, Some, None, codes, find}
 use Rattle.std.specs.Prelude.{length, nat_lt, option_map, unwrap_or, if◌then◌else◌}
 use Rattle.std.specs.Borrow.{Bor}
 use Rattle.std.specs.Char.{digit_value}
@@ -9,8 +9,10 @@ use Rattle.std.specs.Str.{bytes_eq}
 use Rattle.std.specs.Str.Parse.{digits_value, without_leading_plus}
 use Rattle.clap.specs.Walk.{Row, Text, first_of, one_of}
 use Rattle.clap.specs.Words.{subcommand_of, takes, fault_of, kind_of, Kinds, IsAmong}
+use Rattle.clap.specs.declared.error.kind.ErrorKind.TheVariants.{DisplayHelp, DisplayVersion}
 use Rattle.pid_cli_words.specs.Commands.{commands}
 use Rattle.pid_cli_words.specs.declared.job.Job.{Job}
+use Rattle.pid_cli_words.specs.declared.job.ImportWords.{ImportWords}
 use Rattle.pid_cli_words.specs.declared.job.LookupWords.{LookupWords}
 use Rattle.pid_cli_words.specs.declared.job.Job.TheVariants as jobs
 use Rattle.pid_cli_words.specs.declared.job.WordsFault.{WordsFault}
@@ -39,13 +41,17 @@ lookup_task asked = LooksUp asked.ids.now asked.flags.now (text_given asked.size
     (text_given asked.subvendor) (text_given asked.subdevice) (text_given asked.class)
     (text_given asked.progif)
 
+-- the task of an import with its texts
+abbrev pub import_task : ImportWords → Task
+import_task asked = Imports asked.db.now asked.account.now (text_given asked.key) asked.ids.now
+
 -- the task that a job is
 abbrev pub task_of : Job → Task
 task_of jobs.Tidy = Tidies
 task_of jobs.Check = Checks
 task_of (jobs.Lookup asked) = lookup_task asked
 task_of (jobs.Script db) = Runs (text_given db)
-task_of (jobs.Import db account key ids) = Imports db.now account.now (text_given key) ids.now
+task_of (jobs.Import asked) = import_task asked
 task_of (jobs.Export db) = Exports db.now
 task_of (jobs.Serve db port connections) = Serves db.now port connections
 task_of (jobs.Migrate db) = Migrates db.now
@@ -76,16 +82,17 @@ lookup_named rows = LooksUp (needed (codes "ids") rows) (needed (codes "flags") 
     (first_of (codes "subdevice") rows) (first_of (codes "class") rows)
     (first_of (codes "progif") rows)
 
+-- the import whose arguments have these values
+abbrev pub import_named : List Row → Task
+import_named rows = Imports (needed (codes "db") rows) (needed (codes "account") rows)
+    (first_of (codes "key") rows) (needed (codes "ids") rows)
+
 -- the subcommands, each with its task, given the values of its options
 abbrev pub tasks : List (Text × (List Row → Task))
 tasks = (codes "check", λ rows. Checks)
     ∷ (codes "lookup", lookup_named)
     ∷ (codes "script", λ rows. Runs (first_of (codes "db") rows))
-    ∷ (
-      codes "import",
-      λ rows. Imports (needed (codes "db") rows) (needed (codes "account") rows)
-          (first_of (codes "key") rows) (needed (codes "ids") rows),
-    )
+    ∷ (codes "import", import_named)
     ∷ (codes "export", λ rows. Exports (needed (codes "db") rows))
     ∷ (
       codes "serve",
@@ -125,3 +132,15 @@ faults_of words = fault_of commands words
 abbrev pub IsFaultOfWords : WordsFault → List Text → Type 0
 IsFaultOfWords Memory words = Unit {0}
 IsFaultOfWords (Words error) words = IsAmong (kind_of error) (faults_of words)
+
+-- the number of a fault
+abbrev pub words_fault_number : WordsFault → ℕ
+words_fault_number Memory = 1
+words_fault_number (Words error) = 2
+
+-- the exit status: 3 for out of memory; 2 for arguments that are not understood, unless they ask for
+-- help or the version
+abbrev pub IsNoJobStatus : WordsFault → ℕ → Type 0
+IsNoJobStatus Memory status = status ≡ 3
+IsNoJobStatus (Words error) status = (kind_of error ≢ DisplayHelp)
+    → (kind_of error ≢ DisplayVersion) → status ≡ 2

@@ -1,4 +1,3 @@
 pub mod Commands
 pub mod Jobs
 pub mod Steps
-pub mod WordsFaults

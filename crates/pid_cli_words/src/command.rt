@@ -2,31 +2,24 @@
 ghost use Rattle.std.specs.Prelude.{◌≡◌, false, IfOk, map};
 ghost use Rattle.clap.specs.Words.{app_of, rule_of};
 ghost use Rattle.clap.specs.declared.builder.command.Command.TheViews.{out-Command};
-ghost use Rattle.pid_cli_words.specs.Commands.{with_rules, with_subcommands as with_apps};
+ghost use Rattle.pid_cli_words.specs.Commands.{option, with_rules, with_subcommands as with_apps};
 ghost use Rattle.pid_cli_words.specs.Steps.Tables.{app_of_subcommand, rule_of_argument};
 
 use clap::{Arg, Command, value_parser};
 use std::alloc::{AllocError, Global};
 
-/// How an argument is given.
-pub(crate) enum Form {
-    /// As an option.
-    Named,
-    /// Without a name.
-    Operand,
-    /// As an option: a number from 1 to 65,535.
+/// An argument of a command: its name, and that of its value in messages.
+pub(crate) enum Argument<'a> {
+    /// An option that must be given.
+    Needed(&'a str, &'a str),
+    /// An option that may be left out.
+    Spare(&'a str, &'a str),
+    /// A value that must be given, without a name before it.
+    Operand(&'a str, &'a str),
+    /// The option `--port N`, which must be given: 1 to 65,535.
     Port,
-    /// As an option: a number from 1 to 1,000,000, which is the default.
+    /// The option `--connections N`: 1 to 1,000,000, which is the default.
     Connections,
-}
-
-/// An argument of a command.
-pub(crate) struct Argument<'a> {
-    pub(crate) form: Form,
-    pub(crate) is_required: bool,
-    pub(crate) name: &'a str,
-    /// The name of the value in messages.
-    pub(crate) value: &'a str,
 }
 
 /// A command below the program's own.
@@ -38,21 +31,25 @@ pub(crate) struct Subcommand<'a> {
     pub(crate) arguments: &'a [Argument<'a>],
 }
 
+fn option_of<'a>(alloc: Global, name: &'a str, value: &'a str) -> Arg<'a>
+    ensures rule { rule_of result ≡ option name.now }
+    ensures local { result.global ≡ false }
+{
+    Arg::new(alloc, name).value_name(value).long(name)
+}
+
 fn arg_of<'a>(alloc: Global, argument: &Argument<'a>) -> Arg<'a>
     ensures rule { rule_of result ≡ rule_of_argument argument.now }
     ensures local { result.global ≡ false }
 {
-    let arg = Arg::new(alloc, argument.name)
-        .value_name(argument.value)
-        .required(argument.is_required);
-    match argument.form {
-        Form::Named => arg.long(argument.name),
-        Form::Operand => arg,
-        Form::Port => arg
-            .long(argument.name)
+    match *argument {
+        Argument::Needed(name, value) => option_of(alloc, name, value).required(true),
+        Argument::Spare(name, value) => option_of(alloc, name, value),
+        Argument::Operand(name, value) => Arg::new(alloc, name).value_name(value).required(true),
+        Argument::Port => option_of(alloc, "port", "N")
+            .required(true)
             .value_parser(value_parser!(u16).range(1..=65535)),
-        Form::Connections => arg
-            .long(argument.name)
+        Argument::Connections => option_of(alloc, "connections", "N")
             .value_parser(value_parser!(u32).range(1..=1000000))
             .default_value("1000000"),
     }

@@ -3,118 +3,32 @@ ghost use Rattle.std.specs.Prelude.{◌≡◌, IfOk, codes};
 ghost use Rattle.clap.specs.Words.{app_of, new_app};
 ghost use Rattle.pid_cli_words.specs.Commands.{commands as the_commands, with_version};
 
-use crate::command::{Argument, Form, Subcommand, with_subcommands};
+use crate::command::{Argument, Subcommand, with_subcommands};
 use clap::Command;
 use pid_cli_help::{
     CHECK, EXPORT, HELP, IMPORT, LOOKUP, MIGRATE, SCRIPT, SERVE, TIDY, USAGE, VERSION,
 };
 use std::alloc::{AllocError, Global};
 
-const DB: Argument<'static> = Argument {
-    form: Form::Named,
-    is_required: true,
-    name: "db",
-    value: "FILE",
-};
-
-const SCRIPT_DB: Argument<'static> = Argument {
-    is_required: false,
-    ..DB
-};
+const DB: Argument<'static> = Argument::Needed("db", "FILE");
 
 const LOOK_UP_ARGUMENTS: [Argument<'static>; 9] = [
-    Argument {
-        form: Form::Named,
-        is_required: true,
-        name: "ids",
-        value: "FILE",
-    },
-    Argument {
-        form: Form::Named,
-        is_required: true,
-        name: "flags",
-        value: "HEX",
-    },
-    Argument {
-        form: Form::Named,
-        is_required: false,
-        name: "size",
-        value: "N",
-    },
-    Argument {
-        form: Form::Named,
-        is_required: false,
-        name: "vendor",
-        value: "HEX",
-    },
-    Argument {
-        form: Form::Named,
-        is_required: false,
-        name: "device",
-        value: "HEX",
-    },
-    Argument {
-        form: Form::Named,
-        is_required: false,
-        name: "subvendor",
-        value: "HEX",
-    },
-    Argument {
-        form: Form::Named,
-        is_required: false,
-        name: "subdevice",
-        value: "HEX",
-    },
-    Argument {
-        form: Form::Named,
-        is_required: false,
-        name: "class",
-        value: "HEX",
-    },
-    Argument {
-        form: Form::Named,
-        is_required: false,
-        name: "progif",
-        value: "HEX",
-    },
+    Argument::Needed("ids", "FILE"),
+    Argument::Needed("flags", "HEX"),
+    Argument::Spare("size", "N"),
+    Argument::Spare("vendor", "HEX"),
+    Argument::Spare("device", "HEX"),
+    Argument::Spare("subvendor", "HEX"),
+    Argument::Spare("subdevice", "HEX"),
+    Argument::Spare("class", "HEX"),
+    Argument::Spare("progif", "HEX"),
 ];
 
 const IMPORT_ARGUMENTS: [Argument<'static>; 4] = [
     DB,
-    Argument {
-        form: Form::Named,
-        is_required: true,
-        name: "account",
-        value: "ACCOUNT",
-    },
-    Argument {
-        form: Form::Named,
-        is_required: false,
-        name: "key",
-        value: "KEY",
-    },
-    Argument {
-        form: Form::Operand,
-        is_required: true,
-        name: "ids",
-        value: "IDS",
-    },
-];
-
-const SERVE_ARGUMENTS: [Argument<'static>; 3] = [
-    DB,
-    Argument {
-        form: Form::Port,
-        is_required: true,
-        name: "port",
-        value: "N",
-    },
-    Argument {
-        form: Form::Connections,
-        is_required: false,
-        name: "connections",
-        value: "N",
-    },
+    Argument::Needed("account", "ACCOUNT"),
+    Argument::Spare("key", "KEY"),
+    Argument::Operand("ids", "IDS"),
 ];
 
 const SUBCOMMANDS: [Subcommand<'static>; 8] = [
@@ -140,7 +54,7 @@ const SUBCOMMANDS: [Subcommand<'static>; 8] = [
         name: "script",
         usage: None,
         help: SCRIPT,
-        arguments: &[SCRIPT_DB],
+        arguments: &[Argument::Spare("db", "FILE")],
     },
     Subcommand {
         name: "import",
@@ -158,7 +72,7 @@ const SUBCOMMANDS: [Subcommand<'static>; 8] = [
         name: "serve",
         usage: None,
         help: SERVE,
-        arguments: &SERVE_ARGUMENTS,
+        arguments: &[DB, Argument::Port, Argument::Connections],
     },
     Subcommand {
         name: "migrate",

@@ -2,7 +2,7 @@
 ghost use Rattle.std.specs.Prelude.{◌≡◌, ◌≢◌, ◌⊎◌};
 ghost use Rattle.clap.specs.Words.{kind_of};
 ghost use Rattle.clap.specs.declared.error.kind.ErrorKind.TheVariants.{OutOfMemory};
-ghost use Rattle.pid_cli_words.specs.WordsFaults.{words_fault_number};
+ghost use Rattle.pid_cli_words.specs.Jobs.{words_fault_number};
 
 use clap::error::ErrorKind;
 use std::alloc::AllocError;
@@ -18,12 +18,7 @@ pub enum Job<'a> {
     Script {
         db: Option<&'a str>,
     },
-    Import {
-        db: &'a str,
-        account: &'a str,
-        key: Option<&'a str>,
-        ids: &'a str,
-    },
+    Import(ImportWords<'a>),
     Export {
         db: &'a str,
     },
@@ -50,6 +45,16 @@ pub struct LookupWords<'a> {
     pub subdevice: Option<&'a str>,
     pub class: Option<&'a str>,
     pub progif: Option<&'a str>,
+}
+
+/// The registry and the file of an import, and who sends it. Whether the account and the key keep
+/// their rules is not checked yet.
+#[derive(Clone, Copy)]
+pub struct ImportWords<'a> {
+    pub db: &'a str,
+    pub account: &'a str,
+    pub key: Option<&'a str>,
+    pub ids: &'a str,
 }
 
 /// Why the arguments name no job.

@@ -1,43 +1,19 @@
-//! The arguments of the process, and what it prints if they name no job.
-ghost use Rattle.std.specs.Prelude.{◌≡◌, ◌≢◌, ◌⊎◌, IfErr};
+//! What the process prints if the arguments name no job.
+ghost use Rattle.std.specs.Prelude.{◌≡◌, ◌≢◌};
 ghost use Rattle.clap.specs.Words.{kind_of};
 ghost use Rattle.clap.specs.declared.error.kind.ErrorKind.TheVariants.{DisplayHelp, DisplayVersion};
-ghost use Rattle.pid_cli_words.specs.WordsFaults.{IsNoJobStatus};
+ghost use Rattle.pid_cli_words.specs.Jobs.{IsNoJobStatus};
 
 use crate::job::WordsFault;
 use clap::Error;
-use pid_file::{TextEnd, tell_end, tell_failed};
-use pid_ident::{Plain, write_all};
+use pid_file::{Plain, TextEnd, tell_end, tell_failed};
 use std::io::{ErrorKind, Write};
-use std::{env, io};
 
 /// The exit status if the arguments name no job.
-pub const UNKNOWN_WORDS: u8 = 2;
+const UNKNOWN_WORDS: u8 = 2;
 
 // Commands after which no file was meant.
 const OTHERS: [&str; 6] = ["lookup", "script", "import", "export", "serve", "migrate"];
-
-/// The arguments of the process, the program's name first. Reports an argument that is not UTF-8,
-/// or that it ran out of memory, on standard error, and returns the exit status.
-pub fn words_given(rt: &HostRuntime) -> Result<Vec<String>, u8>
-    ensures { IfErr result (λ status. (status ≡ 2) ⊎ (status ≡ 3)) }
-{
-    match collected(rt) {
-        Ok(words) => Ok(words),
-        Err(error) => {
-            let mut faults = Plain::new(rt.stderr());
-            if error.kind() == ErrorKind::OutOfMemory {
-                return Err(tell_end(TextEnd::Memory, &mut faults));
-            }
-            let _ = write_all(&mut faults, b"error: an argument is not valid UTF-8\n");
-            Err(UNKNOWN_WORDS)
-        }
-    }
-}
-
-fn collected(rt: &HostRuntime) -> io::Result<Vec<String>> {
-    Ok(env::args(rt)?.collect(rt.alloc())?)
-}
 
 /// Prints why the arguments name no job, and returns the exit status: help and the version, if
 /// asked for, on `output`, and anything else on `faults`.

@@ -5,6 +5,8 @@ ghost use Rattle.clap.specs.Words.{found_of};
 ghost use Rattle.pid_cli_words.specs.Jobs.{
   are_taken,
   faults_of,
+  import_named,
+  import_task,
   lookup_named,
   lookup_task,
   needed,
@@ -17,7 +19,7 @@ ghost use Rattle.pid_cli_words.specs.Jobs.{
 };
 
 use crate::commands::commands;
-use crate::job::{Job, LookupWords, WordsFault};
+use crate::job::{ImportWords, Job, LookupWords, WordsFault};
 use clap::ArgMatches;
 use std::alloc::Global;
 
@@ -50,6 +52,17 @@ fn lookup_words<'a>(given: &ArgMatches<'a>) -> LookupWords<'a>
     }
 }
 
+fn import_words<'a>(given: &ArgMatches<'a>) -> ImportWords<'a>
+    ensures { import_task result ≡ import_named (rows_of (found_of given.now)) }
+{
+    ImportWords {
+        db: needed_text(given, "db"),
+        account: needed_text(given, "account"),
+        key: text(given, "key"),
+        ids: needed_text(given, "ids"),
+    }
+}
+
 // The number that a required option, or one with a default, has as its value.
 fn port_given(given: &ArgMatches<'_>) -> u16
     ensures { result ≡ number_given 16 (codes "port") (rows_of (found_of given.now)) }
@@ -72,12 +85,7 @@ fn job_named<'a>(name: &str, given: &ArgMatches<'a>) -> Job<'a>
         "script" => Job::Script {
             db: text(given, "db"),
         },
-        "import" => Job::Import {
-            db: needed_text(given, "db"),
-            account: needed_text(given, "account"),
-            key: text(given, "key"),
-            ids: needed_text(given, "ids"),
-        },
+        "import" => Job::Import(import_words(given)),
         "export" => Job::Export {
             db: needed_text(given, "db"),
         },

@@ -1,6 +1,6 @@
 use Rattle.std.proofs.Common.{ap, ◌∙◌}
 use Rattle.pid_cli_jobs.specs.declared.job_end.JobEnd.TheVariants.{Told}
-use Rattle.pid_cli_jobs.proofs.Sessions.{file_ended, status_ended}
+use Rattle.pid_cli_jobs.proofs.Calling.{file_ended, status_ended}
 use Rattle.pid_cli_jobs.proofs.jobs.end_of.Goals as goal
 
 pub returns-in-ReadFault : goal.returns-in-ReadFault

@@ -2,9 +2,8 @@ use Rattle.std.specs.Prelude.{codes}
 use Rattle.std.specs.Io.KnownBytes.{Appends}
 use Rattle.std.proofs.Common.{refl, subst}
 use Rattle.pid_file.specs.Writing.{FailsWithin, use_of}
-use Rattle.pid_cli_jobs.specs.declared.job_end.JobEnd.TheVariants.{FileFailed}
 use Rattle.pid_cli_jobs.specs.Lines.{count_line}
-use Rattle.pid_cli_jobs.specs.Steps.Serving.{Gave, GaveNone}
+use Rattle.pid_cli_jobs.specs.Serving.{Gave, Unheard}
 use Rattle.pid_cli_jobs.proofs.Lines.{taken_in_part, taken_whole}
 use Rattle.pid_cli_jobs.proofs.serving.give_streams.Goals as goal
 
@@ -17,22 +16,17 @@ returns-in-Ok-clause-gives g c =
       listens = subst (λ n. Appends w.before w.after (count_line word n)) c.from-number.ensures
           (taken_whole w (count_line word c.from-number.result) c.write_count.result
           c.in-Ok.field-0 c.in-Ok.is c.write_count.ensures.sent);
-      streams = record {
-        serving = c.serve-serving.result;
-        counted = c.serve-serving.ensures.streams;
-        lasts = c.serve-serving.ensures.live;
-        given = c.serve-serving.ensures.gives;
-        reports = c.report.ensures;
-      };
+      serving = c.serve-serving.result;
+      counted = c.serve-serving.ensures.streams;
+      lasts = c.serve-serving.ensures.live;
+      reports = c.report.ensures;
     })
 
 pub returns-in-Err-clause-gives : goal.returns-in-Err-clause-gives
 returns-in-Err-clause-gives g c =
     let w = use_of g.O.Output c.args.output.now c.write_count.new.output in
     let word = codes "listening on 127.0.0.1:" in
-    GaveNone
-    (subst (λ n. FailsWithin w (count_line word n)) c.from-number.ensures
+    Unheard (subst (λ n. FailsWithin w (count_line word n)) c.from-number.ensures
     (taken_in_part w (count_line word c.from-number.result) c.write_count.result
     c.in-Err.field-0 c.in-Err.is c.write_count.ensures.sent c.write_count.ensures.fault))
-    (refl {a = g.F.Output.taken c.args.faults.now}) (refl {a = g.M.Machine.asked c.args.machine.now})
-    (refl {a = FileFailed}) (refl {a = c.args.server.now})
+    refl refl refl
