@@ -1,16 +1,15 @@
 //! What the rows of these tests ask of a registry, and what it answers, as one line.
 //!
 //! A row is a command, as `comment alice num=1&text=seen`, where the key of a caller is before a
-//! slash; or `import`, the caller and the file, which comes whole, or in chunks with `slowly`, or
-//! from an input that fails after it with `broken`; or a question: `export`, `length` (of the
-//! export), `read`, `rank` with an account, `status`, `children` with a path or `top`, `submission`
-//! and `pending` with a number, `changes` with a revision and a path, if there is one, `lookup` with its
-//! fields. In a row `;` ends a line of a file and `>` is a tab.
+//! slash; or `import`, the caller and the file, which comes whole, or in chunks with `slowly`; or a
+//! question: `export`, `length` (of the export), `read`, `children` with a path or `top`,
+//! `submission` and `pending` with a number, `changes` with a revision, `lookup` with its fields. In
+//! a row `;` ends a line of a file and `>` is a tab.
+use crate::rows::{command_in, fields_of};
 use pid_ident::{Account, FaultyInput, FaultyOutput, Input, Key, Path, PathText};
 use pid_lookup::{Answer, LookupRefusal, args_of};
-use pid_model::rows::{command_in, fields_of};
 use pid_moderation::{
-    Changes, Discussion, Pending, Proposal, Refusal, Reply, State, Status, Submission, reply_line,
+    Changes, Discussion, Pending, Proposal, Refusal, Reply, State, Submission, reply_line,
 };
 use pid_service::{ExportFault, ImportEnd, Registry, open};
 use sqlite::{Alter, Connection, MemStore};
@@ -76,7 +75,7 @@ fn with_letters(
 }
 
 // Who sends a file, and the file.
-pub(crate) fn sent(row: &str) -> Result<(&str, &str), Fail> {
+fn sent(row: &str) -> Result<(&str, &str), Fail> {
     match row.split_once(' ') {
         Some(sent) => Ok(sent),
         None => Err(Fail::new("a row without a file")),
@@ -84,7 +83,7 @@ pub(crate) fn sent(row: &str) -> Result<(&str, &str), Fail> {
 }
 
 // The bytes of a file that a row writes on one line.
-pub(crate) fn file_of(alloc: Global, row: &str) -> Result<String, Fail> {
+fn file_of(alloc: Global, row: &str) -> Result<String, Fail> {
     with_letters(alloc, row, (';', '>'), ('\n', '\t'))
 }
 
@@ -106,7 +105,7 @@ fn refused(alloc: Global, refusal: Refusal) -> Result<String, Fail> {
 }
 
 // What the import of a whole file is answered.
-pub(crate) fn imported<S: Alter + Drop>(
+fn imported<S: Alter + Drop>(
     registry: &mut Registry<S>,
     alloc: Global,
     caller: &str,
@@ -141,20 +140,15 @@ fn import<S: Alter + Drop>(
     imported(registry, alloc, caller, file.as_bytes())
 }
 
-// An import whose file comes in chunks of at most seven bytes, or from an input that fails after
-// them.
+// An import whose file comes in chunks of at most seven bytes.
 fn slowly<S: Alter + Drop>(
     registry: &mut Registry<S>,
     alloc: Global,
     rest: &str,
-    is_broken: bool,
 ) -> Result<String, Fail> {
     let (caller, file) = sent(rest)?;
     let file = file_of(alloc, file)?;
     let mut input = FaultyInput::new(file.as_bytes(), 7);
-    if is_broken {
-        input = input.failing_after(file.len().div_ceil(7) as u64);
-    }
     imported_from(registry, alloc, caller, &mut input)
 }
 
@@ -201,40 +195,8 @@ fn read<S: Alter + Drop>(
     }
 }
 
-fn rank<S: Alter + Drop>(
-    registry: &mut Registry<S>,
-    alloc: Global,
-    who: &str,
-) -> Result<String, Fail> {
-    match registry.rank(&Account::of(alloc, who)?) {
-        Ok(Some(rank)) => Ok(rank.number().to_string(alloc)?),
-        Ok(None) => owned(alloc, "none"),
-        Err(refusal) => refused(alloc, refusal),
-    }
-}
-
-fn status_line(alloc: Global, found: &Status) -> Result<String, Fail> {
-    Ok(format!(in alloc;
-        "{} {} {} {} {}",
-        found.revision, found.accounts, found.items, found.pending, found.submissions
-    )?)
-}
-
-// How many accounts, items, pending submissions and submissions there are after the revision.
-fn status<S: Alter + Drop>(registry: &mut Registry<S>, alloc: Global) -> Result<String, Fail> {
-    match registry.status() {
-        Ok(found) => status_line(alloc, &found),
-        Err(refusal) => refused(alloc, refusal),
-    }
-}
-
 // An item, after the text that comes before it.
-pub(crate) fn item_line(
-    alloc: Global,
-    before: &str,
-    path: Path,
-    name: &str,
-) -> Result<String, Fail> {
+fn item_line(alloc: Global, before: &str, path: Path, name: &str) -> Result<String, Fail> {
     let path = path.path_text(alloc)?;
     Ok(format!(in alloc; "{before}{} {name};", path.as_str())?)
 }
@@ -259,7 +221,7 @@ fn children<S: Alter + Drop>(
     Ok(told)
 }
 
-pub(crate) fn proposed(proposal: &Proposal) -> &str {
+fn proposed(proposal: &Proposal) -> &str {
     match proposal {
         Proposal::Name(name) => name.as_str(),
         Proposal::Removal => "remove",
@@ -341,15 +303,13 @@ fn changes_line(alloc: Global, found: &Changes) -> Result<String, Fail> {
     Ok(told)
 }
 
-// The revision, and the items that were named after a revision and a path, if there is one.
+// The revision, and the items that were named after a revision.
 fn changes<S: Alter + Drop>(
     registry: &mut Registry<S>,
     alloc: Global,
-    rest: &str,
+    since: &str,
 ) -> Result<String, Fail> {
-    let (since, after) = first_word(rest);
-    let after = Path::parse(after);
-    match registry.changes(since.parse::<u64>()?, after.as_ref()) {
+    match registry.changes(since.parse::<u64>()?, None) {
         Ok(found) => changes_line(alloc, &found),
         Err(refusal) => refused(alloc, refusal),
     }
@@ -385,13 +345,10 @@ pub(crate) fn told<S: Alter + Drop>(
     let (verb, rest) = first_word(row);
     match verb {
         "import" => import(registry, alloc, rest),
-        "slowly" => slowly(registry, alloc, rest, false),
-        "broken" => slowly(registry, alloc, rest, true),
+        "slowly" => slowly(registry, alloc, rest),
         "export" => export(registry, alloc),
         "length" => length(registry, alloc),
         "read" => read(registry, alloc, rest),
-        "rank" => rank(registry, alloc, rest),
-        "status" => status(registry, alloc),
         "children" => children(registry, alloc, rest),
         "pending" => pending(registry, alloc, rest),
         "submission" => submission(registry, alloc, rest),

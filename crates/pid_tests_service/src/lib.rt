@@ -10,14 +10,10 @@ mod imports;
 #[cfg(test)]
 mod kept_names;
 #[cfg(test)]
+mod limits;
+#[cfg(test)]
 mod lookups;
 #[cfg(test)]
-mod noted;
-#[cfg(test)]
-mod openings;
-#[cfg(test)]
-mod refusals;
-#[cfg(test)]
-mod runs;
+mod rows;
 #[cfg(test)]
 mod stops;

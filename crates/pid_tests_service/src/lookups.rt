@@ -1,5 +1,4 @@
-//! What a registry keeps of the names that look-ups have read. tests/support/script_rows.py has
-//! more look-ups.
+//! What a registry keeps of the names that look-ups have read.
 use crate::asking::{expect_told, new_in_memory, told};
 use pid_service::Registry;
 use sqlite::Alter;
@@ -10,27 +9,7 @@ use std::test::Fail;
 const PAIRS: &str = "\
 import root 8086  Intel Corporation | ok added=1 renamed=0 same=0
 lookup flags=3&vendor=8086&device=ffff | Intel Corporation Device ffff
-lookup flags=40003&vendor=8086&device=ffff | Intel Corporation Device [8086:ffff]
-lookup flags=20003&vendor=8086&device=ffff | none
-lookup flags=10003&vendor=8086&device=ffff | 8086:ffff
-lookup flags=3&vendor=1234&device=1111 | Device 1234:1111
 lookup flags=1&vendor=1234 | Vendor 1234
-lookup flags=9&subvendor=1234 | Unknown vendor 1234
-lookup flags=40003&vendor=1234&device=1111 | Device [1234:1111]
-lookup flags=1&vendor=8086&size=18 | Intel Corporation
-lookup flags=1&vendor=8086&size=17 | Intel Corpora...
-lookup flags=1&vendor=8086&size=4 | ...
-lookup flags=1&vendor=8086&size=3 | <pci_lookup_name: buffer too small>
-lookup flags=1&vendor=8086&size=0 | <pci_lookup_name: buffer too small>
-lookup flags=70001&vendor=8086 | Intel Corporation [8086]
-lookup flags=70001&vendor=1234 | none
-lookup flags=30001 | bad flags
-lookup flags=80001 | bad flags
-lookup flags=30000 | bad flags
-lookup flags=0 | <pci_lookup_name: invalid request>
-lookup flags=5 | <pci_lookup_name: invalid request>
-lookup flags=20 | <pci_lookup_name: invalid request>
-lookup flags=10000 | <pci_lookup_name: invalid request>
 ";
 
 const RENAMED: &str = "\

@@ -2,7 +2,7 @@
 //! what a crash may leave; these tests show that the calls get there, over files in memory that keep
 //! what was synced alone.
 use crate::asking::{expect_line, expect_told, opened, owned, told};
-use pid_model::rows::OLDER;
+use crate::rows::OLDER;
 use pid_moderation::Refusal;
 use pid_service::{Registry, Step, migrate, open};
 use pid_tables::TableFault;

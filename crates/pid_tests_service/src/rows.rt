@@ -1,13 +1,12 @@
-//! What the rows of tests are made of: a command is a line such as `comment alice num=1&text=seen`.
-//! And the statements that make a registry of schema 1. No part of the program.
-pub use pid_form::{text_at, value};
+//! What rows are made of: a command is a line such as `comment alice num=1&text=seen`. And the
+//! statements that make a registry of schema 1.
 use pid_moderation::{Command, Refusal, Verb, command_of};
 use std::alloc::Global;
 use std::test::Fail;
 
 // The statements that make a registry of schema 1 (docs/STORAGE.md): a vendor that alice submitted
 // and root approved.
-pub const OLDER: &str = "\
+pub(crate) const OLDER: &str = "\
 CREATE TABLE meta (label TEXT NOT NULL PRIMARY KEY, value INTEGER NOT NULL) STRICT;
 CREATE TABLE account (name TEXT NOT NULL PRIMARY KEY, rank INTEGER NOT NULL CHECK (rank BETWEEN 0 AND 3)) STRICT;
 CREATE TABLE item (path TEXT NOT NULL PRIMARY KEY, name TEXT NOT NULL) STRICT;
@@ -24,50 +23,29 @@ INSERT INTO item VALUES ('PC/8086', 'Intel Corporation');
 INSERT INTO submission VALUES (1, 'alice', 'PC/8086', 0, 'Intel Corporation', '', 1, 'root', '');
 ";
 
-// The text that a word stands for: `*N` is N times `a`.
-pub fn text_of(alloc: Global, word: &str) -> Result<String, Fail> {
-    let Some(count) = word.strip_prefix('*') else {
-        return Ok(String::from_str(alloc, word)?);
-    };
-    let mut text = String::new(alloc);
-    for _ in 0..count.parse::<usize>()? {
-        text.push('a')?;
-    }
-    Ok(text)
-}
-
 // The fields of a row such as `num=1&text=seen`, which may be empty.
-pub fn fields_of(alloc: Global, row: &str) -> Result<Vec<(String, String)>, Fail> {
+pub(crate) fn fields_of(alloc: Global, row: &str) -> Result<Vec<(String, String)>, Fail> {
     let mut fields = Vec::new(alloc);
     for pair in row.split('&') {
         if let Some((name, value)) = pair.split_once('=') {
-            fields.push((String::from_str(alloc, name)?, text_of(alloc, value)?))?;
+            fields.push((
+                String::from_str(alloc, name)?,
+                String::from_str(alloc, value)?,
+            ))?;
         }
     }
     Ok(fields)
 }
 
-// The command of a verb for a caller; the key comes before a slash, as in `k1/alice`.
-pub fn command_by(
-    alloc: Global,
-    verb: Verb,
-    caller: &str,
-    fields: &[(String, String)],
-) -> Result<Result<Command, Refusal>, Fail> {
-    let Some((key, account)) = caller.split_once('/') else {
-        let account = text_of(alloc, caller)?;
-        return Ok(command_of(alloc, verb, account.as_str(), None, fields));
-    };
-    let key = text_of(alloc, key)?;
-    let account = text_of(alloc, account)?;
-    Ok(command_of(alloc, verb, account.as_str(), Some(key.as_str()), fields))
-}
-
-// The command of a row.
-pub fn command_in(alloc: Global, row: &str) -> Result<Result<Command, Refusal>, Fail> {
+// The command of a row. The key of a caller comes before a slash, as in `k1/alice`.
+pub(crate) fn command_in(alloc: Global, row: &str) -> Result<Result<Command, Refusal>, Fail> {
     let (verb, rest) = row.split_once(' ').ok_or("a verb")?;
     let (caller, fields) = rest.split_once(' ').ok_or("an account")?;
     let verb = Verb::of_word(verb).ok_or("a verb")?;
     let fields = fields_of(alloc, fields)?;
-    command_by(alloc, verb, caller, fields.as_slice())
+    let (key, account) = match caller.split_once('/') {
+        Some((key, account)) => (Some(key), account),
+        None => (None, caller),
+    };
+    Ok(command_of(alloc, verb, account, key, fields.as_slice()))
 }

@@ -1,8 +1,0 @@
-use Rattle.std.proofs.Common.{◌≤◌, take}
-use Rattle.pid_moderation.specs.Views.{submits_of}
-use Rattle.pid_model.specs.Shown.{accepted_history}
-use Rattle.pid_model.proofs.Numbering.{Found}
-use Rattle.pid_model.proofs.past.numbered.Given as goal
-
-abbrev pub invariant-loop-entry : goal.invariant-loop-entry
-invariant-loop-entry l = Found l.number l.count l.found (submits_of (accepted_history (take l.entry-index l.past))) × (l.count ≤ l.entry-index)
