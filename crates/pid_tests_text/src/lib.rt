@@ -1,15 +1,13 @@
-//! Tests of the crates that know the texts of identifiers: identifiers, trees, readers and
-//! look-ups.
-//!
-//! They call public functions alone.
+//! Tests of trees, readers and look-ups as other programs call them, and of readers, writers and
+//! holders of names that fail. They call public functions alone.
 #![tactic(auto)]
 
-#[cfg(test)]
-mod identifiers;
 #[cfg(test)]
 mod lookups;
 #[cfg(test)]
 mod reading;
+#[cfg(test)]
+mod streams;
 #[cfg(test)]
 mod texts;
 #[cfg(test)]
