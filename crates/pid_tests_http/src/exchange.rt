@@ -72,14 +72,6 @@ pub(crate) fn are_replies<I: Input>(
     Ok(session.served == served && output.taken.as_slice() == replies)
 }
 
-/// Tries rows over a new registry; the streams are not closed.
-pub(crate) fn try_over_new(alloc: Global, rows: &[Rows<'_>]) -> Result<(), Fail> {
-    let mut input = FaultyInput::new(b"", 1);
-    let mut output = FaultyOutput::new(alloc, 1);
-    serve_new(alloc, &mut input, &mut output, TURNS, rows)?;
-    Ok(())
-}
-
 /// Fails with the first row whose request, alone in a stream over this registry, gets another
 /// reply. A line that ends with a backslash goes on with the next.
 pub(crate) fn try_rows<S: Alter + Drop>(

@@ -25,6 +25,4 @@ mod moments;
 #[cfg(test)]
 mod replies;
 #[cfg(test)]
-mod routes;
-#[cfg(test)]
 mod streams;

@@ -3,13 +3,13 @@
 #![tactic(auto)]
 
 #[cfg(test)]
+mod chunks;
+#[cfg(test)]
 mod ends;
 #[cfg(test)]
 mod faults;
 #[cfg(test)]
 mod fields;
-#[cfg(test)]
-mod rows;
 #[cfg(test)]
 mod running;
 #[cfg(test)]

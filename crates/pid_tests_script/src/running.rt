@@ -79,12 +79,6 @@ pub(crate) fn are_replies(
     Ok(end == ScriptEnd::Done && output.taken.as_slice() == replies)
 }
 
-/// Whether the rows' script, read whole, gets their replies.
-pub(crate) fn are_answered(alloc: Global, rows: &str) -> Result<bool, Fail> {
-    let (script, replies) = script_and_replies(alloc, rows)?;
-    are_replies(alloc, script.as_bytes(), 65_536, replies.as_bytes())
-}
-
 /// The first name of a registry.
 pub(crate) const FIRST_NAME: &str = "\
 account root who=alice&rank=0 | ok
