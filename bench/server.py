@@ -93,7 +93,9 @@ def published_after_change(room):
     without = changes_then(room, database, [], count)
     took = (changes_then(room, database, [asked], count) - without) / count
     export = Profile(room.folder, [room.program, "export", "--db", database])
-    return Figures(took, export.within("::Registry::export::"), "instructions")
+    # All that the job does but opening the registry.
+    walk = export.within("::run_on::") - export.within("::open_at::")
+    return Figures(took, walk, "instructions")
 
 
 # -- beside a smaller registry
@@ -206,7 +208,7 @@ def submit_instructions(room):
             client.sendall(posted("/submit", "root", form.encode()))
             whole_reply(client)
 
-    return beside_obey(profiled(room, room.copy(small(room)), talk), "::serve_registry::")
+    return beside_obey(profiled(room, room.copy(small(room)), talk), "::serve_connection::")
 
 
 def line_instructions(room):
