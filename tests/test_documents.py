@@ -264,6 +264,8 @@ def test_page(cases, page):
     cases.equal("links that lead nowhere", sorted(broken_links(page)), [])
     cases.equal("lines and cells that are too wide", list(wide_lines(page)), [])
     cases.equal("words to change", list(words_to_change(page)), [])
+    unmerged = re.findall(r"^(?:<<<<<<<|=======|>>>>>>>)(?: .*)?$", text_of(page), re.M)
+    cases.equal("marks of a merge that did not end", unmerged, [])
 
 
 def test_readme(cases):
@@ -310,6 +312,9 @@ def test_architecture(cases):
     count, missing = missing_rooms()
     cases.equal("places that do not exist", missing, [])
     cases.equal("it names some", count > 100, True)
+    named = set(re.findall(r"`(pid_\w+)`", text_of("docs/ARCHITECTURE.md")))
+    crates = set(os.listdir(os.path.join(TOP, "crates")))
+    cases.equal("crates that do not exist", sorted(named - crates), [])
 
 
 def test_security(cases):

@@ -1,7 +1,7 @@
 //! The crash prefix, for the files that a program is given. Each law is the contract of a function
 //! that does nothing.
 //!
-//! A run opens the files by `open_database` of `Machine`, and `work_on` is a session on them. So
+//! A run opens the files by `open` of its `Host`, and the call of its job is a session on them. So
 //! what a run leaves are databases (`calls_leave_databases`), the next one finds one of them
 //! (`files_show_what_was_left`), and shows the history after a prefix of the commands of each run
 //! before (`runs_show_prefixes`).
