@@ -4,6 +4,7 @@ import re
 import shutil
 import subprocess
 import threading
+import time
 
 from rows import Fault, Skip
 
@@ -83,12 +84,19 @@ class Script:
 
     def time_of(self, lines):
         """The processor time of lines, each of which has a reply of one line."""
-        before = thread_time(self.process)
+        return self.used_for(lines, lambda: thread_time(self.process))
+
+    def wait_for(self, lines):
+        """The same, of wall."""
+        return self.used_for(lines, time.monotonic)
+
+    def used_for(self, lines, clock):
+        before = clock()
         writer = threading.Thread(target=self.write, args=(lines,))
         writer.start()
         for _ in range(lines.count(b"\n")):
             self.process.stdout.readline()
-        used = thread_time(self.process) - before
+        used = clock() - before
         writer.join()
         return used
 

@@ -48,9 +48,14 @@ def export_process(room):
 
 
 def keyed_lines(database, count):
-    """So many commands under keys: submissions and approvals, each a transaction with its receipt
-    and its commit."""
+    """So many commands under keys, on a file."""
     number = int(selected(database, "SELECT value FROM meta WHERE label = 'submissions'"))
+    return lines_after(number, count)
+
+
+def lines_after(number, count):
+    """Submissions and approvals, each a transaction with its receipt and its commit, after so many
+    submissions."""
     lines = []
     for at in range(count // 2):
         lines.append(f"submit bob key=k{at}&path=PC/{at:04x}&name=renamed")

@@ -3,6 +3,7 @@ import os
 import shutil
 import subprocess
 import sys
+import tempfile
 import time
 from functools import cached_property, lru_cache
 
@@ -13,6 +14,7 @@ from rows import Skip
 HERE = os.path.dirname(os.path.abspath(__file__))
 TOP = os.path.dirname(HERE)
 DEBIANS_FILE = "/usr/share/misc/pci.ids"
+IN_MEMORY = "/dev/shm"
 # Debian has nginx in a folder that only root's PATH names.
 os.environ["PATH"] = os.environ.get("PATH", os.defpath) + ":/usr/sbin:/sbin"
 
@@ -64,6 +66,12 @@ class Room:
 
     def path(self, name):
         return os.path.join(self.folder, name)
+
+    @cached_property
+    def in_memory(self):
+        """Another folder, in memory if there can be one."""
+        place = IN_MEMORY if os.access(IN_MEMORY, os.W_OK) else self.folder
+        return tempfile.TemporaryDirectory(dir=place)
 
     # -- programs
 
@@ -160,7 +168,7 @@ class Room:
 
     def registry(self, size):
         counts = map(self.sized, size)
-        return self.made(f"registry-{size[1]}", "filled", *counts)
+        return self.made(f"registry-{size[1]}-{size[2]}", "filled", *counts)
 
     @lru_cache(maxsize=None)
     def imported(self, name):

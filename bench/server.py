@@ -26,6 +26,10 @@ def large(room):
     return room.registry(LARGE)
 
 
+def all_pending(count):
+    return lambda room: room.registry((1_000, count, count))
+
+
 def profiled(room, database, talk, connections=1):
     """The instructions of a server that serves so many clients, each of whom talks."""
     port = free_port()
@@ -94,23 +98,39 @@ def published_after_change(room):
     took = (changes_then(room, database, [asked], count) - without) / count
     export = Profile(room.folder, [room.program, "export", "--db", database])
     # All that the job does but opening the registry.
-    walk = export.within("::run_on::") - export.within("::open_at::")
+    walk = export.within("::run_job::") - export.within("::open_at::")
     return Figures(took, walk, "instructions")
 
 
 # -- beside a smaller registry
 
 
-def of_both_sizes(target, smaller=small):
+def of_both_sizes(target, smaller=small, larger=large):
     """The same request of a large registry and of a smaller one."""
 
     def measure(room):
         times = []
-        for database in large(room), smaller(room):
+        for database in larger(room), smaller(room):
             asked = target(database)
             with our_server(room, database) as server:
                 times.append(server.ask(asked))
         return Figures(*times)
+
+    return measure
+
+
+def first_of_both(target):
+    """The first request after a start, of a large registry and of a small one."""
+
+    def first(room, database):
+        with our_server(room, database) as server, connected(server.port) as client:
+            return server.time_of(client, get(target))
+
+    def measure(room):
+        return Figures(*(
+            max(min(first(room, database) for _ in range(room.rounds(3))), 0.000_001)
+            for database in (large(room), small(room))
+        ))
 
     return measure
 
@@ -196,10 +216,11 @@ def submit_time(room):
 FORMS = [f"path=PC/{at:04x}&name=renamed" for at in range(200)]
 
 
-def beside_obey(profile, call):
-    """Submissions, beside what of them is in the registry's call that obeys them."""
-    figures = [profile.within(it) / len(FORMS) for it in (call, "::RegistryModerated::obey::")]
-    return Figures(*figures, "instructions")
+def beside_obey(profile, call, idle=0):
+    """Submissions, beside what of them is in the registry's call that obeys them. `idle` is what
+    the call takes without any."""
+    within = profile.within(call) - idle, profile.within("::RegistryModerated::obey::")
+    return Figures(*(it / len(FORMS) for it in within), "instructions")
 
 
 def submit_instructions(room):
@@ -208,7 +229,9 @@ def submit_instructions(room):
             client.sendall(posted("/submit", "root", form.encode()))
             whole_reply(client)
 
-    return beside_obey(profiled(room, room.copy(small(room)), talk), "::serve_connection::")
+    call = "::serving::serve::"
+    idle = profiled(room, room.copy(small(room)), lambda client: None).within(call)
+    return beside_obey(profiled(room, room.copy(small(room)), talk), call, idle)
 
 
 def line_instructions(room):
@@ -277,6 +300,9 @@ ROWS = [
     Row("pending", "`GET /pending`, ten of 1,000,000 / ten of 1,000", OURS,
         of_both_sizes(same("/pending")), 5, 1.5),
     Row("queue", "`GET /queue`, so", OURS, of_both_sizes(same("/queue")), 5),
+    Row("queue-first", "the same, first after a start", OURS, first_of_both("/queue"), 3),
+    Row("submissions-first", "`GET /submissions` for a path, so", OURS,
+        first_of_both("/submissions?path=PC/0000/0001"), 3),
     Row("submissions", "`GET /submissions`, the latest of 1,000,000 / of 1,000", OURS,
         of_both_sizes(same("/submissions")), 5),
     Row("submissions-none", "the same of an author with none, 1,000,000 / 10,000 submissions", OURS,
@@ -288,6 +314,8 @@ ROWS = [
     Row("account", "`GET /account`, 1,000,000 submissions / 1,000", OURS,
         of_both_sizes(same("/account?who=root")), 5),
     Row("status", "`GET /status`, so", OURS, of_both_sizes(same("/status")), 5),
+    Row("status-pending", "the same, 1,000,002 pending / 1,000 pending", OURS,
+        of_both_sizes(same("/status"), all_pending(1_000), all_pending(1_000_002)), 3),
     Row("changes", "`GET /changes`, nothing new, 100,000 items / 1,000 items", OURS,
         of_both_sizes(nothing_new), 5, 1.5),
     Row("changes-all", "`GET /changes`, 100,000 items, all changed / selects", KITS,

@@ -16,9 +16,12 @@
 #
 # Status 0: the copy is the registry's text at that revision or at a later one. Any other: nothing
 # was saved, and the next run begins where this one did; 1 comes with a line that begins with
-# `mirror:`, other faults are those of curl and of the tools. Where a registry was put back to an
-# earlier state, each run says so until the folder is emptied. Of the history each file is saved by
+# `mirror:`, other faults are those of curl and of the tools. Of the history each file is saved by
 # itself, after the text.
+#
+# A site shows an epoch, which is another one after each restore: the copy begins anew then, and the
+# run prints all items. Where the revision goes back and the epoch stays, or there is none, each run
+# says so until the folder is emptied.
 #
 # Each request says `Cache-Control: no-cache`, and a cache on the way has to ask the server then, as
 # RFC 9111 has it (nginx does with `proxy_cache_bypass $http_cache_control`). A text that a cache
@@ -102,9 +105,27 @@ check_signature() {
     gpgv -q --keyring "$key" "$2.asc" "$2" 2> "$new/said" || fault="$1 is not signed by the key"
 }
 
+# A registry that is another one than before, or was restored, counts anew.
+take_epoch() {
+    status=$(fetch -o "$new/epoch" -w '%{http_code}' "$server/epoch")
+    case $status in
+        200) ;;
+        404) return 0 ;;
+        *) fail "epoch: status $status" ;;
+    esac
+    [ "$(grep -cxE '[0-9a-f]{32}' "$new/epoch")" = 1 ] || fail "what came for /epoch is none"
+    if [ -e epoch ] && cmp -s epoch "$new/epoch"; then return 0; fi
+    if [ -e epoch ]; then
+        echo "mirror: the registry was restored, and the copy begins anew" >&2
+        rm -f revision
+        known=
+    fi
+    sync .
+    mv -f "$new/epoch" epoch
+}
+
 # Writes the changes since the copy's revision into a file, page by page up to one that is not full.
 # The revision is that of the first page: what comes later is printed the next time.
-latest=${known:-0}
 find_changes() {
     revision=
     after=
@@ -189,6 +210,7 @@ take_signed_text() {
 }
 
 mirror_text() {
+    latest=${known:-0}
     find_changes "$new/changes"
     reached=$revision
     if [ "$reached" = "$known" ] && [ -e "pci.ids${key:+.asc}" ]; then return 0; fi
@@ -261,5 +283,6 @@ mirror_history() {
     done
 }
 
+take_epoch
 mirror_text
 [ -z "$has_history" ] || mirror_history

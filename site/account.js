@@ -3,7 +3,7 @@
 // rank ask the registry for it.
 
 import { askedBy, request } from "./api.js";
-import { keep, recall } from "./kept.js";
+import { keep, recall } from "./browser_store.js";
 import { basicOf, secretsOf } from "./passwords.js";
 
 const PLACE = "held";

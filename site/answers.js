@@ -1,6 +1,6 @@
 // How many answers to one's proposals came since one looked.
 
-import { keep, recall } from "./kept.js";
+import { keep, recall } from "./browser_store.js";
 import { answersTo } from "./history.js";
 
 const placeOf = (account) => `answers:${account}`;

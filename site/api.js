@@ -3,7 +3,7 @@
 //   { refusal }            the registry refused it, with its number
 //   { trouble, certain }   no answer of the registry came; certain: the request did not reach it
 
-import { keep, recall } from "./kept.js";
+import { keep, recall } from "./browser_store.js";
 import { tell, untell } from "./notice.js";
 
 const SLOW = "The registry is slow to answer. Still waiting.";

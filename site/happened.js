@@ -2,7 +2,7 @@
 
 import { counted, el, link } from "./dom.js";
 import { hrefOf, wholeNumber } from "./paths.js";
-import { compared, shown, spelled } from "./shown.js";
+import { compared, shown, spelled } from "./safe_text.js";
 
 const STEPS = [["year", 31_536_000], ["month", 2_592_000], ["day", 86_400], ["hour", 3_600],
   ["minute", 60]];

@@ -2,8 +2,8 @@
 
 import { counted, el, fill } from "./dom.js";
 import { hrefOf, ownNumber } from "./paths.js";
-import { isArrivingBelow, note, notedOf } from "./place.js";
-import { shown } from "./shown.js";
+import { shown } from "./safe_text.js";
+import { isArrivingBelow, note, notedOf } from "./scroll_place.js";
 
 const CHUNK = 100;
 const ROW_REMS = 2.26;

@@ -1,35 +1,8 @@
-// Where the site begins, and which page an address shows.
-
-const PAGES = [
-  [/^\/$/, "home"],
-  [/^\/vendors$/, "list", "vendors"],
-  [/^\/classes$/, "list", "classes"],
-  [/^\/item\/(?<path>P[CDS]\/[0-9a-f/]+)$/, "item"],
-  [/^\/search$/, "search"],
-  [/^\/proposals\/(?<number>[1-9][0-9]{0,9})$/, "proposal"],
-  [/^\/propose$/, "propose"],
-  [/^\/queue$/, "queue"],
-  [/^\/decided$/, "decided"],
-  [/^\/recent(?:\/(?<day>[0-9]{4}-[0-9]{2}-[0-9]{2}))?$/, "recent"],
-  [/^\/check$/, "check", "check"],
-  [/^\/load$/, "check", "load"],
-  [/^\/mine$/, "mine"],
-  [/^\/people$/, "people"],
-  [/^\/join$/, "join"],
-  [/^\/password$/, "password"],
-  [/^\/(help|about)$/, "help"],
-  [/^\/guide$/, "guide"],
-];
+// Where the site begins.
 
 // A page that isn't seen has no frames.
 const UNSEEN_AFTER = 100;
 const FAILED = "This page couldn't be loaded whole. Load it again.";
-
-/** The page at a path: what its path is like, its file, and its name there. */
-export const pageAt = (pathname) => PAGES.find(([form]) => form.test(pathname));
-
-/** The files of all pages. */
-export const files = [...new Set(PAGES.map(([, file]) => file))];
 
 // What index.html has is painted first: the modules would keep the processor from it.
 function painted() {
@@ -39,9 +12,14 @@ function painted() {
   });
 }
 
-painted().then(() => {
+// The file of the page is fetched beside the others, and asked for again by the router.
+async function fetchPage() {
+  const { pageAt } = await import("./routes.js");
   const [, file] = pageAt(location.pathname) ?? [];
-  // Fetched beside the others, and asked for again by the router.
-  if (file) import(`./pages/${file}.js`).catch(() => {});
+  if (file) await import(`./pages/${file}.js`);
+}
+
+painted().then(() => {
+  fetchPage().catch(() => {});
   return import("./site.js");
 }).catch(() => document.getElementById("main").append(FAILED));

@@ -1,7 +1,7 @@
 // Reasons of rejections: ready ones, and those that this browser used last.
 
+import { keep, recall } from "./browser_store.js";
 import { el } from "./dom.js";
-import { keep, recall } from "./kept.js";
 
 const PLACE = "reasons";
 const MOST_USED = 4;

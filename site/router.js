@@ -1,11 +1,11 @@
 // Which page an address shows, and going from one to the next without loading anew.
 
+import { appear } from "./deliberate_button.js";
 import { el, fill, link } from "./dom.js";
-import { files, pageAt } from "./main.js";
 import { tell, untell } from "./notice.js";
-import { failed, title, titleOf } from "./parts.js";
-import { arriveAt, keepPlace } from "./place.js";
-import { appear } from "./steady.js";
+import { files, pageAt } from "./routes.js";
+import { arriveAt, keepPlace } from "./scroll_place.js";
+import { failed, title, titleOf } from "./widgets.js";
 
 const LOADING = "Loading …";
 const LOADING_AFTER = 300;

@@ -3,27 +3,28 @@
 // All that the others import too: it is fetched at once, not level by level.
 import "./answers.js";
 import "./api.js";
+import "./browser_store.js";
 import "./dom.js";
 import "./happened.js";
 import "./history.js";
 import "./joining.js";
-import "./kept.js";
 import "./limits.js";
 import "./login.js";
 import "./notice.js";
-import "./parts.js";
 import "./passwords.js";
 import "./paths.js";
-import "./place.js";
-import "./shown.js";
+import "./routes.js";
+import "./safe_text.js";
+import "./scroll_place.js";
+import "./widgets.js";
 import "./words.js";
 
 import { restoreAccount } from "./account.js";
+import { refuseHeldKeys } from "./deliberate_button.js";
 import { startFeeds } from "./feeds.js";
 import { startHeader } from "./header.js";
 import { load } from "./names.js";
 import { loadPages, startRouter } from "./router.js";
-import { refuseHeldKeys } from "./steady.js";
 
 const QUIET_AFTER = 1_000;
 
@@ -40,7 +41,7 @@ addEventListener("drop", keepPage);
 startHeader();
 startFeeds();
 startRouter().then(() => {
-  import("./bar.js");
+  import("./status_bar.js");
   // What later pages need is fetched when there is time, and where data isn't spared.
   if (!navigator.connection?.saveData) setTimeout(() => { load(); loadPages(); }, QUIET_AFTER);
 });

@@ -3,7 +3,7 @@
 import { fill } from "./dom.js";
 import { areAtHand } from "./names.js";
 import { tell } from "./notice.js";
-import { COPY_WORDS, titleOf } from "./parts.js";
+import { COPY_WORDS, titleOf } from "./widgets.js";
 
 // A registry that is near answers within a moment. Names that have to be fetched for it wait longer:
 // the page of the item is there meanwhile, as it was published.

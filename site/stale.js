@@ -3,9 +3,9 @@
 import { el, link } from "./dom.js";
 import { cause } from "./happened.js";
 import { datesOf, namesOf } from "./history.js";
-import { wishOf } from "./parts.js";
-import { shown } from "./shown.js";
+import { shown } from "./safe_text.js";
 import { submissionsFor } from "./submissions.js";
+import { wishOf } from "./widgets.js";
 
 /**
  * What changed: approved, the later proposals that were approved; changes, those of the history

@@ -4,9 +4,9 @@ import { ask } from "./api.js";
 import { el, link, several } from "./dom.js";
 import { when } from "./happened.js";
 import { datesOf } from "./history.js";
-import { stateMark, wishOf } from "./parts.js";
 import { spoken } from "./paths.js";
-import { shown } from "./shown.js";
+import { shown } from "./safe_text.js";
+import { stateMark, wishOf } from "./widgets.js";
 
 // The registry looks at so many submissions for a page that it may have few rows, or none, though
 // more follow. Then it is asked on.

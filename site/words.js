@@ -69,6 +69,8 @@ const TROUBLES = {
   odd: "The server's answer can't be understood here.",
   file: "The file isn't held any more since the page was loaded again. Choose it once more.",
   account: "Another account is logged in by now.",
+  restored: "The registry was restored from a backup since this was sent, and the number may be"
+    + " another proposal's by now. Look at it before you decide anew.",
   elsewhere: "Another tab is sending it.",
   forgotten: "It was forgotten in another tab, so it isn't sent again.",
   undone: "It was taken back.",

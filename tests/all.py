@@ -2,14 +2,15 @@
        tests/run [--no-install] [PART..] [ARGUMENT OF PYTEST..]
 
 Tries the built program against files and real peers: all parts, or those that are named. Programs
-that are missing or older than a source are built before that, and Debian's packages that these
-parts need are installed; with --no-install the tests that need one that is missing are skipped.
-`first` builds nothing but the first program, and tries that: tidy, check and help.
+that they try are built before that if they are missing or older than a source, and Debian's
+packages that they need are installed; with --no-install the tests that need one that is missing are
+skipped. `first` builds nothing but the first program, and tries that: tidy, check and help.
 
   tests/run words::test_tidy              one test of a part
   tests/run -k refused -x                 tests by a part of their names, up to the first failure
   tests/run words -n 0 -s                 without other processes, and with what is printed
   tests/run refusing --all -k migrate     each call refused, in place of a sample
+  tests/run journal_kills --all           a server killed 1,000 times, in place of 40
   PCIIDS=/usr/bin/pciids tests/run        an installed program; nothing is built
   PCIIDS_SAMPLE=123 tests/run migrate     the calls that a run with that sample refused
 
@@ -19,6 +20,7 @@ last line is 'N passed, N failed', followed by ', N skipped' if cases were skipp
 """
 import glob
 import os
+import subprocess
 import sys
 import textwrap
 import traceback
@@ -38,6 +40,8 @@ FOLDERS = {"": len(os.sched_getaffinity(0)), "service": 99, "site": 3, "alone": 
 ALONE = ("progress", "serving", "serving_memory", "site_access")
 # Where tests of the first program are: those that have the mark `first`.
 OF_FIRST = ("fault_gallery", "limits", "lspci", "real_file", "words", "worked_rows")
+# What tries no program.
+OF_SOURCES = ("apt", "building", "contracts", "documents", "harness", "style")
 
 
 def files_of_parts():
@@ -54,6 +58,28 @@ def folder_of(part, path):
 def help_text():
     parts = textwrap.fill(" ".join(files_of_parts()), 96)
     return f"{__doc__}\nThe parts are:\n{textwrap.indent(parts, '  ')}"
+
+
+def is_current(build, name):
+    """Whether no source is newer than a program, nor a folder from which one was removed."""
+    path = os.path.join(build.folder(name), "out", name)
+    crates = [*build.below(build.read_uses(), name), name]
+    places = [os.path.join(build.folder(it), part) for it in crates for part in build.SOURCES]
+    words = ["find", *filter(os.path.isdir, places), os.path.join(program.TOP, "crates.txt")]
+    words += ["-newer", path, "-print", "-quit"]
+    return os.access(path, os.X_OK) and not subprocess.check_output(words)
+
+
+def fault_of_building(names):
+    """Builds what isn't current of these programs. Returns why they can't be tried, or None."""
+    sys.path.append(os.path.join(program.TOP, "tools"))
+    import build
+    for name in (it for it in names if not is_current(build, it)):
+        print(f"{name}: missing, or older than a source: proving and building it")
+        words = [sys.executable, "-B", build.__file__, name]
+        if subprocess.call(words, stdin=subprocess.DEVNULL) or not is_current(build, name):
+            return f"{name} was not built, or a source changed meanwhile"
+    return None
 
 
 def run_pytest(tests, words, counts):
@@ -89,9 +115,8 @@ def main(words, counts):
     fault = program.fault_of_installed()
     if prepares and not fault:
         apt.make_ready([files[part] for part, *_ in parts], installs)
-    if prepares and program.INSTALLED is None:
-        import prepare
-        fault = prepare.fault_of(["pid_cli_first"] if is_first else ["pid_cli_first", "pid_cli"])
+    if prepares and program.INSTALLED is None and {it for it, *_ in parts} - {*OF_SOURCES}:
+        fault = fault_of_building(["pid_cli_first", "pid_cli"][:1 if is_first else 2])
     if fault or not all(map(find_spec, ("pytest", "pytest_timeout", "xdist"))):
         return fault or f"tests/run: needs Debian's packages {', '.join(sorted(apt.PYTEST))}"
     if program.INSTALLED is not None:

@@ -10,7 +10,7 @@ from shims import ROOM, build_shims
 
 
 def pytest_addoption(parser):
-    parser.addoption("--all", action="store_true", help="refuse each call, where a sample is tried")
+    parser.addoption("--all", action="store_true", help="try all, where a sample is tried")
 
 
 def pytest_unconfigure(config):

@@ -4,14 +4,17 @@
 `tests/promise.py NUMBER` prints it in one piece, in the order of reading: the contracts of the
 promise's calls; the definitions that these reach, each file before those that it cites; the types
 of the sources that the definitions name; and the names that they have from the toolchain, with the
-file of each. `tests/promise.py 7 | less` is the reading of the headline.
+file of each. `tests/promise.py 7 | less` is the reading of the headline, and
+`tests/promise.py 7 --first | less` that of its first hour, which leaves shut what clauses hand on
+to each other and what other promises speak of.
 """
 import os
 import re
 import signal
 import sys
 
-from reading_list import CRATES, PROMISES, TOP, Sources, Specs, cited_first, lines_of, order
+from reading_list import (
+    CRATES, HANDED_ON, OF_OTHERS, PROMISES, TOP, Sources, Specs, cited_first, lines_of, order)
 
 NAMES = r"\b(\w+)\.([^\s(){}\[\].,;:]+)"
 
@@ -27,8 +30,8 @@ def contracts(sources, calls):
     for call in calls:
         lines, contract = sources.contract(call)
         at = next(i for i, line in enumerate(lines)
-                  if re.match(rf"\s*pub fn {call.rpartition('::')[2]}\b", line))
-        yield f"{sources.places[call]}:{at + 1}\n{contract}"
+                  if re.match(rf"\s*(?:pub )?fn {call.rpartition('::')[2]}\b", line))
+        yield f"{sources.places[call]}:{at + 1}\n" + re.sub(r"\n\s*\{(\})?$", "", contract)
 
 
 def definitions(specs, keys, first):
@@ -72,16 +75,17 @@ def types(named):
         lines = lines_of(path)
         at = next(i for i, line in enumerate(lines) if re.match(
             rf"pub(\(crate\))? (struct|enum|trait|const) {inner[-1]}\b", line))
-        end = next(i for i in range(at, len(lines)) if lines[i] == "}" or lines[i].endswith(";"))
+        ends = re.compile(r"}" if lines[at].startswith("pub trait") else r"}|.*;")
+        end = next(i for i in range(at, len(lines)) if ends.fullmatch(lines[i]))
         yield f"{os.path.relpath(path, TOP)}:{at + 1}\n" + "\n".join(lines[at:end + 1])
 
 
-def reading(number):
-    """All that is to be read for a promise, in parts."""
+def reading(number, shut=frozenset()):
+    """All that is to be read for a promise, in parts, if some definitions stay shut."""
     specs, sources = Specs(), Sources()
     calls = PROMISES[number - 1][1]
-    first = list(cited_first(specs, sources, calls))
-    keys = specs.reached(first)
+    first = [it for it in cited_first(specs, sources, calls) if it[1] not in shut]
+    keys = specs.reached(first, shut)
     named = set(others(specs, keys))
     declared = {it for it in named if ".specs.declared." in it[0]
                 and os.path.isdir(os.path.join(CRATES, it[0].split(".")[1]))}
@@ -93,15 +97,20 @@ def reading(number):
     yield from definitions(specs, keys, first)
     yield from dict.fromkeys(types(declared))
     yield ("From the toolchain, below the folder `rattle` next to the page that `rt doc` prints;\n"
-           "if a file is not there, `specs/Lib.antt` of its crate says where it is:")
+           "if a file is not there, `specs/Lib.antt` of its crate says where it is. A name below\n"
+           "`declared` is a type: `grep -rnwE '(struct|enum|trait) NAME' */src` finds it.")
     yield "\n".join(f"{it}: {', '.join(sorted(kit[it]))}" for it in sorted(kit))
     size = sum(specs.definitions[key].size for key in keys)
     yield f"{len(keys)} definitions, {size:,} lines"
 
 
 def main(words):
+    if words == ["7", "--first"]:
+        shut = HANDED_ON | OF_OTHERS
+        print("\n\n".join(reading(7, shut)), "without " + ", ".join(sorted(shut)), sep="; ")
+        return 0
     if len(words) != 1 or words[0] not in map(str, range(1, len(PROMISES) + 1)):
-        print(f"usage: promise.py NUMBER, from 1 to {len(PROMISES)}", file=sys.stderr)
+        print(f"usage: promise.py NUMBER, from 1 to {len(PROMISES)}; or 7 --first", file=sys.stderr)
         return 2
     print("\n\n".join(reading(int(words[0]))))
     return 0

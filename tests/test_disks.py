@@ -1,7 +1,6 @@
 """Registry files that cannot be had, on real file systems: each command reports it as the manual
 page says, and leaves every file as it was; and disks that are full, where nothing that was
 acknowledged is lost and there is room again later."""
-import contextlib
 import os
 import shutil
 import subprocess
@@ -9,8 +8,9 @@ import tempfile
 
 import pytest
 
+from disks import mounted_anew, small_disk
 from http_server import free_port
-from program import HEADER, WHOLE, Skip
+from program import HEADER, WHOLE
 from registry import asked, bring_in, copied, script, work
 
 pytestmark = pytest.mark.needs("sqlite3")
@@ -112,26 +112,6 @@ def test_not_allowed(cases, folder):
     cases.equal(
         "allowed again", work(b"", "export", "--db", path), (HEADER + b"8086  Intel\n", b"", 0)
     )
-
-
-@contextlib.contextmanager
-def small_disk(folder, size):
-    """A file system in memory of so many kilobytes; without one the test is skipped."""
-    place = os.path.join(folder, "disk")
-    os.makedirs(place, exist_ok=True)
-    words = ["mount", "-t", "tmpfs", "-o", f"size={size}k", "pciids-test", place]
-    has_mount = shutil.which("mount") is not None
-    had = has_mount and subprocess.run(words, stderr=subprocess.DEVNULL).returncode == 0
-    if not had:
-        raise Skip("no tmpfs can be mounted here")
-    try:
-        yield place
-    finally:
-        subprocess.run(["umount", place], check=True)
-
-
-def mounted_anew(place, how):
-    subprocess.run(["mount", "-o", f"remount,{how}", place], check=True)
 
 
 def test_read_only(cases, folder):

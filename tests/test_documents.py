@@ -18,6 +18,8 @@ from words_to_change import found_in
 
 WIDEST, WIDEST_ROW, WIDEST_CELL = 100, 120, 100
 README_LINES = 130
+# How many wrong bodies the gate tries, and how many are tried on demand.
+MOST_EDITS = (80, 200)
 # Folders beside crates/.
 OUTSIDE = ("tests/", "site/", "deploy/", "docs/")
 
@@ -345,7 +347,8 @@ def test_promise(cases):
     """What tests/promise.py prints: all that the page lists, with the types that it names."""
     specs = reading_list.Specs()
     lost = sorted(it for it in promise.others(specs, specs.definitions)
-                  if it[0].startswith("Rattle.pid_") and ".declared." not in it[0])
+                  if it[0].startswith("Rattle.pid_")
+                  and not re.search(r"\.specs\.(declared|contracts)\.", it[0]))
     cases.equal("names in specs that lead to no definition", lost, [])
     rows = re.findall(r"^\| (\d+)\. .*\| ([\d,]+) \| ([\d,]+) \|$", reading_list.shown_part(), re.M)
     for number, count, size in rows:
@@ -354,11 +357,39 @@ def test_promise(cases):
     headline = [part.partition("\n")[2] for part in promise.reading(7)]
     for start in ("pub trait Output", "pub enum Reply", "pub struct Registry"):
         cases.equal(f"promise 7: {start}", any(it.startswith(start) for it in headline), True)
+    trait = next(it for it in headline if it.startswith("pub trait Output"))
+    cases.equal("promise 7: what a trait says of its values", "ghost write_fault" in trait, True)
+
+
+def test_first_reading(cases):
+    """The counts that HEADLINE.md has of what is read first, of what other promises speak of, and
+    of all; and no name is shut that the law does not reach."""
+    shut = reading_list.HANDED_ON | reading_list.OF_OTHERS
+    lasts = [list(promise.reading(7, names))[-1] for names in (shut, reading_list.HANDED_ON, ())]
+    (first, lines), (_, more), (all_of_them, most) = (
+        [int(it) for it in re.findall(r"\d+", last.replace(",", ""))] for last in lasts)
+    text = " ".join(text_of("docs/HEADLINE.md").split())
+    for said in (f"{first} definitions, {lines} lines", f"{more - lines} lines more",
+                 f"its {all_of_them} definitions", f"prints all {most:,}"):
+        cases.equal(f"HEADLINE.md: {said}", said in text, True)
+    specs = reading_list.Specs()
+    calls = reading_list.PROMISES[6][1]
+    reached = specs.reached(reading_list.cited_first(specs, reading_list.Sources(), calls))
+    cases.equal("names that are shut and not reached", shut - {name for _, name in reached}, set())
 
 
 def test_edits(cases):
     shown, printed = edit_list.shown_part(), edit_list.page_part()
     cases.equal("PROOFS.md: wrong bodies (run tests/edit_list.py)", shown == printed, True)
+    for folder, most in zip(edit_list.FOLDERS, MOST_EDITS):
+        count = sum(len(edit_list.edits(it, folder)) for it in edit_list.crates())
+        cases.equal(f"at most {most} of {folder}", count <= most, True)
+    known = re.findall(r"^## (\d+)\. ", text_of("docs/PROMISES.md"), re.M)
+    for crate in edit_list.crates():
+        cases.equal(f"{crate}: texts that do not stand once", list(edit_list.faults(crate)), [])
+        others = [os.path.basename(it) for it in edit_list.edits(crate, "edits-on-demand")
+                  if edit_list.promise(it) not in known]
+        cases.equal(f"{crate}: edits on demand that name no promise", others, [])
 
 
 def test_evidence(cases):
@@ -368,8 +399,8 @@ def test_evidence(cases):
     ran = subprocess.run([os.path.join(TOP, "tests", "evidence.py")], capture_output=True,
                          text=True, timeout=60)
     printed = {line.strip() for line in ran.stdout.splitlines()}
-    cases.equal("evidence.py: a public function", "Registry::obey" in printed, True)
-    body = "is_live: failed_registry_called_live"
+    cases.equal("evidence.py: a public function", "Registry::run" in printed, True)
+    body = "is_live: failed_registry_called_live (promise 6)"
     cases.equal("evidence.py: a wrong body", body in printed, True)
     cases.equal("evidence.py: status", ran.returncode, 0)
 
@@ -398,16 +429,19 @@ def fields_left_out(quote):
 
 def test_headline(cases):
     """Each definition that the page quotes is so in a file of specs; and where a quote of a record
-    is cut, the page says so."""
-    parts = text_of("docs/HEADLINE.md").split("```\n")
-    quotes, specs = parts[1::2], []
+    is cut, the comment before it says so."""
+    blocks = text_of("docs/HEADLINE.md").split("```\n")[1::2]
+    parts = [it for block in blocks for it in re.split(r"^(?=-- \d+\. )", block, flags=re.M) if it]
+    specs = []
     for path in glob.glob(os.path.join(TOP, "crates", "*", "specs", "**", "*.antt"),
                           recursive=True):
         with open(path, encoding="utf-8") as file:
             specs.append(" ".join(file.read().split()))
-    cases.equal("HEADLINE.md: it quotes definitions", len(quotes) >= 10, True)
-    for quote, after in zip(quotes, parts[2::2]):
+    cases.equal("HEADLINE.md: it quotes nine definitions", len(parts), 9)
+    for part in parts:
+        comment, quote = re.fullmatch(r"((?:--[^\n]*\n)+)(.*)", part, re.S).groups()
         words = " ".join(quote.split())
         cases.equal(f"HEADLINE.md: {words[:60]}", any(words in it for it in specs), True)
         cut = bool(fields_left_out(quote))
-        cases.equal(f"HEADLINE.md: cut {words[:60]}", "more fields" in after[:40], cut)
+        said = "more field" in comment.replace("\n-- ", " ")
+        cases.equal(f"HEADLINE.md: cut {words[:60]}", said, cut)

@@ -352,10 +352,11 @@ def test_lock_of_the_file(cases, unit):
 ADDUSER = os.path.join(TOP, "deploy", "bin", "pciids-adduser")
 
 
-def adduser(unit, *words, **more):
+def adduser(unit, *words, settings=(), **more):
     """The status of pciids-adduser and what it prints."""
-    ran = subprocess.run([ADDUSER, *words], env={**os.environ, **unit.environment()}, text=True,
-                         stdout=subprocess.PIPE, stderr=subprocess.STDOUT, timeout=120, **more)
+    environment = {**os.environ, **unit.environment(), **dict(settings)}
+    ran = subprocess.run([ADDUSER, *words], env=environment, text=True, stdout=subprocess.PIPE,
+                         stderr=subprocess.STDOUT, timeout=120, **more)
     return ran.returncode, ran.stdout
 
 
@@ -392,6 +393,9 @@ def test_adduser(cases, unit):
     today = time.strftime("%Y-%m-%d", time.gmtime())
     want = [f"guestax 1 open joined {today}", f"guestbx 1 locked joined {today}", "hosta 1 open"]
     cases.equal("the list", [it for it in want if it not in told], [])
+    status, told = adduser(unit, "--list", settings={"PCIIDS_SOCKET": "/nowhere"})
+    said = "pciids-adduser: the registry does not answer"
+    cases.equal("without a registry", (status, told.splitlines()[-1]), (1, said))
     cases.equal("open again", adduser(unit, "--unlock", "guestbx")[0], 0)
     unit.asked("POST", "/password", {"verifier": verifier("hosta")}, account="hosta")
     got = [adduser(unit, it, "hosta") for it in ("--lock", "--unlock")]

@@ -1,6 +1,7 @@
 """Every submission for a path and of an author, page by page, beside what sqlite3 selects."""
 import json
 import os
+import re
 
 import pytest
 
@@ -104,3 +105,28 @@ def test_commands_are_followed(cases, folder):
     for search, old, got in zip(searches, before, after):
         cases.equal(f"{search} with the new ones", got, [MANY + 2, MANY + 1, *old])
         cases.equal(f"{search} beside sqlite3", got, selected(path, search))
+
+
+FIRST = ("/status", "/pending", "/queue", "/children", "/submissions?path=PC/1af4")
+
+
+def read_by(server):
+    """How many bytes the server has read so far, from files and clients."""
+    with open(f"/proc/{server.process.pid}/io", encoding="ascii") as file:
+        return int(re.search(r"^rchar: (\d+)$", file.read(), re.M)[1])
+
+
+@pytest.mark.parametrize("journal", (None, "journal"))
+def test_first_questions(cases, folder, journal):
+    """The first question after a start does not go through all submissions, of which each is long:
+    what the server keeps of them was read before it listened."""
+    path = os.path.join(folder, "first.db")
+    made(path)
+    asked(path, "UPDATE submission SET note = printf('%.*c', 1000, 'x')")
+    place = journal and os.path.join(folder, journal)
+    with Server(path, program=WHOLE, journal=place) as server:
+        for target in FIRST:
+            before = read_by(server)
+            cases.equal(target, server.curl(target)[0], 200)
+            read = read_by(server) - before
+            cases.equal(f"{target}: few bytes, and not {read}", read < 1_500_000, True)

@@ -1,5 +1,5 @@
-"""The progress of an import or an export: shown on standard error, only at a terminal, if it takes
-over a second."""
+"""The progress of an import, an export, and an opening that obeys a journal: shown on standard
+error, only at a terminal, if it takes over a second."""
 import os
 import re
 import subprocess
@@ -8,8 +8,9 @@ import time
 
 import pytest
 
+from journal_room import lose, name_of
 from program import HEADER, WHOLE
-from registry import bring_in, script
+from registry import asked, bring_in, script
 from terminals import read_all
 
 LINES = [b"%04x  A vendor of the number %d\n" % (vendor, vendor) for vendor in range(20_000)]
@@ -123,3 +124,24 @@ def test_short_import_and_long_export(cases, folder):
     out, told, ended = slow_export(db, False)
     cases.equal("a long export, with a pipe", (out == HEADER + TEXT, told, ended), (True, b"", 0))
     both_at_terminal(cases, db)
+
+
+def test_long_replay(cases, room):
+    """A registry that is new obeys the lines of its journal."""
+    db, journal = os.path.join(room, "db"), os.path.join(room, "journal")
+    os.mkdir(journal)
+    with open(os.path.join(journal, name_of(0)), "w") as file:
+        for number in range(30_000):
+            file.write(f"# time=1&revision={number}&accounts=1&items=0&submissions={number}\n"
+                       "submit root path=PC/8086&name=Intel&note=\n\n")
+    for at_terminal in (True, False):
+        lose(db)
+        script(db)
+        out, told, ended = Running(at_terminal, "script", "--db", db, "--journal", journal).ended()
+        name = f"a long replay, {'at a terminal' if at_terminal else 'with a pipe'}"
+        cases.equal(name, (out, ended), (b"", 0))
+        cases.equal(f"{name}: all of it", asked(db, "SELECT count(*) FROM submission"), "30000\n")
+        if at_terminal:
+            is_told(cases, name, told, b"replaying the journal")
+        else:
+            cases.equal(f"{name}: nothing is shown", told, b"")

@@ -226,20 +226,24 @@ def run_refusing(shim, at, database, turn):
         return client.wrong, pipe.read(1) == b"!", client.refused
 
 
-def is_begun(shim, at):
-    """Whether a server listens whose call number `at` is refused."""
-    with tempfile.TemporaryDirectory(dir=ROOM) as folder:
-        with Server(
-            os.path.join(folder, "r.db"),
-            program=WHOLE,
-            env=dict(os.environ, LD_PRELOAD=shim, REFUSE_AT=str(at)),
-        ) as server:
-            return server.first_line != b""
+def is_behind_opening(shim, at):
+    """Whether call number `at` comes after a server listens. One that is refused what it keeps in
+    memory listens nevertheless."""
+    told, telling = os.pipe()
+    os.set_blocking(told, False)
+    environment = dict(os.environ, LD_PRELOAD=shim, REFUSE_AT=str(at), REFUSE_FD=str(telling))
+    with tempfile.TemporaryDirectory(dir=ROOM) as folder, os.fdopen(told, "rb", 0) as pipe:
+        path = os.path.join(folder, "r.db")
+        with Server(path, program=WHOLE, env=environment, pass_fds=[telling]) as server:
+            os.close(telling)
+            return server.first_line != b"" and pipe.read(1) != b"!"
 
 
 def first_behind_opening(shim):
-    """The first call that may be refused to a server that listens nevertheless."""
-    return 1 + bisect.bisect_left(range(1, 100_000), True, key=lambda at: is_begun(shim, at))
+    """The first call that may be refused to a server that listens."""
+    return 1 + bisect.bisect_left(
+        range(1, 100_000), True, key=lambda at: is_behind_opening(shim, at)
+    )
 
 
 def refuse_in_turn(cases, shim, turn):

@@ -213,6 +213,8 @@ def limited(cases, database):
         ),
     }
     with Serving(database) as server:
+        # So the text that it keeps is dropped.
+        cases.equal("a file", server.raw(posted("/import", "root", VENDORS)), counts(0, 65_536))
         size = server.told("VmData") * KIB + 2 * FEW * KIB
         resource.prlimit(server.process.pid, resource.RLIMIT_DATA, (size, size))
         for name, (sent, want) in requests.items():

@@ -1,12 +1,14 @@
 """A script over a file with its disk stopped at each call in turn, and with every seventh request
 for memory refused, others in each run: the file holds what some of the commands came to, the first
-ones, and at least those that were answered."""
+ones, and at least those that were answered. With a journal on the same disk, and on another one,
+so does a registry that is opened anew, and one whose file is gone by then."""
 import os
 import tempfile
 
 import pytest
 
-from registry import asked, copied, script
+from journal_room import lose
+from registry import asked, copied, script, work
 from shims import ROOM, SAMPLE, first_of, run_refusing
 
 LINES = [
@@ -82,3 +84,37 @@ def test_stops(cases, shims, name, step, least):
     refusals = refuse_in_turn(cases, shims[name], name, step)
     print(f"{name}: {refusals} calls refused, one in each run; sample {SAMPLE}")
     cases.equal(f"{name}: calls were refused", refusals >= least, True)
+
+
+def opened(path, journal):
+    """What a file holds once it was opened with its journal."""
+    told = work(b"", "script", "--db", path, "--journal", journal)
+    return state(path) if told == (b"", b"", 0) else told
+
+
+def stopped_at(shim, at, within):
+    """A run with a journal whose disk stops at a call: the replies and the status, what the file
+    then holds, what once it was opened and what once it was gone, and whether there was a call."""
+    with tempfile.TemporaryDirectory(dir=ROOM) as folder:
+        path, journal = os.path.join(folder, "r.db"), os.path.join(folder, "journal")
+        words = ("script", "--db", path, "--journal", journal)
+        (out, _, status), was_refused = run_refusing(shim, at, TEXT, *words, within=within)
+        found = [state(path), opened(path, journal)]
+        lose(path)
+        return out.splitlines(True), status, [*found, opened(path, journal)], was_refused
+
+
+@pytest.mark.needs("gcc", "libc6-dev", "sqlite3")
+@pytest.mark.parametrize("within", [None, "/r.db", "/journal"])
+def test_with_journal(cases, shims, within):
+    """The disk of both, that of the registry, and that of the journal."""
+    for at in range(1, 100_000):
+        replies, status, found, was_refused = stopped_at(shims["refuse_disk"], at, within)
+        is_good = [is_allowed(replies, status, it) for it in found] + [found[1] == found[2]]
+        name = f"{within or 'both'} {at}: replies {replies}, status {status}, {found}"
+        cases.equal(name, is_good, [True] * 4)
+        if not was_refused:
+            break
+    cases.equal("the whole script", (replies, status, found), (REPLIES, 0, [STATES[-1]] * 3))
+    print(f"{within or 'both'}: {at - 1} calls refused, one in each run")
+    cases.equal("calls were refused", at > 12, True)

@@ -184,6 +184,59 @@ def test_registry_in_use(cases, folder):
     os.chmod(folder, 0o755)
 
 
+def journaled(folder, name, commands):
+    """A registry that was given so many commands without a journal, and the journal that begins
+    there."""
+    db, journal = os.path.join(folder, f"{name}.db"), os.path.join(folder, name)
+    lines = "".join(f"account root who={name}{at}&rank=0\n" for at in range(commands))
+    without([program.WHOLE, "script", "--db", db], lines.encode())
+    without([program.WHOLE, "script", "--db", db, "--journal", journal])
+    return db, journal
+
+
+def test_journals(cases, folder):
+    """A journal that does not fit, that cannot be had, or that another program has."""
+    (one, first), (other, later) = (journaled(folder, *it) for it in (("a", 0), ("b", 2)))
+    lines = b"submit root path=PC/8086&name=Intel\n" * 3
+    without([program.WHOLE, "script", "--db", one, "--journal", first], lines)
+    file = os.path.join(folder, "file")
+    shutil.copy(one, file)
+    new, there = os.path.join(folder, "new.db"), os.path.join(folder, "none", "journal")
+    failed = "cannot open {}: {}"
+    for db, journal, fault, said in (
+        (other, first, "Another", "{} is the journal of another registry: nothing was changed"),
+        (new, later, "Missing", "{} begins after the registry, or lacks a file in between"),
+        (one, there, "failed", failed.format("{}", "there is no such folder")),
+        (one, file, "failed", failed.format("{}", "it is no folder")),
+    ):
+        for words in (["script"], ["serve", "--port", str(free_port())]):
+            words = [*words, "--db", db, "--journal", journal]
+            wanted = b"", f"journal: {fault}\n".encode(), 3
+            tells(cases, f"{words[0]}: {fault}", words, wanted, said.format(journal))
+    words = [program.WHOLE, "script", "--db", one, "--journal", first]
+    with subprocess.Popen(words, stdin=subprocess.PIPE, stdout=subprocess.PIPE) as holder:
+        holder.stdin.write(b"read path=PC/8086\n")
+        holder.stdin.flush()
+        cases.equal("the other program", holder.stdout.readline(), b"refused 25 NoItem\n")
+        why = "another program has it open; fuser -v FOLDER/lock shows which"
+        words = ["script", "--db", new, "--journal", first]
+        tells(cases, "in use", words, (b"", b"journal: failed\n", 3), failed.format(first, why))
+        holder.stdin.close()
+
+
+def test_gap(cases, folder):
+    """Commands that a registry was given without its journal."""
+    db, journal = journaled(folder, "a", 0)
+    words = [program.PROGRAM, "script", "--db", db, "--journal", journal]
+    said = "lacks commands that the registry was given without it; a new segment begins"
+    for number, ran in enumerate((without, at_terminal)):
+        lines = "".join(f"account root who=b{number}{at}&rank=0\n" for at in range(2))
+        without([program.WHOLE, "script", "--db", db], lines.encode())
+        more = f"pciids: {journal} {said}\n".encode() if ran is at_terminal else b""
+        cases.equal("a gap", ran(words), (b"", b"journal: gap\n" + more, 0))
+        cases.equal("once", ran(words), (b"", b"", 0))
+
+
 def test_ports(cases, folder):
     """A port that another program has, and one that the user may not use."""
     db, failed = new_registry(folder), (b"", b"socket: failed\n", 3)

@@ -49,7 +49,7 @@ def has_shown_version():
         return b"2023.04.10" in file.read(1_000)
 
 
-@pytest.mark.needs("curl", "pci.ids", "sqlite3")
+@pytest.mark.needs("curl", "pci.ids")
 def test_tour(cases, folder):
     with open(os.path.join(TOP, "README.md"), encoding="utf-8") as page:
         tour = re.search(r"^## A tour$(.*?)^## ", page.read(), re.M | re.S).group(1)

@@ -96,6 +96,8 @@ class Progress(threading.Thread):
         """Says what is new."""
         self.explain()
         with self.build.changed:
+            if self.build.broken and not self.build.running:
+                return
             proved, before = self.build.proved[self.named :], self.named + 1
             lines = [self.line(f"{it} is proved: ", at) for at, it in enumerate(proved, before)]
             lines = lines or [self.line()]

@@ -16,7 +16,7 @@ _pciids() {
     elif [[ $word == -* ]]; then
         mapfile -t COMPREPLY < <(compgen -W "$(pciids "$command" --help 2> /dev/null | sed -n \
             's/^  .*\(--[a-z]\+\).*/\1/p')" -- "$word")
-    elif [[ $before == --db || $before == --ids || ($command == import && $before != --*) ]]; then
+    elif [[ $before == --db || $before == --ids || $before == --journal || ($command == import && $before != --*) ]]; then
         mapfile -t COMPREPLY < <(compgen -f -- "$word")
     fi
 }

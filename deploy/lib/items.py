@@ -10,7 +10,7 @@ LINE = re.compile(r"(\t*)(C |S )?([0-9a-f]{2}|[0-9a-f]{4}(?: [0-9a-f]{4})?)(?:  
 # Written as nothing, though they are letters to Unicode.
 BLANK_LETTERS = "\u115f\u1160\u3164\uffa0\u2800"
 
-# Latin letters that nobody takes for others, as site/shown.js has them.
+# Latin letters that nobody takes for others, as site/safe_text.js has them.
 USUAL = re.compile("[a-zA-Z\u00aa\u00b5\u00ba\u00c0-\u0130\u0132-\u024f\u1e00-\u1eff]")
 
 # Strokes and points that look like those of ASCII, and the wide forms of ASCII.

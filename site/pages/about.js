@@ -2,11 +2,11 @@
 
 import { el, fill, link, several } from "../dom.js";
 import { recordOf } from "../known.js";
-import { chainOf, kindOf, stateMark, wishOf } from "../parts.js";
 import { hrefOf, wholeNumber } from "../paths.js";
-import { shown } from "../shown.js";
+import { shown } from "../safe_text.js";
 import { changedSince, changedWords } from "../stale.js";
 import { submissionsFor } from "../submissions.js";
+import { chainOf, kindOf, stateMark, wishOf } from "../widgets.js";
 import { STATES } from "../words.js";
 
 const MOST_BEFORE = 5;

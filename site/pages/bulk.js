@@ -2,14 +2,14 @@
 // other, and what fails stays marked with what was said of it.
 
 import { account } from "../account.js";
-import { faultWords, GRACE } from "../carry.js";
+import { deliberateButton } from "../deliberate_button.js";
 import { el, fill, several } from "../dom.js";
-import { keepDraft } from "../drafts.js";
 import { MOST_TEXT } from "../limits.js";
 import { tell } from "../notice.js";
-import { oneParagraph } from "../parts.js";
 import { readyReasons } from "../reasons.js";
-import { steadyButton } from "../steady.js";
+import { faultWords, GRACE } from "../sending/command.js";
+import { keepDraft } from "../sending/draft.js";
+import { oneParagraph } from "../widgets.js";
 import { approvalOf, rejectionOf } from "./proposal.js";
 import { textFault } from "./proposing.js";
 
@@ -19,11 +19,12 @@ export class Bulk {
   constructor(shownCards) {
     this.cards = shownCards;
     this.isBusy = false;
-    this.all = steadyButton({ class: "small", onclick: () => this.markAll(true) }, "Mark all");
-    this.none = steadyButton({ class: "small", onclick: () => this.markAll(false) }, "Mark none");
+    this.all = deliberateButton({ class: "small", onclick: () => this.markAll(true) }, "Mark all");
+    this.none = deliberateButton(
+      { class: "small", onclick: () => this.markAll(false) }, "Mark none");
     this.place = el("p", { class: "progress", role: "status" });
-    this.approve = steadyButton({ class: "main small", onclick: () => this.run("approved") });
-    this.reject = steadyButton({ class: "small" });
+    this.approve = deliberateButton({ class: "main small", onclick: () => this.run("approved") });
+    this.reject = deliberateButton({ class: "small" });
     this.reason = el("input", {
       id: "reason-all", name: "reason", maxlength: MOST_TEXT, autocomplete: "off",
     });
@@ -98,7 +99,7 @@ export class Bulk {
       };
       const timer = setTimeout(() => end(true), GRACE);
       this.undo = () => end(false);
-      const undo = steadyButton({ class: "small", onclick: this.undo }, "Undo");
+      const undo = deliberateButton({ class: "small", onclick: this.undo }, "Undo");
       fill(this.place, `${several(count, "proposal")} will be ${state}. `, undo);
       undo.focus();
     }).finally(() => { this.undo = null; });
@@ -109,7 +110,7 @@ export class Bulk {
     let done = 0;
     this.isStopped = false;
     const onclick = () => { this.isStopped = true; };
-    const stop = steadyButton({ class: "small", onclick }, "Stop");
+    const stop = deliberateButton({ class: "small", onclick }, "Stop");
     const words = el("span", {});
     fill(this.place, words, " ", stop);
     for (const [at, card] of cards.entries()) {

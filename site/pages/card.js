@@ -3,14 +3,14 @@
 
 import { account, maySuffice } from "../account.js";
 import { ask } from "../api.js";
-import { faultWords } from "../carry.js";
+import { appear, isDead, setDead, deliberateButton } from "../deliberate_button.js";
 import { el, fill, link, several } from "../dom.js";
 import { when } from "../happened.js";
 import { tell } from "../notice.js";
-import { kindOf, stateMark, wishOf } from "../parts.js";
 import { parentOf, rankFor, spoken, wholeNumber, withParents } from "../paths.js";
-import { compared, shown, spelled } from "../shown.js";
-import { appear, isDead, setDead, steadyButton } from "../steady.js";
+import { compared, shown, spelled } from "../safe_text.js";
+import { faultWords } from "../sending/command.js";
+import { kindOf, stateMark, wishOf } from "../widgets.js";
 import { answerWords, RANKS } from "../words.js";
 import { aboutProposal } from "./about.js";
 import {
@@ -50,10 +50,10 @@ export class Card {
 
   makeButtons() {
     const describes = { "aria-describedby": `about-${this.it.num}` };
-    this.approve = steadyButton({
+    this.approve = deliberateButton({
       class: "main small", ...describes, onclick: () => this.doApprove(),
     }, "Approve");
-    this.openButton = steadyButton({
+    this.openButton = deliberateButton({
       class: "small", ...describes, onclick: () => this.openReject(),
     }, "Reject …");
     this.mark = el("input", {

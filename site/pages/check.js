@@ -1,17 +1,17 @@
 // Checks a file in the browser, and has those who may import it, and others propose its names.
 
 import { account, learnRank, maySuffice } from "../account.js";
-import { carryOut } from "../carry.js";
-import { keepDraft } from "../drafts.js";
 import { canonical } from "../canonical.js";
+import { deliberateButton } from "../deliberate_button.js";
 import { counted, el, fill, link, several } from "../dom.js";
 import { MOST_ENTRIES, MOST_FILE } from "../limits.js";
 import * as names from "../names.js";
-import { title } from "../parts.js";
 import { hrefOf, wholeNumber } from "../paths.js";
 import { bytesOf, read } from "../reader.js";
-import { compared, shown } from "../shown.js";
-import { steadyButton } from "../steady.js";
+import { compared, shown } from "../safe_text.js";
+import { carryOut } from "../sending/command.js";
+import { keepDraft } from "../sending/draft.js";
+import { title } from "../widgets.js";
 import { KINDS } from "../words.js";
 import { beginMany } from "./many.js";
 
@@ -142,7 +142,7 @@ class Check {
       const begin = () => this.go(beginMany(rows.map(({ path, name }) => ({ path, name }))));
       const words = rows.length === count ? counted(count) : `the first ${counted(rows.length)}`;
       const things = `${kind}${count === 1 ? "" : "s"}`;
-      return steadyButton({ onclick: begin }, `Propose ${words} ${things} …`);
+      return deliberateButton({ onclick: begin }, `Propose ${words} ${things} …`);
     };
     if (!beside?.added.count && !beside?.renamed.count) return null;
     return [el("p", { class: "buttons" }, button(beside.added, "new name"),
@@ -192,7 +192,7 @@ function importOf(name, bytes) {
     fill(place, el("p", { class: "good", role: "status" }, `The registry imported it:`
       + ` ${counted(added)} added, ${counted(renamed)} renamed, ${counted(same)} the same.`));
   };
-  const button = steadyButton({ class: "main", onclick }, "Import it");
+  const button = deliberateButton({ class: "main", onclick }, "Import it");
   const row = el("p", { class: "buttons" }, button);
   return [row, place];
 }

@@ -2,9 +2,9 @@
 
 import { el } from "../dom.js";
 import { feedLine } from "../feeds.js";
-import { failed, title } from "../parts.js";
 import { parse, spoken } from "../paths.js";
 import { olderLink, submissionList, submissions } from "../submissions.js";
+import { failed, title } from "../widgets.js";
 
 function titleWords({ path, author }) {
   const by = author ? ` by ${author}` : "";

@@ -1,7 +1,7 @@
 // What a good name is: for those who propose, with examples of Debian's pci.ids.
 
 import { el, link } from "../dom.js";
-import { title } from "../parts.js";
+import { title } from "../widgets.js";
 
 /** Names as the list has them, by what each is an example of: [number, name]. */
 export const EXAMPLES = {

@@ -1,6 +1,6 @@
 import { el, link } from "../dom.js";
 import { contact } from "../joining.js";
-import { title } from "../parts.js";
+import { title } from "../widgets.js";
 
 const section = (heading, ...words) => [el("h2", {}, heading), el("p", {}, ...words)];
 

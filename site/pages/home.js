@@ -3,7 +3,7 @@ import { counted, el, fill, link, several } from "../dom.js";
 import { changeList, countWords } from "../happened.js";
 import { latest, month } from "../history.js";
 import { load } from "../names.js";
-import { title } from "../parts.js";
+import { title } from "../widgets.js";
 
 const example = (text) => link(`/search?q=${encodeURIComponent(text)}`, el("code", {}, text));
 

@@ -7,13 +7,13 @@ import { cause, exactly, restoreLink, when } from "../happened.js";
 import { index, namesOf } from "../history.js";
 import { itemList } from "../lists.js";
 import * as names from "../names.js";
-import { copyButton, copyWords, crumbs, failed, kindOf, title } from "../parts.js";
 import {
   BELOW, KIND_WORDS, lineOf, lookupOf, parse, rankFor, wholeNumber, withParents,
 } from "../paths.js";
-import { shown } from "../shown.js";
+import { shown } from "../safe_text.js";
 import { correct, orCopy } from "../sooner.js";
 import { submissionList, submissionsFor } from "../submissions.js";
+import { copyButton, copyWords, crumbs, failed, kindOf, title } from "../widgets.js";
 import { RANKS } from "../words.js";
 
 const MANY = {

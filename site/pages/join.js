@@ -1,16 +1,16 @@
 // Joining: a name, and a password that the page makes or the person chooses.
 
 import { account, logIn } from "../account.js";
-import { carryOut } from "../carry.js";
+import { deliberateButton } from "../deliberate_button.js";
 import { el, fill, link } from "../dom.js";
 import { joining } from "../joining.js";
 import { tell } from "../notice.js";
-import { title } from "../parts.js";
 import { passwordBox } from "../passbox.js";
 import { secretOf, verifierOf } from "../passwords.js";
-import { note, notedOf } from "../place.js";
 import { readdress, refresh } from "../router.js";
-import { steadyButton } from "../steady.js";
+import { note, notedOf } from "../scroll_place.js";
+import { carryOut } from "../sending/command.js";
+import { title } from "../widgets.js";
 
 // Only an address of this site: a text such as //example.org leads elsewhere.
 function pageOf(text) {
@@ -69,7 +69,7 @@ function formOf({ back, go }) {
   const place = el("div", { class: "said" });
   const name = nameBox();
   const box = passwordBox("join");
-  const button = steadyButton({ class: "main" }, "Join");
+  const button = deliberateButton({ class: "main" }, "Join");
   const submit = async (event) => {
     event.preventDefault();
     const who = name.value, password = box.value();

@@ -4,8 +4,8 @@ import { ask } from "../api.js";
 import { el, link } from "../dom.js";
 import { itemList } from "../lists.js";
 import { childrenOf } from "../names.js";
-import { copyWords, failed, title } from "../parts.js";
 import { correct, orCopy } from "../sooner.js";
+import { copyWords, failed, title } from "../widgets.js";
 
 const fromFile = async () => {
   const value = await childrenOf("");

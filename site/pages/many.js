@@ -2,18 +2,18 @@
 // loads the page again in the middle goes on where it stopped, and nothing is proposed twice.
 
 import { account } from "../account.js";
-import { faultWords } from "../carry.js";
-import { draftOf, keepDraft } from "../drafts.js";
+import { keep, recall } from "../browser_store.js";
+import { appear, isDead, setDead, deliberateButton } from "../deliberate_button.js";
 import { el, fill, link, several } from "../dom.js";
 import { knownNames, pendingByPath } from "../known.js";
 import { askToLogIn } from "../login.js";
 import * as names from "../names.js";
-import { watchOutbox } from "../outbox.js";
-import { keep, recall } from "../kept.js";
-import { oneParagraph, title } from "../parts.js";
 import { parse, spoken, withParents } from "../paths.js";
-import { shown } from "../shown.js";
-import { appear, isDead, setDead, steadyButton } from "../steady.js";
+import { shown } from "../safe_text.js";
+import { faultWords } from "../sending/command.js";
+import { draftOf, keepDraft } from "../sending/draft.js";
+import { watchOutbox } from "../sending/queue.js";
+import { oneParagraph, title } from "../widgets.js";
 import { wishesIn } from "../wishes.js";
 import { nameFault, noteBox, textFault } from "./proposing.js";
 import { Wish } from "./wish.js";
@@ -48,7 +48,7 @@ class Many {
     this.left = el("div", { role: "status" });
     this.nameOf = new Map();
     this.text = el("textarea", { id: "pasted", rows: 5, class: "code", spellcheck: "false" });
-    this.button = steadyButton({ class: "main", onclick: () => this.send() }, "Propose");
+    this.button = deliberateButton({ class: "main", onclick: () => this.send() }, "Propose");
     this.pasting = this.makePasting();
     this.noting = el("form", { onsubmit: (event) => event.preventDefault() }, noteBox());
     this.note = this.noting.querySelector("#note");
@@ -191,7 +191,8 @@ export default async function manyPage({ query }) {
     title("Propose many"),
     el("p", {}, link("/guide", "What a good name is")),
     all.pasting, all.left, all.noting, all.count,
-    el("p", { class: "buttons" }, all.button, steadyButton({ onclick: clear }, "Clear the list")),
+    el("p", { class: "buttons" },
+      all.button, deliberateButton({ onclick: clear }, "Clear the list")),
     all.place, all.list,
   ];
 }

@@ -2,12 +2,12 @@
 
 import { account } from "../account.js";
 import { seen } from "../answers.js";
+import { keep, recall } from "../browser_store.js";
 import { el, link } from "../dom.js";
 import { feedLine } from "../feeds.js";
-import { keep, recall } from "../kept.js";
 import { askToLogIn } from "../login.js";
-import { failed, title } from "../parts.js";
 import { olderLink, submissionList, submissions } from "../submissions.js";
+import { failed, title } from "../widgets.js";
 
 const MOST_WAITING = 500;
 

@@ -1,14 +1,14 @@
 // One's own password: another one, and leaving. Both want the present password again.
 
 import { account, dropAccount, logIn, proofOf, send } from "../account.js";
-import { faultWords } from "../carry.js";
+import { isDead, setDead, deliberateButton } from "../deliberate_button.js";
 import { el, fill } from "../dom.js";
 import { askToLogIn } from "../login.js";
 import { tell } from "../notice.js";
-import { title } from "../parts.js";
 import { passwordBox } from "../passbox.js";
 import { basicOf, secretOf, verifierOf } from "../passwords.js";
-import { isDead, setDead, steadyButton } from "../steady.js";
+import { faultWords } from "../sending/command.js";
+import { title } from "../widgets.js";
 import { answerWords } from "../words.js";
 
 // A form that carries something out with the present password, and says what came of it.
@@ -18,7 +18,7 @@ function presentForm({ front, more, words, kind, call }) {
     id: `${front}-present`, type: "password", autocomplete: "current-password", required: true,
     maxlength: 200,
   });
-  const button = steadyButton(kind ? { class: kind } : {}, words);
+  const button = deliberateButton(kind ? { class: kind } : {}, words);
   const submit = async (event) => {
     event.preventDefault();
     if (isDead(button)) return;

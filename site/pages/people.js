@@ -2,13 +2,13 @@ import {
   account, authorization, learnRank, maySuffice, NONE, rank, rankOf, send,
 } from "../account.js";
 import { request } from "../api.js";
-import { carryOut, faultWords } from "../carry.js";
+import { deliberateButton } from "../deliberate_button.js";
 import { el, fill, link } from "../dom.js";
 import { tell } from "../notice.js";
-import { title } from "../parts.js";
-import { SentForm } from "../sent.js";
-import { steadyButton } from "../steady.js";
+import { carryOut, faultWords } from "../sending/command.js";
+import { SentForm } from "../sending/form.js";
 import { submissions } from "../submissions.js";
+import { title } from "../widgets.js";
 import { answerWords, oneOf, RANKS } from "../words.js";
 
 const SENIOR = 2;
@@ -41,7 +41,7 @@ function lockButton(it, place, draw) {
     if (answer.value) draw({ ...it, state: path === "/lock" ? "locked" : "open" });
     else fill(place, faultWords(answerWords(answer)));
   };
-  return steadyButton({ class: "small", onclick: press },
+  return deliberateButton({ class: "small", onclick: press },
     `${path === "/lock" ? "Lock" : "Unlock"} ${it.account}`);
 }
 
@@ -98,7 +98,7 @@ function rankForm() {
   };
   const ranks = el("select", { id: "who-rank" },
     RANKS.map((word, value) => el("option", { value }, word)));
-  const button = steadyButton({ class: "main" }, "Set");
+  const button = deliberateButton({ class: "main" }, "Set");
   const submit = async (event) => {
     event.preventDefault();
     const name = who.value, its = oneOf(ranks.value);

@@ -2,21 +2,21 @@
 
 import { account, learnRank, maySuffice } from "../account.js";
 import { ask } from "../api.js";
-import { carryOut, faultWords } from "../carry.js";
+import { deliberateButton } from "../deliberate_button.js";
 import { el, fill, link, several } from "../dom.js";
-import { draftOf } from "../drafts.js";
 import { restoreLink, when } from "../happened.js";
 import { changesOf, datesOf, topOf } from "../history.js";
 import { MOST_TEXT } from "../limits.js";
 import { learnName } from "../names.js";
 import { tell } from "../notice.js";
-import { chainOf, failed, kindOf, oneParagraph, stateMark, title, wishOf } from "../parts.js";
 import { rankFor, spoken, wholeNumber, withParents } from "../paths.js";
 import { noteReason, readyReasons } from "../reasons.js";
-import { dropSent, SentForm } from "../sent.js";
-import { compared, shown } from "../shown.js";
+import { compared, shown } from "../safe_text.js";
+import { carryOut, faultWords } from "../sending/command.js";
+import { draftOf } from "../sending/draft.js";
+import { dropSent, SentForm } from "../sending/form.js";
 import { changedSince, changedWords } from "../stale.js";
-import { steadyButton } from "../steady.js";
+import { chainOf, failed, kindOf, oneParagraph, stateMark, title, wishOf } from "../widgets.js";
 import { RANKS, refusalWords, STATES } from "../words.js";
 import { textFault } from "./proposing.js";
 
@@ -105,7 +105,7 @@ function commentForm(it, done) {
   const text = el("textarea", {
     id: "comment", rows: 3, required: true, "aria-describedby": "comment-hint",
   });
-  const button = steadyButton({ class: "main" }, "Comment");
+  const button = deliberateButton({ class: "main" }, "Comment");
   const submit = async (event) => {
     event.preventDefault();
     const words = oneParagraph(text.value);
@@ -148,7 +148,7 @@ function withdrawal(it, done) {
     });
     conclude(it, answer, "Withdrawn.", done);
   };
-  const button = steadyButton({ onclick }, "Withdraw");
+  const button = deliberateButton({ onclick }, "Withdraw");
   return el("div", { class: "decide" }, el("p", { class: "buttons" }, button), place);
 }
 
@@ -212,7 +212,7 @@ export function rejection(it, place, onsubmit) {
     id: `reason-${it.num}`, name: "reason", required: true, maxlength: MOST_TEXT,
     autocomplete: "off",
   });
-  const reject = steadyButton({}, "Reject");
+  const reject = deliberateButton({}, "Reject");
   const form = el("form", {
     class: "reject", onsubmit: (event) => { event.preventDefault(); onsubmit(); },
   }, el("label", { for: reason.id }, "Reason"), reason, readyReasons(reason), reject);
@@ -242,7 +242,7 @@ function decision(it, now, isIdle, done) {
   };
   // Who decided by a key takes it back by one.
   const begun = () => place.querySelector("button")?.focus();
-  const approve = steadyButton({ class: "main", onclick }, "Approve");
+  const approve = deliberateButton({ class: "main", onclick }, "Approve");
   const no = rejection(it, place, async () => {
     const command = rejectionOf(it, no, place);
     if (command) conclude(it, await decide(it, command, begun), `${it.num} is rejected.`, done);

@@ -1,20 +1,20 @@
 // Proposes a name, a better one, or a removal.
 
 import { ask } from "../api.js";
-import { carryOut, faultWords } from "../carry.js";
-import { draftOf } from "../drafts.js";
+import { deliberateButton } from "../deliberate_button.js";
 import { el, fill, link } from "../dom.js";
 import { MOST_NAME } from "../limits.js";
 import { tell } from "../notice.js";
-import { oneParagraph, title, wishOf } from "../parts.js";
 import { pastedInto } from "../pasted.js";
 import {
   KIND_WORDS, NUMBERS, parse, pathOf, rankFor, spoken, wholeNumber, withParents,
 } from "../paths.js";
-import { dropSent, SentForm } from "../sent.js";
-import { shown } from "../shown.js";
-import { steadyButton } from "../steady.js";
+import { shown } from "../safe_text.js";
+import { carryOut, faultWords } from "../sending/command.js";
+import { draftOf } from "../sending/draft.js";
+import { dropSent, SentForm } from "../sending/form.js";
 import { submissionsFor } from "../submissions.js";
+import { oneParagraph, title, wishOf } from "../widgets.js";
 import { RANKS } from "../words.js";
 import many from "./many.js";
 import { adviceWords, nameFault, noteBox, textFault } from "./proposing.js";
@@ -142,7 +142,7 @@ class Proposal {
     this.nameFault = el("div", { id: "name-fault" });
     this.about = el("div", { class: "about", role: "status" });
     this.place = el("div", { class: "said" });
-    this.button = steadyButton({ class: "main" }, "Propose");
+    this.button = deliberateButton({ class: "main" }, "Propose");
   }
 
   makeForm() {

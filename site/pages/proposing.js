@@ -3,7 +3,7 @@
 import { oddities } from "../advice.js";
 import { counted, el, link, utf8Length } from "../dom.js";
 import { MOST_NAME, MOST_TEXT } from "../limits.js";
-import { oneParagraph } from "../parts.js";
+import { oneParagraph } from "../widgets.js";
 
 /** What is wrong with a name, or null. */
 export function nameFault(text) {

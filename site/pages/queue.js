@@ -2,15 +2,15 @@
 
 import { account, learnRank, maySuffice } from "../account.js";
 import { ask } from "../api.js";
+import { isTooSoon } from "../deliberate_button.js";
 import { el, fill, link, several } from "../dom.js";
 import { grouped } from "../grouped.js";
 import { datesOf } from "../history.js";
 import { approvedSince, countDecision, knownNames, recordOf, rowsOf } from "../known.js";
-import { failed, title } from "../parts.js";
 import { KIND_WORDS, parse, withParents } from "../paths.js";
 import { readdress } from "../router.js";
-import { spelled } from "../shown.js";
-import { isTooSoon } from "../steady.js";
+import { spelled } from "../safe_text.js";
+import { failed, title } from "../widgets.js";
 import { recordWords } from "./about.js";
 import { Bulk } from "./bulk.js";
 import { Card } from "./card.js";

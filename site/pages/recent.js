@@ -4,9 +4,9 @@ import { counted, el, link, several } from "../dom.js";
 import { feedLine } from "../feeds.js";
 import { changeList, countWords, kindOfChange } from "../happened.js";
 import { changesOf, changesOn, index, latest, month } from "../history.js";
-import { failed, title } from "../parts.js";
 import { hrefOf, wholeNumber } from "../paths.js";
-import { shown } from "../shown.js";
+import { shown } from "../safe_text.js";
+import { failed, title } from "../widgets.js";
 
 const MOST = 500;
 const MOST_NAMED = 30;

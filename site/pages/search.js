@@ -2,9 +2,9 @@ import { counted, el, fill, link } from "../dom.js";
 import * as names from "../names.js";
 import { devicesIn, pathsOf } from "../pasted.js";
 import { hrefOf, KIND_WORDS, parse, spoken, wholeNumber } from "../paths.js";
-import { shown, spelled } from "../shown.js";
+import { shown, spelled } from "../safe_text.js";
 import { submissionsFor } from "../submissions.js";
-import { retitle, title, wishOf } from "../parts.js";
+import { retitle, title, wishOf } from "../widgets.js";
 
 const FIRST_WAIT = 60;
 const PENDING_WAIT = 500;

@@ -1,15 +1,15 @@
 // A row of many proposals: each a command under a key of its own, which is kept with it.
 
 import { account } from "../account.js";
-import { report } from "../bar.js";
-import { faultWords } from "../carry.js";
+import { deliberateButton } from "../deliberate_button.js";
 import { el, fill, link } from "../dom.js";
 import { MOST_NAME } from "../limits.js";
-import { actedOf, begin, form, isWorking, newKey, settle } from "../outbox.js";
-import { chainOf, wishOf } from "../parts.js";
 import { hrefOf, spoken, withParents } from "../paths.js";
-import { shown } from "../shown.js";
-import { steadyButton } from "../steady.js";
+import { shown } from "../safe_text.js";
+import { faultWords } from "../sending/command.js";
+import { actedOf, begin, form, isWorking, newKey, settle } from "../sending/queue.js";
+import { report } from "../status_bar.js";
+import { chainOf, wishOf } from "../widgets.js";
 import { answerWords } from "../words.js";
 import { adviceWords, nameFault } from "./proposing.js";
 
@@ -28,7 +28,7 @@ export class Wish {
       oninput: () => { this.told = null; around.changed(); },
     });
     const drop = () => { this.isDropped = true; this.element.remove(); around.changed(); };
-    this.drop = steadyButton({ class: "small", onclick: drop }, "Leave out",
+    this.drop = deliberateButton({ class: "small", onclick: drop }, "Leave out",
       el("span", { class: "unseen" }, ` ${spoken(path)}`));
     this.element = el("li", {}, this.aboutWords(),
       el("p", { class: "pair" }, el("label", { for: this.box.id, class: "unseen" },

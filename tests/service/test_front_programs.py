@@ -47,12 +47,29 @@ def heads(cases, front, recorder):
         cases.equal(f"programs: {method} {path} wants a password", told, want)
 
 
+def epoch(cases, front, recorder):
+    """The epoch is a file, and what is shown is what it is now."""
+    recorder.seen.clear()
+    for number in (1, 2):
+        front.write("shown/epoch", f"{number:032x}\n")
+        told = front.curl("/epoch", "-z", "tomorrow", "-i")
+        body, fields = told[2].partition(b"\r\n\r\n")[2], fields_of(told)
+        got = *told[:2], body, fields["cache-control"], "etag" in fields
+        want = 200, "text/plain", b"%032x\n" % number, "no-store", False
+        cases.equal(f"programs: the epoch, {number}", got, want)
+    os.remove(os.path.join(front.folder, "shown", "epoch"))
+    got = front.curl("/epoch")[0], len(recorder.seen)
+    cases.equal("programs: none is shown, and the registry is not asked", got, (404, 0))
+    front.write("shown/epoch", f"{1:032x}\n")
+
+
 def readers(cases, front):
     """A page of any origin may read what is public, without a password; no page of another origin
     may send a command, or read what one is answered."""
     foreign = ("-H", "Origin: https://evil.example", "-i")
     allows = "access-control-allow-origin"
-    for path in (*QUESTIONS, "/pci.ids", "/pci.ids.gz", "/feeds/changes.atom", "/none-of/these"):
+    for path in (*QUESTIONS, "/epoch", "/pci.ids", "/pci.ids.gz", "/feeds/changes.atom",
+                 "/none-of/these"):
         fields = fields_of(front.curl(path, *foreign))
         want = None if path == "/none-of/these" else "*"
         cases.equal(f"programs: who may read {path}", fields.get(allows), want)
@@ -188,6 +205,7 @@ def test_front_programs(cases):
         away = Front(os.path.join(folder, "away"), free_port())
         try:
             heads(cases, front, recorder)
+            epoch(cases, front, recorder)
             readers(cases, front)
             refusals(cases, front, away)
             denied(cases, front, front.folder)

@@ -11,13 +11,15 @@ import tempfile
 import time
 
 from http_server import free_port
-from program import TOP
+from journal_room import LIB, Main, name_of
 
-LIB = os.path.join(TOP, "deploy", "lib")
-
-# Stands for the program: a registry opens where its file and its log belong together.
+# Stands for the program: a registry opens where its file and its log belong together. With a
+# journal it becomes the number of its last line; where there is a file `other` it does not fit.
 OPENS = """#!/bin/sh
 case $1 in
+    script) [ ! -e "${0%/*}/other" ] || { echo 'journal: Another' >&2; exit 3; }
+        last=$(cat "$5"/*.script | sed -n 's/^comment root num=//p' | tail -1)
+        printf 'registry %s' "${last%%&*}" > "$3"; printf %s "${last%%&*}" > "$3-wal"; exit 0 ;;
     check) grep -c . && exit 0 ;;
     export) [ ! -e "${0%/*}/large" ] || head -c 50000000 /dev/zero | tail -c 50000000 > /dev/null
         [ "$(cat "$3")" = "registry $(cat "$3-wal")" ] && cat "$3" && exit 0 ;;
@@ -66,6 +68,11 @@ def ran(*words, tools=None, **more):
         words, env=environment, stdout=subprocess.PIPE, stderr=subprocess.STDOUT, timeout=60
     )
     return done.returncode, done.stdout.decode(errors="replace")
+
+
+def with_journal_of(folder):
+    """What the settings of the service say of a journal."""
+    return {"JOURNAL": f"--journal {folder}" if folder else ""}
 
 
 class Held:
@@ -165,6 +172,10 @@ class Room:
         self.program = os.path.join(folder, "program")
         write(self.program, OPENS, 0o755)
         self.set("one")
+        write(os.path.join(self.registry, "epoch"), "former")
+
+    def has_epoch(self):
+        return os.path.exists(os.path.join(self.registry, "epoch"))
 
     def set(self, text):
         write(os.path.join(self.registry, "registry.db"), f"registry {text}")
@@ -175,9 +186,9 @@ class Room:
         names = ("registry.db", "registry.db-wal")
         return tuple(read(os.path.join(self.registry, it)) for it in names)
 
-    def copy(self):
-        backup = os.path.join(LIB, "backup")
-        return ran(backup, "copy", self.registry, self.copies, tools=self.tools)
+    def copy(self, journal=None):
+        words = os.path.join(LIB, "backup"), "copy", self.registry, self.copies
+        return ran(*words, tools=self.tools, **with_journal_of(journal))
 
     def keep(self, number, most=""):
         words = ("keep", self.copies, str(number), most, self.program)
@@ -186,14 +197,16 @@ class Room:
     def kept(self):
         return sorted(it for it in os.listdir(self.copies) if it.startswith("2"))
 
-    def restore(self, *words):
-        return ran(os.path.join(LIB, "restore"), *words, tools=self.tools)
+    def restore(self, *words, journal=None):
+        words = os.path.join(LIB, "restore"), *words
+        return ran(*words, tools=self.tools, **with_journal_of(journal))
 
-    def swap(self):
-        return self.restore("swap", self.registry, self.mirror, self.public)
+    def swap(self, journal=None):
+        return self.restore("swap", self.registry, self.mirror, self.public, journal=journal)
 
-    def prepare(self, name):
-        return self.restore("prepare", os.path.join(self.copies, name), self.registry, self.program)
+    def prepare(self, name, journal=None):
+        path = os.path.join(self.copies, name)
+        return self.restore("prepare", path, self.registry, self.program, journal=journal)
 
 
 @contextlib.contextmanager
@@ -311,9 +324,11 @@ def restores(cases):
         it.set("two")
         write(os.path.join(it.mirror, "revision"), "7\n")
         cases.equal("restore: prepared", (it.prepare(name)[0], it.now()), (0, TWO))
+        cases.equal("restore: nothing is restored yet", it.has_epoch(), True)
         status, told = it.swap()
         cases.equal("restore: swapped", (status, it.now(), "restored" in told), (0, ONE, True))
         cases.equal("restore: the mirror begins anew", os.listdir(it.mirror), [])
+        cases.equal("restore: the former epoch has ended", it.has_epoch(), False)
         old = [name for name in os.listdir(it.registry) if name.startswith("replaced.")]
         names = ("registry.db", "registry.db-wal")
         where = [os.path.join(it.registry, old[0], name) for name in names]
@@ -332,6 +347,57 @@ def restores(cases):
         for odd in ("none", "../registry", "a;b"):
             cases.equal(f"restore: {odd}", (it.prepare(odd)[0], it.now()), (1, ONE))
     swaps_stopped(cases)
+
+
+def lone_logs(cases):
+    """Where registry.db is gone or empty and its log has something in it, nothing begins anew over
+    that. A new registry has a short log before its file has anything."""
+    long = "x" * 5_000
+    for text, log, want in ((None, long, 1), ("", long, 1), (None, "", 0), ("", "x" * 41, 0),
+                            (None, None, 0), ("registry", long, 0)):
+        with room() as it:
+            names = "registry.db", "registry.db-wal"
+            places = [os.path.join(it.registry, name) for name in names]
+            for place, data in zip(places, (text, log)):
+                os.remove(place)
+                if data is not None:
+                    write(place, data)
+            before = texts_in(it.registry)
+            status, told = it.restore("settle", it.registry)
+            name = f"{'no' if text is None else len(text)} file, {log and len(log)} of a log"
+            got = status, "put it back" in told, texts_in(it.registry) == before
+            cases.equal(f"restore: {name}", got, (want, want == 1, True))
+    with room() as it:
+        it.copy()
+        it.keep(1)
+        os.remove(os.path.join(it.registry, "registry.db"))
+        write(os.path.join(it.registry, "registry.db-wal"), long)
+        got = it.prepare(it.kept()[0])[0], it.swap()[0], it.now()
+        cases.equal("restore: in place of a lone log", got, (0, 0, ONE))
+        old = next(name for name in os.listdir(it.registry) if name.startswith("replaced."))
+        kept = read(os.path.join(it.registry, old, "registry.db-wal"))
+        cases.equal("restore: which is kept", kept, long.encode())
+
+
+def dropped(cases):
+    """What a failed run has left goes, but not where a swap goes on from it."""
+    with room() as it:
+        write(os.path.join(it.registry, "registry.db-wal"), "torn")
+        it.copy()
+        cases.equal("backup: one that failed", (it.keep(1)[0], len(os.listdir(it.copies))), (1, 1))
+        got = ran(os.path.join(LIB, "backup"), "drop", it.copies), os.listdir(it.copies)
+        cases.equal("backup: nothing is left of it", got, ((0, ""), []))
+    with room() as it:
+        it.copy()
+        it.keep(1)
+        for name in ("restored.x", "restoring"):
+            os.mkdir(os.path.join(it.registry, name))
+        got = it.restore("drop", it.registry), len(os.listdir(it.registry))
+        cases.equal("restore: nothing goes while a swap is not settled", got, ((0, ""), 5))
+        os.rmdir(os.path.join(it.registry, "restoring"))
+        got = it.restore("drop", it.registry), sorted(os.listdir(it.registry))
+        want = ["epoch", "registry.db", "registry.db-wal"]
+        cases.equal("restore: nothing is left of one that failed", got, ((0, ""), want))
 
 
 def second_restore(cases, it, name, former):
@@ -382,7 +448,7 @@ def swaps_stopped(cases):
                 is_there = os.path.exists(os.path.join(it.registry, "registry.db"))
                 status = it.restore("settle", it.registry)[0]
                 outcomes.add(it.now())
-                got = is_there, status, it.now() in (ONE, TWO)
+                got = is_there, status, it.now() == TWO or not it.has_epoch() and it.now() == ONE
                 cases.equal(f"restore: {kind} at its call {number}", got, (True, 0, True))
             if is_over:
                 break
@@ -414,8 +480,124 @@ def answers(cases):
     cases.equal("answers: the process has ended", ran(script, str(process.pid))[0], 1)
 
 
+def journaled(room):
+    """A journal of two segments on a disk of its own, and a copy from within the first."""
+    os.mkdir(os.path.join(room.folder, "disk"))
+    main = Main(os.path.join(room.folder, "disk", "segments"))
+    for number in range(8):
+        main.line()
+        if number == 3:
+            main.begin()
+    room.copy(main.folder)
+    room.keep(1)
+    needed = os.path.join(room.copies, room.kept()[0], "segment")
+    newest = read(needed).decode()
+    write(needed, name_of(0) + "\n")
+    room.set("two")
+    return main, newest
+
+
+def texts_in(folder):
+    return {name: read(os.path.join(folder, name)) for name in os.listdir(folder)}
+
+
+def with_journal(cases):
+    """With a journal a copy obeys what it lacks, up to a moment: then the later lines leave the
+    journal. Where there is none the journal stays."""
+    for until, is_on, line, left in (
+        ("", True, b"7", [0, 4]), ("1005", True, b"5", [0, 4]), ("1002", True, b"2", [0]),
+        ("copied", True, None, []), ("", False, None, [0, 4]),
+    ):
+        with room() as it:
+            main, newest = journaled(it)
+            cases.equal("journal: what a copy needs", newest, name_of(4) + "\n")
+            before, place = texts_in(main.folder), main.folder if is_on else None
+            status = it.prepare(it.kept()[0] + (f"+{until}" if until else ""), place)[0]
+            got = status, it.now(), texts_in(main.folder)
+            cases.equal(f"journal: prepared, {until}", got, (0, TWO, before))
+            status = it.swap(place)[0]
+            want = (b"registry " + line, line) if line else ONE
+            cases.equal(f"journal: up to {until}, {is_on}", (status, it.now()), (0, want))
+            got = sorted(os.listdir(main.folder))
+            cases.equal(f"journal: its segments, {until}", got, [name_of(at) for at in left])
+            disk = os.path.dirname(main.folder)
+            replaced = [it for it in os.listdir(disk) if it != "segments"]
+            kept = [texts_in(os.path.join(disk, it)) for it in replaced]
+            cases.equal(f"journal: as it was before {until}", kept, [before] if until else [])
+    with room() as it:
+        main, _ = journaled(it)
+        before = texts_in(main.folder)
+        write(os.path.join(it.folder, "other"), "")
+        status, told = it.prepare(it.kept()[0], main.folder)
+        got = status, "journal: Another\n" in told, "do not fit together" in told
+        cases.equal("journal: one that does not fit", got, (1, True, True))
+        got = it.now(), texts_in(main.folder), it.has_epoch()
+        cases.equal("journal: nothing was done", got, (TWO, before, True))
+    journal_swaps_stopped(cases)
+
+
+def journal_swaps_stopped(cases):
+    """A swap is killed at each of its calls: registry and journal are both the old or both the
+    new ones once it is settled."""
+    outcomes, number, is_over = set(), 0, False
+    while not is_over:
+        number += 1
+        with room() as it:
+            main, _ = journaled(it)
+            it.prepare(f"{it.kept()[0]}+1002", main.folder)
+            killed = killing(it.tools, ("mv", "cp", "ln", "rm", "sync", "mkdir"), number)
+            it.swap(main.folder)
+            is_over = not killed()
+            status = it.restore("settle", it.registry, journal=main.folder)[0]
+            outcomes.add((it.now()[1], len(os.listdir(main.folder))))
+            cases.equal(f"journal: settled after call {number}", status, 0)
+    cases.equal("journal: both or none", outcomes, {(b"two", 2), (b"2", 1)})
+
+
+def epochs(cases):
+    """The epoch stays over starts, and is another one where the registry was restored, is gone, or
+    its own is none. Whatever fails, a start shows what is kept, or fails."""
+    seen = set()
+
+    def shown(it):
+        """Whether a start shows 32 digits that are kept, and whether they are new."""
+        status, told = ran(os.path.join(LIB, "epoch"), it.registry, it.mirror, tools=it.tools)
+        kept, copy = (read(os.path.join(at, "epoch")) for at in (it.registry, it.mirror))
+        is_new, mode = copy not in seen, os.stat(os.path.join(it.mirror, "epoch")).st_mode & 0o777
+        seen.add(copy)
+        is_one = re.fullmatch(rb"[0-9a-f]{32}\n", copy) is not None
+        return status, told, kept == copy, is_one, mode, is_new
+
+    new, same = (0, "", True, True, 0o644, True), (0, "", True, True, 0o644, False)
+    with room() as it:
+        path = os.path.join(it.registry, "epoch")
+        cases.equal("epoch: what is none", shown(it), new)
+        cases.equal("epoch: a second start", shown(it), same)
+        os.remove(os.path.join(it.mirror, "epoch"))
+        cases.equal("epoch: after the machine's", shown(it), same)
+        os.remove(path)
+        cases.equal("epoch: after a restore", shown(it), new)
+        os.remove(os.path.join(it.registry, "registry.db"))
+        cases.equal("epoch: without a registry", shown(it), new)
+        for tool in ("grep", "od", "tr", "sync", "mv", "cp"):
+            it.set("one")
+            write(path, "none")
+            broken = os.path.join(it.tools, tool)
+            os.symlink("/bin/false", broken)
+            status = ran(os.path.join(LIB, "epoch"), it.registry, it.mirror, tools=it.tools)[0]
+            os.remove(broken)
+            kept, copy = (read(os.path.join(at, "epoch")) for at in (it.registry, it.mirror))
+            is_right = status != 0 or kept == copy and len(copy) == 33
+            cases.equal(f"epoch: without {tool}", is_right, True)
+            cases.equal(f"epoch: then without {tool}", shown(it)[:5], new[:5])
+
+
 def test_keeping(cases):
     holds(cases)
     backups(cases)
     restores(cases)
+    lone_logs(cases)
+    dropped(cases)
+    with_journal(cases)
+    epochs(cases)
     answers(cases)

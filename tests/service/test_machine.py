@@ -14,7 +14,7 @@ from machine_room import Machine
 from program import TOP
 
 HOST = "pciids.example.org"
-UNITS = "http join publish sign announce backup restore@x web failed@x"
+UNITS = "http join publish sign announce backup restore@x standby web failed@x"
 UNITS = ["pciids"] + [f"pciids-{it}" for it in UNITS.split()]
 # The most that `systemd-analyze security` may say of a unit.
 EXPOSURE = 1.5
@@ -28,6 +28,12 @@ MARK = "/run/pciids/stopped"
 HOLD = "/usr/lib/pciids-registry/hold"
 CERTIFICATE = "/usr/lib/pciids-registry/certificate"
 KILL = "systemctl kill --kill-whom=main -s KILL pciids"
+# A publishing that is under way may have asked the registry before.
+PUBLISH = "systemctl stop pciids-publish; systemctl start pciids-publish"
+# The options of a text that root imports.
+SEND = " -f -H 'X-Account: root' --data-binary @-"
+MIRROR = ("mkdir -p /srv/signed && HOME=/srv /usr/lib/pciids-registry/mirror --key"
+          f" /var/lib/pciids-public/key.gpg --history https://{HOST} /srv/signed > /dev/null")
 # Forty connections to the socket of the registry that are closed at some point of a request.
 LEFT = r"""
 import socket
@@ -41,9 +47,9 @@ for sent in (b"", b"\r\n\r\n", b"GET /pen", command):
 
 
 def examples():
-    """The blocks of shell commands of docs/OPERATE.md, each with its heading."""
+    """The blocks of shell commands of docs/OPERATE.md, each with the heading above it."""
     with open(os.path.join(TOP, "docs", "OPERATE.md"), encoding="utf-8") as page:
-        sections = page.read().split("\n## ")[1:]
+        sections = re.split(r"^##+ ", page.read(), flags=re.M)[1:]
     for section in sections:
         for block in re.findall(r"^```sh\n(.*?)^```$", section, re.S | re.M):
             yield section.partition("\n")[0], block
@@ -217,6 +223,8 @@ def joined(story):
     command = f"-d num=9 https://{HOST}/withdraw"
     by_session, by_password = "-b /srv/cookies -H 'X-As: dora'", f"-u dora:{password()}"
     story.same("sends a command by a session", f"{ask} {by_session} {command}", "404")
+    logged = "grep -q '^127.0.0.1 - dora \\[.*\"POST /withdraw' /var/log/pciids-web/access.log"
+    story.cases.equal("machine: which the log says of", story.machine.until(logged), True)
     story.same("and by a password", f"{ask} {by_password} {command}", "404")
     story.same("a name that is there", f"{ask} {sent.replace('dora', 'anna')}", "409")
     since = time.strftime("%Y-%m-%d", time.gmtime())
@@ -253,7 +261,7 @@ def moderated(story):
     told = story.post("carl", "/approve", "num=1")
     story.cases.equal("machine: a contributor does not decide", told, "refused 5 RankTooLow")
     story.cases.equal("machine: an approval", story.post("anna", "/approve", "num=1"), "ok")
-    story.works("publishing", "systemctl start pciids-publish")
+    story.works("publishing", PUBLISH)
     text = f"{ASK_SITE} https://{HOST}/pci.ids"
     lines = "sed -e 's/[0-9.]\\{10\\}$/DAY/' -e 's/    20.*/ TIME/'"
     want = "# PCI ID registry\n#\n#\tVersion: DAY\n#\tDate: TIME\n#\n8086  Intel"
@@ -331,6 +339,7 @@ def kill_backup(story):
 
 def kept(story):
     """A backup of a running service, and back."""
+    revision = story.machine.run(f"{ASK}/status?format=text | sed -n 's/^revision //p'")[1]
     story.works("a backup", "systemctl start pciids-backup")
     story.is_up("the server is back after a backup")
     copy = story.machine.run("ls /var/backups/pciids")[1].strip()
@@ -339,7 +348,7 @@ def kept(story):
     told = story.post("carl", "/submit", "path=PC/10ec&name=Realtek")
     story.cases.equal("machine: a later name", told, "ok 2")
     story.cases.equal("machine: it is approved", story.post("anna", "/approve", "num=2"), "ok")
-    story.works("it is published", "systemctl start pciids-publish")
+    story.works("it is published", PUBLISH)
     names = f"{ASK_SITE} https://{HOST}/pci.ids | grep -v '^#'"
     story.same("both names", names, "10ec  Realtek\n8086  Intel")
 
@@ -353,17 +362,21 @@ def kept(story):
     story.cases.equal("machine: the operator's program was told of it", said, True)
     story.machine.run(f"rm {hook}")
     story.is_up("the server goes on after it")
+    story.same("nothing of it is left", "ls /var/lib/pciids | grep -c restored", "0", 1)
     text = "# PCI ID registry\n10ec  Realtek\n8086  Intel"
     story.same("the registry is as before", f"{ASK}/pci.ids", text)
     story.fails("a copy that is none", "pciids-restore ../../etc 2> /dev/null")
 
+    story.example("Backup and restore")
+    told = story.example("Backup and restore", **{"2026-11-25T031700Z": copy})
+    story.cases.equal("machine: what a copy has", told, f"ok 1\n{revision}")
     told = story.example("Backup and restore", **{"2026-11-25T031700Z": copy})
     story.cases.equal("machine: the copies are listed", copy in told.split(), True)
     story.is_up("the server is back after a restore")
     story.same("the registry is as it was", f"{ASK}/pci.ids", "# PCI ID registry\n8086  Intel")
-    story.works("publishing after a restore", "systemctl start pciids-publish")
+    story.works("publishing after a restore", PUBLISH)
     story.same("the later name is not published any more", names, "8086  Intel")
-    back = told.partition("come back with\n")[2].partition("Mirrors")[0]
+    back = told.partition("come back with\n")[2].partition("Numbers")[0]
     told = story.works("what was approved since the copy comes back", f"set -e\n{back}")
     story.cases.equal("machine: one name", "ok added=1 renamed=0 same=1" in told, True)
     story.same("the registry has it again", f"{ASK}/pci.ids", text)
@@ -372,7 +385,7 @@ def kept(story):
     told = story.works("a restore while the server is stopped", stopped)
     story.cases.equal("machine: it says how to start it", said in told.split("\n"), True)
     story.is_up("the server is back after that")
-    story.works("publishing after that", "systemctl start pciids-publish")
+    story.works("publishing after that", PUBLISH)
     story.machine.run("rm -r $(ls -d /var/lib/pciids/replaced.* | tail -1)")
     story.same("the published file follows", names, "8086  Intel")
     former = "ls /var/lib/pciids/replaced.*"
@@ -402,6 +415,10 @@ def upgraded(story, folder):
     story.cases.equal("machine: the site answers after an upgrade", up, True)
     told = story.post("carl", "/submit", "path=PC/10de&name=NVIDIA")
     story.cases.equal("machine: passwords stay", told, "ok 2")
+    story.example("Upgrade")
+    story.is_up("the server answers after the way back")
+    story.same("of which nothing is lost", f"{ASK}/status?format=text | tail -1", "submissions 2")
+    story.same("the file is the former one", f"{unedited} | grep -c Another", "0", 1)
 
 
 def imported(story):
@@ -416,7 +433,7 @@ def imported(story):
 
 def distributed(story):
     """What others fetch from the site: update-pciids of pciutils."""
-    story.works("publishing the import", "systemctl start pciids-publish")
+    story.works("publishing the import", PUBLISH)
     story.machine.run(
         f"echo 127.0.0.1 {HOST} >> /etc/hosts; mkdir -p /srv/copy;"
         " echo cacert=/etc/pciids/certificate.pem > /srv/.curlrc;"
@@ -434,18 +451,18 @@ def signed(story):
     hook, public = "/etc/pciids/on-publish", "/var/lib/pciids-public"
     story.machine.run(f"printf '#!/bin/sh\\nid -un; sed s/^/heard:/\\n' > {hook}; chmod 755 {hook}")
     story.example("Signatures")
+    revocation = "stat -c %a /root/signing-key.rev; grep -c '^:-----BEGIN' /root/signing-key.rev"
+    story.same("its revocation is kept, for root alone", revocation, "600\n1")
     is_signed = f"cd {public} && gpgv -q --keyring ./key.gpg pci.ids.asc pci.ids 2> /dev/null"
     story.cases.equal("machine: the published file is signed", story.machine.until(is_signed), True)
     story.fails("the key, by publishing", f"{by('pciids')} cat /etc/pciids/signing-key 2>&1")
-    mirror = (f"mkdir -p /srv/signed && HOME=/srv /usr/lib/pciids-registry/mirror"
-              f" --key {public}/key.gpg --history https://{HOST} /srv/signed > /dev/null")
-    story.works("a mirror that verifies", f"{mirror} 2>&1")
+    story.works("a mirror that verifies", f"{MIRROR} 2>&1")
     same = f"cmp {public}/pci.ids /srv/signed/pci.ids"
     story.works("it has the published file, signed", same)
     told = story.post("carl", "/submit", "path=PC/8086/7d8a&name=Imaginary+Controller")
     number = told.split()[-1]
     story.cases.equal("machine: a name", story.post("anna", "/approve", f"num={number}"), "ok")
-    story.works("it is published", "systemctl start pciids-publish")
+    story.works("it is published", PUBLISH)
     heard = "journalctl -q -u pciids-announce | grep -q 'heard:.*\"now\":\"Imaginary Controller\"'"
     story.cases.equal("machine: it is passed on", story.machine.until(heard), True)
     who = "journalctl -q -u pciids-announce -o cat | head -1"
@@ -461,6 +478,7 @@ def replaced(story):
     heard = "journalctl -q -o cat -u 'pciids-failed@*' --since '{}' | grep -q 'told of pciids-pub'"
     begun = story.machine.run("date '+%F %T'")[1].strip()
     text = story.machine.run(f"{ASK}/pci.ids | sha256sum")[1]
+    alone(story)
     story.works("the files are moved away", f"mkdir /srv/away; mv {files} /srv/away")
     told = story.post("carl", "/submit", "path=PC/8086/7d8b&name=Lost")
     story.cases.equal("machine: a command without the file", told, "refused 17 Store")
@@ -474,9 +492,9 @@ def replaced(story):
     story.works("a copy of what is there", "systemctl start pciids-backup")
     copies = "journalctl -q -o cat -u pciids-backup | grep -o 'ok [0-9]*' | tail -1"
     story.same("how many items that has", copies, "ok 0")
-    told = story.example("When something fails")
+    told = story.example("A file that was removed or replaced")
     story.cases.equal("machine: the files of now", told.count("registry.db"), 2)
-    story.example("When something fails")
+    story.example("A file that was removed or replaced")
     story.is_up("the server answers over the former files")
     story.same("nothing is lost", f"{ASK}/pci.ids | sha256sum", text.strip())
     story.machine.run("sleep 1; systemctl reset-failed")
@@ -489,29 +507,95 @@ def replaced(story):
     story.cases.equal("machine: it is told of a server that ends at each start", told, True)
     story.works("the former file", f"systemctl stop pciids; cp -a /srv/away/* /var/lib/pciids;"
                 f" rm {hook}; systemctl reset-failed; systemctl start pciids")
-    story.works("publishing as before", "systemctl start pciids-publish")
+    story.works("publishing as before", PUBLISH)
+
+
+def alone(story):
+    """registry.db alone is moved away: what its log has is there when it comes back."""
+    file = "/var/lib/pciids/registry.db"
+    told = story.post("carl", "/submit", "path=PC/8086/7d8d&name=In+the+log")
+    number = told.split()[-1]
+    story.works("the file alone is moved away", f"mv {file} /srv/alone.db")
+    told = story.post("carl", "/submit", "path=PC/8086/7d8b&name=Lost")
+    story.cases.equal("machine: a command without the file alone", told, "refused 17 Store")
+    said = "journalctl -q -o cat -u pciids | grep -q 'registry.db is gone, and its log is there'"
+    story.cases.equal("machine: nothing begins over its log", story.machine.until(said), True)
+    story.works("the file is put back", f"mv /srv/alone.db {file}")
+    story.is_up("the server comes back by itself")
+    read = f"{ASK}/submission/{number}?format=text | sed -n 's/^name //p'"
+    story.same("what the log had alone is there", read, "In the log")
 
 
 def mended(story):
-    """A name that was approved wrongly."""
+    """A name, and an import, that was approved wrongly."""
     read = f"{ASK}/read/PC/8086/7d8a?format=text"
     told = story.post("carl", "/submit", "path=PC/8086/7d8a&name=Imaginery")
     told = story.post("anna", "/approve", f"num={told.split()[-1]}")
     story.cases.equal("machine: a wrong name", told, "ok")
     story.same("it is there", read, "Imaginery")
-    told = story.example("When something fails")
+    pending = f"{ASK}/status?format=text | sed -n 's/^pending //p'"
+    before = story.machine.run(pending)[1]
+    block = next(it for heading, it in story.examples if heading == "A wrong name")
+    for good, bad, refusal in (("7d8a ", "7D8A ", "1 BadPath"), ("name=", "name= ", "2 BadName")):
+        told = story.machine.run(block.replace(good, bad))[1]
+        got = told.splitlines()[-1], story.machine.run(pending)[1]
+        story.cases.equal("machine: nothing is approved", got, (f"refused {refusal}", before))
+    told = story.example("A wrong name", Controller="& Controller")
     got = told.count('"now":"Imaginary Controller"'), told.endswith("ok\n")
     story.cases.equal("machine: what it was, and its end", got, (1, True))
-    story.same("the right one", read, "Imaginary Controller")
+    story.same("the right one", read, "Imaginary & Controller")
+    copy = story.machine.run("ls /var/backups/pciids | head -1")[1].strip()
+    block = next(it for heading, it in story.examples if heading == "A wrong name")
+    story.example("A wrong name", **{"2026-11-25T031700Z": copy})
+    intel = f"{ASK}/read/PC/8086?format=text"
+    story.same("a name from before an import", intel, "Intel")
+    wrong = f"{ASK.replace(' http', SEND + ' http')}/import"
+    story.works("another wrong import", f"echo '8086  Wrong' | {wrong}")
+    story.works("the same repair", "sleep 1\n" + block.replace("2026-11-25T031700Z", copy))
+    story.same("acts once more", intel, "Intel")
+
+
+def flooded(story):
+    """An account that proposes too much."""
+    story.works("an account", "pciids-adduser mallory contributor")
+    pending = "{}'/submissions?format=text&author={}' | grep -c '^[0-9]* pending '"
+    submit = "-d \"path=PC/8086/7e$it&name=Flood\""
+    story.works("a flood", "for it in $(seq 10 99) $(seq 10 60); do"
+                f" {ASK}/submit -f -H 'X-Account: mallory' {submit} || exit; done")
+    before = story.machine.run(pending.format(ASK, "carl"))[1].strip()
+    story.same("its last page", pending.format(ASK, "mallory"), "100")
+    story.example("A flood")
+    told = story.example("A flood")
+    story.cases.equal("machine: each is rejected", told.split(), ["ok"] * 141)
+    story.same("none is left", pending.format(ASK, "mallory"), "0", 1)
+    story.same("those of others stay", pending.format(ASK, "carl"), before)
+
+
+def larger(story):
+    """More memory for the server and what opens its copies."""
+    story.example("Memory runs short")
+    story.is_up("the server with more memory")
+    show = "systemctl show --value -p LimitDATA -p MemoryMax pciids pciids-restore@x"
+    story.same("it has it", show, "2147483648\n1610612736\n\n2147483648\ninfinity")
+    show = "systemctl show --value -p Environment -p MemoryMax pciids-backup | sort"
+    told = story.machine.run(show)[1]
+    got = "2147483648" in told, "WARN=768" in told, "WARN=384" in told
+    story.cases.equal("machine: so has the backup", got, (True, True, False))
 
 
 def saved(story):
     """What the operator keeps of a machine elsewhere, before that is gone."""
-    story.works("a last backup", "systemctl start pciids-backup")
-    story.is_up("the server is back")
-    story.works("a copy of it elsewhere", "mkdir /srv/next/saved; cd /srv/next/saved;"
+    story.example("Another machine, or another name")
+    story.same("the server stays stopped", "systemctl is-active pciids", "inactive", 3)
+    story.works("a copy of it elsewhere", "mkdir -p /srv/next/saved/system; cd /srv/next/saved;"
                 " cp -r /var/backups/pciids/$(ls /var/backups/pciids | tail -1) .;"
+                " cp -r /etc/systemd/system/pciids*.d system;"
                 " cp -r /etc/pciids etc; chown -R nobody: .")
+    # What came after it a mirror has.
+    later = f"{ASK.replace(' http', SEND + ' http')}/import"
+    story.works("a later name", f"systemctl start pciids && echo '8086  Later' | {later}")
+    story.works("is published", PUBLISH)
+    story.works("and mirrored", f"{MIRROR} 2>&1; cp -r /srv/signed /srv/next/saved/mirror")
     return story.machine.run(f"{ASK}/pci.ids | sha256sum")[1].strip()
 
 
@@ -519,8 +603,17 @@ def on_another(story, text):
     """On a new machine, with what was kept."""
     copy = story.machine.run("ls -d /srv/next/saved/2*Z")[1].strip().rpartition("/")[2]
     story.works("nothing is left of the first", "rm -r /etc/pciids /var/lib/pciids*"
-                " /var/backups/pciids; for it in -join -web ''; do userdel pciids$it; done")
-    story.example("When something fails", "/srv/next", **{"2026-11-25T031700Z": copy})
+                " /etc/systemd/system/pciids*.d /var/backups/pciids; systemctl daemon-reload;"
+                " for it in -join -web ''; do userdel pciids$it; done")
+    # As apt leaves it.
+    story.works("the host's nginx", "rm -f /etc/nginx/sites-enabled/pciids"
+                " /etc/nginx/conf.d/pciids.conf; systemctl enable --now nginx 2>&1")
+    story.example("A machine that is gone", "/srv/next", **{"2026-11-25T031700Z": copy})
+    show = "systemctl show --value -p LimitDATA pciids"
+    story.same("the memory of before", show, "1610612736")
+    told = story.example("A machine that is gone", "/srv/next")
+    story.cases.equal("machine: what a mirror had more", "added=0 renamed=1 " in told, True)
+    story.example("A machine that is gone", "/srv/next")
     story.is_up("the server of another machine")
     story.same("all names", f"{ASK}/pci.ids | sha256sum", text)
     page = f"{ASK_SITE} -o /dev/null -w '%{{http_code}}' https://{HOST}/item/PC/8086"
@@ -530,10 +623,33 @@ def on_another(story, text):
     days = "cat /var/lib/pciids-public/history/????-??.jsonl | wc -l"
     lines = story.machine.run(days)[1].strip()
     story.cases.equal(f"machine: a history of {lines} lines", int(lines) > 30_000, True)
+    last = "tail -1 $(ls /var/lib/pciids-public/history/????-??.jsonl | tail -1)"
+    story.same("which nothing took back", f"{last} | grep -c '\"now\":\"Later\"'", "1")
+    signed = story.machine.until(f"{MIRROR} 2> /dev/null")
+    story.cases.equal("machine: the mirror goes on from its own", signed, True)
     story.same("who owns what", "stat -c '%a %U:%G %n' /etc/pciids/accounts/* /etc/pciids/key.pem",
                "750 pciids-join:pciids-web /etc/pciids/accounts/invites\n"
                "640 pciids-join:pciids-web /etc/pciids/accounts/passwords\n"
                "640 root:pciids-web /etc/pciids/key.pem")
+
+
+def began_anew(story):
+    """Without a backup, from the published file; of somebody who left there is a line alone."""
+    names = "grep -v '^#' /var/lib/pciids-public/pci.ids | sha256sum"
+    before = story.machine.run(names)[1].strip()
+    passwords = "/etc/pciids/accounts/passwords"
+    story.works("somebody who left", f"echo gone:- >> {passwords}; cp {passwords} /srv/passwords")
+    number = int(story.machine.run("grep -c '' /var/lib/pciids-public/pci.ids")[1]) - 5
+    told = story.example("Begin anew")
+    want = f"ok added={number} renamed=0 same=0\n"
+    story.cases.equal(f"machine: all names: {told!r}", told.endswith(want), True)
+    story.example("Begin anew")
+    want = "anna 3 open\ncarl 0 open\ndora 0 open\nfred 0 open\ngone none left\nmallory 0 locked"
+    story.same("the accounts", "pciids-adduser --list | sed 's/ joined .*//'", want)
+    same = f"cmp {passwords} /srv/passwords"
+    story.works("passwords are as before", same)
+    story.works("publishing after that", PUBLISH)
+    story.same("the published names are as before", names, before)
 
 
 def cached(story):
@@ -563,17 +679,18 @@ def removed(story):
         "what stays: the registry, its copies and the passwords",
         "find /etc /usr /run /var/lib /var/log /var/cache /var/backups -maxdepth 3"
         " ! -path /run/pciids \\( -name 'pciids*' -o -path '*/pciids/*' \\)"
-        " ! -path '*/dpkg/*' ! -name '*.pem' ! -path '*/replaced.*'"
+        " ! -path '*/dpkg/*' ! -path '/etc/systemd/*' ! -name '*.pem' ! -path '*/replaced.*'"
         " ! -path '/var/backups/pciids/*' ! -path '*/journal/*' | sort",
         "/etc/pciids\n/etc/pciids/accounts\n/etc/pciids/accounts/invites\n"
         "/etc/pciids/accounts/passwords\n/etc/pciids/signing-key\n/var/backups/pciids\n"
-        "/var/lib/pciids\n/var/lib/pciids-public\n"
-        "/var/lib/pciids/registry.db\n/var/lib/pciids/registry.db-wal",
+        "/var/lib/pciids\n/var/lib/pciids-journal\n/var/lib/pciids-public\n"
+        "/var/lib/pciids/epoch\n/var/lib/pciids/registry.db\n/var/lib/pciids/registry.db-wal",
     )
     left = "ls /var/lib/pciids-public"
     story.same("and the history", left, "feeds\nhistory")
     story.same("all backups stay", "ls /var/backups/pciids | wc -l", "4")
     left = "find /etc/systemd/system /var/lib/systemd -name '*pciids*' ! -name 'stamp-*'"
+    left += " ! -name '*.d'"
     story.same("no link of a unit stays", left, "")
 
 
@@ -587,7 +704,7 @@ def machine_for(cases):
 
 def test_machine(cases):
     program.need("curl", "gnupg", "gunicorn", "nginx-light", "openssl", "pciutils",
-                 "systemd-container")
+                 "sqlite3", "systemd-container")
     with machine_for(cases) as (story, folder):
         install(story)
         sandbox(story)
@@ -604,8 +721,13 @@ def test_machine(cases):
         signed(story)
         replaced(story)
         mended(story)
+        flooded(story)
+        larger(story)
         cached(story)
         text = saved(story)
         removed(story)
         on_another(story, text)
-        cases.equal("machine: examples of docs/OPERATE.md that were not run", story.examples, [])
+        began_anew(story)
+        # test_machine_journal.py has these.
+        others = [it for it in story.examples if it[0] != "A journal and a standby"]
+        cases.equal("machine: examples of docs/OPERATE.md that were not run", others, [])

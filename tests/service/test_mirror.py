@@ -276,7 +276,7 @@ def behind_a_cache(cases, server, folder):
         deaf(cases, server, cache, folder)
         cache.asked.clear()
         same("nothing new", b"", b"24\n")
-        asked = ["/changes?format=text&since=24&after="]
+        asked = ["/epoch", "/changes?format=text&since=24&after="]
         cases.equal("cache: nothing new, and the file is not asked for", cache.asked, asked)
         tools_failing(cases, server, cache, folder)
 
@@ -337,6 +337,38 @@ def tools_failing(cases, server, cache, folder):
     got = told[0].count(b"\n"), *told[1:]
     want = 150, b"", 0, text_of(server), revision_of(server)
     cases.equal("mirror: with all tools", got, want)
+
+
+def restored(cases, server, older, folder):
+    """A registry that was restored shows another epoch, and its copy begins anew. Where it shows
+    the same one, a number that goes back is refused."""
+    def same(name, epoch, *want):
+        cache.instead["/epoch"] = REPLY % (len(epoch), epoch)
+        cases.equal(f"epoch: {name}", mirrored(cache.port, folder), (*want, "epoch"))
+
+    one, two, three = (b"%032x\n" % number for number in (1, 2, 3))
+    back = b"mirror: the registry went back from revision 2 to 1\n"
+    anew = b"mirror: the registry was restored, and the copy begins anew\n"
+    none = b"mirror: what came for /epoch is none\n"
+    for it in (server, older):
+        imported(it, "8086  Intel\n")
+    imported(server, "8086  Other\n")
+    was, text, told = text_of(server), text_of(older), b"1 PC/8086 Intel\n"
+    with Cache(server) as cache:
+        same("the first", one, b"2 PC/8086 Other\n", b"", 0, was, b"2\n")
+        cache.server = older
+        same("the same, and the number goes back", one, b"", back, 1, was, b"2\n")
+        same("what is none", b"<html>", b"", none, 1, was, b"2\n")
+        same("another", two, told, anew, 0, text, b"1\n")
+        same("still that one", two, b"", b"", 0, text, b"1\n")
+        cache.instead["/pci.ids"] = BUSY
+        ran = mirrored(cache.port, folder)[:3]
+        cases.equal("epoch: nothing new", ran, (b"", b"", 0))
+        cache.instead["/epoch"] = REPLY % (len(three), three)
+        ran = mirrored(cache.port, folder)[2:]
+        cases.equal("epoch: no text to be had", ran, (22, text, b"", "epoch"))
+        del cache.instead["/pci.ids"]
+        same("then it is", three, told, b"", 0, text, b"1\n")
 
 
 def emptied(folder):
@@ -450,3 +482,13 @@ def test_mirror(cases):
     with tempfile.TemporaryDirectory() as folder:
         os.chmod(folder, 0o755)
         at_its_pace(cases, folder)
+
+
+def test_restored(cases, folder):
+    program.need("curl")
+    names = [os.path.join(folder, it) for it in ("registry.db", "older.db", "copy")]
+    os.mkdir(names[2])
+    for it in names[:2]:
+        script(it)
+    with Server(names[0]) as server, Server(names[1]) as older:
+        restored(cases, server, older, names[2])

@@ -244,7 +244,7 @@ def taken_back(cases, world, browser):
     browser.one(row_of(numbers[4]))
     before = revision(world)
     grace = browser.driver.execute_async_script(
-        "const [done] = arguments; import('/site/carry.js').then((it) => done(it.GRACE))")
+        "const [done] = arguments; import('/site/sending/command.js').then((it) => done(it.GRACE))")
     cases.equal("grace: five seconds", 5_000 <= grace < 5_500, True)
     browser.click(f"{row_of(numbers[0])} button.main")
     browser.has("Approved.", row_of(numbers[0]))

@@ -58,6 +58,35 @@ def reloaded(cases, world, browser):
     cases.equal("once: the same between tries", (count(world, "a003"), browser.owed()), (1, []))
 
 
+def restored(cases, world, browser):
+    """A command that was meant for a number is not sent to a registry that was restored."""
+    number = world.submit("alice", "PC/8086/a007", "To comment on")
+    browser.go(f"/proposals/{number}")
+    browser.type("#comment", "Meant for this one")
+    world.spoiler.set("gone")
+    browser.click("section form button.main")
+    browser.has("It isn't known yet", "#owed")
+    browser.go("/help")
+    browser.has("no answer came", "#owed")
+    world.spoiler.set("pass")
+    world.show_epoch(2)
+    browser.click("#owed button")
+    told = browser.has("restored from a backup", "#owed")
+    got = told, len(world.ask(f"/submission/{number}")["remarks"]), len(browser.owed())
+    cases.equal("once: the registry was restored", got, (True, 0, 1))
+    browser.js("import('/site/sending/queue.js').then(({ owed, forget }) =>"
+               " owed().forEach((it) => forget(it.key)))")
+    browser.wait(lambda: not browser.owed(), "it is forgotten")
+    propose(browser, "a008", "Proposed over a restore")
+    world.spoiler.set("gone")
+    browser.click("form.propose button.main")
+    browser.has("It isn't known yet", "#owed")
+    world.show_epoch(3)
+    world.spoiler.set("pass")
+    browser.heading("Proposal ")
+    cases.equal("once: a proposal over a restore", count(world, "a008"), 1)
+
+
 def doubled(cases, world, browser):
     """Double clicks and ten clicks at once propose once, and do nothing on the next page."""
     for digits, pause in (("a004", 0.12), ("a005", 0.3)):
@@ -238,7 +267,7 @@ def forgotten(cases, world, browser):
     cases.equal("once: what was forgotten isn't sent", left, (0, []))
     # Each tab makes sixty entries, both at once.
     make = ("const [done] = arguments, all = [];"
-            "import('/site/outbox.js').then(async ({ begin, forget }) => {"
+            "import('/site/sending/queue.js').then(async ({ begin, forget }) => {"
             "for (let n = 0; n < 60; n += 1) all.push((await begin('/x', 'a=b', 'x')).key);"
             "window.forgetAll = () => all.forEach(forget); done(all.length); })")
     driver.execute_script(f"(function () {{ {make} }})(() => {{ window.made = true; }})")
@@ -252,7 +281,8 @@ def forgotten(cases, world, browser):
     browser.js("window.forgetAll()")
     cases.equal("once: and forget them", browser.owed(), [])
     told = driver.execute_async_script(
-        "const [done] = arguments; import('/site/outbox.js').then(async ({ begin, settle }) => {"
+        "const [done] = arguments;"
+        "import('/site/sending/queue.js').then(async ({ begin, settle }) => {"
         "  const entry = await begin('/x', 'a=b', 'x');"
         "  localStorage.setItem(`acted:${entry.key}`, JSON.stringify({ num: 7, at: 1 }));"
         "  localStorage.removeItem(`owed:${entry.key}`);"
@@ -445,7 +475,7 @@ def test_site_once(cases):
         alice.log_in("alice")
         mona.go("/")
         mona.log_in("mona")
-        for part in (lost, reloaded, doubled):
+        for part in (lost, reloaded, restored, doubled):
             part(cases, world, alice)
         for part in (queued, late_row, elsewhere_decided):
             part(cases, world, mona)

@@ -196,22 +196,22 @@ def statuses(cases, world):
 
 
 def modules(cases):
-    """The script of the site names all modules that it needs, so that they are fetched at once; but
-    for the first script, which is there by then."""
-    imports = re.compile(r'^(?:import |} from )(?:.* from )?"./([a-z.]+)";$', re.M)
+    """The script of the site names all modules that it needs, so that they are fetched at once."""
+    imports = re.compile(r'^(?:import |} from )(?:.* from )?"(\.[a-z_./]+)";$', re.M)
 
     def named_in(name):
         with open(os.path.join(SITE, name), encoding="utf-8") as file:
-            return imports.findall(file.read())
+            found = imports.findall(file.read())
+        return [os.path.normpath(os.path.join(os.path.dirname(name), it)) for it in found]
 
-    named, needed = named_in("site.js"), {"main.js"}
+    named, needed = named_in("site.js"), set()
     left = ["site.js"]
     while left:
         found = {*named_in(left.pop())} - needed
         left += found
         needed |= found
     got = sorted(named), len(named) > 10, named_in("main.js")
-    want = sorted(needed - {"main.js"}), True, []
+    want = sorted(needed), True, []
     cases.equal("safety: what the scripts name", got, want)
 
 

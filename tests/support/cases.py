@@ -19,9 +19,8 @@ class Cases:
 
     def printed(self, name, text, want):
         """`tidy` prints the text like this, and `check` counts its entries, with status 0."""
-        counted = b"ok %d\n" % entries_of(want)
         self.ran(name, tidy(text), want, b"", 0)
-        self.ran(f"check: {name}", run(text, "check"), counted, b"", 0)
+        self.ran(f"check: {name}", run(text, "check"), b"ok %d\n" % entries_of(want), b"", 0)
 
     def refused(self, name, text, fault_line):
         """`tidy` prints this line on standard error, `check` on standard output, with status 1."""

@@ -139,7 +139,9 @@ class Front:
         for it in ("history/2026-11.jsonl", "history/.names", "history/PC/8086.jsonl",
                    "feeds/changes.atom"):
             self.write(f"public/{it}", "{}")
-        os.mkdir(os.path.join(folder, "accounts"))
+        for it in ("accounts", "shown"):
+            os.mkdir(os.path.join(folder, it))
+        self.write("shown/epoch", f"{1:032x}\n")
         self.write("accounts/passwords", "".join(f"{it}:{hashed(f'pw-{it}')}\n" for it in PEOPLE))
         self.write("public/sitemap.xml", "<loc>https://site.invalid/sitemap-1.xml</loc>")
         self.write("host.conf", f"server_name {HOST};\n{host}\n")
@@ -174,6 +176,7 @@ class Front:
                 ("/usr/share/pciids-registry/site", SITE),
                 ("/run/pciids-join", f"{self.folder}/join"),
                 ("/var/lib/pciids-public", f"{self.folder}/public"),
+                ("/run/pciids-epoch", f"{self.folder}/shown"),
                 ("listen 443", f"listen {own}"),
                 ("listen 80;", f"listen 127.0.0.1:{free_port()};"),
             ),

@@ -62,6 +62,18 @@ GET /submission/2?format=text | 404 Not Found text refused 7 NoSubmission;
 GET /submission/01 | 400 Bad Request json {"ok":false,"refused":3,"word":"BadText"}
 GET /submission/2000000001?format=text | 400 Bad Request text refused 3 BadText;
 GET /submission/1?of=1 | 400 Bad Request json {"ok":false,"refused":3,"word":"BadText"}
+GET /submission/0 | 400 Bad Request json {"ok":false,"refused":3,"word":"BadText"}
+GET /submission/2000000000 | 404 Not Found json {"ok":false,"refused":7,"word":"NoSubmission"}
+GET /submission/1/2 | 404 Not Found json {"ok":false,"refused":24,"word":"NoRoute"}
+GET /pci.ids?&& | 200 OK text # PCI ID registry;8086  Intel Corporation;
+GET /pci.ids?= | 400 Bad Request json {"ok":false,"refused":3,"word":"BadText"}
+GET /children?format=%6a%73on&of=PC%2F8086 | 200 OK json []
+GET /lookup?vendor=8086 | 400 Bad Request json {"ok":false,"refused":3,"word":"BadText"}
+GET /status?who=alice | 400 Bad Request json {"ok":false,"refused":3,"word":"BadText"}
+GET /account?format=text&who=al%69ce | 200 OK text alice 0;
+GET /submissions?author=alice&author=alice | 400 Bad Request json {"ok":false,"refused":3,\
+"word":"BadText"}
+RAW get /pci.ids HTTP/1.1~~ | 405 Method Not Allowed allow GET, POST
 GET /pending | 200 OK json []
 GET /pending?after=0&format=text | 200 OK text
 GET /pending?after=00&format=text | 400 Bad Request json {"ok":false,"refused":3,"word":"BadText"}

@@ -93,7 +93,9 @@ def ask_curl(*words):
 class Server:
     """`pciids serve` over a file, for so many connections."""
 
-    def __init__(self, database, connections=1_000, program=PROGRAM, port=None, **how):
+    def __init__(
+        self, database, connections=1_000, program=PROGRAM, port=None, journal=None, **how
+    ):
         self.port = port or free_port()
         words = [
             program,
@@ -105,6 +107,8 @@ class Server:
             "--connections",
             str(connections),
         ]
+        if journal is not None:
+            words += ["--journal", journal]
         self.process = subprocess.Popen(
             words, stdout=subprocess.PIPE, stderr=subprocess.PIPE, **how
         )

@@ -45,8 +45,10 @@ def defined():
     said = r"= answer_in format (\d+) \(refusal_data (\d+) \(codes \"(\w+)\"\)\)"
     for status, number, word in re.findall(said, spec("pid_http", "Api/RankAnswers")):
         found[int(number)] = (word, int(status))
-    requests = spec("pid_http_stream", "RequestRefusals")
-    statuses = dict(re.findall(r"^request_refusal_status (\w+) = (\d+)$", requests, re.M))
-    for variant, (number, word) in numbered(requests, "request_refusal").items():
-        found[number] = (word, int(statuses[variant]))
+    said = r"= refused_answer (\d+) (\d+) \(codes \"(\w+)\"\)"
+    for status, number, word in re.findall(said, spec("pid_http", "Api/EarlyAnswers")):
+        found[int(number)] = (word, int(status))
+    streams = spec("pid_http_stream", "StreamFaults")
+    for status, number, word in re.findall(r'= \((\d+), (\d+), codes "(\w+)"\)', streams):
+        found[int(number)] = (word, int(status))
     return found

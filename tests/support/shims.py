@@ -29,11 +29,14 @@ def build_shims(folder):
     return shims
 
 
-def run_refusing(shim, at, text, *words):
+def run_refusing(shim, at, text, *words, within=None):
     """Runs the program with its request number `at` refused: output, faults and status, and whether
-    there was such a request."""
+    there was such a request. Requests of the disk may be counted of some files alone: those whose
+    paths have a text."""
     reading, writing = os.pipe()
     environment = dict(os.environ, LD_PRELOAD=shim, REFUSE_AT=str(at), REFUSE_FD=str(writing))
+    if within:
+        environment["REFUSE_IN"] = within
     how = {"env": environment, "pass_fds": [writing], "timeout": 60}
     ran = subprocess.run([WHOLE, *words], input=text, capture_output=True, **how)
     os.close(writing)

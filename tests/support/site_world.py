@@ -222,6 +222,7 @@ class Nginx:
             (r"unix:/run/pciids/http.sock", f"127.0.0.1:{behind}"),
             (r"unix:/run/pciids/join.sock", f"127.0.0.1:{self.join}"),
             (r"/run/pciids-join", f"{self.folder}/join"),
+            (r"/run/pciids-epoch", f"{self.folder}/shown"),
             (r"/run/(pciids-lists)|/var/cache/(pciids-long)", f"{self.folder}/\\1\\2"),
             (r"rate=([0-9]+)r/", r"rate=\g<1>0r/"),
         ):
@@ -283,6 +284,8 @@ class World:
         self.server = Server(self.database, connections=100_000)
         self.spoiler = Spoiler(self.server.port)
         os.makedirs(f"{self.folder}/join/sessions")
+        os.mkdir(f"{self.folder}/shown")
+        self.show_epoch(1)
         with open(f"{self.folder}/join.conf", "w", encoding="utf-8") as file:
             file.write(settings(joins_an_hour=100, contact="Ask registry@example.org."))
         way = Way(f"{self.folder}/http.sock", self.server.port)
@@ -333,6 +336,10 @@ class World:
                 return json.load(response)
         except urllib.error.HTTPError as fault:
             return json.load(fault)
+
+    def show_epoch(self, number):
+        with open(f"{self.folder}/shown/epoch", "w", encoding="utf-8") as file:
+            file.write(f"{number:032x}\n")
 
     def keep(self):
         """A copy of the registry, as a backup has it."""

@@ -102,7 +102,7 @@ class SmallRegistry:
                      if not number["before"] or it["num"] < number["before"]][:PAGE]
             before = found[-1]["num"] if found and found[-1]["num"] > 1 else 0
             return {"before": before, "submissions": found}
-        return self.counts()
+        return self.counts() if path == "/status" else None
 
 
 class SmallServer:
@@ -115,7 +115,7 @@ class SmallServer:
                 registry.asked.append(path)
                 told = registry.answer(path, dict(urllib.parse.parse_qsl(query)))
                 body = (told if isinstance(told, str) else json.dumps(told)).encode()
-                self.send_response(200)
+                self.send_response(404 if told is None else 200)
                 self.send_header("Content-Length", str(len(body)))
                 self.end_headers()
                 self.wfile.write(body)

@@ -2,7 +2,7 @@
 #![tactic(auto)]
 
 use pid_cli_help::Met;
-use pid_cli_jobs::run_words;
+use pid_cli_registry::run_words;
 use pid_cli_terminal::Session;
 use pid_file::tell_no_words;
 use sqlite_disk::Unknown;

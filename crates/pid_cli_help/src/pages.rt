@@ -146,12 +146,15 @@ Runs the commands and queries on standard input, one per line
 Usage: pciids script [OPTIONS]
 
 Options:
-      --db <FILE>  Registry file, created if it does not exist
-  -h, --help       Print help
+      --db <FILE>         Registry file, created if it does not exist
+      --journal <FOLDER>  Journal of the commands, created if it does not exist
+  -h, --help              Print help
 
 Example: pciids script --db registry.db < commands
 
 Without --db, the registry is kept in memory and lost when the program ends.
+With --journal, each command is on the disk of the journal before it is obeyed,
+and a registry that lacks commands of the journal obeys them first.
 
 Each line is a command or a query, and gets a reply. Empty lines and lines that
 start with '#' get none. WHO is the account that sends the command:
@@ -183,6 +186,7 @@ Arguments:
 
 Options:
       --db <FILE>          Registry file, created if it does not exist
+      --journal <FOLDER>   Journal of the commands, created if it does not exist
       --account <ACCOUNT>  Account that imports, of rank 2 or 3
       --key <KEY>          Key under which the import is done only once
   -h, --help               Print help
@@ -213,10 +217,11 @@ Serves a registry over HTTP
 Usage: pciids serve [OPTIONS] --db <FILE> --port <N>
 
 Options:
-      --db <FILE>        Registry file, created if it does not exist
-      --port <N>         TCP port on 127.0.0.1, 1 to 65535
-      --connections <N>  Connections to serve, 1 to 1000000 [default: 1000000]
-  -h, --help             Print help
+      --db <FILE>         Registry file, created if it does not exist
+      --journal <FOLDER>  Journal of the commands, created if it does not exist
+      --port <N>          TCP port on 127.0.0.1, 1 to 65535
+      --connections <N>   Connections to serve, 1 to 1000000 [default: 1000000]
+  -h, --help              Print help
 
 Example: pciids serve --db registry.db --port 8086
 

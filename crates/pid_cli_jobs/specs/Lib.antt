@@ -1,8 +1,6 @@
-pub mod NamedFiles
-pub mod Files
 pub mod Lines
 pub mod Sessions
-pub mod Jobs
+pub mod Scripts
 pub mod Imports
 pub mod Serving
 pub mod Lookups

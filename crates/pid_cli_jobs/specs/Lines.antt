@@ -1,7 +1,8 @@
 -- The lines that a job prints, and the status with which it ends: choices of this project.
 use Rattle.std.specs.Prelude.{◌≡◌, ℕ, Bool, true, false, List, ◌++◌, codes, decimal, Result, Ok, Err}
 use Rattle.std.specs.Io.KnownBytes.{Appends, Keeps}
-use Rattle.pid_file.specs.TextEnds.{failed_line, fault_line}
+use Rattle.pid_file.specs.TextEnds.{fault_line}
+use Rattle.pid_file.specs.Steps.TextEnds.{failed_line}
 use Rattle.pid_file.specs.Writing.{FailsWithin, TriesLine, WriterUse}
 use Rattle.pid_file.specs.declared.text_end.TextEnd.TheVariants.{Memory}
 use Rattle.pid_lookup.specs.declared.answer.Answer.{Answer}
@@ -14,12 +15,10 @@ use Rattle.pid_moderation.specs.ReplyLines.{outcome_line}
 use Rattle.pid_moderation.specs.declared.command.Reply.{Reply}
 use Rattle.pid_moderation.specs.declared.refusal.Refusal.{Refusal}
 use Rattle.pid_moderation.specs.declared.refusal.Refusal.TheVariants as refusals
-use Rattle.pid_tables.specs.declared.migration.Step.{Step}
-use Rattle.pid_tables.specs.declared.migration.Step.TheVariants.{Created, Moved, Already}
-use Rattle.pid_tables.specs.declared.rows.fault.TableFault.{TableFault}
-use Rattle.pid_tables.specs.declared.rows.fault.TableFault.TheVariants as faults
 use Rattle.pid_cli_jobs.specs.declared.job_end.JobEnd.{JobEnd}
-use Rattle.pid_cli_jobs.specs.declared.job_end.JobEnd.TheVariants.{Told, Refused, FileFailed}
+use Rattle.pid_cli_jobs.specs.declared.job_end.JobEnd.TheVariants.{Exited, Refused, FileFailed}
+use Rattle.pid_cli_jobs.specs.declared.unopened.Unopened.{Unopened}
+use Rattle.pid_cli_jobs.specs.declared.unopened.Unopened.TheVariants as unopened
 
 -- the status after the reply to a command: 0 if it was accepted, 3 if memory, the store or the
 -- registry failed, else 1
@@ -42,23 +41,20 @@ abbrev pub lookup_status : Answer → ℕ
 lookup_status (answers.Text text) = 0
 lookup_status answers.NoAnswer = 1
 
--- the line of what a migration did
-abbrev pub step_line : Step → List ℕ
-step_line Created = codes "created schema 2\n"
-step_line Moved = codes "moved to schema 2\n"
-step_line Already = codes "schema 2 already\n"
-
 -- the line of why a registry was not opened; after a newer schema comes its number
-abbrev pub unopened_word : TableFault → List ℕ
-unopened_word faults.Memory = codes "open: Memory\n"
-unopened_word faults.Store = codes "open: Store\n"
-unopened_word faults.Damaged = codes "open: Damaged\n"
-unopened_word (faults.NewerSchema schema) = codes "open: NewerSchema "
+abbrev pub unopened_word : Unopened → List ℕ
+unopened_word unopened.Memory = codes "open: Memory\n"
+unopened_word unopened.Store = codes "open: Store\n"
+unopened_word unopened.Damaged = codes "open: Damaged\n"
+unopened_word (unopened.NewerSchema schema) = codes "open: NewerSchema "
+unopened_word unopened.AnotherJournal = codes "journal: Another\n"
+unopened_word unopened.SegmentsMissing = codes "journal: Missing\n"
+unopened_word unopened.JournalFailed = codes "journal: failed\n"
 
-abbrev pub unopened_line : TableFault → List ℕ
-unopened_line (faults.NewerSchema schema) = unopened_word (faults.NewerSchema schema)
+abbrev pub unopened_line : Unopened → List ℕ
+unopened_line (unopened.NewerSchema schema) = unopened_word (unopened.NewerSchema schema)
     ++ decimal schema ++ codes "\n"
-unopened_line fault = unopened_word fault
+unopened_line why = unopened_word why
 
 -- a word and a count
 abbrev pub count_line : List ℕ → ℕ → List ℕ
@@ -82,7 +78,7 @@ IsUnreported w = w.faults.after ≡ w.faults.before
 -- A job that prints this line and then ends with this status: the writer took the whole line, or it
 -- failed within it.
 abbrev pub PrintsLine : JobEnd → WriterUse → List ℕ → ℕ → Type 0
-PrintsLine (Told status) w line wanted = (status ≡ wanted) × Appends w.before w.after line
+PrintsLine (Exited status) w line wanted = (status ≡ wanted) × Appends w.before w.after line
 PrintsLine FileFailed w line wanted = FailsWithin w line
 PrintsLine (Refused refusal) w line wanted = ⊥
 
@@ -95,14 +91,14 @@ PrintsReply reply w end = PrintsLine end w.output (outcome_line reply) (reply_st
 pub record ReportsOnly (line : List ℕ) (w : Streams) (end : JobEnd) : Type 0 where
   pub silent : IsUnprinted w
   pub told : TriesLine w.faults line
-  pub ends : end ≡ Told 3
+  pub ends : end ≡ Exited 3
 
 -- out of memory, and why a registry was not opened
-abbrev pub TellsMemory : Streams → JobEnd → Type 0
-TellsMemory = ReportsOnly (fault_line Memory)
+abbrev pub ReportsMemory : Streams → JobEnd → Type 0
+ReportsMemory = ReportsOnly (fault_line Memory)
 
-abbrev pub TellsUnopened : TableFault → Streams → JobEnd → Type 0
-TellsUnopened fault = ReportsOnly (unopened_line fault)
+abbrev pub ReportsUnopened : Unopened → Streams → JobEnd → Type 0
+ReportsUnopened why = ReportsOnly (unopened_line why)
 
 -- What becomes of the answer to a look-up, or of its refusal: its line, and the status after it.
 -- Out of memory nothing is printed, and that is reported.
@@ -111,19 +107,19 @@ PrintsAnswer (Ok answer) w end =
     PrintsLine end w.output (lookup_line answer) (lookup_status answer) × IsUnreported w
 PrintsAnswer (Err look_ups.BadFlags) w end =
     PrintsLine end w.output (unanswered_line unanswered.BadFlags) 1 × IsUnreported w
-PrintsAnswer (Err look_ups.Memory) w end = TellsMemory w end
-PrintsAnswer (Err (look_ups.Names fault)) w end = TellsMemory w end
+PrintsAnswer (Err look_ups.Memory) w end = ReportsMemory w end
+PrintsAnswer (Err (look_ups.Names fault)) w end = ReportsMemory w end
 
 -- the exit status
 abbrev pub exit_status : JobEnd → ℕ
-exit_status (Told status) = status
+exit_status (Exited status) = status
 exit_status (Refused refusal) = 3
 exit_status FileFailed = 3
 
 -- What is reported at the end: that an export was refused; that a file failed, unless the output's
 -- reader has gone away.
 abbrev pub ReportsLast : JobEnd → Bool → WriterUse → Type 0
-ReportsLast (Told status) is_unread w = w.after ≡ w.before
+ReportsLast (Exited status) is_unread w = w.after ≡ w.before
 ReportsLast (Refused refusal) is_unread w = TriesLine w (outcome_line (Err refusal))
 ReportsLast FileFailed true w = Keeps w.before w.after
 ReportsLast FileFailed false w = TriesLine w failed_line

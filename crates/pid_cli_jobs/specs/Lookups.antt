@@ -21,10 +21,10 @@ use Rattle.pid_moderation.specs.declared.refusal.Refusal.TheVariants.{BadText}
 use Rattle.pid_cli_words.specs.Jobs.{text_given}
 use Rattle.pid_cli_words.specs.declared.job.LookupWords.{LookupWords}
 use Rattle.pid_cli_jobs.specs.declared.job_end.JobEnd.{JobEnd}
-use Rattle.pid_cli_jobs.specs.declared.job_end.JobEnd.TheVariants.{Told, FileFailed}
+use Rattle.pid_cli_jobs.specs.declared.job_end.JobEnd.TheVariants.{Exited, FileFailed}
 use Rattle.pid_cli_jobs.specs.declared.lookups.Lookup.{Lookup}
 use Rattle.pid_cli_jobs.specs.Lines.{IsUnprinted, IsUnreported, PrintsAnswer, PrintsReply, Streams}
-use Rattle.pid_cli_jobs.specs.Lines.{TellsMemory}
+use Rattle.pid_cli_jobs.specs.Lines.{ReportsMemory}
 
 -- a text that was read, of an input that keeps no fault of a sink
 abbrev pub ok_of_input : {D : Type 0} → D → Result D (InputEnd Never)
@@ -34,7 +34,7 @@ ok_of_input d = Ok d
 abbrev pub end_of_unread : TextEnd → JobEnd
 end_of_unread ReadFault = FileFailed
 end_of_unread WriteFault = FileFailed
-end_of_unread end = Told (status_of end)
+end_of_unread end = Exited (status_of end)
 
 -- a field, if its value is given
 abbrev pub field_given : List ℕ → Option (List ℕ) → List (List ℕ × List ℕ)
@@ -84,7 +84,7 @@ pub data LooksUpInFile {R : Type 0} (IsText : R → Type 0) (holds : R → Optio
     (fields : List (List ℕ × List ℕ)) (w : Streams) (end : JobEnd) : Type 0 where
   BadFields : (bad : BadField) → IsReadFrom fields (Err bad) → PrintsReply (Err BadText) w end
       → LooksUpInFile IsText holds fields w end
-  NoMemory : TellsMemory w end → LooksUpInFile IsText holds fields w end
+  NoMemory : ReportsMemory w end → LooksUpInFile IsText holds fields w end
   NoFile : end ≡ FileFailed → IsUnprinted w → IsUnreported w → LooksUpInFile IsText holds fields w end
   InFile : (lookup : Lookup) → IsReadFrom fields (Ok lookup) → (text : R) → IsText text
       → LooksUpText lookup (holds text) w end → LooksUpInFile IsText holds fields w end

@@ -1,7 +1,6 @@
 -- What serving a registry prints, and how it ends by that. Choices of this project.
 use Rattle.std.specs.Prelude.{◌≡◌, ℕ, Bool, List, codes, Option, ⊤}
 use Rattle.std.specs.Io.KnownBytes.{Appends}
-use Rattle.sqlite_trees.specs.declared.store.Store.{Ghosts}
 use Rattle.pid_file.specs.Writing.{FailsWithin, TriesLine}
 use Rattle.pid_http_stream.specs.declared.listener.serving.Serving.{Serving}
 use Rattle.pid_http_stream.specs.declared.listener.serving.ServingEnd.{ServingEnd}
@@ -14,14 +13,13 @@ use Rattle.pid_http.specs.Streams.{OverStream}
 use Rattle.pid_http_stream.specs.Causes.{EndsFor}
 use Rattle.pid_http_stream.specs.Moments.{AllSince}
 use Rattle.pid_http_stream.specs.Serving.{IsCaughtUp, IsServed, outside}
-use Rattle.pid_service.specs.declared.registry.Registry.{Registry}
-use Rattle.pid_service.specs.Histories.{as_moderated}
-use Rattle.pid_service.specs.Registries.{is_live}
+use Rattle.pid_service_laws.specs.declared.moderated.Moderated.{Ghosts}
 use Rattle.pid_cli_jobs.specs.declared.job_end.JobEnd.{JobEnd}
-use Rattle.pid_cli_jobs.specs.declared.job_end.JobEnd.TheVariants.{Told, FileFailed}
+use Rattle.pid_cli_jobs.specs.declared.job_end.JobEnd.TheVariants.{Exited, FileFailed}
 use Rattle.pid_cli_jobs.specs.declared.serving.Port.{Port}
-use Rattle.pid_cli_jobs.specs.Lines.{IsUnprinted, IsUnreported, PrintsLine, Streams, ReportsOnly}
-use Rattle.pid_cli_jobs.specs.Lines.{TellsMemory, count_line}
+use Rattle.pid_cli_jobs.specs.Lines.{IsUnreported, PrintsLine, Streams, ReportsOnly}
+use Rattle.pid_cli_jobs.specs.Lines.{ReportsMemory, count_line}
+use Rattle.pid_cli_jobs.specs.Sessions.{IsPrepared}
 
 -- where it listens; how many streams were started; that a socket failed
 abbrev pub listening_line : ℕ → List ℕ
@@ -40,7 +38,7 @@ ReportsServing All streams w end = PrintsLine end w.output (served_line streams)
     × IsUnreported w
 ReportsServing NotLive streams w end = PrintsLine end w.output (served_line streams) 3
     × IsUnreported w
-ReportsServing AcceptFault streams w end = (end ≡ Told 3)
+ReportsServing AcceptFault streams w end = (end ≡ Exited 3)
     × TriesLine w.output (served_line streams)
     × TriesLine w.faults socket_line
 
@@ -48,13 +46,13 @@ ReportsServing AcceptFault streams w end = (end ≡ Told 3)
 -- `ended` of `serve_stream` of `pid_http` say, of the reader and the writer of this exchange. So if
 -- the bytes of the stream are known, such calls led on as its requests make; and if the reader kept
 -- account of its reads, the replies to what had come were out at each of them.
-pub record AnswersStream {S : Type 0} (store : Ghosts S) (old new : Registry S store)
-    (x : Exchange) : Type 0 where
-  pub served : OverStream (as_moderated store) old new x.input.before.come (λ t u stream.
-      IsServed (serving (as_moderated store)) (outside t u x.output.before x.output.after)
+pub record AnswersStream {R : Type 0} (registry : Ghosts R) (old new : R) (x : Exchange)
+    : Type 0 where
+  pub served : OverStream registry old new x.input.before.come (λ t u stream.
+      IsServed (serving registry) (outside t u x.output.before x.output.after)
       stream x.input.after.come x.served.end x.served.answered)
-  pub caught_up : OverStream (as_moderated store) old new x.input.before.come (λ t u stream.
-      AllSince (IsCaughtUp (serving (as_moderated store)) t x.output.before stream)
+  pub caught_up : OverStream registry old new x.input.before.come (λ t u stream.
+      AllSince (IsCaughtUp (serving registry) t x.output.before stream)
       x.input.before.moments x.input.after.moments)
   pub ended : EndsFor x.served.end (record {
     before = x.input.before;
@@ -85,11 +83,17 @@ pub data GivesTo {T : Type 0} (live : T → Bool) (port : Port) (w : Streams) (e
       → new ≡ old → GivesTo live port w end old new
   Gave : HasServed port (live old, live new) w end → GivesTo live port w end old new
 
-module _ {S : Type 0} (store : Ghosts S) where
+module _ {R : Type 0} (registry : Ghosts R) where
   -- Serving a registry on a port. Without a stream the registry is as before.
-  pub data Serves (port : Port) (w : Streams) (end : JobEnd) (old new : Registry S store)
+  pub data Offers (port : Port) (w : Streams) (end : JobEnd) (old new : R)
       : Type 0 where
     -- the port could not be had; out of memory for the table of routes
-    Unbound : ReportsOnly socket_line w end → new ≡ old → Serves port w end old new
-    Unrouted : TellsMemory w end → new ≡ old → Serves port w end old new
-    Served : GivesTo is_live port w end old new → Serves port w end old new
+    Unbound : ReportsOnly socket_line w end → new ≡ old → Offers port w end old new
+    Unrouted : ReportsMemory w end → new ≡ old → Offers port w end old new
+    Served : GivesTo registry.is_live port w end old new → Offers port w end old new
+
+  -- The same of a registry that was prepared before.
+  pub record Serves (port : Port) (w : Streams) (end : JobEnd) (old new : R) : Type 0 where
+    pub prepared : R
+    pub prepares : IsPrepared registry old prepared
+    pub offers : Offers port w end prepared new

@@ -1,3 +1,2 @@
 -- What serves private functions alone; no promise rests on it.
-pub mod Addresses
 pub mod Lines

@@ -8,20 +8,21 @@ ghost use Rattle.pid_cli_jobs.specs.Imports.{
   Imports,
   IsBadSender,
   IsGoodSender,
-  TellsImport,
+  ReportsImport,
 };
 ghost use Rattle.pid_cli_jobs.specs.Lines.{streams};
 
 use crate::job_end::JobEnd;
-use crate::machine::{Databases, Machine};
-use crate::replies::{print_reply, tell_unopened};
-use crate::sessions::{close_at, open_at};
+use crate::registries::Registries;
+use crate::replies::{print_reply, report_unopened};
+use crate::unopened::Unopened;
+use pid_cli_machine::{Databases, Machine};
 use pid_cli_terminal::{Counted, Progress};
 use pid_cli_words::ImportWords;
 use pid_file::{TextEnd, tell_end};
 use pid_ident::{Account, Input, Key, Output, Plain, WordFault};
 use pid_moderation::{Refusal, Reply};
-use pid_service::{ImportEnd, TableFault};
+use pid_service_laws::{Consulted, ImportEnd};
 use std::alloc::Global;
 
 fn sender_of(alloc: Global, words: &ImportWords<'_>) -> Result<(Account, Option<Key>), WordFault>
@@ -40,57 +41,60 @@ fn sender_of(alloc: Global, words: &ImportWords<'_>) -> Result<(Account, Option<
     }
 }
 
-fn bring_in<D: Databases, I: Input>(
+fn bring_in<D: Databases, G: Registries<D>, I: Input>(
     databases: &mut D,
+    registries: &mut G,
     path: &str,
     sender: (Account, Option<Key>),
     input: &mut I,
-) -> Result<Result<Reply, ImportEnd>, TableFault>
-    ensures { BringsFile D.Kept.Store (D.is_at path.now) D.is_closed sender
+) -> Result<Result<Reply, ImportEnd>, Unopened>
+    ensures { BringsFile G.Registry.Moderated (G.is_opened registries.old path.now)
+        (G.is_unopened registries.old path.now) G.is_closed sender
         (record {
           come = I.to_come input.old;
           left = I.to_come input.new;
           fault = I.read_fault input.new;
         }) result }
 {
-    pid_service::laws::clauses_meet_lives::<D::Kept>(); // proof only
-    match open_at(databases, path) {
+    match registries.open(databases, path) {
         Ok(registry) => {
             let mut registry = registry;
             let (account, key) = sender;
             let result = registry.import_from(account, key, input);
-            close_at(databases, registry);
+            registries.close(databases, registry);
             Ok(result)
         }
-        Err(fault) => Err(fault),
+        Err(why) => Err(why),
     }
 }
 
-fn tell_import<O: Output, F: Output>(
-    found: Result<Result<Reply, ImportEnd>, TableFault>,
+fn report_import<O: Output, F: Output>(
+    found: Result<Result<Reply, ImportEnd>, Unopened>,
     output: &mut O,
     faults: &mut F,
 ) -> JobEnd
-    ensures { TellsImport found (streams (use_of O.Output output.old output.new)
+    ensures { ReportsImport found (streams (use_of O.Output output.old output.new)
         (use_of F.Output faults.old faults.new)) result }
 {
     match found {
         Ok(Ok(reply)) => print_reply(Ok(reply), output),
         Ok(Err(ImportEnd::Refused(refusal))) => print_reply(Err(refusal), output),
         Ok(Err(ImportEnd::Body)) => JobEnd::FileFailed,
-        Err(fault) => JobEnd::Told(tell_unopened(fault, faults)),
+        Err(why) => JobEnd::Exited(report_unopened(why, faults)),
     }
 }
 
 /// Imports a pci.ids file into the registry at a path, and prints the reply once both are closed.
-pub fn import<M: Machine, O: Output, F: Output>(
+pub fn import<M: Machine, G: Registries<M>, O: Output, F: Output>(
     machine: &mut M,
+    registries: &mut G,
     progress: &mut Progress<'_>,
     words: &ImportWords<'_>,
     output: &mut O,
     faults: &mut F,
 ) -> JobEnd
-    ensures { Imports M.Kept.Store (M.is_at words.now.db.now) M.is_closed
+    ensures { Imports G.Registry.Moderated (G.is_opened registries.old words.now.db.now)
+        (G.is_unopened registries.old words.now.db.now) G.is_closed
         (M.is_text words.now.ids.now) M.Opened.remaining words.now
         (streams (use_of O.Output output.old output.new)
         (use_of F.Output faults.old faults.new)) result }
@@ -98,14 +102,14 @@ pub fn import<M: Machine, O: Output, F: Output>(
     let sender = match sender_of(machine.alloc(), words) {
         Ok(sender) => sender,
         Err(WordFault::Bad) => return print_reply(Err(Refusal::BadText), output),
-        Err(WordFault::Memory) => return JobEnd::Told(tell_end(TextEnd::Memory, faults)),
+        Err(WordFault::Memory) => return JobEnd::Exited(tell_end(TextEnd::Memory, faults)),
     };
     let Some(file) = machine.open_text(words.ids) else {
         return JobEnd::FileFailed;
     };
     let mut input = Plain::new(Counted::new(file, progress));
-    let found = bring_in(machine, words.db, sender, &mut input);
+    let found = bring_in(machine, registries, words.db, sender, &mut input);
     drop(input);
     progress.clear();
-    tell_import(found, output, faults)
+    report_import(found, output, faults)
 }

@@ -13,8 +13,8 @@ ghost use Rattle.pid_cli_jobs.specs.Lookups.{
 };
 
 use crate::job_end::JobEnd;
-use crate::machine::Machine;
 use crate::replies::{print_answer, print_reply};
+use pid_cli_machine::Machine;
 use pid_cli_words::LookupWords;
 use pid_file::{LARGEST, TextEnd, tell_end, tell_unread};
 use pid_ident::{Input, Output, Plain};
@@ -100,7 +100,7 @@ fn look_up<I: Input, O: Output, F: Output>(
         Ok(found) => print_answer(found, output, faults),
         Err(end) => match tell_unread(end, faults) {
             TextEnd::ReadFault | TextEnd::WriteFault => JobEnd::FileFailed,
-            end => JobEnd::Told(end.status()),
+            end => JobEnd::Exited(end.status()),
         },
     }
 }
@@ -120,7 +120,7 @@ pub fn answer_lookup<M: Machine, O: Output, F: Output>(
     let lookup = match read_words(alloc, words) {
         Ok(Ok(lookup)) => lookup,
         Ok(Err(_)) => return print_reply(Err(Refusal::BadText), output),
-        Err(_) => return JobEnd::Told(tell_end(TextEnd::Memory, faults)),
+        Err(_) => return JobEnd::Exited(tell_end(TextEnd::Memory, faults)),
     };
     match machine.open_text(words.ids) {
         Some(file) => look_up(alloc, &lookup, &mut Plain::new(file), output, faults),

@@ -10,7 +10,6 @@ ghost use Rattle.pid_cli_jobs.specs.Lines.{
   lookup_line,
   lookup_status,
   reply_status,
-  step_line,
   streams,
   unopened_line,
   unopened_word,
@@ -18,12 +17,12 @@ ghost use Rattle.pid_cli_jobs.specs.Lines.{
 ghost use Rattle.pid_cli_jobs.specs.Steps.Lines.{EndsBy};
 
 use crate::job_end::JobEnd;
+use crate::unopened::Unopened;
 use itoa::Buffer;
 use pid_file::{FAILED, TextEnd, tell_end};
 use pid_ident::{Output, WriteFault, write_all, write_parts};
 use pid_lookup::{Answer, LookupRefusal, Unanswered};
 use pid_moderation::{Refusal, Reply, write_reply_line};
-use pid_service::{Step, TableFault};
 use std::alloc::AllocError;
 
 /// The exit status if a command or a lookup is refused.
@@ -46,14 +45,14 @@ pub fn print_reply<O: Output>(reply: Result<Reply, Refusal>, output: &mut O) -> 
         (reply_status reply) }
 {
     match write_reply_line(output, reply) {
-        Ok(()) => JobEnd::Told(status_of(reply)),
+        Ok(()) => JobEnd::Exited(status_of(reply)),
         Err(_) => JobEnd::FileFailed,
     }
 }
 
 /// Reports the refusal of a job whose output is not a reply line, which is an export. Returns the
 /// exit status of a failure.
-pub fn tell_reply<F: Output>(reply: Result<Reply, Refusal>, faults: &mut F) -> u8
+pub fn report_reply<F: Output>(reply: Result<Reply, Refusal>, faults: &mut F) -> u8
     ensures status { result ≡ FAILED }
     ensures told { TriesLine (use_of F.Output faults.old faults.new) (outcome_line reply) }
 {
@@ -61,12 +60,12 @@ pub fn tell_reply<F: Output>(reply: Result<Reply, Refusal>, faults: &mut F) -> u
     FAILED
 }
 
-// Ends with the status if the line went out.
-fn ends_with(printed: Result<(), WriteFault>, status: u8) -> JobEnd
+/// Ends with the status if a line went out whole.
+pub fn ends_with(printed: Result<(), WriteFault>, status: u8) -> JobEnd
     ensures { EndsBy printed status result }
 {
     match printed {
-        Ok(()) => JobEnd::Told(status),
+        Ok(()) => JobEnd::Exited(status),
         Err(_) => JobEnd::FileFailed,
     }
 }
@@ -110,57 +109,40 @@ pub fn print_answer<O: Output, F: Output>(
             ends_with(printed, REFUSED)
         }
         Err(LookupRefusal::Memory | LookupRefusal::Names(_)) => {
-            JobEnd::Told(tell_end(TextEnd::Memory, faults))
+            JobEnd::Exited(tell_end(TextEnd::Memory, faults))
         }
     }
 }
 
-fn step_text(step: Step) -> &'static str
-    ensures { result.now ≡ step_line step }
-{
-    match step {
-        Step::Created => "created schema 2\n",
-        Step::Moved => "moved to schema 2\n",
-        Step::Already => "schema 2 already\n",
-    }
-}
-
-/// Prints what a migration did, with exit status 0.
-pub fn print_step<O: Output>(step: Step, output: &mut O) -> JobEnd
-    ensures { PrintsLine result (use_of O.Output output.old output.new) (step_line step) 0 }
-{
-    let printed = write_all(output, step_text(step).as_bytes());
-    ends_with(printed, 0)
-}
-
-fn unopened_reason(fault: TableFault) -> &'static str
+fn unopened_reason(fault: Unopened) -> &'static str
     ensures { result.now ≡ unopened_word fault }
 {
     match fault {
-        TableFault::Memory => "open: Memory\n",
-        TableFault::Store => "open: Store\n",
-        TableFault::Damaged => "open: Damaged\n",
-        TableFault::NewerSchema(_) => "open: NewerSchema ",
+        Unopened::Memory => "open: Memory\n",
+        Unopened::Store => "open: Store\n",
+        Unopened::Damaged => "open: Damaged\n",
+        Unopened::NewerSchema(_) => "open: NewerSchema ",
+        Unopened::AnotherJournal => "journal: Another\n",
+        Unopened::SegmentsMissing => "journal: Missing\n",
+        Unopened::JournalFailed => "journal: failed\n",
     }
 }
 
-fn write_unopened<F: Output>(fault: TableFault, faults: &mut F) -> Result<(), WriteFault>
+fn write_unopened<F: Output>(fault: Unopened, faults: &mut F) -> Result<(), WriteFault>
     ensures sent { Sends result (F.taken faults.old) (F.taken faults.new) (unopened_line fault) }
     ensures fault { IfErr result (λ f. F.write_fault faults.new ≡ Some f) }
 {
     let reason = unopened_reason(fault).as_bytes();
-    match fault {
-        TableFault::Memory | TableFault::Store | TableFault::Damaged => write_all(faults, reason),
-        TableFault::NewerSchema(schema) => {
-            let mut digits = Buffer::new();
-            let schema = digits.format(schema).as_bytes();
-            write_parts(faults, &[reason, schema, b"\n"])
-        }
-    }
+    let Unopened::NewerSchema(schema) = fault else {
+        return write_all(faults, reason);
+    };
+    let mut digits = Buffer::new();
+    let schema = digits.format(schema).as_bytes();
+    write_parts(faults, &[reason, schema, b"\n"])
 }
 
 /// Reports why a registry was not opened, and returns the exit status.
-pub fn tell_unopened<F: Output>(fault: TableFault, faults: &mut F) -> u8
+pub fn report_unopened<F: Output>(fault: Unopened, faults: &mut F) -> u8
     ensures status { result ≡ FAILED }
     ensures told { TriesLine (use_of F.Output faults.old faults.new) (unopened_line fault) }
 {

@@ -2,20 +2,18 @@
 ghost use Rattle.std.specs.Prelude.{◌≡◌};
 ghost use Rattle.pid_file.specs.Writing.{TriesLine, use_of};
 ghost use Rattle.pid_cli_jobs.specs.Lines.{streams};
-ghost use Rattle.pid_cli_jobs.specs.Serving.{GivesTo, ReportsServing, Serves, socket_line};
+ghost use Rattle.pid_cli_jobs.specs.Serving.{GivesTo, Offers, ReportsServing, Serves, socket_line};
 ghost use Rattle.pid_cli_jobs.specs.Sessions.{IsPartOfSession, Works};
 
 use crate::job_end::JobEnd;
-use crate::machine::Machine;
-use crate::replies::{tell_unopened, write_count};
-use crate::sessions::{close_at, open_at};
+use crate::registries::Registries;
+use crate::replies::{report_unopened, write_count};
+use pid_cli_machine::{Databases, Machine};
 use pid_file::{FAILED, TextEnd, tell_end};
 use pid_http::{Routes, serve_with};
 use pid_http_stream::Served;
 use pid_http_stream::listener::{Serving, ServingEnd, StreamServer};
 use pid_ident::{Incoming, Output, write_all};
-use pid_service::Registry;
-use sqlite::Alter;
 use std::alloc::Global;
 
 /// The port that clients connect to, and the number of connections to serve, one after the other.
@@ -28,27 +26,27 @@ pub struct Port {
 // A registry that answers the requests of one stream after the other, and has no other use: it is
 // handed to functions that are generic over their server.
 #[derive(Drop)]
-struct Server<'r, 't, S: Alter + Drop> {
+struct Server<'r, 'g, 't, D: Databases, G: Registries<D>> {
     alloc: Global,
-    registry: &'r mut Registry<S>,
+    registry: &'r mut G::Registry,
+    registries: &'g G,
     routes: &'t Routes,
 }
 
-impl<S: Alter + Drop> StreamServer for Server<'_, '_, S> {
+impl<D: Databases, G: Registries<D>> StreamServer for Server<'_, '_, '_, D, G> {
     ghost use Rattle.std.specs.Prelude.{◌≡◌, refl};
     ghost use Rattle.pid_http.specs.Known.{LivesOn};
     ghost use Rattle.pid_http.specs.Steps.Going.{lives_further, lives_still};
     ghost use Rattle.pid_http.specs.Steps.Handling.{same_on};
-    ghost use Rattle.pid_service.specs.Histories.{as_moderated};
-    ghost use Rattle.pid_service.specs.Registries.{is_live};
     ghost use Rattle.pid_cli_jobs.specs.Serving.{AnswersStream};
 
-    ghost live = { λ server. is_live server.registry.now };
+    ghost live = { λ server. G.Registry.is_live server.registry.now };
 
     ghost goes = { λ a b. (b.registry.ghost_name ≡ a.registry.ghost_name)
-        × LivesOn (as_moderated S.Store) a.registry.now b.registry.now };
+        × LivesOn G.Registry.Moderated a.registry.now b.registry.now };
 
-    ghost answers = { λ a b x. AnswersStream S.Store a.registry.now b.registry.now x };
+    ghost answers = { λ a b x.
+        AnswersStream G.Registry.Moderated a.registry.now b.registry.now x };
 
     ghost stays = { λ a. (refl, lives_still a.registry.now) };
 
@@ -58,7 +56,7 @@ impl<S: Alter + Drop> StreamServer for Server<'_, '_, S> {
     ) };
 
     fn is_live(&self) -> bool {
-        self.registry.is_live()
+        self.registries.is_live(self.registry)
     }
 
     fn serve<I: Incoming<O>, O: Output>(
@@ -71,12 +69,12 @@ impl<S: Alter + Drop> StreamServer for Server<'_, '_, S> {
     }
 }
 
-fn tell_socket<F: Output>(faults: &mut F) -> JobEnd
-    ensures ends { result ≡ JobEnd.Told FAILED }
+fn report_socket<F: Output>(faults: &mut F) -> JobEnd
+    ensures ends { result ≡ JobEnd.Exited FAILED }
     ensures told { TriesLine (use_of F.Output faults.old faults.new) socket_line }
 {
     let _ = write_all(faults, b"socket: failed\n");
-    JobEnd::Told(FAILED)
+    JobEnd::Exited(FAILED)
 }
 
 // Reports the number of streams that were started, and how the serving ended.
@@ -86,10 +84,10 @@ fn report<O: Output, F: Output>(serving: Serving, output: &mut O, faults: &mut F
 {
     let printed = write_count("served ", u64::from(serving.streams), output);
     match (serving.end, printed) {
-        (ServingEnd::AcceptFault, _) => tell_socket(faults),
+        (ServingEnd::AcceptFault, _) => report_socket(faults),
         (_, Err(_)) => JobEnd::FileFailed,
-        (ServingEnd::NotLive, Ok(())) => JobEnd::Told(FAILED),
-        (ServingEnd::All, Ok(())) => JobEnd::Told(0),
+        (ServingEnd::NotLive, Ok(())) => JobEnd::Exited(FAILED),
+        (ServingEnd::All, Ok(())) => JobEnd::Exited(0),
     }
 }
 
@@ -117,27 +115,29 @@ fn give_streams<M: Machine, T: StreamServer, O: Output, F: Output>(
 }
 
 // Listens on a port of this machine and serves a registry to so many connections, one at a time.
-fn serve_registry<M: Machine, S: Alter + Drop, O: Output, F: Output>(
+fn serve_registry<M: Machine, G: Registries<M>, O: Output, F: Output>(
     machine: &mut M,
-    registry: &mut Registry<S>,
+    registries: &G,
+    registry: &mut G::Registry,
     port: Port,
     output: &mut O,
     faults: &mut F,
 ) -> JobEnd
-    ensures goes { IsPartOfSession S.Store registry.old registry.new }
-    ensures serves { Serves S.Store port (streams (use_of O.Output output.old output.new)
+    ensures goes { IsPartOfSession G.Registry.Moderated registry.old registry.new }
+    ensures offers { Offers G.Registry.Moderated port (streams (use_of O.Output output.old output.new)
         (use_of F.Output faults.old faults.new)) result registry.old registry.new }
 {
     let alloc = machine.alloc();
     let Some(listener) = machine.listen(port.number) else {
-        return tell_socket(faults);
+        return report_socket(faults);
     };
     let Ok(routes) = Routes::new(alloc) else {
-        return JobEnd::Told(tell_end(TextEnd::Memory, faults));
+        return JobEnd::Exited(tell_end(TextEnd::Memory, faults));
     };
     let mut server = Server {
         alloc,
         registry,
+        registries,
         routes: &routes,
     };
     give_streams(machine, &listener, &mut server, port, output, faults)
@@ -145,27 +145,31 @@ fn serve_registry<M: Machine, S: Alter + Drop, O: Output, F: Output>(
 
 /// Serves the registry at a path.
 ///
+/// What is asked for again and again is read before it listens, so that nobody waits for it.
 /// Prints where it listens before it accepts the first connection, and the number of streams that
 /// were started at the end. A registry that has failed is given no stream. The exit status is 0 if
 /// both lines went out, all connections were served, and the registry is live; else it is 3.
-pub fn serve<M: Machine, O: Output, F: Output>(
+pub fn serve<M: Machine, G: Registries<M>, O: Output, F: Output>(
     machine: &mut M,
+    registries: &mut G,
     path: &str,
     port: Port,
     output: &mut O,
     faults: &mut F,
 ) -> JobEnd
-    ensures { Works M.Kept.Store (M.is_at path.now) M.is_closed (Serves M.Kept.Store port)
+    ensures { Works G.Registry.Moderated (G.is_opened registries.old path.now)
+        (G.is_unopened registries.old path.now) G.is_closed (Serves G.Registry.Moderated port)
         (streams (use_of O.Output output.old output.new)
         (use_of F.Output faults.old faults.new)) result }
 {
-    match open_at(machine, path) {
+    match registries.open(machine, path) {
         Ok(registry) => {
             let mut registry = registry;
-            let end = serve_registry(machine, &mut registry, port, output, faults);
-            close_at(machine, registry);
+            registries.prepare(&mut registry);
+            let end = serve_registry(machine, registries, &mut registry, port, output, faults);
+            registries.close(machine, registry);
             end
         }
-        Err(fault) => JobEnd::Told(tell_unopened(fault, faults)),
+        Err(why) => JobEnd::Exited(report_unopened(why, faults)),
     }
 }

@@ -18,6 +18,12 @@ pub enum Fault {
     Damaged,
     /// Another reason why a registry was not opened.
     Unopened,
+    /// `journal: Another`
+    AnotherJournal,
+    /// `journal: Missing`
+    SegmentsMissing,
+    /// `journal: failed`
+    Journal,
     /// `socket: failed`
     Socket,
     /// A fault of a line of a pci.ids file.
@@ -36,6 +42,12 @@ fn fault_of(line: &[u8]) -> Fault {
         Fault::Damaged
     } else if line.starts_with(b"open: ") {
         Fault::Unopened
+    } else if line.starts_with(b"journal: Another") {
+        Fault::AnotherJournal
+    } else if line.starts_with(b"journal: Missing") {
+        Fault::SegmentsMissing
+    } else if line.starts_with(b"journal: ") {
+        Fault::Journal
     } else if line.starts_with(b"socket: failed") {
         Fault::Socket
     } else if line.starts_with(b"line ") {

@@ -6,9 +6,18 @@ use pid_cli_words::Job;
 pub fn registry_of(job: Job<'_>) -> Option<&str> {
     match job {
         Job::Tidy | Job::Check | Job::Lookup(_) => None,
-        Job::Script { db } => db,
+        Job::Script { db, .. } => db,
         Job::Import(words) => Some(words.db),
         Job::Export { db } | Job::Serve { db, .. } | Job::Migrate { db } => Some(db),
+    }
+}
+
+/// The folder of the journal.
+pub fn journal_of(job: Job<'_>) -> Option<&str> {
+    match job {
+        Job::Script { journal, .. } | Job::Serve { journal, .. } => journal,
+        Job::Import(words) => words.journal,
+        Job::Tidy | Job::Check | Job::Lookup(_) | Job::Export { .. } | Job::Migrate { .. } => None,
     }
 }
 

@@ -8,6 +8,7 @@
 mod fault;
 mod files;
 mod job_files;
+mod journal;
 mod port;
 mod progress;
 mod registry;

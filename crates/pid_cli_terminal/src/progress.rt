@@ -18,8 +18,8 @@ const PAUSE: u64 = 100;
 const CLEARED: &str = "\r                                        \r";
 
 /// The number of lines that a job has read or written: one line on standard error, updated in
-/// place, once the job has taken a second. No promise covers what is shown there.
-#[derive(Drop)]
+/// place, once the job has taken a second. It is erased when this is dropped. No promise covers what
+/// is shown there.
 pub struct Progress<'r> {
     rt: &'r HostRuntime,
     job: &'r str,
@@ -54,6 +54,11 @@ impl<'r> Progress<'r> {
         }
     }
 
+    /// Counts a line.
+    pub fn count_line(&mut self) {
+        self.note(b"\n");
+    }
+
     // Counts the line ends in these bytes, and shows the count if it is due.
     fn note(&mut self, bytes: &[u8]) {
         let Some(due) = self.due else {
@@ -72,6 +77,19 @@ impl<'r> Progress<'r> {
         let lines = Grouped(self.lines);
         let _ = write!(self.rt.stderr(), "\r{}: {lines} lines", self.job);
         self.is_shown = true;
+    }
+}
+
+impl Drop for Progress<'_> {
+    fn drop(mut self) {
+        self.clear();
+        let Progress {
+            rt: _,
+            job: _,
+            lines: _,
+            due: _,
+            is_shown: _,
+        } = self;
     }
 }
 

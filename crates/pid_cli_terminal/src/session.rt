@@ -2,7 +2,8 @@
 
 use crate::fault::{Fault, Faults};
 use crate::files::{explain_looks, explain_size, explain_unread};
-use crate::job_files::{ids_of, registry_of};
+use crate::job_files::{ids_of, journal_of, registry_of};
+use crate::journal::{explain_another, explain_folder, explain_missing};
 use crate::port::explain_port;
 use crate::registry::{RegistryFile, is_missing};
 use crate::replies::Replies;
@@ -108,7 +109,21 @@ impl<'r> Session<'r> {
             }
             Fault::Store => self.file().explain_store(),
             Fault::Damaged => self.file().explain_damaged(),
+            Fault::AnotherJournal | Fault::SegmentsMissing | Fault::Journal => {
+                self.explain_journal(job, fault);
+            }
             Fault::Unopened | Fault::Other => {}
+        }
+    }
+
+    fn explain_journal(&self, job: Job<'_>, fault: Fault) {
+        let Some(path) = journal_of(job) else {
+            return;
+        };
+        match fault {
+            Fault::AnotherJournal => explain_another(self.rt, path),
+            Fault::SegmentsMissing => explain_missing(self.rt, path),
+            _ => explain_folder(self.rt, path),
         }
     }
 

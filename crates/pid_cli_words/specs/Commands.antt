@@ -38,13 +38,13 @@ lookup = command (codes "lookup") (required (option (codes "ids"))
     ∷ option (codes "vendor") ∷ option (codes "device") ∷ option (codes "subvendor")
     ∷ option (codes "subdevice") ∷ option (codes "class") ∷ option (codes "progif") ∷ [])
 
--- script [--db FILE]
+-- script [--db FILE] [--journal FOLDER]
 abbrev pub script : App
-script = command (codes "script") (option (codes "db") ∷ [])
+script = command (codes "script") (option (codes "db") ∷ option (codes "journal") ∷ [])
 
--- import --db FILE --account A [--key K] IDS
+-- import --db FILE [--journal FOLDER] --account A [--key K] IDS
 abbrev pub import : App
-import = command (codes "import") (required (option (codes "db"))
+import = command (codes "import") (required (option (codes "db")) ∷ option (codes "journal")
     ∷ required (option (codes "account")) ∷ option (codes "key")
     ∷ required (operand (codes "ids")) ∷ [])
 
@@ -60,9 +60,9 @@ migrate = command (codes "migrate") (required (option (codes "db")) ∷ [])
 abbrev pub million : Rule → Rule
 million rule = record rule { defaults = codes "1000000" ∷ [] }
 
--- serve --db FILE --port N [--connections N]
+-- serve --db FILE [--journal FOLDER] --port N [--connections N]
 abbrev pub serve : App
-serve = command (codes "serve") (required (option (codes "db"))
+serve = command (codes "serve") (required (option (codes "db")) ∷ option (codes "journal")
     ∷ required (from_one_to 65535 (option (codes "port")))
     ∷ million (from_one_to 1000000 (option (codes "connections"))) ∷ [])
 

@@ -24,10 +24,11 @@ pub data Task : Type 0 where
   Checks : Task
   LooksUp : (ids flags : Text) (size vendor device subvendor subdevice class progif : Option Text)
       → Task
-  Runs : (db : Option Text) → Task
-  Imports : (db account : Text) (key : Option Text) (ids : Text) → Task
+  Runs : (db journal : Option Text) → Task
+  Imports : (db : Text) (journal : Option Text) (account : Text) (key : Option Text) (ids : Text)
+      → Task
   Exports : (db : Text) → Task
-  Serves : (db : Text) (port connections : ℕ) → Task
+  Serves : (db : Text) (journal : Option Text) (port connections : ℕ) → Task
   Migrates : (db : Text) → Task
 
 -- the text of a reference that may be missing
@@ -43,17 +44,19 @@ lookup_task asked = LooksUp asked.ids.now asked.flags.now (text_given asked.size
 
 -- the task of an import with its texts
 abbrev pub import_task : ImportWords → Task
-import_task asked = Imports asked.db.now asked.account.now (text_given asked.key) asked.ids.now
+import_task asked = Imports asked.db.now (text_given asked.journal) asked.account.now
+    (text_given asked.key) asked.ids.now
 
 -- the task that a job is
 abbrev pub task_of : Job → Task
 task_of jobs.Tidy = Tidies
 task_of jobs.Check = Checks
 task_of (jobs.Lookup asked) = lookup_task asked
-task_of (jobs.Script db) = Runs (text_given db)
+task_of (jobs.Script db journal) = Runs (text_given db) (text_given journal)
 task_of (jobs.Import asked) = import_task asked
 task_of (jobs.Export db) = Exports db.now
-task_of (jobs.Serve db port connections) = Serves db.now port connections
+task_of (jobs.Serve db journal port connections) =
+    Serves db.now (text_given journal) port connections
 task_of (jobs.Migrate db) = Migrates db.now
 
 -- the value of a required option
@@ -84,19 +87,23 @@ lookup_named rows = LooksUp (needed (codes "ids") rows) (needed (codes "flags") 
 
 -- the import whose arguments have these values
 abbrev pub import_named : List Row → Task
-import_named rows = Imports (needed (codes "db") rows) (needed (codes "account") rows)
-    (first_of (codes "key") rows) (needed (codes "ids") rows)
+import_named rows = Imports (needed (codes "db") rows) (first_of (codes "journal") rows)
+    (needed (codes "account") rows) (first_of (codes "key") rows) (needed (codes "ids") rows)
 
 -- the subcommands, each with its task, given the values of its options
 abbrev pub tasks : List (Text × (List Row → Task))
 tasks = (codes "check", λ rows. Checks)
     ∷ (codes "lookup", lookup_named)
-    ∷ (codes "script", λ rows. Runs (first_of (codes "db") rows))
+    ∷ (
+      codes "script",
+      λ rows. Runs (first_of (codes "db") rows) (first_of (codes "journal") rows),
+    )
     ∷ (codes "import", import_named)
     ∷ (codes "export", λ rows. Exports (needed (codes "db") rows))
     ∷ (
       codes "serve",
-      λ rows. Serves (needed (codes "db") rows) (number_given 16 (codes "port") rows)
+      λ rows. Serves (needed (codes "db") rows) (first_of (codes "journal") rows)
+          (number_given 16 (codes "port") rows)
           (number_given 32 (codes "connections") rows),
     )
     ∷ (codes "migrate", λ rows. Migrates (needed (codes "db") rows))
@@ -132,11 +139,6 @@ faults_of words = fault_of commands words
 abbrev pub IsFaultOfWords : WordsFault → List Text → Type 0
 IsFaultOfWords Memory words = Unit {0}
 IsFaultOfWords (Words error) words = IsAmong (kind_of error) (faults_of words)
-
--- the number of a fault
-abbrev pub words_fault_number : WordsFault → ℕ
-words_fault_number Memory = 1
-words_fault_number (Words error) = 2
 
 -- the exit status: 3 for out of memory; 2 for arguments that are not understood, unless they ask for
 -- help or the version

@@ -12,6 +12,8 @@ use std::alloc::{AllocError, Global};
 
 const DB: Argument<'static> = Argument::Needed("db", "FILE");
 
+const JOURNAL: Argument<'static> = Argument::Spare("journal", "FOLDER");
+
 const LOOK_UP_ARGUMENTS: [Argument<'static>; 9] = [
     Argument::Needed("ids", "FILE"),
     Argument::Needed("flags", "HEX"),
@@ -24,8 +26,9 @@ const LOOK_UP_ARGUMENTS: [Argument<'static>; 9] = [
     Argument::Spare("progif", "HEX"),
 ];
 
-const IMPORT_ARGUMENTS: [Argument<'static>; 4] = [
+const IMPORT_ARGUMENTS: [Argument<'static>; 5] = [
     DB,
+    JOURNAL,
     Argument::Needed("account", "ACCOUNT"),
     Argument::Spare("key", "KEY"),
     Argument::Operand("ids", "IDS"),
@@ -54,7 +57,7 @@ const SUBCOMMANDS: [Subcommand<'static>; 8] = [
         name: "script",
         usage: None,
         help: SCRIPT,
-        arguments: &[Argument::Spare("db", "FILE")],
+        arguments: &[Argument::Spare("db", "FILE"), JOURNAL],
     },
     Subcommand {
         name: "import",
@@ -72,7 +75,7 @@ const SUBCOMMANDS: [Subcommand<'static>; 8] = [
         name: "serve",
         usage: None,
         help: SERVE,
-        arguments: &[DB, Argument::Port, Argument::Connections],
+        arguments: &[DB, JOURNAL, Argument::Port, Argument::Connections],
     },
     Subcommand {
         name: "migrate",

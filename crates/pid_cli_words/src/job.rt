@@ -2,13 +2,12 @@
 ghost use Rattle.std.specs.Prelude.{◌≡◌, ◌≢◌, ◌⊎◌};
 ghost use Rattle.clap.specs.Words.{kind_of};
 ghost use Rattle.clap.specs.declared.error.kind.ErrorKind.TheVariants.{OutOfMemory};
-ghost use Rattle.pid_cli_words.specs.Jobs.{words_fault_number};
 
 use clap::error::ErrorKind;
 use std::alloc::AllocError;
 use thiserror::Error;
 
-/// What the program is asked to do. Texts are as they were given.
+/// What the program is asked to do. Texts are as they were given. A journal is a folder.
 #[derive(Clone, Copy)]
 pub enum Job<'a> {
     Tidy,
@@ -17,6 +16,7 @@ pub enum Job<'a> {
     /// On a registry in memory, if no file is named.
     Script {
         db: Option<&'a str>,
+        journal: Option<&'a str>,
     },
     Import(ImportWords<'a>),
     Export {
@@ -25,6 +25,7 @@ pub enum Job<'a> {
     /// The port is 1 to 65,535; the number of connections is 1 to 1,000,000.
     Serve {
         db: &'a str,
+        journal: Option<&'a str>,
         port: u16,
         connections: u32,
     },
@@ -52,6 +53,7 @@ pub struct LookupWords<'a> {
 #[derive(Clone, Copy)]
 pub struct ImportWords<'a> {
     pub db: &'a str,
+    pub journal: Option<&'a str>,
     pub account: &'a str,
     pub key: Option<&'a str>,
     pub ids: &'a str,
@@ -66,18 +68,6 @@ pub enum WordsFault {
     /// The arguments are invalid, or ask for help or the version.
     #[error("{0}")]
     Words(clap::Error),
-}
-
-impl WordsFault {
-    /// The number of the fault: 1 for `Memory`, 2 for `Words`.
-    pub fn number(&self) -> u8
-        ensures { result ≡ words_fault_number self.now }
-    {
-        match self {
-            WordsFault::Memory => 1,
-            WordsFault::Words(_) => 2,
-        }
-    }
 }
 
 impl From<clap::Error> for WordsFault {

@@ -57,6 +57,7 @@ fn import_words<'a>(given: &ArgMatches<'a>) -> ImportWords<'a>
 {
     ImportWords {
         db: needed_text(given, "db"),
+        journal: text(given, "journal"),
         account: needed_text(given, "account"),
         key: text(given, "key"),
         ids: needed_text(given, "ids"),
@@ -84,6 +85,7 @@ fn job_named<'a>(name: &str, given: &ArgMatches<'a>) -> Job<'a>
         "lookup" => Job::Lookup(lookup_words(given)),
         "script" => Job::Script {
             db: text(given, "db"),
+            journal: text(given, "journal"),
         },
         "import" => Job::Import(import_words(given)),
         "export" => Job::Export {
@@ -91,6 +93,7 @@ fn job_named<'a>(name: &str, given: &ArgMatches<'a>) -> Job<'a>
         },
         "serve" => Job::Serve {
             db: needed_text(given, "db"),
+            journal: text(given, "journal"),
             port: port_given(given),
             connections: connections_given(given),
         },

@@ -10,10 +10,10 @@ use Rattle.pid_file.specs.declared.counter.Counter.{Counter}
 use Rattle.pid_file.specs.Lines.{lines_of}
 use Rattle.pid_file.specs.LookingBack.{Item, is_entry, path_at, name_at, entries_back}
 use Rattle.pid_file.specs.Reading.{history_of, ENTRIES, refused_at, refused_from, refused}
-use Rattle.pid_file.specs.Refusals.{refusal_at}
+use Rattle.pid_file.specs.Steps.LineEnds.{refusal_at}
 use Rattle.pid_file.specs.Numbered.{Numbered, item_in, numbered_back, numbered_of}
 use Rattle.pid_file.specs.Sinks.{Took}
-use Rattle.pid_file.specs.Counters.{Counts}
+use Rattle.pid_file.specs.Steps.Counters.{Counts}
 use Rattle.pid_file.proofs.Feeding.{good_cases, good_at, numbered-good, items_in_numbered}
 
 abbrev item : List ℕ → List ℕ → List Item

@@ -19,9 +19,11 @@ use Rattle.pid_file.specs.declared.open_text.OpenText.{OpenText}
 use Rattle.pid_file.specs.declared.sink.CutEnd.{CutEnd}
 use Rattle.pid_file.specs.declared.sink.CutEnd.TheVariants.{Refused, Fault}
 use Rattle.pid_file.specs.WholeLines.{ended_pieces, open_part, whole_lines}
-use Rattle.pid_file.specs.Refusals.{refusal_at, IsRefusal}
+use Rattle.pid_file.specs.Refusals.{IsRefusal}
+use Rattle.pid_file.specs.Steps.LineEnds.{refusal_at}
 use Rattle.pid_file.specs.Sinks.{Took, TookSome, Ends}
 use Rattle.pid_file.specs.OpenTexts.{IsLeftOpen}
+use Rattle.pid_file.specs.Progress.{Shows}
 use Rattle.pid_file.specs.Steps.LineEnds.{LineEnds, TookLine}
 use Rattle.pid_file.proofs.Cuts.{map_append, whole_line, open_behind, whole_same, open_longer, lines_split, lines_more, last_line, open_no_lf}
 
@@ -113,13 +115,13 @@ ends_at_last takes faults (Ok x) start sink new front line all all_is good took 
 )
 
 -- behind a line
-pub holds_line : {J : Type 0} (shows : J → List (List ℕ) → Type 0) (c d : OpenText J) (text front line : List ℕ) → IsLeftOpen shows c text → ended_pieces front ≡ [] → line ≡ drop_cr (open_part text ++ front) → refusal_at (reverse (whole_lines text)) line ≡ None → shows d.judge (line ∷ reverse (whole_lines text)) → d.line.items ≡ [] → IsLeftOpen shows d (text ++ (front ++ 10 ∷ []))
-holds_line shows c d text front line h no_lf line_is ok shown none =
+pub holds_line : (c d : OpenText) (text front line : List ℕ) → IsLeftOpen c text → ended_pieces front ≡ [] → line ≡ drop_cr (open_part text ++ front) → refusal_at (reverse (whole_lines text)) line ≡ None → Shows d.progress (line ∷ reverse (whole_lines text)) → d.line.items ≡ [] → IsLeftOpen d (text ++ (front ++ 10 ∷ []))
+holds_line c d text front line h no_lf line_is ok shown none =
     let lines : whole_lines (text ++ (front ++ 10 ∷ [])) ≡ whole_lines text ++ line ∷ [] = whole_line text front [] no_lf ∙ ap (λ (l : List ℕ). whole_lines text ++ l ∷ []) (sym line_is) in
     record {
       open_line = none ∙ sym (open_behind text front no_lf);
       good = ap refusal_of lines ∙ refused_line (whole_lines text) line [] h.good ∙ ap (λ o. or_else o None) ok;
-      shown = subst (λ ls. shows d.judge ls) (sym (ap reverse lines ∙ reverse_aux-snoc (whole_lines text) [] line)) shown;
+      shown = subst (λ ls. Shows d.progress ls) (sym (ap reverse lines ∙ reverse_aux-snoc (whole_lines text) [] line)) shown;
     }
 
 pub on_line : {S F P Q : Type 0} (takes : S → Numbered → S → Type 0) (faults : S → Numbered → F → S → Type 0) (r : Result (Unit {0}) (CutEnd F)) (earlier : List (List ℕ)) (line : List ℕ) (old new : S) → OnOk r P → LineEnds {X = Unit {0}} takes faults r earlier line old new → (P → refusal_at earlier line ≡ None → Q) → OnOk r Q
@@ -127,28 +129,28 @@ on_line takes faults (Ok x) earlier line old new p ends f = f p ends.good
 on_line takes faults (Err e) earlier line old new p ends f = tt
 
 -- part of the piece was read
-pub record IsHalfway {J S : Type 0} (shows : J → List (List ℕ) → Type 0) (takes : S → Numbered → S → Type 0) (before : S) (piece rest : List ℕ) (kept : OpenText J) (sink : S) (text : List ℕ) : Type 0 where
+pub record IsHalfway {S : Type 0} (takes : S → Numbered → S → Type 0) (before : S) (piece rest : List ℕ) (kept : OpenText) (sink : S) (text : List ℕ) : Type 0 where
   pub gone : List ℕ
   pub parts : piece ≡ gone ++ rest
-  pub holds : IsLeftOpen shows kept (text ++ gone)
+  pub holds : IsLeftOpen kept (text ++ gone)
   pub took : (start : S) → Took takes start (numbered_of (whole_lines text)) before → Took takes start (numbered_of (whole_lines (text ++ gone))) sink
 
-pub starts : {J S : Type 0} (shows : J → List (List ℕ) → Type 0) (takes : S → Numbered → S → Type 0) (before : S) (piece : List ℕ) (kept : OpenText J) (text : List ℕ) → IsLeftOpen shows kept text → IsHalfway shows takes before piece piece kept before text
-starts shows takes before piece kept text h = record { gone = []; parts = refl; holds = subst (IsLeftOpen shows kept) (sym (append-nil text)) h; took = λ start t. subst (λ (l : List ℕ). Took takes start (numbered_of (whole_lines l)) before) (sym (append-nil text)) t }
+pub starts : {S : Type 0} (takes : S → Numbered → S → Type 0) (before : S) (piece : List ℕ) (kept : OpenText) (text : List ℕ) → IsLeftOpen kept text → IsHalfway takes before piece piece kept before text
+starts takes before piece kept text h = record { gone = []; parts = refl; holds = subst (IsLeftOpen kept) (sym (append-nil text)) h; took = λ start t. subst (λ (l : List ℕ). Took takes start (numbered_of (whole_lines l)) before) (sym (append-nil text)) t }
 
-pub goes_on : {J S : Type 0} (shows : J → List (List ℕ) → Type 0) (takes : S → Numbered → S → Type 0) (before : S) (piece rest front behind : List ℕ) (kept next : OpenText J) (sink new : S) (text : List ℕ) (h : IsHalfway shows takes before piece rest kept sink text) → rest ≡ front ++ 10 ∷ behind → ended_pieces front ≡ [] → IsLeftOpen shows next ((text ++ h.gone) ++ (front ++ 10 ∷ [])) → TookLine takes (reverse (whole_lines (text ++ h.gone))) (drop_cr (open_part (text ++ h.gone) ++ front)) sink new → IsHalfway shows takes before piece behind next new text
-goes_on shows takes before piece rest front behind kept next sink new text h rest_is no_lf holds ends =
+pub goes_on : {S : Type 0} (takes : S → Numbered → S → Type 0) (before : S) (piece rest front behind : List ℕ) (kept next : OpenText) (sink new : S) (text : List ℕ) (h : IsHalfway takes before piece rest kept sink text) → rest ≡ front ++ 10 ∷ behind → ended_pieces front ≡ [] → IsLeftOpen next ((text ++ h.gone) ++ (front ++ 10 ∷ [])) → TookLine takes (reverse (whole_lines (text ++ h.gone))) (drop_cr (open_part (text ++ h.gone) ++ front)) sink new → IsHalfway takes before piece behind next new text
+goes_on takes before piece rest front behind kept next sink new text h rest_is no_lf holds ends =
     let now = append_assoc text h.gone (front ++ 10 ∷ []) in
     let all : whole_lines (text ++ (h.gone ++ (front ++ 10 ∷ []))) ≡ whole_lines (text ++ h.gone) ++ drop_cr (open_part (text ++ h.gone) ++ front) ∷ [] = ap whole_lines (sym now) ∙ whole_line (text ++ h.gone) front [] no_lf in
     record {
       gone = h.gone ++ (front ++ 10 ∷ []);
       parts = h.parts ∙ ap (λ (l : List ℕ). h.gone ++ l) rest_is ∙ simp append_assoc;
-      holds = subst (IsLeftOpen shows next) now holds;
+      holds = subst (IsLeftOpen next) now holds;
       took = λ start t. (ends_at_last {F = Unit {0}} takes (λ _ _ _ _. Unit {0}) (Ok tt) start sink new (whole_lines (text ++ h.gone)) (drop_cr (open_part (text ++ h.gone) ++ front)) (whole_lines (text ++ (h.gone ++ (front ++ 10 ∷ [])))) all h.holds.good (h.took start t) ends).1;
     }
 
-pub stops : {J S F : Type 0} (shows : J → List (List ℕ) → Type 0) (takes : S → Numbered → S → Type 0) (faults : S → Numbered → F → S → Type 0) (r : Result (Unit {0}) (CutEnd F)) (e : CutEnd F) (before : S) (piece rest front behind : List ℕ) (kept : OpenText J) (sink new : S) (text : List ℕ) (h : IsHalfway shows takes before piece rest kept sink text) → r ≡ Err e → rest ≡ front ++ 10 ∷ behind → ended_pieces front ≡ [] → LineEnds {X = Unit {0}} takes faults (Err e) (reverse (whole_lines (text ++ h.gone))) (drop_cr (open_part (text ++ h.gone) ++ front)) sink new → (start : S) → Took takes start (numbered_of (whole_lines text)) before → Ends takes faults r start (whole_lines (text ++ piece)) new
-stops shows takes faults r e before piece rest front behind kept sink new text h r_is rest_is no_lf ends start t =
+pub stops : {S F : Type 0} (takes : S → Numbered → S → Type 0) (faults : S → Numbered → F → S → Type 0) (r : Result (Unit {0}) (CutEnd F)) (e : CutEnd F) (before : S) (piece rest front behind : List ℕ) (kept : OpenText) (sink new : S) (text : List ℕ) (h : IsHalfway takes before piece rest kept sink text) → r ≡ Err e → rest ≡ front ++ 10 ∷ behind → ended_pieces front ≡ [] → LineEnds {X = Unit {0}} takes faults (Err e) (reverse (whole_lines (text ++ h.gone))) (drop_cr (open_part (text ++ h.gone) ++ front)) sink new → (start : S) → Took takes start (numbered_of (whole_lines text)) before → Ends takes faults r start (whole_lines (text ++ piece)) new
+stops takes faults r e before piece rest front behind kept sink new text h r_is rest_is no_lf ends start t =
     let joined : text ++ piece ≡ (text ++ h.gone) ++ (front ++ 10 ∷ behind) = ap (λ (l : List ℕ). text ++ l) (h.parts ∙ ap (λ (l : List ℕ). h.gone ++ l) rest_is) ∙ sym (append_assoc text h.gone (front ++ 10 ∷ behind)) in
     ends_at_err takes faults r e start sink new (whole_lines (text ++ h.gone)) (drop_cr (open_part (text ++ h.gone) ++ front)) (whole_lines behind) (whole_lines (text ++ piece)) r_is (ap whole_lines joined ∙ whole_line (text ++ h.gone) front behind no_lf) h.holds.good (h.took start t) ends
 
@@ -159,27 +161,27 @@ rest_joined text piece gone rest parts = ap (λ (l : List ℕ). text ++ l) parts
 same_lines : (text piece gone rest : List ℕ) → piece ≡ gone ++ rest → ended_pieces rest ≡ [] → whole_lines (text ++ piece) ≡ whole_lines (text ++ gone)
 same_lines text piece gone rest parts no_lf = ap whole_lines (rest_joined text piece gone rest parts) ∙ whole_same (text ++ gone) rest no_lf
 
-pub holds_rest : {J S : Type 0} (shows : J → List (List ℕ) → Type 0) (takes : S → Numbered → S → Type 0) (before : S) (piece rest : List ℕ) (kept next : OpenText J) (sink : S) (text : List ℕ) → IsHalfway shows takes before piece rest kept sink text → ended_pieces rest ≡ [] → next.judge ≡ kept.judge → next.line.items ≡ kept.line.items ++ rest → IsLeftOpen shows next (text ++ piece)
-holds_rest shows takes before piece rest kept next sink text h no_lf judges open_is =
+pub holds_rest : {S : Type 0} (takes : S → Numbered → S → Type 0) (before : S) (piece rest : List ℕ) (kept next : OpenText) (sink : S) (text : List ℕ) → IsHalfway takes before piece rest kept sink text → ended_pieces rest ≡ [] → next.progress ≡ kept.progress → next.line.items ≡ kept.line.items ++ rest → IsLeftOpen next (text ++ piece)
+holds_rest takes before piece rest kept next sink text h no_lf judges open_is =
     let lines = same_lines text piece h.gone rest h.parts no_lf in
     record {
       open_line = open_is ∙ ap (λ (l : List ℕ). l ++ rest) h.holds.open_line ∙ sym (open_longer (text ++ h.gone) rest no_lf) ∙ ap open_part (sym (rest_joined text piece h.gone rest h.parts));
       good = ap refusal_of lines ∙ h.holds.good;
-      shown = subst (λ ls. shows next.judge (reverse ls)) (sym lines) (subst (λ v. shows v (reverse (whole_lines (text ++ h.gone)))) (sym judges) h.holds.shown);
+      shown = subst (λ ls. Shows next.progress (reverse ls)) (sym lines) (subst (λ v. Shows v (reverse (whole_lines (text ++ h.gone)))) (sym judges) h.holds.shown);
     }
 
-pub took_rest : {J S : Type 0} (shows : J → List (List ℕ) → Type 0) (takes : S → Numbered → S → Type 0) (before : S) (piece rest : List ℕ) (kept : OpenText J) (sink : S) (text : List ℕ) → IsHalfway shows takes before piece rest kept sink text → ended_pieces rest ≡ [] → (start : S) → Took takes start (numbered_of (whole_lines text)) before → (refusal_of (whole_lines (text ++ piece)) ≡ None) × Took takes start (numbered_of (whole_lines (text ++ piece))) sink
-took_rest shows takes before piece rest kept sink text h no_lf start t =
+pub took_rest : {S : Type 0} (takes : S → Numbered → S → Type 0) (before : S) (piece rest : List ℕ) (kept : OpenText) (sink : S) (text : List ℕ) → IsHalfway takes before piece rest kept sink text → ended_pieces rest ≡ [] → (start : S) → Took takes start (numbered_of (whole_lines text)) before → (refusal_of (whole_lines (text ++ piece)) ≡ None) × Took takes start (numbered_of (whole_lines (text ++ piece))) sink
+took_rest takes before piece rest kept sink text h no_lf start t =
     let lines = same_lines text piece h.gone rest h.parts no_lf in
     (ap refusal_of lines ∙ h.holds.good, subst (λ ls. Took takes start (numbered_of ls) sink) (sym lines) (h.took start t))
 
 -- at the end of the text
-pub finishes : {J S F : Type 0} (shows : J → List (List ℕ) → Type 0) (takes : S → Numbered → S → Type 0) (faults : S → Numbered → F → S → Type 0) (r : Result (Unit {0}) (CutEnd F)) (c : OpenText J) (text line : List ℕ) (start sink new : S) → IsLeftOpen shows c text → (open_part text ≡ [] → ⊥) → line ≡ drop_cr (open_part text) → Took takes start (numbered_of (whole_lines text)) sink → LineEnds {X = Unit {0}} takes faults r (reverse (whole_lines text)) line sink new → Ends takes faults r start (lines_of text) new
-finishes shows takes faults r c text line start sink new h some line_is took ends =
+pub finishes : {S F : Type 0} (takes : S → Numbered → S → Type 0) (faults : S → Numbered → F → S → Type 0) (r : Result (Unit {0}) (CutEnd F)) (c : OpenText) (text line : List ℕ) (start sink new : S) → IsLeftOpen c text → (open_part text ≡ [] → ⊥) → line ≡ drop_cr (open_part text) → Took takes start (numbered_of (whole_lines text)) sink → LineEnds {X = Unit {0}} takes faults r (reverse (whole_lines text)) line sink new → Ends takes faults r start (lines_of text) new
+finishes takes faults r c text line start sink new h some line_is took ends =
     ends_at_last takes faults r start sink new (whole_lines text) line (lines_of text) (lines_split text ∙ ap (λ ls. whole_lines text ++ ls) (last_line (open_part text) (open_no_lf text) some) ∙ ap (λ (l : List ℕ). whole_lines text ++ l ∷ []) (sym line_is)) h.good took ends
 
-pub finished : {J S : Type 0} (shows : J → List (List ℕ) → Type 0) (takes : S → Numbered → S → Type 0) (c : OpenText J) (text : List ℕ) (start sink : S) → IsLeftOpen shows c text → open_part text ≡ [] → Took takes start (numbered_of (whole_lines text)) sink → (refused text ≡ None) × Took takes start (numbered_of (lines_of text)) sink
-finished shows takes c text start sink h none took =
+pub finished : {S : Type 0} (takes : S → Numbered → S → Type 0) (c : OpenText) (text : List ℕ) (start sink : S) → IsLeftOpen c text → open_part text ≡ [] → Took takes start (numbered_of (whole_lines text)) sink → (refused text ≡ None) × Took takes start (numbered_of (lines_of text)) sink
+finished takes c text start sink h none took =
     let lines : lines_of text ≡ whole_lines text = lines_split text ∙ ap (λ (l : List ℕ). whole_lines text ++ lines_of l) none ∙ append-nil (whole_lines text) in
     (ap refusal_of lines ∙ h.good, subst (λ ls. Took takes start (numbered_of ls) sink) (sym lines) took)
 

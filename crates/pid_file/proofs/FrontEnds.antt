@@ -12,12 +12,13 @@ use Rattle.pid_file.specs.OpenTexts.{IsLeftOpen}
 use Rattle.pid_file.specs.Lines.{drop_cr, lines_of}
 use Rattle.pid_file.specs.Numbered.{Numbered, numbered_back, numbered_of}
 use Rattle.pid_file.specs.Reading.{or_else, refused_from, refusal_of, read_from}
-use Rattle.pid_file.specs.Refusals.{refusal_at}
+use Rattle.pid_file.specs.Steps.LineEnds.{refusal_at}
 use Rattle.pid_file.specs.Sinks.{Took, TookSome, FaultedAt, Ends}
 use Rattle.pid_file.specs.WholeLines.{whole_lines, ended_pieces, open_part}
 use Rattle.pid_file.specs.declared.whole_input.SkipEnd.{SkipEnd}
 use Rattle.pid_file.specs.declared.whole_input.SkipEnd.TheVariants.{ReadFault, TooLong}
-use Rattle.pid_file.specs.WholeInputs.{TookOrFaulted, CutsInput, SkipsInput, FailsPiece, as_input_end}
+use Rattle.pid_file.specs.WholeInputs.{TookOrFaulted, CutsInput, SkipsInput}
+use Rattle.pid_file.specs.Steps.WholeInputs.{FailsPiece, as_input_end}
 use Rattle.pid_file.proofs.Cuts.{ended_more, map_append, lines_more, lines_split}
 use Rattle.pid_file.proofs.Feeding.{read-good}
 
@@ -103,8 +104,8 @@ pub record HasRead (old new : Option (List ℕ)) (limit room : ℕ) (front : Lis
   pub counted : length front + room ≡ limit
 
 -- and the sink has what was made of the front
-pub record HasFed {J S F : Type 0} (shows : J → List (List ℕ) → Type 0) (takes : S → Numbered → S → Type 0) (faults : S → Numbered → F → S → Type 0) (kept : OpenText J) (outcome : Result (Unit {0}) (CutEnd F)) (start sink : S) (front : List ℕ) : Type 0 where
-  pub holds : OnOk outcome (IsLeftOpen shows kept front)
+pub record HasFed {S F : Type 0} (takes : S → Numbered → S → Type 0) (faults : S → Numbered → F → S → Type 0) (kept : OpenText) (outcome : Result (Unit {0}) (CutEnd F)) (start sink : S) (front : List ℕ) : Type 0 where
+  pub holds : OnOk outcome (IsLeftOpen kept front)
   pub ends : Ends takes faults outcome start (whole_lines front) sink
 
 pub Consumes-nil : (a : Option (List ℕ)) → Consumes a a []

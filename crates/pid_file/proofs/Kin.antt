@@ -9,7 +9,8 @@ use Rattle.std.specs.FinMap.{slice_cmp-IsAntisymmetric, nat_cmp-IsAntisymmetric}
 use Rattle.std.proofs.lemmas.Cmp.{nat_list_cmp_total, tied_itself}
 use Rattle.pid_file.specs.declared.path.Path.{Path}
 use Rattle.pid_file.specs.declared.path.Path.TheVariants.{Vendor, Device, Subsystem, Class, Subclass, ProgIf, Generic}
-use Rattle.pid_file.specs.PathTexts.{IsPath, path_text, path_cmp, parent_of}
+use Rattle.pid_file.specs.PathTexts.{IsPath, path_text, parent_of}
+use Rattle.pid_file.specs.Steps.Paths.{path_cmp}
 use Rattle.pid_file.specs.Steps.PathPlaces.{letter_of, numbers_of}
 use Rattle.pid_file.proofs.PathOrder.{places_order}
 

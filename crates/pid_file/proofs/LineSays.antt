@@ -25,7 +25,8 @@ use Rattle.pid_file.specs.Columns.{begins_with_ids, is_id, digits_in, name_in}
 use Rattle.pid_file.specs.LookingBack.{is_above, above, mark_at, parent_line, is_block, is_entry, widths_at, digits_at, head_path, path_at, entry_of}
 use Rattle.pid_file.specs.Faults.{line_fault_of}
 use Rattle.pid_file.specs.Steps.EntryLines.{columns_fault, widths_of, IsPathAt}
-use Rattle.pid_file.specs.OpenLevels.{Under, Below, IsBare, IsOpenAt, open_below, Says}
+use Rattle.pid_file.specs.OpenLevels.{Under, Below, IsBare, IsOpenAt}
+use Rattle.pid_file.specs.Steps.OpenLevels.{open_below, Says}
 use Rattle.pid_file.specs.Steps.OpenLevels.{first_below, second_below, deeper_below, below}
 
 -- what stands before its own digits in the text of its path

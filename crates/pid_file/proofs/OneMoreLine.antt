@@ -10,7 +10,8 @@ use Rattle.pid_file.specs.declared.fault_kind.LineKind.{LineKind}
 use Rattle.pid_file.specs.declared.fault_kind.LineKind.TheVariants.{NotUtf8, TooDeep, NoParent, BadId, NoName, BadName, Duplicate, VendorMissing}
 use Rattle.pid_file.specs.declared.path.Path.{Path}
 use Rattle.pid_file.specs.declared.path.Path.TheVariants.{Vendor, Device, Subsystem, Class, Subclass, ProgIf, Generic}
-use Rattle.pid_file.specs.PathTexts.{IsPath, path_text, path_cmp}
+use Rattle.pid_file.specs.PathTexts.{IsPath, path_text}
+use Rattle.pid_file.specs.Steps.Paths.{path_cmp}
 use Rattle.pid_file.proofs.SeenMore.{nested_differ, one_path}
 use Rattle.pid_file.specs.Trees.{text_cmp}
 use Rattle.pid_file.specs.Identifiers.{hex4}
@@ -26,10 +27,12 @@ use Rattle.pid_file.specs.LookingBack.{Item, is_above, above, head_path, is_bloc
 use Rattle.pid_file.specs.Faults.{has, fault_of, line_fault_of}
 use Rattle.pid_file.specs.Numbered.{at_line, numbered_at}
 use Rattle.pid_file.specs.Reading.{refused_at, ENTRIES}
-use Rattle.pid_file.specs.OpenLevels.{IsOpenAt, Under, Below, open_below}
-use Rattle.pid_file.specs.Refusals.{refusal_at}
+use Rattle.pid_file.specs.OpenLevels.{IsOpenAt, Under, Below}
+use Rattle.pid_file.specs.Steps.OpenLevels.{open_below}
+use Rattle.pid_file.specs.Steps.LineEnds.{refusal_at}
 use Rattle.pid_file.specs.Progress.{IsShown, IsUnder, open_head_path}
-use Rattle.pid_file.specs.SeenPaths.{is_head, is_nested, block_of, with_path}
+use Rattle.pid_file.specs.SeenPaths.{is_nested, block_of}
+use Rattle.pid_file.specs.Steps.SeenPaths.{is_head, with_path}
 
 abbrev pub or_kind : Option LineKind → Option LineKind → Option LineKind
 or_kind (Some k) o = Some k

@@ -12,7 +12,8 @@ use Rattle.std.proofs.lemmas.Bool.{cases_lt}
 use Rattle.std.proofs.lemmas.Bool.Decides.{nat_tests}
 use Rattle.pid_file.specs.declared.path.Path.{Path}
 use Rattle.pid_file.specs.declared.path.Path.TheVariants.{Vendor, Device, Subsystem, Class, Subclass, ProgIf, Generic}
-use Rattle.pid_file.specs.PathTexts.{IsPath, path_text, path_cmp}
+use Rattle.pid_file.specs.PathTexts.{IsPath, path_text}
+use Rattle.pid_file.specs.Steps.Paths.{path_cmp}
 use Rattle.pid_file.specs.Steps.PathPlaces.{letter_of, numbers_of, path_head, path_rest, path_key}
 use Rattle.pid_file.specs.Identifiers.{hex4, hex2}
 

@@ -14,7 +14,8 @@ use Rattle.std.proofs.lemmas.List.{get_or_append_left, get_or_push, length-appen
 use Rattle.std.proofs.lemmas.List.Folds.{list_any_at, list_any-append}
 use Rattle.std.proofs.lemmas.List.Sorted.{searchable_from_sorted}
 use Rattle.std.proofs.lemmas.Option.{get_or_from_slice_get}
-use Rattle.pid_file.specs.SeenItems.{has_item, IsRising, IsOneMore}
+use Rattle.pid_file.specs.SeenItems.{has_item, IsRising}
+use Rattle.pid_file.specs.Steps.SeenPaths.{IsOneMore}
 
 least : (o : Ordering) → ordering_index o ≤ 0 → is_eq o ≡ false
 least Less h = refl

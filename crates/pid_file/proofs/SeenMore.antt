@@ -13,11 +13,14 @@ use Rattle.std.proofs.lemmas.List.{get_or_append_left, get_or-append_right, get_
 use Rattle.std.proofs.lemmas.Bool.Decides.{nat_tests}
 use Rattle.pid_file.specs.declared.path.Path.{Path}
 use Rattle.pid_file.specs.declared.path.Path.TheVariants.{Vendor, Device, Subsystem, Class, Subclass, ProgIf, Generic}
-use Rattle.pid_file.specs.PathTexts.{IsPath, path_text, path_cmp}
+use Rattle.pid_file.specs.PathTexts.{IsPath, path_text}
+use Rattle.pid_file.specs.Steps.Paths.{path_cmp}
 use Rattle.pid_file.specs.Steps.PathPlaces.{path_key}
-use Rattle.pid_file.specs.SeenItems.{has_path, IsOneMore}
+use Rattle.pid_file.specs.SeenItems.{has_path}
+use Rattle.pid_file.specs.Steps.SeenPaths.{IsOneMore}
 use Rattle.pid_file.specs.Steps.Flags.{IsOneMoreFlag}
-use Rattle.pid_file.specs.SeenPaths.{has_flag, is_nested, is_head, seen_by, with_path}
+use Rattle.pid_file.specs.SeenPaths.{has_flag, is_nested, seen_by}
+use Rattle.pid_file.specs.Steps.SeenPaths.{is_head, with_path}
 use Rattle.pid_file.proofs.PathOrder.{key_order}
 use Rattle.pid_file.proofs.Kin.{same_path}
 

@@ -12,7 +12,8 @@ use Rattle.std.specs.FinMap.Entries.{find as value_at}
 use Rattle.std.proofs.lemmas.Cmp.{nat_list_cmp_total, tied_itself}
 use Rattle.std.proofs.lemmas.List.{append_assoc, append-nil}
 use Rattle.pid_file.specs.declared.path.Path.{Path}
-use Rattle.pid_file.specs.PathTexts.{IsPath, path_text, path_cmp, parent_of}
+use Rattle.pid_file.specs.PathTexts.{IsPath, path_text, parent_of}
+use Rattle.pid_file.specs.Steps.Paths.{path_cmp}
 use Rattle.pid_file.specs.Words.{is_name}
 use Rattle.pid_file.specs.Trees.{IsTree, text_cmp}
 use Rattle.pid_file.specs.Items.{item_of, tree_of}

@@ -5,7 +5,6 @@ use Rattle.std.specs.Io.KnownBytes.{Consumes}
 use Rattle.pid_file.specs.LookingBack.{entries_back}
 use Rattle.pid_file.specs.Reading.{history_of, refused}
 use Rattle.pid_file.specs.Refusals.{IsRefusal}
-use Rattle.pid_file.specs.declared.refusal.ReadRefusal.TheVariants.{Memory}
 use Rattle.pid_file.specs.declared.sink.CutEnd.TheVariants.{Refused, Fault}
 use Rattle.pid_file.specs.declared.whole_input.InputEnd.{InputEnd}
 use Rattle.pid_file.specs.declared.whole_input.InputEnd.TheVariants.{ReadFault, TooLong, Cut}
@@ -33,10 +32,3 @@ abbrev pub ReadsInput : {D F : Type 0} → (List ℕ → D → Type 0) → ℕ �
     → Type 0
 ReadsInput gives limit (Ok d) text = (length text ≤ limit) × (refused text ≡ None) × gives text d
 ReadsInput gives limit (Err end) text = IsUnread limit end text
-
--- the same end without the fault of a sink, which is out of memory
-abbrev pub without_fault : {F G : Type 0} → InputEnd F → InputEnd G
-without_fault ReadFault = ReadFault
-without_fault TooLong = TooLong
-without_fault (Cut (Refused r)) = Cut (Refused r)
-without_fault (Cut (Fault f)) = Cut (Refused Memory)

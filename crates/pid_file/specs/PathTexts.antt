@@ -1,14 +1,9 @@
 -- The text of each path, its parent, its kind and its order.
 -- The texts are those of the PCI ID Repository's pages (`read/PC/8086/1237`, `read/PD/01/01`);
 -- `PS` for generic subsystems is a choice of this project.
-use Rattle.std.specs.Ordering.{on, nat_cmp}
-use Rattle.std.specs.Cmp.Lexicographic.{slice_cmp}
-use Rattle.std.specs.declared.cmp.Ordering.{Ordering}
 use Rattle.std.specs.Prelude.{◌≡◌, ℕ, ◌<◌, ◌^◌, List, [], ◌∷◌, ◌++◌, Option, Some, None, codes}
 use Rattle.pid_file.specs.declared.path.Path.{Path}
 use Rattle.pid_file.specs.declared.path.Path.TheVariants.{Vendor, Device, Subsystem, Class, Subclass, ProgIf, Generic}
-use Rattle.pid_file.specs.declared.path.PathKind.{PathKind}
-use Rattle.pid_file.specs.declared.path.PathKind.TheVariants as kinds
 use Rattle.pid_file.specs.Identifiers.{hex4, hex2}
 
 -- the numbers that identifiers have
@@ -66,16 +61,3 @@ parent_of (Class c) = None
 parent_of (Subclass c s) = Some (Class c)
 parent_of (ProgIf c s p) = Some (Subclass c s)
 parent_of (Generic v d) = Some (Vendor v)
-
-abbrev pub kind_of : Path → PathKind
-kind_of (Vendor v) = kinds.Vendor
-kind_of (Device v d) = kinds.Device
-kind_of (Subsystem v d s e) = kinds.Subsystem
-kind_of (Class c) = kinds.Class
-kind_of (Subclass c s) = kinds.Subclass
-kind_of (ProgIf c s p) = kinds.ProgIf
-kind_of (Generic v d) = kinds.Generic
-
--- the bytewise order of the texts
-abbrev pub path_cmp : Path → Path → Ordering
-path_cmp = on path_text (slice_cmp nat_cmp)

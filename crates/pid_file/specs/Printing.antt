@@ -1,11 +1,9 @@
 -- The canonical text of a tree. Its lines are lines of pci.ids(5); which lines there are, their
 -- order and the two spaces before a name are choices of this project.
 use Rattle.std.specs.Prelude.{ℕ, Bool, false, not, ◌&&◌, List, [], ◌∷◌, ◌++◌, length, codes, ◌==◌}
-use Rattle.std.specs.Prelude.{take, drop, if◌then◌else◌, Option, Some, None}
+use Rattle.std.specs.Prelude.{take, drop, if◌then◌else◌}
 use Rattle.std.specs.Ordering.{is_eq}
 use Rattle.std.specs.FinMap.{entries}
-use Rattle.pid_file.specs.declared.path.Path.{Path}
-use Rattle.pid_file.specs.PathTexts.{path_text}
 use Rattle.pid_file.specs.Trees.{TreeMap, text_cmp}
 
 -- What comes before the name in the line of an item: the label of its path, read off the path's
@@ -49,11 +47,6 @@ block_line path = codes "S " ++ take 4 (drop 3 path)
 -- one before is none of its vendor, whose first 7 bytes would be the same (PS/1af4 of PS/1af4/1100)
 abbrev pub opens_block : List ℕ → List ℕ → Bool
 opens_block before path = is_generic path && not (is_eq (text_cmp (take 7 before) (take 7 path)))
-
--- the text of the path of the item before; before the first item it is empty
-abbrev pub text_or_none : Option Path → List ℕ
-text_or_none None = []
-text_or_none (Some path) = path_text path
 
 -- the lines of items in order, which follow an item whose path has the text `before`
 abbrev pub lines_behind : List ℕ → List (List ℕ × List ℕ) → List (List ℕ)

@@ -1,12 +1,10 @@
 -- What is kept of the lines that were read shows them, the last one first.
-use Rattle.std.specs.Prelude.{◌≡◌, ℕ, Bool, true, List, [], ◌∷◌, Option, Some, None, length}
+use Rattle.std.specs.Prelude.{◌≡◌, ℕ, Bool, true, List, Option, Some, None, length}
 use Rattle.pid_file.specs.declared.path.Path.{Path}
 use Rattle.pid_file.specs.PathTexts.{IsPath, path_text}
 use Rattle.pid_file.specs.declared.open_levels.OpenLevels.{OpenLevels}
 use Rattle.pid_file.specs.declared.progress.Progress.{Progress}
-use Rattle.pid_file.specs.declared.sink.Entry.{Entry}
 use Rattle.pid_file.specs.LookingBack.{above, head_path, entries_back, is_told}
-use Rattle.pid_file.specs.Numbered.{Numbered, as_told}
 use Rattle.pid_file.specs.OpenLevels.{IsOpenAt}
 use Rattle.pid_file.specs.SeenPaths.{AreRising, block_of, has_seen, is_nested}
 
@@ -38,8 +36,3 @@ pub record IsShown (at : OpenLevels) (seen : Path → Bool) (entries lines : ℕ
 pub record Shows (p : Progress) (earlier : List (List ℕ)) : Type 0 where
   pub rising : AreRising p.seen
   pub shown : IsShown p.levels (has_seen p.seen) p.entries p.lines earlier
-
--- the entry that is given, if any
-abbrev pub given : Option Entry → List Numbered
-given None = []
-given (Some e) = as_told e ∷ []

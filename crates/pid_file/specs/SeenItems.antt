@@ -1,5 +1,5 @@
 -- The items that were seen: a run that rises, and the rest; and the keys of paths among them.
-use Rattle.std.specs.Prelude.{◌≡◌, ℕ, Bool, true, List, ◌++◌, if◌then◌else◌}
+use Rattle.std.specs.Prelude.{ℕ, Bool, List, ◌++◌}
 use Rattle.std.specs.List.{list_any}
 use Rattle.std.specs.List.Sorted.{IsSorted}
 use Rattle.std.specs.declared.cmp.Ordering.{Ordering}
@@ -23,8 +23,3 @@ seen_items s = s.run.items ++ s.rest.keys
 -- none is less than the one before it
 abbrev pub IsRising : {P : Type 0} → (P → P → Ordering) → List P → Type 0
 IsRising cmp run = IsSorted cmp run
-
--- the items with one more
-abbrev pub IsOneMore : {P : Type 0} → (P → P → Ordering) → List P → P → List P → Type 0
-IsOneMore {P} cmp old p new = (q : P) → has_item cmp new q
-    ≡ (if is_eq (cmp p q) then true else has_item cmp old q)

@@ -1,10 +1,9 @@
 -- Which paths were seen, of those that can come again.
-use Rattle.std.specs.Prelude.{ℕ, Bool, true, false, List, ◌&&◌, if◌then◌else◌}
+use Rattle.std.specs.Prelude.{ℕ, Bool, true, false, List}
 use Rattle.std.specs.Prelude.{slice_index_or}
-use Rattle.std.specs.Ordering.{is_eq, nat_cmp}
+use Rattle.std.specs.Ordering.{nat_cmp}
 use Rattle.pid_file.specs.declared.path.Path.{Path}
 use Rattle.pid_file.specs.declared.path.Path.TheVariants.{Vendor, Device, Subsystem, Class, Subclass, ProgIf, Generic}
-use Rattle.pid_file.specs.PathTexts.{path_cmp}
 use Rattle.pid_file.specs.SeenItems.{IsRising, has_path, seen_items}
 use Rattle.pid_file.specs.declared.seen_paths.SeenPaths.{SeenPaths}
 
@@ -32,16 +31,6 @@ block_of (Subclass c s) = Class c
 block_of (ProgIf c s p) = Class c
 block_of (Generic v d) = Generic v d
 
--- whether the path is that of a vendor or a class
-abbrev pub is_head : Path → Bool
-is_head (Vendor v) = true
-is_head (Device v d) = false
-is_head (Subsystem v d s e) = false
-is_head (Class c) = true
-is_head (Subclass c s) = false
-is_head (ProgIf c s p) = false
-is_head (Generic v d) = false
-
 -- whether a path was seen, by the flags of vendors, the keys of classes and generic subsystems, and
 -- the keys below the last vendor or class
 abbrev pub seen_by : List Bool → List ℕ → List ℕ → Path → Bool
@@ -60,9 +49,3 @@ has_seen s = seen_by s.vendors.items (seen_items s.others) (seen_items s.below)
 pub record AreRising (s : SeenPaths) : Type 0 where
   pub others : IsRising nat_cmp s.others.run.items
   pub below : IsRising nat_cmp s.below.run.items
-
--- what was seen with one more path: a vendor or a class begins a block, and what is below others is
--- forgotten
-abbrev pub with_path : (Path → Bool) → Path → Path → Bool
-with_path seen p q = if is_head p && is_nested q then false else
-    (if is_eq (path_cmp q p) then true else seen q)

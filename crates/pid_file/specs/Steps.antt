@@ -6,3 +6,14 @@ pub mod Whole
 pub mod Columns
 pub mod OpenLevels
 pub mod Flags
+pub mod Counters
+pub mod ReadingLaws
+pub mod InputCalls
+pub mod Wrapping
+pub mod InputTexts
+pub mod Paths
+pub mod Printing
+pub mod Progress
+pub mod SeenPaths
+pub mod TextEnds
+pub mod WholeInputs

@@ -1,6 +1,6 @@
 -- What is made of an input that is read to its end, up to a limit of bytes.
-use Rattle.std.specs.Prelude.{◌≡◌, ◌⊎◌, ℕ, ◌+◌, ◌<◌, ◌≤◌, List, [], length, Option, Result, Ok, Err}
-use Rattle.std.specs.Io.KnownBytes.{Consumes, IsAtEnd, Keeps}
+use Rattle.std.specs.Prelude.{◌≡◌, ◌⊎◌, ℕ, ◌+◌, ◌≤◌, List, length, Option, Result, Ok, Err}
+use Rattle.std.specs.Io.KnownBytes.{IsAtEnd}
 use Rattle.pid_file.specs.Lines.{lines_of}
 use Rattle.pid_file.specs.Numbered.{Numbered}
 use Rattle.pid_file.specs.Sinks.{TookSome, FaultedAt, Ends}
@@ -8,28 +8,6 @@ use Rattle.pid_file.specs.declared.whole_input.InputEnd.{InputEnd}
 use Rattle.pid_file.specs.declared.whole_input.InputEnd.TheVariants.{ReadFault, TooLong, Cut}
 use Rattle.pid_file.specs.declared.whole_input.SkipEnd.{SkipEnd}
 use Rattle.pid_file.specs.declared.whole_input.SkipEnd.TheVariants as skips
-
--- the end of an input that could not be skipped, as that of one that is cut
-abbrev pub as_input_end : {F : Type 0} → SkipEnd → InputEnd F
-as_input_end skips.ReadFault = ReadFault
-as_input_end skips.TooLong = TooLong
-
--- some bytes of an input, which may have so many more
-pub record IsPiece (room : ℕ) (old new : Option (List ℕ)) (piece : List ℕ) : Type 0 where
-  pub consumed : Consumes old new piece
-  pub some : 0 < length piece
-  pub short : length piece ≤ room
-
--- no byte is left
-pub record IsNoPiece (old new : Option (List ℕ)) : Type 0 where
-  pub consumed : Consumes old new []
-  pub at_end : IsAtEnd new
-
--- why there is no piece: one byte more than may come was read, or none
-abbrev pub FailsPiece : ℕ → Option (List ℕ) → Option (List ℕ) → SkipEnd → Type 0
-FailsPiece room old new skips.TooLong = (front : List ℕ) × Consumes old new front
-    × (length front ≡ room + 1)
-FailsPiece room old new skips.ReadFault = Keeps old new
 
 -- the text was read whole: nothing is left after it, and it is short enough
 pub record IsWhole (limit : ℕ) (rest : Option (List ℕ)) (text : List ℕ) : Type 0 where

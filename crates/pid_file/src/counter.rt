@@ -14,7 +14,7 @@ pub struct Counter {
 pub enum Never {}
 
 impl Sink for Counter {
-    ghost use Rattle.pid_file.specs.Counters.{Counts};
+    ghost use Rattle.pid_file.specs.Steps.Counters.{Counts};
 
     type Fault = Never;
 

@@ -2,7 +2,8 @@
 ghost use Rattle.std.specs.Prelude.{◌≡◌, ◌↔◌, ◌+◌, ◌≤◌, ℕ, List, Err, IsSome, IfSome, length};
 ghost use Rattle.std.specs.Io.KnownBytes.{Consumes};
 ghost use Rattle.pid_file.specs.Reading.{Reads};
-ghost use Rattle.pid_file.specs.InputTexts.{HasEntries, ReadsInput, without_fault};
+ghost use Rattle.pid_file.specs.InputTexts.{HasEntries, ReadsInput};
+ghost use Rattle.pid_file.specs.Steps.InputTexts.{without_fault};
 
 use crate::counter::{Counter, Never};
 use crate::io::Input;

@@ -9,7 +9,7 @@ use std::marker::Model;
 
 /// A name of an item: text of 1 to 1,000 bytes that begins with no blank and holds no control byte
 /// but tabs. Blanks at its end belong to it.
-#[derive(Debug, Drop)]
+#[derive(Drop)]
 pub struct Name {
     text: String,
 }

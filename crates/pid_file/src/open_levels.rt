@@ -3,13 +3,14 @@ ghost use Rattle.std.specs.Prelude.{◌≡◌, ◌==◌, ℕ, List, true, false,
 ghost use Rattle.std.specs.Str.{is_utf8 as utf8_bytes};
 ghost use Rattle.pid_file.specs.Marks.{is_idle as idle_line, depth as tabs, body as behind_tabs};
 ghost use Rattle.pid_file.specs.Faults.{line_fault_of};
-ghost use Rattle.pid_file.specs.OpenLevels.{IsOpenAt, IsNamed, Says};
+ghost use Rattle.pid_file.specs.OpenLevels.{IsOpenAt};
+ghost use Rattle.pid_file.specs.Steps.OpenLevels.{IsNamed, Says};
 ghost use Rattle.pid_file.specs.Steps.OpenLevels.{
   below as below_at,
   first_below as below_at_one,
   second_below as below_at_two,
 };
-ghost use Rattle.pid_file.specs.OpenLevels.{
+ghost use Rattle.pid_file.specs.Steps.OpenLevels.{
   open_below as levels_below,
   open_behind as levels_behind,
 };

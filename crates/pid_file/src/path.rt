@@ -1,6 +1,7 @@
 //! Paths of items: their parents, their kinds and their order.
 ghost use Rattle.std.specs.Prelude.{◌≡◌};
-ghost use Rattle.pid_file.specs.PathTexts.{IsPath, parent_of, kind_of};
+ghost use Rattle.pid_file.specs.PathTexts.{IsPath, parent_of};
+ghost use Rattle.pid_file.specs.Steps.Paths.{kind_of};
 
 mod order;
 
@@ -11,7 +12,7 @@ pub(crate) use order::key_of;
 /// generic subsystem.
 ///
 /// Paths are ordered as the bytes of their texts.
-#[derive(Clone, Copy, Debug)]
+#[derive(Clone, Copy)]
 pub enum Path {
     /// `PC/8086`
     Vendor {

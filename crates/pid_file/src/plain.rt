@@ -2,7 +2,7 @@
 ghost use Rattle.std.specs.Prelude.{◌≡◌, ◌≢◌, ◌<◌, ◌≤◌, None, Some, Ok, Err, IfOk, IfErr, length};
 ghost use Rattle.std.specs.Io.KnownBytes.{ReadConsumes, WriteAppends};
 ghost use Rattle.std.specs.IoError.{error_kind};
-ghost use Rattle.pid_file.specs.Wrapping.{
+ghost use Rattle.pid_file.specs.Steps.Wrapping.{
   wrapped,
   kept_read_fault,
   kept_write_fault,
@@ -110,8 +110,8 @@ fn write_once<W: Write>(writer: &mut W, bytes: &[u8]) -> Result<usize, WriteFaul
 
 impl<R: Read> Input for Plain<R> {
     ghost use Rattle.std.proofs.Common.{refl, ◌∙◌};
-    ghost use Rattle.pid_file.specs.ReadingLaws.{no_reads, more_reads};
-    ghost use Rattle.pid_file.specs.Wrapping.{GoesOn};
+    ghost use Rattle.pid_file.specs.Steps.ReadingLaws.{no_reads, more_reads};
+    ghost use Rattle.pid_file.specs.Steps.Wrapping.{GoesOn};
 
     ghost to_come = { λ p. R.remaining (wrapped p) };
 

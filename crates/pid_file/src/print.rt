@@ -26,8 +26,8 @@ ghost use Rattle.pid_file.specs.Printing.{
   lines_behind,
   opens_block,
   print,
-  text_or_none,
 };
+ghost use Rattle.pid_file.specs.Steps.Printing.{text_or_none};
 
 use crate::identifier::{Id16, hex2, hex4};
 use crate::io::{Output, WriteFault, write_all, write_parts};

@@ -10,7 +10,8 @@ ghost use Rattle.std.specs.Prelude.{
 };
 ghost use Rattle.std.specs.Io.KnownBytes.{Keeps};
 ghost use Rattle.pid_file.specs.Statuses.{IsStatusFor, GotTidied, GotChecked};
-ghost use Rattle.pid_file.specs.TextEnds.{failed_line, fault_line, status_of};
+ghost use Rattle.pid_file.specs.TextEnds.{fault_line, status_of};
+ghost use Rattle.pid_file.specs.Steps.TextEnds.{failed_line};
 ghost use Rattle.pid_file.specs.Writing.{TriesLine, use_of};
 
 use crate::checking::check;

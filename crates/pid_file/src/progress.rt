@@ -16,12 +16,13 @@ ghost use Rattle.std.specs.Prelude.{
 };
 ghost use Rattle.pid_file.specs.Words.{is_name};
 ghost use Rattle.pid_file.specs.Numbered.{numbered_at};
-ghost use Rattle.pid_file.specs.OpenLevels.{Says, IsNamed, open_behind};
-ghost use Rattle.pid_file.specs.Refusals.{refusal_at, IsRefusal};
-ghost use Rattle.pid_file.specs.Progress.{Shows, given};
+ghost use Rattle.pid_file.specs.Steps.OpenLevels.{Says, IsNamed, open_behind};
+ghost use Rattle.pid_file.specs.Refusals.{IsRefusal};
+ghost use Rattle.pid_file.specs.Steps.LineEnds.{refusal_at};
+ghost use Rattle.pid_file.specs.Progress.{Shows};
+ghost use Rattle.pid_file.specs.Steps.Progress.{given};
 
 use crate::fault_kind::LineKind;
-use crate::judge::Judge;
 use crate::open_levels::{OpenLevels, Said, read_line};
 use crate::refusal::ReadRefusal;
 use crate::seen_paths::SeenPaths;
@@ -115,14 +116,16 @@ impl Progress {
             }
         }
     }
-}
 
-impl Judge for Progress {
-    ghost use Rattle.pid_file.specs.Progress.{Shows};
-
-    ghost shows = { Shows };
-
-    fn judge<'b>(&mut self, line: &'b [u8]) -> Result<Option<Entry<'b>>, ReadRefusal> {
+    /// Reads one more line: its entry, if it is one; or what is refused at it, or `Memory`.
+    pub fn judge<'b>(&mut self, line: &'b [u8]) -> Result<Option<Entry<'b>>, ReadRefusal>
+        ensures taken { (earlier : List (List ℕ)) → Shows self.old earlier →
+            IfOk result (λ o. Shows self.new (line.now ∷ earlier)
+            × (refusal_at earlier line.now ≡ None) × (given o ≡ numbered_at earlier line.now)) }
+        ensures named { IfOk result (λ o. IfSome o (λ entry. IsTrue (is_name entry.name.now))) }
+        ensures refused { (earlier : List (List ℕ)) → Shows self.old earlier
+            → IfErr result (λ r. IsRefusal r (refusal_at earlier line.now)) }
+    {
         let Some(number) = self.lines.checked_add(1) else {
             return Err(ReadRefusal::Memory);
         };

@@ -11,7 +11,8 @@ ghost use Rattle.std.specs.Prelude.{
   IfOk,
   if◌then◌else◌,
 };
-ghost use Rattle.pid_file.specs.SeenItems.{IsOneMore, IsRising, has_item, seen_items};
+ghost use Rattle.pid_file.specs.SeenItems.{IsRising, has_item, seen_items};
+ghost use Rattle.pid_file.specs.Steps.SeenPaths.{IsOneMore};
 
 use std::alloc::{AllocError, Global};
 use std::collections::BTreeSet;

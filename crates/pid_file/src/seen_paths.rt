@@ -2,7 +2,8 @@
 ghost use Rattle.std.specs.Prelude.{◌≡◌, ◌<◌, ◌^◌, false, IfOk, IsTrue, not};
 ghost use Rattle.pid_file.specs.PathTexts.{IsPath};
 ghost use Rattle.pid_file.specs.Steps.Flags.{IsOneMoreFlag};
-ghost use Rattle.pid_file.specs.SeenPaths.{AreRising, has_flag, has_seen, with_path};
+ghost use Rattle.pid_file.specs.SeenPaths.{AreRising, has_flag, has_seen};
+ghost use Rattle.pid_file.specs.Steps.SeenPaths.{with_path};
 
 use crate::identifier::Id16;
 use crate::path::{Path, key_of};

@@ -5,7 +5,6 @@ ghost use Rattle.pid_file.specs.Numbered.{as_told};
 
 use crate::path::Path;
 use crate::refusal::ReadRefusal;
-use thiserror::Error;
 
 /// An entry of a text: the number of its line, counted from 1, its path and its name.
 #[derive(Clone, Copy)]
@@ -36,10 +35,10 @@ pub trait Sink {
 }
 
 /// Why no more of a text is read: the text is refused, or the sink faulted.
-#[derive(Debug, Drop, Error)]
+#[derive(Drop)]
 pub enum CutEnd<F> {
-    #[error("{0}")]
+    /// The text is refused.
     Refused(ReadRefusal),
-    #[error("the sink faulted")]
+    /// The sink faulted.
     Fault(F),
 }

@@ -2,7 +2,8 @@
 ghost use Rattle.std.specs.Prelude.{◌≡◌, IfErr, Some};
 ghost use Rattle.pid_file.specs.LineKinds.{number_of, word_of};
 ghost use Rattle.pid_file.specs.Sending.{Sends};
-ghost use Rattle.pid_file.specs.TextEnds.{end_of as end_made, fault_line, line_told, status_of};
+ghost use Rattle.pid_file.specs.TextEnds.{fault_line, line_told, status_of};
+ghost use Rattle.pid_file.specs.Steps.TextEnds.{end_of as end_made};
 
 use crate::fault_kind::LineKind;
 use crate::io::{Output, WriteFault, write_all, write_parts};

@@ -1,7 +1,7 @@
 //! Reporting why a text was not read.
 ghost use Rattle.std.specs.Prelude.{◌≡◌, ◌≢◌, ◌↔◌, ◌⊎◌, ℕ, List};
 ghost use Rattle.pid_file.specs.InputTexts.{IsUnread};
-ghost use Rattle.pid_file.specs.TextEnds.{unread_end};
+ghost use Rattle.pid_file.specs.Steps.TextEnds.{unread_end};
 ghost use Rattle.pid_file.specs.Told.{IsTold, ReportsEnd};
 ghost use Rattle.pid_file.specs.Writing.{use_of};
 

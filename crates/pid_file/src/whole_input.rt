@@ -23,45 +23,40 @@ ghost use Rattle.pid_file.specs.Lines.{lines_of};
 ghost use Rattle.pid_file.specs.OpenTexts.{IsLeftOpen};
 ghost use Rattle.pid_file.specs.Sinks.{Ends};
 ghost use Rattle.pid_file.specs.WholeLines.{whole_lines};
-ghost use Rattle.pid_file.specs.WholeInputs.{CutsInput, FailsPiece, IsNoPiece, IsPiece};
+ghost use Rattle.pid_file.specs.WholeInputs.{CutsInput};
+ghost use Rattle.pid_file.specs.Steps.WholeInputs.{FailsPiece, IsNoPiece, IsPiece};
 
 use crate::io::Input;
-use crate::judge::Judge;
 use crate::open_text::OpenText;
-use crate::progress::Progress;
 use crate::sink::{CutEnd, Sink};
 use std::alloc::Global;
-use thiserror::Error;
 
 /// The most that one read asks for, in bytes.
 pub const BUFFER: usize = 4_096;
 
 /// Why not all entries of an input came to a sink.
-#[derive(Debug, Drop, Error)]
+#[derive(Drop)]
 pub enum InputEnd<F> {
-    #[error("the reader failed")]
+    /// The reader failed.
     ReadFault,
     /// The input has more bytes than the limit.
-    #[error("too long")]
     TooLong,
     /// The text is refused, or the sink faulted.
-    #[error("{0}")]
     Cut(CutEnd<F>),
 }
 
 /// Why an input was not read to its end.
-#[derive(Clone, Copy, Debug, Error)]
+#[derive(Clone, Copy)]
 pub enum SkipEnd {
-    #[error("the reader failed")]
+    /// The reader failed.
     ReadFault,
     /// The input has more bytes than the limit.
-    #[error("too long")]
     TooLong,
 }
 
 impl<F: Drop> From<SkipEnd> for InputEnd<F> {
     ghost use Rattle.std.specs.Prelude.{◌≡◌};
-    ghost use Rattle.pid_file.specs.WholeInputs.{as_input_end};
+    ghost use Rattle.pid_file.specs.Steps.WholeInputs.{as_input_end};
 
     ghost from_gives = { λ end r. r ≡ as_input_end end };
 
@@ -103,17 +98,17 @@ pub fn next_piece<'b, I: Input>(
 }
 
 // Takes the next chunk, if the text was not given up before.
-fn take_next<J: Judge, K: Sink>(
-    text: &mut OpenText<J>,
+fn take_next<K: Sink>(
+    text: &mut OpenText,
     outcome: Result<(), CutEnd<K::Fault>>,
     piece: &[u8],
     sink: &mut K,
 ) -> Result<(), CutEnd<K::Fault>>
 where
     K::Fault: Drop,
-    ensures holds { (front : List ℕ) → OnOk outcome (IsLeftOpen J.shows text.old front)
-        → OnOk result (IsLeftOpen J.shows text.new (front ++ piece.now)) }
-    ensures ends { (front : List ℕ) (start : K) → OnOk outcome (IsLeftOpen J.shows text.old front)
+    ensures holds { (front : List ℕ) → OnOk outcome (IsLeftOpen text.old front)
+        → OnOk result (IsLeftOpen text.new (front ++ piece.now)) }
+    ensures ends { (front : List ℕ) (start : K) → OnOk outcome (IsLeftOpen text.old front)
         → Ends K.takes K.faults outcome start (whole_lines front) sink.old →
         Ends K.takes K.faults result start (whole_lines (front ++ piece.now)) sink.new }
 {
@@ -122,50 +117,19 @@ where
 }
 
 // The text has ended.
-fn end_text<J: Judge + Drop, K: Sink>(
-    text: OpenText<J>,
+fn end_text<K: Sink>(
+    text: OpenText,
     outcome: Result<(), CutEnd<K::Fault>>,
     sink: &mut K,
 ) -> Result<(), CutEnd<K::Fault>>
 where
     K::Fault: Drop,
-    ensures ends { (whole : List ℕ) (start : K) → OnOk outcome (IsLeftOpen J.shows text whole)
+    ensures ends { (whole : List ℕ) (start : K) → OnOk outcome (IsLeftOpen text whole)
         → Ends K.takes K.faults outcome start (whole_lines whole) sink.old →
         Ends K.takes K.faults result start (lines_of whole) sink.new }
 {
     outcome?;
     text.end(sink)
-}
-
-// As `cut_input`, by what judges lines.
-fn cut_judged<J: Judge + Drop, K: Sink, I: Input>(
-    mut text: OpenText<J>,
-    limit: usize,
-    input: &mut I,
-    sink: &mut K,
-) -> Result<(), InputEnd<K::Fault>>
-where
-    K::Fault: Drop,
-    requires { IsLeftOpen J.shows text [] }
-    ensures read { (text : List ℕ) × Consumes (I.to_come input.old) (I.to_come input.new) text
-        × CutsInput K.takes K.faults limit result (I.to_come input.new) text sink.old sink.new }
-    ensures stops { (front : List ℕ) × Consumes (I.to_come input.old) (I.to_come input.new) front
-        × (length front ≤ limit + 1) }
-    ensures fault { result ≡ Err InputEnd.ReadFault → IsSome (I.read_fault input.new) }
-    ensures fault_first { IsSome (I.read_fault input.new) → result ≡ Err InputEnd.ReadFault }
-    ensures goes { I.goes input.old input.new }
-{
-    let mut buffer = [0u8; BUFFER];
-    let mut room = limit;
-    let mut outcome = Ok(());
-    while let Some(piece) = next_piece(input, room, &mut buffer)? {
-        outcome = take_next(&mut text, outcome, piece, sink);
-        room -= piece.len();
-    }
-    match end_text(text, outcome, sink) {
-        Ok(()) => Ok(()),
-        Err(end) => Err(InputEnd::Cut(end)),
-    }
 }
 
 /// Hands the entries of the input's text to the sink, in the order of their lines, until the text
@@ -188,6 +152,16 @@ where
     ensures fault_first { IsSome (I.read_fault input.new) → result ≡ Err InputEnd.ReadFault }
     ensures goes { I.goes input.old input.new }
 {
-    let text = OpenText::new(alloc, Progress::new(alloc));
-    cut_judged(text, limit, input, sink)
+    let mut text = OpenText::new(alloc);
+    let mut buffer = [0u8; BUFFER];
+    let mut room = limit;
+    let mut outcome = Ok(());
+    while let Some(piece) = next_piece(input, room, &mut buffer)? {
+        outcome = take_next(&mut text, outcome, piece, sink);
+        room -= piece.len();
+    }
+    match end_text(text, outcome, sink) {
+        Ok(()) => Ok(()),
+        Err(end) => Err(InputEnd::Cut(end)),
+    }
 }

@@ -17,7 +17,7 @@ use Rattle.pid_service_laws.specs.Imports.{HasRead, ObeysFile, import_sent}
 use Rattle.pid_service_laws.specs.declared.faults.ImportEnd.{ImportEnd}
 use Rattle.pid_service_laws.specs.declared.faults.ImportEnd.TheVariants.{Refused, Body}
 use Rattle.pid_http_stream.specs.Replies.{Answer}
-use Rattle.pid_http_stream.specs.BodyLengths.{longest_body}
+use Rattle.pid_http_stream.specs.declared.limits.TheConstants.{LONGEST_BODY}
 use Rattle.pid_http_stream.specs.declared.handler.Reply.{Reply}
 use Rattle.pid_http.specs.declared.api.format.Format.{Format}
 use Rattle.pid_http.specs.Api.Outcomes.{outcome_answer}
@@ -40,7 +40,7 @@ no_longer : (file text : List ℕ) (left : Option (List ℕ)) → Consumes (Some
 no_longer file text None consumed = absurd consumed
 no_longer file text (Some more) consumed = let e = ap length consumed ∙ length-append text more in omega arith
 
-refused_whole : {Why : Type 0} (file text : List ℕ) (left : Option (List ℕ)) → length file ≤ longest_body → Consumes (Some file) left text → IsWhole most_file_bytes left text ⊎ (Why × (length text ≡ most_file_bytes + 1)) → (text ≡ file) × (left ≡ Some [])
+refused_whole : {Why : Type 0} (file text : List ℕ) (left : Option (List ℕ)) → length file ≤ LONGEST_BODY → Consumes (Some file) left text → IsWhole most_file_bytes left text ⊎ (Why × (length text ≡ most_file_bytes + 1)) → (text ≡ file) × (left ≡ Some [])
 refused_whole file text left fits consumed (inl read) = whole file text left consumed read.at_end
 refused_whole file text left fits consumed (inr (why, long)) = let most = no_longer file text left consumed in absurd (omega arith)
 
@@ -81,7 +81,7 @@ module _ {R : Type 0} (registry : Ghosts R) where
   pub accepted : {E : Type 0} → Lives registry → (old new : R) (reply : Outcome) (account : List ℕ) (key : Option (List ℕ)) (format : Format) (to_come left : Option (List ℕ)) (r : Result Reply E)
       → (registry.is_live old ≡ false → ((Ok reply ≡ Err (Refused refusals.Failed)) ⊎ (Ok reply ≡ Err Body)) × (new ≡ old))
       → HasRead (Ok reply) to_come left (Holds old new (Ok reply) account key) → IfOk r (λ x. IsReplyOf x (outcome_answer format (Ok reply)))
-      → Goes registry old new (λ k calls now. (file : List ℕ) → to_come ≡ Some file → length file ≤ longest_body → IsMetBehind k (Obeys (import_of account key (file_reading file)) format) r left calls now)
+      → Goes registry old new (λ k calls now. (file : List ℕ) → to_come ≡ Some file → length file ≤ LONGEST_BODY → IsMetBehind k (Obeys (import_of account key (file_reading file)) format) r left calls now)
   accepted alive old new reply account key format to_come left r failed read is =
       let lives = imports_on old new (Ok reply) account key to_come left failed read in
       turned registry old new
@@ -96,7 +96,7 @@ module _ {R : Type 0} (registry : Ghosts R) where
   refused_so : {E : Type 0} → Lives registry → (old new : R) (refusal : Refusal) (account : List ℕ) (key : Option (List ℕ)) (format : Format) (to_come left last : Option (List ℕ)) (r : Result Reply E) (lives : LivesOn registry old new)
       → (registry.is_live old ≡ false → (◌≡◌ {A = Result Outcome Refusal} (Err refusal) (Err refusals.Failed)) × (new ≡ old))
       → (read : HasRead (Err (Refused refusal)) to_come left (Holds old new (Err (Refused refusal)) account key)) → lives.calls ≡ obeyed (import_of account key (file_reading read.text)) (Err refusal) (registry.is_live new) ∷ [] → (left ≡ Some [] → last ≡ Some []) → IfOk r (λ x. IsReplyOf x (outcome_answer format (Err refusal)))
-      → Goes registry old new (λ k calls now. (file : List ℕ) → to_come ≡ Some file → length file ≤ longest_body → IsMetBehind k (Obeys (import_of account key (file_reading file)) format) r last calls now)
+      → Goes registry old new (λ k calls now. (file : List ℕ) → to_come ≡ Some file → length file ≤ LONGEST_BODY → IsMetBehind k (Obeys (import_of account key (file_reading file)) format) r last calls now)
   refused_so alive old new refusal account key format to_come left last r lives failed read by ended is =
       turned registry old new
       (λ k calls now obeys file e fits.
@@ -107,7 +107,7 @@ module _ {R : Type 0} (registry : Ghosts R) where
   pub refused : {E : Type 0} → Lives registry → (old new : R) (end : ImportEnd) (refusal : Refusal) (account : List ℕ) (key : Option (List ℕ)) (format : Format) (to_come left last : Option (List ℕ)) (r : Result Reply E)
       → end ≡ Refused refusal → (registry.is_live old ≡ false → (IsEnd end (Refused refusals.Failed) ⊎ IsEnd end Body) × (new ≡ old))
       → HasRead (Err end) to_come left (Holds old new (Err end) account key) → (left ≡ Some [] → last ≡ Some []) → IfOk r (λ x. IsReplyOf x (outcome_answer format (Err refusal)))
-      → Goes registry old new (λ k calls now. (file : List ℕ) → to_come ≡ Some file → length file ≤ longest_body → IsMetBehind k (Obeys (import_of account key (file_reading file)) format) r last calls now)
+      → Goes registry old new (λ k calls now. (file : List ℕ) → to_come ≡ Some file → length file ≤ LONGEST_BODY → IsMetBehind k (Obeys (import_of account key (file_reading file)) format) r last calls now)
   refused {E} alive old new end refusal account key format to_come left last r is_end failed read ended is =
       subst By (sym is_end)
       (λ failed read.
@@ -117,11 +117,11 @@ module _ {R : Type 0} (registry : Ghosts R) where
     where
       By : ImportEnd → Type 0
       By x = (registry.is_live old ≡ false → (IsEnd x (Refused refusals.Failed) ⊎ IsEnd x Body) × (new ≡ old)) → HasRead (Err x) to_come left (Holds old new (Err x) account key)
-          → Goes registry old new (λ k calls now. (file : List ℕ) → to_come ≡ Some file → length file ≤ longest_body → IsMetBehind k (Obeys (import_of account key (file_reading file)) format) r last calls now)
+          → Goes registry old new (λ k calls now. (file : List ℕ) → to_come ≡ Some file → length file ≤ LONGEST_BODY → IsMetBehind k (Obeys (import_of account key (file_reading file)) format) r last calls now)
 
   -- it was not asked for, and the body was read to its end, or given up
   pub denied_behind : {E : Type 0} (r : R) (errand : List ℕ → Errand) (given : Answer) (result : Result Reply E) (to_come left : Option (List ℕ)) → IfOk result (λ _. IsAtEnd left) → IfOk result (λ reply. IsReplyOf reply given)
-      → ((file : List ℕ) (k : Known) → IsErrandMet k (errand file) given [] k) → Goes registry r r (λ k calls now. (file : List ℕ) → to_come ≡ Some file → length file ≤ longest_body → IsMetBehind k (errand file) result left calls now)
+      → ((file : List ℕ) (k : Known) → IsErrandMet k (errand file) given [] k) → Goes registry r r (λ k calls now. (file : List ℕ) → to_come ≡ Some file → length file ≤ LONGEST_BODY → IsMetBehind k (errand file) result left calls now)
   denied_behind {E} r errand given result to_come left end is met = no_call registry r _ (λ k file known fits. by_reply result is k file)
     where
       by_reply : (result : Result Reply E) → IfOk result (λ reply. IsReplyOf reply given) → (k : Known) (file : List ℕ) → IsMetBehind k (errand file) result left [] k
@@ -130,15 +130,15 @@ module _ {R : Type 0} (registry : Ghosts R) where
 
   -- by the words of the sender
   pub of_owner : {E : Type 0} (old new : R) (account said : List ℕ) (key told : Option (List ℕ)) (format : Format) (result : Result Reply E) (to_come left : Option (List ℕ)) → account ≡ said → key ≡ told
-      → Goes registry old new (λ k calls now. (file : List ℕ) → to_come ≡ Some file → length file ≤ longest_body → IsMetBehind k (Obeys (import_of account key (file_reading file)) format) result left calls now)
-      → Goes registry old new (λ k calls now. (file : List ℕ) → to_come ≡ Some file → length file ≤ longest_body → IsMetBehind k (Obeys (import_of said told (file_reading file)) format) result left calls now)
+      → Goes registry old new (λ k calls now. (file : List ℕ) → to_come ≡ Some file → length file ≤ LONGEST_BODY → IsMetBehind k (Obeys (import_of account key (file_reading file)) format) result left calls now)
+      → Goes registry old new (λ k calls now. (file : List ℕ) → to_come ≡ Some file → length file ≤ LONGEST_BODY → IsMetBehind k (Obeys (import_of said told (file_reading file)) format) result left calls now)
   of_owner old new account said key told format result to_come left e f goes =
       turned registry old new (λ k calls now behind file known fits. subst (λ (c : Asked). IsMetBehind k (Obeys c format) result left calls now) (λ i. import_of (e i) (f i) (file_reading file)) (behind file known fits)) goes
 
   -- the input failed
   pub gave_up : Lives registry → (old new : R) (end : ImportEnd) (account : List ℕ) (key : Option (List ℕ)) (to_come left : Option (List ℕ)) (errand : List ℕ → Errand)
       → ((file : List ℕ) → 1 ≤ most_questions (errand file)) → end ≡ Body → (registry.is_live old ≡ false → (IsEnd end (Refused refusals.Failed) ⊎ IsEnd end Body) × (new ≡ old)) → HasRead (Err end) to_come left (Holds old new (Err end) account key)
-      → Goes registry old new (λ k calls now. (file : List ℕ) → to_come ≡ Some file → length file ≤ longest_body → (AreQuestions (most_questions (errand file)) calls × (k ≡ now)) ⊎ (IsAtEnd left × ((given : Answer) × IsErrandMet k (errand file) given calls now)))
+      → Goes registry old new (λ k calls now. (file : List ℕ) → to_come ≡ Some file → length file ≤ LONGEST_BODY → (AreQuestions (most_questions (errand file)) calls × (k ≡ now)) ⊎ (IsAtEnd left × ((given : Answer) × IsErrandMet k (errand file) given calls now)))
   gave_up alive old new end account key to_come left errand takes is failed read = record {
     lives = imports_on old new (Err end) account key to_come left failed read;
     served = record {

@@ -1,6 +1,7 @@
 -- How a call of the registry meets what a request comes to.
 use Rattle.std.proofs.Common.{◌≡◌, ◌≤◌, ℕ, Bool, true, false, List, [], ◌∷◌, ◌++◌, Option, Some, None, Result, Ok, Err, IfOk, refl, sym, ap, subst, ◌∙◌, inl, inr, arith}
 use Rattle.std.specs.Prelude.{◌⊎◌, MatchResult}
+use Rattle.std.specs.Option.{option_map_or}
 use Rattle.pid_service_laws.specs.declared.moderated.Moderated.{Ghosts}
 use Rattle.pid_service_laws.specs.Calls.{Call, nothing_sent, obeyed as sends}
 use Rattle.pid_service_laws.specs.Registries.{CommandLeaves, Does}
@@ -22,7 +23,7 @@ use Rattle.pid_http.specs.Api.Senders.{Sending}
 use Rattle.pid_http.specs.declared.api.format.Format.{Format}
 use Rattle.pid_http.specs.Api.Outcomes.{outcome_answer}
 use Rattle.pid_http.specs.Api.Replying.{IsReplyOf, IsBodyOf}
-use Rattle.pid_http.specs.Answering.{answer_over, history_behind, IsErrandRefused, LacksForm}
+use Rattle.pid_http.specs.Answering.{answer_over, IsErrandRefused, LacksForm}
 use Rattle.pid_http.specs.Errands.{Errand, Answered, Denied, Obeys, Asks, command_sent, command_errand, import_errand, known_answer}
 use Rattle.pid_http.specs.declared.api.question.Question.TheVariants.{Children}
 use Rattle.pid_http.specs.Known.{Known, Live, Between, Down, IsKnownOf, LivesOn, IsToldOf, ByCalls}
@@ -35,6 +36,10 @@ pub record IsQuestion {X : Type 0} (format : Format) (found : X → Answer) (Say
   pub over : (h : History) (x : X) → Says h x → found x ≡ answer_over h errand
   pub refused : (e : Refusal) → IsErrandRefused errand e (outcome_answer format (Err e))
   pub no_command : command_sent errand ≡ None
+
+-- the history after what was asked
+abbrev pub history_behind : History → Option Asked → History
+history_behind h command = option_map_or (after h) command h
 
 -- without a command the history stays
 same_history : (h : History) (errand : Errand) → command_sent errand ≡ None → Live h ≡ Live (history_behind h (command_sent errand))

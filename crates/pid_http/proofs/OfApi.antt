@@ -4,11 +4,8 @@ pub mod Targets
 pub mod Forms
 pub mod FieldCounts
 pub mod FieldNames
-pub mod FieldRows
-pub mod SenderRows
 pub mod Paths
 pub mod Floats
 pub mod ListTexts
 pub mod MemberSteps
 pub mod ObjectTexts
-pub mod Rows

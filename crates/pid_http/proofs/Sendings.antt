@@ -14,7 +14,7 @@ use Rattle.pid_service_laws.specs.Outcomes.{IsMemoryOrStore}
 use Rattle.pid_http_stream.specs.Conducts.{AreReplies}
 use Rattle.pid_http_stream.specs.Replies.{Answer}
 use Rattle.pid_http_stream.specs.Requests.{Request}
-use Rattle.pid_http.specs.Answering.{history_behind}
+use Rattle.pid_http.proofs.Meeting.{history_behind}
 use Rattle.pid_http.specs.Errands.{Errand, command_sent, errand_of}
 use Rattle.pid_http.specs.Steps.Handling.{nothing_then}
 use Rattle.pid_http.specs.Known.{Known, Live, Between, Told, ByCalls}

@@ -8,14 +8,14 @@ use Rattle.pid_service_laws.specs.Lives.{commands_in}
 use Rattle.pid_moderation.specs.History.{Asked, History}
 use Rattle.pid_http_stream.specs.Conducts.{StandsOver}
 use Rattle.pid_http_stream.specs.Laws.{RequestsStay}
-use Rattle.pid_http_stream.specs.Replies.{Answer, answer_behind}
+use Rattle.pid_http_stream.specs.Replies.{Answer, answer_after}
 use Rattle.pid_http_stream.specs.Requests.{Request, IsRequest}
-use Rattle.pid_http_stream.specs.Serving.{AnswersAll, AnswersFront, BreaksOffInReply, IsServed, IsWrittenNext, LacksMemory, Outside, RestsBehind, RunsOut, StopsReading}
+use Rattle.pid_http_stream.specs.Serving.{AnswersAll, AnswersFront, AnswersThen, ReadsThen, IsCutInReply, IsServed, IsWrittenNext, ReplyNext, HeadNext, RefusalNext, Outside, RestsBehind, RunsOut, WaitsOver}
 use Rattle.pid_http_stream.specs.Streams.{Ending, clean, closed, faulty, Fronts, Splits}
-use Rattle.pid_http_stream.specs.declared.judging.StreamFault.TheVariants.{BadHead, Encoding, BodyTooLong, BodyShort}
+use Rattle.pid_http_stream.specs.declared.refusal.StreamFault.TheVariants.{BadHead, Encoding, BodyTooLong, BodyShort}
 use Rattle.pid_http_stream.specs.declared.reply_head.ReplyHead.{ReplyHead}
 use Rattle.pid_http_stream.specs.declared.stream.StreamEnd.{StreamEnd}
-use Rattle.pid_http_stream.specs.declared.stream.StreamEnd.TheVariants.{Clean, Closed, HeadFault, BodyFault, ReadFault, WriteFault, StoreFault, Memory, TurnsSpent}
+use Rattle.pid_http_stream.specs.declared.stream.StreamEnd.TheVariants.{Clean, Closed, Refused, ReadFault, WriteFault, StoreFault, Memory, TurnsSpent}
 use Rattle.pid_http.specs.Errands.{Errand, command_sent, errand_of}
 use Rattle.pid_http.specs.Known.{Known, Live, Between, Down, Told, ByCalls}
 use Rattle.pid_http.specs.Sending.{SendsOf, SendsSome, StandInFront, commands_asked, if_any}
@@ -118,37 +118,37 @@ module _ {R : Type 0} (registry : Ghosts R) where
     sends = then_request outcomes t mid u h f.requests r given (replies_send registry outcomes t mid h f.requests f.replies live f.answered) step;
   }
 
-  stopped_sends : AreOutcomes → RequestsStay → (h : History) (o : Outside (Told registry)) (stream : List ℕ) (left : Option (List ℕ)) (count : ℕ) → o.handler.known ≡ Live h → StopsReading (serving registry) o stream left count
+  stopped_sends : AreOutcomes → RequestsStay → (h : History) (o : Outside (Told registry)) (stream : List ℕ) (left : Option (List ℕ)) (count : ℕ) → o.handler.known ≡ Live h → ReadsThen (serving registry) o stream left count (WaitsOver (serving registry))
       → SendsOf registry h o.handler o.handler_after stream
-  stopped_sends outcomes stay h o stream left count live s =
-      let f = front_quiet outcomes h o.handler s.last o.handler_after s.read s.rest o.taken o.taken_after count live s.before (still s.last s.rest o.handler_after s.stands) in
-      record { requests = f.requests; stand = read_in_front stay stream s.read left f.requests s.consumed f.stand; sends = f.sends }
+  stopped_sends outcomes stay h o stream left count live (read, consumed, s) =
+      let f = front_quiet outcomes h o.handler s.mid o.handler_after read s.rest o.taken s.taken count live s.before (still s.mid s.rest o.handler_after s.next.0.0) in
+      record { requests = f.requests; stand = read_in_front stay stream read left f.requests consumed f.stand; sends = f.sends }
 
-  lacking_sends : AreOutcomes → RequestsStay → (h : History) (o : Outside (Told registry)) (stream : List ℕ) (left : Option (List ℕ)) (count : ℕ) → o.handler.known ≡ Live h → LacksMemory (serving registry) o stream left count
+  lacking_sends : AreOutcomes → RequestsStay → (h : History) (o : Outside (Told registry)) (stream : List ℕ) (left : Option (List ℕ)) (count : ℕ) → o.handler.known ≡ Live h → ReadsThen (serving registry) o stream left count (RunsOut (serving registry))
       → SendsOf registry h o.handler o.handler_after stream
-  lacking_sends outcomes stay h o stream left count live s =
-      let f = by_case s.after in
-      record { requests = f.requests; stand = read_in_front stay stream s.read left f.requests s.consumed f.stand; sends = f.sends }
+  lacking_sends outcomes stay h o stream left count live (read, consumed, s) =
+      let f = by_case s.next.0 in
+      record { requests = f.requests; stand = read_in_front stay stream read left f.requests consumed f.stand; sends = f.sends }
     where
-      stood : StandsOver (serving registry) s.mid s.rest o.handler_after → SendsOf registry h o.handler o.handler_after s.read
-      stood stands = front_quiet outcomes h o.handler s.mid o.handler_after s.read s.rest o.taken o.taken_after count live s.before (still s.mid s.rest o.handler_after stands)
+      stood : StandsOver (serving registry) s.mid s.rest o.handler_after → SendsOf registry h o.handler o.handler_after read
+      stood stands = front_quiet outcomes h o.handler s.mid o.handler_after read s.rest o.taken s.taken count live s.before (still s.mid s.rest o.handler_after stands)
 
-      by_case : RunsOut (serving registry) s.mid s.rest o.handler_after → SendsOf registry h o.handler o.handler_after s.read
-      by_case (inl (waits, stands)) = stood stands
+      by_case : RunsOut (serving registry) s.mid s.rest o.handler_after → SendsOf registry h o.handler o.handler_after read
+      by_case (inl (stands, waits)) = stood stands
       by_case (inr (request, behind, is, inl stands)) = stood stands
       by_case (inr (request, behind, is, inr b)) =
-          front_then outcomes h o.handler s.mid o.handler_after s.read s.rest o.taken o.taken_after count request behind b.holds.0 live s.before is
+          front_then outcomes h o.handler s.mid o.handler_after read s.rest o.taken s.taken count request behind b.holds.0 live s.before is
           (record { same_life = b.same_life; more = b.more; joined = b.joined; holds = b.holds.1 })
 
-  broken_sends : AreOutcomes → (h : History) (o : Outside (Told registry)) (stream : List ℕ) (count : ℕ) → o.handler.known ≡ Live h → BreaksOffInReply (serving registry) o stream count → SendsOf registry h o.handler o.handler_after stream
-  broken_sends outcomes h o stream count live s = by_case s.next_is
+  broken_sends : AreOutcomes → (h : History) (o : Outside (Told registry)) (stream : List ℕ) (count : ℕ) → o.handler.known ≡ Live h → AnswersThen (serving registry) o stream count (IsCutInReply (serving registry)) → SendsOf registry h o.handler o.handler_after stream
+  broken_sends outcomes h o stream count live s = by_case s.next.1
     where
-      by_case : IsWrittenNext (serving registry) s.mid s.rest s.bytes o.handler_after → SendsOf registry h o.handler o.handler_after stream
-      by_case (inl (request, behind, given, is, step, e)) = front_then outcomes h o.handler s.mid o.handler_after stream s.rest o.taken s.taken count request behind given live s.before is step
-      by_case (inr (inl (request, behind, head, told, is, b, e))) =
+      by_case : IsWrittenNext (serving registry) s.mid s.rest s.next.0 o.handler_after → SendsOf registry h o.handler o.handler_after stream
+      by_case (ReplyNext request behind given is step e) = front_then outcomes h o.handler s.mid o.handler_after stream s.rest o.taken s.taken count request behind given live s.before is step
+      by_case (HeadNext request behind head told is b e) =
           front_quiet outcomes h o.handler s.mid o.handler_after stream s.rest o.taken s.taken count live s.before
           (record { same_life = b.same_life; more = b.more; joined = b.joined; holds = promised_so s.mid.known (errand_of request) head told b.more o.handler_after.known b.holds })
-      by_case (inr (inr (fault, has, e, rests))) =
+      by_case (RefusalNext fault has e rests) =
           front_quiet outcomes h o.handler s.mid o.handler_after stream s.rest o.taken s.taken count live s.before (rests_still (faulty fault) _ s.mid o.handler_after rests)
 
   -- whichever way it ended
@@ -156,11 +156,10 @@ module _ {R : Type 0} (registry : Ghosts R) where
       → IsServed (serving registry) o stream left end count → SendsOf registry h o.handler o.handler_after stream
   served_sends outcomes stay o h stream left Clean count live s = all_send outcomes h o stream clean [] count live s
   served_sends outcomes stay o h stream left Closed count live s = all_send outcomes h o stream closed [] count live s
-  served_sends outcomes stay o h stream left HeadFault count live (fault, of_head, answered, s, e) = all_send outcomes h o stream (faulty fault) _ answered live s
-  served_sends outcomes stay o h stream left BodyFault count live (fault, of_head, answered, s, e) = all_send outcomes h o stream (faulty fault) _ answered live s
+  served_sends outcomes stay o h stream left (Refused fault) count live (answered, s, e) = all_send outcomes h o stream (faulty fault) _ answered live s
   served_sends outcomes stay o h stream left ReadFault count live s = stopped_sends outcomes stay h o stream left count live s
   served_sends outcomes stay o h stream left TurnsSpent count live s = stopped_sends outcomes stay h o stream left count live s
   served_sends outcomes stay o h stream left Memory count live s = lacking_sends outcomes stay h o stream left count live s
   served_sends outcomes stay o h stream left WriteFault count live s = broken_sends outcomes h o stream count live s
   served_sends outcomes stay o h stream left StoreFault count live s =
-      front_then outcomes h o.handler s.mid o.handler_after stream s.rest o.taken s.taken count s.request s.behind (answer_behind s.cut.head s.cut.told s.cut.body) live s.before s.is s.cut.answered
+      front_then outcomes h o.handler s.mid o.handler_after stream s.rest o.taken s.taken count s.next.0 s.next.1 (answer_after s.next.3.head s.next.3.told s.next.3.body) live s.before s.next.2 s.next.3.answered

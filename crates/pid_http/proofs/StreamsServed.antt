@@ -4,9 +4,9 @@ use Rattle.std.specs.Prelude.{⊤, IfSome}
 use Rattle.std.proofs.KnownBytes.{Appends-nil, Consumes-nil}
 use Rattle.pid_service_laws.specs.declared.moderated.Moderated.{Ghosts}
 use Rattle.pid_http_stream.specs.Leading.{Leads}
-use Rattle.pid_http_stream.specs.MomentLaws.{since_none}
+use Rattle.pid_ident.specs.Steps.MomentLaws.{since_none}
 use Rattle.pid_http_stream.specs.Moments.{AllSince, Moment}
-use Rattle.pid_http_stream.specs.ReadLaws.{reads_none}
+use Rattle.pid_ident.specs.Steps.ReadLaws.{reads_none}
 use Rattle.pid_http_stream.specs.Reads.{ReaderState}
 use Rattle.pid_http_stream.specs.Serving.{IsCaughtUp, IsServed}
 use Rattle.pid_http_stream.specs.declared.stream.StreamEnd.TheVariants.{Memory}
@@ -24,14 +24,17 @@ memory_ends reader turns write_fault = record { made = 0; within = omega arith; 
 module _ {R : Type 0} (registry : Ghosts R) where
   none : (t : Told registry) (taken to_come : Option (List ℕ)) → IfSome to_come (λ stream. IsServed (serving registry) (record { handler = t; handler_after = t; taken = taken; taken_after = taken }) stream to_come Memory 0)
   none t taken None = tt
-  none t taken (Some stream) = record {
-    read = [];
-    consumed = Consumes-nil (Some stream);
-    rest = [];
-    mid = t;
-    before = record { requests = []; replies = []; fronts = refl; answered = (refl, refl); written = Appends-nil taken; counts = refl };
-    after = inl (nothing_yet, inl refl);
-  }
+  none t taken (Some stream) = (
+    [],
+    Consumes-nil (Some stream),
+    record {
+      rest = [];
+      mid = t;
+      taken = taken;
+      before = record { requests = []; replies = []; fronts = refl; answered = (refl, refl); written = Appends-nil taken; counts = refl };
+      next = (inl (inl refl, nothing_yet), refl);
+    },
+  )
 
   unread : (t : Told registry) (taken to_come : Option (List ℕ)) (moments : Option (List Moment)) → IfSome to_come (λ stream. AllSince (IsCaughtUp (serving registry) t taken stream) moments moments)
   unread t taken None moments = tt

@@ -1,11 +1,9 @@
 pub mod Routes
 pub mod Queries
-pub mod Lookups
 pub mod Questions
 pub mod Senders
 pub mod Commands
 pub mod Replying
-pub mod WordLines
 pub mod Outcomes
 pub mod ItemAnswers
 pub mod PendingAnswers

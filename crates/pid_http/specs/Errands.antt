@@ -17,8 +17,8 @@ use Rattle.pid_http.specs.declared.api.format.Format.{Format}
 use Rattle.pid_http.specs.declared.api.format.Format.TheVariants.{Json}
 use Rattle.pid_http.specs.declared.api.question.Question.{Question}
 use Rattle.pid_http.specs.declared.api.question.Question.TheVariants as questions
-use Rattle.pid_http.specs.declared.api.question.Request.{Request as Wants}
-use Rattle.pid_http.specs.declared.api.question.Request.TheVariants as wants
+use Rattle.pid_http.specs.declared.api.request.Request.{Request as Wants}
+use Rattle.pid_http.specs.declared.api.request.Request.TheVariants as wants
 use Rattle.pid_http.specs.Api.EarlyAnswers.{early_answer}
 use Rattle.pid_http.specs.Api.Outcomes.{outcome_answer}
 

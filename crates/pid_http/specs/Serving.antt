@@ -2,6 +2,7 @@
 -- `IsServed` over these steps.
 use Rattle.std.specs.Prelude.{◌≡◌, ◌≤◌, ℕ, true, false, List, [], ◌∷◌, length}
 use Rattle.std.specs.Prelude.{Option, None, Some, Err}
+use Rattle.std.specs.Option.{option_map_or}
 use Rattle.pid_service_laws.specs.declared.moderated.Moderated.{Ghosts}
 use Rattle.pid_service_laws.specs.Calls.{AreNothing, Call, obeyed}
 use Rattle.pid_moderation.specs.History.{Asked, History}
@@ -20,7 +21,7 @@ use Rattle.pid_http_stream.specs.declared.reply_head.Content.TheVariants.{Text}
 use Rattle.pid_http_stream.specs.declared.reply_head.ReplyHead.{ReplyHead}
 use Rattle.pid_http.specs.Api.Questions.{Asking, question}
 use Rattle.pid_http.specs.Api.Senders.{Sending, sender}
-use Rattle.pid_http.specs.Answering.{answer_over, history_behind, IsErrandRefused, LacksForm}
+use Rattle.pid_http.specs.Answering.{answer_over, IsErrandRefused, LacksForm}
 use Rattle.pid_http.specs.Errands.{Errand, Answered, Denied, Asks, command_sent}
 use Rattle.pid_http.specs.Errands.{errand_of, known_answer}
 use Rattle.pid_http.specs.declared.api.format.Format.{Format}
@@ -57,10 +58,11 @@ AreUndone (Some command) fault most calls = calls ≡ obeyed command (Err fault)
 -- that it got, and what is known of it then.
 pub data IsMetOver (h : History) (errand : Errand) (given : Answer) (calls : List Call) (k : Known)
     : Type 0 where
-  -- it is answered over the history, and the registry shows the one after it
+  -- it is answered over the history, and the registry shows the one after it, to which only a
+  -- command that is accepted adds
   AnsweredOver : given ≡ answer_over h errand
       → AreCallsOver h (command_sent errand) (most_questions errand) calls
-      → k ≡ Live (history_behind h (command_sent errand)) → IsMetOver h errand given calls k
+      → k ≡ Live (option_map_or (after h) (command_sent errand) h) → IsMetOver h errand given calls k
   -- out of memory before the registry was asked
   NotAsked : LacksForm errand given → calls ≡ [] → k ≡ Live h → IsMetOver h errand given calls k
   -- memory or the store failed, and nothing was done
@@ -88,9 +90,7 @@ pub data IsFailedAnswer (errand : Errand) (given : Answer) (calls : List Call) :
 -- which calls.
 abbrev pub IsErrandMet : Known → Errand → Answer → List Call → Known → Type 0
 IsErrandMet (Live h) errand given calls k = IsMetOver h errand given calls k
-IsErrandMet (Between before behind) errand given calls k = IsFailedAnswer errand given calls
-    × (k ≡ Between before behind)
-IsErrandMet Down errand given calls k = IsFailedAnswer errand given calls × (k ≡ Down)
+IsErrandMet known errand given calls k = IsFailedAnswer errand given calls × (k ≡ known)
 
 -- what is said of a text before it is written: its head, and how many bytes it has
 pub record IsTextHead (h : History) (head : ReplyHead) (told : ℕ) : Type 0 where
@@ -102,8 +102,7 @@ pub record IsTextHead (h : History) (head : ReplyHead) (told : ℕ) : Type 0 whe
 abbrev pub IsPromised : Known → Errand → ReplyHead → ℕ → List Call → Known → Type 0
 IsPromised (Live h) errand head told calls k = ((format : Format) × (errand ≡ Asks Export format))
     × IsTextHead h head told × AreQuestions 1 calls × (k ≡ Live h)
-IsPromised (Between before behind) errand head told calls k = ⊥
-IsPromised Down errand head told calls k = ⊥
+IsPromised known errand head told calls k = ⊥
 
 -- How many questions a request takes at most whose body broke off. Only an import is obeyed as its
 -- body comes, and one without a sender is refused.

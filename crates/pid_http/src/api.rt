@@ -7,7 +7,6 @@
 //! body. JSON is compact, with the keys of each object in bytewise order; each line of a text
 //! ends with a line feed. Nothing here asks a registry.
 
-mod asking;
 mod changes;
 mod command;
 mod early;
@@ -16,7 +15,6 @@ mod found;
 mod items;
 mod list;
 mod lookup;
-mod lookup_query;
 mod members;
 mod outcome;
 mod pending;
@@ -25,6 +23,7 @@ mod question;
 mod queue;
 mod rank;
 mod reply;
+mod request;
 mod route;
 mod routes;
 mod sender;
@@ -38,12 +37,12 @@ pub use command::command_in;
 pub use early::{Early, Unasked, early_reply};
 pub use format::Format;
 pub(crate) use found::found_reply;
-pub use items::{children_reply, item_reply};
+pub use items::item_reply;
 pub use lookup::lookup_reply;
-pub use lookup_query::LookupQuery;
 pub use outcome::{missing_reply, outcome_reply, refusal_reply};
-pub use question::{Question, Request, question_of};
+pub use question::{LookupQuery, Question};
 pub use rank::rank_reply;
+pub use request::{Request, question_of};
 pub use route::{Payload, Query, ROUTES, Route, Topic};
 pub use routes::Routes;
 pub use sender::{Sender, sender_of};

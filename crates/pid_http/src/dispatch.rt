@@ -10,8 +10,7 @@ ghost use Rattle.pid_http.specs.Steps.Replying.{Replies};
 
 use crate::api::{Format, Question, Request, Sender, early_reply, found_reply, sender_of};
 use crate::commanding::command;
-use crate::exporting::export;
-use crate::queries::{children, lookup, rank, read, submission};
+use crate::queries::{children, export, lookup, rank, read, submission};
 use pid_http_stream::{Head, Reply};
 use pid_service_laws::Consulted;
 use std::alloc::{AllocError, Global};

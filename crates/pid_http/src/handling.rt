@@ -1,13 +1,21 @@
 //! The service as what answers the requests of a stream.
 ghost use Rattle.std.specs.Prelude.{◌≡◌};
 
-use crate::api::{Format, Request, question_of, sender_of};
+use crate::api::{Format, Request, Routes, question_of, sender_of};
 use crate::dispatch::{answer, sender_for};
 use crate::importing::import;
-use crate::service::Service;
 use pid_http_stream::{BodyStop, Handler, Head, NoReply, Reply, Wanted};
 use pid_ident::{Input, Output};
 use pid_service_laws::{Consulted, ExportFault};
+use std::alloc::Global;
+
+/// A registry and the routes, lent for a stream of requests.
+#[derive(Drop)]
+pub(crate) struct Service<'r, 't, R: Consulted> {
+    pub(crate) alloc: Global,
+    pub(crate) registry: &'r mut R,
+    pub(crate) routes: &'t Routes,
+}
 
 impl<R: Consulted> Handler for Service<'_, '_, R> {
     ghost use Rattle.std.specs.Prelude.{◌≡◌, refl};

@@ -5,12 +5,10 @@
 pub mod api;
 mod commanding;
 mod dispatch;
-mod exporting;
 mod handling;
 mod importing;
 pub mod laws;
 mod queries;
-mod service;
 mod stream;
 
 pub use crate::api::Routes;

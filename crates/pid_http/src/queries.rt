@@ -5,13 +5,34 @@ ghost use Rattle.pid_http.specs.declared.api.question.Question.TheVariants as qu
 ghost use Rattle.pid_http.specs.Steps.Replying.{Replies};
 
 use crate::api::{
-    Format, LookupQuery, children_reply, item_reply, lookup_reply, missing_reply, rank_reply,
+    Format, LookupQuery, found_reply, item_reply, lookup_reply, missing_reply, rank_reply,
     refusal_reply, submission_reply,
 };
-use pid_http_stream::Reply;
+use http::StatusCode;
+use pid_http_stream::{Content, Reply, ReplyBody, ReplyHead};
 use pid_ident::{Account, Path};
 use pid_service_laws::Consulted;
 use std::alloc::{AllocError, Global};
+
+/// The head of the reply with the text, which `write_body` writes after it.
+pub(crate) fn export<R: Consulted>(
+    alloc: Global,
+    registry: &mut R,
+    format: Format,
+) -> Result<Reply, AllocError>
+    ensures { Replies R.Moderated registry.old registry.new (Asks questions.Export format) result }
+{
+    match registry.export_length() {
+        Ok(length) => Ok(Reply {
+            head: ReplyHead {
+                status: StatusCode::OK,
+                content: Content::Text,
+            },
+            body: ReplyBody::Written(length),
+        }),
+        Err(refusal) => refusal_reply(alloc, format, refusal),
+    }
+}
 
 /// The item at a path.
 pub(crate) fn read<R: Consulted>(
@@ -48,10 +69,7 @@ pub(crate) fn children<R: Consulted>(
             Err(refusal) => return refusal_reply(alloc, format, refusal),
         },
     }
-    match registry.children(above) {
-        Ok(items) => children_reply(alloc, format, &items),
-        Err(refusal) => refusal_reply(alloc, format, refusal),
-    }
+    found_reply(alloc, format, registry.children(above))
 }
 
 /// A look-up, which has no format.

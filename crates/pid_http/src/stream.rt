@@ -9,7 +9,7 @@ ghost use Rattle.pid_http.specs.Serving.{serving};
 ghost use Rattle.pid_http.specs.Streams.{OverStream};
 
 use crate::api::Routes;
-use crate::service::Service;
+use crate::handling::Service;
 use pid_http_stream::{Incoming, Served, StreamEnd, serve_stream as serve_requests};
 use pid_ident::Output;
 use pid_service_laws::Consulted;

@@ -9,14 +9,14 @@ use Rattle.httparse.specs.Spans.{IsRequestAt}
 use Rattle.httparse.specs.declared.spans.HeaderSpan.{HeaderSpan}
 use Rattle.httparse.specs.declared.spans.RequestSpans.{RequestSpans}
 use Rattle.pid_file.specs.declared.io.ReadFault.{ReadFault}
-use Rattle.pid_http_stream.specs.Bodies.{padded, BodyState, HasBrokenOff, IsWithinBody, HasReadBody, Turns, SpendsTurns, idle_at}
-use Rattle.pid_http_stream.specs.BodyLengths.{longest_body}
+use Rattle.pid_http_stream.specs.Steps.Bodies.{padded, BodyState, HasBrokenOff, IsWithinBody, HasReadBody, Turns, SpendsTurns, idle_at}
+use Rattle.pid_http_stream.specs.declared.limits.TheConstants.{LONGEST_BODY}
 use Rattle.pid_http_stream.specs.Conducts.{Conduct, StandsStill, StandsOver}
 use Rattle.pid_http_stream.specs.Endings.{IsShort}
 use Rattle.pid_http_stream.specs.Handling.{MayReply, IsHandled}
 use Rattle.pid_http_stream.specs.Heads.{HasHead}
 use Rattle.pid_http_stream.specs.Steps.Intakes.{AskStops, WaitsForRequest, StandsAt, idle_asked}
-use Rattle.pid_http_stream.specs.MomentLaws.{since_so}
+use Rattle.pid_ident.specs.Steps.MomentLaws.{since_so}
 use Rattle.pid_http_stream.specs.Moments.{AllSince}
 use Rattle.pid_http_stream.specs.Requests.{Request, IsRequest}
 use Rattle.pid_http_stream.specs.Serving.{RunsOut}
@@ -102,7 +102,7 @@ length-padded (suc n) (b ∷ bytes) = ap suc (length-padded n bytes)
 
 -- what holds of each request with this head, and the body that its reader was to give
 abbrev Told : (Request → Type 0) → List ℕ → List HeaderSpan → RequestSpans → BodyState → Type 0
-Told P held headers spans A = (request : Request) → IsRequestAt held headers spans request.head → option_map (λ s. padded A.wanted (A.held ++ s)) A.turns.reader.come ≡ Some request.body → length request.body ≤ longest_body → P request
+Told P held headers spans A = (request : Request) → IsRequestAt held headers spans request.head → option_map (λ s. padded A.wanted (A.held ++ s)) A.turns.reader.come ≡ Some request.body → length request.body ≤ LONGEST_BODY → P request
 
 told_at : (P : Request → Type 0) (held : List ℕ) (headers : List HeaderSpan) (spans : RequestSpans) (w : ℕ) (A B : BodyState) (r : Reading held headers spans w A B) (s : List ℕ)
     → A.turns.reader.come ≡ Some s → Told P held headers spans A → P (record { head = r.stands.found.0; body = body_of A s })
@@ -197,7 +197,7 @@ came_so conduct a b held headers spans w A B r stands = by_length (cases_lt (len
         let counted = r.read.counted in
         let wanted = r.wanted_is in
         let both = length-append r.read.used B.held in
-        inl (inr (stands_short held headers spans w r.stands r.read.came (short_body (drop spans.len held) r.read.came (r.read.used ++ B.held) w r.n r.n_is given (omega arith))), stands)
+        inl (stands, inr (stands_short held headers spans w r.stands r.read.came (short_body (drop spans.len held) r.read.came (r.read.used ++ B.held) w r.n r.n_is given (omega arith))))
     by_length (inr all) =
         let counted = r.read.counted in
         let wanted = r.wanted_is in

@@ -4,13 +4,14 @@ use Rattle.std.specs.Prelude.{◌⊎◌, option_map, min, IfSome, IsSome, is_som
 use Rattle.std.specs.Io.KnownBytes.{Consumes, IsAtEnd, Keeps}
 use Rattle.std.proofs.KnownBytes.{Consumes-nil, Consumes-trans}
 use Rattle.std.proofs.lemmas.List.{take-append-le, length-take-le, take_all, append-nil}
-use Rattle.pid_ident.specs.InputCalls.{StaysKept}
+use Rattle.pid_file.specs.Steps.InputCalls.{StaysKept}
 use Rattle.pid_file.specs.declared.io.ReadFault.{ReadFault}
 use Rattle.pid_file.specs.declared.io.ReadFault.TheVariants.{Device}
-use Rattle.pid_http_stream.specs.Bodies.{padded, fault_told, Turns, SpendsTurns, BodyState, IsCauseOf, HasBrokenOff, IsFaultCaused, IsWithinBody, HasReadBody, idle_at}
-use Rattle.pid_http_stream.specs.BodyLaws.{no_turns, stays_kept}
-use Rattle.pid_http_stream.specs.MomentLaws.{since_none, since_so}
-use Rattle.pid_http_stream.specs.Moments.{Moment, AllSince, IsNoted}
+use Rattle.pid_http_stream.specs.Steps.Bodies.{padded, fault_told, Turns, SpendsTurns, BodyState, IsCauseOf, HasBrokenOff, IsFaultCaused, IsWithinBody, HasReadBody, idle_at}
+use Rattle.pid_http_stream.specs.Steps.BodyLaws.{no_turns, stays_kept}
+use Rattle.pid_ident.specs.Steps.MomentLaws.{since_none, since_so}
+use Rattle.pid_http_stream.specs.Moments.{Moment, AllSince}
+use Rattle.pid_ident.specs.Steps.Moments.{IsNoted}
 use Rattle.pid_http_stream.specs.Reads.{ReaderState}
 use Rattle.pid_http_stream.specs.Steps.Intakes.{IsMoment}
 use Rattle.pid_http_stream.specs.declared.body_input.BodyFault.{BodyFault}

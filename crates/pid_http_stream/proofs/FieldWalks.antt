@@ -1,6 +1,6 @@
 -- Walking over the fields of a head.
 use Rattle.std.proofs.Common.{◌≡◌, ℕ, ◌+◌, ◌<◌, ◌≤◌, ◌*◌, ◌-◌, Bool, true, false, nat_le, List, [], ◌∷◌, length, map, take, drop, get_or, refl, ap, ◌∙◌, arith, add-one, drop-cons, Some, None}
-use Rattle.std.specs.Prelude.{if◌then◌else◌, ◌↔◌, IsTrue, codes}
+use Rattle.std.specs.Prelude.{nat_lt, ◌&&◌, if◌then◌else◌, ◌↔◌, IsTrue, codes}
 use Rattle.std.specs.Bool.{one_answer}
 use Rattle.std.specs.Cmp.Lexicographic.{bytes_decides}
 use Rattle.std.specs.Str.{str_eq_ignore_ascii_case}
@@ -13,7 +13,7 @@ use Rattle.std.proofs.lemmas.Bool.{leb-true}
 use Rattle.std.proofs.lemmas.Str.{digit_value_digit}
 use Rattle.std.specs.Int.{IsInRange}
 use Rattle.httparse.specs.declared.spans.HeaderSpan.{HeaderSpan}
-use Rattle.pid_http_stream.specs.BodyLengths.{is_number, length_said, length_of_values, length_unless_encoded, body_length}
+use Rattle.pid_http_stream.specs.BodyLengths.{length_said, length_of_values, body_length}
 use Rattle.pid_http_stream.specs.FieldValues.{NamedValue, is_named, values_of, first_value}
 use Rattle.pid_http_stream.specs.declared.body_length.BodyLength.TheVariants.{Encoded, Bad, TooLong, Bytes}
 
@@ -28,22 +28,22 @@ pub found : (name : List ℕ) (f : HeaderSpan → NamedValue) (xs : List HeaderS
 found name f xs i d h e = rw (drop-cons xs i d h, e, add-one) refl
 
 -- what no, one and more values say
-pub none_said : (codings values : List (List ℕ)) → length codings ≡ 0 → first_value values ≡ None → length_unless_encoded codings values ≡ Bytes 0
+pub none_said : (codings values : List (List ℕ)) → length codings ≡ 0 → first_value values ≡ None → length_of_values codings values ≡ Bytes 0
 none_said [] [] z e = refl
 none_said [] (v ∷ vs) z e = cc
 none_said (x ∷ xs) values z e = absurd (omega arith)
 
-pub encoded_said : (codings values : List (List ℕ)) → 0 < length codings → length_unless_encoded codings values ≡ Encoded
+pub encoded_said : (codings values : List (List ℕ)) → 0 < length codings → length_of_values codings values ≡ Encoded
 encoded_said [] values h = absurd (omega arith)
 encoded_said (x ∷ xs) values h = refl
 
-pub two_said : (codings values : List (List ℕ)) → length codings ≡ 0 → 1 < length values → length_unless_encoded codings values ≡ Bad
+pub two_said : (codings values : List (List ℕ)) → length codings ≡ 0 → 1 < length values → length_of_values codings values ≡ Bad
 two_said [] [] z h = absurd (omega arith)
 two_said [] (v ∷ []) z h = absurd (omega arith)
 two_said [] (v ∷ w ∷ vs) z h = refl
 two_said (x ∷ xs) values z h = absurd (omega arith)
 
-pub one_said : (codings values : List (List ℕ)) (value : List ℕ) → length codings ≡ 0 → length values ≤ 1 → first_value values ≡ Some value → length_unless_encoded codings values ≡ length_said value
+pub one_said : (codings values : List (List ℕ)) (value : List ℕ) → length codings ≡ 0 → length values ≤ 1 → first_value values ≡ Some value → length_of_values codings values ≡ length_said value
 one_said [] [] value z h e = cc
 one_said [] (v ∷ []) value z h e = let same : v ≡ value = cc in ap length_said same
 one_said [] (v ∷ w ∷ vs) value z h e = absurd (omega arith)
@@ -96,15 +96,12 @@ said_fits true true v n e h = let same = same_bytes v n h in let small = leb-tru
 said_fits true false v n e h = absurd (long_no_bytes n h)
 said_fits false u v n e h = absurd (bad_no_bytes n h)
 
-values_fit : (values : List (List ℕ)) (n : ℕ) → length_of_values values ≡ Bytes n → n ≤ 4194304
-values_fit [] n h = let same = same_bytes 0 n h in omega arith
-values_fit (v ∷ []) n h = said_fits (is_number v) (nat_le (digits_value 10 v) 4194304) (digits_value 10 v) n refl h
-values_fit (v ∷ w ∷ vs) n h = absurd (bad_no_bytes n h)
-
-unless_fits : (codings lengths : List (List ℕ)) (n : ℕ) → length_unless_encoded codings lengths ≡ Bytes n → n ≤ 4194304
-unless_fits [] lengths n h = values_fit lengths n h
-unless_fits (x ∷ xs) lengths n h = absurd (encoded_no_bytes n h)
+values_fit : (codings values : List (List ℕ)) (n : ℕ) → length_of_values codings values ≡ Bytes n → n ≤ 4194304
+values_fit [] [] n h = let same = same_bytes 0 n h in omega arith
+values_fit [] (v ∷ []) n h = said_fits (nat_lt 0 (length v) && list_all is_ascii_digit v) (nat_le (digits_value 10 v) 4194304) (digits_value 10 v) n refl h
+values_fit [] (v ∷ w ∷ vs) n h = absurd (bad_no_bytes n h)
+values_fit (x ∷ xs) values n h = absurd (encoded_no_bytes n h)
 
 pub length_fits : (fields : List NamedValue) (n : ℕ) → body_length fields ≡ Bytes n → n ≤ 4194304
 unfolding body_length
-length_fits fields n h = unless_fits (values_of (codes "transfer-encoding") fields) (values_of (codes "content-length") fields) n h
+length_fits fields n h = values_fit (values_of (codes "transfer-encoding") fields) (values_of (codes "content-length") fields) n h

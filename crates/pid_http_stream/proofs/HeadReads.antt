@@ -1,26 +1,36 @@
 -- What comes in up to the end of a head.
 use Rattle.std.proofs.Common.{◌≡◌, ◌≢◌, ℕ, List, [], ◌++◌, Option, Some, None, ◌≤◌, length, take, drop, sym, ap, subst, ◌∙◌, append_assoc, length-append, arith, inl}
-use Rattle.std.specs.Prelude.{IfSome}
+use Rattle.std.specs.Prelude.{IfSome, Result, Ok}
 use Rattle.std.specs.Io.KnownBytes.{Consumes, IsAtEnd}
 use Rattle.std.proofs.KnownBytes.{Consumes-nil, Consumes-trans}
 use Rattle.std.proofs.lemmas.List.{append-nil, take-append-drop}
 use Rattle.std.proofs.lemmas.List.Elements.{All-nil, All-append}
 use Rattle.httparse.specs.Ascii.{line_feed}
 use Rattle.httparse.specs.Grammar.{HasNoRequest as HasNoRequestHead, MayBecomeRequest as MayBecomeHead}
-use Rattle.pid_http_stream.specs.Endings.{HasFault, IsNoHead}
+use Rattle.pid_http_stream.specs.Endings.{HasFault}
 use Rattle.pid_file.specs.declared.io.ReadFault.{ReadFault}
-use Rattle.pid_http_stream.specs.Steps.Intakes.{ComesIn, HeadStops, IsMoment, StopsFor, WaitsForRequest}
+use Rattle.pid_http_stream.specs.Steps.Intakes.{ComesIn, HeadStops, IsHeadJudged, IsMoment, StandsAt, StopsFor, WaitsForRequest}
+use Rattle.httparse.specs.declared.spans.HeaderSpan.{HeaderSpan}
+use Rattle.pid_http_stream.specs.declared.judging.FoundHead.{FoundHead}
 use Rattle.pid_http_stream.specs.declared.intake.Filled.TheVariants as filled
 use Rattle.pid_http_stream.specs.declared.intake.HeadRead.{HeadRead}
 use Rattle.pid_http_stream.specs.declared.intake.Stop.{Stop}
 use Rattle.pid_http_stream.specs.Leftovers.{AreLineEnds}
-use Rattle.pid_http_stream.specs.MomentLaws.{since_then, since_so}
+use Rattle.pid_ident.specs.Steps.MomentLaws.{since_then, since_so}
 use Rattle.pid_http_stream.specs.Moments.{Moment, AllSince}
-use Rattle.pid_http_stream.specs.Unfinished.{CanBeHead, HasNoLineEnd, IsHeadUnfinished, IsUnfinished}
-use Rattle.pid_http_stream.specs.declared.judging.StreamFault.{StreamFault}
-use Rattle.pid_http_stream.specs.declared.judging.StreamFault.TheVariants.{BadHead}
+use Rattle.pid_http_stream.specs.Unfinished.{CanBeHead, IsHeadUnfinished, IsUnfinished}
+use Rattle.pid_http_stream.specs.declared.refusal.StreamFault.{StreamFault}
+use Rattle.pid_http_stream.specs.declared.refusal.StreamFault.TheVariants.{BadHead}
 use Rattle.pid_http_stream.proofs.BodyReads.{whole_front}
-use Rattle.pid_http_stream.proofs.Heads.{end_within_head, no_head_behind}
+use Rattle.pid_http_stream.proofs.Heads.{IsNoHead, HasNoLineEnd, end_within_head, no_head_behind}
+
+-- what was found of a head
+pub judged_none : (held : List ℕ) (headers : List HeaderSpan) (judged : Result (Option FoundHead) StreamFault) (found : Option FoundHead) → judged ≡ Ok found → found ≡ None → IsHeadJudged held headers judged → IsHeadUnfinished held
+judged_none held headers judged found e f is = subst (λ (o : Option FoundHead). IsHeadJudged held headers (Ok o)) f (subst (IsHeadJudged held headers) e is)
+
+pub judged_found : (held : List ℕ) (headers : List HeaderSpan) (judged : Result (Option FoundHead) StreamFault) (found : Option FoundHead) (head : FoundHead) → judged ≡ Ok found → found ≡ Some head → IsHeadJudged held headers judged
+    → StandsAt held headers head.spans head.body
+judged_found held headers judged found head e f is = subst (λ (o : Option FoundHead). IsHeadJudged held headers (Ok o)) f (subst (IsHeadJudged held headers) e is)
 
 pub nothing_came : (held : List ℕ) (input : Option (List ℕ)) → ComesIn held held input input
 nothing_came held input = record { piece = []; consumed = Consumes-nil input; kept = sym (append-nil held) }

@@ -1,24 +1,25 @@
 -- What bytes behind a head, or behind what is no head, change.
 use Rattle.std.proofs.Common.{◌≡◌, ◌≢◌, ℕ, zero, suc, get_or, ◌+◌, ◌<◌, ◌≤◌, Bool, true, false, List, [], ◌∷◌, ◌++◌, length, map, take, drop, refl, sym, ap, subst, ◌∙◌, arith, append_assoc, length-append, inl, inr}
-use Rattle.std.specs.Prelude.{IsTrue, ◌⊎◌, ◌||◌, ◌==◌, not, ◌&&◌, if◌then◌else◌, codes}
+use Rattle.std.specs.Prelude.{All, IsTrue, ◌⊎◌, ◌||◌, ◌==◌, not, ◌&&◌, if◌then◌else◌, codes}
 use Rattle.std.specs.List.{flat_map, list_any}
 use Rattle.std.proofs.lemmas.Bool.{eqb-true, eq-eqb, cases_lt}
 use mathlib.Core.Bool.{false≢true}
 use Rattle.std.proofs.lemmas.Str.{IsUtf8-from_ascii}
 use Rattle.std.proofs.lemmas.List.Elements.{All-cons, All-nil, All-head, All-tail}
 use Rattle.std.proofs.lemmas.List.{length-map, length-take, length-take-le, take-append-drop}
+use Rattle.httparse.specs.Ascii.{line_feed}
 use Rattle.httparse.specs.Grammar.{is_token_byte, is_uri_byte, LineEnd, crlf, lf, print_blank, print_end, print_field, RequestHead, IsRequestHead, ReadsRequest, HasNoRequest as HasNoRequestHead, print_request}
 use Rattle.httparse.specs.Spans.{header_bytes, name_and_value, IsRequestWithin, IsRequestAt, IsRequestOf, RequestOverflows}
 use Rattle.httparse.specs.declared.spans.HeaderSpan.{HeaderSpan}
 use Rattle.httparse.specs.declared.spans.RequestSpans.{RequestSpans}
 use Rattle.httparse.proofs.GrammarLemmas.{request_unique, ReadsRequest-append, print_request-append}
 use Rattle.pid_http_stream.specs.BodyLengths.{body_length}
-use Rattle.pid_http_stream.specs.Heads.{HasHead}
+use Rattle.pid_http_stream.specs.Heads.{HasHead, HasNoHead}
 use Rattle.pid_http_stream.specs.Leftovers.{AreLineEnds, IsLeftover}
-use Rattle.pid_http_stream.specs.Requests.{Request, IsRequest, HasNoRequest, fields_of}
-use Rattle.pid_http_stream.specs.Endings.{SaysOfBody, IsShort, IsNoHead}
+use Rattle.pid_http_stream.specs.Requests.{Request, IsRequest, fields_of}
+use Rattle.pid_http_stream.specs.Endings.{SaysOfBody, IsShort}
 use Rattle.pid_http_stream.specs.Steps.Intakes.{StandsAt}
-use Rattle.pid_http_stream.specs.Unfinished.{HasNoLineEnd, IsUnfinished}
+use Rattle.pid_http_stream.specs.Unfinished.{IsUnfinished}
 use Rattle.pid_http_stream.specs.Steps.LineScans.{blank_after}
 use Rattle.pid_http_stream.proofs.EndsOfLines.{all_scanned}
 use Rattle.pid_http_stream.specs.declared.body_length.BodyLength.{BodyLength}
@@ -115,19 +116,6 @@ stands_short held headers spans w at came less = record {
   short = less;
 }
 
-short_is_none : (s : List ℕ) → IsShort s → HasNoRequest s
-short_is_none s x = λ request rest is.
-    let heads = HasHead-unique s x.head request.head x.rest (request.body ++ rest) x.has is.head in
-    let lengths = Bytes-same x.wanted (length request.body) (sym x.says ∙ ap (λ (h : RequestHead). body_length (fields_of h)) heads.0 ∙ is.sized) in
-    let rests : length x.rest ≡ length (request.body ++ rest) = ap length heads.1 in
-    let less = x.short in
-    omega (arith, less, lengths, simp length-append at rests)
-
--- a request that has not come whole is no whole request
-pub unfinished_is_none : (s : List ℕ) → IsUnfinished s → HasNoRequest s
-unfinished_is_none s (inl x) = λ request rest is. x.none request.head _ is.head.reads
-unfinished_is_none s (inr x) = short_is_none s x
-
 -- a head has bytes
 pub some_bytes : (h : RequestHead) → IsRequestHead h → 0 < length (print_request h)
 unfolding print_request
@@ -137,6 +125,14 @@ pub some_head : (held : List ℕ) (headers : List HeaderSpan) (spans : RequestSp
 some_head held headers spans found = let len = found.1.len in let more = some_bytes found.0 found.1.reads.0 in omega arith
 
 -- ---- what is no head
+
+-- there is something, and it is no head
+abbrev pub IsNoHead : List ℕ → Type 0
+IsNoHead stream = HasNoHead stream × ¬ (IsLeftover stream)
+
+-- no line ends in the bytes
+abbrev pub HasNoLineEnd : List ℕ → Type 0
+HasNoLineEnd bytes = All (λ b. b ≢ line_feed) bytes
 
 -- a head within so many bytes stands in these bytes already
 within_front : (held more : List ℕ) (h : RequestHead) (rest : List ℕ) → ReadsRequest (held ++ more) h rest → length (print_request h) ≤ length held
@@ -235,33 +231,30 @@ not_leftover s more over left =
     omega arith
 
 pub refused_head : (held more : List ℕ) → RequestOverflows 32 held → IsNoHead (held ++ more)
-refused_head held more over = record {
-  none = λ h rest has. let many = over more h rest has.reads in let few = has.few in omega arith;
-  some = not_leftover held more over;
-}
+refused_head held more over = (
+  λ h rest has. let many = over more h rest has.reads in let few = has.few in omega arith,
+  not_leftover held more over,
+)
 
 pub long_head : (held more : List ℕ) (headers : List HeaderSpan) (spans : RequestSpans) → IsRequestWithin held headers spans → IsRequestOf held headers spans → 16384 < spans.len → IsNoHead (held ++ more)
-long_head held more headers spans within found long = record {
-  none = λ h rest has.
+long_head held more headers spans within found long = (
+  λ h rest has.
       let same = request_unique (held ++ more) found.0 h (drop spans.len held ++ more) rest (ReadsRequest-append held found.0 (drop spans.len held) more found.1.reads) has.reads in
       let lengths = ap (λ (k : RequestHead). length (print_request k)) same.0 in
       let short = has.short in
       let len = found.1.len in
-      omega arith;
-  some = λ left. let short : length held + length more ≤ 16384 = subst (λ (n : ℕ). n ≤ 16384) (length-append held more) left.short in let fits = within.section.len_fits in omega arith;
-}
+      omega arith,
+  λ left. let short : length held + length more ≤ 16384 = subst (λ (n : ℕ). n ≤ 16384) (length-append held more) left.short in let fits = within.section.len_fits in omega arith,
+)
 
 pub no_head_yet : (held more : List ℕ) → HasNoRequestHead held → 16384 < length held → IsNoHead (held ++ more)
-no_head_yet held more none long = record {
-  none = λ h rest has. none h (drop (length (print_request h)) held) (within_front held more h rest has.reads (let short = has.short in omega arith));
-  some = λ left. let short : length held + length more ≤ 16384 = subst (λ (n : ℕ). n ≤ 16384) (length-append held more) left.short in omega arith;
-}
+no_head_yet held more none long = (
+  λ h rest has. none h (drop (length (print_request h)) held) (within_front held more h rest has.reads (let short = has.short in omega arith)),
+  λ left. let short : length held + length more ≤ 16384 = subst (λ (n : ℕ). n ≤ 16384) (length-append held more) left.short in omega arith,
+)
 
 pub end_within_head : (held : List ℕ) → HasNoRequestHead held → ¬ (AreLineEnds held) → IsNoHead held
-end_within_head held none other = record {
-  none = λ h rest has. none h rest has.reads;
-  some = λ left. other left.lines;
-}
+end_within_head held none other = (λ h rest has. none h rest has.reads, λ left. other left.lines)
 
 -- a rest of line ends begins no head: with a line behind it it is another one
 pub leftover_has_no_head : (s : List ℕ) → IsLeftover s → (h : RequestHead) (rest : List ℕ) → ¬ (HasHead s h rest)

@@ -1,14 +1,14 @@
 -- The parts of a reply in one list.
 use Rattle.std.proofs.Common.{◌≡◌, ◌∙◌, ℕ, zero, suc, List, [], ◌++◌, ◌+◌, take, Option, None, Some, Result, Ok, Err, sym, append_assoc, length-append, subst, arith}
 use Rattle.std.proofs.lemmas.List.{append-nil}
-use Rattle.std.specs.Prelude.{Bool, length, codes, decimal}
+use Rattle.std.specs.Prelude.{Bool, length, codes, decimal, unwrap_or}
 use Rattle.pid_ident.specs.Sending.{Sends, SendsFront}
 use Rattle.std.specs.Io.KnownBytes.{Appends, Keeps, WriteAppends}
 use Rattle.std.proofs.KnownBytes.{Appends-trans}
 use Rattle.std.proofs.Math.Seq.{take-append-add}
-use Rattle.http.specs.StatusCode.{code_digits}
+use Rattle.http.specs.StatusCode.{code_digits, reason_phrase}
 use Rattle.pid_http_stream.specs.Conducts.{Conduct}
-use Rattle.pid_http_stream.specs.Replies.{Answer, answer_behind, phrase_of, type_line, allow_line, close_line, reply_head, reply_bytes}
+use Rattle.pid_http_stream.specs.Replies.{Answer, answer_after, type_line, allow_line, close_line, reply_head, reply_bytes}
 use Rattle.pid_http_stream.specs.Requests.{Request}
 use Rattle.pid_http_stream.specs.Serving.{WritesFront, IsCutInBody}
 use Rattle.pid_http_stream.specs.Streams.{closes}
@@ -22,7 +22,7 @@ pub in_one : {X E : Type 0} (r : Result X E) (old new : Option (List ℕ)) (s p 
     → Sends r old new (s ++ a ++ p ++ b ++ c ++ d ++ e ++ f ++ g ++ h ++ i ++ j ++ k)
 in_one r old new s p a b c d e f g h i j k x = subst (Sends r old new) (in_one_list s p a b c d e f g h i j k) x
 
-pub reply_is : {X E : Type 0} (r : Result X E) (old new : Option (List ℕ)) (answer : Answer) (closes : Bool) (digits phrase content len allow close : List ℕ) → digits ≡ code_digits answer.status → phrase ≡ phrase_of answer.status
+pub reply_is : {X E : Type 0} (r : Result X E) (old new : Option (List ℕ)) (answer : Answer) (closes : Bool) (digits phrase content len allow close : List ℕ) → digits ≡ code_digits answer.status → phrase ≡ unwrap_or (reason_phrase answer.status) []
     → content ≡ type_line answer.content → len ≡ decimal answer.told → allow ≡ allow_line answer.content → close ≡ close_line closes
     → Sends r old new (codes "HTTP/1.1 " ++ digits ++ codes " " ++ phrase ++ codes "\r\n" ++ content ++ codes "Content-Length: " ++ len ++ codes "\r\n" ++ allow ++ close ++ codes "\r\n" ++ answer.body)
     → Sends r old new (reply_bytes answer closes)
@@ -37,10 +37,10 @@ head_only : (head : ReplyHead) (told : ℕ) (closes : Bool) → reply_bytes (rec
 unfolding reply_bytes
 head_only head told closes = append-nil (reply_head head.status head.content told closes)
 
-pub headed : (head : ReplyHead) (told : ℕ) (closes : Bool) (t u : Option (List ℕ)) → Appends t u (reply_bytes (answer_behind head told []) closes) → Appends t u (reply_head head.status head.content told closes)
+pub headed : (head : ReplyHead) (told : ℕ) (closes : Bool) (t u : Option (List ℕ)) → Appends t u (reply_bytes (answer_after head told []) closes) → Appends t u (reply_head head.status head.content told closes)
 headed head told closes t u p = subst (Appends t u) (head_only head told closes) p
 
-pub head_front : (head : ReplyHead) (told : ℕ) (closes : Bool) (t u : Option (List ℕ)) → SendsFront t u (reply_bytes (answer_behind head told []) closes) → WritesFront t u (reply_head head.status head.content told closes)
+pub head_front : (head : ReplyHead) (told : ℕ) (closes : Bool) (t u : Option (List ℕ)) → SendsFront t u (reply_bytes (answer_after head told []) closes) → WritesFront t u (reply_head head.status head.content told closes)
 head_front head told closes t u (n, less, p) =
     subst (WritesFront t u) (head_only head told closes) (n, omega arith, p)
 
@@ -77,8 +77,8 @@ front_then_nothing t u v bytes (n, less, p) q = (n, less, subst (Appends t v) (a
 -- ---- a reply that was cut within its body
 
 pub cut_in_body : {H : Type 0} (conduct : Conduct H) (a b c : H) (request : Request) (head : ReplyHead) (told : ℕ) (body : List ℕ) (closing : Bool) (t u v w : Option (List ℕ)) → conduct.promises a request head told b
-    → conduct.answers a request (answer_behind head told body) c → Appends t u (reply_head head.status head.content told closing) → WritesFront u v body → Appends v w [] → closes request ≡ closing
-    → IsCutInBody conduct a request c t w
+    → conduct.answers a request (answer_after head told body) c → Appends t u (reply_head head.status head.content told closing) → WritesFront u v body → Appends v w [] → closes request ≡ closing
+    → IsCutInBody conduct request (record { handler = a; handler_after = c; taken = t; taken_after = w })
 cut_in_body conduct a b c request head told body closing t u v w promised answered p q none e =
     let front = front_then_nothing u v w body q none in record {
       head = head;

@@ -1,24 +1,22 @@
 -- The serving loop as it runs: what was served so far, what came for a head, and then the step or the end.
-use Rattle.std.proofs.Common.{◌≡◌, ℕ, ◌+◌, ◌*◌, ◌<◌, ◌≤◌, List, ◌++◌, Option, Some, None, length, length-drop, drop, sym, ap, subst, ◌∙◌, arith}
-use Rattle.std.specs.Prelude.{IfSome}
+use Rattle.std.proofs.Common.{◌≡◌, ℕ, ◌+◌, ◌*◌, ◌<◌, ◌≤◌, List, ◌++◌, Option, Some, None, length, length-drop, drop, refl, sym, ap, subst, ◌∙◌, arith}
+use Rattle.std.specs.Prelude.{IfSome, Ok, Err}
 use Rattle.std.specs.Io.KnownBytes.{Consumes, IsAtEnd}
 use Rattle.pid_http_stream.specs.Conducts.{Conduct}
 use Rattle.pid_http_stream.specs.Endings.{HasFault}
 use Rattle.pid_http_stream.specs.Steps.Intakes.{ComesIn, WaitsForRequest}
 use Rattle.pid_http_stream.specs.Leftovers.{IsLeftover}
-use Rattle.pid_http_stream.specs.MomentLaws.{since_none, since_then, since_so}
+use Rattle.pid_ident.specs.Steps.MomentLaws.{since_none, since_then, since_so}
 use Rattle.pid_http_stream.specs.Moments.{Moment, AllSince}
-use Rattle.pid_http_stream.specs.Serving.{saturated, AnswersFront, IsCaughtUp, IsServed}
+use Rattle.pid_http_stream.specs.Serving.{saturated, IsCaughtUp, IsServed}
 use Rattle.pid_http_stream.specs.Steps.Loop.{count_with, WritesRefusal, Steps, stop_end}
 use Rattle.pid_http_stream.specs.Unfinished.{IsUnfinished}
 use Rattle.pid_http_stream.specs.declared.intake.Stop.{Stop}
-use Rattle.pid_http_stream.specs.declared.judging.StreamFault.{StreamFault}
+use Rattle.pid_http_stream.specs.declared.refusal.StreamFault.{StreamFault}
 use Rattle.pid_http_stream.specs.declared.limits.TheConstants.{READ_SIZE}
-use Rattle.pid_http_stream.specs.declared.stream.Answered.TheVariants as answered
 use Rattle.pid_http_stream.specs.declared.stream.StreamEnd.{StreamEnd}
-use Rattle.pid_http_stream.specs.declared.stream.StreamEnd.TheVariants.{Clean, Closed}
-use Rattle.pid_http_stream.proofs.Heads.{unfinished_is_none}
-use Rattle.pid_http_stream.proofs.Serving.{IsServing, if_some, comes, ends_clean, ends_refused, ends_stopped, steps_open, steps_closed, steps_ended}
+use Rattle.pid_http_stream.specs.declared.stream.StreamEnd.TheVariants.{Clean}
+use Rattle.pid_http_stream.proofs.Serving.{IsServing, if_some, comes, ends_clean, ends_refused, ends_stopped, steps_open, steps_ended}
 
 -- a fact that hangs on known bytes, where they are known
 where_known : (o : Option (List ℕ)) (P : Type 0) (s read : List ℕ) → Consumes (Some s) o read → IfSome o (λ _. P) → P
@@ -46,25 +44,16 @@ loop_stopped conduct a b t u input mid left held after count stop serving c wait
 
 pub loop_open : {H : Type 0} (conduct : Conduct H) (a b c : H) (t u v input mid read left : Option (List ℕ)) (held after lent kept : List ℕ) (n count count_after : ℕ)
     → IfSome input (λ s. IsServing conduct (record { handler = a; handler_after = b; taken = t; taken_after = u }) s mid held count) → ComesIn held after mid read → lent ≡ after
-    → IfSome read (λ _. Steps conduct (record { handler = b; handler_after = c; taken = u; taken_after = v }) (record { input = read; input_after = left; held = lent; held_after = drop n lent }) answered.Open) → count_after ≡ saturated (count + 1) → kept ≡ drop n after
+    → IfSome read (λ _. Steps conduct (record { handler = b; handler_after = c; taken = u; taken_after = v }) (record { input = read; input_after = left; held = lent; held_after = drop n lent }) (Ok tt)) → count_after ≡ saturated (count + 1) → kept ≡ drop n after
     → IfSome input (λ s. IsServing conduct (record { handler = a; handler_after = c; taken = t; taken_after = v }) s left kept count_after)
 loop_open conduct a b c t u v input mid read left held after lent kept n count count_after serving came same step counts rest =
     if_some input _ _ (λ s x.
     let y = subst (λ (l : List ℕ). IsServing conduct (record { handler = a; handler_after = b; taken = t; taken_after = u }) s read l count) (sym same) (comes conduct _ s mid read held after count x came) in
     steps_open conduct a b c t u v s read left lent (drop n lent) kept count count_after y (where_known read _ s y.read y.consumed step) counts (rest ∙ ap (drop n) (sym same))) serving
 
-pub loop_closed : {H : Type 0} (conduct : Conduct H) (a b c : H) (t u v input mid read left : Option (List ℕ)) (held after lent behind : List ℕ) (count count_after : ℕ)
-    → IfSome input (λ s. IsServing conduct (record { handler = a; handler_after = b; taken = t; taken_after = u }) s mid held count) → ComesIn held after mid read → lent ≡ after
-    → IfSome read (λ _. Steps conduct (record { handler = b; handler_after = c; taken = u; taken_after = v }) (record { input = read; input_after = left; held = lent; held_after = behind }) answered.Closed) → count_after ≡ saturated (count + 1)
-    → IfSome input (λ s. IsServed conduct (record { handler = a; handler_after = c; taken = t; taken_after = v }) s left Closed count_after)
-loop_closed conduct a b c t u v input mid read left held after lent behind count count_after serving came same step counts =
-    if_some input _ _ (λ s x.
-    let y = subst (λ (l : List ℕ). IsServing conduct (record { handler = a; handler_after = b; taken = t; taken_after = u }) s read l count) (sym same) (comes conduct _ s mid read held after count x came) in
-    steps_closed conduct a b c t u v s read left lent behind count count_after y (where_known read _ s y.read y.consumed step) counts) serving
-
 pub loop_ended : {H : Type 0} (conduct : Conduct H) (a b c : H) (t u v input mid read left : Option (List ℕ)) (held after lent behind : List ℕ) (count : ℕ) (end : StreamEnd)
     → IfSome input (λ s. IsServing conduct (record { handler = a; handler_after = b; taken = t; taken_after = u }) s mid held count) → ComesIn held after mid read → lent ≡ after
-    → IfSome read (λ _. Steps conduct (record { handler = b; handler_after = c; taken = u; taken_after = v }) (record { input = read; input_after = left; held = lent; held_after = behind }) (answered.Ended end))
+    → IfSome read (λ _. Steps conduct (record { handler = b; handler_after = c; taken = u; taken_after = v }) (record { input = read; input_after = left; held = lent; held_after = behind }) (Err end))
     → IfSome input (λ s. IsServed conduct (record { handler = a; handler_after = c; taken = t; taken_after = v }) s left end (count_with end count))
 loop_ended conduct a b c t u v input mid read left held after lent behind count end serving came same step =
     if_some input _ _ (λ s x.
@@ -77,16 +66,7 @@ caught_up : {H : Type 0} (conduct : Conduct H) (a b : H) (t u mid : Option (List
     → (m : Moment) → WaitsForRequest held mid u m → IsCaughtUp conduct a t s m
 caught_up conduct a b t u mid s held count serving m x =
     let y = comes conduct (record { handler = a; handler_after = b; taken = t; taken_after = u }) s mid m.to_come held x.rest count serving x.comes in
-    record {
-      read = y.read;
-      consumed = y.consumed;
-      rest = x.rest;
-      last = b;
-      count = count;
-      before = subst (λ (k : Option (List ℕ)). AnswersFront conduct (record { handler = a; handler_after = b; taken = t; taken_after = k }) y.read x.rest count) (sym x.writer) y.before;
-      none = unfinished_is_none x.rest x.waits;
-      unfinished = x.waits;
-    }
+    (b, count, (y.read, y.consumed, record { rest = x.rest; mid = b; taken = u; before = y.before; next = ((refl, x.waits), x.writer) }))
 
 -- before the first read
 pub loop_unread : {H : Type 0} (conduct : Conduct H) (a : H) (t input : Option (List ℕ)) (xs : Option (List Moment)) → IfSome input (λ s. AllSince (IsCaughtUp conduct a t s) xs xs)

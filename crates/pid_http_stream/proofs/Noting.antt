@@ -1,7 +1,8 @@
 -- The moment that one read notes.
 use Rattle.std.proofs.Common.{ℕ, List, [], ◌∷◌, Option, Some, None, refl}
 use Rattle.std.proofs.lemmas.List.Elements.{All-nil, All-push}
-use Rattle.pid_http_stream.specs.Moments.{Moment, AllSince, IsNoted}
+use Rattle.pid_http_stream.specs.Moments.{Moment, AllSince}
+use Rattle.pid_ident.specs.Steps.Moments.{IsNoted}
 use Rattle.pid_http_stream.specs.Steps.Intakes.{IsMoment}
 
 pub since_noted : (come taken : Option (List ℕ)) (ms ns : Option (List Moment)) → IsNoted come taken ms ns → AllSince (IsMoment come taken) ms ns

@@ -2,7 +2,8 @@
 use Rattle.std.proofs.Common.{◌≡◌, ℕ, ◌+◌, ◌-◌, ◌^◌, ◌<◌, List, [], ◌∷◌, Option, Some, None, refl, length, arith}
 use Rattle.std.specs.Prelude.{min}
 use Rattle.std.specs.Io.KnownBytes.{Consumes}
-use Rattle.pid_http_stream.specs.Moments.{Moment, IsNoted}
+use Rattle.pid_http_stream.specs.Moments.{Moment}
+use Rattle.pid_ident.specs.Steps.Moments.{IsNoted}
 use Rattle.pid_http_stream.specs.Reads.{ReaderState, AddsMoments, AreNoted, AreReads, BringsSome}
 
 all_but : (n : ℕ) (a b : Option (List ℕ)) (ms : List Moment) → AreNoted 0 a ms b → AreNoted n a ms b

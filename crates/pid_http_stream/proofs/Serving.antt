@@ -1,6 +1,6 @@
 -- The serving loop, over plain values.
 use Rattle.std.proofs.Common.{◌≡◌, ℕ, ◌+◌, true, false, List, [], ◌∷◌, ◌++◌, Option, Some, None, length, refl, sym, ap, subst, ◌∙◌, arith, append_assoc, length-append, inl, inr}
-use Rattle.std.specs.Prelude.{IfSome}
+use Rattle.std.specs.Prelude.{IfSome, Ok, Err}
 use Rattle.std.specs.Io.KnownBytes.{Appends, Consumes, IsAtEnd}
 use Rattle.std.proofs.lemmas.List.{append-nil}
 use Rattle.std.proofs.KnownBytes.{Appends-nil, Appends-trans, Consumes-trans}
@@ -10,18 +10,17 @@ use Rattle.pid_http_stream.specs.Steps.Intakes.{ComesIn}
 use Rattle.pid_http_stream.specs.Leftovers.{IsLeftover}
 use Rattle.pid_http_stream.specs.Replies.{Answer, reply_bytes}
 use Rattle.pid_http_stream.specs.Requests.{Request, IsRequest}
-use Rattle.pid_http_stream.specs.Serving.{saturated, Outside, WritesFront, RestsBehind, AnswersAll, AnswersFront, BreaksOffInReply, StopsReading, LacksMemory, RunsOut, IsWrittenNext, IsServed}
+use Rattle.pid_http_stream.specs.Serving.{saturated, Outside, WritesFront, RestsBehind, AnswersAll, AnswersFront, AnswersThen, ReadsThen, RefusalNext, IsCutInReply, IsCutNext, RunsOut, WaitsOver, IsServed}
 use Rattle.pid_http_stream.specs.Steps.Loop.{count_with, IsReplied, WritesRefusal, EndsWithin, Steps, stop_end}
 use Rattle.pid_http_stream.specs.Streams.{closes, Ending, clean, closed, faulty, EndsStream, Fronts, Splits}
 use Rattle.pid_http_stream.specs.Unfinished.{IsUnfinished}
 use Rattle.pid_http_stream.specs.declared.intake.Stop.{Stop}
 use Rattle.pid_http_stream.specs.declared.intake.Stop.TheVariants as stops
-use Rattle.pid_http_stream.specs.declared.judging.StreamFault.{StreamFault}
-use Rattle.pid_http_stream.specs.declared.judging.StreamFault.TheVariants.{BadHead, Encoding, BodyTooLong, BodyShort}
-use Rattle.pid_http_stream.specs.declared.stream.Answered.TheVariants as answered
+use Rattle.pid_http_stream.specs.declared.refusal.StreamFault.{StreamFault}
+use Rattle.pid_http_stream.specs.declared.refusal.StreamFault.TheVariants.{BadHead, Encoding, BodyTooLong, BodyShort}
 use Rattle.pid_http_stream.specs.declared.stream.StreamEnd.{StreamEnd}
-use Rattle.pid_http_stream.specs.declared.stream.StreamEnd.TheVariants.{Clean, Closed, HeadFault, BodyFault, ReadFault, WriteFault, StoreFault, Memory, TurnsSpent}
-use Rattle.pid_http_stream.proofs.Heads.{IsRequest-append, unfinished_is_none}
+use Rattle.pid_http_stream.specs.declared.stream.StreamEnd.TheVariants.{Clean, Closed, Refused, ReadFault, WriteFault, StoreFault, Memory, TurnsSpent}
+use Rattle.pid_http_stream.proofs.Heads.{IsRequest-append}
 
 -- ---- requests at the front of a stream
 
@@ -127,7 +126,7 @@ answered_open conduct a b c t u v stream left held behind all count count_after 
 -- one step of the loop
 pub steps_open : {H : Type 0} (conduct : Conduct H) (a b c : H) (t u v : Option (List ℕ)) (stream : List ℕ) (mid after : Option (List ℕ)) (held behind left : List ℕ) (count count_after : ℕ)
     → IsServing conduct (record { handler = a; handler_after = b; taken = t; taken_after = u }) stream mid held count
-    → Steps conduct (record { handler = b; handler_after = c; taken = u; taken_after = v }) (record { input = mid; input_after = after; held = held; held_after = behind }) answered.Open → count_after ≡ saturated (count + 1) → left ≡ behind
+    → Steps conduct (record { handler = b; handler_after = c; taken = u; taken_after = v }) (record { input = mid; input_after = after; held = held; held_after = behind }) (Ok tt) → count_after ≡ saturated (count + 1) → left ≡ behind
     → IsServing conduct (record { handler = a; handler_after = c; taken = t; taken_after = v }) stream after left count_after
 steps_open conduct a b c t u v stream mid after held behind left count count_after s step counts same =
     subst (λ (l : List ℕ). IsServing conduct (record { handler = a; handler_after = c; taken = t; taken_after = v }) stream after l count_after) (sym same)
@@ -165,23 +164,21 @@ ends_clean conduct a b t u stream left held count s end rest =
     (subst (λ (l : List ℕ). AnswersFront conduct (record { handler = a; handler_after = b; taken = t; taken_after = u }) stream l count) (ap (λ (l : List ℕ). held ++ l) none ∙ append-nil held) (front_of conduct _ stream left held w.0 count s w.1))
     rest refl (Appends-nil u)
 
-pub steps_closed : {H : Type 0} (conduct : Conduct H) (a b c : H) (t u v : Option (List ℕ)) (stream : List ℕ) (mid after : Option (List ℕ)) (held behind : List ℕ) (count count_after : ℕ)
-    → IsServing conduct (record { handler = a; handler_after = b; taken = t; taken_after = u }) stream mid held count
-    → Steps conduct (record { handler = b; handler_after = c; taken = u; taken_after = v }) (record { input = mid; input_after = after; held = held; held_after = behind }) answered.Closed → count_after ≡ saturated (count + 1)
-    → AnswersAll conduct (record { handler = a; handler_after = c; taken = t; taken_after = v }) stream closed [] count_after
-steps_closed conduct a b c t u v stream mid after held behind count count_after s step counts =
-    let f = front_of conduct _ stream after (held ++ step.came) step.more count (brought conduct _ stream mid after held step.came step.more count s step.before step.after) step.after in
-    let r = step.is in
-    record {
-      requests = f.requests ++ r.request ∷ [];
-      replies = f.replies ++ reply_bytes r.answer (closes r.request);
-      last = c;
-      splits = Splits-closed stream f.requests ((held ++ step.came) ++ step.more) r.request (behind ++ step.more) f.fronts (IsRequest-append (held ++ step.came) r.request behind step.more r.is) r.closes_so;
-      answered = replies_snoc conduct a b c f.requests r.request f.replies r.answer f.answered r.answered;
-      rests = refl;
-      written = subst (Appends t v) (sym (append-nil (f.replies ++ reply_bytes r.answer (closes r.request)))) (Appends-trans t u v f.replies (reply_bytes r.answer (closes r.request)) f.written r.written);
-      counts = count_snoc f.requests r.request count count_after f.counts counts;
-    }
+-- the last request was answered
+answered_closed : {H : Type 0} (conduct : Conduct H) (a b c : H) (t u v : Option (List ℕ)) (stream came behind more all : List ℕ) (count : ℕ)
+    → AnswersFront conduct (record { handler = a; handler_after = b; taken = t; taken_after = u }) stream (came ++ more) count
+    → IsReplied conduct (record { handler = b; handler_after = c; taken = u; taken_after = v }) (record { came = came; behind = behind; all = all }) true
+    → AnswersAll conduct (record { handler = a; handler_after = c; taken = t; taken_after = v }) stream closed [] (saturated (count + 1))
+answered_closed conduct a b c t u v stream came behind more all count f r = record {
+  requests = f.requests ++ r.request ∷ [];
+  replies = f.replies ++ reply_bytes r.answer (closes r.request);
+  last = c;
+  splits = Splits-closed stream f.requests (came ++ more) r.request (behind ++ more) f.fronts (IsRequest-append came r.request behind more r.is) r.closes_so;
+  answered = replies_snoc conduct a b c f.requests r.request f.replies r.answer f.answered r.answered;
+  rests = refl;
+  written = subst (Appends t v) (sym (append-nil (f.replies ++ reply_bytes r.answer (closes r.request)))) (Appends-trans t u v f.replies (reply_bytes r.answer (closes r.request)) f.written r.written);
+  counts = count_snoc f.requests r.request count (saturated (count + 1)) f.counts refl;
+}
 
 rests_same : {H : Type 0} (conduct : Conduct H) (fault : StreamFault) (IsRest : List ℕ → Type 0) (rest : List ℕ) → IsRest rest → (a : H) → RestsBehind conduct (faulty fault) IsRest a a
 rests_same conduct BadHead IsRest rest is a = refl
@@ -189,19 +186,21 @@ rests_same conduct Encoding IsRest rest is a = refl
 rests_same conduct BodyTooLong IsRest rest is a = refl
 rests_same conduct BodyShort IsRest rest is a = (rest, is, inl refl)
 
-breaks_off : {H : Type 0} (conduct : Conduct H) (a b c : H) (t u v : Option (List ℕ)) (stream rest bytes : List ℕ) (count : ℕ)
-    → AnswersFront conduct (record { handler = a; handler_after = b; taken = t; taken_after = u }) stream rest count → IsWrittenNext conduct b rest bytes c → WritesFront u v bytes
-    → BreaksOffInReply conduct (record { handler = a; handler_after = c; taken = t; taken_after = v }) stream count
-breaks_off conduct a b c t u v stream rest bytes count f is written = record { rest = rest; mid = b; taken = u; before = f; bytes = bytes; next_is = is; written = written }
+-- and then this came of the rest
+front_then : {H : Type 0} (conduct : Conduct H) (a b c : H) (t u v : Option (List ℕ)) (stream rest : List ℕ) (count : ℕ) (Then : List ℕ → Outside H → Type 0)
+    → AnswersFront conduct (record { handler = a; handler_after = b; taken = t; taken_after = u }) stream rest count → Then rest (record { handler = b; handler_after = c; taken = u; taken_after = v })
+    → AnswersThen conduct (record { handler = a; handler_after = c; taken = t; taken_after = v }) stream count Then
+front_then conduct a b c t u v stream rest count Then f next = record { rest = rest; mid = b; taken = u; before = f; next = next }
 
 -- what stands at the front is refused
 refused : {H : Type 0} (conduct : Conduct H) (a b : H) (t u v : Option (List ℕ)) (stream rest : List ℕ) (left : Option (List ℕ)) (count : ℕ) (fault : StreamFault) (end : StreamEnd)
     → AnswersFront conduct (record { handler = a; handler_after = b; taken = t; taken_after = u }) stream rest count → HasFault rest fault → WritesRefusal fault u v end
     → IsServed conduct (record { handler = a; handler_after = b; taken = t; taken_after = v }) stream left end (count_with end count)
-refused conduct a b t u v stream rest left count fault HeadFault f has (kind, written) = (fault, kind, count, all_answered conduct a b b t u v stream rest (faulty fault) _ count f has (rests_same conduct fault (Fronts stream f.requests) rest f.fronts b) written, refl)
-refused conduct a b t u v stream rest left count fault BodyFault f has (kind, written) = (fault, kind, count, all_answered conduct a b b t u v stream rest (faulty fault) _ count f has (rests_same conduct fault (Fronts stream f.requests) rest f.fronts b) written, refl)
+refused conduct a b t u v stream rest left count fault (Refused said) f has (same, written) =
+    subst (λ k. IsServed conduct (record { handler = a; handler_after = b; taken = t; taken_after = v }) stream left (Refused k) (saturated (count + 1))) (sym same)
+    (count, all_answered conduct a b b t u v stream rest (faulty fault) _ count f has (rests_same conduct fault (Fronts stream f.requests) rest f.fronts b) written, refl)
 refused conduct a b t u v stream rest left count fault WriteFault f has written =
-    breaks_off conduct a b b t u v stream rest _ count f (inr (inr (fault, has, refl, rests_same conduct fault (λ r. r ≡ rest) rest refl b))) written
+    front_then conduct a b b t u v stream rest count (IsCutInReply conduct) f (_, RefusalNext fault has refl (rests_same conduct fault (λ r. r ≡ rest) rest refl b), written)
 refused conduct a b t u v stream rest left count fault Clean f has r = absurd r
 refused conduct a b t u v stream rest left count fault Closed f has r = absurd r
 refused conduct a b t u v stream rest left count fault ReadFault f has r = absurd r
@@ -217,62 +216,41 @@ ends_refused conduct a b t u v stream left held count fault end s has r =
     let w = whole stream left s.read s.consumed in
     refused conduct a b t u v stream (held ++ w.0) left count fault end (front_of conduct _ stream left held w.0 count s w.1) (subst (λ (k : Option (List ℕ)). IfSome k (λ more. HasFault (held ++ more) fault)) w.1 has) r
 
-stops_reading : {H : Type 0} (conduct : Conduct H) (a b c : H) (t u v : Option (List ℕ)) (stream : List ℕ) (left : Option (List ℕ)) (held : List ℕ) (count : ℕ)
-    → IsServing conduct (record { handler = a; handler_after = b; taken = t; taken_after = u }) stream left held count
-    → StandsOver conduct b held c → IsUnfinished held → v ≡ u
-    → StopsReading conduct (record { handler = a; handler_after = c; taken = t; taken_after = v }) stream left count
-stops_reading conduct a b c t u v stream left held count s stands waits same = record {
-  read = s.read;
-  consumed = s.consumed;
-  rest = held;
-  last = b;
-  before = subst (λ (k : Option (List ℕ)). AnswersFront conduct (record { handler = a; handler_after = b; taken = t; taken_after = k }) s.read held count) (sym same) s.before;
-  stands = stands;
-  none = unfinished_is_none held waits;
-  unfinished = waits;
-}
-
-lacks_memory : {H : Type 0} (conduct : Conduct H) (a b c : H) (t u v : Option (List ℕ)) (stream : List ℕ) (left : Option (List ℕ)) (held : List ℕ) (count : ℕ)
-    → IsServing conduct (record { handler = a; handler_after = b; taken = t; taken_after = u }) stream left held count → RunsOut conduct b held c → v ≡ u
-    → LacksMemory conduct (record { handler = a; handler_after = c; taken = t; taken_after = v }) stream left count
-lacks_memory conduct a b c t u v stream left held count s after same = record {
-  read = s.read;
-  consumed = s.consumed;
-  rest = held;
-  mid = b;
-  before = subst (λ (k : Option (List ℕ)). AnswersFront conduct (record { handler = a; handler_after = b; taken = t; taken_after = k }) s.read held count) (sym same) s.before;
-  after = after;
-}
+-- the first requests of what was read were answered, and this became of the handler over the rest
+reads_then : {H : Type 0} (conduct : Conduct H) (a b c : H) (t u v : Option (List ℕ)) (stream : List ℕ) (left : Option (List ℕ)) (held : List ℕ) (count : ℕ) (Then : H → List ℕ → H → Type 0)
+    → IsServing conduct (record { handler = a; handler_after = b; taken = t; taken_after = u }) stream left held count → Then b held c → v ≡ u
+    → ReadsThen conduct (record { handler = a; handler_after = c; taken = t; taken_after = v }) stream left count Then
+reads_then conduct a b c t u v stream left held count Then s next same = (s.read, s.consumed, record { rest = held; mid = b; taken = u; before = s.before; next = (next, same) })
 
 -- reading stops at a head
 pub ends_stopped : {H : Type 0} (conduct : Conduct H) (a b : H) (t u : Option (List ℕ)) (stream : List ℕ) (left : Option (List ℕ)) (held : List ℕ) (count : ℕ) (stop : Stop)
     → IsServing conduct (record { handler = a; handler_after = b; taken = t; taken_after = u }) stream left held count → IsUnfinished held
     → IsServed conduct (record { handler = a; handler_after = b; taken = t; taken_after = u }) stream left (stop_end stop) count
-ends_stopped conduct a b t u stream left held count stops.ReadFault s none = stops_reading conduct a b b t u u stream left held count s (inl refl) none refl
-ends_stopped conduct a b t u stream left held count stops.TurnsSpent s none = stops_reading conduct a b b t u u stream left held count s (inl refl) none refl
-ends_stopped conduct a b t u stream left held count stops.Memory s none = lacks_memory conduct a b b t u u stream left held count s (inl (none, inl refl)) refl
+ends_stopped conduct a b t u stream left held count stops.ReadFault s none = reads_then conduct a b b t u u stream left held count (WaitsOver conduct) s (inl refl, none) refl
+ends_stopped conduct a b t u stream left held count stops.TurnsSpent s none = reads_then conduct a b b t u u stream left held count (WaitsOver conduct) s (inl refl, none) refl
+ends_stopped conduct a b t u stream left held count stops.Memory s none = reads_then conduct a b b t u u stream left held count (RunsOut conduct) s (inl (inl refl, none)) refl
 
 within : {H : Type 0} (conduct : Conduct H) (a b c : H) (t u v : Option (List ℕ)) (stream : List ℕ) (left : Option (List ℕ)) (came behind more : List ℕ) (count : ℕ) (end : StreamEnd)
     → IsServing conduct (record { handler = a; handler_after = b; taken = t; taken_after = u }) stream left came count → left ≡ Some more
     → EndsWithin conduct (record { handler = b; handler_after = c; taken = u; taken_after = v }) (record { came = came; behind = behind; all = came ++ more }) end
     → IsServed conduct (record { handler = a; handler_after = c; taken = t; taken_after = v }) stream left end (count_with end count)
-within conduct a b c t u v stream left came behind more count StoreFault s e (request, rest, is, cut) =
-    record { rest = came ++ more; mid = b; taken = u; before = front_of conduct _ stream left came more count s e; request = request; behind = rest; is = is; cut = cut }
-within conduct a b c t u v stream left came behind more count WriteFault s e (bytes, is, written) = breaks_off conduct a b c t u v stream (came ++ more) bytes count (front_of conduct _ stream left came more count s e) is written
-within conduct a b c t u v stream left came behind more count BodyFault s e (has, stands, written) =
+within conduct a b c t u v stream left came behind more count Closed s e r =
+    answered_closed conduct a b c t u v stream came behind more (came ++ more) count (front_of conduct _ stream left came more count s e) r
+within conduct a b c t u v stream left came behind more count StoreFault s e cut = front_then conduct a b c t u v stream (came ++ more) count (IsCutNext conduct) (front_of conduct _ stream left came more count s e) cut
+within conduct a b c t u v stream left came behind more count WriteFault s e cut = front_then conduct a b c t u v stream (came ++ more) count (IsCutInReply conduct) (front_of conduct _ stream left came more count s e) cut
+within conduct a b c t u v stream left came behind more count (Refused fault) s e (same, has, stands, written) =
     let f = front_of conduct _ stream left came more count s e in
-    (BodyShort, refl, count, all_answered conduct a b c t u v stream (came ++ more) (faulty BodyShort) _ count f has (came ++ more, f.fronts, stands) written, refl)
-within conduct a b c t u v stream left came behind more count ReadFault s e (stands, none, same) = stops_reading conduct a b c t u v stream left came count s stands none same
-within conduct a b c t u v stream left came behind more count TurnsSpent s e (stands, none, same) = stops_reading conduct a b c t u v stream left came count s stands none same
-within conduct a b c t u v stream left came behind more count Memory s e (after, same) = lacks_memory conduct a b c t u v stream left came count s after same
+    subst (λ k. IsServed conduct (record { handler = a; handler_after = c; taken = t; taken_after = v }) stream left (Refused k) (saturated (count + 1))) (sym same)
+    (count, all_answered conduct a b c t u v stream (came ++ more) (faulty BodyShort) _ count f has (came ++ more, f.fronts, stands) written, refl)
+within conduct a b c t u v stream left came behind more count ReadFault s e (waits, same) = reads_then conduct a b c t u v stream left came count (WaitsOver conduct) s waits same
+within conduct a b c t u v stream left came behind more count TurnsSpent s e (waits, same) = reads_then conduct a b c t u v stream left came count (WaitsOver conduct) s waits same
+within conduct a b c t u v stream left came behind more count Memory s e (after, same) = reads_then conduct a b c t u v stream left came count (RunsOut conduct) s after same
 within conduct a b c t u v stream left came behind more count Clean s e r = absurd r
-within conduct a b c t u v stream left came behind more count Closed s e r = absurd r
-within conduct a b c t u v stream left came behind more count HeadFault s e r = absurd r
 
 -- the stream ends within a request
 pub steps_ended : {H : Type 0} (conduct : Conduct H) (a b c : H) (t u v : Option (List ℕ)) (stream : List ℕ) (mid after : Option (List ℕ)) (held behind : List ℕ) (count : ℕ) (end : StreamEnd)
     → IsServing conduct (record { handler = a; handler_after = b; taken = t; taken_after = u }) stream mid held count
-    → Steps conduct (record { handler = b; handler_after = c; taken = u; taken_after = v }) (record { input = mid; input_after = after; held = held; held_after = behind }) (answered.Ended end)
+    → Steps conduct (record { handler = b; handler_after = c; taken = u; taken_after = v }) (record { input = mid; input_after = after; held = held; held_after = behind }) (Err end)
     → IsServed conduct (record { handler = a; handler_after = c; taken = t; taken_after = v }) stream after end (count_with end count)
 steps_ended conduct a b c t u v stream mid after held behind count end s step =
     within conduct a b c t u v stream after (held ++ step.came) behind step.more count end (brought conduct _ stream mid after held step.came step.more count s step.before step.after) step.after step.is

@@ -1,6 +1,6 @@
 -- One request, from what its handler was asked to what was written.
 use Rattle.std.proofs.Common.{◌≡◌, ℕ, ◌+◌, ◌≤◌, Bool, true, false, List, [], ◌++◌, Option, Some, None, drop, refl, sym, ap, subst, ◌∙◌, arith, inl, inr}
-use Rattle.std.specs.Prelude.{IfSome, IsSome, ◌⊎◌}
+use Rattle.std.specs.Prelude.{IfSome, IsSome, ◌⊎◌, Result, Ok, Err}
 use Rattle.std.specs.Io.KnownBytes.{Appends, IsAtEnd}
 use Rattle.std.proofs.lemmas.List.{append-nil}
 use Rattle.httparse.specs.Grammar.{RequestHead}
@@ -14,12 +14,13 @@ use Rattle.pid_http_stream.specs.Conducts.{Conduct, StandsOver}
 use Rattle.pid_http_stream.specs.Connections.{asks_to_close}
 use Rattle.pid_http_stream.specs.Endings.{IsShort}
 use Rattle.pid_http_stream.specs.Handling.{MayReply}
-use Rattle.pid_http_stream.specs.Replies.{reply_head, reply_bytes, fault_answer}
+use Rattle.pid_http_stream.specs.Replies.{Answer, reply_head, reply_bytes, fault_answer}
 use Rattle.pid_http_stream.specs.Requests.{Request, IsRequest, fields_of}
 use Rattle.pid_http_stream.specs.Steps.Intakes.{AskStops, StopsFor, idle_stop}
-use Rattle.pid_http_stream.specs.Steps.Loop.{AsksHandler, IsSent, SendsText, WritesRefusal, IsStep, EndsSo, EndsWhy, EndsWithin, Steps, EndsBroken, answered_so, idle_answered, stop_end}
+use Rattle.pid_http_stream.specs.Steps.Loop.{AsksHandler, IsSent, SendStops, SendsText, WritesRefusal, IsStep, EndsSo, EndsWhy, EndsWithin, Steps, EndsBroken, answered_so, idle_answered, stop_end}
+use Rattle.pid_http_stream.specs.Serving.{ReplyNext, HeadNext, RefusalNext}
 use Rattle.pid_http_stream.specs.Streams.{closes}
-use Rattle.pid_http_stream.specs.Bodies.{Turns, SpendsTurns, idle_at}
+use Rattle.pid_http_stream.specs.Steps.Bodies.{Turns, SpendsTurns, idle_at}
 use Rattle.pid_http_stream.specs.Reads.{ReaderState}
 use Rattle.pid_http_stream.specs.declared.one_request.Asked.TheVariants as asked
 use Rattle.pid_http_stream.specs.declared.body_input.BodyFault.{BodyFault}
@@ -27,34 +28,46 @@ use Rattle.pid_http_stream.specs.declared.body_input.BodyFault.TheVariants as fa
 use Rattle.pid_http_stream.specs.declared.handler.Reply.{Reply}
 use Rattle.pid_http_stream.specs.declared.intake.Stop.{Stop}
 use Rattle.pid_http_stream.specs.declared.intake.Stop.TheVariants as stops
-use Rattle.pid_http_stream.specs.declared.judging.StreamFault.{StreamFault}
-use Rattle.pid_http_stream.specs.declared.judging.StreamFault.TheVariants.{BodyShort}
-use Rattle.pid_http_stream.specs.declared.sending.Sent.{Sent}
-use Rattle.pid_http_stream.specs.declared.sending.Sent.TheVariants as sent
-use Rattle.pid_http_stream.specs.declared.stream.Answered.TheVariants as answered
+use Rattle.pid_http_stream.specs.declared.refusal.StreamFault.{StreamFault}
+use Rattle.pid_http_stream.specs.declared.refusal.StreamFault.TheVariants.{BodyShort}
+use Rattle.pid_http_stream.specs.declared.handler.BodyStop.{BodyStop}
+use Rattle.pid_http_stream.specs.declared.handler.BodyStop.TheVariants.{Writer, Store}
 use Rattle.pid_http_stream.specs.declared.stream.StreamEnd.{StreamEnd}
 use Rattle.pid_http_stream.specs.declared.stream.StreamEnd.TheVariants as ends
 use Rattle.pid_http_stream.proofs.BodyReads.{idle_turns}
 use Rattle.pid_http_stream.proofs.Heads.{IsRequest-append}
 
+-- bytes that are there were sent so far
+pub text_sent : {H : Type 0} (conduct : Conduct H) (a b : H) (request : Request) (answer : Answer) (u v : Option (List ℕ)) (closing : Bool) (s : Result (Unit {0}) BodyStop) (write_fault : Option WriteFault)
+    → SendsText s u v (reply_bytes answer closing) → SendStops s write_fault ⊥ → conduct.answers a request answer b
+    → IsSent conduct (record { handler = a; handler_after = b; taken = u; taken_after = v }) (record { request = request; closing = closing }) s
+text_sent conduct a b request answer u v closing (Ok x) write_fault sent stops is = (answer, is, sent)
+text_sent conduct a b request answer u v closing (Err Writer) write_fault sent stops is = inl (answer, is, sent)
+text_sent conduct a b request answer u v closing (Err Store) write_fault sent stops is = absurd stops.1
+
+pub text_stops : (s : Result (Unit {0}) BodyStop) (write_fault : Option WriteFault) (stuck : Type 0) → SendStops s write_fault ⊥ → SendStops s write_fault stuck
+text_stops (Ok x) write_fault stuck stops = tt
+text_stops (Err Writer) write_fault stuck stops = stops
+text_stops (Err Store) write_fault stuck stops = absurd stops.1
+
 -- a reply that was sent so far is this step
-sent_step : {H : Type 0} (conduct : Conduct H) (a c : H) (request : Request) (came more rest : List ℕ) (u v : Option (List ℕ)) (closing : Bool) (s : Sent) → IsRequest came request rest → closes request ≡ closing
+sent_step : {H : Type 0} (conduct : Conduct H) (a c : H) (request : Request) (came more rest : List ℕ) (u v : Option (List ℕ)) (closing : Bool) (s : Result (Unit {0}) BodyStop) → IsRequest came request rest → closes request ≡ closing
     → IsSent conduct (record { handler = a; handler_after = c; taken = u; taken_after = v }) (record { request = request; closing = closing }) s → IsStep conduct (record { handler = a; handler_after = c; taken = u; taken_after = v }) (record { came = came; behind = rest; all = came ++ more }) (answered_so s closing)
-sent_step conduct a c request came more rest u v true sent.Whole is e (answer, answered, written) =
+sent_step conduct a c request came more rest u v true (Ok x) is e (answer, answered, written) =
     record { request = request; is = is; answer = answer; answered = answered; written = subst (λ (x : Bool). Appends u v (reply_bytes answer x)) (sym e) written; closes_so = e }
-sent_step conduct a c request came more rest u v false sent.Whole is e (answer, answered, written) =
+sent_step conduct a c request came more rest u v false (Ok x) is e (answer, answered, written) =
     record { request = request; is = is; answer = answer; answered = answered; written = subst (λ (x : Bool). Appends u v (reply_bytes answer x)) (sym e) written; closes_so = e }
-sent_step conduct a c request came more rest u v closing sent.WriteFault is e (inl (answer, answered, written)) =
-    (reply_bytes answer closing, inl (request, rest ++ more, answer, IsRequest-append came request rest more is, answered, ap (reply_bytes answer) (sym e)), written)
-sent_step conduct a c request came more rest u v closing sent.WriteFault is e (inr (head, told, promised, written)) =
-    (reply_head head.status head.content told closing, inr (inl (request, rest ++ more, head, told, IsRequest-append came request rest more is, promised, ap (reply_head head.status head.content told) (sym e))), written)
-sent_step conduct a c request came more rest u v closing sent.StoreFault is e cut = (request, rest ++ more, IsRequest-append came request rest more is, cut e)
+sent_step conduct a c request came more rest u v closing (Err Writer) is e (inl (answer, answered, written)) =
+    (reply_bytes answer closing, ReplyNext request (rest ++ more) answer (IsRequest-append came request rest more is) answered (ap (reply_bytes answer) (sym e)), written)
+sent_step conduct a c request came more rest u v closing (Err Writer) is e (inr (head, told, promised, written)) =
+    (reply_head head.status head.content told closing, HeadNext request (rest ++ more) head told (IsRequest-append came request rest more is) promised (ap (reply_head head.status head.content told) (sym e)), written)
+sent_step conduct a c request came more rest u v closing (Err Store) is e cut = (request, rest ++ more, IsRequest-append came request rest more is, cut e)
 
 if_known : (o : Option (List ℕ)) (P Q : Type 0) → (P → Q) → IfSome o (λ _. P) → IfSome o (λ _. Q)
 if_known None P Q f p = tt
 if_known (Some x) P Q f p = f p
 
-pub replied_step : {H : Type 0} (conduct : Conduct H) (a b c : H) (input left u v : Option (List ℕ)) (held : List ℕ) (headers : List HeaderSpan) (spans : RequestSpans) (told : ℕ) (reply : Reply) (s : Sent) (closing : Bool)
+pub replied_step : {H : Type 0} (conduct : Conduct H) (a b c : H) (input left u v : Option (List ℕ)) (held : List ℕ) (headers : List HeaderSpan) (spans : RequestSpans) (told : ℕ) (reply : Reply) (s : Result (Unit {0}) BodyStop) (closing : Bool)
     → IfSome input (λ _. AsksHandler conduct (record { a = a; b = b; input = input; input_after = left }) (record { held = held; headers = headers; spans = spans; content_length = told }) (asked.Reply reply))
     → ((x : H) (request : Request) → MayReply conduct x request reply b → IsSent conduct (record { handler = x; handler_after = c; taken = u; taken_after = v }) (record { request = request; closing = closing }) s)
     → ((head : RequestHead) → IsRequestAt held headers spans head → closing ≡ asks_to_close head.minor (fields_of head))
@@ -71,7 +84,7 @@ replied_step conduct a b c input left u v held headers spans told reply s closin
 -- memory was refused
 pub memory_step : {H : Type 0} (conduct : Conduct H) (a b : H) (input left u : Option (List ℕ)) (held : List ℕ) (headers : List HeaderSpan) (spans : RequestSpans) (told : ℕ)
     → IfSome input (λ _. AsksHandler conduct (record { a = a; b = b; input = input; input_after = left }) (record { held = held; headers = headers; spans = spans; content_length = told }) asked.NoMemory)
-    → IfSome input (λ _. Steps conduct (record { handler = a; handler_after = b; taken = u; taken_after = u }) (record { input = input; input_after = left; held = held; held_after = drop (spans.len + told) held }) (answered.Ended ends.Memory))
+    → IfSome input (λ _. Steps conduct (record { handler = a; handler_after = b; taken = u; taken_after = u }) (record { input = input; input_after = left; held = held; held_after = drop (spans.len + told) held }) (Err ends.Memory))
 memory_step conduct a b input left u held headers spans told asks = if_known input _ _ (λ x.
     record { came = x.came; more = x.more; before = x.before; after = x.after; is = (x.is, refl) }) asks
 
@@ -79,9 +92,8 @@ no_more : (left : Option (List ℕ)) (came more : List ℕ) → left ≡ Some mo
 no_more left came more e end = let none : more ≡ [] = subst IsAtEnd e end in ap (λ (l : List ℕ). came ++ l) none ∙ append-nil came
 
 short_ends : {H : Type 0} (conduct : Conduct H) (a b : H) (came behind all : List ℕ) (u v : Option (List ℕ)) (end : StreamEnd) → StandsOver conduct a all b → IsShort all → WritesRefusal BodyShort u v end → EndsWithin conduct (record { handler = a; handler_after = b; taken = u; taken_after = v }) (record { came = came; behind = behind; all = all }) end
-short_ends conduct a b came behind all u v ends.BodyFault stands short (kind, written) = (short, stands, written)
-short_ends conduct a b came behind all u v ends.WriteFault stands short written = (reply_bytes (fault_answer BodyShort) true, inr (inr (BodyShort, short, refl, (all, refl, stands))), written)
-short_ends conduct a b came behind all u v ends.HeadFault stands short (kind, written) = absurd (cc kind)
+short_ends conduct a b came behind all u v (ends.Refused fault) stands short (same, written) = (same, short, stands, written)
+short_ends conduct a b came behind all u v ends.WriteFault stands short written = (reply_bytes (fault_answer BodyShort) true, RefusalNext BodyShort short refl (all, refl, stands), written)
 short_ends conduct a b came behind all u v ends.Clean stands short r = absurd r
 short_ends conduct a b came behind all u v ends.Closed stands short r = absurd r
 short_ends conduct a b came behind all u v ends.ReadFault stands short r = absurd r
@@ -92,7 +104,7 @@ short_ends conduct a b came behind all u v ends.TurnsSpent stands short r = absu
 -- the body broke off
 pub broken_step : {H : Type 0} (conduct : Conduct H) (a b : H) (input left u v : Option (List ℕ)) (held : List ℕ) (headers : List HeaderSpan) (spans : RequestSpans) (told : ℕ) (fault : BodyFault) (end : StreamEnd)
     → IfSome input (λ _. AsksHandler conduct (record { a = a; b = b; input = input; input_after = left }) (record { held = held; headers = headers; spans = spans; content_length = told }) (asked.Broken fault)) → EndsBroken fault u v end
-    → IfSome input (λ _. Steps conduct (record { handler = a; handler_after = b; taken = u; taken_after = v }) (record { input = input; input_after = left; held = held; held_after = drop (spans.len + told) held }) (answered.Ended end))
+    → IfSome input (λ _. Steps conduct (record { handler = a; handler_after = b; taken = u; taken_after = v }) (record { input = input; input_after = left; held = held; held_after = drop (spans.len + told) held }) (Err end))
 broken_step conduct a b input left u v held headers spans told faults.Short end asks r = if_known input _ _ (λ x.
     record {
       came = x.came;
@@ -107,7 +119,7 @@ broken_step conduct a b input left u v held headers spans told faults.ReadFault 
       more = x.more;
       before = x.before;
       after = x.after;
-      is = subst (EndsWithin conduct (record { handler = a; handler_after = b; taken = u; taken_after = v }) (record { came = held ++ x.came; behind = drop (spans.len + told) held; all = (held ++ x.came) ++ x.more })) (sym e) (x.is.0, x.is.1, same);
+      is = subst (EndsWithin conduct (record { handler = a; handler_after = b; taken = u; taken_after = v }) (record { came = held ++ x.came; behind = drop (spans.len + told) held; all = (held ++ x.came) ++ x.more })) (sym e) (x.is, same);
     }) asks
 broken_step conduct a b input left u v held headers spans told faults.TurnsSpent end asks (e, same) = if_known input _ _ (λ x.
     record {
@@ -115,43 +127,23 @@ broken_step conduct a b input left u v held headers spans told faults.TurnsSpent
       more = x.more;
       before = x.before;
       after = x.after;
-      is = subst (EndsWithin conduct (record { handler = a; handler_after = b; taken = u; taken_after = v }) (record { came = held ++ x.came; behind = drop (spans.len + told) held; all = (held ++ x.came) ++ x.more })) (sym e) (x.is.0, x.is.1, same);
+      is = subst (EndsWithin conduct (record { handler = a; handler_after = b; taken = u; taken_after = v }) (record { came = held ++ x.came; behind = drop (spans.len + told) held; all = (held ++ x.came) ++ x.more })) (sym e) (x.is, same);
     }) asks
 
 -- ---- why the stream ends
 
 -- where the reply was sent so far
-pub sent_ends : (x : LastState) (left : ℕ) (s : Sent) (closing : Bool) → x.after.fault ≡ x.before.fault → (s ≡ sent.WriteFault → IsSome x.write_fault) → (s ≡ sent.StoreFault → x.write_fault ≡ None) → (s ≡ sent.StoreFault → x.stuck)
-    → EndsSo (answered_so s closing) left x
-sent_ends x left sent.Whole true same failed good stuck = same
-sent_ends x left sent.Whole false same failed good stuck = same
-sent_ends x left sent.WriteFault closing same failed good stuck = record { cause = failed refl; failed = inl same; spent = λ e. cc }
-sent_ends x left sent.StoreFault closing same failed good stuck = record { cause = (good refl, stuck refl); failed = inl same; spent = λ e. cc }
+pub sent_ends : (x : LastState) (left : ℕ) (s : Result (Unit {0}) BodyStop) (closing : Bool) → x.after.fault ≡ x.before.fault → SendStops s x.write_fault x.stuck → EndsSo (answered_so s closing) left x
+sent_ends x left (Ok k) true same stops = record { cause = tt; failed = inl same; spent = λ e. cc }
+sent_ends x left (Ok k) false same stops = same
+sent_ends x left (Err Writer) closing same stops = record { cause = stops; failed = inl same; spent = λ e. cc }
+sent_ends x left (Err Store) closing same stops = record { cause = stops; failed = inl same; spent = λ e. cc }
 
-pub sent_turns : (s : Sent) (closing : Bool) (a b : Turns) → SpendsTurns 0 a b → SpendsTurns (idle_answered (answered_so s closing)) a b
-sent_turns sent.Whole true a b spent = spent
-sent_turns sent.Whole false a b spent = spent
-sent_turns sent.WriteFault closing a b spent = idle_turns 1 a b spent
-sent_turns sent.StoreFault closing a b spent = spent
-
--- bytes that are there are no body of the handler's own
-pub never_stuck : (s : Sent) (u v : Option (List ℕ)) (bytes : List ℕ) → SendsText s u v bytes → ¬ (s ≡ sent.StoreFault)
-never_stuck sent.Whole u v bytes p e = cc
-never_stuck sent.WriteFault u v bytes p e = cc
-never_stuck sent.StoreFault u v bytes p e = p
-
--- how far it was sent is one of three
-pub whole_is_no_fault : {P : Type 0} → sent.Whole ≡ sent.WriteFault → P
-whole_is_no_fault e = cc
-
-pub whole_is_not_stuck : {P : Type 0} → sent.Whole ≡ sent.StoreFault → P
-whole_is_not_stuck e = cc
-
-pub fault_is_not_stuck : {P : Type 0} → sent.WriteFault ≡ sent.StoreFault → P
-fault_is_not_stuck e = cc
-
-pub stuck_is_no_fault : {P : Type 0} → sent.StoreFault ≡ sent.WriteFault → P
-stuck_is_no_fault e = cc
+pub sent_turns : (s : Result (Unit {0}) BodyStop) (closing : Bool) (a b : Turns) → SpendsTurns 0 a b → SpendsTurns (idle_answered (answered_so s closing)) a b
+sent_turns (Ok k) true a b spent = spent
+sent_turns (Ok k) false a b spent = spent
+sent_turns (Err Writer) closing a b spent = idle_turns 1 a b spent
+sent_turns (Err Store) closing a b spent = spent
 
 pub memory_is_not_spent : {P : Type 0} → ends.Memory ≡ ends.TurnsSpent → P
 memory_is_not_spent e = cc
@@ -159,13 +151,9 @@ memory_is_not_spent e = cc
 pub clean_is_not_spent : {P : Type 0} → ends.Clean ≡ ends.TurnsSpent → P
 clean_is_not_spent e = cc
 
-pub closed_is_not_spent : {P : Type 0} → ends.Closed ≡ ends.TurnsSpent → P
-closed_is_not_spent e = cc
-
 -- where a refusal was written
 pub refused_ends : (x : LastState) (left : ℕ) (fault : StreamFault) (u v : Option (List ℕ)) (end : StreamEnd) → x.after.fault ≡ x.before.fault → WritesRefusal fault u v end → (end ≡ ends.WriteFault → IsSome x.write_fault) → EndsWhy end left x
-refused_ends x left fault u v ends.HeadFault same r failed = record { cause = tt; failed = inl same; spent = λ e. cc }
-refused_ends x left fault u v ends.BodyFault same r failed = record { cause = tt; failed = inl same; spent = λ e. cc }
+refused_ends x left fault u v (ends.Refused said) same r failed = record { cause = tt; failed = inl same; spent = λ e. cc }
 refused_ends x left fault u v ends.WriteFault same r failed = record { cause = failed refl; failed = inl same; spent = λ e. cc }
 refused_ends x left fault u v ends.Clean same r failed = absurd r
 refused_ends x left fault u v ends.Closed same r failed = absurd r
@@ -175,8 +163,7 @@ refused_ends x left fault u v ends.Memory same r failed = absurd r
 refused_ends x left fault u v ends.TurnsSpent same r failed = absurd r
 
 pub refused_idle : (fault : StreamFault) (u v : Option (List ℕ)) (end : StreamEnd) → WritesRefusal fault u v end → idle_reads end ≡ 1
-refused_idle fault u v ends.HeadFault r = refl
-refused_idle fault u v ends.BodyFault r = refl
+refused_idle fault u v (ends.Refused said) r = refl
 refused_idle fault u v ends.WriteFault r = refl
 refused_idle fault u v ends.Clean r = absurd r
 refused_idle fault u v ends.Closed r = absurd r
@@ -226,8 +213,7 @@ ends_for x end left spends why = record {
 cause_later : (x y : LastState) → y.after ≡ x.after → y.write_fault ≡ x.write_fault → (x.stuck → y.stuck) → (end : StreamEnd) → HasEndCause end x → HasEndCause end y
 cause_later x y after write stuck ends.Clean why = tt
 cause_later x y after write stuck ends.Closed why = tt
-cause_later x y after write stuck ends.HeadFault why = tt
-cause_later x y after write stuck ends.BodyFault why = tt
+cause_later x y after write stuck (ends.Refused fault) why = tt
 cause_later x y after write stuck ends.ReadFault why = subst (λ (r : ReaderState). IsSome r.fault) (sym after) why
 cause_later x y after write stuck ends.WriteFault why = subst (λ (f : Option WriteFault). IsSome f) (sym write) why
 cause_later x y after write stuck ends.StoreFault why = (write ∙ why.0, stuck why.1)

@@ -4,14 +4,14 @@ use Rattle.std.specs.Prelude.{◌⊎◌}
 use Rattle.httparse.specs.Grammar.{RequestHead}
 use Rattle.pid_http_stream.specs.BodyLengths.{body_length}
 use Rattle.pid_http_stream.specs.Requests.{Request, IsRequest, fields_of}
-use Rattle.pid_http_stream.specs.Endings.{HasFault, SaysOfBody, IsNoHead}
+use Rattle.pid_http_stream.specs.Endings.{HasFault, SaysOfBody}
 use Rattle.pid_http_stream.specs.Leftovers.{IsLeftover}
 use Rattle.pid_http_stream.specs.Streams.{closes, Ending, clean, closed, faulty, EndsStream, Splits}
 use Rattle.pid_http_stream.specs.declared.body_length.BodyLength.{BodyLength}
 use Rattle.pid_http_stream.specs.declared.body_length.BodyLength.TheVariants.{Encoded, Bad, TooLong, Bytes}
-use Rattle.pid_http_stream.specs.declared.judging.StreamFault.{StreamFault}
-use Rattle.pid_http_stream.specs.declared.judging.StreamFault.TheVariants.{BadHead, Encoding, BodyTooLong, BodyShort}
-use Rattle.pid_http_stream.proofs.Heads.{HasHead-unique, IsRequest-unique, leftover_has_no_head}
+use Rattle.pid_http_stream.specs.declared.refusal.StreamFault.{StreamFault}
+use Rattle.pid_http_stream.specs.declared.refusal.StreamFault.TheVariants.{BadHead, Encoding, BodyTooLong, BodyShort}
+use Rattle.pid_http_stream.proofs.Heads.{IsNoHead, HasHead-unique, IsRequest-unique, leftover_has_no_head}
 
 same_said : (s : List ℕ) (said : BodyLength) (r : Request) (behind : List ℕ) → SaysOfBody s said → IsRequest s r behind → said ≡ Bytes (length r.body)
 same_said s said r behind says is = sym says.says ∙ ap (λ (h : RequestHead). body_length (fields_of h)) (HasHead-unique s says.head r.head says.rest (r.body ++ behind) says.has is.head).0 ∙ is.sized
@@ -20,7 +20,7 @@ same_said s said r behind says is = sym says.says ∙ ap (λ (h : RequestHead). 
 ends_without : (s : List ℕ) (e : Ending) (r : Request) (behind : List ℕ) → EndsStream s e → IsRequest s r behind → ⊥
 ends_without s clean r behind left is = leftover_has_no_head s left r.head (r.body ++ behind) is.head
 ends_without s closed r behind ends is = ends
-ends_without s (faulty BadHead) r behind (inl none) is = none.none r.head (r.body ++ behind) is.head
+ends_without s (faulty BadHead) r behind (inl none) is = none.0 r.head (r.body ++ behind) is.head
 ends_without s (faulty BadHead) r behind (inr says) is = cc (same_said s Bad r behind says is)
 ends_without s (faulty Encoding) r behind says is = cc (same_said s Encoded r behind says is)
 ends_without s (faulty BodyTooLong) r behind says is = cc (same_said s TooLong r behind says is)
@@ -79,13 +79,13 @@ one_said s x y a b = sym a.says ∙ ap (λ (h : RequestHead). body_length (field
 
 by_what : (s : List ℕ) (x y : StreamFault) → (IsNoHead s × (x ≡ BadHead)) ⊎ IsFor s x → (IsNoHead s × (y ≡ BadHead)) ⊎ IsFor s y → x ≡ y
 by_what s x y (inl (none, e)) (inl (also, f)) = e ∙ sym f
-by_what s x y (inl (none, e)) (inr for) = absurd (none.none for.says.head for.says.rest for.says.has)
-by_what s x y (inr for) (inl (none, e)) = absurd (none.none for.says.head for.says.rest for.says.has)
+by_what s x y (inl (none, e)) (inr for) = absurd (none.0 for.says.head for.says.rest for.says.has)
+by_what s x y (inr for) (inl (none, e)) = absurd (none.0 for.says.head for.says.rest for.says.has)
 by_what s x y (inr a) (inr b) = a.is ∙ ap fault_for (one_said s a.said b.said a.says b.says) ∙ sym b.is
 
 -- what is refused is no leftover
 refused_or_left : (s : List ℕ) (fault : StreamFault) → (IsNoHead s × (fault ≡ BadHead)) ⊎ IsFor s fault → IsLeftover s → ⊥
-refused_or_left s fault (inl (none, e)) left = none.some left
+refused_or_left s fault (inl (none, e)) left = none.1 left
 refused_or_left s fault (inr for) left = leftover_has_no_head s left for.says.head for.says.rest for.says.has
 
 one_end : (s : List ℕ) (e f : Ending) → EndsStream s e → EndsStream s f → e ≡ f

@@ -20,28 +20,19 @@ pub record LastState : Type 1 where
 
 -- the cause of an end that has one
 abbrev pub HasEndCause : StreamEnd → LastState → Type 0
-HasEndCause ends.Clean s = ⊤
-HasEndCause ends.Closed s = ⊤
-HasEndCause ends.HeadFault s = ⊤
-HasEndCause ends.BodyFault s = ⊤
 HasEndCause ends.ReadFault s = IsSome s.after.fault
 HasEndCause ends.WriteFault s = IsSome s.write_fault
 HasEndCause ends.StoreFault s = (s.write_fault ≡ None) × s.stuck
-HasEndCause ends.Memory s = ⊤
-HasEndCause ends.TurnsSpent s = ⊤
+HasEndCause end s = ⊤
 
 -- how many reads of a stream that ends so may be idle: the last one, which found the end or failed,
 -- or none
 abbrev pub idle_reads : StreamEnd → ℕ
-idle_reads ends.Clean = 1
 idle_reads ends.Closed = 0
-idle_reads ends.HeadFault = 1
-idle_reads ends.BodyFault = 1
-idle_reads ends.ReadFault = 1
-idle_reads ends.WriteFault = 1
 idle_reads ends.StoreFault = 0
 idle_reads ends.Memory = 0
 idle_reads ends.TurnsSpent = 0
+idle_reads end = 1
 
 -- The stream ended so.
 pub record EndsFor (end : StreamEnd) (s : LastState) : Type 0 where

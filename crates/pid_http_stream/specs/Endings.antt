@@ -9,9 +9,9 @@ use Rattle.pid_http_stream.specs.Requests.{fields_of}
 use Rattle.pid_http_stream.specs.declared.body_length.BodyLength.{BodyLength}
 use Rattle.pid_http_stream.specs.declared.body_length.BodyLength.TheVariants.{Encoded, Bad}
 use Rattle.pid_http_stream.specs.declared.body_length.BodyLength.TheVariants.{TooLong, Bytes}
-use Rattle.pid_http_stream.specs.declared.judging.StreamFault.{StreamFault}
-use Rattle.pid_http_stream.specs.declared.judging.StreamFault.TheVariants.{BadHead, Encoding}
-use Rattle.pid_http_stream.specs.declared.judging.StreamFault.TheVariants.{BodyTooLong, BodyShort}
+use Rattle.pid_http_stream.specs.declared.refusal.StreamFault.{StreamFault}
+use Rattle.pid_http_stream.specs.declared.refusal.StreamFault.TheVariants.{BadHead, Encoding}
+use Rattle.pid_http_stream.specs.declared.refusal.StreamFault.TheVariants.{BodyTooLong, BodyShort}
 
 -- the stream begins with a head, which says this of its body
 pub record SaysOfBody (stream : List ℕ) (said : BodyLength) : Type 0 where
@@ -29,14 +29,9 @@ pub record IsShort (stream : List ℕ) : Type 0 where
   pub says : body_length (fields_of head) ≡ Bytes wanted
   pub short : length rest < wanted
 
--- there is something, and it is no head
-pub record IsNoHead (stream : List ℕ) : Type 0 where
-  pub none : HasNoHead stream
-  pub some : ¬ (IsLeftover stream)
-
--- the stream begins with this fault
+-- the stream begins with this fault: if with no head, there is something
 abbrev pub HasFault : List ℕ → StreamFault → Type 0
-HasFault stream BadHead = IsNoHead stream ⊎ SaysOfBody stream Bad
+HasFault stream BadHead = (HasNoHead stream × ¬ (IsLeftover stream)) ⊎ SaysOfBody stream Bad
 HasFault stream Encoding = SaysOfBody stream Encoded
 HasFault stream BodyTooLong = SaysOfBody stream TooLong
 HasFault stream BodyShort = IsShort stream

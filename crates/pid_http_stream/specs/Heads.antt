@@ -2,20 +2,13 @@
 -- `httparse` keeps it. The two limits are choices of this project.
 use Rattle.std.specs.Prelude.{ℕ, ◌≤◌, List, length}
 use Rattle.httparse.specs.Grammar.{RequestHead, ReadsRequest, print_request}
+use Rattle.pid_http_stream.specs.declared.limits.TheConstants.{MOST_FIELDS, LONGEST_HEAD}
 
--- the most fields of a head
-abbrev pub most_fields : ℕ
-most_fields = 32
-
--- the longest head, in bytes, with the empty lines before it
-abbrev pub longest_head : ℕ
-longest_head = 16384
-
--- the stream is this head, and then the rest
+-- the stream is this head, with the empty lines before it, and then the rest
 pub record HasHead (stream : List ℕ) (head : RequestHead) (rest : List ℕ) : Type 0 where
   pub reads : ReadsRequest stream head rest
-  pub few : length head.fields ≤ most_fields
-  pub short : length (print_request head) ≤ longest_head
+  pub few : length head.fields ≤ MOST_FIELDS
+  pub short : length (print_request head) ≤ LONGEST_HEAD
 
 -- the stream begins with no head
 abbrev pub HasNoHead : List ℕ → Type 0

@@ -2,7 +2,7 @@
 -- last of which may be cut.
 use Rattle.std.specs.Prelude.{◌≡◌, ℕ, ◌≤◌, ◌⊎◌, List, ◌∷◌, ◌++◌, length, All}
 use Rattle.httparse.specs.Ascii.{carriage_return, line_feed}
-use Rattle.pid_http_stream.specs.Heads.{longest_head}
+use Rattle.pid_http_stream.specs.declared.limits.TheConstants.{LONGEST_HEAD}
 
 -- each byte is CR or LF, and no CR comes right after another
 pub record AreLineEnds (bytes : List ℕ) : Type 0 where
@@ -13,4 +13,4 @@ pub record AreLineEnds (bytes : List ℕ) : Type 0 where
 -- nothing but line ends, and no more of them than a head may have
 pub record IsLeftover (stream : List ℕ) : Type 0 where
   pub lines : AreLineEnds stream
-  pub short : length stream ≤ longest_head
+  pub short : length stream ≤ LONGEST_HEAD

@@ -3,10 +3,8 @@
 use Rattle.std.specs.Prelude.{ℕ, Bool, true, false, List, [], ◌++◌, length, codes, decimal}
 use Rattle.std.specs.Prelude.{unwrap_or}
 use Rattle.http.specs.StatusCode.{code_digits, reason_phrase}
-use Rattle.pid_http_stream.specs.RequestRefusals.{request_refusal_status, request_refusal_text}
-use Rattle.pid_http_stream.specs.RequestRefusals.{refusal_of_fault}
-use Rattle.pid_http_stream.specs.declared.judging.StreamFault.{StreamFault}
-use Rattle.pid_http_stream.specs.declared.refusal.RequestRefusal.{RequestRefusal}
+use Rattle.pid_http_stream.specs.StreamFaults.{fault_row, fault_text}
+use Rattle.pid_http_stream.specs.declared.refusal.StreamFault.{StreamFault}
 use Rattle.pid_http_stream.specs.declared.reply_head.ReplyHead.{ReplyHead}
 use Rattle.pid_http_stream.specs.declared.reply_head.Content.{Content}
 use Rattle.pid_http_stream.specs.declared.reply_head.Content.TheVariants.{Json, Text, Bytes}
@@ -27,36 +25,28 @@ answer_with status content body =
     record { status = status; content = content; told = length body; body = body }
 
 -- an answer with this head, whose body the handler writes itself, after the length it stated
-abbrev pub answer_behind : ReplyHead → ℕ → List ℕ → Answer
-answer_behind head told body =
+abbrev pub answer_after : ReplyHead → ℕ → List ℕ → Answer
+answer_after head told body =
     record { status = head.status; content = head.content; told = told; body = body }
 
--- the phrase of a status, as the crate `http` has it
-abbrev pub phrase_of : ℕ → List ℕ
-phrase_of status = unwrap_or (reason_phrase status) []
-
--- the first line of a reply: the status and its phrase
+-- the first line of a reply: the status, and its phrase, as the crate `http` has it
 abbrev pub status_line : ℕ → List ℕ
-status_line status = codes "HTTP/1.1 " ++ code_digits status ++ codes " " ++ phrase_of status
-    ++ codes "\r\n"
+status_line status = codes "HTTP/1.1 " ++ code_digits status ++ codes " "
+    ++ unwrap_or (reason_phrase status) [] ++ codes "\r\n"
 
 -- what the body is; a reply that names the methods allowed has no body, and no type
 abbrev pub type_line : Content → List ℕ
 type_line Json = codes "Content-Type: application/json\r\n"
 type_line Text = codes "Content-Type: text/plain; charset=utf-8\r\n"
 type_line Bytes = codes "Content-Type: text/plain\r\n"
-type_line AllowGet = []
-type_line AllowPost = []
-type_line AllowBoth = []
+type_line methods = []
 
 -- the methods allowed (RFC 9110, section 10.2.1)
 abbrev pub allow_line : Content → List ℕ
-allow_line Json = []
-allow_line Text = []
-allow_line Bytes = []
 allow_line AllowGet = codes "Allow: GET\r\n"
 allow_line AllowPost = codes "Allow: POST\r\n"
 allow_line AllowBoth = codes "Allow: GET, POST\r\n"
+allow_line content = []
 
 -- only a reply that ends its stream says so
 abbrev pub close_line : Bool → List ℕ
@@ -75,11 +65,6 @@ unfoldable pub reply_bytes : Answer → Bool → List ℕ
 reply_bytes answer closes = reply_head answer.status answer.content answer.told closes
     ++ answer.body
 
--- the answer to a request that is refused before anything is asked for it, as JSON
-abbrev pub request_answer : RequestRefusal → Answer
-request_answer refusal = answer_with (request_refusal_status refusal) Json
-    (request_refusal_text refusal)
-
--- the answer to a stream with a fault
+-- the answer to a stream with a fault, as JSON
 abbrev pub fault_answer : StreamFault → Answer
-fault_answer fault = request_answer (refusal_of_fault fault)
+fault_answer fault = answer_with (fault_row fault).0 Json (fault_text fault)

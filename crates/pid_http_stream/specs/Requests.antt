@@ -21,7 +21,3 @@ pub record Request : Type 0 where
 pub record IsRequest (stream : List ℕ) (request : Request) (rest : List ℕ) : Type 0 where
   pub head : HasHead stream request.head (request.body ++ rest)
   pub sized : body_length (fields_of request.head) ≡ Bytes (length request.body)
-
--- the stream begins with no whole request
-abbrev pub HasNoRequest : List ℕ → Type 0
-HasNoRequest stream = (request : Request) (rest : List ℕ) → ¬ (IsRequest stream request rest)

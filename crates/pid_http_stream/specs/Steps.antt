@@ -1,4 +1,6 @@
 -- What serves private functions alone; no promise rests on it.
+pub mod Bodies
+pub mod BodyLaws
 pub mod Intakes
 pub mod LineScans
 pub mod Loop

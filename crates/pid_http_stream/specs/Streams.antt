@@ -5,7 +5,7 @@ use Rattle.pid_http_stream.specs.Connections.{asks_to_close}
 use Rattle.pid_http_stream.specs.Endings.{HasFault}
 use Rattle.pid_http_stream.specs.Leftovers.{IsLeftover}
 use Rattle.pid_http_stream.specs.Requests.{Request, IsRequest, fields_of}
-use Rattle.pid_http_stream.specs.declared.judging.StreamFault.{StreamFault}
+use Rattle.pid_http_stream.specs.declared.refusal.StreamFault.{StreamFault}
 
 -- the stream ends after the reply to this request
 abbrev pub closes : Request → Bool

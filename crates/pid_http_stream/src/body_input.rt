@@ -38,8 +38,8 @@ pub(crate) struct BodyInput<'h, 'i, 'o, I: Incoming<W>, W: Output> {
 impl<I: Incoming<W>, W: Output> Input for BodyInput<'_, '_, '_, I, W> {
     ghost use Rattle.std.specs.Prelude.{◌≡◌, ◌++◌, option_map};
     ghost use Rattle.std.proofs.Common.{refl, ◌∙◌};
-    ghost use Rattle.pid_http_stream.specs.Bodies.{padded, fault_told, HasReadBody, turns_at};
-    ghost use Rattle.pid_http_stream.specs.BodyLaws.{no_body_reads, more_body_reads};
+    ghost use Rattle.pid_http_stream.specs.Steps.Bodies.{padded, fault_told, HasReadBody, turns_at};
+    ghost use Rattle.pid_http_stream.specs.Steps.BodyLaws.{no_body_reads, more_body_reads};
 
     ghost to_come = { λ b. option_map (λ s. padded b.wanted (b.held.now ++ s))
         (I.to_come b.input.now) };

@@ -2,7 +2,7 @@
 ghost use Rattle.std.specs.Prelude.{◌≡◌, ◌≤◌, ℕ, List, [], length, Some, Err, IfOk, IsSome};
 ghost use Rattle.std.specs.Io.KnownBytes.{IsAtEnd};
 ghost use Rattle.httparse.specs.Grammar.{RequestHead};
-ghost use Rattle.pid_http_stream.specs.BodyLengths.{longest_body};
+ghost use Rattle.pid_http_stream.specs.declared.limits.TheConstants.{LONGEST_BODY};
 ghost use Rattle.pid_http_stream.specs.Handling.{MayReply, IsHandled, WritesBody};
 ghost use Rattle.pid_http_stream.specs.HeadParts.{IsHeadOf};
 ghost use Rattle.pid_http_stream.specs.Leading.{Leads};
@@ -62,7 +62,7 @@ pub trait Handler {
     ghost use Rattle.std.specs.Prelude.{⊤};
     ghost use Rattle.httparse.specs.Grammar.{RequestHead};
     ghost use Rattle.pid_http_stream.specs.Conducts.{Conduct};
-    ghost use Rattle.pid_http_stream.specs.Replies.{Answer, answer_behind};
+    ghost use Rattle.pid_http_stream.specs.Replies.{Answer, answer_after};
     ghost use Rattle.pid_http_stream.specs.Requests.{Request};
     ghost use Rattle.pid_http_stream.specs.declared.handler.Wanted.{Wanted};
     ghost use Rattle.pid_http_stream.specs.declared.reply_head.ReplyHead.{ReplyHead};
@@ -130,7 +130,7 @@ pub trait Handler {
         ensures answered { Leads is_good stands self.old self.new
             (λ v w. (request : Request) → IsHeadOf head.now request.head
             → means (Wanted.Streamed upload) request.head
-            → B.to_come body.old ≡ Some request.body → length request.body ≤ longest_body
+            → B.to_come body.old ≡ Some request.body → length request.body ≤ LONGEST_BODY
             → IsHandled conduct v request result (B.to_come body.new) w) };
 
     /// Writes the body that the last reply promised, or at a fault a prefix of it.
@@ -145,7 +145,7 @@ pub trait Handler {
     /// A body that was promised and written is that of an answer.
     ghost kept: { (a : View) (request : Request) (head : ReplyHead) (content_length : ℕ) (b : View)
         (body : List ℕ) (c : View) → conduct.promises a request head content_length b
-        → writes b body c → conduct.answers a request (answer_behind head content_length body) c };
+        → writes b body c → conduct.answers a request (answer_after head content_length body) c };
 
     /// No call leaves it as it is.
     ghost stays: { (a : Self) → becomes a a };

@@ -18,7 +18,7 @@ ghost use Rattle.std.specs.Io.KnownBytes.{IsAtEnd};
 ghost use Rattle.httparse.specs.Grammar.{HasNoRequest as HasNoHeadYet};
 ghost use Rattle.httparse.specs.declared.spans.HeaderSpan.{HeaderSpan as FieldSpan};
 ghost use Rattle.pid_file.specs.declared.io.ReadFault.{ReadFault};
-ghost use Rattle.pid_http_stream.specs.Bodies.{SpendsTurns, turns_at};
+ghost use Rattle.pid_http_stream.specs.Steps.Bodies.{SpendsTurns, turns_at};
 ghost use Rattle.pid_http_stream.specs.Steps.Intakes.{
   ComesIn,
   FillStops,
@@ -34,9 +34,10 @@ ghost use Rattle.pid_http_stream.specs.Steps.Intakes.{
 ghost use Rattle.pid_http_stream.specs.Moments.{AllSince};
 ghost use Rattle.pid_http_stream.specs.Unfinished.{IsHeadUnfinished, IsUnfinished};
 
-use crate::judging::{Judged, StreamFault, are_line_ends, judge, judge_unended};
+use crate::judging::{FoundHead, are_line_ends, judge, judge_unended};
 use crate::limits::{LONGEST_HEAD, MOST_FIELDS, READ_SIZE};
-use httparse::spans::{HeaderSpan, RequestSpans};
+use crate::refusal::StreamFault;
+use httparse::spans::HeaderSpan;
 use pid_ident::{Incoming, Output};
 
 /// Why reading stops.
@@ -58,8 +59,7 @@ pub(crate) enum Filled {
 /// What the bytes begin with, once a head has come or can't come any more.
 #[derive(Clone, Copy)]
 pub(crate) enum HeadRead {
-    /// A head, and the length of the body after it.
-    Head { spans: RequestSpans, body: usize },
+    Head(FoundHead),
     /// The stream ended, and nothing is left.
     Nothing,
     Faulty(StreamFault),
@@ -134,7 +134,11 @@ fn judge_end(held: &[u8]) -> HeadRead
 
 // Judges what came, of which so many bytes hold no head. They are parsed again only if a line
 // ends after these: every head ends with a line.
-fn judge_more(held: &[u8], before: usize, fields: &mut [HeaderSpan]) -> Judged
+fn judge_more(
+    held: &[u8],
+    before: usize,
+    fields: &mut [HeaderSpan],
+) -> Result<Option<FoundHead>, StreamFault>
     requires wants { IsHeadUnfinished (take before held.now) }
     requires before { before ≤ length held.now }
     requires room { length fields.old ≡ MOST_FIELDS }
@@ -175,9 +179,11 @@ pub(crate) fn read_head<I: Incoming<W>, W: Output>(
     let mut judged = judge(held, fields);
     'reading: loop {
         match judged {
-            Judged::Head { spans, body } => return HeadRead::Head { spans, body },
-            Judged::Faulty(fault) => return HeadRead::Faulty(fault),
-            Judged::More => {}
+            Err(fault) => return HeadRead::Faulty(fault),
+            Ok(found) => match found {
+                Some(head) => return HeadRead::Head(head),
+                None => {}
+            },
         }
         let before = held.len();
         match fill(held, turns_left, input, output) {

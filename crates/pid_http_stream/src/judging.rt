@@ -22,51 +22,15 @@ ghost use Rattle.pid_http_stream.specs.Unfinished.{CanBeHead};
 
 use crate::body_length::{BodyLength, length_of};
 use crate::limits::LONGEST_HEAD;
-use crate::refusal::RequestRefusal;
+use crate::refusal::StreamFault;
 use httparse::Status;
 use httparse::spans::{HeaderSpan, RequestSpans, parse_request};
-use thiserror::Error;
 
-/// Why a stream is refused.
-#[derive(Clone, Copy, Debug, Error)]
-pub enum StreamFault {
-    /// The bytes begin with no head, or with one that has too many fields or is too long, or whose
-    /// Content-Length is no length.
-    #[error("no head of a request, or one that is too long or says no length")]
-    BadHead,
-    #[error("the body is sent in a transfer encoding")]
-    Encoding,
-    #[error("the body is longer than a body may be")]
-    BodyTooLong,
-    #[error("the stream ends within the body")]
-    BodyShort,
-}
-
-impl StreamFault {
-    ghost use Rattle.pid_http_stream.specs.RequestRefusals.{refusal_of_fault};
-
-    /// The refusal that is replied.
-    pub fn refusal(self) -> RequestRefusal
-        ensures { result ≡ refusal_of_fault self }
-    {
-        match self {
-            StreamFault::BadHead => RequestRefusal::BadHead,
-            StreamFault::Encoding => RequestRefusal::Encoding,
-            StreamFault::BodyTooLong => RequestRefusal::BodyTooLong,
-            StreamFault::BodyShort => RequestRefusal::BodyShort,
-        }
-    }
-}
-
-/// What the bytes that came begin with.
+/// A head that begins the bytes that came, and the length of the body after it.
 #[derive(Clone, Copy)]
-pub(crate) enum Judged {
-    /// No whole head yet: more bytes can make it one.
-    More,
-    /// A head, and the length of the body after it.
-    Head { spans: RequestSpans, body: usize },
-    /// The stream has this fault here.
-    Faulty(StreamFault),
+pub(crate) struct FoundHead {
+    pub(crate) spans: RequestSpans,
+    pub(crate) body: usize,
 }
 
 /// Whether there are line ends and nothing else, the last perhaps without its LF.
@@ -87,7 +51,11 @@ pub(crate) fn are_line_ends(bytes: &[u8]) -> bool
 }
 
 // What a head that was found says of its body.
-fn judge_length(held: &[u8], fields: &[HeaderSpan], spans: RequestSpans) -> Judged
+fn judge_length(
+    held: &[u8],
+    fields: &[HeaderSpan],
+    spans: RequestSpans,
+) -> Result<Option<FoundHead>, StreamFault>
     requires within { IsRequestWithin held.now fields.now spans }
     requires found { IsRequestOf held.now fields.now spans }
     requires short { spans.len ≤ LONGEST_HEAD }
@@ -95,38 +63,42 @@ fn judge_length(held: &[u8], fields: &[HeaderSpan], spans: RequestSpans) -> Judg
     ensures { IsHeadJudged held.now fields.now result }
 {
     match length_of(held, &fields[..spans.headers]) {
-        BodyLength::Encoded => Judged::Faulty(StreamFault::Encoding),
-        BodyLength::Bad => Judged::Faulty(StreamFault::BadHead),
-        BodyLength::TooLong => Judged::Faulty(StreamFault::BodyTooLong),
-        BodyLength::Bytes(body) => Judged::Head { spans, body },
+        BodyLength::Encoded => Err(StreamFault::Encoding),
+        BodyLength::Bad => Err(StreamFault::BadHead),
+        BodyLength::TooLong => Err(StreamFault::BodyTooLong),
+        BodyLength::Bytes(body) => Ok(Some(FoundHead { spans, body })),
     }
 }
 
 // Judges bytes in which no head has ended.
-pub(crate) fn judge_unended(held: &[u8]) -> Judged
+pub(crate) fn judge_unended(held: &[u8]) -> Result<Option<FoundHead>, StreamFault>
     requires none { HasNoHeadYet held.now }
     requires begins { CanBeHead held.now }
     ensures { (fields : List FieldSpan) → IsHeadJudged held.now fields result }
 {
     if held.len() > LONGEST_HEAD {
-        return Judged::Faulty(StreamFault::BadHead);
+        return Err(StreamFault::BadHead);
     }
-    Judged::More
+    Ok(None)
 }
 
-/// Judges the bytes that came so far; the spans of a head's fields go into `fields`.
-pub(crate) fn judge(held: &[u8], fields: &mut [HeaderSpan]) -> Judged
+/// The head that the bytes which came so far begin with; none if more bytes can make them one. The
+/// spans of its fields go into `fields`.
+pub(crate) fn judge(
+    held: &[u8],
+    fields: &mut [HeaderSpan],
+) -> Result<Option<FoundHead>, StreamFault>
     requires { length fields.old ≡ MOST_FIELDS }
     ensures { IsHeadJudged held.now fields.new result }
 {
     match parse_request(held, fields) {
         Ok(Status::Complete(spans)) => {
             if spans.len > LONGEST_HEAD {
-                return Judged::Faulty(StreamFault::BadHead);
+                return Err(StreamFault::BadHead);
             }
             judge_length(held, fields, spans)
         }
         Ok(Status::Partial) => judge_unended(held),
-        Err(_) => Judged::Faulty(StreamFault::BadHead),
+        Err(_) => Err(StreamFault::BadHead),
     }
 }

@@ -12,7 +12,6 @@
 mod body_input;
 mod body_length;
 mod connection;
-mod draining;
 mod fields;
 mod handler;
 mod head;
@@ -29,13 +28,11 @@ mod reply_head;
 mod sending;
 mod stream;
 
-pub use draining::discard;
 pub use fields::{count_named, first_named};
 pub use handler::{BodyStop, Handler, NoReply, Reply, ReplyBody, Wanted};
 pub use head::Head;
-pub use judging::StreamFault;
 pub use limits::LONGEST_BODY;
 pub use pid_ident::Incoming;
-pub use refusal::RequestRefusal;
+pub use refusal::StreamFault;
 pub use reply_head::{Content, ReplyHead};
 pub use stream::{Served, StreamEnd, serve_stream};

@@ -16,8 +16,8 @@ ghost use Rattle.std.specs.Prelude.{
 };
 ghost use Rattle.std.specs.Io.KnownBytes.{Consumes, IsAtEnd};
 ghost use Rattle.httparse.specs.Grammar.{RequestHead};
-ghost use Rattle.pid_http_stream.specs.Bodies.{SpendsTurns, turns_at};
-ghost use Rattle.pid_http_stream.specs.BodyLengths.{longest_body};
+ghost use Rattle.pid_http_stream.specs.Steps.Bodies.{SpendsTurns, turns_at};
+ghost use Rattle.pid_http_stream.specs.declared.limits.TheConstants.{LONGEST_BODY};
 ghost use Rattle.pid_http_stream.specs.Handling.{IsHandled};
 ghost use Rattle.pid_http_stream.specs.Steps.Intakes.{AskStops, WaitsForRequest, idle_asked};
 ghost use Rattle.pid_http_stream.specs.HeadParts.{IsHeadOf};
@@ -107,7 +107,7 @@ fn ask<H: Handler, B: Input>(
     ensures becomes { H.becomes handler.old handler.new }
     ensures answered { Leads H.is_good H.stands handler.old handler.new
         (λ v w. (request : Request) → IsHeadOf head.now request.head
-        → B.to_come body.old ≡ Some request.body → length request.body ≤ longest_body
+        → B.to_come body.old ≡ Some request.body → length request.body ≤ LONGEST_BODY
         → IsHandled H.conduct v request result (B.to_come body.new) w) }
 {
     match handler.question(head) {

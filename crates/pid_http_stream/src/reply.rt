@@ -1,17 +1,17 @@
 //! The bytes of a reply.
-ghost use Rattle.std.specs.Prelude.{◌≡◌, ◌++◌, codes, IfErr, Some};
+ghost use Rattle.std.specs.Prelude.{◌≡◌, ◌++◌, [], codes, IfErr, Some, unwrap_or};
+ghost use Rattle.http.specs.StatusCode.{reason_phrase};
 ghost use Rattle.pid_ident.specs.Sending.{Sends};
 ghost use Rattle.pid_http_stream.specs.Replies.{
-  phrase_of as phrase_for,
   type_line as line_of_type,
   allow_line as line_of_allow,
   close_line as line_of_close,
   reply_bytes,
-  answer_behind,
+  answer_after,
 };
-ghost use Rattle.pid_http_stream.specs.RequestRefusals.{refusal_of_fault, request_refusal_text};
+ghost use Rattle.pid_http_stream.specs.StreamFaults.{fault_text as text_of_fault};
 
-use crate::judging::StreamFault;
+use crate::refusal::StreamFault;
 use crate::reply_head::{Content, ReplyHead};
 use http::StatusCode;
 use itoa::Buffer;
@@ -19,7 +19,7 @@ use pid_ident::{Output, WriteFault, write_parts};
 
 // The phrase of a status; none if it has none.
 fn phrase_of(status: StatusCode) -> &'static [u8]
-    ensures { result.now ≡ phrase_for status }
+    ensures { result.now ≡ unwrap_or (reason_phrase status) [] }
 {
     match status.canonical_reason() {
         Some(phrase) => phrase.as_bytes(),
@@ -104,7 +104,7 @@ pub(crate) fn write_reply<W: Output>(
     out: &mut W,
 ) -> Result<(), WriteFault>
     ensures sent { Sends result (W.taken out.old) (W.taken out.new)
-        (reply_bytes (answer_behind head content_length body.now) closes) }
+        (reply_bytes (answer_after head content_length body.now) closes) }
     ensures fault { IfErr result (λ f. W.write_fault out.new ≡ Some f) }
 {
     let mut digits = Buffer::new();
@@ -120,7 +120,7 @@ pub(crate) fn write_reply<W: Output>(
 /// The body of the reply to a fault: the compact JSON of its refusal, as `serde_json` writes it. It
 /// takes no memory, so that each fault is replied to.
 pub(crate) fn fault_text(fault: StreamFault) -> &'static [u8]
-    ensures { result.now ≡ request_refusal_text (refusal_of_fault fault) }
+    ensures { result.now ≡ text_of_fault fault }
 {
     match fault {
         StreamFault::BadHead => br#"{"ok":false,"refused":20,"word":"BadHead"}"#,

@@ -1,6 +1,6 @@
 //! The head of a reply.
 ghost use Rattle.std.specs.Prelude.{IsTrue};
-ghost use Rattle.pid_http_stream.specs.Statuses.{allows_body};
+ghost use Rattle.pid_http_stream.specs.HttpStatuses.{allows_body};
 
 use http::StatusCode;
 

@@ -1,41 +1,30 @@
 //! A reply, written to its end.
-ghost use Rattle.std.specs.Prelude.{◌≡◌, None, IsSome};
 ghost use Rattle.pid_http_stream.specs.Handling.{MayReply};
 ghost use Rattle.pid_http_stream.specs.Leading.{Leads};
-ghost use Rattle.pid_http_stream.specs.Replies.{answer_behind, reply_bytes};
+ghost use Rattle.pid_http_stream.specs.Replies.{answer_with, reply_bytes};
 ghost use Rattle.pid_http_stream.specs.Requests.{Request};
 ghost use Rattle.pid_http_stream.specs.Serving.{outside};
-ghost use Rattle.pid_http_stream.specs.Steps.Loop.{IsSent, SendsText, replied};
+ghost use Rattle.pid_http_stream.specs.Steps.Loop.{IsSent, SendStops, SendsText, replied};
 
 use crate::handler::{BodyStop, Handler, Reply, ReplyBody};
 use crate::reply::write_reply;
 use crate::reply_head::ReplyHead;
 use pid_ident::Output;
 
-/// How far a reply was written.
-#[derive(Clone, Copy)]
-pub(crate) enum Sent {
-    Whole,
-    WriteFault,
-    /// The handler could not go on with the body.
-    StoreFault,
-}
-
-// Writes the head of a reply whose body has so many bytes, and then these bytes.
+// Writes a reply with these bytes.
 fn send_bytes<W: Output>(
     head: ReplyHead,
-    content_length: u64,
     body: &[u8],
     closes: bool,
     out: &mut W,
-) -> Sent
+) -> Result<(), BodyStop>
     ensures sent { SendsText result (W.taken out.old) (W.taken out.new)
-        (reply_bytes (answer_behind head content_length body.now) closes) }
-    ensures fault { result ≡ Sent.WriteFault → IsSome (W.write_fault out.new) }
+        (reply_bytes (answer_with head.status head.content body.now) closes) }
+    ensures stops { SendStops result (W.write_fault out.new) ⊥ }
 {
-    match write_reply(head, content_length, body, closes, out) {
-        Ok(()) => Sent::Whole,
-        Err(_) => Sent::WriteFault,
+    match write_reply(head, body.len() as u64, body, closes, out) {
+        Ok(()) => Ok(()),
+        Err(_) => Err(BodyStop::Writer),
     }
 }
 
@@ -46,7 +35,7 @@ fn send_written<H: Handler, W: Output>(
     content_length: u64,
     closes: bool,
     out: &mut W,
-) -> Sent
+) -> Result<(), BodyStop>
     ensures becomes { H.becomes handler.old handler.new }
     ensures sent { Leads H.is_good H.stands handler.old handler.new
         (λ v w. (a : H.View) (request : Request)
@@ -54,20 +43,18 @@ fn send_written<H: Handler, W: Output>(
         → IsSent H.conduct
         (outside a w (W.taken out.old) (W.taken out.new))
         (replied request closes) result) }
-    ensures fault { result ≡ Sent.WriteFault → IsSome (W.write_fault out.new) }
-    ensures store { result ≡ Sent.StoreFault → W.write_fault out.new ≡ None }
-    ensures stuck { result ≡ Sent.StoreFault → H.cannot_go_on handler.new }
+    ensures stops { SendStops result (W.write_fault out.new) (H.cannot_go_on handler.new) }
 {
     let Ok(()) = write_reply(head, content_length, b"", closes, out) else {
-        return Sent::WriteFault;
+        return Err(BodyStop::Writer);
     };
     match handler.write_body(out) {
-        Ok(()) => Sent::Whole,
-        Err(BodyStop::Writer) => Sent::WriteFault,
+        Ok(()) => Ok(()),
+        Err(BodyStop::Writer) => Err(BodyStop::Writer),
         // A writer that has failed keeps its fault, and a write of nothing fails with it too.
         Err(BodyStop::Store) => match out.write(b"") {
-            Ok(_) => Sent::StoreFault,
-            Err(_) => Sent::WriteFault,
+            Ok(_) => Err(BodyStop::Store),
+            Err(_) => Err(BodyStop::Writer),
         },
     }
 }
@@ -78,20 +65,18 @@ pub(crate) fn send<H: Handler, W: Output>(
     reply: Reply,
     closes: bool,
     out: &mut W,
-) -> Sent
+) -> Result<(), BodyStop>
     ensures becomes { H.becomes handler.old handler.new }
     ensures sent { Leads H.is_good H.stands handler.old handler.new
         (λ v w. (a : H.View) (request : Request) → MayReply H.conduct a request reply v
         → IsSent H.conduct
         (outside a w (W.taken out.old) (W.taken out.new))
         (replied request closes) result) }
-    ensures fault { result ≡ Sent.WriteFault → IsSome (W.write_fault out.new) }
-    ensures store { result ≡ Sent.StoreFault → W.write_fault out.new ≡ None }
-    ensures stuck { result ≡ Sent.StoreFault → H.cannot_go_on handler.new }
+    ensures stops { SendStops result (W.write_fault out.new) (H.cannot_go_on handler.new) }
 {
     let Reply { head, body } = reply;
     match body {
-        ReplyBody::Bytes(bytes) => send_bytes(head, bytes.len() as u64, &bytes, closes, out),
+        ReplyBody::Bytes(bytes) => send_bytes(head, &bytes, closes, out),
         ReplyBody::Written(length) => send_written(handler, head, length, closes, out),
     }
 }

@@ -16,7 +16,7 @@ ghost use Rattle.std.specs.Prelude.{
   IsSome,
   IfSome,
 };
-ghost use Rattle.pid_http_stream.specs.Bodies.{SpendsTurns, turns_at};
+ghost use Rattle.pid_http_stream.specs.Steps.Bodies.{SpendsTurns, turns_at};
 ghost use Rattle.pid_http_stream.specs.Causes.{EndsFor, LastState};
 ghost use Rattle.pid_http_stream.specs.Steps.Intakes.{WaitsForRequest};
 ghost use Rattle.pid_http_stream.specs.Leading.{Leads};
@@ -37,15 +37,16 @@ ghost use Rattle.pid_http_stream.specs.Steps.Loop.{
 };
 
 use crate::body_input::BodyFault;
-use crate::handler::Handler;
+use crate::handler::{BodyStop, Handler};
 use crate::head::Head;
 use crate::intake::{HeadRead, Stop, read_head};
-use crate::judging::StreamFault;
+use crate::judging::FoundHead;
 use crate::limits::MOST_FIELDS;
 use crate::one_request::{Asked, ask_over};
+use crate::refusal::StreamFault;
 use crate::reply::{fault_text, write_reply};
 use crate::reply_head::{Content, ReplyHead};
-use crate::sending::{Sent, send};
+use crate::sending::send;
 use httparse::spans::EMPTY_HEADER_SPAN;
 use pid_ident::{Incoming, Output};
 use std::alloc::Global;
@@ -57,10 +58,8 @@ pub enum StreamEnd {
     Clean,
     /// The last request asked for it.
     Closed,
-    /// What came is refused for its head; the refusal was written.
-    HeadFault,
-    /// What came is refused for its body; the refusal was written.
-    BodyFault,
+    /// What came is refused for this; the refusal was written.
+    Refused(StreamFault),
     /// The reader failed.
     ReadFault,
     /// The writer failed, or took no byte; a prefix of the next reply was written.
@@ -82,17 +81,6 @@ pub struct Served {
     pub end: StreamEnd,
 }
 
-/// What became of one request.
-#[derive(Clone, Copy)]
-pub(crate) enum Answered {
-    /// The reply was written, and the stream goes on.
-    Open,
-    /// The reply was written, and the stream ends.
-    Closed,
-    /// The stream ends within the request or its reply.
-    Ended(StreamEnd),
-}
-
 // Drops the first bytes, so many, or all if there are fewer.
 fn drop_front(held: &mut Vec<u8>, count: usize)
     ensures { held.new.items ≡ drop count held.old.items }
@@ -107,16 +95,13 @@ fn refuse<W: Output>(fault: StreamFault, out: &mut W) -> StreamEnd
     ensures fault { result ≡ StreamEnd.WriteFault → IsSome (W.write_fault out.new) }
 {
     let head = ReplyHead {
-        status: fault.refusal().status(),
+        status: fault.status(),
         content: Content::Json,
     };
     let body = fault_text(fault);
     match write_reply(head, body.len() as u64, body, true, out) {
+        Ok(()) => StreamEnd::Refused(fault),
         Err(_) => StreamEnd::WriteFault,
-        Ok(()) => match fault {
-            StreamFault::BadHead | StreamFault::Encoding => StreamEnd::HeadFault,
-            StreamFault::BodyTooLong | StreamFault::BodyShort => StreamEnd::BodyFault,
-        },
     }
 }
 
@@ -132,24 +117,25 @@ fn end_broken<W: Output>(fault: BodyFault, out: &mut W) -> StreamEnd
     }
 }
 
-// What became of a request whose reply was sent so far.
-fn answered_by(sent: Sent, closes: bool) -> Answered
+// Whether the stream goes on after a request whose reply was sent so far.
+fn answered_by(sent: Result<(), BodyStop>, closes: bool) -> Result<(), StreamEnd>
     ensures { result ≡ answered_so sent closes }
 {
     match sent {
-        Sent::Whole => {
+        Ok(()) => {
             if closes {
-                Answered::Closed
+                Err(StreamEnd::Closed)
             } else {
-                Answered::Open
+                Ok(())
             }
         }
-        Sent::WriteFault => Answered::Ended(StreamEnd::WriteFault),
-        Sent::StoreFault => Answered::Ended(StreamEnd::StoreFault),
+        Err(BodyStop::Writer) => Err(StreamEnd::WriteFault),
+        Err(BodyStop::Store) => Err(StreamEnd::StoreFault),
     }
 }
 
-// Serves the request whose head begins the bytes held, and whose body has so many bytes.
+// Serves the request whose head begins the bytes held, and whose body has so many bytes. It ends
+// the stream, or the stream goes on.
 fn serve_request<H: Handler, I: Incoming<W>, W: Output>(
     alloc: Global,
     handler: &mut H,
@@ -158,7 +144,7 @@ fn serve_request<H: Handler, I: Incoming<W>, W: Output>(
     input: &mut I,
     turns_left: &mut u64,
     out: &mut W,
-) -> Answered
+) -> Result<(), StreamEnd>
     requires { HeadStands head.now content_length }
     ensures becomes { H.becomes handler.old handler.new }
     ensures stepped { Leads H.is_good H.stands handler.old handler.new
@@ -186,8 +172,8 @@ fn serve_request<H: Handler, I: Incoming<W>, W: Output>(
             let closes = head.closes();
             answered_by(send(handler, reply, closes, out), closes)
         }
-        Asked::NoMemory => Answered::Ended(StreamEnd::Memory),
-        Asked::Broken(fault) => Answered::Ended(end_broken(fault, out)),
+        Asked::NoMemory => Err(StreamEnd::Memory),
+        Asked::Broken(fault) => Err(end_broken(fault, out)),
     }
 }
 
@@ -201,14 +187,13 @@ fn end_of(stop: Stop) -> StreamEnd
     }
 }
 
-// How many replies were written, with the refusal that ends the stream.
-fn with_refusal(answered: u64, end: StreamEnd) -> u64
+// How many replies were written, with the one that ends the stream.
+fn with_last(answered: u64, end: StreamEnd) -> u64
     ensures { result ≡ count_with end answered }
 {
     match end {
-        StreamEnd::HeadFault | StreamEnd::BodyFault => answered.saturating_add(1),
+        StreamEnd::Closed | StreamEnd::Refused(_) => answered.saturating_add(1),
         StreamEnd::Clean
-        | StreamEnd::Closed
         | StreamEnd::ReadFault
         | StreamEnd::WriteFault
         | StreamEnd::StoreFault
@@ -256,32 +241,26 @@ fn serve_held<H: Handler, I: Incoming<W>, W: Output>(
             },
             HeadRead::Faulty(fault) => {
                 let end = refuse(fault, output);
-                let answered = with_refusal(answered, end);
+                let answered = with_last(answered, end);
                 return Served { answered, end };
             }
             HeadRead::Stopped(stop) => {
                 let end = end_of(stop);
                 return Served { answered, end };
             }
-            HeadRead::Head { spans, body } => {
+            HeadRead::Head(FoundHead { spans, body }) => {
                 let head = Head {
                     bytes: held,
                     fields: &fields,
                     spans,
                 };
                 match serve_request(alloc, handler, &head, body, input, &mut turns_left, output) {
-                    Answered::Open => {
+                    Ok(()) => {
                         answered = answered.saturating_add(1);
                         drop_front(held, spans.len + body);
                     }
-                    Answered::Closed => {
-                        return Served {
-                            answered: answered.saturating_add(1),
-                            end: StreamEnd::Closed,
-                        };
-                    }
-                    Answered::Ended(end) => {
-                        let answered = with_refusal(answered, end);
+                    Err(end) => {
+                        let answered = with_last(answered, end);
                         return Served { answered, end };
                     }
                 }

@@ -7,11 +7,7 @@ pub use Rattle.pid_file.specs.Words
 pub use Rattle.pid_file.specs.Trees
 pub use Rattle.pid_file.specs.LineKinds
 pub use Rattle.pid_file.specs.Sending
-pub use Rattle.pid_file.specs.InputCalls
-pub use Rattle.pid_file.specs.ReadingLaws
 pub mod Doubles
-pub use Rattle.pid_file.specs.Wrapping
 pub mod Moments
-pub mod MomentLaws
 pub mod Reads
-pub mod ReadLaws
+pub mod Steps

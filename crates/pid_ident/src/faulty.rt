@@ -19,7 +19,7 @@ ghost use Rattle.std.specs.Prelude.{
 ghost use Rattle.std.specs.Prelude.{None, Some, Err, IfOk, IfErr, IfSome, MatchResult, is_err};
 ghost use Rattle.std.specs.Io.KnownBytes.{ReadConsumes, WriteAppends};
 ghost use Rattle.pid_ident.specs.Doubles.{ReadsAsMade, WritesAsMade, made, one_less};
-ghost use Rattle.pid_file.specs.InputCalls.{HasReadOn, HasNoMore};
+ghost use Rattle.pid_file.specs.Steps.InputCalls.{HasReadOn, HasNoMore};
 
 use pid_file::{Input, Output, ReadFault, WriteFault};
 use std::alloc::Global;
@@ -74,7 +74,12 @@ impl<'a> FaultyInput<'a> {
 
 impl Input for FaultyInput<'_> {
     ghost use Rattle.std.proofs.Common.{refl, ◌∙◌};
-    ghost use Rattle.pid_file.specs.ReadingLaws.{no_reads, more_reads, no_more_stays, no_more_then};
+    ghost use Rattle.pid_file.specs.Steps.ReadingLaws.{
+      no_reads,
+      more_reads,
+      no_more_stays,
+      no_more_then,
+    };
 
     ghost to_come = { λ i. Some i.rest.now };
 

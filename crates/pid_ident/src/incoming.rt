@@ -14,7 +14,7 @@ ghost use Rattle.std.specs.Prelude.{
   MatchResult,
 };
 ghost use Rattle.std.specs.Io.KnownBytes.{ReadConsumes};
-ghost use Rattle.pid_ident.specs.Moments.{IsNoted};
+ghost use Rattle.pid_ident.specs.Steps.Moments.{IsNoted};
 
 use pid_file::{Input, Output, ReadFault};
 

@@ -1,5 +1,5 @@
 -- An entry more in a journal.
-use Rattle.std.proofs.Common.{◌≡◌, ℕ, Bool, true, false, cond, List, [], ◌∷◌, ◌++◌, map, Option, Some, None, refl, sym, ap, subst, ◌∙◌, append_assoc}
+use Rattle.std.proofs.Common.{◌≡◌, inl, inr, ℕ, Bool, true, false, cond, List, [], ◌∷◌, ◌++◌, map, Option, Some, None, refl, sym, ap, subst, ◌∙◌, append_assoc}
 use Rattle.std.specs.Prelude.{IfSome, is_some, ◌||◌}
 use Rattle.pid_file.proofs.Cuts.{ended_more, map_append, open_more}
 use Rattle.pid_file.specs.Lines.{drop_cr}
@@ -11,6 +11,7 @@ use Rattle.pid_script.specs.ScriptLines.{ask_of, is_idle_line}
 use Rattle.pid_journal.specs.declared.counts.Counts.{Counts}
 use Rattle.pid_journal.specs.Comments.{counts_held, counts_said}
 use Rattle.pid_journal.specs.Journals.{AreTrue, IsEntry, JournalLeads, after_line, noted_after}
+use Rattle.pid_journal.specs.Steps.Ways.{EntryLeads}
 use Rattle.pid_journal.proofs.Reading.{idle_says_none, said_is_idle}
 
 pub after_both : (h : History) (xs ys : List Asked) → after_all h (xs ++ ys) ≡ after_all (after_all h xs) ys
@@ -39,7 +40,7 @@ after_first h x xs = after_both h (command_of (ask_of x)) (commands_of_lines xs)
 
 pub true_both : (xs ys : List (List ℕ)) (h : History) (noted : Bool) → AreTrue h noted xs → ((m : Bool) → AreTrue (history_after h xs) m ys) → AreTrue h noted (xs ++ ys)
 true_both [] ys h noted t u = u noted
-true_both (x ∷ xs) ys h noted t u = (t.0, true_both xs ys (after_line h x) (noted_after noted x) t.1 (λ m. subst (λ (g : History). AreTrue g m ys) (after_first h x xs) (u m)))
+true_both (x ∷ xs) ys h noted t u = (t.0, t.1, true_both xs ys (after_line h x) (noted_after noted x) t.2 (λ m. subst (λ (g : History). AreTrue g m ys) (after_first h x xs) (u m)))
 
 if_said : (o : Option Counts) (k : Counts) → o ≡ Some k → IfSome o (λ x. x ≡ k)
 if_said o k is = subst (λ (x : Option Counts). IfSome x (λ y. y ≡ k)) (sym is) refl
@@ -57,15 +58,22 @@ entry_true h noted text c is =
     let idle : is_idle_line is.comment ≡ true = said_is_idle is.comment (counts_held h) is.says in
     let g : History = after_line h is.comment in
     subst (λ (ls : List (List ℕ)). AreTrue h noted ls) (sym is.lines) (
-      record { counts = if_said (counts_said is.comment) (counts_held h) is.says; below = λ off. absurd (let no : ⊥ = cc in no) },
+      if_said (counts_said is.comment) (counts_held h) is.says,
+      (λ off. absurd (let no : ⊥ = cc in no)),
       (
-        record {
-          counts = if_none (counts_said is.line) (counts_held g) (λ x says. not_idle is.line c is.asks (said_is_idle is.line x says));
-          below = λ off. λ i. cond (idle i) (is_some (is.says i) || noted) false;
-        },
+        if_none (counts_said is.line) (counts_held g) (λ x says. not_idle is.line c is.asks (said_is_idle is.line x says)),
+        (λ off. λ i. cond (idle i) (is_some (is.says i) || noted) false),
         tt,
       ),
     )
+
+pub on_true : (h next : History) (noted : Bool) (text : List ℕ) → EntryLeads text h next → AreTrue h noted (whole_lines text)
+on_true h next noted text (inl (c, is, ends)) = entry_true h noted text c is
+on_true h next noted text (inr (none, same)) = subst (λ (l : List ℕ). AreTrue h noted (whole_lines l)) (sym none) tt
+
+pub on_leads : (h next : History) (text : List ℕ) → EntryLeads text h next → after_all h (commands_of_lines (whole_lines text)) ≡ next
+on_leads h next text (inl (c, is, ends)) = ap (after_all h) (entry_asks text (counts_held h) c is) ∙ sym ends
+on_leads h next text (inr (none, same)) = ap (λ (l : List ℕ). after_all h (commands_of_lines (whole_lines l))) none ∙ sym same
 
 -- a journal with an entry more leads on to the history after its command
 pub appended : (start h : History) (text entry : List ℕ) (c : Asked) → JournalLeads start text h → IsEntry entry (counts_held h) c → JournalLeads start (text ++ entry) (after h c)
@@ -80,4 +88,33 @@ appended start h text entry c before is = record {
       ∙ after_both start (commands_of_lines (whole_lines text)) (commands_of_lines (whole_lines entry))
       ∙ ap (λ (g : History). after_all g (commands_of_lines (whole_lines entry))) before.leads
       ∙ ap (after_all h) (entry_asks entry (counts_held h) c is);
+}
+
+-- A MARK
+
+pub empty_says_none : counts_said [] ≡ None
+unfolding counts_said
+empty_says_none = refl
+
+-- an empty line is true anywhere
+empty_true : (h : History) (noted : Bool) → AreTrue h noted ([] ∷ [])
+empty_true h noted = (
+  if_none (counts_said []) (counts_held h) (λ x says. let no : None ≡ Some x = sym empty_says_none ∙ says in absurd (let never : ⊥ = cc in never)),
+  (λ off. absurd (let no : ⊥ = cc in no)),
+  tt,
+)
+
+-- a journal with a mark more leads to the same history
+pub marked : (start h : History) (text : List ℕ) → JournalLeads start text h → JournalLeads start (text ++ 10 ∷ []) h
+marked start h text before = record {
+  whole = open_more text (10 ∷ []) ∙ ap (λ (o : List ℕ). open_part (o ++ 10 ∷ [])) before.whole;
+  told =
+      subst (λ (ls : List (List ℕ)). AreTrue start false ls) (sym (whole_both text (10 ∷ []) before.whole))
+      (true_both (whole_lines text) ([] ∷ []) start false before.told (λ m. empty_true (history_after start (whole_lines text)) m));
+  leads =
+      ap (history_after start) (whole_both text (10 ∷ []) before.whole)
+      ∙ ap (after_all start) (commands_both (whole_lines text) ([] ∷ []))
+      ∙ after_both start (commands_of_lines (whole_lines text)) (commands_of_lines ([] ∷ []))
+      ∙ ap (λ (g : History). after_all g (commands_of_lines ([] ∷ []))) before.leads
+      ∙ ap (λ (cs : List Asked). after_all h (cs ++ [])) (idle_says_none [] refl);
 }

@@ -9,3 +9,8 @@ pub mod Places
 pub mod LinesObeyed
 pub mod Resuming
 pub mod Imported
+pub mod InTurn
+pub mod Unread
+pub mod Marks
+pub mod Sessions
+pub mod Answered

@@ -1,5 +1,5 @@
 -- A command whose entry was written: what its end leaves.
-use Rattle.std.proofs.Common.{◌≡◌, ◌⊎◌, inl, inr, ℕ, true, false, List, [], ◌++◌, length, Option, Some, None, Result, Ok, Err, refl, sym, ap, subst, ◌∙◌, append_assoc, append-nil}
+use Rattle.std.proofs.Common.{◌≡◌, ◌⊎◌, inl, inr, ℕ, true, false, List, [], ◌∷◌, ◌++◌, length, Option, Some, None, Result, Ok, Err, refl, sym, ap, subst, ◌∙◌, append_assoc, append-nil}
 use Rattle.std.specs.Prelude.{IfSome, IsErrAnd}
 use Rattle.pid_moderation.specs.declared.command.Reply.{Reply}
 use Rattle.pid_moderation.specs.declared.refusal.Refusal.{Refusal}
@@ -15,8 +15,8 @@ use Rattle.pid_journal.specs.Comments.{counts_held}
 use Rattle.pid_journal.specs.Doubts.{IsInDoubt}
 use Rattle.pid_journal.specs.Journals.{IsEntry, JournalLeads}
 use Rattle.pid_journal.specs.Pairs.{PairFailsBetween, PairShows, pair_showing, pair_showing_from}
-use Rattle.pid_journal.specs.Steps.Parts.{IsCutBack}
-use Rattle.pid_journal.proofs.Appending.{appended}
+use Rattle.pid_journal.specs.Steps.Parts.{IsCutBack, MayBeMarked}
+use Rattle.pid_journal.proofs.Appending.{appended, marked}
 
 -- a part of an entry after the text of a journal
 in_doubt : (start h : History) (text entry part gone : List ℕ) (c : Asked) → JournalLeads start text h → IsEntry entry (counts_held h) c → entry ≡ part ++ gone → IsInDoubt start (text ++ part) h (after h c)
@@ -24,11 +24,9 @@ in_doubt start h text entry part gone c leads is parts = record {
   before = text;
   part = part;
   gone = gone;
-  command = c;
   parts = refl;
   leads = leads;
-  entry = subst (λ (l : List ℕ). IsEntry l (counts_held h) c) parts is;
-  ends = refl;
+  entry = inl (c, subst (λ (l : List ℕ). IsEntry l (counts_held h) c) parts is, refl);
 }
 
 -- a judgement is no fault
@@ -76,12 +74,16 @@ module _ {R J : Type 0} (registry : Ghosts R) (file : files.Ghosts J) where
         })
       ]
 
-  -- the command was judged
-  pub judged : (start h : History) (new : Journaled R J) (text entry : List ℕ) (c : Asked) → JournalLeads start text h → IsEntry entry (counts_held h) c → registry.showing.shows new.registry (after h c)
-      → file.safe new.journal ≡ Some (text ++ entry) → new.failed ≡ false
+  -- the command was judged, and maybe its entry is marked
+  pub judged : (start h : History) (new : Journaled R J) (text entry : List ℕ) (c : Asked) (mid : Option (List ℕ)) → JournalLeads start text h → IsEntry entry (counts_held h) c → registry.showing.shows new.registry (after h c)
+      → mid ≡ Some (text ++ entry) → MayBeMarked mid (file.safe new.journal) → new.failed ≡ false
       → PairShows registry file start new (after h c)
-  judged start h new text entry c leads is shown safe settled =
-      record { shown = shown; settled = settled; text = text ++ entry; safe = safe; leads = appended start h text entry c leads is }
+  judged start h new text entry c mid leads is shown safe marks settled =
+      let longer = appended start h text entry c leads is in
+      elim (marks (text ++ entry) safe) [
+        | inl same ↦ record { shown = shown; settled = settled; text = text ++ entry; safe = same; leads = longer }
+        | inr more ↦ record { shown = shown; settled = settled; text = (text ++ entry) ++ 10 ∷ []; safe = more; leads = marked start (after h c) (text ++ entry) longer }
+      ]
 
   -- the registry has failed at the command
   pub fallen : (start h : History) (new : Journaled R J) (text entry : List ℕ) (c : Asked) → JournalLeads start text h → IsEntry entry (counts_held h) c → registry.showing.fails_between new.registry h (after h c)
@@ -90,6 +92,22 @@ module _ {R J : Type 0} (registry : Ghosts R) (file : files.Ghosts J) where
   unfolding in_doubt
   fallen start h new text entry c leads is fails safe =
       record { text = text ++ entry; safe = safe; doubt = in_doubt start h text entry entry [] c leads is (sym (append-nil entry)); fails = inr (refl, fails) }
+
+  -- the registry has failed at a command that changes nothing, and has no entry
+  pub fallen_unnoted : (start h next : History) (new : Journaled R J) (text : List ℕ) → JournalLeads start text h → next ≡ h → registry.showing.fails_between new.registry h next → file.safe new.journal ≡ Some text
+      → PairFailsBetween registry file start new h next
+  fallen_unnoted start h next new text leads same fails safe =
+      record { text = text; safe = safe; doubt = record { before = text; part = []; gone = []; parts = sym (append-nil text); leads = leads; entry = inr (refl, same) }; fails = inr (refl, fails) }
+
+  -- a command that changes nothing was obeyed without an entry
+  pub unnoted : (start h : History) (p : Journaled R J) (r : R) (result : Result Reply Refusal) (c : Asked) → PairShows registry file start p h → after h c ≡ h → CommandLeaves registry.showing result r h c
+      → CommandLeaves (pair_showing_from registry file start) result (record p { registry = r }) h c
+  unnoted start h p r result c shows same (inl told) =
+      inl (told.0, record { shown = told.1; settled = shows.settled; text = shows.text; safe = shows.safe; leads = subst (λ (g : History). JournalLeads start shows.text g) (sym same) shows.leads })
+  unnoted start h p r result c shows same (inr (fault, inl shown)) =
+      inr (fault, inl (record { shown = shown; settled = shows.settled; text = shows.text; safe = shows.safe; leads = shows.leads }))
+  unnoted start h p r result c shows same (inr (fault, inr fails)) =
+      inr (fault, inr (fallen_unnoted start h (after h c) (record p { registry = r }) shows.text shows.leads same fails shows.safe))
 
   -- a command leaves the same wherever the journal begins
   pub anywhere : (start h : History) (new : Journaled R J) (result : Result Reply Refusal) (c : Asked) → CommandLeaves (pair_showing_from registry file start) result new h c → CommandLeaves (pair_showing registry file) result new h c

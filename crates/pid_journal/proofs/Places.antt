@@ -18,7 +18,8 @@ use Rattle.pid_script.specs.ScriptLines.{Ask, AsksNothing, AsksCommand, AsksExpo
 use Rattle.pid_journal.specs.declared.counts.Counts.{Counts}
 use Rattle.pid_journal.specs.declared.placing.Place.{Place}
 use Rattle.pid_journal.specs.Comments.{counts_held, counts_said}
-use Rattle.pid_journal.specs.Journals.{AreTrue, IsOnWay, after_line, noted_after}
+use Rattle.pid_journal.specs.Journals.{AreTrue, after_line, noted_after}
+use Rattle.pid_journal.specs.Steps.Ways.{IsOnWay}
 use Rattle.pid_journal.specs.Steps.Places.{IsEndOf, IsPlaced}
 use Rattle.pid_journal.proofs.Appending.{after_first}
 use Rattle.pid_journal.proofs.Reading.{idle_says_none, said_is_idle}
@@ -41,7 +42,7 @@ first_same : (h : History) (c : Asked) (cs : List Asked) → (after h c ≡ h) �
 first_same h c cs (inl same) rest is = ap (λ (g : History). after_all g cs) same ∙ rest (ap (λ (g : History). revision_of (after_all g cs)) (sym same) ∙ is)
 first_same h c cs (inr rose) rest is = absurd (too_far (revision_of h) (revision_of (after h c)) (revision_of (after_all (after h c) cs)) rose (grows (after h c) cs) is)
 
-same_by_revision : (h : History) (cs : List Asked) → IsMarked h → revision_of (after_all h cs) ≡ revision_of h → after_all h cs ≡ h
+pub same_by_revision : (h : History) (cs : List Asked) → IsMarked h → revision_of (after_all h cs) ≡ revision_of h → after_all h cs ≡ h
 same_by_revision h [] marked is = refl
 same_by_revision h (c ∷ cs) marked is = first_same h c cs (rises h c marked) (same_by_revision h cs marked) is
 
@@ -114,7 +115,7 @@ advanced h g m line lines (b ∷ bs) later told stays parts so_far =
 
 advance : (h g : History) (noted m : Bool) (line : List ℕ) (lines : List (List ℕ)) → IsOnWay h noted (line ∷ lines) g → noted_after noted line ≡ m → (h ≡ g → after_line h line ≡ g) → IsOnWay (after_line h line) m lines g
 advance h g noted m line lines way is stays =
-    advanced h g m line lines way.before way.later (subst (λ (x : Bool). AreTrue (after_line h line) x lines) is way.told.1) stays way.parts way.so_far
+    advanced h g m line lines way.before way.later (subst (λ (x : Bool). AreTrue (after_line h line) x lines) is way.told.2) stays way.parts way.so_far
 
 if_said : (o : Option Counts) (k l : Counts) → o ≡ Some k → IfSome o (λ x. x ≡ l) → l ≡ k
 if_said None k l is says = absurd (let no : ⊥ = cc in no)
@@ -122,7 +123,7 @@ if_said (Some x) k l is says = let same : x ≡ k = cc in sym says ∙ same
 
 -- a comment on the way says what the history so far holds
 pub says_held : (h g : History) (noted : Bool) (line : List ℕ) (lines : List (List ℕ)) (k : Counts) → IsOnWay h noted (line ∷ lines) g → counts_said line ≡ Some k → counts_held h ≡ k
-says_held h g noted line lines k way says = if_said (counts_said line) k (counts_held h) says way.told.0.counts
+says_held h g noted line lines k way says = if_said (counts_said line) k (counts_held h) says way.told.0
 
 same_most : (a b d : ℕ) → a ≡ b → b ≡ d → a ≤ d
 same_most a b d p q = omega arith
@@ -176,11 +177,11 @@ nothing_said g h place line lines none idle placed =
 
 -- a command has a comment above it
 pub unnoted : (g h : History) (place : Place) (line : List ℕ) (lines : List (List ℕ)) → is_idle_line line ≡ false → place.noted ≡ false → IsPlaced g h place (line ∷ lines) → ⊥
-unnoted g h place line lines off not placed = let on : place.noted ≡ true = placed.way.told.0.below off in cc
+unnoted g h place line lines off not placed = let on : place.noted ≡ true = placed.way.told.1 off in cc
 
 -- and the registry is newer than that
 pub not_older : (g h : History) (place : Place) (line : List ℕ) (lines : List (List ℕ)) (now : Counts) → counts_held g ≡ now → is_idle_line line ≡ false → now.revision ≤ place.most → IsPlaced g h place (line ∷ lines) → ⊥
-not_older g h place line lines now is off late placed = later (revision_of g) now.revision place.most (revision_counted g now is) late (placed.older (placed.way.told.0.below off))
+not_older g h place line lines now is off late placed = later (revision_of g) now.revision place.most (revision_counted g now is) late (placed.older (placed.way.told.1 off))
   where
     later : (a b d : ℕ) → a ≡ b → b ≤ d → d < a → ⊥
     later a b d p q lt = omega arith
@@ -193,7 +194,7 @@ apart a b d p q lt = omega arith
 
 pub command_passed : (g h : History) (place : Place) (line : List ℕ) (lines : List (List ℕ)) → is_idle_line line ≡ false → IsPlaced g h place (line ∷ lines) → IsPlaced g (after_line h line) (record { noted = false; most = place.most + 1 }) lines
 command_passed g h place line lines off placed =
-    let older : place.most < revision_of g = placed.older (placed.way.told.0.below off) in
+    let older : place.most < revision_of g = placed.older (placed.way.told.1 off) in
     record {
       marked = line_marked h line placed.marked;
       way = advance h g place.noted false line lines placed.way (λ i. cond (off i) (is_some (counts_said line) || place.noted) false) (λ e. absurd (apart (revision_of h) (revision_of g) place.most (ap revision_of e) placed.most older));
@@ -202,7 +203,7 @@ command_passed g h place line lines off placed =
     }
 
 -- behind all lines
-no_lines_left : (h g : History) (before later : List (List ℕ)) → [] ≡ before ++ later → history_after h before ≡ g → h ≡ g
+pub no_lines_left : (h g : History) (before later : List (List ℕ)) → [] ≡ before ++ later → history_after h before ≡ g → h ≡ g
 no_lines_left h g [] later parts so_far = so_far
 no_lines_left h g (b ∷ bs) later parts so_far = absurd (let no : ⊥ = cc in no)
 
@@ -217,27 +218,27 @@ pub record IsReached (start shown : History) (text rest : List ℕ) (place : Pla
   pub placed : IsPlaced shown here place (whole_lines rest)
   pub same : history_after here (whole_lines rest) ≡ history_after start (whole_lines text)
 
-pub record IsFinding (text rest : List ℕ) (now : Counts) (place : Place) : Type 0 where
+pub record IsFinding (text rest : List ℕ) (now : Counts) (begin : ℕ) (place : Place) : Type 0 where
   pub end : IsEndOf text rest
-  pub reached : (start shown : History) → IsMarked start → counts_held shown ≡ now → IsOnWay start false (whole_lines text) shown → IsReached start shown text rest place
+  pub reached : (start shown : History) → IsMarked start → revision_of start ≡ begin → counts_held shown ≡ now → IsOnWay start false (whole_lines text) shown → IsReached start shown text rest place
 
-pub found_first : (text : List ℕ) (now : Counts) → IsFinding text text now (record { noted = false; most = now.revision })
-found_first text now = record {
+pub found_first : (text : List ℕ) (now : Counts) (begin : ℕ) → IsFinding text text now begin (record { noted = false; most = begin })
+found_first text now begin = record {
   end = record { front = []; parts = refl; whole = refl };
-  reached = λ start shown marked is way. record {
+  reached = λ start shown marked begins is way. record {
     here = start;
     placed = record {
       marked = marked;
       way = way;
-      most = within (revision_of start) (revision_of shown) now.revision (way_grows start shown false (whole_lines text) way) (revision_counted shown now is);
+      most = no_later (revision_of start) begin begins;
       older = λ noted. absurd (let no : ⊥ = cc in no);
     };
     same = refl;
   };
 }
   where
-    within : (a b d : ℕ) → a ≤ b → b ≡ d → a ≤ d
-    within a b d p q = omega arith
+    no_later : (a b : ℕ) → a ≡ b → a ≤ b
+    no_later a b is = omega arith
 
 -- a line more
 pub line_first : (rest line behind : List ℕ) → rest ≡ line ++ 10 ∷ behind → ended_pieces line ≡ [] → whole_lines rest ≡ drop_cr line ∷ whole_lines behind
@@ -253,12 +254,12 @@ end_more text rest line behind end parts one = record {
 pub placed_at : (shown h : History) (place : Place) (rest line behind : List ℕ) → rest ≡ line ++ 10 ∷ behind → ended_pieces line ≡ [] → IsPlaced shown h place (whole_lines rest) → IsPlaced shown h place (drop_cr line ∷ whole_lines behind)
 placed_at shown h place rest line behind parts one placed = subst (λ (ls : List (List ℕ)). IsPlaced shown h place ls) (line_first rest line behind parts one) placed
 
-pub found_on : (text rest line behind : List ℕ) (now : Counts) (place next : Place) → IsFinding text rest now place → rest ≡ line ++ 10 ∷ behind → ended_pieces line ≡ []
+pub found_on : (text rest line behind : List ℕ) (now : Counts) (begin : ℕ) (place next : Place) → IsFinding text rest now begin place → rest ≡ line ++ 10 ∷ behind → ended_pieces line ≡ []
     → ((shown h : History) → counts_held shown ≡ now → IsPlaced shown h place (drop_cr line ∷ whole_lines behind) → IsPlaced shown (after_line h (drop_cr line)) next (whole_lines behind))
-    → IsFinding text behind now next
-found_on text rest line behind now place next finding parts one steps = record {
+    → IsFinding text behind now begin next
+found_on text rest line behind now begin place next finding parts one steps = record {
   end = end_more text rest line behind finding.end parts one;
-  reached = λ start shown marked is way. let r = finding.reached start shown marked is way in
+  reached = λ start shown marked begins is way. let r = finding.reached start shown marked begins is way in
       record {
         here = after_line r.here (drop_cr line);
         placed = steps shown r.here is (placed_at shown r.here place rest line behind parts one r.placed);

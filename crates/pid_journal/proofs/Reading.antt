@@ -1,9 +1,10 @@
 -- A comment and a line are the entry of the command that the line says.
-use Rattle.std.proofs.Common.{◌≡◌, ℕ, Bool, true, false, cond, List, [], ◌∷◌, ◌++◌, length, map, Option, Some, None, Result, Ok, Err, refl, sym, ap, subst, ◌∙◌}
+use Rattle.std.proofs.Common.{◌≡◌, ◌≤◌, arith, ℕ, Bool, true, false, cond, List, [], ◌∷◌, ◌++◌, length, map, Option, Some, None, Result, Ok, Err, refl, sym, ap, subst, ◌∙◌}
 use Rattle.std.specs.Prelude.{nat_lt, not, slice_index, MatchOption, MatchResult, IsUtf8, ◌&&◌, ◌||◌, ◌==◌}
 use Rattle.std.specs.Borrow.{Bor}
 use Rattle.std.specs.Result.{result_ok}
 use Rattle.std.specs.Str.{is_utf8}
+use Rattle.std.proofs.lemmas.Bool.Decides.{nat_tests}
 use Rattle.std.proofs.lemmas.Str.{is_utf8-from_IsUtf8}
 use Rattle.pid_file.proofs.LineLemmas.{not_utf8}
 use Rattle.pid_file.specs.Bytes.{is_empty}
@@ -65,22 +66,46 @@ pub text_found : {E : Type 0} (More : E → Type 0) (bytes : List ℕ) (read : R
 text_found More bytes (Ok text) h = (h.0, is_utf8-from_IsUtf8 bytes h.1)
 text_found More bytes (Err e) h = not_utf8 bytes h.0
 
+by_text_too : (t u : Bool) (said : Option Counts) (k : Counts) → cond (t && u) said None ≡ Some k → u ≡ true
+by_text_too true true said k h = refl
+by_text_too true false said k h = cc
+by_text_too false u said k h = cc
+
+said_is_text : (line : List ℕ) (k : Counts) → counts_said line ≡ Some k → is_utf8 line ≡ true
+unfolding counts_said
+said_is_text line k h = by_text_too (slice_index line 0 == 35) (is_utf8 line) (counts_in_fields (fields_in line)) k h
+
+asks_none : (long fits idle : Bool) (other : Ask) → long ≡ false → fits ≡ true → idle ≡ true → cond long TooLong (cond (not fits) Unclear (cond idle AsksNothing other)) ≡ AsksNothing
+asks_none long fits idle other short text on = λ i. cond (short i) TooLong (cond (not (text i)) Unclear (cond (on i) AsksNothing other))
+
+not_long : (n : ℕ) → n ≤ 1000 → nat_lt LONGEST n ≡ false
+not_long n short = grind (arith, nat_tests)
+
+pub short_idle : (line : List ℕ) → is_utf8 line ≡ true → is_idle_line line ≡ true → length line ≤ 1000 → ask_of line ≡ AsksNothing
+unfolding ask_of
+short_idle line text idle short = asks_none (nat_lt LONGEST (length line)) (is_utf8 line) (is_idle_line line) _ (not_long (length line) short) text idle
+
+-- a comment that says counts and is short asks nothing
+comment_asks : (line : List ℕ) (k : Counts) → counts_said line ≡ Some k → length line ≤ 1000 → ask_of line ≡ AsksNothing
+comment_asks line k says short = short_idle line (said_is_text line k says) (said_is_idle line k says) short
+
 -- AN ENTRY
 
-joined : (comment line : List ℕ) (k : Counts) (c : Asked) → ended_pieces comment ≡ [] → ended_pieces line ≡ [] → counts_said (drop_cr comment) ≡ Some k → command_of (ask_of (drop_cr line)) ≡ c ∷ []
+joined : (comment line : List ℕ) (k : Counts) (c : Asked) → ended_pieces comment ≡ [] → ended_pieces line ≡ [] → counts_said (drop_cr comment) ≡ Some k → length (drop_cr comment) ≤ 1000 → command_of (ask_of (drop_cr line)) ≡ c ∷ []
     → IsEntry (comment ++ 10 ∷ (line ++ 10 ∷ [])) k c
-joined comment line k c one two says asks = record {
+joined comment line k c one two says short asks = record {
   whole = open_line comment (line ++ 10 ∷ []) one ∙ open_line line [] two;
   comment = drop_cr comment;
   line = drop_cr line;
   lines = ap (map drop_cr) (ended_line comment (line ++ 10 ∷ []) one ∙ ap (λ (pieces : List (List ℕ)). comment ∷ pieces) (ended_line line [] two));
   says = says;
+  idle = comment_asks (drop_cr comment) k says short;
   asks = asks;
 }
 
 pub reads : (entry comment rest line behind : List ℕ) (k : Counts) (c : Asked) → entry ≡ comment ++ 10 ∷ rest → ended_pieces comment ≡ [] → rest ≡ line ++ 10 ∷ behind → ended_pieces line ≡ []
-    → behind ≡ [] → counts_said (drop_cr comment) ≡ Some k → command_of (ask_of (drop_cr line)) ≡ c ∷ []
+    → behind ≡ [] → counts_said (drop_cr comment) ≡ Some k → length (drop_cr comment) ≤ 1000 → command_of (ask_of (drop_cr line)) ≡ c ∷ []
     → IsEntry entry k c
-reads entry comment rest line behind k c first one second two none says asks =
+reads entry comment rest line behind k c first one second two none says short asks =
     let is : entry ≡ comment ++ 10 ∷ (line ++ 10 ∷ []) = first ∙ ap (λ (l : List ℕ). comment ++ 10 ∷ l) (second ∙ ap (λ (l : List ℕ). line ++ 10 ∷ l) none) in
-    subst (λ (l : List ℕ). IsEntry l k c) (sym is) (joined comment line k c one two says asks)
+    subst (λ (l : List ℕ). IsEntry l k c) (sym is) (joined comment line k c one two says short asks)

@@ -1,19 +1,27 @@
 -- A registry that has obeyed the lines of its journal.
-use Rattle.std.proofs.Common.{◌≡◌, ℕ, ◌+◌, ◌-◌, ◌≤◌, false, List, [], ◌++◌, length, Option, Some, None, refl, sym, ap, subst, ◌∙◌, arith, append_assoc, append-nil, length-append}
-use Rattle.std.specs.Prelude.{IfSome}
+use Rattle.std.proofs.Common.{◌≡◌, ◌⊎◌, inl, inr, ℕ, ◌+◌, ◌-◌, ◌<◌, ◌≤◌, false, List, [], ◌∷◌, ◌++◌, length, Option, Some, None, Result, Ok, Err, refl, sym, ap, subst, ◌∙◌, arith, append_assoc, append-nil, length-append}
+use Rattle.std.specs.Prelude.{IfErr, IfOk, IfSome, MatchOption, MatchResult}
 use Rattle.std.proofs.lemmas.List.{nil_from_length}
 use Rattle.pid_file.proofs.Cuts.{open_more, whole_same}
 use Rattle.pid_file.specs.WholeLines.{open_part, whole_lines}
 use Rattle.pid_moderation.specs.History.{Asked, History}
+use Rattle.pid_moderation.specs.Views.{revision_of}
 use Rattle.pid_moderation.specs.RegistryStatus.{RegistryStatus, status_of_registry}
 use Rattle.pid_script.specs.Replies.{history_after}
 use Rattle.pid_service_laws.specs.declared.moderated.Moderated.{Ghosts}
 use Rattle.pid_journal.specs.declared.counts.Counts.{Counts}
 use Rattle.pid_journal.specs.declared.file.JournalFile as files
+use Rattle.pid_journal.specs.declared.open_fault.OpenFault.{OpenFault}
+use Rattle.pid_journal.specs.declared.open_fault.OpenFault.TheVariants.{Refused, Another, Newer, Missing}
 use Rattle.pid_journal.specs.Comments.{counts_in, counts_held}
-use Rattle.pid_journal.specs.Journals.{AreTrue, IsEntry, IsOnWay, JournalLeads}
-use Rattle.pid_journal.specs.Steps.Opening.{IsWholeUpTo, ReplaysAll, ShowsAll}
+use Rattle.pid_journal.specs.Journals.{AreTrue, IsEntry, JournalLeads}
+use Rattle.pid_journal.specs.Steps.Ways.{IsOnWay}
+use Rattle.pid_journal.specs.Openings.{IsRefused}
+use Rattle.pid_journal.specs.Steps.Opening.{EndsFile, IsEnded, IsWholeUpTo, ShowsAll}
 use Rattle.pid_journal.specs.Steps.Places.{IsEndOf, IsOpenEnd}
+use Rattle.pid_journal.specs.Steps.Segments.{LinesMayBeObeyed}
+use Rattle.pid_journal.proofs.Appending.{marked, whole_both}
+use Rattle.pid_journal.proofs.Places.{revision_counted, way_grows}
 
 open_joined : (front more : List ℕ) → open_part front ≡ [] → open_part more ≡ [] → open_part (front ++ more) ≡ []
 open_joined front more one two = open_more front more ∙ ap (λ (o : List ℕ). open_part (o ++ more)) one ∙ two
@@ -49,44 +57,92 @@ counted_status s h is = ap counts_in (sym is)
 pub entry_at : (text bytes : List ℕ) (s : RegistryStatus) (h : History) (c : Asked) → bytes ≡ text → s ≡ status_of_registry h → IsEntry text (counts_in s) c → IsEntry bytes (counts_held h) c
 entry_at text bytes s h c same is entry = subst (λ (l : List ℕ). IsEntry l (counts_held h) c) (sym same) (subst (λ (k : Counts). IsEntry text k c) (sym (counted_status s h is)) entry)
 
+-- the whole lines of the text are those of what is left
+lines_kept : (text : List ℕ) (count : ℕ) (up_to : IsWholeUpTo text count) → whole_lines text ≡ whole_lines up_to.front
+lines_kept text count up_to = ap whole_lines up_to.parts ∙ whole_same up_to.front up_to.behind up_to.torn
+
 -- the whole lines of the text are a journal
 pub journal_of : (start h : History) (text : List ℕ) (count : ℕ) (up_to : IsWholeUpTo text count) → IsOnWay start false (whole_lines text) h → JournalLeads start up_to.front (history_after start (whole_lines text))
 journal_of start h text count up_to way =
-    let same : whole_lines text ≡ whole_lines up_to.front = ap whole_lines up_to.parts ∙ whole_same up_to.front up_to.behind up_to.torn in
+    let same = lines_kept text count up_to in
     record {
       whole = up_to.whole;
       told = subst (λ (ls : List (List ℕ)). AreTrue start false ls) same way.told;
       leads = ap (history_after start) (sym same);
     }
 
-all_counted : (a b d e : ℕ) → a ≡ b + d → b ≡ e → a ≡ e → d ≡ 0
-all_counted a b d e p q r = omega arith
-
--- nothing is behind the whole lines
-pub nothing_behind : (text : List ℕ) (count : ℕ) (up_to : IsWholeUpTo text count) → length text ≡ count → up_to.front ≡ text
-nothing_behind text count up_to all =
-    let none : up_to.behind ≡ [] = nil_from_length up_to.behind (all_counted (length text) (length up_to.front) (length up_to.behind) count (ap length up_to.parts ∙ length-append up_to.front up_to.behind) up_to.counted all) in
-    sym (up_to.parts ∙ ap (λ (l : List ℕ). up_to.front ++ l) none ∙ append-nil up_to.front)
-
--- what was read is the text
-pub read_text : (safe : Option (List ℕ)) (text bytes : List ℕ) → safe ≡ Some text → IfSome safe (λ t. bytes ≡ t) → bytes ≡ text
-read_text None text bytes is said = absurd (let no : ⊥ = cc in no)
-read_text (Some t) text bytes is said = let same : t ≡ text = cc in said ∙ same
-
 module _ {R J : Type 0} (registry : Ghosts R) (file : files.Ghosts J) where
-  -- all of the text is whole lines
-  pub uncut_all : (start h : History) (text : List ℕ) (new : R) (k : J) (count : ℕ) → ReplaysAll registry.showing start text new count → IsOnWay start false (whole_lines text) h → length text ≡ count → file.safe k ≡ Some text → ShowsAll registry file start text new k
-  uncut_all start h text new k count all way same safe = record {
-    shown = all.shown;
-    front = all.whole.front;
-    safe = safe ∙ ap (λ (l : List ℕ). Some l) (sym (nothing_behind text count all.whole same));
-    leads = journal_of start h text count all.whole way;
+  -- the whole lines are left, and maybe a mark
+  ended : (start h : History) (text : List ℕ) (new : R) (k : J) (count : ℕ) (up_to : IsWholeUpTo text count) → registry.showing.shows new (history_after start (whole_lines text)) → IsOnWay start false (whole_lines text) h
+      → (file.safe k ≡ Some up_to.front) ⊎ (file.safe k ≡ Some (up_to.front ++ 10 ∷ []))
+      → ShowsAll registry file start text new k
+  ended start h text new k count up_to shown way (inl safe) = record {
+    shown = shown;
+    front = up_to.front;
+    safe = safe;
+    leads = journal_of start h text count up_to way;
+    more = [];
+    kept = sym (lines_kept text count up_to) ∙ sym (append-nil (whole_lines text));
+  }
+  ended start h text new k count up_to shown way (inr safe) = record {
+    shown = shown;
+    front = up_to.front ++ 10 ∷ [];
+    safe = safe;
+    leads = marked start (history_after start (whole_lines text)) up_to.front (journal_of start h text count up_to way);
+    more = [] ∷ [];
+    kept = whole_both up_to.front (10 ∷ []) up_to.whole ∙ ap (λ (ls : List (List ℕ)). ls ++ [] ∷ []) (sym (lines_kept text count up_to));
   }
 
-  -- what came after them was cut off
-  pub cut_all : (start h : History) (text : List ℕ) (new : R) (k : J) (count : ℕ) (all : ReplaysAll registry.showing start text new count) → IsOnWay start false (whole_lines text) h → file.safe k ≡ Some all.whole.front → ShowsAll registry file start text new k
-  cut_all start h text new k count all way safe = record { shown = all.shown; front = all.whole.front; safe = safe; leads = journal_of start h text count all.whole way }
+  -- the bytes that were read are the text of the segment
+  pub segment_ended : (start h : History) (text bytes : List ℕ) (new : R) (old k : J) → bytes ≡ text → file.safe old ≡ Some text → registry.showing.shows new (history_after start (whole_lines bytes)) → IsOnWay start false (whole_lines bytes) h
+      → IsEnded bytes (file.safe old) (file.safe k) → ShowsAll registry file start text new k
+  segment_ended start h text bytes new old k is safe shown way ends =
+      let e = ends (safe ∙ ap (λ (l : List ℕ). Some l) (sym is)) in
+      subst (λ (l : List ℕ). ShowsAll registry file start l new k) is (ended start h bytes new k e.0 e.1 shown way e.2)
 
-  -- the bytes that were read are the text
-  pub at_text : (start : History) (text bytes : List ℕ) (new : R) (k : J) → bytes ≡ text → ShowsAll registry file start bytes new k → ShowsAll registry file start text new k
-  at_text start text bytes new k is all = subst (λ (l : List ℕ). ShowsAll registry file start l new k) is all
+-- how the file of a text ends
+pub ends_text : {J X : Type 0} (file : files.Ghosts J) (result : Result X OpenFault) (old : Option (List ℕ)) (j k : J) (text : List ℕ) (count : ℕ) → IsWholeUpTo text count → file.safe j ≡ old → EndsFile file j k text count result
+    → IfOk result (λ x. IsEnded text old (file.safe k))
+ends_text file (Ok x) old j k text count up_to same says = λ is. (count, up_to, says (same ∙ is) up_to)
+ends_text file (Err fault) old j k text count up_to same says = tt
+
+pub ends_refused : {X : Type 0} (result : Result X OpenFault) (P : X → Type 0) → MatchResult result P IsRefused → IfErr result IsRefused
+ends_refused (Ok x) P says = tt
+ends_refused (Err fault) P says = says
+
+pub if_ok : {X : Type 0} (result : Result X OpenFault) (P : Type 0) → P → IfOk result (λ x. P)
+if_ok (Ok x) P says = says
+if_ok (Err fault) P says = tt
+
+-- what was opened is what was read
+pub opened_text : (o p safe : Option (List ℕ)) (text there here : List ℕ) → p ≡ o → MatchOption p (safe ≡ None) (λ all. safe ≡ Some there) → IfSome o (λ all. text ≡ here) → there ≡ here → IfSome safe (λ bytes. bytes ≡ text)
+opened_text None p safe text there here same opened read is =
+    let none : safe ≡ None = subst (λ (q : Option (List ℕ)). MatchOption q (safe ≡ None) (λ all. safe ≡ Some there)) same opened in
+    subst (λ (s : Option (List ℕ)). IfSome s (λ bytes. bytes ≡ text)) (sym none) tt
+opened_text (Some all) p safe text there here same opened read is =
+    let some : safe ≡ Some there = subst (λ (q : Option (List ℕ)). MatchOption q (safe ≡ None) (λ all. safe ≡ Some there)) same opened in
+    subst (λ (s : Option (List ℕ)). IfSome s (λ bytes. bytes ≡ text)) (sym some) (is ∙ sym read)
+
+pub if_opened : (o : Option (List ℕ)) (names : List ℕ) (P Q : Type 0) → o ≡ Some names → MatchOption o Q (λ all. P) → P
+if_opened None names P Q known said = absurd (let no : ⊥ = cc in no)
+if_opened (Some all) names P Q known said = said
+
+-- a fault that says that nothing was obeyed
+pub untouched : {Q : Type 0} (fault : OpenFault) → LinesMayBeObeyed fault ⊎ Q → (fault ≡ Another) ⊎ (fault ≡ Newer) → Q
+untouched fault (inr quiet) is = quiet
+untouched fault (inl may) (inl is) = absurd (subst LinesMayBeObeyed is may)
+untouched fault (inl may) (inr is) = absurd (subst LinesMayBeObeyed is may)
+
+pub refused_moves : (fault : OpenFault) → IsRefused fault → LinesMayBeObeyed fault
+refused_moves (Refused refusal) is = tt
+refused_moves Another is = absurd is
+refused_moves Newer is = absurd is
+refused_moves Missing is = absurd is
+
+-- the registry is before the beginning of the segment
+pub before_begin : (start shown : History) (now : Counts) (begin : ℕ) (lines : List (List ℕ)) → revision_of start ≡ begin → counts_held shown ≡ now → IsOnWay start false lines shown → now.revision < begin → ⊥
+before_begin start shown now begin lines begins is way early =
+    apart (revision_of start) (revision_of shown) now.revision begin begins (revision_counted shown now is) (way_grows start shown false lines way) early
+  where
+    apart : (a b d e : ℕ) → a ≡ e → b ≡ d → a ≤ b → d < e → ⊥
+    apart a b d e p q le lt = omega arith

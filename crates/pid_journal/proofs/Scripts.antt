@@ -10,8 +10,9 @@ use Rattle.pid_journal.specs.declared.counts.Counts.{Counts}
 use Rattle.pid_journal.specs.Comments.{counts_held}
 use Rattle.pid_journal.specs.Doubts.{IsInDoubt}
 use Rattle.pid_journal.specs.Journals.{AreTrue, IsEntry, JournalLeads, after_line, noted_after}
-use Rattle.pid_journal.specs.Laws.{CopiesAreOnWay, DoubtsAreOnWay, DoubtsLeaveEither, JournalsAreScripts}
-use Rattle.pid_journal.proofs.Appending.{after_both, commands_both, entry_asks, entry_true, true_both, whole_both}
+use Rattle.pid_journal.specs.Steps.Ways.{EntryLeads, IsOnWay}
+use Rattle.pid_journal.specs.Laws.{DoubtsLeaveEither, JournalsAreScripts}
+use Rattle.pid_journal.proofs.Appending.{after_both, commands_both, entry_asks, on_leads, on_true, true_both, whole_both}
 
 pub scripts : JournalsAreScripts
 scripts start h text is =
@@ -42,41 +43,44 @@ joined_history start h text before part parts is =
     ∙ after_both start (commands_of_lines (whole_lines before)) (commands_of_lines (whole_lines part))
     ∙ ap (λ (g : History). after_all g (commands_of_lines (whole_lines part))) is.leads
 
+no_part : (part gone : List ℕ) → part ++ gone ≡ [] → part ≡ []
+no_part [] gone none = refl
+no_part (b ∷ bs) gone none = absurd (let no : ⊥ = cc in no)
+
+-- of an entry, or of none, a part leads nowhere or to the next history
+part_leads : (h next : History) (part gone : List ℕ) → EntryLeads (part ++ gone) h next → (after_all h (commands_of_lines (whole_lines part)) ≡ h) ⊎ (after_all h (commands_of_lines (whole_lines part)) ≡ next)
+part_leads h next part gone (inl (c, is, ends)) =
+    elim (one_part h (commands_of_lines (whole_lines part)) (commands_of_lines (map drop_cr (ended_pieces (open_part part ++ gone)))) c (part_asks part gone (counts_held h) c is)) [
+      | inl same ↦ inl same
+      | inr one ↦ inr (one ∙ sym ends)
+    ]
+part_leads h next part gone (inr (none, same)) = inl (ap (λ (l : List ℕ). after_all h (commands_of_lines (whole_lines l))) (no_part part gone none))
+
 pub either : DoubtsLeaveEither
 either start h next text doubt =
     let joined = joined_history start h text doubt.before doubt.part doubt.parts doubt.leads in
-    let rest = commands_of_lines (map drop_cr (ended_pieces (open_part doubt.part ++ doubt.gone))) in
-    elim (one_part h (commands_of_lines (whole_lines doubt.part)) rest doubt.command (part_asks doubt.part doubt.gone (counts_held h) doubt.command doubt.entry)) [
+    elim (part_leads h next doubt.part doubt.gone doubt.entry) [
       | inl same ↦ inl (joined ∙ same)
-      | inr one ↦ inr (joined ∙ one ∙ sym doubt.ends)
+      | inr one ↦ inr (joined ∙ one)
     ]
 
 -- THE WAY
 
-pub copies : CopiesAreOnWay
-copies start h last text more one two = record {
-  told = two.told;
-  before = whole_lines text;
-  later = whole_lines more;
-  parts = whole_both text more one.whole;
-  so_far = one.leads;
-}
-
 true_front : (xs ys : List (List ℕ)) (h : History) (noted : Bool) → AreTrue h noted (xs ++ ys) → AreTrue h noted xs
 true_front [] ys h noted all = tt
-true_front (x ∷ xs) ys h noted all = (all.0, true_front xs ys (after_line h x) (noted_after noted x) all.1)
+true_front (x ∷ xs) ys h noted all = (all.0, all.1, true_front xs ys (after_line h x) (noted_after noted x) all.2)
 
 -- the comments of a journal and of a part of an entry
 part_true : (start h next : History) (text : List ℕ) (doubt : IsInDoubt start text h next) → AreTrue start false (whole_lines doubt.before ++ whole_lines doubt.part)
 part_true start h next text doubt =
     let rest = map drop_cr (ended_pieces (open_part doubt.part ++ doubt.gone)) in
     true_both (whole_lines doubt.before) (whole_lines doubt.part) start false doubt.leads.told (λ m. subst (λ (g : History). AreTrue g m (whole_lines doubt.part)) (sym doubt.leads.leads)
-    (true_front (whole_lines doubt.part) rest h m (subst (λ (ls : List (List ℕ)). AreTrue h m ls) (sym (part_lines doubt.part doubt.gone)) (entry_true h m (doubt.part ++ doubt.gone) doubt.command doubt.entry))))
+    (true_front (whole_lines doubt.part) rest h m (subst (λ (ls : List (List ℕ)). AreTrue h m ls) (sym (part_lines doubt.part doubt.gone)) (on_true h next m (doubt.part ++ doubt.gone) doubt.entry))))
 
 doubt_lines : (start h next : History) (text : List ℕ) (doubt : IsInDoubt start text h next) → whole_lines text ≡ whole_lines doubt.before ++ whole_lines doubt.part
 doubt_lines start h next text doubt = ap whole_lines doubt.parts ∙ whole_both doubt.before doubt.part doubt.leads.whole
 
-pub doubts : DoubtsAreOnWay
+pub doubts : (start h next : History) (text : List ℕ) (doubt : IsInDoubt start text h next) → IsOnWay start false (whole_lines text) h × (doubt.gone ≡ [] → IsOnWay start false (whole_lines text) next)
 doubts start h next text doubt =
     let lines = doubt_lines start h next text doubt in
     let told = subst (λ (ls : List (List ℕ)). AreTrue start false ls) (sym lines) (part_true start h next text doubt) in (
@@ -88,7 +92,6 @@ doubts start h next text doubt =
         parts = sym (append-nil (whole_lines text));
         so_far =
             joined_history start h text doubt.before doubt.part doubt.parts doubt.leads
-            ∙ ap (after_all h) (entry_asks doubt.part (counts_held h) doubt.command (subst (λ (l : List ℕ). IsEntry l (counts_held h) doubt.command) (ap (λ (l : List ℕ). doubt.part ++ l) none ∙ append-nil doubt.part) doubt.entry))
-            ∙ sym doubt.ends;
+            ∙ on_leads h next doubt.part (subst (λ (l : List ℕ). EntryLeads l h next) (ap (λ (l : List ℕ). doubt.part ++ l) none ∙ append-nil doubt.part) doubt.entry);
       },
     )

@@ -11,12 +11,8 @@ use Rattle.pid_moderation.specs.RegistryStatus.{RegistryStatus, status_of_regist
 use Rattle.pid_journal.specs.declared.counts.Counts.{Counts}
 
 abbrev pub counts_in : RegistryStatus → Counts
-counts_in s = record {
-  revision = s.revision;
-  accounts = s.accounts;
-  items = s.items;
-  submissions = s.submissions;
-}
+counts_in s =
+    record { revision = s.revision; accounts = s.accounts; items = s.items; submissions = s.submissions }
 
 -- the counts of a history
 unfoldable pub counts_held : History → Counts
@@ -32,13 +28,9 @@ count_at name fields = option_and_then count_said (value name fields)
 
 abbrev pub counts_in_fields : Fields → Option Counts
 counts_in_fields fields =
-    option_and_then (λ revision. option_and_then (λ accounts. option_and_then (λ items.
-    option_map (λ submissions. record {
-      revision = revision;
-      accounts = accounts;
-      items = items;
-      submissions = submissions;
-    }) (count_at (codes "submissions") fields)) (count_at (codes "items") fields))
+    option_and_then (λ r. option_and_then (λ a. option_and_then (λ i. option_map (λ s.
+    record { revision = r; accounts = a; items = i; submissions = s })
+    (count_at (codes "submissions") fields)) (count_at (codes "items") fields))
     (count_at (codes "accounts") fields)) (count_at (codes "revision") fields)
 
 -- what a line says, if it is a comment (35 is #), in whose form all four are

@@ -1,12 +1,12 @@
 -- What a journal says: it is a script, in which a comment above each command says what the registry
 -- held before it. Choices of this project.
-use Rattle.std.specs.Prelude.{◌≡◌, ℕ, Bool, false, true, ◌||◌, if◌then◌else◌, List, [], ◌∷◌, ◌++◌}
+use Rattle.std.specs.Prelude.{◌≡◌, ℕ, Bool, false, true, ◌||◌, if◌then◌else◌, List, [], ◌∷◌}
 use Rattle.std.specs.Prelude.{Some, IfSome, is_some}
 use Rattle.pid_file.specs.WholeLines.{whole_lines, open_part}
 use Rattle.pid_moderation.specs.History.{Asked, History}
 use Rattle.pid_moderation.specs.Judgement.{after_all}
 use Rattle.pid_script.specs.Replies.{command_of, history_after}
-use Rattle.pid_script.specs.ScriptLines.{ask_of, is_idle_line}
+use Rattle.pid_script.specs.ScriptLines.{AsksNothing, ask_of, is_idle_line}
 use Rattle.pid_journal.specs.declared.counts.Counts.{Counts}
 use Rattle.pid_journal.specs.Comments.{counts_held, counts_said}
 
@@ -18,16 +18,12 @@ after_line h line = after_all h (command_of (ask_of line))
 abbrev pub noted_after : Bool → List ℕ → Bool
 noted_after noted line = if is_idle_line line then is_some (counts_said line) || noted else false
 
--- A comment that says counts says those of the history so far, and what is no comment comes below
--- one.
-pub record IsTrueLine (h : History) (noted : Bool) (line : List ℕ) : Type 0 where
-  pub counts : IfSome (counts_said line) (λ counts. counts ≡ counts_held h)
-  pub below : is_idle_line line ≡ false → noted ≡ true
-
--- the same of lines in turn
+-- Of lines in turn, each comment that says counts says those of the history so far, and what is no
+-- comment comes below one.
 abbrev pub AreTrue : History → Bool → List (List ℕ) → Type 0
 AreTrue h noted [] = Unit {0}
-AreTrue h noted (line ∷ lines) = IsTrueLine h noted line
+AreTrue h noted (line ∷ lines) = IfSome (counts_said line) (λ counts. counts ≡ counts_held h)
+    × (is_idle_line line ≡ false → noted ≡ true)
     × AreTrue (after_line h line) (noted_after noted line) lines
 
 -- The text is whole lines, their comments are true, and as a script they lead from the one history
@@ -44,12 +40,5 @@ pub record IsEntry (text : List ℕ) (counts : Counts) (c : Asked) : Type 0 wher
   pub line : List ℕ
   pub lines : whole_lines text ≡ comment ∷ line ∷ []
   pub says : counts_said comment ≡ Some counts
+  pub idle : ask_of comment ≡ AsksNothing
   pub asks : command_of (ask_of line) ≡ c ∷ []
-
--- The history is one on the way along which the lines lead: the one after some of the first ones.
-pub record IsOnWay (start : History) (noted : Bool) (lines : List (List ℕ)) (h : History) : Type 0 where
-  pub told : AreTrue start noted lines
-  pub before : List (List ℕ)
-  pub later : List (List ℕ)
-  pub parts : lines ≡ before ++ later
-  pub so_far : history_after start before ≡ h

@@ -1,31 +1,47 @@
 -- What a journal says at each exit of each call, and after a stop: cited by `laws`. A choice of this
 -- project.
-use Rattle.std.specs.Prelude.{◌≡◌, ◌⊎◌, ℕ, false, List, [], ◌++◌}
+use Rattle.std.specs.Prelude.{◌≡◌, ◌⊎◌, ℕ, List, [], ◌∷◌, ◌++◌}
 use Rattle.pid_file.specs.Lines.{lines_of}
 use Rattle.pid_file.specs.WholeLines.{whole_lines}
-use Rattle.pid_moderation.specs.History.{History}
-use Rattle.pid_script.specs.Replies.{history_after}
+use Rattle.pid_moderation.specs.History.{Asked, History}
+use Rattle.pid_moderation.specs.Judgement.{answer, judge}
+use Rattle.pid_moderation.specs.ReplyLines.{outcome_line}
+use Rattle.pid_moderation.specs.Views.{revision_of, views_of}
+use Rattle.pid_script.specs.Replies.{history_after, replies}
+use Rattle.pid_journal.specs.Comments.{counts_held}
 use Rattle.pid_journal.specs.Doubts.{IsInDoubt}
-use Rattle.pid_journal.specs.Journals.{IsOnWay, JournalLeads}
+use Rattle.pid_journal.specs.Journals.{IsEntry, JournalLeads}
+use Rattle.pid_journal.specs.Segments.{AreSegments, IsOnSegments, lines_in}
 
 -- as a script, the text of a journal leads from the one history to the other
 abbrev pub JournalsAreScripts : Type 0
 JournalsAreScripts = (start h : History) (text : List ℕ) → JournalLeads start text h
     → history_after start (lines_of text) ≡ h
 
+-- An entry more is answered as its command is over the history so far, and a mark is answered
+-- nothing.
+abbrev pub EntriesAreAnswered : Type 0
+EntriesAreAnswered = (start h : History) (text : List ℕ) → JournalLeads start text h
+    → ((entry : List ℕ) (c : Asked) → IsEntry entry (counts_held h) c
+    → replies start (lines_of (text ++ entry))
+    ≡ replies start (lines_of text) ++ outcome_line (answer (judge (views_of h) c)))
+    × (replies start (lines_of (text ++ 10 ∷ [])) ≡ replies start (lines_of text))
+
 -- its whole lines lead to one of the two histories between which a registry has failed
 abbrev pub DoubtsLeaveEither : Type 0
 DoubtsLeaveEither = (start h next : History) (text : List ℕ) → IsInDoubt start text h next
     → (history_after start (whole_lines text) ≡ h) ⊎ (history_after start (whole_lines text) ≡ next)
 
--- a registry that showed the history to which a journal led is on its way when it leads on
-abbrev pub CopiesAreOnWay : Type 0
-CopiesAreOnWay = (start h last : History) (text more : List ℕ) → JournalLeads start text h
-    → JournalLeads start (text ++ more) last → IsOnWay start false (whole_lines (text ++ more)) h
-
--- so is one that has failed between two, with the first of them, and if the entry is whole with the
--- second
-abbrev pub DoubtsAreOnWay : Type 0
-DoubtsAreOnWay = (start h next : History) (text : List ℕ) (doubt : IsInDoubt start text h next)
-    → IsOnWay start false (whole_lines text) h
-    × (doubt.gone ≡ [] → IsOnWay start false (whole_lines text) next)
+-- Where a journal goes on in its last segment, or in a new one, and stops at an entry, maybe within
+-- it, what registries show is on its way: the history before that entry; if it is whole the one after
+-- it; and what was on the way of the lines that the journal had before.
+abbrev pub StopsLeaveTheWay : Type 0
+StopsLeaveTheWay = (start h next : History) (text : ℕ → List ℕ) (front : List ℕ) (name : ℕ)
+    → AreSegments text start front → revision_of (history_after start (lines_in text front)) ≡ name
+    → (doubt : IsInDoubt (history_after start (lines_in text front)) (text name) h next)
+    → IsOnSegments text start (front ++ name ∷ []) h
+    × (doubt.gone ≡ [] → IsOnSegments text start (front ++ name ∷ []) next)
+    × ((old : ℕ → List ℕ) (names : List ℕ) (more : List (List ℕ)) (g : History)
+    → IsOnSegments old start names g
+    → lines_in text (front ++ name ∷ []) ≡ lines_in old names ++ more
+    → IsOnSegments text start (front ++ name ∷ []) g)

@@ -3,6 +3,7 @@ pub mod Comments
 pub mod Journals
 pub mod Doubts
 pub mod Pairs
+pub mod Segments
 pub mod Openings
 pub mod Laws
 pub mod Steps

@@ -1,51 +1,69 @@
--- What an opening makes of a registry and of a journal that holds something: choices of this
--- project.
-use Rattle.std.specs.Prelude.{◌≡◌, ◌⊎◌, ℕ, false, List, Some, Result, MatchResult, IfErr}
+-- What an opening makes of a registry and of the folder of its journal: choices of this project.
+use Rattle.std.specs.Prelude.{◌≡◌, ◌⊎◌, ℕ, true, false, List, [], ◌∷◌, ◌++◌, Some, Result, MatchResult}
+use Rattle.std.specs.Prelude.{IfErr, IfOk}
 use Rattle.pid_file.specs.WholeLines.{whole_lines}
 use Rattle.pid_moderation.specs.History.{History}
 use Rattle.pid_moderation.specs.Revisions.{IsMarked}
 use Rattle.pid_script.specs.Replies.{history_after}
 use Rattle.pid_service_laws.specs.declared.moderated.Moderated.{Ghosts}
 use Rattle.pid_journal.specs.declared.file.JournalFile as files
+use Rattle.pid_journal.specs.declared.folder.JournalFolder as folders
 use Rattle.pid_journal.specs.declared.journaled.Journaled.{Journaled}
 use Rattle.pid_journal.specs.declared.open_fault.OpenFault.{OpenFault}
 use Rattle.pid_journal.specs.declared.open_fault.OpenFault.TheVariants.{Refused, Another, Newer}
-use Rattle.pid_journal.specs.Journals.{IsOnWay}
+use Rattle.pid_journal.specs.declared.opened.Opened.{Opened}
 use Rattle.pid_journal.specs.Pairs.{PairShows}
+use Rattle.pid_journal.specs.Segments.{IsOnSegments, lines_in}
 
 -- a fault of memory, of the registry, or of a file
 abbrev pub IsRefused : OpenFault → Type 0
 IsRefused (Refused refusal) = Unit {0}
-IsRefused Another = ⊥
-IsRefused Newer = ⊥
+IsRefused other = ⊥
 
--- `registry` is `R.Moderated`, and `file` is `J.JournalFile`
-module _ {R J : Type 0} (registry : Ghosts R) (file : files.Ghosts J) where
-  -- The journal begins at a history, and the registry shows one on the way along which its whole
-  -- lines lead: the last one, an earlier one, or the first one.
-  pub record BelongsTo (start : History) (text : List ℕ) (r : R) (j : J) : Type 0 where
+-- `registry` is `R.Moderated`, `folder` is `F.JournalFolder`, and `file` is that of its segments
+module _ {R F J : Type 0} (registry : Ghosts R) (folder : folders.Ghosts F J) (file : files.Ghosts J) where
+  -- The journal begins at a history, and the registry shows one on the way along which its segments
+  -- lead: the last one, an earlier one, or the first one.
+  pub record BelongsTo (start : History) (names : List ℕ) (r : R) (f : F) : Type 0 where
     pub marked : IsMarked start
+    pub known : folder.names f ≡ Some names
     pub shown : History
     pub shows : registry.showing.shows r shown
-    pub safe : file.safe j ≡ Some text
-    pub way : IsOnWay start false (whole_lines text) shown
+    pub way : IsOnSegments (folder.text_in f) start names shown
+
+  -- The registry shows the history of all lines, and the journal goes on in the last segment, or in
+  -- a new one after it, with all lines that it had, and maybe a mark.
+  pub record GoesOn (start : History) (names : List ℕ) (f : F) (p : Journaled R J) : Type 0 where
+    pub front : List ℕ
+    pub last : (names ≡ front) ⊎ ((name : ℕ) × (names ≡ front ++ name ∷ []))
+    pub shows : PairShows registry file (history_after start (lines_in (folder.text_in f) front)) p
+        (history_after start (lines_in (folder.text_in f) names))
+    pub more : List (List ℕ)
+    pub grows : lines_in (folder.text_in f) front ++ whole_lines shows.text
+        ≡ lines_in (folder.text_in f) names ++ more
 
   -- a disk that has returned what was written up to the end has done so up to the beginning
-  abbrev pub StaysHonest : R → Result (Journaled R J) (R × J × OpenFault) → Type 0
+  abbrev pub StaysHonest : R → Result (Opened R J) (R × OpenFault) → Type 0
   StaysHonest r result = MatchResult result
-      (λ p. registry.showing.is_clean p.registry → registry.showing.is_clean r)
+      (λ o. registry.showing.is_clean o.registry.registry → registry.showing.is_clean r)
       (λ back. registry.showing.is_clean back.0 → registry.showing.is_clean r)
 
-  -- Then the pair shows the history of all whole lines, unless there is a fault.
-  abbrev pub Resumes : R → J → Result (Journaled R J) (R × J × OpenFault) → Type 0
-  Resumes r j result = (start : History) (text : List ℕ) → BelongsTo start text r j
+  -- a journal that belongs to the registry is obeyed to its end, unless there is a fault
+  abbrev pub Resumes : R → F → Result (Opened R J) (R × OpenFault) → Type 0
+  Resumes r f result = (start : History) (names : List ℕ) → BelongsTo start names r f
       → MatchResult result
-      (λ p. registry.showing.is_clean p.registry
-      → PairShows registry file start p (history_after start (whole_lines text)))
-      (λ back. registry.showing.is_clean back.0 → IsRefused back.2)
+      (λ o. registry.showing.is_clean o.registry.registry
+      → (o.gap ≡ false) × GoesOn start names f o.registry)
+      (λ back. registry.showing.is_clean back.0 → IsRefused back.1)
 
-  -- otherwise nothing is written: the text stays, and what the registry shows
-  abbrev pub RefusesOthers : R → J → Result (Journaled R J) (R × J × OpenFault) → Type 0
-  RefusesOthers r j result = IfErr result (λ back. IsRefused back.2
-      ⊎ ((file.safe back.1 ≡ file.safe j) × (registry.showing.is_clean back.0
-      → (h : History) → registry.showing.shows r h → registry.showing.shows back.0 h)))
+  -- after a gap the journal begins at the history that the registry shows
+  abbrev pub BeginsAfterGap : R → F → Result (Opened R J) (R × OpenFault) → Type 0
+  BeginsAfterGap r f result = IfOk result (λ o. o.gap ≡ true → (names : List ℕ)
+      → folder.names f ≡ Some names → registry.showing.is_clean o.registry.registry → (h : History)
+      → registry.showing.shows r h → PairShows registry file h o.registry h)
+
+  -- with another's journal the registry shows what it showed, and no file was opened to be written
+  abbrev pub RefusesOthers : R → (f g : F) → Result (Opened R J) (R × OpenFault) → Type 0
+  RefusesOthers r f g result = IfErr result (λ back. (back.1 ≡ Another) ⊎ (back.1 ≡ Newer)
+      → (registry.showing.is_clean back.0 → (h : History) → registry.showing.shows r h
+      → registry.showing.shows back.0 h) × (folder.openings g ≡ folder.openings f))

@@ -1,6 +1,5 @@
 -- A registry and the journal in front of it: what they show. Choices of this project.
 use Rattle.std.specs.Prelude.{◌≡◌, ◌⊎◌, ℕ, Bool, true, false, not, ◌&&◌, List, [], Some, Result, Err}
-use Rattle.std.specs.Prelude.{IfOk}
 use Rattle.pid_moderation.specs.declared.command.Reply.{Reply}
 use Rattle.pid_moderation.specs.declared.refusal.Refusal.{Refusal}
 use Rattle.pid_moderation.specs.declared.refusal.Refusal.TheVariants.{Failed}
@@ -12,9 +11,9 @@ use Rattle.pid_journal.specs.declared.journaled.Journaled.{Journaled}
 use Rattle.pid_journal.specs.Doubts.{IsInDoubt}
 use Rattle.pid_journal.specs.Journals.{JournalLeads}
 
--- the registry, and the file of its journal
-abbrev pub pair_parts : {R J : Type 0} → Journaled R J → R × J
-pair_parts p = (p.registry, p.journal)
+-- the registry, the file of its journal, and whether an entry is left whose command was not obeyed
+abbrev pub pair_parts : {R J : Type 0} → Journaled R J → R × J × Bool
+pair_parts p = (p.registry, p.journal, p.failed)
 
 -- `registry` is `R.Moderated`, and `file` is `J.JournalFile`
 module _ {R J : Type 0} (registry : Ghosts R) (file : files.Ghosts J) where
@@ -40,21 +39,18 @@ module _ {R J : Type 0} (registry : Ghosts R) (file : files.Ghosts J) where
     pub fails : ((p.failed ≡ true) × registry.showing.shows p.registry h)
         ⊎ ((doubt.gone ≡ []) × registry.showing.fails_between p.registry h next)
 
-  -- the relations by which sessions describe it, if its journal begins at a history
-  abbrev pub pair_showing_from : History → Showing (Journaled R J)
-  pair_showing_from start = record {
-    is_clean = λ p. registry.showing.is_clean p.registry;
-    shows = PairShows start;
-    fails_between = PairFailsBetween start;
-  }
-
-  -- the same wherever its journal begins
+  -- the relations by which sessions describe it, wherever its journal begins
   abbrev pub pair_showing : Showing (Journaled R J)
   pair_showing = record {
     is_clean = λ p. registry.showing.is_clean p.registry;
     shows = λ p h. (start : History) × PairShows start p h;
     fails_between = λ p h next. (start : History) × PairFailsBetween start p h next;
   }
+
+  -- the same, if its journal begins at a history
+  abbrev pub pair_showing_from : History → Showing (Journaled R J)
+  pair_showing_from start =
+      record pair_showing { shows = PairShows start; fails_between = PairFailsBetween start }
 
   -- A command was obeyed, wherever the journal begins.
   abbrev pub ObeysAnywhere : Journaled R J → Asked → Result Reply Refusal → Journaled R J → Type 0
@@ -64,8 +60,3 @@ module _ {R J : Type 0} (registry : Ghosts R) (file : files.Ghosts J) where
   -- one that has failed obeys nothing, and stays as it is
   abbrev pub StaysFailed : Journaled R J → Result Reply Refusal → Journaled R J → Type 0
   StaysFailed old result new = pair_is_live old ≡ false → (result ≡ Err Failed) × (new ≡ old)
-
-  -- an empty journal begins at the history that the registry shows
-  abbrev pub BeginsAt : {X : Type 0} → R → J → Result (Journaled R J) X → Type 0
-  BeginsAt r j result = (h : History) (text : List ℕ) → registry.showing.shows r h
-      → file.safe j ≡ Some text → IfOk result (λ p. PairShows h p h)

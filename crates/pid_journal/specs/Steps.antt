@@ -1,6 +1,9 @@
 -- What serves private functions alone; no promise rests on it.
 pub mod Parts
+pub mod Ways
 pub mod Living
+pub mod Lending
 pub mod Places
 pub mod Following
 pub mod Opening
+pub mod Segments

@@ -15,6 +15,9 @@ use pid_reader::{split_line, without_cr};
 use pid_script::command_in_line;
 use std::alloc::Global;
 
+// A comment has some hundred bytes, and a script passes over it.
+const LONGEST_COMMENT: usize = 1_000;
+
 // What an entry says that is a comment and one line: counts and a command.
 fn read_entry(alloc: Global, entry: &[u8]) -> Result<(Counts, Command), Refusal>
     ensures { IfOk result (λ said. IsEntry entry.now said.0 (asks said.1)) }
@@ -28,7 +31,11 @@ fn read_entry(alloc: Global, entry: &[u8]) -> Result<(Counts, Command), Refusal>
     if !behind.is_empty() {
         return Err(Refusal::Store);
     }
-    let Some(counts) = counts_said(alloc, without_cr(comment))? else {
+    let short = without_cr(comment);
+    if LONGEST_COMMENT < short.len() {
+        return Err(Refusal::Store);
+    }
+    let Some(counts) = counts_said(alloc, short)? else {
         return Err(Refusal::Store);
     };
     let command = command_in_line(alloc, without_cr(line))?;
@@ -36,8 +43,7 @@ fn read_entry(alloc: Global, entry: &[u8]) -> Result<(Counts, Command), Refusal>
 }
 
 /// The entry of a command, from which a script reads this command. `Store` if there is none: no
-/// line says a file that is not UTF-8, or a submission with the number 0. `Memory` if memory runs
-/// out.
+/// line says a submission with the number 0. `Memory` if memory runs out.
 pub fn entry_of(
     alloc: Global,
     seconds: u64,

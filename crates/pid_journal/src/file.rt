@@ -1,12 +1,10 @@
-//! The file of a journal.
-ghost use Rattle.std.specs.Prelude.{◌≡◌, ℕ, List, Option, IfOk, IfSome, length};
-ghost use Rattle.pid_journal.specs.Files.{IsAppended, IsCut};
+//! The file of a segment of a journal.
+ghost use Rattle.std.specs.Prelude.{◌≡◌, [], ◌∷◌, ℕ, List, Option, Some, None, IfSome, length};
+ghost use Rattle.pid_journal.specs.Files.{IsAppended, IsCut, LeavesPart, MarksAreWithin};
 
 use pid_ident::WriteFault;
-use pid_moderation::Refusal;
-use std::alloc::Global;
 
-/// A file that a journal is written to, and a clock.
+/// A file that a journal is written to, and a clock. A folder reads it.
 pub trait JournalFile {
     /// The bytes that are safe in the file, written and synced, if they are known.
     ghost safe: { Self → Option (List ℕ) };
@@ -18,19 +16,26 @@ pub trait JournalFile {
     fn count(&self) -> u64
         ensures { IfSome (safe self.now) (λ text. result ≡ length text) };
 
-    /// The bytes that are safe in the file. `Memory` or `Store` if they cannot be read.
-    fn text(&mut self, alloc: Global) -> Result<Vec<u8>, Refusal>
-        ensures same { safe self.new ≡ safe self.old }
-        ensures read { IfOk result
-            (λ text. IfSome (safe self.old) (λ bytes. text.items ≡ bytes)) };
+    /// Called after each line that an opening obeys, so that a program can say how far it is.
+    fn replayed(&mut self)
+        ensures { safe self.new ≡ safe self.old };
 
     /// Writes bytes to the end of the file and syncs it. After a fault any prefix of them may be
     /// there.
     fn append(&mut self, bytes: &[u8]) -> Result<(), WriteFault>
-        ensures { IsAppended result (safe self.old) (safe self.new) bytes.now };
+        ensures appended { IsAppended result (safe self.old) (safe self.new) bytes.now }
+        ensures unknown { safe self.old ≡ None → safe self.new ≡ None };
 
-    /// Cuts off what comes after so many bytes, and syncs the file. After a fault any prefix of it
-    /// may still be there.
+    /// Writes an LF to the end of the file. It is not synced before the next append, so that a stop
+    /// may leave it out, and so may a fault.
+    fn mark(&mut self)
+        ensures { (text : List ℕ) → safe self.old ≡ Some text
+            → LeavesPart (safe self.new) text (10 ∷ []) };
+
+    /// Cuts off what comes after so many bytes, among which are all marks, and syncs the file. So
+    /// what a reader has seen above a mark stays. After a fault any prefix of what is cut off may
+    /// still be there.
     fn cut(&mut self, count: u64) -> Result<(), WriteFault>
+        requires { IfSome (safe self.old) (λ text. MarksAreWithin text count) }
         ensures { IsCut result (safe self.old) (safe self.new) count };
 }

@@ -1,10 +1,11 @@
 //! The lines of a journal, obeyed by a registry that does not have them yet.
-ghost use Rattle.std.specs.Prelude.{◌≢◌, ◌⊎◌, IfOk, IsErr, IsOkAnd};
+ghost use Rattle.std.specs.Prelude.{◌≡◌, ◌≢◌, ◌⊎◌, IfOk, IsErr, IsOkAnd};
 ghost use Rattle.pid_moderation.specs.Faults.{IsMemoryOrStore};
 ghost use Rattle.pid_service_laws.specs.CallLaws.{StaysClean};
 ghost use Rattle.pid_journal.specs.Steps.Following.{FollowsLine, FollowsLines};
 ghost use Rattle.pid_journal.specs.Steps.Places.{IsOpenEnd};
 
+use crate::file::JournalFile;
 use pid_moderation::Refusal;
 use pid_reader::{split_line, without_cr};
 use pid_script::command_in_line;
@@ -46,12 +47,15 @@ fn follow_line<R: Moderated>(alloc: Global, registry: &mut R, line: &[u8]) -> Re
     }
 }
 
-/// Obeys the commands of the whole lines of a text, and hands back what comes after them.
-pub fn follow<'a, R: Moderated>(
+/// Obeys the commands of the whole lines of a text, and hands back what comes after them. The file
+/// of the journal hears of each.
+pub fn follow<'a, R: Moderated, J: JournalFile>(
     alloc: Global,
     registry: &mut R,
+    journal: &mut J,
     text: &'a [u8],
 ) -> Result<&'a [u8], Refusal>
+    ensures same { J.safe journal.new ≡ J.safe journal.old }
     ensures honest { StaysClean R.showing registry.old registry.new }
     ensures ended { IfOk result (λ rest. IsOpenEnd text.now rest.now) }
     ensures obeyed { FollowsLines R.showing registry.old registry.new text.now result }
@@ -61,6 +65,7 @@ pub fn follow<'a, R: Moderated>(
         if let Err(refusal) = follow_line(alloc, registry, without_cr(line)) {
             return Err(refusal);
         }
+        journal.replayed();
         rest = behind;
     }
     Ok(rest)

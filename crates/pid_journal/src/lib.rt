@@ -2,20 +2,25 @@
 //! judged.
 //!
 //! A journal is a script. It has the line of each command, in the order in which commands are
-//! judged, below a comment with the time and with what the registry holds before it. `Journaled` is
-//! a registry under moderation, so scripts are run over it as over any other; questions and exports
-//! go past the journal. `laws` says to which history a journal leads.
+//! judged, below a comment with the time and with what the registry holds before it. An empty line
+//! says that the command above it has ended: what comes before it is never cut off again. The
+//! script is in segments, each named by the revision at which it begins. `open_journal` puts the
+//! folder of these in front of a registry, which obeys the lines that it does not have.
+//!
+//! `Journaled` is a registry under moderation, so scripts are run over it as over any other;
+//! questions and exports go past the journal. `laws` says to which history a journal leads.
 //!
 //! An entry is read back before it is written. So it never says another command than the one that
 //! is obeyed; that each kind of command has an entry is tested.
 #![tactic(auto)]
 
-mod beginning;
+mod catching_up;
 mod composing;
 mod consulted;
 mod counts;
 mod entry;
 mod file;
+mod folder;
 mod following;
 mod importing;
 mod journaled;
@@ -23,11 +28,17 @@ pub mod laws;
 mod moderated;
 mod obeying;
 mod open_fault;
+mod opened;
 mod opening;
 mod placing;
 mod sameness;
+mod segments;
 mod status_counts;
+mod unaccepted;
 
 pub use file::JournalFile;
+pub use folder::JournalFolder;
 pub use journaled::Journaled;
 pub use open_fault::OpenFault;
+pub use opened::Opened;
+pub use opening::open_journal;

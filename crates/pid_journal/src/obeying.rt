@@ -1,11 +1,12 @@
 //! One command: its entry is safe before it is judged.
-ghost use Rattle.std.specs.Prelude.{◌≡◌, ◌≢◌, true, false, IsErrAnd};
+ghost use Rattle.std.specs.Prelude.{◌≡◌, ◌≢◌, true, false, IfSome, IsErrAnd};
 ghost use Rattle.pid_moderation.specs.Faults.{IsMemoryOrStore};
 ghost use Rattle.pid_moderation.specs.Files.{asks};
 ghost use Rattle.pid_moderation.specs.History.{History};
 ghost use Rattle.pid_service_laws.specs.CallLaws.{StaysClean};
 ghost use Rattle.pid_service_laws.specs.Registries.{CommandLeaves};
 ghost use Rattle.pid_journal.specs.Comments.{counts_held};
+ghost use Rattle.pid_journal.specs.Files.{Grows, MarksAreWithin};
 ghost use Rattle.pid_journal.specs.Journals.{IsEntry};
 ghost use Rattle.pid_journal.specs.Pairs.{
   ObeysAnywhere,
@@ -14,11 +15,12 @@ ghost use Rattle.pid_journal.specs.Pairs.{
   pair_showing,
   pair_showing_from,
 };
-ghost use Rattle.pid_journal.specs.Steps.Parts.{IsProbed, IsCutBack};
+ghost use Rattle.pid_journal.specs.Steps.Parts.{GrowsAfter, IsProbed, IsCutBack, IsUnmarked};
 
 use crate::entry::entry_of;
 use crate::file::JournalFile;
 use crate::journaled::Journaled;
+use crate::unaccepted::has_no_line;
 use pid_moderation::{Command, Refusal, Reply, breaks_form};
 use pid_service_laws::Consulted;
 
@@ -53,7 +55,9 @@ pub(crate) fn is_answering<R: Consulted>(registry: &mut R) -> bool
 impl<R: Consulted, J: JournalFile> Journaled<R, J> {
     // Cuts off what comes after so many bytes. If that fails, the registry counts as failed.
     fn take_back(&mut self, count: u64)
+        requires { IfSome (J.safe self.old.journal) (λ text. MarksAreWithin text count) }
         ensures same { self.new.registry ≡ self.old.registry }
+        ensures kept { GrowsAfter (J.safe self.old.journal) (J.safe self.new.journal) count }
         ensures taken { IsCutBack J.JournalFile self.old self.new count }
     {
         match self.journal.cut(count) {
@@ -64,6 +68,8 @@ impl<R: Consulted, J: JournalFile> Journaled<R, J> {
 
     // Obeys a command that has this entry.
     fn obey_noted(&mut self, entry: &[u8], command: Command) -> Result<Reply, Refusal>
+        requires { IsUnmarked entry.now }
+        ensures kept { Grows (J.safe self.old.journal) (J.safe self.new.journal) }
         ensures honest { R.showing.is_clean self.new.registry → R.showing.is_clean self.old.registry }
         ensures obeyed { R.showing.is_clean self.new.registry → (start h : History)
             → PairShows R.Moderated J.JournalFile start self.old h
@@ -77,6 +83,7 @@ impl<R: Consulted, J: JournalFile> Journaled<R, J> {
             Ok(()) => {
                 let answer = self.registry.obey(command);
                 if !is_fault(&answer) {
+                    self.journal.mark();
                     return answer;
                 }
                 if !is_answering(&mut self.registry) {
@@ -94,7 +101,8 @@ impl<R: Consulted, J: JournalFile> Journaled<R, J> {
 
     /// Obeys a command, or says why not. Its entry is safe in the journal before it is judged.
     ///
-    /// - A command that breaks its form is refused without an entry, as a registry refuses it.
+    /// - A command that breaks its form, and an import whose file is not UTF-8, are answered without
+    ///   an entry, as a registry answers them: they change nothing.
     /// - `Store` if its entry could not be written, or if there is none: then nothing was done. What
     ///   was written of the entry is cut off again.
     /// - `Memory` and `Store` of a registry that stays live: the command was not obeyed, and its
@@ -106,6 +114,8 @@ impl<R: Consulted, J: JournalFile> Journaled<R, J> {
         // It shows the history to which its journal leads.
         ensures obeyed { ObeysAnywhere R.Moderated J.JournalFile self.old (asks command) result self.new }
         ensures failed { StaysFailed R.Moderated J.JournalFile self.old result self.new }
+        // What its journal has stays.
+        ensures kept { Grows (J.safe self.old.journal) (J.safe self.new.journal) }
     {
         if self.failed {
             return Err(Refusal::Failed);
@@ -113,6 +123,9 @@ impl<R: Consulted, J: JournalFile> Journaled<R, J> {
         let status = self.registry.status()?;
         if breaks_form(&command) {
             return Err(Refusal::BadText);
+        }
+        if has_no_line(self.alloc, &command)? {
+            return self.registry.obey(command);
         }
         let seconds = self.journal.seconds();
         let entry = entry_of(self.alloc, seconds, &status, &command)?;

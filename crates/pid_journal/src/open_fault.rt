@@ -13,7 +13,12 @@ pub enum OpenFault {
     /// is not what this registry holds.
     #[error("the journal is that of another registry")]
     Another,
-    /// The registry has obeyed commands that the journal has not.
+    /// The registry has obeyed commands that the journal has not. After the last segment that is no
+    /// fault: the journal goes on after a gap.
     #[error("the registry is newer than the journal")]
     Newer,
+    /// The journal lacks commands between the registry and a later segment. Lines before them may
+    /// have been obeyed.
+    #[error("the journal lacks commands that the registry does not have")]
+    Missing,
 }

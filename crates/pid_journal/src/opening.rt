@@ -1,107 +1,171 @@
-//! A journal that holds something, put in front of its registry.
+//! The journal of a folder, put in front of its registry.
+ghost use Rattle.std.specs.Prelude.{◌≡◌, ◌⊎◌, Some, true, IfErr, IfOk};
 ghost use Rattle.pid_service_laws.specs.CallLaws.{StaysClean};
-ghost use Rattle.pid_journal.specs.Openings.{RefusesOthers, Resumes, StaysHonest};
-ghost use Rattle.pid_journal.specs.Steps.Opening.{
-  CatchesUp,
-  Replays,
-  ReplaysOrStays,
-  StaysOrRefused,
+ghost use Rattle.pid_journal.specs.Openings.{
+  BeginsAfterGap,
+  IsRefused,
+  RefusesOthers,
+  Resumes,
+  StaysHonest,
+};
+ghost use Rattle.pid_journal.specs.Steps.Segments.{
+  BeginsIn,
+  FindsJournal,
+  KeepsShown,
+  LinesMayBeObeyed,
+  StaysOrMoved,
 };
 
-use crate::counts::Counts;
 use crate::file::JournalFile;
-use crate::following::follow;
+use crate::folder::JournalFolder;
 use crate::journaled::Journaled;
 use crate::open_fault::OpenFault;
-use crate::placing::find_place;
-use crate::status_counts::counts_of;
-use pid_moderation::Refusal;
-use pid_service_laws::{Consulted, Moderated};
+use crate::opened::Opened;
+use crate::segments::{follow_all, revision_of};
+use pid_service_laws::Consulted;
 use std::alloc::Global;
 
-// A registry with these counts obeys the lines that it does not have. Answers how many bytes of the
-// text are whole lines.
-fn replay<R: Moderated>(
-    alloc: Global,
+// A new segment, which begins where a registry stands.
+fn begin_segment<R: Consulted, F: JournalFolder>(
     registry: &mut R,
-    text: &[u8],
-    now: Counts,
-) -> Result<usize, OpenFault>
+    folder: &mut F,
+) -> Result<F::Segment, OpenFault>
     ensures honest { StaysClean R.showing registry.old registry.new }
-    ensures caught { Replays R.showing registry.old registry.new text.now now result }
-    ensures stays { ReplaysOrStays registry.old registry.new result }
+    ensures begun { IfOk result (BeginsIn R.Moderated F.Segment.JournalFile F.JournalFolder
+        registry.old registry.new folder.old) }
+    ensures kept { KeepsShown R.showing registry.old registry.new }
+    ensures fault { IfErr result (λ fault. IsRefused fault × LinesMayBeObeyed fault) }
 {
-    let rest = match find_place(alloc, text, now) {
-        Ok(rest) => rest,
+    let revision = match revision_of(registry) {
+        Ok(revision) => revision,
         Err(fault) => return Err(fault),
     };
-    match follow(alloc, registry, rest) {
-        Ok(torn) => Ok(text.len() - torn.len()),
+    match folder.new_segment(revision) {
+        Ok(segment) => Ok(segment),
         Err(refusal) => Err(OpenFault::Refused(refusal)),
     }
 }
 
-// Brings a registry up to the end of its journal, and cuts off what is no whole line there.
-fn catch_up<R: Consulted, J: JournalFile>(
-    alloc: Global,
+// Whether a journal goes on in its last segment. One that is longer than so many bytes ends, but not
+// where the next one would have its name.
+fn goes_on<R: Consulted, J: JournalFile>(
     registry: &mut R,
-    journal: &mut J,
-) -> Result<(), OpenFault>
+    segment: &J,
+    begins: &[u64],
+    longest: u64,
+) -> Result<bool, OpenFault>
     ensures honest { StaysClean R.showing registry.old registry.new }
-    ensures caught { CatchesUp R.Moderated J.JournalFile registry.old registry.new journal.old
-        journal.new result }
-    ensures stays { StaysOrRefused R.Moderated J.JournalFile registry.old registry.new journal.old
-        journal.new result }
+    ensures kept { KeepsShown R.showing registry.old registry.new }
+    ensures fault { IfErr result (λ fault. IsRefused fault × LinesMayBeObeyed fault) }
 {
-    let status = match registry.status() {
-        Ok(status) => status,
-        Err(refusal) => return Err(OpenFault::Refused(refusal)),
-    };
-    let now = counts_of(&status);
-    let text = match journal.text(alloc) {
-        Ok(text) => text,
-        Err(refusal) => return Err(OpenFault::Refused(refusal)),
-    };
-    let count = match replay(alloc, registry, text.as_slice(), now) {
-        Ok(count) => count,
-        Err(fault) => return Err(fault),
-    };
-    if text.len() == count {
-        return Ok(());
+    if segment.count() <= longest {
+        return Ok(true);
     }
-    match journal.cut(count as u64) {
-        Ok(()) => Ok(()),
-        Err(_) => Err(OpenFault::Refused(Refusal::Store)),
+    match revision_of(registry) {
+        Ok(revision) => Ok(begins.last().copied() == Some(revision)),
+        Err(fault) => Err(fault),
     }
 }
 
-impl<R: Consulted, J: JournalFile> Journaled<R, J> {
-    /// Puts a journal that holds something in front of its registry: one that shows the history to
-    /// which the journal leads, or an earlier one on the way there. It obeys the lines that it does
-    /// not have. So a command that was in doubt comes to its end, and a registry that was restored
-    /// from a copy has every command of its journal again.
-    ///
-    /// A last line that is not whole is cut off. If the journal is another registry's, or lacks
-    /// commands that the registry has, nothing is written in either. The registry and the journal
-    /// are handed back with the fault.
-    pub fn resume(
-        alloc: Global,
-        mut registry: R,
-        mut journal: J,
-    ) -> Result<Journaled<R, J>, (R, J, OpenFault)>
-        ensures honest { StaysHonest R.Moderated J.JournalFile registry result }
-        // It shows the history of all whole lines.
-        ensures resumed { Resumes R.Moderated J.JournalFile registry journal result }
-        ensures others { RefusesOthers R.Moderated J.JournalFile registry journal result }
-    {
-        match catch_up(alloc, &mut registry, &mut journal) {
-            Ok(()) => Ok(Journaled {
+// The segment in which a journal goes on after the last one that it has.
+fn segment_after<R: Consulted, F: JournalFolder>(
+    registry: &mut R,
+    folder: &mut F,
+    last: Option<F::Segment>,
+    begins: &[u64],
+    longest: u64,
+) -> Result<F::Segment, OpenFault>
+    ensures honest { StaysClean R.showing registry.old registry.new }
+    ensures kept { KeepsShown R.showing registry.old registry.new }
+    ensures goes { IfOk result (λ segment. (last ≡ Some segment)
+        ⊎ BeginsIn R.Moderated F.Segment.JournalFile F.JournalFolder registry.old registry.new
+        folder.old segment) }
+    ensures fault { IfErr result (λ fault. IsRefused fault × LinesMayBeObeyed fault) }
+{
+    let Some(segment) = last else {
+        return begin_segment(registry, folder);
+    };
+    match goes_on(registry, &segment, begins, longest) {
+        Ok(true) => Ok(segment),
+        Ok(false) => begin_segment(registry, folder),
+        Err(fault) => Err(fault),
+    }
+}
+
+// The segment in which the journal of a folder goes on, and whether there is a gap before it. The
+// registry obeys the lines that it does not have.
+fn find_segment<R: Consulted, F: JournalFolder>(
+    alloc: Global,
+    registry: &mut R,
+    folder: &mut F,
+    longest: u64,
+) -> Result<(F::Segment, bool), OpenFault>
+    ensures honest { StaysClean R.showing registry.old registry.new }
+    ensures found { FindsJournal R.Moderated F.Segment.JournalFile F.JournalFolder registry.old
+        registry.new folder.old result }
+    ensures gap { IfOk result (λ found. found.1 ≡ true → BeginsIn R.Moderated
+        F.Segment.JournalFile F.JournalFolder registry.old registry.new folder.old found.0) }
+    ensures stays { StaysOrMoved R.showing F.JournalFolder registry.old registry.new folder.old
+        folder.new result }
+{
+    let begins = match folder.begins(alloc) {
+        Ok(begins) => begins,
+        Err(refusal) => return Err(OpenFault::Refused(refusal)),
+    };
+    let last = match follow_all(alloc, registry, folder, begins.as_slice()) {
+        Ok(last) => last,
+        Err(OpenFault::Newer) => {
+            return match begin_segment(registry, folder) {
+                Ok(segment) => Ok((segment, true)),
+                Err(fault) => Err(fault),
+            };
+        }
+        Err(fault) => return Err(fault),
+    };
+    match segment_after(registry, folder, last, begins.as_slice(), longest) {
+        Ok(segment) => Ok((segment, false)),
+        Err(fault) => Err(fault),
+    }
+}
+
+/// Puts the journal of a folder in front of its registry: one that shows the history to which the
+/// journal leads, or an earlier one on the way there. It obeys the lines that it does not have. So
+/// a command that was in doubt comes to its end, and a registry that was restored from a copy has
+/// every command of its journal again. A last line that is not whole is cut off.
+///
+/// - A folder without a segment gets one, which begins where the registry stands.
+/// - If the last segment has more bytes than `longest`, a new one begins after it, unless no command
+///   was accepted in it.
+/// - If the registry has commands that the journal has not, a new segment begins, after a gap.
+/// - If the journal is another registry's, the registry stays as it is, and no file is opened to be
+///   written.
+///
+/// The registry is handed back with a fault.
+pub fn open_journal<R: Consulted, F: JournalFolder>(
+    alloc: Global,
+    mut registry: R,
+    folder: &mut F,
+    longest: u64,
+) -> Result<Opened<R, F::Segment>, (R, OpenFault)>
+    ensures honest { StaysHonest R.Moderated F.JournalFolder F.Segment.JournalFile registry result }
+    // It shows the history of all whole lines.
+    ensures resumed { Resumes R.Moderated F.JournalFolder F.Segment.JournalFile registry folder.old
+        result }
+    ensures gap { BeginsAfterGap R.Moderated F.JournalFolder F.Segment.JournalFile registry
+        folder.old result }
+    ensures others { RefusesOthers R.Moderated F.JournalFolder F.Segment.JournalFile registry
+        folder.old folder.new result }
+{
+    match find_segment(alloc, &mut registry, folder, longest) {
+        Ok((journal, gap)) => {
+            let registry = Journaled {
                 registry,
                 journal,
                 failed: false,
                 alloc,
-            }),
-            Err(fault) => Err((registry, journal, fault)),
+            };
+            Ok(Opened { registry, gap })
         }
+        Err(fault) => Err((registry, fault)),
     }
 }

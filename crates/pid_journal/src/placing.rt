@@ -85,15 +85,16 @@ fn judge_line(said: Said, now: Counts, place: Place) -> Step
     }
 }
 
-/// The lines of a journal that come after the place where a registry with these counts stands.
-pub fn find_place(alloc: Global, text: &[u8], now: Counts) -> Result<&[u8], OpenFault>
+/// The lines of a journal, which begins at a revision, that come after the place where a registry
+/// with these counts stands.
+pub fn find_place(alloc: Global, text: &[u8], now: Counts, begin: u64) -> Result<&[u8], OpenFault>
     ensures parts { IfOk result (λ rest. IsEndOf text.now rest.now) }
-    ensures found { FindsPlace text.now now result (λ rest. rest.now) }
+    ensures found { FindsPlace text.now now begin result (λ rest. rest.now) }
 {
     let mut rest = text;
     let mut place = Place {
         noted: false,
-        most: now.revision,
+        most: begin,
     };
     while let Some((line, behind)) = split_line(rest) {
         let Ok(said) = said_by(alloc, without_cr(line)) else {

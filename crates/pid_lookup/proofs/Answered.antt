@@ -16,9 +16,9 @@ use Rattle.pid_lookup.specs.declared.args.Args.{Args}
 use Rattle.pid_lookup.specs.declared.flags.Request.{Request}
 use Rattle.pid_lookup.specs.declared.flags.Request.TheVariants as requests
 use Rattle.pid_file.specs.Reading.{refused}
-use Rattle.pid_lookup.specs.AskedNames.{HasAsked, asked_paths}
+use Rattle.pid_lookup.specs.Steps.AskedNames.{HasAsked, asked_paths}
 use Rattle.pid_lookup.specs.InText.{IsAnswerOfText}
-use Rattle.pid_lookup.specs.Kept.{kept_map}
+use Rattle.pid_lookup.specs.Steps.Kept.{kept_map}
 use Rattle.pid_lookup.specs.declared.asked_names.AskedNames.{AskedNames}
 
 abbrev Same : TreeMap → TreeMap → Path → Type 0

@@ -17,8 +17,8 @@ use Rattle.pid_file.specs.Numbered.{Numbered, item_in, numbered_of}
 use Rattle.pid_file.specs.Reading.{refused}
 use Rattle.pid_file.specs.Sinks.{Took}
 use Rattle.pid_file.proofs.Feeding.{numbered-good, items_in_numbered}
-use Rattle.pid_lookup.specs.AskedNames.{HasAsked, HasOnly, TakesAsked, asked_paths}
-use Rattle.pid_lookup.specs.Kept.{kept_map}
+use Rattle.pid_lookup.specs.Steps.AskedNames.{HasAsked, HasOnly, TakesAsked, asked_paths}
+use Rattle.pid_lookup.specs.Steps.Kept.{kept_map}
 use Rattle.pid_lookup.specs.declared.asked_names.AskedNames.{AskedNames}
 
 -- one more name in both of two maps

@@ -7,13 +7,14 @@ use Rattle.std.specs.List.{All, Any, slice_index_or}
 use Rattle.std.specs.Ordering.{eq_by_cmp}
 use Rattle.std.proofs.lemmas.Cmp.{nat_list_cmp_total}
 use Rattle.pid_file.specs.declared.path.Path.{Path}
-use Rattle.pid_file.specs.PathTexts.{path_cmp, path_text}
+use Rattle.pid_file.specs.PathTexts.{path_text}
+use Rattle.pid_file.specs.Steps.Paths.{path_cmp}
 use Rattle.pid_file.specs.Trees.{TreeMap, text_cmp}
 use Rattle.pid_lookup.specs.Asked.{AgreeOn}
 use Rattle.pid_lookup.specs.Found.{name_in_map}
 use Rattle.pid_file.specs.Items.{tree_of}
 use Rattle.pid_file.proofs.Maps.{is_equal, same_texts, tree-insert}
-use Rattle.pid_lookup.specs.AskedNames.{HasOnly}
+use Rattle.pid_lookup.specs.Steps.AskedNames.{HasOnly}
 
 -- the name of a path that is not asked for
 pub not_asked : (m : TreeMap) (path : Path) (name : List ℕ) (asked : List Path) → All (λ p. eq_by_cmp path_cmp p path ≡ false) asked → AgreeOn asked (insert m (path_text path) name) m

@@ -12,9 +12,6 @@ pub mod Told
 pub mod LookupRefusals
 pub mod Unanswered
 pub mod Steps
-pub mod AskedNames
-pub mod Kept
 pub mod InText
-pub mod CacheHashing
 pub mod CacheEntries
 pub mod CacheAgreement

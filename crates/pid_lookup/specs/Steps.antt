@@ -4,3 +4,6 @@ pub mod Asking
 pub mod FoundTexts
 pub mod Styles
 pub mod Words
+pub mod AskedNames
+pub mod Kept
+pub mod CacheHashing

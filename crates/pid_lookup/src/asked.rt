@@ -1,6 +1,6 @@
 //! The paths that a look-up can ask for.
 ghost use Rattle.std.specs.Prelude.{◌≡◌};
-ghost use Rattle.pid_lookup.specs.AskedNames.{asked_paths as paths_asked};
+ghost use Rattle.pid_lookup.specs.Steps.AskedNames.{asked_paths as paths_asked};
 
 use crate::args::{Args, class_byte, subclass_byte};
 use pid_ident::Path;

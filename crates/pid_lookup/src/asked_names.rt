@@ -3,9 +3,9 @@ ghost use Rattle.std.specs.Prelude.{◌≡◌, false};
 ghost use Rattle.std.specs.FinMap.{empty};
 ghost use Rattle.std.specs.List.{All, list_any};
 ghost use Rattle.std.specs.Ordering.{eq_by_cmp};
-ghost use Rattle.pid_file.specs.PathTexts.{path_cmp};
-ghost use Rattle.pid_lookup.specs.AskedNames.{asked_paths as paths_asked};
-ghost use Rattle.pid_lookup.specs.Kept.{kept_map};
+ghost use Rattle.pid_file.specs.Steps.Paths.{path_cmp};
+ghost use Rattle.pid_lookup.specs.Steps.AskedNames.{asked_paths as paths_asked};
+ghost use Rattle.pid_lookup.specs.Steps.Kept.{kept_map};
 
 use crate::args::Args;
 use crate::asked::asked_paths;
@@ -46,7 +46,7 @@ fn is_among(path: &Path, asked: &[Path; 8]) -> bool
 }
 
 impl Sink for AskedNames {
-    ghost use Rattle.pid_lookup.specs.AskedNames.{KeepsAllNames, TakesAsked};
+    ghost use Rattle.pid_lookup.specs.Steps.AskedNames.{KeepsAllNames, TakesAsked};
 
     type Fault = AllocError;
 
@@ -71,7 +71,7 @@ impl Names for AskedNames {
 
     ghost use Rattle.std.specs.Prelude.{◌≡◌, ⊤};
     ghost use Rattle.pid_file.specs.Trees.{TreeMap};
-    ghost use Rattle.pid_lookup.specs.Kept.{kept_map};
+    ghost use Rattle.pid_lookup.specs.Steps.Kept.{kept_map};
 
     ghost Shown = { TreeMap };
 

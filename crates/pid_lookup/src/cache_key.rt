@@ -5,7 +5,7 @@ ghost use Rattle.std.specs.Cmp.{partial_equiv_from_equiv};
 ghost use Rattle.std.specs.Cmp.Lexicographic.{bytes_decides, nat_list_eq_equiv};
 ghost use Rattle.std.specs.Hash.{same_Alike};
 ghost use Rattle.pid_file.specs.PathTexts.{IsPath, path_text};
-ghost use Rattle.pid_lookup.specs.CacheHashing.{fed_by, fed_text};
+ghost use Rattle.pid_lookup.specs.Steps.CacheHashing.{fed_by, fed_text};
 
 use pid_ident::Path;
 use std::hash::{Hash, Hasher};

@@ -1,9 +1,9 @@
 //! The names of an input's text.
 ghost use Rattle.std.specs.Prelude.{IfSome, IfOk};
 ghost use Rattle.pid_file.specs.InputTexts.{ReadsInput};
-ghost use Rattle.pid_lookup.specs.AskedNames.{HasAsked, HasOnly, asked_paths};
+ghost use Rattle.pid_lookup.specs.Steps.AskedNames.{HasAsked, HasOnly, asked_paths};
 ghost use Rattle.pid_lookup.specs.InText.{LeavesInput};
-ghost use Rattle.pid_lookup.specs.Kept.{kept_map};
+ghost use Rattle.pid_lookup.specs.Steps.Kept.{kept_map};
 
 use crate::args::Args;
 use crate::asked_names::AskedNames;

@@ -9,10 +9,8 @@ use Rattle.pid_moderation.specs.Judgement.{after_all}
 use Rattle.pid_moderation.specs.Keys.{times_under}
 use Rattle.pid_moderation.specs.RegistryStatus.{RegistryStatus, IsStatusIn, status_of_registry}
 use Rattle.pid_moderation.specs.Sound.{IsSound}
-use Rattle.pid_moderation.specs.SubmissionPages.{Search, listings_before, searched_in}
-use Rattle.pid_moderation.specs.Views.{Views, items_of, revision_of, views_of}
+use Rattle.pid_moderation.specs.Views.{items_of, revision_of, views_of}
 use Rattle.pid_moderation.specs.WellMade.{AreWellMade, IsFile}
-use Rattle.pid_moderation.specs.declared.lists.TheConstants.{SEARCHED}
 
 -- what well made commands lead to, from any beginning, is sound
 abbrev pub HistoriesAreSound : Type 0
@@ -41,8 +39,3 @@ TreesAreFiles = (t : TreeMap) → IsTree t → length (entries t) ≤ most_items
 abbrev pub ViewsTellStatus : Type 0
 ViewsTellStatus = (h : History) (status : RegistryStatus)
     → IsStatusIn (views_of h) status ↔ (status ≡ status_of_registry h)
-
--- a page of a search looks at a submission where there is one below its bound
-abbrev pub SearchesGoOn : Type 0
-SearchesGoOn = (search : Search) (v : Views) → 1 ≤ length (listings_before search.before v)
-    → 1 ≤ length (searched_in SEARCHED search v)

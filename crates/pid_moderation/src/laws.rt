@@ -19,7 +19,6 @@ ghost use Rattle.pid_moderation.specs.Laws.{
   KeysStandOnce,
   ItemsAreSorted,
   RevisionsAreWithin,
-  SearchesGoOn,
   TreesAreFiles,
   ViewsTellStatus,
 };
@@ -35,7 +34,7 @@ ghost use Rattle.pid_moderation.specs.WellMade.{HasGoodFile, IsWellMade};
 ghost use Rattle.pid_moderation.specs.Writes.{tree_of, last_written, writes_of};
 
 use crate::command::{Act, Command, Proposal};
-use crate::lists::{PAGE, SEARCHED};
+use crate::lists::PAGE;
 
 /// Every history that commands lead to has a tree of names, an administrator, submissions of
 /// accounts, deciders other than authors, remarks of accounts, limits that are kept, and the reply
@@ -156,12 +155,6 @@ pub fn mirrors_need_changes_alone()
 /// A page holds at most a hundred submissions or items.
 pub fn pages_hold_a_hundred()
     ensures { PAGE ≡ 100 }
-{}
-
-/// A page of a search looks at one submission at least where there is one below its bound.
-pub fn searches_go_on()
-    ensures some { 1 ≤ SEARCHED }
-    ensures looks { SearchesGoOn }
 {}
 
 /// What the parts of a command keep by their types, where its file reads to a tree of names.

@@ -10,7 +10,8 @@ use Rattle.pid_file.specs.Lines.{lines_of, pieces_of, drop_cr}
 use Rattle.pid_file.specs.LookingBack.{Item}
 use Rattle.pid_file.specs.Numbered.{Numbered, at_line, numbered_at}
 use Rattle.pid_file.specs.Faults.{line_fault_of}
-use Rattle.pid_file.specs.OpenLevels.{IsOpenAt, Says, items_of, open_behind}
+use Rattle.pid_file.specs.OpenLevels.{IsOpenAt}
+use Rattle.pid_file.specs.Steps.OpenLevels.{Says, items_of, open_behind}
 use Rattle.pid_reader.specs.LinesLeft.{as_ok, told_at, told_from, StandsAfter, HasLeft, IsAtEnd, GivesFirst}
 
 -- what is told where a line has no fault

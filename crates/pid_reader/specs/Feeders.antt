@@ -7,7 +7,7 @@ use Rattle.pid_reader.specs.declared.feeder.Feeder.{Feeder}
 use Rattle.pid_file.specs.Numbered.{numbered_of}
 use Rattle.pid_file.specs.WholeLines.{whole_lines}
 use Rattle.pid_file.specs.Sinks.{Took}
-use Rattle.pid_file.specs.Cutters.{Holds, IsStopped}
+use Rattle.pid_reader.specs.Cutters.{Holds, IsStopped}
 use Rattle.pid_file.specs.TreeSinks.{SetsItem, tree_so_far}
 
 -- the feeder was fed this text, whose whole lines weren't refused

@@ -14,11 +14,10 @@ pub use Rattle.pid_file.specs.Refusals
 pub use Rattle.pid_file.specs.Progress
 pub use Rattle.pid_file.specs.SeenItems
 pub use Rattle.pid_file.specs.Sinks
-pub use Rattle.pid_file.specs.Cutters
+pub mod Cutters
 pub use Rattle.pid_file.specs.Steps.LineEnds
 pub use Rattle.pid_file.specs.TreeSinks
 pub mod Feeders
-pub use Rattle.pid_file.specs.Counters
 pub mod LinesLeft
 pub use Rattle.pid_file.specs.WholeInputs
 pub use Rattle.pid_file.specs.InputTexts

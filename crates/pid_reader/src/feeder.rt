@@ -3,12 +3,13 @@ ghost use Rattle.std.specs.Prelude.{◌≡◌, ◌++◌, ℕ, [], List, None, Er
 ghost use Rattle.pid_file.specs.Reading.{Reads, refused, refusal_of};
 ghost use Rattle.pid_file.specs.WholeLines.{whole_lines};
 ghost use Rattle.pid_file.specs.Refusals.{IsRefusal};
-ghost use Rattle.pid_file.specs.Cutters.{left_by};
+ghost use Rattle.pid_reader.specs.Cutters.{left_by};
 ghost use Rattle.pid_reader.specs.Feeders.{Feeds, GaveUp};
 ghost use Rattle.pid_reader.specs.Steps.Feeders.{IsTreeEnd};
 ghost use Rattle.pid_file.specs.declared.sink.CutEnd.TheVariants.{Refused};
 
-use pid_file::{CutEnd, Cutter, ReadRefusal, Tree, TreeFault, TreeSink};
+use crate::cutter::Cutter;
+use pid_file::{CutEnd, ReadRefusal, Tree, TreeFault, TreeSink};
 use std::alloc::{AllocError, Global};
 
 /// Reads a text that comes in chunks of any size as a tree.

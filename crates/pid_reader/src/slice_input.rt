@@ -1,7 +1,7 @@
 //! Bytes in memory as an input.
 ghost use Rattle.std.specs.Prelude.{◌≡◌, ◌+◌, ◌^◌, ◌≤◌, min, length, None, Some, IfOk, IfErr};
 ghost use Rattle.std.specs.Io.KnownBytes.{ReadConsumes};
-ghost use Rattle.pid_file.specs.InputCalls.{HasReadOn};
+ghost use Rattle.pid_file.specs.Steps.InputCalls.{HasReadOn};
 ghost use Rattle.pid_file.specs.declared.io.ReadFault.{ReadFault};
 
 use pid_file::{Input, ReadFault};
@@ -29,7 +29,7 @@ impl<'a> SliceInput<'a> {
 }
 
 impl Input for SliceInput<'_> {
-    ghost use Rattle.pid_file.specs.ReadingLaws.{no_reads, more_reads};
+    ghost use Rattle.pid_file.specs.Steps.ReadingLaws.{no_reads, more_reads};
 
     ghost to_come = { λ i. Some i.rest.now };
 

@@ -3,8 +3,9 @@ use Rattle.std.proofs.Common.{◌≡◌, ℕ, List, [], ◌∷◌, Option, Some,
 use Rattle.std.proofs.lemmas.List.Elements.{All-nil, All-push}
 use Rattle.std.specs.Prelude.{IfSome}
 use Rattle.std.specs.Io.KnownBytes.{Consumes}
-use Rattle.pid_ident.specs.Moments.{Moment, AllSince, IsNoted}
-use Rattle.pid_ident.specs.MomentLaws.{since_none, since_then, since_so}
+use Rattle.pid_ident.specs.Moments.{Moment, AllSince}
+use Rattle.pid_ident.specs.Steps.Moments.{IsNoted}
+use Rattle.pid_ident.specs.Steps.MomentLaws.{since_none, since_then, since_so}
 use Rattle.pid_moderation.specs.History.{History}
 use Rattle.pid_service_laws.specs.declared.moderated.Moderated.{Ghosts}
 use Rattle.pid_script.specs.Calling.{CallsGo}

@@ -3,7 +3,8 @@ use Rattle.std.proofs.Common.{◌≡◌, ℕ, ◌+◌, ◌<◌, List, [], ◌∷
 use Rattle.std.proofs.lemmas.List.{append-nil, length-append}
 use Rattle.std.specs.List.{AllByRecursion}
 use Rattle.std.specs.Io.KnownBytes.{Consumes}
-use Rattle.pid_ident.specs.Moments.{Moment, IsNoted}
+use Rattle.pid_ident.specs.Moments.{Moment}
+use Rattle.pid_ident.specs.Steps.Moments.{IsNoted}
 use Rattle.pid_script.specs.Scripts.{AllButLast, HasMore, Notes}
 use Rattle.pid_script.proofs.LineReplies.{all_but_last, but_one}
 

@@ -5,7 +5,8 @@ use Rattle.std.specs.Prelude.{IfSome, IsSome}
 use Rattle.std.specs.List.{AllByRecursion}
 use Rattle.std.specs.Io.KnownBytes.{Consumes, Keeps, IsAtEnd}
 use Rattle.pid_file.specs.declared.io.ReadFault.{ReadFault as InputFault}
-use Rattle.pid_ident.specs.Moments.{Moment, IsNoted}
+use Rattle.pid_ident.specs.Moments.{Moment}
+use Rattle.pid_ident.specs.Steps.Moments.{IsNoted}
 use Rattle.pid_reader.specs.Lines.{drop_cr}
 use Rattle.pid_moderation.specs.History.{History}
 use Rattle.pid_script.specs.declared.line_end.LineEnd.{LineEnd}

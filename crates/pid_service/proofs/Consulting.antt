@@ -1,16 +1,22 @@
 -- What a question to a registry comes to, as one under moderation.
-use Rattle.std.proofs.Common.{Option, Result}
+use Rattle.std.proofs.Common.{Option, Result, ap, subst, ◌∙◌, Bool}
+use Rattle.sqlite.specs.Held.{state}
 use Rattle.sqlite_trees.specs.declared.store.Store.{Ghosts}
+use Rattle.pid_file.specs.declared.io.Output as outputs
 use Rattle.pid_moderation.specs.declared.refusal.Refusal.{Refusal}
 use Rattle.pid_moderation.specs.History.{History}
 use Rattle.pid_service_laws.proofs.Calling.{looked_does}
-use Rattle.pid_service_laws.specs.Questions.{IsAnswered, IsAnsweredIfThere}
+use Rattle.pid_service_laws.specs.declared.faults.ExportFault.{ExportFault}
+use Rattle.pid_tables.proofs.OfRows.OnlyReading.{reads_then}
 use Rattle.pid_service.proofs.Finding.{still_between}
 use Rattle.pid_service.proofs.ImportLives.{LooksLaw}
+use Rattle.pid_service.proofs.Questions.{caused_since}
 use Rattle.pid_service.specs.declared.registry.Registry.{Registry}
-use Rattle.pid_service.specs.Asking.{Answers, AnswersIfThere}
-use Rattle.pid_service.specs.Histories.{showing}
-use Rattle.pid_service.specs.Registries.{is_live}
+use Rattle.pid_service.specs.Asking.{Answers, AnswersIfThere, MayGive}
+use Rattle.pid_service.specs.Exporting.{IsExported}
+use Rattle.pid_service.specs.Histories.{OverHistory, Shows, showing}
+use Rattle.pid_service.specs.Registries.{connection, is_live}
+use Rattle.pid_service.specs.Steps.Asking.{Finds, FindsIfThere}
 
 module _ {S : Type 0} (store : Ghosts S) where
   -- each call that only looks is a call of the session that sends nothing
@@ -18,17 +24,49 @@ module _ {S : Type 0} (store : Ghosts S) where
   looks old new clean failed told =
       looked_does (showing store) old new clean told (λ h next between. still_between store old new h next (failed between.has_failed) between)
 
-  pub asked : {X : Type 0} (old new : Registry S store) (result : Result X Refusal) (Says : History → X → Type 0) → Answers store old new result Says → IsAnswered (showing store) is_live old new result Says
-  asked old new result Says a = record {
-    calls = looks old new a.rests.clean (λ off. (a.failed off).1) (λ good h shows. (a.told good h shows).1);
-    failed = a.failed;
-    told = a.told;
+  -- what was read answers a question
+  pub promised : {X : Type 0} (old new : Registry S store) (result : Result X Refusal) (Says : History → X → Type 0) → Finds store old new result Says → Answers store old new result Says
+  promised old new result Says found = record {
+    asked = record {
+      calls = looks old new found.rests.clean (λ off. (found.failed off).1) (λ good h shows. (found.told good h shows).1);
+      failed = found.failed;
+      told = found.told;
+    };
+    fault = found.fault;
+    lives = found.lives;
+    rests = found.rests;
+    caused = found.caused;
   }
 
-  pub asked_if_there : {X Y : Type 0} (old new : Registry S store) (result : Result X Refusal) (found : History → Option Y) (means : X → Y) → AnswersIfThere store old new result found means
-      → IsAnsweredIfThere (showing store) is_live old new result found means
-  asked_if_there old new result found means a = record {
-    calls = looks old new a.rests.clean (λ off. (a.failed off).1) (λ good h shows. (a.told good h shows).1);
-    failed = a.failed;
-    told = a.told;
+  pub promised_if_there : {X Y : Type 0} (old new : Registry S store) (result : Result X Refusal) (found : History → Option Y) (means : X → Y) → FindsIfThere store old new result found means → AnswersIfThere store old new result found means
+  promised_if_there old new result found means a = record {
+    asked = record {
+      calls = looks old new a.rests.clean (λ off. (a.failed off).1) (λ good h shows. (a.told good h shows).1);
+      failed = a.failed;
+      told = a.told;
+    };
+    fault = a.fault;
+    lives = a.lives;
+    rests = a.rests;
+    caused = a.caused;
   }
+
+  -- and the other way round
+  pub finds : {X : Type 0} (old new : Registry S store) (result : Result X Refusal) (Says : History → X → Type 0) → Answers store old new result Says → Finds store old new result Says
+  finds old new result Says a = record { failed = a.asked.failed; fault = a.fault; lives = a.lives; rests = a.rests; told = a.asked.told; caused = a.caused }
+
+  -- an export behind a question, whatever that answered
+  pub exported_then : {X W : Type 0} (writer : outputs.Ghosts W) (old mid new : Registry S store) (before after : W) (first : Result X Refusal) (result : Result (Unit {0}) ExportFault) (Says : History → X → Type 0) → Answers store old mid first Says → IsExported store writer mid new before after result
+      → IsExported store writer old new before after result
+  exported_then writer old mid new before after first result Says a e =
+      let shown : OverHistory store old new (Shows store new) = λ clean h shows. e.shown clean h (a.asked.told (e.rests.clean clean) h shows).1 in record {
+        calls = looks old new (λ clean. a.rests.clean (e.rests.clean clean)) (λ off. let same = (a.asked.failed off).1 in (e.failed (ap is_live same ∙ off)).1 ∙ same) shown;
+        failed = λ off. let same = (a.asked.failed off).1 in let so = e.failed (ap is_live same ∙ off) in (so.0, so.1 ∙ same, so.2);
+        lives = e.lives ∙ a.lives;
+        rests = reads_then (state store (connection old)) (state store (connection mid)) (state store (connection new)) a.rests e.rests;
+        shown = shown;
+        printed = λ clean h shows. e.printed clean h (a.asked.told (e.rests.clean clean) h shows).1;
+        refused = λ f is. subst (λ (b : Bool). MayGive b f) a.lives (e.refused f is);
+        caused = λ clean h shows f is. caused_since store (connection old) (connection mid) (connection new) f a.rests e.rests clean (e.caused clean h (a.asked.told (e.rests.clean clean) h shows).1 f is);
+        fault = e.fault;
+      }

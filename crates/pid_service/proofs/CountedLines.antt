@@ -15,12 +15,13 @@ use Rattle.pid_reader.specs.Numbered.{Numbered, item_in}
 use Rattle.pid_reader.specs.Sinks.{Took}
 use Rattle.pid_tables.specs.Lists.EachItem.{placed_from}
 use Rattle.pid_file.specs.Labels.{label}
-use Rattle.pid_file.specs.Printing.{block_line, ended, header, item_line, label_of, opens_block, text_or_none}
+use Rattle.pid_file.specs.Printing.{block_line, ended, header, item_line, label_of, opens_block}
+use Rattle.pid_file.specs.Steps.Printing.{text_or_none}
 use Rattle.pid_service.proofs.Labelled.{label_of_text}
 use Rattle.pid_service.specs.ItemTexts.{text_of_items}
 use Rattle.pid_ident.specs.PathTexts.{path_text}
 use Rattle.pid_service.specs.Steps.TextSinks.{Lengthens, block_behind, text_in}
-use Rattle.pid_service.specs.TextSinks.{TakesItem, lines_of_entry}
+use Rattle.pid_service.specs.Steps.TextSinks.{TakesItem, lines_of_entry}
 use Rattle.pid_service.specs.declared.items_text.TextBuffer.{TextBuffer}
 use Rattle.pid_service.specs.declared.items_text.TextSink.{TextSink}
 use Rattle.pid_service.proofs.ItemLines.{last_joined, last_path, text_behind, text_first, text_joined}

@@ -8,7 +8,6 @@ use Rattle.pid_file.specs.declared.io.WriteFault.{WriteFault}
 use Rattle.pid_tables.specs.Lists.Clauses.{IsCausedEnd}
 use Rattle.pid_tables.specs.declared.lists.walk.EachEnd.{EachEnd}
 use Rattle.pid_tables.specs.declared.lists.walk.EachEnd.TheVariants as ends
-use Rattle.pid_service.specs.Steps.Exports.{WritesItems}
 use Rattle.pid_service.specs.ItemTexts.{text_of_items}
 use Rattle.pid_moderation.specs.History.{History}
 use Rattle.pid_moderation.specs.Views.{items_of, views_of}
@@ -21,13 +20,13 @@ use Rattle.sqlite_trees.specs.declared.store.Store.{Ghosts}
 use Rattle.pid_tables.specs.Faults.{refusal_for}
 use Rattle.pid_moderation.specs.declared.refusal.Refusal.{Refusal}
 use Rattle.pid_service.specs.Asking.{IsCausedAs, MayGive}
-use Rattle.pid_service.specs.Exporting.{ExportsTree}
+use Rattle.pid_service.specs.Steps.Exports.{ExportsTree, WritesItems}
 use Rattle.pid_service.specs.Histories.{IsMemoryOrStore, Shows}
 use Rattle.pid_moderation.specs.declared.lists.Item.{Item}
 use Rattle.pid_service.specs.declared.changes.KeptChanges.{KeptChanges}
-use Rattle.pid_service_searches.specs.KeptNumbers.{HoldsNumbers}
-use Rattle.pid_service_searches.specs.declared.numbers.Searches.{Searches}
-use Rattle.pid_service.specs.KeptViews.{HoldsChanges, HoldsTop, HoldsWaiting, kept_by, kept_views}
+use Rattle.pid_tables.specs.Searches.KeptNumbers.{HoldsNumbers}
+use Rattle.pid_tables.specs.declared.searches.numbers.Searches.{Searches}
+use Rattle.pid_service.specs.KeptViews.{HoldsAccounts, HoldsChanges, HoldsTop, HoldsWaiting, kept_by, kept_views}
 use Rattle.pid_service.specs.Registries.{HasCleanDisk, OnlyReads, is_live}
 use Rattle.pid_lookup.specs.CacheAgreement.{Agrees}
 use Rattle.pid_lookup.specs.CacheEntries.{Entries}
@@ -83,11 +82,11 @@ module _ {S : Type 0} (store : Ghosts S) where
   text_told r h text is clean shows same = subst (λ (t : Option (Vec ℕ Global)). IfSome t (λ bytes. bytes.items ≡ text_of_items (items_of h))) is (shows.kept clean).text ∙ same
 
   -- a registry that has read keeps a text that is right, and shows what it did
-  pub text_kept : (old new : Registry S store) (h : History) → Shows store old h → is_live new ≡ is_live old → (kept_by new).names ≡ (kept_by old).names → (kept_views new).top ≡ (kept_views old).top → (kept_views new).changes ≡ (kept_views old).changes → (kept_views new).pending ≡ (kept_views old).pending → (kept_views new).numbers ≡ (kept_views old).numbers → OnlyReads store old new
+  pub text_kept : (old new : Registry S store) (h : History) → Shows store old h → is_live new ≡ is_live old → (kept_by new).names ≡ (kept_by old).names → (kept_views new).top ≡ (kept_views old).top → (kept_views new).changes ≡ (kept_views old).changes → (kept_views new).pending ≡ (kept_views old).pending → (kept_views new).numbers ≡ (kept_views old).numbers → (kept_views new).accounts ≡ (kept_views old).accounts → OnlyReads store old new
       → IfSome (kept_by new).text (λ bytes. bytes.items ≡ text_of_items (items_of h)) → Shows store new h
-  text_kept old new h shows same names tops changes waiting numbers reads text = record {
+  text_kept old new h shows same names tops changes waiting numbers many reads text = record {
     lives = same ∙ shows.lives;
     history = shows.history;
     tables = reads.kept (views_of h) shows.tables;
-    kept = λ clean. record { names = subst (λ (n : Entries). Agrees n (λ path. name_at path (items_of h))) (sym names) (shows.kept (reads.clean clean)).names; text = text; top = subst (λ (t : Option (Vec Item Global)). HoldsTop t (views_of h)) (sym tops) (shows.kept (reads.clean clean)).top; changes = subst (λ (c : Option KeptChanges). HoldsChanges c (views_of h)) (sym changes) (shows.kept (reads.clean clean)).changes; pending = subst (λ (n : Option (Vec ℕ Global)). HoldsWaiting n (views_of h)) (sym waiting) (shows.kept (reads.clean clean)).pending; numbers = subst (λ (n : Searches). HoldsNumbers n (views_of h)) (sym numbers) (shows.kept (reads.clean clean)).numbers };
+    kept = λ clean. record { names = subst (λ (n : Entries). Agrees n (λ path. name_at path (items_of h))) (sym names) (shows.kept (reads.clean clean)).names; text = text; top = subst (λ (t : Option (Vec Item Global)). HoldsTop t (views_of h)) (sym tops) (shows.kept (reads.clean clean)).top; changes = subst (λ (c : Option KeptChanges). HoldsChanges c (views_of h)) (sym changes) (shows.kept (reads.clean clean)).changes; pending = subst (λ (n : Option (Vec ℕ Global)). HoldsWaiting n (views_of h)) (sym waiting) (shows.kept (reads.clean clean)).pending; numbers = subst (λ (n : Searches). HoldsNumbers n (views_of h)) (sym numbers) (shows.kept (reads.clean clean)).numbers; accounts = subst (λ (n : Option ℕ). HoldsAccounts n (views_of h)) (sym many) (shows.kept (reads.clean clean)).accounts };
   }

@@ -21,12 +21,12 @@ use Rattle.pid_tables.specs.Rows.Shows.{ShowsIn}
 use Rattle.pid_tables.specs.declared.migration.Step.{Step}
 use Rattle.pid_tables.specs.Clauses.{ShowsOrBlank}
 use Rattle.pid_tables.specs.Creation.{ListsNoTable}
-use Rattle.pid_tables.proofs.OpenLemmas.{LeavesCommitted, blank_rests, opened_bare, opened_rests, opened_shown}
+use Rattle.pid_tables.proofs.OpenLemmas.{LeavesCommitted, opened_bare, opened_rests, opened_shown}
 use Rattle.pid_service.specs.declared.registry.Registry.{Registry}
 use Rattle.pid_service.specs.Histories.{FailsBetween, IsReached, Shows}
 use Rattle.pid_service.specs.Histories.{showing}
 use Rattle.pid_service.specs.LifeLaws.{KeepsBetween}
-use Rattle.pid_service.specs.Lives.{IsAfterStop, KeepsHistory, LeavesTablesTo}
+use Rattle.pid_service.specs.Lives.{FailedOpening, IsAfterSession, IsAfterStop, KeepsHistory, LeavesTablesTo, Migration, NextStop, Stop}
 use Rattle.pid_service.specs.Opening.{MovesTo, OpensTo, moved_to}
 use Rattle.pid_service.specs.Registries.{HasCleanDisk, connection, is_live}
 
@@ -86,7 +86,7 @@ module _ {S : Type 0} (store : Ghosts S) where
 
   -- the first opening
   pub bare_shows_none : IsSettled → (conn : Held S) → IsOpened store conn → ListsNoTable (clauses.seen store conn).trees → ShowsOrBlank store conn new_history
-  bare_shows_none law conn opens bare = inr (inr (blank_rests (state store conn) (opened_bare (state store conn) (law conn) opens.0 opens.1 bare), refl))
+  bare_shows_none law conn opens bare = inr (inr (opened_bare (state store conn) (law conn) opens.0 opens.1 bare, refl))
 
   pub shown_rests : IsSettled → (conn : Held S) (h : History) → IsOpened store conn → IsShown (clauses.seen store conn).trees (views_of h) → ShowsOrBlank store conn h
   shown_rests law conn h opens shown = opened_in law conn h opens shown.0 shown.1
@@ -136,7 +136,7 @@ module _ {S T : Type 0} (from : Ghosts S) (to : Ghosts T) where
   left_found law earlier conn h stop (inl rest) = opened_in to law conn h stop.opened Two (rest.leaves.each stop.clean _ stop.found)
   left_found law earlier conn h stop (inr (inl older)) = let shown = older.leaves.each stop.clean _ stop.found in opened_in to law conn h stop.opened shown.0 shown.1
   left_found law earlier conn h stop (inr (inr bare)) = elim (bare.0.leaves.each stop.clean _ stop.found) [
-    | inl none ↦ inr (inr (blank_rests (state to conn) (opened_bare (state to conn) (law conn) stop.opened.0 stop.opened.1 none), bare.1))
+    | inl none ↦ inr (inr (opened_bare (state to conn) (law conn) stop.opened.0 stop.opened.1 none, bare.1))
     | inr made ↦ opened_in to law conn h stop.opened Two (subst (λ (g : History). ShowsIn Two (found_in (schema_of Two) (clauses.seen to conn).trees) (views_of g)) (sym bare.1) made)
   ]
 
@@ -175,3 +175,11 @@ module _ {S T U : Type 0} (from : Ghosts S) (by : Ghosts T) (to : Ghosts U) wher
       | inr shows ↦ inr (keeps.shown clean after between.next shows)
     ];
   }
+
+module _ {S T : Type 0} (from : Ghosts S) (to : Ghosts T) (law : IsSettled to) where
+  -- so the tables are kept over all that comes after a session
+  pub session_finds : (ended : Registry S from) (conn : Held T) → IsAfterSession from to ended conn → LeavesTablesTo from to ended conn
+  session_finds ended _ (Stop conn stop) = stop_finds from to law ended conn stop
+  session_finds ended _ (NextStop earlier conn before stop) = keeps_between from to to ended earlier conn (session_finds ended earlier before) (stop_keeps to to law earlier conn stop)
+  session_finds ended _ (FailedOpening earlier conn fault before opens) = keeps_between from to to ended earlier conn (session_finds ended earlier before) (unopened_keeps to earlier conn fault opens)
+  session_finds ended _ (Migration earlier result before moves) = keeps_between from to to ended earlier (moved_to to result) (session_finds ended earlier before) (move_keeps to earlier result moves)

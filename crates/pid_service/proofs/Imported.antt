@@ -1,5 +1,5 @@
 -- What a registry shows after an import, by how far it came.
-use Rattle.std.proofs.Common.{◌≡◌, ◌≢◌, ◌⊎◌, inl, inr, ℕ, ◌<◌, ◌≤◌, ◌+◌, ◌↔◌, true, false, List, [], ◌++◌, length, Option, Some, Result, Ok, Err, IsErrAnd, refl, sym, ap, subst, ◌∙◌, arith, length-append, append-nil}
+use Rattle.std.proofs.Common.{◌≡◌, ◌≢◌, inl, inr, ℕ, ◌<◌, ◌≤◌, ◌+◌, ◌↔◌, true, false, List, [], ◌++◌, length, Option, Some, Result, Ok, Err, refl, sym, ap, subst, ◌∙◌, arith, length-append, append-nil}
 use Rattle.std.proofs.lemmas.Bool.Decides.{nat_tests}
 use Rattle.sqlite_trees.specs.declared.store.Store.{Ghosts}
 use Rattle.pid_moderation.specs.declared.command.Act.{Act}
@@ -12,7 +12,7 @@ use Rattle.pid_moderation.specs.BeforeFile.{SettlesImport, import_of}
 use Rattle.pid_moderation.specs.CheckTables.{is_broken, most_file_bytes}
 use Rattle.pid_moderation.specs.History.{Asked, Deed, History, Imports, Reading, TooLong, asked, deed_of, is_import}
 use Rattle.pid_moderation.specs.Judgement.{judge, answer, after}
-use Rattle.pid_moderation.specs.Views.{items_of, views_of}
+use Rattle.pid_moderation.specs.Views.{views_of}
 use Rattle.pid_tables.specs.Rows.Clauses.{AtRest}
 use Rattle.pid_tables.specs.declared.put_file.Stop.{Stop}
 use Rattle.pid_tables.specs.declared.put_file.Stop.TheVariants as stops
@@ -26,14 +26,14 @@ use Rattle.pid_service.specs.declared.registry.Registry.{Registry}
 use Rattle.pid_service.specs.Histories.{IsMemoryOrStore, IsReached, Shows}
 use Rattle.pid_service.specs.Importing.{ObeysImport}
 use Rattle.pid_service_laws.specs.Imports.{ReadsImport}
-use Rattle.pid_service.specs.Steps.Importing.{AnswersPast, EndSpares, IsPlain}
+use Rattle.pid_service.specs.Steps.Importing.{AnswersPast, IsPlain}
 use Rattle.pid_service.specs.KeptViews.{KeepsNothing, KeepsRight, kept_views}
 use Rattle.pid_service.specs.Obeying.{Obeys}
 use Rattle.pid_service.specs.Registries.{connection, is_live}
 
 -- an import asks the same, whatever file its command has
 
-import_deed : (act : Act) (reading : Reading) → is_import act ≡ true → Imports reading ≡ deed_of act reading
+pub import_deed : (act : Act) (reading : Reading) → is_import act ≡ true → Imports reading ≡ deed_of act reading
 import_deed (Account who rank) reading is = absurd (let no : ⊥ = cc in no)
 import_deed (Submit path proposal note) reading is = absurd (let no : ⊥ = cc in no)
 import_deed (Comment number text) reading is = absurd (let no : ⊥ = cc in no)
@@ -170,51 +170,10 @@ module _ {S : Type 0} (store : Ghosts S) where
   not_broken : (file : List ℕ) → is_broken (Import file) ≡ false → length file ≤ most_file_bytes
   not_broken file off = grind (arith, nat_tests)
 
--- what an import leaves that was answered before its file was read
-
-settled_spares : (h : History) (command : Command) (text : List ℕ) (result : Result Reply Refusal) → is_import command.act ≡ true → file_reading text ≢ TooLong → SettlesImport h command.account command.key result
-    → after h (asked command (file_reading text)) ≡ h
-settled_spares h command text result is short told = subst (λ (c : Asked). after h c ≡ h) (import_asks command (file_reading text) is) (told (file_reading text) short).1
-
-early_spares : (h : History) (command : Command) (text : List ℕ) (e : Refusal) → is_import command.act ≡ true → file_reading text ≢ TooLong → HasOneOutcome h command (Err e)
-    → (after h (asked command (file_reading text)) ≡ h) ⊎ IsMemoryOrStore e
-early_spares h command text e is short (inl told) = inl (settled_spares h command text (Err e) is short told)
-early_spares h command text e is short (inr fault) = inr fault
-
-pub past_spares : (h : History) (command : Command) (given : Result Reply Refusal) (result : Result Reply ImportEnd) (text : List ℕ) → LongFiles → LongRefused → is_import command.act ≡ true
-    → HasOneOutcome h command given → AnswersPast given result text → EndSpares result h (asked command (file_reading text))
-past_spares h command given (Ok reply) text long refused is told past = settled_spares h command text (Ok reply) is (fits text long past.1) (subst (HasOneOutcome h command) past.0 told)
-past_spares h command given (Err (imports.Refused e)) text long refused is told (inl past) = early_spares h command text e is (fits text long past.1) (subst (HasOneOutcome h command) past.0 told)
-past_spares h command given (Err (imports.Refused e)) text long refused is told (inr past) =
-    let over : most_file_bytes < length text = let n = past.1 in omega (arith, n) in
-    inl (refused h command text is over).1
-past_spares h command given (Err imports.Body) text long refused is told past = tt
-
-plain_spares : (given : Result Reply ImportEnd) (result : Result Reply Refusal) (h : History) (c : Asked) → IsPlain given result → given ≢ Err imports.Body → EndSpares given h c
-    → (items_of (after h c) ≡ items_of h) ⊎ IsErrAnd result IsMemoryOrStore
-plain_spares (Ok reply) result h c plain sure same = inl (ap items_of same)
-plain_spares (Err (imports.Refused e)) result h c plain sure (inl same) = inl (ap items_of same)
-plain_spares (Err (imports.Refused e)) result h c plain sure (inr fault) = inr (subst (λ (x : Result Reply Refusal). IsErrAnd x IsMemoryOrStore) (sym plain) fault)
-plain_spares (Err imports.Body) result h c plain sure same = absurd (sure refl)
-
-module _ {S : Type 0} (store : Ghosts S) where
-  read_text : (given : Result Reply ImportEnd) (file text rest : List ℕ) → given ≢ Err imports.Body → file ≡ text ++ rest → ReadsImport given (Some rest) text → length file ≤ most_file_bytes → text ≡ file
-  read_text (Ok reply) file text rest sure parts read short = whole_text store file text rest parts read.at_end
-  read_text (Err (imports.Refused e)) file text rest sure parts read short = whole_or_long store file text rest e parts read short
-  read_text (Err imports.Body) file text rest sure parts read short = absurd (sure refl)
-
-  pub bytes_spare : (given : Result Reply ImportEnd) (result : Result Reply Refusal) (None : Type 0) (h : History) (command : Command) (file text rest : List ℕ) → IsPlain given result → given ≢ Err imports.Body → file ≡ text ++ rest
-      → ReadsImport given (Some rest) text → length file ≤ most_file_bytes → None ⊎ EndSpares given h (asked command (file_reading text))
-      → None ⊎ ((items_of (after h (asked command (file_reading file))) ≡ items_of h) ⊎ IsErrAnd result IsMemoryOrStore)
-  bytes_spare given result None h command file text rest plain sure parts read short (inl none) = inl none
-  bytes_spare given result None h command file text rest plain sure parts read short (inr same) =
-      inr (subst (λ (t : List ℕ). (items_of (after h (asked command (file_reading t))) ≡ items_of h) ⊎ IsErrAnd result IsMemoryOrStore) (read_text given file text rest sure parts read short)
-      (plain_spares given result h (asked command (file_reading text)) plain sure same))
-
   -- of a command that has a file of its own
   pub file_given : (P : Asked → Type 0) (command : Command) (file bytes : List ℕ) → command.act ≡ Import file → bytes ≡ file → is_broken command.act ≡ false
       → (is_import command.act ≡ true → length bytes ≤ most_file_bytes → P (asked command (file_reading bytes))) → P (asks command)
   file_given P command file bytes is same sound given =
-      let short : length file ≤ most_file_bytes = not_broken store file (sym (ap is_broken is) ∙ sound) in
+      let short : length file ≤ most_file_bytes = not_broken file (sym (ap is_broken is) ∙ sound) in
       let full = given (ap is_import is) (subst (λ (b : List ℕ). length b ≤ most_file_bytes) (sym same) short) in
       subst (λ (x : Reading). P (asked command x)) (ap file_reading same ∙ sym (ap reading_of is)) full

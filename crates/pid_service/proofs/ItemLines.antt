@@ -6,9 +6,10 @@ use Rattle.pid_file.proofs.SendingLemmas.{Appends-nil, Appends-then}
 use Rattle.pid_moderation.specs.Items.{Items}
 use Rattle.pid_reader.specs.Numbered.{Numbered, item_in}
 use Rattle.pid_reader.specs.Sinks.{Took}
-use Rattle.pid_file.specs.Printing.{ended, lines_behind, text_or_none}
+use Rattle.pid_file.specs.Printing.{ended, lines_behind}
+use Rattle.pid_file.specs.Steps.Printing.{text_or_none}
 use Rattle.pid_file.proofs.Written.{ended-append, lines-first}
-use Rattle.pid_service.specs.ExportSinks.{PrintsItem}
+use Rattle.pid_service.specs.Steps.ExportSinks.{PrintsItem}
 use Rattle.pid_service.specs.declared.export_sink.ExportSink.{ExportSink}
 
 -- the lines of items as a text

@@ -1,25 +1,23 @@
 -- What the judgement says of the history after a command.
-use Rattle.std.proofs.Common.{◌≡◌, ◌≢◌, ◌⊎◌, inl, inr, ℕ, Bool, true, false, List, [], Option, Some, None, Ok, Err, refl, sym, subst, ap, ◌∙◌, ◌+◌, if◌then◌else◌, is_some}
+use Rattle.std.proofs.Common.{◌≡◌, ◌≢◌, ◌⊎◌, inl, inr, Bool, true, false, [], Option, Some, None, Ok, Err, refl, subst, ap, ◌∙◌, ◌+◌, if◌then◌else◌, is_some}
 use Rattle.std.proofs.lemmas.Bool.{false≢true}
 use Rattle.pid_moderation.specs.declared.change.Change.{Change}
 use Rattle.pid_moderation.specs.declared.command.Act.{Act}
 use Rattle.pid_moderation.specs.declared.command.Act.TheVariants.{Account, Submit, Comment, Withdraw, Approve, Reject, Import}
 use Rattle.pid_moderation.specs.declared.command.Command.{Command}
 use Rattle.pid_moderation.specs.declared.command.Reply.{Reply}
-use Rattle.pid_moderation.specs.declared.facts.Facts.{Facts}
 use Rattle.pid_moderation.specs.declared.refusal.Refusal.{Refusal}
 use Rattle.pid_moderation.specs.declared.refusal.Refusal.TheVariants.{BadPath, BadName, BadText, NoAccount, RankTooLow, NoSubmission, NotPending, NotAuthor, OwnDecision, ParentMissing, HasChildren, NothingToDo, FileFault, Full, Memory, Store, Failed, Changed}
 use Rattle.pid_moderation.specs.Changes.{changed, with_pairs, FitsViews}
 use Rattle.pid_moderation.specs.CheckTables.{checks, first_failing, is_ill_formed, reply_by_facts}
-use Rattle.pid_moderation.specs.Effects.{change_by, effect_of, new_pairs, LeadsOn, FitsHistory}
+use Rattle.pid_moderation.specs.Effects.{new_pairs, LeadsOn, FitsHistory}
 use Rattle.pid_moderation.specs.FactsOfViews.{facts_of}
 use Rattle.pid_moderation.specs.History.{Asked, History, Reading, asked, deed_of, is_import}
 use Rattle.pid_moderation.specs.Items.{Items, name_at}
-use Rattle.pid_moderation.specs.Judgement.{Outcome, Refused, Repeated, Accepts, unless, unless_kept, judge, judged, answer, added, after}
+use Rattle.pid_moderation.specs.Judgement.{Outcome, Refused, Repeated, Accepts, unless, unless_kept, judge, answer, added, after}
 use Rattle.pid_moderation.specs.Views.{Views, views_of}
 use Rattle.pid_moderation.proofs.Changing.{not_anew}
 use Rattle.pid_service.specs.Histories.{IsMemoryOrStore}
-use Rattle.pid_service.specs.Steps.Judging.{is_plain}
 
 refusal_adds : (h : History) (c : Asked) (o : Outcome) (e : Refusal) → answer o ≡ Err e → added h c o ≡ h
 refusal_adds h c (Refused r) e same = refl
@@ -50,22 +48,6 @@ accepts_new false None None to reply e is = cc
 -- what is answered though no reply is kept is accepted
 pub newly_accepts : (h : History) (c : Asked) (reply : Reply) → is_some (facts_of (views_of h) c).kept ≡ false → answer (judge (views_of h) c) ≡ Ok reply → judge (views_of h) c ≡ Accepts reply
 newly_accepts h c reply e is = let f = facts_of (views_of h) c in accepts_new (is_ill_formed f c.deed) f.kept (first_failing (checks f c)) (reply_by_facts f c.deed) reply e is
-
--- the effect of a command other than an import
-
-plain_effect : (account : List ℕ) (f : Facts) (act : Act) (reading : Reading) → is_import act ≡ false → is_plain (effect_of account f (deed_of act reading)) ≡ true
-plain_effect account f (Account who rank) reading other = refl
-plain_effect account f (Submit path proposal note) reading other = refl
-plain_effect account f (Comment n text) reading other = refl
-plain_effect account f (Withdraw n) reading other = refl
-plain_effect account f (Approve n e) reading other = refl
-plain_effect account f (Reject n reason) reading other = refl
-plain_effect account f (Import file) reading other = absurd (let no : ⊥ = cc in no)
-
-pub plain : (f : Facts) (command : Command) (reading : Reading) (change : Change) (reply : Reply) → is_import command.act ≡ false → change ≡ change_by f (asked command reading) (judged f (asked command reading))
-    → judged f (asked command reading) ≡ Accepts reply → is_plain change.effect ≡ true
-plain f command reading change reply other is accepts =
-    subst (λ (d : Change). is_plain d.effect ≡ true) (sym (is ∙ ap (change_by f (asked command reading)) accepts)) (plain_effect command.account f command.act reading other)
 
 -- a command other than an import brings no pairs
 

@@ -7,9 +7,9 @@ use Rattle.pid_moderation.specs.Items.{Items, name_at}
 use Rattle.pid_moderation.specs.Views.{Views}
 use Rattle.pid_service.specs.ItemTexts.{text_of_items}
 use Rattle.pid_moderation.specs.declared.lists.Item.{Item}
-use Rattle.pid_service_searches.specs.KeptNumbers.{HoldsNumbers}
-use Rattle.pid_service_searches.specs.declared.numbers.Searches.{Searches}
-use Rattle.pid_service.specs.KeptViews.{HoldsChanges, HoldsTop, HoldsWaiting, IsRightFor, KeepsNothing, LeavesKept, nothing}
+use Rattle.pid_tables.specs.Searches.KeptNumbers.{HoldsNumbers}
+use Rattle.pid_tables.specs.declared.searches.numbers.Searches.{Searches}
+use Rattle.pid_service.specs.KeptViews.{HoldsAccounts, HoldsChanges, HoldsTop, HoldsWaiting, IsRightFor, KeepsNothing, nothing}
 use Rattle.pid_service.specs.declared.changes.KeptChanges.{KeptChanges}
 use Rattle.pid_service.specs.declared.kept_views.KeptItems.{KeptItems}
 use Rattle.pid_service.specs.declared.kept_views.KeptViews.{KeptViews}
@@ -40,21 +40,19 @@ no_items k items none = subst (λ (n : KeptItems). ItemsRight n items) (sym none
 no_numbers : (numbers : Option (Vec ℕ Global)) (v : Views) → numbers ≡ None → HoldsWaiting numbers v
 no_numbers numbers v none = subst (λ (n : Option (Vec ℕ Global)). HoldsWaiting n v) (sym none) tt
 
-no_top : (top : Option (Vec Item Global)) (v : Views) → top ≡ None → HoldsTop top v
+pub no_top : (top : Option (Vec Item Global)) (v : Views) → top ≡ None → HoldsTop top v
 no_top top v none = subst (λ (t : Option (Vec Item Global)). HoldsTop t v) (sym none) tt
 
-no_changes : (changes : Option KeptChanges) (v : Views) → changes ≡ None → HoldsChanges changes v
+pub no_changes : (changes : Option KeptChanges) (v : Views) → changes ≡ None → HoldsChanges changes v
 no_changes changes v none = subst (λ (c : Option KeptChanges). HoldsChanges c v) (sym none) tt
+
+no_accounts : (accounts : Option ℕ) (v : Views) → accounts ≡ None → HoldsAccounts accounts v
+no_accounts accounts v none = subst (λ (a : Option ℕ). HoldsAccounts a v) (sym none) tt
 
 -- nothing is right about any views
 pub nothing_kept : (k : KeptViews) (v : Views) → KeepsNothing k → IsRightFor k v
-nothing_kept k v none = let items = no_items k.items v.items none.items in record { names = items.0; text = items.1; top = no_top k.top v none.top; changes = no_changes k.changes v none.changes; pending = no_numbers k.pending v none.pending; numbers = subst (λ (n : Searches). HoldsNumbers n v) (sym none.numbers) tt }
+nothing_kept k v none = let items = no_items k.items v.items none.items in record { names = items.0; text = items.1; top = no_top k.top v none.top; changes = no_changes k.changes v none.changes; pending = no_numbers k.pending v none.pending; numbers = subst (λ (n : Searches). HoldsNumbers n v) (sym none.numbers) tt; accounts = no_accounts k.accounts v none.accounts }
 
 -- what is right about the items stays so while they are the same
 pub same_items : (k : KeptItems) (old new : Items) → new ≡ old → ItemsRight k old → ItemsRight k new
 same_items k old new same right = subst (λ (items : Items). ItemsRight k items) (sym same) right
-
--- ---- what is kept stays
-
-pub left_same : (k : KeptViews) → LeavesKept k k
-left_same k = record { names = refl; text = λ some. refl; top = λ some. refl; pending = λ some. refl; read = λ was. (was, refl) }

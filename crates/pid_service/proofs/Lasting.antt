@@ -13,7 +13,7 @@ use Rattle.pid_service.specs.Histories.{IsMemoryOrStore, OverHistory}
 use Rattle.pid_moderation.specs.History.{Asked, Reading}
 use Rattle.sqlite_trees.specs.declared.store.Store.{Ghosts}
 use Rattle.pid_service.specs.declared.registry.Registry.{Registry}
-use Rattle.pid_service.specs.Importing.{EndIsNotFailed, EndLasts, ForgetsAll, IsEndFault, OfRefusal, leaves_live}
+use Rattle.pid_service.specs.Importing.{EndIsNotFailed, EndLasts, IsEndFault, OfRefusal, leaves_live}
 use Rattle.pid_service.specs.Obeying.{ImportFaults, Lasts}
 use Rattle.pid_service.specs.Registries.{KeepsLimit, is_live}
 use Rattle.pid_service.specs.Steps.Importing.{EndStaysLive}
@@ -87,10 +87,9 @@ module _ {S : Type 0} (store : Ghosts S) (old new : Registry S store) where
     limit = limit;
   }
 
-  pub end_lasting : (asks : Reading → Asked) (r : Result Reply ImportEnd) → ForgetsAll store old new → EndStaysLive r (is_live old) (is_live new) → KeepsLimit store old new
+  pub end_lasting : (asks : Reading → Asked) (r : Result Reply ImportEnd) → EndStaysLive r (is_live old) (is_live new) → KeepsLimit store old new
       → OverHistory store old new (λ h. (reading : Reading) → IfErr r (OfRefusal (ImportFaults store old new h (asks reading)))) → EndLasts store old new asks r
-  end_lasting asks r forgets held limit caused = record {
-    forgets = forgets;
+  end_lasting asks r held limit caused = record {
     alive = λ on. end_alive r (is_live old) (is_live new) held;
     stays = end_stays r (is_live old) (is_live new) held;
     fails = end_fails r (is_live old) (is_live new) held;

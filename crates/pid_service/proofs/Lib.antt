@@ -25,3 +25,5 @@ pub mod ImportCauses
 pub mod Moderating
 pub mod TopItems
 pub mod ChangedLists
+pub mod AccountCounts
+pub mod ForgottenItems

@@ -11,6 +11,8 @@ use Rattle.pid_lookup.specs.declared.args.Args.{Args}
 use Rattle.pid_lookup.specs.Answers.{answer_of}
 use Rattle.pid_lookup.specs.Flags.{is_bad}
 use Rattle.pid_moderation.specs.declared.refusal.Refusal.{Refusal}
+use Rattle.pid_moderation.specs.declared.refusal.Refusal.TheVariants.{Failed}
+use Rattle.pid_service.proofs.Keeping.{true_not}
 use Rattle.pid_moderation.specs.History.{History}
 use Rattle.pid_moderation.specs.Items.{Items}
 use Rattle.pid_moderation.specs.Views.{items_of}
@@ -20,7 +22,7 @@ use Rattle.pid_reader.specs.WholeLines.{open_part}
 use Rattle.pid_service.specs.Asking.{MayGive}
 use Rattle.pid_service_laws.specs.declared.faults.ExportFault.{ExportFault}
 use Rattle.pid_service_laws.specs.declared.faults.ExportFault.TheVariants.{Refused, Write}
-use Rattle.pid_service.specs.Exporting.{ExportsTree}
+use Rattle.pid_service.specs.Steps.Exports.{ExportsTree}
 use Rattle.pid_file.specs.Printing.{ended, header, lines_behind, print}
 use Rattle.pid_service_laws.specs.Moderating.{ExportsText}
 use Rattle.pid_service_laws.specs.Moderating.{LooksUp}
@@ -62,3 +64,7 @@ looked_up (Ok found) tree flags args size live lives told bad fault = (no_bad (i
 looked_up (Err BadFlags) tree flags args size live lives told bad fault = (bad lives).0 refl
 looked_up (Err (Names e)) tree flags args size live lives told bad fault = (fault e refl).alive lives
 looked_up (Err Memory) tree flags args size live lives told bad fault = tt
+
+-- what a registry that has failed may give
+pub failed_gives : (live : Bool) → live ≡ false → (is e : Refusal) → is ≡ Failed → is ≡ e → MayGive live e
+failed_gives live off is e failed same = record { alive = λ on. true_not live on off; failed = λ still. sym same ∙ failed }

@@ -23,13 +23,13 @@ use Rattle.pid_tables.specs.Rows.Clauses as clauses
 use Rattle.pid_tables.specs.declared.rows.fault.TableFault.{TableFault}
 use Rattle.pid_tables.specs.declared.rows.fault.TableFault.TheVariants as faults
 use Rattle.pid_service.specs.declared.registry.Registry.{Registry}
-use Rattle.pid_service.specs.Asking.{Answers, IsCausedAs, MayGive}
+use Rattle.pid_service.specs.Asking.{IsCausedAs, MayGive}
 use Rattle.pid_service.specs.Histories.{IsMemoryOrStore, IsReached, Shows}
-use Rattle.pid_service.specs.KeptViews.{LeavesKept, kept_views}
-use Rattle.pid_service.specs.Registries.{HasCleanDisk, OnlyAsked, OnlyReads, SparesKept, connection, is_live}
-use Rattle.pid_service.specs.Steps.Asking.{answered_as}
+use Rattle.pid_service.specs.KeptViews.{kept_views}
+use Rattle.pid_service.specs.Registries.{HasCleanDisk, OnlyReads, connection, is_live}
+use Rattle.pid_service.specs.Steps.Asking.{Finds, OnlyAsked, answered_as}
 use Rattle.pid_service.proofs.Causes.{caused_as, caused_by}
-use Rattle.pid_service.proofs.Keeping.{left_same, true_not}
+use Rattle.pid_service.proofs.Keeping.{true_not}
 use Rattle.pid_service.proofs.Obeyed.{only_read}
 
 -- ---- what the tables answer, as a question answers it
@@ -59,6 +59,9 @@ still_live false off = absurd (off refl)
 answered : {Y : Type 0} (y : Y) (e : Refusal) → ◌≡◌ {A = Result Y Refusal} (Ok y) (Err e) → ⊥
 answered y e is = cc
 
+not_failed : {X : Type 0} → ◌≡◌ {A = Result X Refusal} (Err Memory) (Err Failed) → ⊥
+not_failed is = cc
+
 -- a refusal, whatever was asked for
 abbrev refused_of : {X Y : Type 0} → Result X Refusal → Result Y Refusal
 refused_of (Ok x) = Err Failed
@@ -66,24 +69,22 @@ refused_of (Err e) = Err e
 
 module _ {S : Type 0} (store : Ghosts S) where
   -- a question that another one is refused by
-  pub answers_refused : {X Y : Type 0} (old new : Registry S store) (e : Refusal) (Told : History → X → Type 0) (Says : History → Y → Type 0) → Answers store old new (Err e) Told → Answers store old new (Err e) Says
+  pub answers_refused : {X Y : Type 0} (old new : Registry S store) (e : Refusal) (Told : History → X → Type 0) (Says : History → Y → Type 0) → Finds store old new (Err e) Told → Finds store old new (Err e) Says
   answers_refused old new e Told Says refused = record {
     failed = λ off. let f = refused.failed off in (ap refused_of f.0, f.1);
     fault = refused.fault;
     lives = refused.lives;
     rests = refused.rests;
-    leaves = refused.leaves;
     told = refused.told;
     caused = refused.caused;
   }
 
   -- a live one, with one question more
-  pub asked_then : (start old new : Registry S store) → is_live old ≡ true → is_live new ≡ is_live old → OnlyReads store old new → SparesKept (kept_views old) (kept_views new) → OnlyAsked store start old → OnlyAsked store start new
-  asked_then start old new on same reads spares asked = record {
+  pub asked_then : (start old new : Registry S store) → is_live old ≡ true → is_live new ≡ is_live old → OnlyReads store old new → OnlyAsked store start old → OnlyAsked store start new
+  asked_then start old new on same reads asked = record {
     lives = same ∙ asked.lives;
     rests = reads_then (state store (connection start)) (state store (connection old)) (state store (connection new)) asked.rests reads;
     failed = λ off. absurd (let both : true ≡ false = sym on ∙ (asked.lives ∙ off) in let no : ⊥ = cc in no);
-    spares = record { text = spares.text ∙ asked.spares.text; top = spares.top ∙ asked.spares.top; pending = spares.pending ∙ asked.spares.pending; read = spares.read ∙ asked.spares.read };
   }
 
   -- what the tables answer behind a read, they answer from before it on
@@ -122,13 +123,12 @@ module _ {S : Type 0} (store : Ghosts S) where
   -- a question that the tables answer
   answers_found : {X : Type 0} (old new : Registry S store) (found : Result X TableFault) (Told : Views → X → Type 0) (Says : History → X → Type 0) → is_live old ≡ true → is_live new ≡ is_live old → kept_views new ≡ kept_views old
       → clauses.Reads store (connection old) (connection new) found Told → ((h : History) → IsReached h → IsReadable (views_of h)) → ((h : History) (x : X) → Shows store old h → HasCleanDisk store old → Told (views_of h) x → Says h x)
-      → Answers store old new (answered_as found) Says
+      → Finds store old new (answered_as found) Says
   answers_found old new found Told Says on same kept read readable means = record {
     failed = λ off. absurd (let both : true ≡ false = sym on ∙ off in let no : ⊥ = cc in no);
     fault = may_give found (is_live old) on;
     lives = same;
     rests = read.rests;
-    leaves = subst (λ k. LeavesKept (kept_views old) k) (sym kept) (left_same (kept_views old));
     told = λ clean h shows. (
       found_told found (Told (views_of h)) (Says h) (λ fault. IsReadable (views_of h) → clauses.IsCaused store (connection old) (connection new) fault) (λ x told. means h x shows (read.rests.clean clean) told) (read.told clean (views_of h) shows.tables),
       only_read store old new h same read.rests kept shows,
@@ -138,55 +138,51 @@ module _ {S : Type 0} (store : Ghosts S) where
 
   pub answers_read : {X : Type 0} (old new : Registry S store) (found : Result X TableFault) (r : Result X Refusal) (Told : Views → X → Type 0) (Says : History → X → Type 0) → is_live old ≡ true → is_live new ≡ is_live old → kept_views new ≡ kept_views old
       → clauses.Reads store (connection old) (connection new) found Told → r ≡ answered_as found → ((h : History) → IsReached h → IsReadable (views_of h)) → ((h : History) (x : X) → Shows store old h → HasCleanDisk store old → Told (views_of h) x → Says h x)
-      → Answers store old new r Says
+      → Finds store old new r Says
   answers_read {X = X} old new found r Told Says on same kept read is readable means =
-      subst (λ (e : Result X Refusal). Answers store old new e Says) (sym is) (answers_found old new found Told Says on same kept read readable means)
+      subst (λ (e : Result X Refusal). Finds store old new e Says) (sym is) (answers_found old new found Told Says on same kept read readable means)
 
   -- a question that is answered without the tables
-  pub answered_here : {X : Type 0} (r : Registry S store) (x : X) (Says : History → X → Type 0) → is_live r ≡ true → (connection r).in_transaction ≡ false → (HasCleanDisk store r → (h : History) → Shows store r h → Says h x) → Answers store r r (Ok x) Says
+  pub answered_here : {X : Type 0} (r : Registry S store) (x : X) (Says : History → X → Type 0) → is_live r ≡ true → (connection r).in_transaction ≡ false → (HasCleanDisk store r → (h : History) → Shows store r h → Says h x) → Finds store r r (Ok x) Says
   answered_here r x Says on settled says = record {
     failed = true_not (is_live r) on;
     fault = tt;
     lives = refl;
     rests = nothing_read (state store (connection r)) settled;
-    leaves = left_same (kept_views r);
     told = λ clean h shows. (says clean h shows, shows);
     caused = λ clean h shows. tt;
   }
 
   -- one for which memory runs out before the tables are asked
-  pub short_here : {X : Type 0} (r : Registry S store) (Says : History → X → Type 0) → is_live r ≡ true → (connection r).in_transaction ≡ false → Answers store r r (Err Memory) Says
+  pub short_here : {X : Type 0} (r : Registry S store) (Says : History → X → Type 0) → is_live r ≡ true → (connection r).in_transaction ≡ false → Finds store r r (Err Memory) Says
   short_here r Says on settled = record {
     failed = true_not (is_live r) on;
     fault = record { alive = λ still. inl refl; failed = true_not (is_live r) on };
     lives = refl;
     rests = nothing_read (state store (connection r)) settled;
-    leaves = left_same (kept_views r);
     told = λ clean h shows. (inl refl, shows);
     caused = λ clean h shows. tt;
   }
 
   -- and one that a registry is asked which has failed
-  pub failed_here : {X : Type 0} (r : Registry S store) (Says : History → X → Type 0) → is_live r ≡ false → (connection r).in_transaction ≡ false → Answers store r r (Err Failed) Says
+  pub failed_here : {X : Type 0} (r : Registry S store) (Says : History → X → Type 0) → is_live r ≡ false → (connection r).in_transaction ≡ false → Finds store r r (Err Failed) Says
   failed_here r Says off settled = record {
     failed = λ still. (refl, refl);
     fault = record { alive = λ on. true_not (is_live r) on off; failed = λ still. refl };
     lives = refl;
     rests = nothing_read (state store (connection r)) settled;
-    leaves = left_same (kept_views r);
     told = λ clean h shows. true_not (is_live r) shows.lives off;
     caused = λ clean h shows. true_not (is_live r) shows.lives off;
   }
 
   -- one at which the tables fail
   pub answers_fault : {X : Type 0} (old new : Registry S store) (fault : TableFault) (e : Refusal) (Says : History → X → Type 0) → is_live old ≡ true → is_live new ≡ is_live old → kept_views new ≡ kept_views old → OnlyReads store old new → e ≡ refusal_for fault → IsMemoryOrStore e
-      → (HasCleanDisk store new → (h : History) → Shows store old h → clauses.IsCaused store (connection old) (connection new) fault) → Answers store old new (Err e) Says
+      → (HasCleanDisk store new → (h : History) → Shows store old h → clauses.IsCaused store (connection old) (connection new) fault) → Finds store old new (Err e) Says
   answers_fault old new fault e Says on same kept reads is bad cause = record {
     failed = true_not (is_live old) on;
     fault = record { alive = λ still. bad; failed = true_not (is_live old) on };
     lives = same;
     rests = reads;
-    leaves = subst (λ k. LeavesKept (kept_views old) k) (sym kept) (left_same (kept_views old));
     told = λ clean h shows. (bad, only_read store old new h same reads kept shows);
     caused = λ clean h shows. caused_by store (connection old) (connection new) fault e is (cause clean h shows);
   }
@@ -201,22 +197,59 @@ module _ {S : Type 0} (store : Ghosts S) where
   fault_since (Ok x) old mid new first second clean cause = tt
   fault_since (Err e) old mid new first second clean cause = caused_since old mid new e first second clean cause
 
-  -- a question that the tables answer behind another one
-  pub answers_behind : {X Y : Type 0} (old mid new : Registry S store) (y : Y) (found : Result X TableFault) (r : Result X Refusal) (Before : History → Y → Type 0) (Told : Views → X → Type 0) (Says : History → X → Type 0) → Answers store old mid (Ok y) Before → is_live new ≡ is_live mid
-      → kept_views new ≡ kept_views mid → clauses.Reads store (connection mid) (connection new) found Told → r ≡ answered_as found → ((h : History) → IsReached h → IsReadable (views_of h))
-      → ((h : History) (x : X) → Shows store mid h → HasCleanDisk store mid → Told (views_of h) x → Says h x) → Answers store old new r Says
-  answers_behind old mid new y found r Before Told Says first same kept read is readable means =
+  -- a question behind another one
+  pub answers_then : {X Y : Type 0} (old mid new : Registry S store) (y : Y) (r : Result X Refusal) (Before : History → Y → Type 0) (Says : History → X → Type 0) → Finds store old mid (Ok y) Before → Finds store mid new r Says → Finds store old new r Says
+  answers_then old mid new y r Before Says first second =
       let on : is_live old ≡ true = still_live (is_live old) (λ off. answered y Failed (first.failed off).0) in
-      let second = answers_read mid new found r Told Says (first.lives ∙ on) same kept read is readable means in
       record {
-        failed = λ off. absurd (let both : true ≡ false = sym on ∙ off in let no : ⊥ = cc in no);
+        failed = true_not (is_live old) on;
         fault = subst (λ (b : Bool). IfErr r (MayGive b)) first.lives second.fault;
         lives = second.lives ∙ first.lives;
-        rests = reads_then (state store (connection old)) (state store (connection mid)) (state store (connection new)) first.rests read.rests;
-        leaves = subst (λ k. LeavesKept (kept_views old) k) (sym kept) first.leaves;
-        told = λ clean h shows. second.told clean h (first.told (read.rests.clean clean) h shows).1;
-        caused = λ clean h shows. fault_since r (connection old) (connection mid) (connection new) first.rests read.rests clean (second.caused clean h (first.told (read.rests.clean clean) h shows).1);
+        rests = reads_then (state store (connection old)) (state store (connection mid)) (state store (connection new)) first.rests second.rests;
+        told = λ clean h shows. second.told clean h (first.told (second.rests.clean clean) h shows).1;
+        caused = λ clean h shows. fault_since r (connection old) (connection mid) (connection new) first.rests second.rests clean (second.caused clean h (first.told (second.rests.clean clean) h shows).1);
       }
+
+  -- one that the tables answer behind another one
+  pub answers_behind : {X Y : Type 0} (old mid new : Registry S store) (y : Y) (found : Result X TableFault) (r : Result X Refusal) (Before : History → Y → Type 0) (Told : Views → X → Type 0) (Says : History → X → Type 0) → Finds store old mid (Ok y) Before → is_live new ≡ is_live mid
+      → kept_views new ≡ kept_views mid → clauses.Reads store (connection mid) (connection new) found Told → r ≡ answered_as found → ((h : History) → IsReached h → IsReadable (views_of h))
+      → ((h : History) (x : X) → Shows store mid h → HasCleanDisk store mid → Told (views_of h) x → Says h x) → Finds store old new r Says
+  answers_behind old mid new y found r Before Told Says first same kept read is readable means =
+      let on : is_live old ≡ true = still_live (is_live old) (λ off. answered y Failed (first.failed off).0) in
+      answers_then old mid new y r Before Says first (answers_read mid new found r Told Says (first.lives ∙ on) same kept read is readable means)
+
+  -- one whose answer is left out
+  pub answers_nothing : {X : Type 0} (old new : Registry S store) (x : X) (Says : History → X → Type 0) → Finds store old new (Ok x) Says → Finds store old new (Ok (tt {0})) (λ h _. Unit {0})
+  answers_nothing old new x Says a = record {
+    failed = λ off. absurd (answered x Failed (a.failed off).0);
+    fault = tt;
+    lives = a.lives;
+    rests = a.rests;
+    told = λ clean h shows. (tt, (a.told clean h shows).1);
+    caused = λ clean h shows. tt;
+  }
+
+  -- and one for which memory ran out, which is no matter
+  pub answers_short : {X : Type 0} (old new : Registry S store) (e : Refusal) (Says : History → X → Type 0) → e ≡ Memory → Finds store old new (Err e) Says → Finds store old new (Ok (tt {0})) (λ h _. Unit {0})
+  answers_short old new e Says is a = record {
+    failed = λ off. absurd (not_failed (ap (λ (r : Refusal). Err r) (sym is) ∙ (a.failed off).0));
+    fault = tt;
+    lives = a.lives;
+    rests = a.rests;
+    told = λ clean h shows. (tt, (a.told clean h shows).1);
+    caused = λ clean h shows. tt;
+  }
+
+  -- a read that kept nothing
+  pub answers_unkept : (old new : Registry S store) → is_live old ≡ true → is_live new ≡ is_live old → kept_views new ≡ kept_views old → OnlyReads store old new → Finds store old new (Ok (tt {0})) (λ h _. Unit {0})
+  answers_unkept old new on same kept reads = record {
+    failed = true_not (is_live old) on;
+    fault = tt;
+    lives = same;
+    rests = reads;
+    told = λ clean h shows. (tt, only_read store old new h same reads kept shows);
+    caused = λ clean h shows. tt;
+  }
 
 both_no : (a b : Bool) → b ≡ false → (a && b) ≡ false
 both_no true b off = off

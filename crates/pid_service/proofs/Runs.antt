@@ -1,5 +1,5 @@
 -- Commands of a list, obeyed one after another.
-use Rattle.std.proofs.Common.{◌≡◌, ◌⊎◌, inl, inr, ℕ, zero, suc, ◌+◌, ◌<◌, ◌≤◌, List, [], ◌∷◌, ◌++◌, length, take, drop, map, get_or, add-one, Option, Some, None, Result, Ok, Err, IfErr, IsErrAnd, is_ok, is_some, true, false, refl, sym, subst, ap, ◌∙◌, arith}
+use Rattle.std.proofs.Common.{◌≡◌, inl, inr, ℕ, zero, suc, ◌+◌, ◌<◌, ◌≤◌, List, [], ◌∷◌, ◌++◌, length, take, drop, map, get_or, add-one, Option, Some, None, Result, Ok, Err, IfErr, IsErrAnd, is_ok, is_some, true, false, refl, sym, subst, ap, ◌∙◌, arith}
 use Rattle.sqlite_trees.specs.declared.store.Store.{Ghosts}
 use Rattle.pid_moderation.specs.declared.command.Command.{Command}
 use Rattle.pid_moderation.specs.declared.command.Reply.{Reply}
@@ -7,13 +7,12 @@ use Rattle.pid_moderation.specs.declared.refusal.Refusal.{Refusal}
 use Rattle.pid_moderation.specs.declared.refusal.Refusal.TheVariants.{BadPath, BadName, BadText, NoAccount, RankTooLow, NoSubmission, NotPending, NotAuthor, OwnDecision, ParentMissing, HasChildren, NothingToDo, FileFault, Full, Memory, Store, Failed, Changed}
 use Rattle.pid_moderation.specs.History.{Asked, History}
 use Rattle.pid_moderation.specs.Judgement.{judge, answer, answers, after, after_all}
-use Rattle.pid_moderation.specs.Views.{items_of, views_of}
+use Rattle.pid_moderation.specs.Views.{views_of}
 use Rattle.pid_service.specs.declared.registry.Registry.{Registry}
 use Rattle.pid_service.specs.Histories.{Shows, IsMemoryOrStore}
-use Rattle.pid_service.specs.KeptViews.{kept_by, nothing}
-use Rattle.pid_service.specs.Obeying.{Forgets, IsObeyed, Obeys}
+use Rattle.pid_service.specs.Obeying.{IsObeyed, Obeys}
 use Rattle.pid_service.specs.declared.running.RunReport.{RunReport}
-use Rattle.pid_service.specs.Running.{EndsRun, ForgetsNext, ForgetsRun, LeaveItems, ObeysInTurn, Runs, RunsInTurn, EndsTurn}
+use Rattle.pid_service.specs.Running.{EndsRun, ObeysInTurn, Runs, RunsInTurn, EndsTurn}
 use Rattle.pid_service.specs.Steps.Running.{fault_in}
 use Rattle.pid_service.proofs.Judged.{refused_stays}
 
@@ -220,53 +219,3 @@ module _ {S : Type 0} (store : Ghosts S) where
       let many : length report.replies.items ≡ 0 = ap length none in
       in_turn report cs 0 r r r many (turn_none report.replies.items r none)
       (subst (λ (f : Option Refusal). EndsTurn store f cs r r) (sym is) (at_once cs r (omega (arith, many, less))))
-
--- names in memory
-
-leave_more : (cs : List Asked) (h : History) (c : Asked) → LeaveItems h cs → items_of (after (after_all h cs) c) ≡ items_of (after_all h cs) → LeaveItems h (cs ++ c ∷ [])
-leave_more [] h c all one = (one, tt)
-leave_more (x ∷ cs) h c all one = (all.0, leave_more cs (after h x) c all.1 one)
-
-pub none_then : (Before After Left : Type 0) → (Before → After) → Before ⊎ Left → After ⊎ Left
-none_then Before After Left keep (inl none) = inl (keep none)
-none_then Before After Left keep (inr left) = inr left
-
--- one command more was obeyed
-pub forgets_more : (Before After : Type 0) (r : Result Reply Refusal) (h : History) (cs more : List Asked) (c : Asked) → more ≡ cs ++ c ∷ [] → (Before → After) → Before ⊎ LeaveItems h cs
-    → After ⊎ ((items_of (after (after_all h cs) c) ≡ items_of (after_all h cs)) ⊎ IsErrAnd r IsMemoryOrStore) → fault_in r ≡ None → After ⊎ LeaveItems h more
-forgets_more Before After r h cs more c is keep so (inl none) sure = inl none
-forgets_more Before After r h cs more c is keep so (inr (inr fault)) sure = absurd (no_fault r sure fault)
-forgets_more Before After r h cs more c is keep (inl none) (inr (inl same)) sure = inl (keep none)
-forgets_more Before After r h cs more c is keep (inr left) (inr (inl same)) sure = inr (subst (LeaveItems h) (sym is) (leave_more cs h c left same))
-
-module _ {S : Type 0} (store : Ghosts S) where
-  -- the list ends at a fault
-  pub forgets_at : (report : RunReport) (new : Registry S store) (h : History) (i : ℕ) (all rest : List Asked) (c : Asked) → drop i all ≡ c ∷ rest → length report.replies.items ≡ i
-      → (kept_by new ≡ nothing) ⊎ LeaveItems h (take i all) → Forgets store new (after_all h (take i all)) c → ForgetsRun store report new h all
-  forgets_at report new h i all rest c is count left forgets = record {
-    replied = subst (λ n. (kept_by new ≡ nothing) ⊎ LeaveItems h (take n all)) (sym count) left;
-    next = subst (λ n. ForgetsNext store (drop n all) new (after_all h (take n all))) (sym count) (subst (λ l. ForgetsNext store l new (after_all h (take i all))) (sym is) forgets);
-  }
-
-  no_next : (cs : List Asked) (r : Registry S store) (h : History) → cs ≡ [] → ForgetsNext store cs r h
-  no_next cs r h is = subst (λ l. ForgetsNext store l r h) (sym is) tt
-
-  -- all were obeyed
-  pub forgets_all : (report : RunReport) (new : Registry S store) (h : History) (i : ℕ) (all : List Asked) → drop i all ≡ [] → length report.replies.items ≡ i → (kept_by new ≡ nothing) ⊎ LeaveItems h (take i all) → ForgetsRun store report new h all
-  forgets_all report new h i all is count left = record {
-    replied = subst (λ n. (kept_by new ≡ nothing) ⊎ LeaveItems h (take n all)) (sym count) left;
-    next = subst (λ n. ForgetsNext store (drop n all) new (after_all h (take n all))) (sym count) (no_next (drop i all) new (after_all h (take i all)) is);
-  }
-
-  -- none was
-  next_shown : (cs : List Asked) (r : Registry S store) (h : History) → Shows store r h → ForgetsNext store cs r h
-  next_shown [] r h shows = tt
-  next_shown (c ∷ cs) r h shows = λ other. inr shows
-
-  pub forgets_none : (report : RunReport) (r : Registry S store) (h : History) (all : List Asked) → report.replies.items ≡ [] → Shows store r h → ForgetsRun store report r h all
-  forgets_none report r h all none shows =
-      let count : length report.replies.items ≡ 0 = ap length none in
-      record {
-        replied = subst (λ n. (kept_by r ≡ nothing) ⊎ LeaveItems h (take n all)) (sym count) (inr tt);
-        next = subst (λ n. ForgetsNext store (drop n all) r (after_all h (take n all))) (sym count) (next_shown all r h shows);
-      }

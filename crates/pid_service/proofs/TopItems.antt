@@ -1,5 +1,5 @@
 -- The vendors and the classes, after each change.
-use Rattle.std.proofs.Common.{◌≡◌, ℕ, Bool, true, false, cond, List, [], ◌∷◌, ◌++◌, ◌+◌, ◌<◌, IfSome, length, map, take, get_or, Option, Some, None, refl, sym, ap, subst, ◌∙◌}
+use Rattle.std.proofs.Common.{◌≡◌, ℕ, Bool, false, cond, List, [], ◌∷◌, ◌++◌, ◌+◌, ◌<◌, IfSome, length, map, take, get_or, Option, Some, None, refl, sym, ap, subst, ◌∙◌}
 use Rattle.std.specs.Prelude.{Vec, is_none, filter, not, option_map}
 use Rattle.std.specs.declared.alloc.Global.{Global}
 use Rattle.std.specs.declared.cmp.Ordering.{Ordering}
@@ -12,7 +12,6 @@ use Rattle.pid_file.specs.PathTexts.{parent_of, path_text}
 use Rattle.pid_file.specs.Trees.{text_cmp}
 use Rattle.pid_file.specs.declared.path.Path.{Path}
 use Rattle.pid_ident.proofs.PathReadingLemmas.{text_of_parent}
-use Rattle.pid_ident.specs.PathReading.{parent_text}
 use Rattle.pid_moderation.specs.Changes.{affected, changed, edited, keeping}
 use Rattle.pid_moderation.specs.Children.{children_of, stands_below}
 use Rattle.pid_moderation.specs.ItemPairs.{pair_of}

@@ -13,9 +13,10 @@ use Rattle.pid_reader.specs.Sinks.{Took}
 use Rattle.pid_tables.specs.Lists.EachItem.{Walks, WalksSome, placed_from}
 use Rattle.pid_tables.specs.declared.lists.walk.EachEnd.{EachEnd}
 use Rattle.pid_tables.specs.declared.lists.walk.EachEnd.TheVariants.{Tables, Fault}
-use Rattle.pid_file.specs.Printing.{ended, header, text_or_none}
+use Rattle.pid_file.specs.Printing.{ended, header}
+use Rattle.pid_file.specs.Steps.Printing.{text_or_none}
 use Rattle.pid_service.specs.Steps.Exports.{WritesItems}
-use Rattle.pid_service.specs.ExportSinks.{PrintsItem, StopsWithin, lines_of_entry}
+use Rattle.pid_service.specs.Steps.ExportSinks.{PrintsItem, StopsWithin, lines_of_entry}
 use Rattle.pid_service.specs.ItemTexts.{text_of_items}
 use Rattle.pid_service.specs.declared.export_sink.ExportSink.{ExportSink}
 use Rattle.pid_service.proofs.ItemLines.{HasPrinted, last_path, text_behind, text_first, text_joined, took_printed}

@@ -1,18 +1,17 @@
 -- What a registry answers to a question: by the history that it shows, which it goes on showing.
-use Rattle.std.specs.Prelude.{◌≡◌, ◌⊎◌, Bool, true, false, Option, Some, Result, Err}
-use Rattle.std.specs.Prelude.{IfErr, MatchResult}
+use Rattle.std.specs.Prelude.{◌≡◌, ◌⊎◌, Bool, true, false, Option, Result}
+use Rattle.std.specs.Prelude.{IfErr}
 use Rattle.sqlite.specs.Held.{Held}
 use Rattle.sqlite_trees.specs.declared.store.Store.{Ghosts}
 use Rattle.pid_moderation.specs.declared.refusal.Refusal.{Refusal}
 use Rattle.pid_moderation.specs.declared.refusal.Refusal.TheVariants.{Failed, Memory, Store}
 use Rattle.pid_moderation.specs.declared.refusal.Refusal.TheVariants.{NoSubmission}
 use Rattle.pid_moderation.specs.History.{History}
-use Rattle.pid_service_laws.specs.Questions.{IsAnswered, IsAnsweredIfThere, IsMissing}
+use Rattle.pid_service_laws.specs.Questions.{IsAnswered, IsAnsweredIfThere}
 use Rattle.pid_tables.specs.Rows.Clauses as clauses
 use Rattle.pid_tables.specs.declared.rows.fault.TableFault.TheVariants as faults
 use Rattle.pid_service.specs.declared.registry.Registry.{Registry}
-use Rattle.pid_service.specs.Histories.{Shows, IsMemoryOrStore, OverHistory, showing}
-use Rattle.pid_service.specs.KeptViews.{LeavesKept, kept_views}
+use Rattle.pid_service.specs.Histories.{IsMemoryOrStore, OverHistory, showing}
 use Rattle.pid_service.specs.Registries.{OnlyReads, connection, is_live}
 
 -- a live registry fails with `Memory` and `Store` alone, one that has failed with `Failed` alone
@@ -21,12 +20,6 @@ pub record MayGive (live : Bool) (e : Refusal) : Type 0 where
   pub failed : live ≡ false → e ≡ Failed
 
 module _ {S : Type 0} (store : Ghosts S) where
-  -- the history that was shown is shown still, and the answer is by it
-  abbrev pub TellsHistory : {X : Type 0} → Registry S store → Registry S store → Result X Refusal
-      → (History → X → Type 0) → (History → Refusal → Type 0) → Type 0
-  TellsHistory old new result Says Denies = OverHistory store old new
-      (λ h. MatchResult result (Says h) (Denies h) × Shows store new h)
-
   -- Memory may run out at any time. The store is the cause if the disk failed or refused in the
   -- call, if a fault had shut the connection before, or if a limit of steps was set.
   abbrev pub IsCausedAs : Held S → Held S → Refusal → Type 0
@@ -38,36 +31,23 @@ module _ {S : Type 0} (store : Ghosts S) where
   abbrev pub FaultIsCaused : Registry S store → Registry S store → Refusal → Type 0
   FaultIsCaused old new e = IsCausedAs (connection old) (connection new) e
 
-  -- A question. A registry that has failed answers nothing else, and stays as it is.
+  -- A question, answered as by any registry under moderation.
   pub record Answers {X : Type 0} (old new : Registry S store) (result : Result X Refusal)
       (Says : History → X → Type 0) : Type 0 where
-    pub failed : is_live old ≡ false → (result ≡ Err Failed) × (new ≡ old)
+    pub asked : IsAnswered (showing store) is_live old new result Says
+    -- and, whatever its disk does:
     pub fault : IfErr result (MayGive (is_live old))
     pub lives : is_live new ≡ is_live old
     pub rests : OnlyReads store old new
-    pub leaves : LeavesKept (kept_views old) (kept_views new)
-    pub told : TellsHistory old new result Says (λ h e. IsMemoryOrStore e)
+    -- a fault has its cause
     pub caused : OverHistory store old new (λ h. IfErr result (λ e. FaultIsCaused old new e))
 
   -- A question for something that may not be there; then the answer is `NoSubmission`.
   pub record AnswersIfThere {X Y : Type 0} (old new : Registry S store) (result : Result X Refusal)
       (found : History → Option Y) (means : X → Y) : Type 0 where
-    pub failed : is_live old ≡ false → (result ≡ Err Failed) × (new ≡ old)
+    pub asked : IsAnsweredIfThere (showing store) is_live old new result found means
     pub fault : IfErr result (λ e. (e ≡ NoSubmission) ⊎ MayGive (is_live old) e)
     pub lives : is_live new ≡ is_live old
     pub rests : OnlyReads store old new
-    pub leaves : LeavesKept (kept_views old) (kept_views new)
-    pub told : TellsHistory old new result (λ h x. found h ≡ Some (means x))
-        (λ h e. IsMissing (found h) e)
     pub caused : OverHistory store old new
         (λ h. IfErr result (λ e. (e ≡ NoSubmission) ⊎ FaultIsCaused old new e))
-
-  -- the same as any registry under moderation promises it
-  abbrev pub AnswersAsAny : {X : Type 0} → Registry S store → Registry S store
-      → Result X Refusal → (History → X → Type 0) → Type 0
-  AnswersAsAny old new result Says = IsAnswered (showing store) is_live old new result Says
-
-  abbrev pub AnswersIfThereAsAny : {X Y : Type 0} → Registry S store → Registry S store
-      → Result X Refusal → (History → Option Y) → (X → Y) → Type 0
-  AnswersIfThereAsAny old new result found means =
-      IsAnsweredIfThere (showing store) is_live old new result found means

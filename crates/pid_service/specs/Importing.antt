@@ -1,5 +1,5 @@
 -- What an import is answered whose file comes as an input, and what the registry shows afterwards.
-use Rattle.std.specs.Prelude.{◌≡◌, ◌≢◌, ◌⊎◌, ◌<◌, ℕ, Bool, true, false}
+use Rattle.std.specs.Prelude.{◌≡◌, ◌≢◌, ◌<◌, ℕ, Bool, true, false}
 use Rattle.std.specs.Prelude.{List, length, Result, Ok, Err, IfErr, IsErrAnd}
 use Rattle.sqlite_trees.specs.declared.store.Store.{Ghosts}
 use Rattle.pid_service_laws.specs.Imports.{ImportLeaves}
@@ -13,8 +13,7 @@ use Rattle.pid_moderation.specs.Files.{file_reading}
 use Rattle.pid_service_laws.specs.declared.faults.ImportEnd.{ImportEnd}
 use Rattle.pid_service_laws.specs.declared.faults.ImportEnd.TheVariants.{Refused, Body}
 use Rattle.pid_service.specs.declared.registry.Registry.{Registry}
-use Rattle.pid_service.specs.Histories.{IsMemoryOrStore, OverHistory, Shows, showing}
-use Rattle.pid_service.specs.KeptViews.{kept_by, nothing}
+use Rattle.pid_service.specs.Histories.{IsMemoryOrStore, OverHistory, showing}
 use Rattle.pid_service.specs.Obeying.{ImportFaults, Lasts, Obeys}
 use Rattle.pid_service.specs.Registries.{HasCleanDisk, KeepsLimit, is_live}
 
@@ -46,22 +45,10 @@ OfRefusal Holds (Refused e) = Holds e
 OfRefusal Holds Body = Unit {0}
 
 module _ {S : Type 0} (store : Ghosts S) where
-  -- an import of this text is obeyed, which asks so much by what it reads to
-  abbrev pub ObeysText : Registry S store → Registry S store → Result Reply ImportEnd
-      → (Reading → Asked) → List ℕ → Type 0
-  ObeysText old new result asks text = OverHistory store old new
-      (λ h. ObeysImport store result new h (asks (file_reading text)))
-
-  -- no name is kept in memory, unless the registry shows the history as before
-  abbrev pub ForgetsAll : Registry S store → Registry S store → Type 0
-  ForgetsAll old new = (h : History) → Shows store old h
-      → (kept_by new ≡ nothing) ⊎ Shows store new h
-
   -- What becomes of a registry that is to obey an import of an input. All but `caused` is so
   -- whatever its disk does.
   pub record EndLasts (old new : Registry S store) (asks : Reading → Asked)
       (result : Result Reply ImportEnd) : Type 0 where
-    pub forgets : ForgetsAll old new
     -- a live one does not answer that it had failed
     pub alive : is_live old ≡ true → IfErr result EndIsNotFailed
     -- nor does one fail but with the answer that memory ran out or the store failed
@@ -87,5 +74,4 @@ module _ {S : Type 0} (store : Ghosts S) where
     -- a fault has its cause, or the registry has failed, over an import that depends on its file
     pub caused : OverHistory store old new (λ h. (reading : Reading)
         → IfErr result (ImportFaults store old new h (asks reading)))
-    pub forgets : ForgetsAll old new
     pub lasts : Lasts store old new result

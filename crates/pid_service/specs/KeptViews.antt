@@ -1,5 +1,5 @@
 -- What a registry keeps in memory of what is asked for again and again.
-use Rattle.std.specs.Prelude.{◌≡◌, ◌⊎◌, ◌<◌, ℕ, length, true, false, List, [], Option, None, IfSome, IsSome, Vec, map}
+use Rattle.std.specs.Prelude.{◌≡◌, ◌<◌, ℕ, length, List, [], Option, None, IfSome, Vec, map}
 use Rattle.std.specs.declared.alloc.Global.{Global}
 use Rattle.sqlite_trees.specs.declared.store.Store.{Ghosts}
 use Rattle.pid_moderation.specs.ChangePages.{changed_behind, changed_of}
@@ -13,13 +13,14 @@ use Rattle.pid_moderation.specs.Views.{Views, views_of}
 use Rattle.pid_moderation.specs.declared.lists.Item.{Item}
 use Rattle.pid_moderation.specs.declared.lists.TheConstants.{PAGE}
 use Rattle.pid_lookup.specs.CacheAgreement.{Agrees}
+use Rattle.pid_tables.specs.Rows.Accounts.{HasAccounts}
 use Rattle.pid_service.specs.declared.changes.KeptChanges.{KeptChanges}
 use Rattle.pid_service.specs.declared.kept_views.KeptItems.{KeptItems}
 use Rattle.pid_service.specs.declared.kept_views.KeptViews.{KeptViews}
 use Rattle.pid_service.specs.declared.registry.Registry.{Registry}
-use Rattle.pid_service_searches.specs.declared.numbers.Searches.TheVariants.{Unread}
+use Rattle.pid_tables.specs.declared.searches.numbers.Searches.TheVariants.{Unread}
 use Rattle.pid_service.specs.ItemTexts.{text_of_items}
-use Rattle.pid_service_searches.specs.KeptNumbers.{HoldsNumbers}
+use Rattle.pid_tables.specs.Searches.KeptNumbers.{HoldsNumbers}
 use Rattle.pid_service.specs.Registries.{HasCleanDisk}
 
 -- what it keeps
@@ -40,33 +41,8 @@ pub record KeepsNothing (k : KeptViews) : Type 0 where
   pub top : k.top ≡ None
   pub changes : k.changes ≡ None
   pub pending : k.pending ≡ None
-  pub read : k.pending_read ≡ false
   pub numbers : k.numbers ≡ Unread
-
--- What is kept stays: the names, and the text, the vendors and classes and the numbers if there are
--- any. If there are none, they may come to be kept: the numbers only if they were not read before.
-pub record LeavesKept (old new : KeptViews) : Type 0 where
-  pub names : new.items.names ≡ old.items.names
-  pub text : IsSome old.items.text → new.items.text ≡ old.items.text
-  pub top : IsSome old.top → new.top ≡ old.top
-  pub pending : IsSome old.pending → new.pending ≡ old.pending
-  -- numbers that were read still count as read
-  pub read : old.pending_read ≡ true → (new.pending_read ≡ true) × (new.pending ≡ old.pending)
-
--- numbers that were not read do not come to count as read
-abbrev pub LeavesUnread : KeptViews → KeptViews → Type 0
-LeavesUnread old new = new.pending_read ≡ old.pending_read
-
--- What a change of the views leaves of what is kept: that of the items, unless they are others now;
--- and the numbers, if there are any, unless a submission was added, for which memory may run out.
-pub record CarriesOn (old new : KeptViews) (before now : Views) : Type 0 where
-  pub items : now.items ≡ before.items → new.items ≡ old.items
-  pub pending : now.submits ≡ before.submits → IsSome old.pending → IsSome new.pending
-
--- the numbers of what is pending were read: they are kept, or count as read, so that no question
--- reads them again
-abbrev pub AreRead : KeptViews → Type 0
-AreRead k = IsSome k.pending ⊎ (k.pending_read ≡ true)
+  pub accounts : k.accounts ≡ None
 
 -- the numbers of what is pending, rising
 abbrev pub numbers_waiting : Views → List ℕ
@@ -93,6 +69,10 @@ pub record AreChanged (kept : KeptChanges) (v : Views) : Type 0 where
 abbrev pub HoldsChanges : Option KeptChanges → Views → Type 0
 HoldsChanges changes v = IfSome changes (λ kept. AreChanged kept v)
 
+-- so many accounts have a rank, if their number is kept
+abbrev pub HoldsAccounts : Option ℕ → Views → Type 0
+HoldsAccounts accounts v = IfSome accounts (λ n. HasAccounts v n)
+
 -- Each part is right about the views.
 pub record IsRightFor (k : KeptViews) (v : Views) : Type 0 where
   -- the paths that were asked for last, each with its name or the absence of one
@@ -107,6 +87,8 @@ pub record IsRightFor (k : KeptViews) (v : Views) : Type 0 where
   pub pending : HoldsWaiting k.pending v
   -- the numbers of all submissions by path and by author, if they are kept
   pub numbers : HoldsNumbers k.numbers v
+  -- how many accounts there are, if that is kept
+  pub accounts : HoldsAccounts k.accounts v
 
 -- while the disk returns what was written, what is kept is right about the history
 abbrev pub KeepsRight : {S : Type 0} (store : Ghosts S) → Registry S store → History → Type 0

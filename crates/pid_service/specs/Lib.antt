@@ -13,7 +13,4 @@ pub mod LifeLaws
 pub mod Headline
 pub mod Running
 pub mod ItemTexts
-pub mod Exports
-pub mod ExportSinks
-pub mod TextSinks
 pub mod Steps

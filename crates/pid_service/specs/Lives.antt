@@ -1,22 +1,24 @@
 -- Registries as `pid_service_laws` speaks of them, and what comes between one opening and the
 -- next, which may be over another store. Choices of this project.
-use Rattle.std.specs.Prelude.{◌≡◌, ◌⊎◌, ◌↔◌, List}
+use Rattle.std.specs.Prelude.{◌≡◌, ◌⊎◌, ◌↔◌, List, Result, Err}
 use Rattle.sqlite.specs.Held.{Held, state}
 use Rattle.sqlite_trees.specs.declared.store.Store.{Ghosts}
 use Rattle.pid_ident.specs.Trees.{TreeMap}
 use Rattle.pid_file.specs.Printing.{print}
 use Rattle.pid_reader.specs.Reading.{Reads}
 use Rattle.pid_moderation.specs.History.{History}
-use Rattle.pid_moderation.specs.Sound.{IsSound}
 use Rattle.pid_moderation.specs.Writes.{tree_of}
 use Rattle.pid_service_laws.specs.Calls.{Call}
 use Rattle.pid_service_laws.specs.CrashPrefix.{IsAfterPrefixes}
 use Rattle.pid_tables.specs.Rows.Clauses as clauses
 use Rattle.pid_tables.specs.Clauses.{IsOpened, ShowsOrBlank}
+use Rattle.pid_tables.specs.declared.migration.Step.{Step}
+use Rattle.pid_tables.specs.declared.rows.fault.TableFault.{TableFault}
 use Rattle.pid_service.specs.declared.registry.Registry.{Registry}
 use Rattle.pid_service.specs.Histories.{IsReached, Shows, FailsBetween}
 pub use Rattle.pid_service.specs.Histories.{showing}
-use Rattle.pid_service.specs.Registries.{HasCleanDisk}
+use Rattle.pid_service.specs.Opening.{MovesTo, OpensTo, moved_to}
+use Rattle.pid_service.specs.Registries.{HasCleanDisk, connection}
 
 module _ {S T : Type 0} (from : Ghosts S) (to : Ghosts T) where
   -- A connection was just opened on trees that a crash of an earlier one may leave, which may have
@@ -43,6 +45,21 @@ module _ {S T : Type 0} (from : Ghosts S) (to : Ghosts T) where
     pub either : clauses.HasCleanDisk to conn → (h next : History) → FailsBetween from ended h next
         → ShowsOrBlank to conn h ⊎ ShowsOrBlank to conn next
 
+-- A connection that comes after a session: a stop ends that, wherever it comes; then openings that
+-- fail, migrations and further stops may follow, as many as there are. (A stop within an opening is
+-- one that fails, since each call of its disk does from then on, and a stop after it.)
+pub data IsAfterSession {S T : Type 0} (from : Ghosts S) (to : Ghosts T) (ended : Registry S from)
+    : Held T → Type 0 where
+  Stop : (conn : Held T) → IsAfterStop from to (connection ended) conn
+      → IsAfterSession from to ended conn
+  NextStop : (earlier conn : Held T) → IsAfterSession from to ended earlier
+      → IsAfterStop to to earlier conn → IsAfterSession from to ended conn
+  FailedOpening : (conn back : Held T) (fault : TableFault) → IsAfterSession from to ended conn
+      → OpensTo to conn (Err (fault, back)) → IsAfterSession from to ended back
+  Migration : (conn : Held T) (result : Result (Held T × Step) (TableFault × Held T))
+      → IsAfterSession from to ended conn → MovesTo to conn result
+      → IsAfterSession from to ended (moved_to to result)
+
 -- A registry shows the history after the one at the start, to which commands led, and a prefix of
 -- the commands of each session, described by its calls.
 pub record ShowsPrefixes {S : Type 0} (store : Ghosts S) (r : Registry S store) (start : History)
@@ -51,7 +68,5 @@ pub record ShowsPrefixes {S : Type 0} (store : Ghosts S) (r : Registry S store) 
   pub history : History
   pub shown : Shows store r history
   pub prefixes : IsAfterPrefixes start calls history
-  -- the history has a tree of names, and all that tables ask of one
-  pub sound : IsSound history
   -- the printed text of that tree reads back to it, and to no other tree
   pub read_back : (t : TreeMap) → Reads (print (tree_of history)) t ↔ (t ≡ tree_of history)

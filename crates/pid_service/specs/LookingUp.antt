@@ -1,11 +1,10 @@
 -- What a registry answers to a look-up, over the names of the history that it shows.
-use Rattle.std.specs.Prelude.{◌≡◌, ◌≢◌, ◌↔◌, ℕ, true, false, Result, Err, IfOk, IsErrOf, IsNone}
+use Rattle.std.specs.Prelude.{◌≡◌, ◌≢◌, ◌↔◌, ℕ, true, false, Result, Err, IsErrOf, IsNone}
 use Rattle.sqlite_trees.specs.declared.store.Store.{Ghosts}
 use Rattle.pid_lookup.specs.declared.answer.Answer.{Answer}
 use Rattle.pid_lookup.specs.declared.answering.LookupRefusal.{LookupRefusal}
 use Rattle.pid_lookup.specs.declared.answering.LookupRefusal.TheVariants.{BadFlags, Names}
 use Rattle.pid_lookup.specs.declared.args.Args.{Args}
-use Rattle.pid_lookup.specs.Answers.{answer_of}
 use Rattle.pid_lookup.specs.Flags.{is_bad, switches_of, request_of}
 use Rattle.pid_lookup.specs.Told.{IsToldBy}
 use Rattle.pid_moderation.specs.declared.refusal.Refusal.{Refusal}
@@ -14,9 +13,11 @@ use Rattle.pid_moderation.specs.History.{History}
 use Rattle.pid_moderation.specs.Writes.{tree_of}
 use Rattle.pid_service.specs.declared.registry.Registry.{Registry}
 use Rattle.pid_service.specs.Asking.{FaultIsCaused, MayGive}
-use Rattle.pid_service.specs.Histories.{OverHistory, Shows}
-use Rattle.pid_service.specs.KeptViews.{kept_views}
-use Rattle.pid_service.specs.Registries.{HasCleanDisk, OnlyReads, SparesKept, is_live}
+use Rattle.pid_service_laws.specs.Calls.{nothing_sent}
+use Rattle.pid_service_laws.specs.Moderating.{LooksUp}
+use Rattle.pid_service_laws.specs.Registries.{Does}
+use Rattle.pid_service.specs.Histories.{OverHistory, Shows, showing}
+use Rattle.pid_service.specs.Registries.{OnlyReads, is_live}
 
 -- A look-up by flags and arguments, for a buffer of this size.
 pub record IsLookedUp {S : Type 0} (store : Ghosts S) (old new : Registry S store) (flags : ℕ)
@@ -25,10 +26,9 @@ pub record IsLookedUp {S : Type 0} (store : Ghosts S) (old new : Registry S stor
   pub failed : is_live old ≡ false → (result ≡ Err (Names Failed)) × (new ≡ old)
   pub lives : is_live new ≡ is_live old
   pub rests : OnlyReads store old new
-  pub spares : SparesKept (kept_views old) (kept_views new)
-  pub clean : HasCleanDisk store new → HasCleanDisk store old
-  pub answer : OverHistory store old new
-      (λ h. IfOk result (λ answer. answer ≡ answer_of (tree_of h) flags args size))
+  -- in a session it is a call that sends nothing
+  pub calls : Does (showing store) old nothing_sent new
+  pub answer : OverHistory store old new (λ h. LooksUp result (tree_of h) flags args size)
   pub shown : (h : History) → Shows store old h → Shows store new h
   pub bad_flags : is_live old ≡ true → (IsErrOf result BadFlags ↔ (is_bad flags ≡ true))
   pub fault : (f : Refusal) → IsErrOf result (Names f) → MayGive (is_live old) f

@@ -1,5 +1,5 @@
 -- What a registry answers to a command, and what it shows afterwards.
-use Rattle.std.specs.Prelude.{◌≡◌, ◌≢◌, ◌⊎◌, true, false, Result, Err, IfErr, OnOk, IsErrAnd}
+use Rattle.std.specs.Prelude.{◌≡◌, ◌≢◌, ◌⊎◌, true, false, Result, Err, IfErr, IsErrAnd}
 use Rattle.sqlite_trees.specs.declared.store.Store.{Ghosts}
 use Rattle.pid_service_laws.specs.Outcomes.{is_outcome}
 use Rattle.pid_service_laws.specs.Registries.{CommandLeaves}
@@ -11,13 +11,12 @@ use Rattle.pid_moderation.specs.BeforeFile.{WaitsForFile}
 use Rattle.pid_moderation.specs.CheckTables.{is_broken}
 use Rattle.pid_moderation.specs.FactsOfViews.{NoRows, facts_at}
 use Rattle.pid_moderation.specs.History.{Asked, History, is_import}
-use Rattle.pid_moderation.specs.Judgement.{Accepts, Repeated, after, answer, judge}
-use Rattle.pid_moderation.specs.Views.{items_of, views_of}
+use Rattle.pid_moderation.specs.Judgement.{Accepts, answer, judge}
+use Rattle.pid_moderation.specs.Views.{views_of}
 use Rattle.pid_moderation.specs.Files.{asks}
 use Rattle.pid_service.specs.declared.registry.Registry.{Registry}
 use Rattle.pid_service.specs.Asking.{FaultIsCaused}
-use Rattle.pid_service.specs.Histories.{IsMemoryOrStore, OverHistory, Shows, showing}
-use Rattle.pid_service.specs.KeptViews.{CarriesOn, kept_by, kept_views, nothing}
+use Rattle.pid_service.specs.Histories.{IsMemoryOrStore, OverHistory, showing}
 use Rattle.pid_service.specs.Registries.{HasCleanDisk, KeepsLimit, is_live}
 
 -- What a session asks of a command (`CommandLeaves` of pid_service_laws). The answer is that of the
@@ -54,11 +53,6 @@ ImportFaults store old new h c e = IsMemoryOrStore e
     → ((is_live new ≡ true) × FaultIsCaused store old new e)
     ⊎ ((is_live new ≡ false) × DependsOnFile h c)
 
--- Of a command that leaves other items no name is kept in memory, unless the registry shows the
--- history as before. So one that has failed keeps no old name either.
-abbrev pub Forgets : {S : Type 0} → (store : Ghosts S) → Registry S store → History → Asked → Type 0
-Forgets store r h c = items_of (after h c) ≢ items_of h → (kept_by r ≡ nothing) ⊎ Shows store r h
-
 module _ {S : Type 0} (store : Ghosts S) where
   -- What becomes of a registry that is to obey, whatever its disk does.
   pub record Lasts (old new : Registry S store) (result : Result Reply Refusal) : Type 0 where
@@ -90,19 +84,4 @@ module _ {S : Type 0} (store : Ghosts S) where
     -- An import has its refusal from the judgement, as `obeyed` says, or for such a fault.
     pub import_caused : OverHistory store old new (λ h. is_import command.act ≡ true
         → IfErr result (ImportFaults store old new h (asks command)))
-    -- if it leaves other items, no name is kept in memory
-    pub forgets : OverHistory store old new (λ h. Forgets store new h (asks command))
-    -- A command other than an import that is refused leaves what is kept in memory, if the registry
-    -- is live still, and so does one whose reply was kept.
-    pub unmoved : is_import command.act ≡ false
-        → IfErr result (λ e. is_live new ≡ true → kept_views new ≡ kept_views old)
-    pub repeated : OverHistory store old new (λ h. is_import command.act ≡ false → (reply : Reply)
-        → judge (views_of h) (asks command) ≡ Repeated reply → kept_views new ≡ kept_views old)
-    -- If it has a reply, numbers that were read still count as read, and only numbers that were;
-    pub read : is_import command.act ≡ false
-        → OnOk result ((kept_views new).pending_read ≡ (kept_views old).pending_read)
-    -- and no more is dropped than has to be.
-    pub carried : OverHistory store old new (λ h. is_import command.act ≡ false
-        → OnOk result (CarriesOn (kept_views old) (kept_views new)
-        (views_of h) (views_of (after h (asks command)))))
     pub lasts : Lasts old new result

@@ -23,7 +23,6 @@ use Rattle.pid_tables.specs.Clauses as tables
 use Rattle.pid_tables.specs.Statements.{IsMadeBy, move_statements, registry_statements}
 use Rattle.pid_service.specs.declared.registry.Registry.{Registry}
 use Rattle.pid_service.specs.Histories.{IsReached, Shows}
-use Rattle.pid_service.specs.KeptViews.{KeepsNothing, kept_views}
 use Rattle.pid_service.specs.Registries as registries
 use Rattle.pid_service.specs.Registries.{connection, is_live}
 
@@ -179,8 +178,6 @@ module _ {S : Type 0} (store : Ghosts S) where
   pub record OpensRegistry (conn : Held S) (result : Result (Registry S store)
       (TableFault × Held S)) : Type 0 where
     pub lives : IfOk result (λ r. is_live r ≡ true)
-    -- nothing is kept in memory yet
-    pub fresh : IfOk result (λ r. KeepsNothing (kept_views r))
     pub kept : KeepsTables conn (connection_left result) (opening_end result)
 
   -- What the laws over sessions ask of an opening.

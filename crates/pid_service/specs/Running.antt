@@ -11,24 +11,17 @@ use Rattle.pid_moderation.specs.declared.refusal.Refusal.{Refusal}
 use Rattle.pid_moderation.specs.declared.refusal.Refusal.TheVariants.{Failed, Memory}
 use Rattle.pid_moderation.specs.History.{Asked, History}
 use Rattle.pid_moderation.specs.Judgement.{after, after_all, answers}
-use Rattle.pid_moderation.specs.Views.{items_of}
 use Rattle.pid_moderation.specs.Files.{asks}
 use Rattle.pid_service.specs.declared.registry.Registry.{Registry}
 use Rattle.pid_service.specs.declared.running.RunReport.{RunReport}
 use Rattle.pid_service.specs.Asking.{MayGive}
 use Rattle.pid_service.specs.Histories.{Shows, FailsBetween, IsMemoryOrStore, OverHistory}
-use Rattle.pid_service.specs.KeptViews.{kept_by, nothing}
-use Rattle.pid_service.specs.Obeying.{Forgets, IsObeyed}
+use Rattle.pid_service.specs.Obeying.{IsObeyed}
 use Rattle.pid_service.specs.Registries.{HasCleanDisk, KeepsLimit, is_live}
 
 -- it does not say that the registry had failed before
 abbrev pub ReplyIsNotFailed : Result Reply Refusal → Type 0
 ReplyIsNotFailed reply = IfErr reply (λ e. e ≢ Failed)
-
--- none of the commands in turn leaves other items
-abbrev pub LeaveItems : History → List Asked → Type 0
-LeaveItems h [] = Unit {0}
-LeaveItems h (c ∷ commands) = (items_of (after h c) ≡ items_of h) × LeaveItems (after h c) commands
 
 module _ {S : Type 0} (store : Ghosts S) where
   -- where a list ends: all commands were obeyed; or at the next one memory ran out or the store
@@ -47,19 +40,6 @@ module _ {S : Type 0} (store : Ghosts S) where
       (commands : List Asked) : Type 0 where
     pub replied : report.replies.items ≡ answers h (take (length report.replies.items) commands)
     pub ends : EndsRun report.fault (drop (length report.replies.items) commands) r
-        (after_all h (take (length report.replies.items) commands))
-
-  -- the next command, if there is one, leaves no old name in memory
-  abbrev pub ForgetsNext : List Asked → Registry S store → History → Type 0
-  ForgetsNext [] r h = Unit {0}
-  ForgetsNext (c ∷ rest) r h = Forgets store r h c
-
-  -- No name is kept in memory, or no command that was replied to left other items; and at the next
-  -- one it is as after a single command.
-  pub record ForgetsRun (report : RunReport) (r : Registry S store) (h : History)
-      (commands : List Asked) : Type 0 where
-    pub replied : (kept_by r ≡ nothing) ⊎ LeaveItems h (take (length report.replies.items) commands)
-    pub next : ForgetsNext (drop (length report.replies.items) commands) r
         (after_all h (take (length report.replies.items) commands))
 
   -- from the first registry to the second these were obeyed one after another, as `obey` does it,
@@ -105,8 +85,6 @@ module _ {S : Type 0} (store : Ghosts S) where
     -- whatever its disk does, a live one obeys each command as if it came alone, so that a fault
     -- has its cause
     pub in_turn : is_live old ≡ true → RunsInTurn old new commands report
-    -- if some command left other items, no name is kept in memory
-    pub forgets : OverHistory store old new (λ h. ForgetsRun report new h (map asks commands))
     -- Whatever its disk does: without a fault a live registry stays live, one that has failed since
     -- ran out of memory, or its store failed,
     pub stays : is_live old ≡ true → report.fault ≡ None → is_live new ≡ true

@@ -2,6 +2,7 @@
 pub mod Asking
 pub mod Exporting
 pub mod Exports
+pub mod ExportSinks
 pub mod Importing
 pub mod ItemTexts
 pub mod Judging
@@ -11,3 +12,4 @@ pub mod Opening
 pub mod Running
 pub mod Waiting
 pub mod KeptChanges
+pub mod KeptItems

@@ -23,7 +23,7 @@ impl<'w, W: Output> ExportSink<'w, W> {
 }
 
 impl<W: Output> Sink for ExportSink<'_, W> {
-    ghost use Rattle.pid_service.specs.ExportSinks.{PrintsItem, StopsWithin};
+    ghost use Rattle.pid_service.specs.Steps.ExportSinks.{PrintsItem, StopsWithin};
 
     type Fault = WriteFault;
 

@@ -6,13 +6,9 @@ ghost use Rattle.pid_service.specs.Histories.{IsMemoryOrStore, OverHistory};
 ghost use Rattle.pid_service_laws.specs.Imports.{AnswersFailed, HasRead, InputIsRead};
 ghost use Rattle.pid_service.specs.Importing.{
   EndIsNotFailed,
-  EndLasts,
-  ForgetsAll,
   IsImported,
-  ObeysText,
   OfRefusal,
 };
-ghost use Rattle.pid_service.specs.KeptViews.{kept_by, nothing};
 ghost use Rattle.pid_service.specs.Obeying.{Obeys};
 ghost use Rattle.pid_service.specs.Registries.{HasCleanDisk, KeepsLimit, is_live as lives};
 ghost use Rattle.pid_service.specs.Steps.Importing.{
@@ -27,7 +23,7 @@ ghost use Rattle.pid_service.specs.Steps.Importing.{
   OverBytes,
   TakesText,
 };
-ghost use Rattle.pid_service.specs.Steps.Obeying.{SparesNames, StaysLive};
+ghost use Rattle.pid_service.specs.Steps.Obeying.{StaysLive};
 
 use crate::laws;
 use crate::registry::Registry;
@@ -39,8 +35,8 @@ use pid_tables::{Early, Stop, bring_in, judge_import};
 use sqlite::Alter;
 use std::alloc::Global;
 
-// An import whose file is elsewhere.
-fn import_command(alloc: Global, account: Account, key: Option<Key>) -> Command
+/// An import whose file is elsewhere.
+pub(crate) fn import_command(alloc: Global, account: Account, key: Option<Key>) -> Command
     ensures { result ≡ record { account = account; key = key; act = Act.Import [] } }
 {
     let file = File::new(Vec::new(alloc));
@@ -65,6 +61,19 @@ fn answer_past<I: Input>(answer: Result<Reply, Refusal>, input: &mut I) -> Resul
             Ok(reply) => Ok(reply),
             Err(refusal) => Err(ImportEnd::Refused(refusal)),
         },
+    }
+}
+
+/// Reads the rest of an input for a registry that has failed.
+pub(crate) fn answer_failed<I: Input>(input: &mut I) -> Result<Reply, ImportEnd>
+    ensures failed { AnswersFailed result }
+    ensures past { HasRead result (I.to_come input.old) (I.to_come input.new) (λ text. Unit {0}) }
+    ensures reads { InputIsRead I.Input input.old input.new result }
+{
+    match skip_input(FILE_BYTES, input) {
+        Err(SkipEnd::ReadFault) => Err(ImportEnd::Body),
+        Err(SkipEnd::TooLong) => Err(ImportEnd::Refused(Refusal::Failed)),
+        Ok(()) => Err(ImportEnd::Refused(Refusal::Failed)),
     }
 }
 
@@ -93,7 +102,7 @@ fn stopping(refusal: Refusal) -> Refusal
 }
 
 impl<S: Alter + Drop> Registry<S> {
-    // Imports a file. At a fault the registry has failed.
+    // Imports a file. What is kept of items is dropped before. At a fault the registry has failed.
     fn carry_in<I: Input>(
         &mut self,
         facts: &mut Facts,
@@ -104,7 +113,6 @@ impl<S: Alter + Drop> Registry<S> {
         ensures clean { HasCleanDisk S.Store self.new → HasCleanDisk S.Store self.old }
         ensures obeyed { HasRead result (I.to_come input.old) (I.to_come input.new)
             (CarriesText S.Store self.old self.new result facts.old items command.now) }
-        ensures forgets { kept_by self.new ≡ nothing }
         ensures reads { InputIsRead I.Input input.old input.new result }
         ensures held { EndStaysLive result (lives self.old) (lives self.new) }
         ensures limit { KeepsLimit S.Store self.old self.new }
@@ -112,7 +120,7 @@ impl<S: Alter + Drop> Registry<S> {
             facts.old items (IfErr result (OfRefusal (FaultStays (lives self.new))))) }
     {
         pid_service_laws::judgements_are_outcomes(); // proof only
-        self.kept.clear();
+        self.kept.forget_items();
         match bring_in(
             &mut self.tables.conn,
             self.alloc,
@@ -126,18 +134,21 @@ impl<S: Alter + Drop> Registry<S> {
             Err(Stop::Refused(refusal)) => Err(ImportEnd::Refused(refusal)),
             Err(Stop::Failed(refusal)) => {
                 self.live = false;
+                self.kept.clear();
                 Err(ImportEnd::Refused(stopping(refusal)))
             }
         }
     }
 
     // Obeys an import whose file is in the input; that of the command is left out.
-    fn import_act<I: Input>(&mut self, command: &Command, input: &mut I) -> Result<Reply, ImportEnd>
+    pub(crate) fn import_act<I: Input>(
+        &mut self,
+        command: &Command,
+        input: &mut I,
+    ) -> Result<Reply, ImportEnd>
         ensures clean { HasCleanDisk S.Store self.new → HasCleanDisk S.Store self.old }
         ensures taken { HasRead result (I.to_come input.old) (I.to_come input.new)
             (TakesText S.Store self.old self.new result command.now) }
-        ensures forgets { ForgetsAll S.Store self.old self.new }
-        ensures none { kept_by self.old ≡ nothing → kept_by self.new ≡ nothing }
         ensures reads { InputIsRead I.Input input.old input.new result }
         ensures lasts { EndStays S.Store self.old self.new result }
         ensures caused { CausesImport S.Store self.old self.new command.now
@@ -164,48 +175,12 @@ impl<S: Alter + Drop> Registry<S> {
         ensures clean { HasCleanDisk S.Store self.new → HasCleanDisk S.Store self.old }
         ensures obeyed { OverBytes S.Store self.old self.new command.now file.now
             (Obeys S.Store result self.new) }
-        ensures forgets { ForgetsAll S.Store self.old self.new }
-        ensures spares { OverBytes S.Store self.old self.new command.now file.now
-            (SparesNames result self.new) }
-        ensures none { kept_by self.old ≡ nothing → kept_by self.new ≡ nothing }
         ensures lasts { BytesStay S.Store self.old self.new result }
         ensures caused { CausesImport S.Store self.old self.new command.now (IfErr result) }
     {
         let mut input = SliceInput::new(file);
         let end = self.import_act(command, &mut input);
         plain(end)
-    }
-
-    /// Obeys an import whose file is in an input, as `obey` obeys one whose file it has.
-    ///
-    /// The input is read to its end whatever the answer is, in reads of at most 4,096 bytes; if
-    /// more than 4,194,304 bytes came, the file is `BadText` and no more is read. `Body` if the
-    /// input failed: then the registry is as before, except for what it kept in memory.
-    pub fn import_from<I: Input>(
-        &mut self,
-        account: Account,
-        key: Option<Key>,
-        input: &mut I,
-    ) -> Result<Reply, ImportEnd>
-        ensures clean { HasCleanDisk S.Store self.new → HasCleanDisk S.Store self.old }
-        // A registry that has failed answers nothing else, unless the input failed.
-        ensures failed { lives self.old ≡ false → AnswersFailed result × (self.new ≡ self.old) }
-        // An import of what was read of the input is obeyed.
-        ensures obeyed { HasRead result (I.to_come input.old) (I.to_come input.new)
-            (ObeysText S.Store self.old self.new result (import_of account key)) }
-        ensures reads { InputIsRead I.Input input.old input.new result }
-        ensures lasts { EndLasts S.Store self.old self.new (import_of account key) result }
-    {
-        if !self.live {
-            return match skip_input(FILE_BYTES, input) {
-                Err(SkipEnd::ReadFault) => Err(ImportEnd::Body),
-                Ok(()) | Err(SkipEnd::TooLong) => Err(ImportEnd::Refused(Refusal::Failed)),
-            };
-        }
-        let command = import_command(self.alloc, account, key);
-        let end = self.import_act(&command, input);
-        drop(command);
-        end
     }
 
     /// Obeys an import of these bytes, as `obey` obeys one that has them.

@@ -6,7 +6,8 @@ ghost use Rattle.pid_ident.specs.PathTexts.{path_text};
 ghost use Rattle.pid_tables.specs.Rows.Causes.{IsReadable};
 ghost use Rattle.pid_tables.specs.Rows.Clauses.{Reads};
 ghost use Rattle.pid_tables.specs.declared.lists.walk.EachEnd.TheVariants as walks;
-ghost use Rattle.pid_file.specs.Printing.{ended, header, label_of, lines_behind, text_or_none};
+ghost use Rattle.pid_file.specs.Printing.{ended, header, label_of, lines_behind};
+ghost use Rattle.pid_file.specs.Steps.Printing.{text_or_none};
 
 use pid_file::{opened_block, write_behind, write_header};
 use pid_ident::{Output, Path, WriteFault};
@@ -122,7 +123,7 @@ struct TextSink {
 }
 
 impl Sink for TextSink {
-    ghost use Rattle.pid_service.specs.TextSinks.{TakesItem};
+    ghost use Rattle.pid_service.specs.Steps.TextSinks.{TakesItem};
 
     type Fault = Never;
 

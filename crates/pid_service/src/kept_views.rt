@@ -1,29 +1,18 @@
 //! What a registry keeps in memory of what is asked for again and again.
-ghost use Rattle.std.specs.Prelude.{
-  ◌≡◌,
-  ◌⊎◌,
-  ◌==◌,
-  ℕ,
-  false,
-  not,
-  filter,
-  IfOk,
-  IfSome,
-  IsSome,
-};
+ghost use Rattle.std.specs.Prelude.{◌≡◌, ℕ, false, IfOk};
 ghost use Rattle.pid_moderation.specs.Changes.{FitsEffect, FitsViews, affected, changed};
-ghost use Rattle.pid_moderation.specs.CheckTables.{is_pending};
 ghost use Rattle.pid_moderation.specs.Views.{Views};
 ghost use Rattle.pid_tables.specs.Rows.Shows.{AreViews};
 ghost use Rattle.pid_service.specs.KeptViews.{HoldsWaiting, IsRightFor, KeepsNothing, nothing};
-ghost use Rattle.pid_service.specs.Steps.Obeying.{Follows, adds_number, writes_items as writes};
+ghost use Rattle.pid_service.specs.Steps.KeptItems.{LeavesTheRest};
 
+use crate::accounts::accounts_after;
 use crate::changes::KeptChanges;
 use crate::top::top_after;
 use crate::waiting::add_number;
 use pid_lookup::NameCache;
 use pid_moderation::{Change, Effect, Item, State};
-use pid_service_searches::{Searches, numbers_after};
+use pid_tables::searches::{Searches, numbers_after};
 use std::alloc::{AllocError, Global};
 use std::mem::replace;
 
@@ -37,8 +26,8 @@ pub struct KeptItems {
 
 /// Views of the history that the tables show, or nothing: those of the items, the vendors and the
 /// classes with their names, the items that were changed last, 99 at most, the numbers of what is
-/// pending, rising, 1,000,000 at most, and those of all submissions, 10,000,000 at most, by their
-/// paths and by their authors.
+/// pending, rising, those of all submissions, by their paths and by their authors, 10,000,000 of
+/// either at most, and how many accounts there are.
 #[derive(Drop)]
 pub struct KeptViews {
     pub(crate) items: KeptItems,
@@ -48,10 +37,10 @@ pub struct KeptViews {
     /// Whether the numbers were read. If none are kept then, they were too many, or memory ran out.
     pub(crate) pending_read: bool,
     pub(crate) numbers: Searches,
+    pub(crate) accounts: Option<u64>,
 }
 
 fn writes_items(effect: &Effect) -> bool
-    ensures told { result ≡ writes effect.now }
     ensures spares { (n : ℕ) (v : Views) → result ≡ false
         → (affected n effect.now v).items ≡ v.items }
     ensures numbers { (n : ℕ) (v : Views) → result ≡ false
@@ -69,9 +58,8 @@ fn writes_items(effect: &Effect) -> bool
 
 // The numbers of what is pending after a change.
 fn waiting_after(numbers: Option<Vec<u32>>, effect: &Effect) -> Option<Vec<u32>>
-    ensures holds { (n : ℕ) (v : Views) → AreViews v → FitsEffect effect.now v
+    ensures { (n : ℕ) (v : Views) → AreViews v → FitsEffect effect.now v
         → HoldsWaiting numbers v → HoldsWaiting result (affected n effect.now v) }
-    ensures still { adds_number effect.now ≡ false → IsSome numbers → IsSome result }
 {
     let mut numbers = numbers?;
     match effect {
@@ -121,6 +109,7 @@ impl KeptViews {
             pending: None,
             pending_read: false,
             numbers: Searches::Unread,
+            accounts: None,
         })
     }
 
@@ -134,23 +123,30 @@ impl KeptViews {
         self.pending = None;
         self.pending_read = false;
         self.numbers = Searches::Unread;
+        self.accounts = None;
+    }
+
+    /// Drops what is kept of items.
+    pub(crate) fn forget_items(&mut self)
+        ensures { (v w : Views) → LeavesTheRest v w → IsRightFor self.old v → IsRightFor self.new w }
+    {
+        self.items.clear();
+        self.top = None;
+        self.changes = None;
     }
 
     /// Follows a change: what is kept of the items and the changed items are dropped if it writes
     /// one, and the vendors and the classes if it writes one of them; the number of a submission is
-    /// added when it is made, and taken away when it is decided.
+    /// added when it is made, and taken away when it is decided; a new account is counted.
     pub(crate) fn follow(&mut self, alloc: Global, change: &Change)
-        ensures right { (v : Views) → AreViews v → FitsViews change.now v → IsRightFor self.old v
+        ensures { (v : Views) → AreViews v → FitsViews change.now v → IsRightFor self.old v
             → IsRightFor self.new (changed change.now v) }
-        ensures spares { (self.new.items ≡ nothing)
-            ⊎ ((v : Views) → (changed change.now v).items ≡ v.items) }
-        ensures none { self.old.items ≡ nothing → self.new.items ≡ nothing }
-        ensures follows { Follows change.now.effect self.old self.new }
     {
         let numbers = self.pending.take();
         self.pending = waiting_after(numbers, &change.effect);
         let kept = replace(&mut self.numbers, Searches::Lacking);
         self.numbers = numbers_after(alloc, kept, &change.effect);
+        self.accounts = accounts_after(self.accounts, &change.effect);
         let top = self.top.take();
         self.top = top_after(top, &change.effect);
         if !writes_items(&change.effect) {

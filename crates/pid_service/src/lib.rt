@@ -1,6 +1,7 @@
 //! The registry: each command is one transaction on its tables.
 #![tactic(auto)]
 
+mod accounts;
 mod changes;
 mod closing;
 mod consulted;
@@ -13,12 +14,12 @@ mod judging;
 mod kept_views;
 pub mod laws;
 mod lives;
-mod looking_up;
 mod moderated;
 mod names;
 mod obeying;
 mod opening;
 mod pending;
+mod preparing;
 mod reading;
 mod registry;
 mod running;

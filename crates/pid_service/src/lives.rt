@@ -95,11 +95,12 @@ pub fn reopened_registries_show_prefixes<S: Alter + Drop, T: Alter + Drop>()
     pid_reader::laws::printed_trees_read_back(); // proof only
 }
 
-/// The headline: sessions on a registry lead to its end, which may be a stop anywhere. The registry
-/// that is opened next on what was left has the history after a prefix of the commands of each
-/// session, which holds every acknowledged one. A whole export of it writes the text of that
-/// history's tree, which reads back to that tree and to no other, and a look-up answers the text
-/// that the flags define over that tree. All while the disk returns what was written.
+/// The headline: sessions on a registry lead to its end, which may be a stop anywhere; openings that
+/// fail, migrations and further stops may follow. The registry that is opened next shows the
+/// history after a prefix of the commands of each session, which holds every acknowledged one, and
+/// whose tree its printed text reads back to, and to no other. A whole export of it writes that
+/// text, and a look-up answers the text that the flags define over that tree. What is shown begins
+/// the law again, one session later. All while the disk returns what was written.
 pub fn openings_tell_prefixes<S: Alter + Drop, T: Alter + Drop, O: Output>()
     ensures { OpeningsTellPrefixes S.Store T.Store O.Output }
 {

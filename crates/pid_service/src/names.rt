@@ -13,7 +13,8 @@ impl<S: Alter + Drop> Names for Registry<S> {
     ghost use Rattle.pid_moderation.specs.Writes.{tree_of};
     ghost use Rattle.pid_service.specs.Asking.{FaultIsCaused, MayGive};
     ghost use Rattle.pid_service.specs.Histories.{Shows};
-    ghost use Rattle.pid_service.specs.Registries.{HasCleanDisk, OnlyAsked, is_live};
+    ghost use Rattle.pid_service.specs.Registries.{HasCleanDisk, is_live};
+    ghost use Rattle.pid_service.specs.Steps.Asking.{OnlyAsked};
 
     type Fault = Refusal;
 

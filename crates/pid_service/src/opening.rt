@@ -76,7 +76,7 @@ fn make_ready<S: Alter + Drop>(tables: &mut Tables<S>, alloc: Global) -> Result<
 {
     laws::reached_histories_are_kept(); // proof only
     pid_tables::laws::all_is_committed_outside_transactions(&tables.conn); // proof only
-    match pid_tables::migrate(&mut tables.conn, alloc) {
+    match tables.migrate(alloc) {
         Err(fault) => Err(fault),
         Ok(_) => judge_tables(tables, alloc),
     }
@@ -132,7 +132,7 @@ pub fn open<S: Alter + Drop>(
 /// same faults.
 pub fn migrate<S: Alter + Drop>(
     alloc: Global,
-    mut conn: Connection<S>,
+    conn: Connection<S>,
 ) -> Result<(Connection<S>, Step), (TableFault, Connection<S>)>
     ensures busy { conn.in_transaction ≡ true → result ≡ Err (TableFault.Store, conn) }
     ensures history { MovesTo S.Store conn result }
@@ -144,7 +144,10 @@ pub fn migrate<S: Alter + Drop>(
     if !conn.is_autocommit() {
         return Err((TableFault::Store, conn));
     }
-    match pid_tables::migrate(&mut conn, alloc) {
+    let mut tables = Tables::new(conn);
+    let moved = tables.migrate(alloc);
+    let conn = tables.into_conn();
+    match moved {
         Ok(step) => Ok((conn, step)),
         Err(fault) => Err((fault, conn)),
     }

@@ -3,8 +3,8 @@ ghost use Rattle.std.specs.Prelude.{◌≡◌, ◌∷◌, [], ℕ, true, false, 
 ghost use Rattle.pid_moderation.specs.Changes.{affected};
 ghost use Rattle.pid_moderation.specs.ItemPairs.{pair_of};
 ghost use Rattle.pid_moderation.specs.Views.{Views, views_of};
-ghost use Rattle.pid_service.specs.Asking.{Answers};
-ghost use Rattle.pid_service.specs.KeptViews.{HoldsTop, LeavesUnread, kept_views, top_of};
+ghost use Rattle.pid_service.specs.KeptViews.{HoldsTop, top_of};
+ghost use Rattle.pid_service.specs.Steps.Asking.{Finds};
 ghost use Rattle.pid_tables.specs.Lists.Steps.Adding.{Adds};
 
 use crate::laws;
@@ -70,9 +70,8 @@ impl<S: Alter + Drop> Registry<S> {
     /// read, and they are kept from then on, if memory is there for them.
     pub(crate) fn top(&mut self) -> Result<Vec<Item>, Refusal>
         requires { self.old.live ≡ true }
-        ensures answers { Answers S.Store self.old self.new result
+        ensures { Finds S.Store self.old self.new result
             (λ h items. map pair_of items.items ≡ top_of (views_of h)) }
-        ensures stays { LeavesUnread (kept_views self.old) (kept_views self.new) }
     {
         laws::reached_histories_are_kept(); // proof only
         if let Some(top) = &self.kept.top {

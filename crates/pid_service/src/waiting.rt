@@ -27,9 +27,9 @@ use sqlite::Alter;
 use std::alloc::Global;
 
 // The most numbers that are kept, and the pages that have them.
-const MOST: usize = 1_000_000;
+const MOST: usize = 10_000_000;
 
-const PAGES: u32 = 10_001;
+const PAGES: u32 = 100_001;
 
 /// Adds a number, if memory is there and the most are not reached.
 pub(crate) fn add_number(numbers: &mut Vec<u32>, number: u32) -> bool

@@ -9,7 +9,7 @@ use Rattle.pid_moderation.specs.declared.change.Receipt.{Receipt}
 use Rattle.pid_moderation.specs.Changes.{affected, keeping, changed, FitsEffect, FitsReceipt}
 use Rattle.pid_moderation.specs.Views.{Views}
 use Rattle.pid_tables.specs.Rows.Shows.{Counts, ShowsCounting, Shows, counts_of}
-use Rattle.pid_tables.specs.Rows.Writes.{with_revision}
+use Rattle.pid_tables.specs.Rows.Steps.Writes.{with_revision}
 use Rattle.pid_tables.specs.Applies.{CountsFit}
 use Rattle.pid_tables.specs.Steps.Applies.{recounted}
 

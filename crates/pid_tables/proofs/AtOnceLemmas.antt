@@ -10,7 +10,8 @@ use Rattle.pid_moderation.specs.History.{new_history}
 use Rattle.pid_moderation.specs.Views.{views_of}
 use Rattle.pid_tables.specs.declared.rows.fault.TableFault.{TableFault}
 use Rattle.pid_tables.specs.Rows.Faults.{IsMemoryOrStore}
-use Rattle.pid_tables.specs.Rows.Leaves.{GoesOn, OnlyReads}
+use Rattle.pid_tables.specs.Rows.Leaves.{OnlyReads}
+use Rattle.pid_tables.specs.Rows.Steps.Turns.{GoesOn}
 use Rattle.pid_tables.specs.Rows.Shows.{Shows}
 use Rattle.pid_tables.proofs.OfRows.GoingLemmas.{earlier}
 use Rattle.pid_tables.proofs.OfRows.LeaveLemmas.{on_err, shows_found}

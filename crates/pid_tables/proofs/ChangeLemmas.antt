@@ -12,7 +12,7 @@ use Rattle.pid_moderation.specs.Changes.{edited, renumbered, with_items, affecte
 use Rattle.pid_moderation.specs.Items.{name_at}
 use Rattle.pid_moderation.specs.Views.{Views, is_named_anew}
 use Rattle.pid_moderation.proofs.Changing.{not_anew}
-use Rattle.pid_tables.specs.Rows.Writes.{with_state, without_item}
+use Rattle.pid_tables.specs.Rows.Steps.Writes.{with_state, without_item}
 
 -- a path that keeps its name keeps its number
 same_number : (n since : ℕ) (o : Option (List ℕ)) → cond (is_named_anew o o) n since ≡ since

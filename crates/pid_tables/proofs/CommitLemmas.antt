@@ -4,7 +4,7 @@ use Rattle.sqlite.specs.State.{State}
 use Rattle.sqlite.specs.Steps.{FailsToCommit}
 use Rattle.sqlite.specs.declared.error.Error.{Error}
 use Rattle.pid_tables.specs.Rows.Causes.{IsCaused}
-use Rattle.pid_tables.specs.Rows.Faults.{fault_of_sql}
+use Rattle.pid_tables.specs.Rows.Steps.Faults.{fault_of_sql}
 use Rattle.pid_tables.proofs.OfRows.CauseLemmas.{moved, of_store}
 
 pub commit_caused : (old new : State) (e : Error) → IsTrue old.in_transaction → FailsToCommit old new e → IsCaused old new (fault_of_sql e)

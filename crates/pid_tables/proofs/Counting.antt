@@ -13,7 +13,7 @@ use Rattle.pid_tables.specs.declared.putting.Put.{Put}
 use Rattle.pid_tables.specs.declared.putting.Put.TheVariants.{Renamed, Same}
 use Rattle.pid_tables.specs.Puts.{put_over}
 use Rattle.pid_tables.specs.declared.tally.Tally.{Tally}
-use Rattle.pid_tables.specs.Tallies.{tallied}
+use Rattle.pid_tables.specs.Steps.Tallies.{tallied}
 use Rattle.pid_tables.specs.Steps.Tallies.{tally_of}
 
 found_past : (b : Bool) (name : List ℕ) (rest there : Option (List ℕ)) → cond b (Some name) rest ≡ None → (rest ≡ None → there ≡ there) → cond b (Some name) there ≡ there

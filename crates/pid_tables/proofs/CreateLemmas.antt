@@ -35,8 +35,8 @@ use Rattle.pid_tables.proofs.OfRows.WriteRows.{Ran}
 use Rattle.pid_tables.proofs.OfRows.WriteFaults.{create_writes}
 use Rattle.pid_tables.specs.declared.rows.fault.TableFault.{TableFault}
 use Rattle.pid_tables.specs.Rows.Faults.{IsMemoryOrStore}
-use Rattle.pid_tables.specs.Rows.Leaves.{GoesOn}
-use Rattle.pid_tables.specs.Rows.Queries.{IsWriteAs}
+use Rattle.pid_tables.specs.Rows.Steps.Turns.{GoesOn}
+use Rattle.pid_tables.specs.Rows.Steps.Queries.{IsWriteAs}
 use Rattle.pid_tables.specs.Creation.{AreMade}
 use Rattle.pid_tables.specs.Steps.MakingTables.{making, Creates, IsKnownDefinition, Makes, HasOnlyMeta, with_label}
 use Rattle.pid_tables.proofs.OfRows.SetLemmas.{all_with, text_set}

@@ -16,8 +16,8 @@ use Rattle.pid_tables.specs.declared.putting.Put.{Put}
 use Rattle.pid_tables.specs.declared.put_sink.PutSink.{PutSink}
 use Rattle.pid_tables.specs.declared.tally.Tally.{Tally}
 use Rattle.pid_tables.specs.Steps.PutFiles.{PutAll, PutSome, PutsFile}
-use Rattle.pid_tables.specs.PutSinks.{TakesEntry, LeavesEntry}
-use Rattle.pid_tables.specs.Tallies.{tallied}
+use Rattle.pid_tables.specs.Steps.PutSinks.{TakesEntry, LeavesEntry}
+use Rattle.pid_tables.specs.Steps.Tallies.{tallied}
 use Rattle.pid_tables.specs.Steps.Tallies.{no_tally}
 
 -- the sink took some entries, or faulted behind some

@@ -13,9 +13,9 @@ use Rattle.pid_tables.specs.declared.putting.Put.{Put}
 use Rattle.pid_tables.specs.Puts.{put_over}
 use Rattle.pid_tables.specs.declared.tally.Tally.{Tally}
 use Rattle.pid_tables.specs.Steps.PutFiles.{PutAll, PutSome}
-use Rattle.pid_tables.specs.Putting.{Puts, GivesUp}
+use Rattle.pid_tables.specs.Steps.Putting.{Puts, GivesUp}
 use Rattle.pid_tables.specs.Steps.Putting.{put_in_turn}
-use Rattle.pid_tables.specs.Tallies.{tallied}
+use Rattle.pid_tables.specs.Steps.Tallies.{tallied}
 use Rattle.pid_tables.specs.Steps.Tallies.{tally_of}
 use Rattle.pid_tables.proofs.InTurn.{items_in_turn}
 

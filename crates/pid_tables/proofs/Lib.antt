@@ -1,6 +1,7 @@
 pub mod OfRows
 pub mod OfCheck
 pub mod OfLists
+pub mod OfSearches
 pub mod ApplyLemmas
 pub mod PutLemmas
 pub mod CreateLemmas

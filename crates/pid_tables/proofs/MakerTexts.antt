@@ -16,8 +16,8 @@ use Rattle.sqlite_resolve.specs.Compile.{first, is_attached, compiled, planned, 
 use Rattle.sqlite_resolve.specs.Lowering.{Checked, and_then}
 use Rattle.sqlite_syntax.specs.declared.statement.Parsed.{Parsed}
 use Rattle.sqlite_tied.specs.Compute.{everything}
-use Rattle.pid_tables.specs.Rows.Schema.{meta, account, item, submission, remark, receipt, item_since, pid_schema}
-use Rattle.pid_tables.specs.Steps.MakingTables.{IsKnownDefinition, IsMaker, IsMakerOf, IsTextRefused}
+use Rattle.pid_tables.specs.Rows.Schema.{meta, account, item, submission, remark, receipt, item_since}
+use Rattle.pid_tables.specs.Steps.MakingTables.{IsKnownDefinition, IsMaker, IsMakerOf}
 
 abbrev pub create_meta : List ℕ
 create_meta = codes "CREATE TABLE meta (label TEXT NOT NULL PRIMARY KEY, value INTEGER NOT NULL) STRICT"
@@ -243,8 +243,3 @@ item_since_defined = refl
 
 pub item_since_maker : IsMakerOf create_item_since (codes "item_since")
 item_since_maker = record { table = record item_since { tree = 0 }; defined = item_since_defined; named = refl; makes = maker create_item_since (codes "item_since") only_item_since }
-
--- a registry has a table of this name already
-pub meta_met : IsTextRefused (understood pid_schema create_meta)
-unfolding understood everything
-meta_met = tt

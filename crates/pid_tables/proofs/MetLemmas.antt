@@ -1,5 +1,5 @@
 -- Making tables where something has one of their names.
-use Rattle.std.proofs.Common.{◌≡◌, inl, inr, ℕ, List, [], ◌∷◌, ◌++◌, Bool, true, false, cond, is_some, Some, None, Ok, Err, Result, OnOk, IfErr, MatchResult, IsTrue, refl, sym, ap, subst, ◌∙◌, ◌+◌, ◌≤◌, codes}
+use Rattle.std.proofs.Common.{◌≡◌, inl, inr, ℕ, List, [], ◌∷◌, ◌++◌, Bool, true, false, cond, is_some, Some, None, Ok, Err, Result, OnOk, IfErr, MatchResult, IsTrue, refl, sym, ap, subst, ◌∙◌, ◌+◌}
 use Rattle.std.specs.Prelude.{MatchBool, ◌||◌}
 use Rattle.std.proofs.lemmas.Bool.{cases_Bool}
 use Rattle.std.specs.List.{AllByRecursion, position_from}
@@ -8,31 +8,22 @@ use Rattle.sqlite.specs.Command.TheVariants.{CreateTable}
 use Rattle.sqlite.specs.Does.{Tally, MakesTable, sequence_text, lacks_sequence}
 use Rattle.sqlite.specs.Rows.{Gives}
 use Rattle.sqlite.specs.Effect.{Database}
-use Rattle.sqlite.specs.Listing.{understood}
 use Rattle.sqlite.specs.Schema.{Schema}
 use Rattle.sqlite.specs.Table.{Table}
 use Rattle.sqlite.specs.Tree.{Trees}
-use Rattle.sqlite.specs.State.{State, HasCleanDisk, Survives, Writes, Executes, ExecutesIn, ExecutesInside, IsNotRun, EndsScope}
-use Rattle.sqlite.specs.declared.error.Error.{Error}
-use Rattle.sqlite.specs.declared.error.Error.TheVariants.{SqliteFailure, SqlInputError}
+use Rattle.sqlite.specs.State.{State, HasCleanDisk, Survives, Writes, Executes, ExecutesIn}
 use Rattle.sqlite.specs.declared.error.ErrorCode.TheVariants as code
 use Rattle.sqlite.proofs.Callers.{runs_as}
 use Rattle.sqlite_resolve.specs.declared.compiled.Compiled.{Compiled}
 use Rattle.sqlite_resolve.specs.declared.error.CompileError.{CompileError}
 use Rattle.sqlite_resolve.specs.declared.error.CompileError.TheVariants as compile
 use Rattle.sqlite_rules.specs.Lists.{Has}
-use Rattle.sqlite_schema.specs.Names.{same_name}
 use Rattle.pid_tables.specs.declared.rows.fault.TableFault.{TableFault}
-use Rattle.pid_tables.specs.declared.rows.fault.TableFault.TheVariants.{Memory, Store, NewerSchema, Damaged}
-use Rattle.pid_tables.specs.Rows.Faults.{fault_of_sql, IsNotNewerSchema}
-use Rattle.pid_tables.specs.Rows.Causes.{IsCaused}
-use Rattle.pid_moderation.specs.Views.{Views}
-use Rattle.pid_tables.specs.Rows.Leaves.{AtRest, GoesOn, OnlyReads}
-use Rattle.pid_tables.specs.Rows.Schema.{pid_schema}
-use Rattle.pid_tables.proofs.OfRows.CauseLemmas.{of_store, caused_first}
+use Rattle.pid_tables.specs.Rows.Faults.{IsNotNewerSchema}
+use Rattle.pid_tables.specs.Rows.Leaves.{OnlyReads}
 use Rattle.pid_tables.proofs.OfRows.WriteLemmas.{went, same_value}
-use Rattle.pid_tables.specs.Creation.{table_names, IsNameTaken, IsFaultOfTaken}
-use Rattle.pid_tables.specs.Steps.MakingTables.{IsMaker, IsKnownDefinition, IsMakerOf, IsTextRefused, TookNames}
+use Rattle.pid_tables.specs.Creation.{table_names}
+use Rattle.pid_tables.specs.Steps.MakingTables.{IsMaker, IsKnownDefinition, IsMakerOf, TookNames}
 use Rattle.pid_tables.proofs.CreateLemmas.{command_is, whole_is, plain_is}
 
 -- ---- names that are taken stay so
@@ -78,21 +69,13 @@ took text name old new it count h =
           subst (λ (d : Database). is_used d.schema other ≡ true) (sym now) (sequence_more first.0 all.0 other (lacks_sequence first.0.schema) first.2 made);
     }
 
-making_fault : (e : Error) → IsNotNewerSchema (fault_of_sql e)
-making_fault (SqliteFailure code.OutOfMemory) = tt
-making_fault (SqlInputError compile.OutOfMemory) = tt
-making_fault _ = tt
-
 abbrev Ran : List ℕ → State → State → Type 0
 Ran text old new = (count : ℕ) × Executes text [] old new (Ok count)
 
-abbrev Failed : List ℕ → State → State → TableFault → Type 0
-Failed text old new fault = (e : Error) × (fault ≡ fault_of_sql e) × ExecutesInside 0 text [] old new (Err e)
-
-pub taken : (text name : List ℕ) (old new : State) → IsMakerOf text name → (r : Result (Unit {0}) TableFault) → OnOk r (Ran text old new) → IfErr r (Failed text old new)
+pub taken : (text name : List ℕ) (old new : State) → IsMakerOf text name → (r : Result (Unit {0}) TableFault) → OnOk r (Ran text old new) → IfErr r IsNotNewerSchema
     → MatchResult r (λ _. TookNames (name ∷ []) old.now.schema new.now.schema) IsNotNewerSchema
-taken text name old new it (Ok x) ran failed = took text name old new it ran.0 ran.1
-taken text name old new it (Err f) ran failed = subst IsNotNewerSchema (sym failed.1) (making_fault failed.0)
+taken text name old new it (Ok x) ran never = took text name old new it ran.0 ran.1
+taken text name old new it (Err f) ran never = never
 
 -- ---- one after the other
 
@@ -126,76 +109,7 @@ free_at s (n ∷ names) free name (inr h) used = free_at s names free.1 name h u
 pub none_met : (a b : Schema) → TookNames table_names a b → (name : List ℕ) × Has table_names name × (is_used a name ≡ true) → ⊥
 none_met a b took met = free_at a table_names took.free met.0 met.1 met.2
 
--- ---- why a text is refused that the schema has a table for already
-
-never : (r : Result Compiled CompileError) (c : Compiled) → IsTextRefused r → r ≡ Ok c → ⊥
-never (Ok d) c bad is = bad
-never (Err e) c bad is = cc
-
-shut_fault : (old new : State) (f : TableFault) → old.is_open ≡ false → IsNotNewerSchema f → IsFaultOfTaken old new f
-shut_fault old new Memory shut h = tt
-shut_fault old new Store shut h = inr (inl shut)
-shut_fault old new (NewerSchema n) shut h = h
-shut_fault old new Damaged shut h = tt
-
-pub met_if_caused : (old new : State) (f : TableFault) → IsCaused old new f → IsFaultOfTaken old new f
-met_if_caused old new Memory h = tt
-met_if_caused old new Store h = h
-met_if_caused old new (NewerSchema n) h = h
-met_if_caused old new Damaged h = tt
-
-pub met_first : (old mid new : State) (e : TableFault) → mid.faults ≤ new.faults → IsFaultOfTaken old mid e → IsFaultOfTaken old new e
-met_first old mid new Memory more h = tt
-met_first old mid new Store more h = caused_first old mid new Store more h
-met_first old mid new (NewerSchema n) more h = h
-met_first old mid new Damaged more h = tt
-
-module _ (text : List ℕ) (old new : State) (bad : IsTextRefused (understood pid_schema text)) where
-  moved : (e f : Error) → e ≡ f → IsFaultOfTaken old new (fault_of_sql f) → IsFaultOfTaken old new (fault_of_sql e)
-  moved e f same h = subst (λ x. IsFaultOfTaken old new (fault_of_sql x)) (sym same) h
-
-  misread : (f : CompileError) → IsFaultOfTaken old new (fault_of_sql (SqlInputError f))
-  misread compile.OutOfMemory = tt
-  misread _ = tt
-
-  module _ (has : old.now.schema ≡ pid_schema) (e : Error) where
-    no_text : (c : Compiled) → understood old.now.schema text ≡ Ok c → ⊥
-    no_text c is = never (understood pid_schema text) c bad (subst (λ s. understood s text ≡ Ok c) has is)
-
-    not_run : IsNotRun old new text [] e → IsFaultOfTaken old new (fault_of_sql e)
-    unfolding IsNotRun
-    not_run (inl (inl h, same)) = moved e _ h.2 (misread h.0)
-    not_run (inl (inr h, same)) = absurd (no_text h.0 h.1)
-    not_run (inr fails) = moved e _ fails.1 (met_if_caused old new _ (of_store old new fails.0 fails.2))
-
-    runs : ExecutesIn false text [] old new (Err e) → IsFaultOfTaken old new (fault_of_sql e)
-    unfolding ExecutesIn
-    runs (inl h) = not_run h
-    runs (inr h) = absurd (no_text h.0 h.1.is)
-
-    inside : ExecutesInside 0 text [] old new (Err e) → IsFaultOfTaken old new (fault_of_sql e)
-    unfolding EndsScope
-    inside (inl h) = runs h.0
-    inside (inr h) = absurd (no_text h.0.0 h.0.1.is)
-
-  pub met_fault : (IsTrue old.is_open → old.now.schema ≡ pid_schema) → (r : Result (Unit {0}) TableFault) → HasCleanDisk new → IsTrue old.in_transaction → GoesOn old new r → OnOk r (Ran text old new) → IfErr r (Failed text old new)
-      → MatchResult r (λ _. ⊥) (IsFaultOfTaken old new)
-  unfolding ExecutesIn
-  met_fault has (Ok x) clean within goes ran failed = no_text (has (goes.was_open clean (goes.going clean within).0)) (SqliteFailure code.OutOfMemory) ran.1.0 ran.1.1.is
-  met_fault has (Err f) clean within goes ran failed = elim (cases_Bool old.is_open) [
-    | inl opened ↦ subst (IsFaultOfTaken old new) (sym failed.1) (inside (has opened) failed.0 failed.2)
-    | inr shut ↦ shut_fault old new f shut (subst IsNotNewerSchema (sym failed.1) (making_fault failed.0))
-  ]
-
 -- ---- a call that only fails
-
-meta_used : is_used pid_schema (codes "meta") ≡ true
-unfolding same_name
-meta_used = refl
-
--- tables that show views have their names
-pub met_at_rest : (s : State) (v : Views) → AtRest s v → IsTrue s.is_open → IsNameTaken s
-met_at_rest s v rest opened = (codes "meta", inl refl, ap (λ schema. is_used schema (codes "meta")) (rest.shows opened).schema ∙ meta_used)
 
 pub reads_if_never : (old new : State) (P : Trees → Type 0) → Survives old new P → (HasCleanDisk new → HasCleanDisk old) → new.in_transaction ≡ false → (IsTrue new.is_open → HasCleanDisk new) → (HasCleanDisk new → ⊥) → OnlyReads old new
 reads_if_never old new P survives back ended law never = record {

@@ -15,7 +15,8 @@ use Rattle.pid_tables.specs.declared.rows.version.Version.{Version}
 use Rattle.pid_tables.specs.declared.rows.version.Version.TheVariants.{Two}
 use Rattle.pid_tables.specs.Rows.Causes.{IsCaused}
 use Rattle.pid_tables.specs.Rows.Faults.{IsMemoryOrStore, IsNotNewerSchema}
-use Rattle.pid_tables.specs.Rows.Leaves.{GoesOn, RestsIn}
+use Rattle.pid_tables.specs.Rows.Leaves.{RestsIn}
+use Rattle.pid_tables.specs.Rows.Steps.Turns.{GoesOn}
 use Rattle.pid_tables.specs.Rows.Shows.{Shows, ShowsIn}
 use Rattle.pid_tables.proofs.OfRows.GoingLemmas.{earlier, goes_then}
 use Rattle.pid_tables.proofs.OfRows.LeaveLemmas.{shows_found}

@@ -1,20 +1,16 @@
 -- Connections that were just opened, and what reads leave of what is shown.
-use Rattle.std.proofs.Common.{◌≡◌, inl, inr, [], IsTrue, refl, sym, ap, subst, ◌∙◌}
+use Rattle.std.proofs.Common.{◌≡◌, inl, [], IsTrue, refl, sym, ap, subst, ◌∙◌}
 use Rattle.sqlite.specs.Effect.{Database, IsDatabase}
 use Rattle.sqlite.specs.Schema.{Schema}
 use Rattle.sqlite.specs.State.{State, Opens, IsLive}
 use Rattle.sqlite.specs.Tree.{Trees}
 use Rattle.sqlite_catalog.proofs.ReadLemmas.{lists_once}
-use Rattle.pid_moderation.specs.History.{History}
 use Rattle.pid_moderation.specs.Views.{Views}
 use Rattle.pid_tables.specs.declared.rows.version.Version.{Version}
-use Rattle.pid_tables.specs.Rows.Leaves.{as_found, found_in, AtRest, RestsIn, OnlyReads}
+use Rattle.pid_tables.specs.Rows.Leaves.{as_found, found_in, AtRest, RestsIn}
 use Rattle.pid_tables.specs.Rows.Schema.{no_schema, pid_schema, schema_of}
 use Rattle.pid_tables.specs.Rows.Shows.{Shows, ShowsIn}
-use Rattle.pid_tables.proofs.OfRows.OnlyReading.{rests_in_still}
-use Rattle.pid_tables.specs.Creation.{AreMade, ListsNoTable, IsBlank, RestsBare}
-use Rattle.pid_tables.specs.ShowsOrBlank.{ShowsOrBlank}
-use Rattle.pid_tables.proofs.AtOnceLemmas.{still_bare}
+use Rattle.pid_tables.specs.Creation.{AreMade, ListsNoTable, RestsBare}
 
 -- the trees list one schema, so the database that was found is the one that the connection has
 found_now : (s : State) (schema : Schema) → Opens s → IsLive s → IsDatabase (record { schema = schema; trees = s.now.trees }) → s.now ≡ record { schema = schema; trees = s.now.trees }
@@ -43,19 +39,10 @@ opened_rests version s v law opens live shows = record {
   leaves = record { each = λ clean db may. (version, subst (λ t. ShowsIn version (found_in (schema_of version) t) v) (sym (left_now s opens law db may)) shows) };
 }
 
-pub opened_bare : (s : State) → LeavesCommitted s → Opens s → IsLive s → ListsNoTable s.now.trees → IsBlank s
+pub opened_bare : (s : State) → LeavesCommitted s → Opens s → IsLive s → ListsNoTable s.now.trees → RestsBare s
 opened_bare s law opens live bare = record {
   settled = opens.autocommit;
   same = λ opened. opens.clean;
   empty = λ opened. subst (AreMade []) (sym (found_now s no_schema opens live bare)) (record { schema = refl; sound = bare; empty = tt });
-  leaves = λ clean db may. subst ListsNoTable (sym (left_now s opens law db may)) bare;
+  leaves = record { each = λ clean db may. inl (subst ListsNoTable (sym (left_now s opens law db may)) bare) };
 }
-
-pub still_shown : (old new : State) (h : History) → OnlyReads old new → ShowsOrBlank old h → ShowsOrBlank new h
-still_shown old new h reads (inl rest) = inl (reads.kept _ rest)
-still_shown old new h reads (inr (inl rest)) = inr (inl (rests_in_still old new _ reads rest))
-still_shown old new h reads (inr (inr bare)) = inr (inr (still_bare old new reads bare.0, bare.1))
-
--- what is blank rests bare
-pub blank_rests : (s : State) → IsBlank s → RestsBare s
-blank_rests s blank = record { settled = blank.settled; same = blank.same; empty = blank.empty; leaves = record { each = λ clean db may. inl (blank.leaves clean db may) } }

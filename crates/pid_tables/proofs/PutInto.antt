@@ -14,7 +14,7 @@ use Rattle.pid_tables.specs.Rows.Leaves.{KeepsCommitted, Within}
 use Rattle.pid_tables.specs.Rows.Shows.{Counts, counts_of}
 use Rattle.pid_tables.specs.declared.putting.Put.{Put}
 use Rattle.pid_tables.specs.declared.tally.Tally.{Tally}
-use Rattle.pid_tables.specs.ImportClauses.{Puts, GivesUp}
+use Rattle.pid_tables.specs.Steps.ImportClauses.{Puts, GivesUp}
 use Rattle.pid_tables.specs.Steps.PutFiles.{PutSome, PutsFile}
 use Rattle.pid_tables.specs.Steps.Putting.{put_in_turn}
 use Rattle.pid_tables.specs.Steps.Tallies.{tally_of}

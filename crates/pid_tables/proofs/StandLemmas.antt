@@ -15,7 +15,8 @@ use Rattle.pid_tables.specs.declared.rows.fault.TableFault.TheVariants.{Memory, 
 use Rattle.pid_tables.specs.declared.rows.version.Version.{Version}
 use Rattle.pid_tables.specs.declared.rows.version.Version.TheVariants.{One, Two}
 use Rattle.pid_tables.specs.Rows.Faults.{IsMemoryOrStore}
-use Rattle.pid_tables.specs.Rows.LabelRows.{HasLabel, IsMetaFirst}
+use Rattle.pid_tables.specs.Rows.LabelRows.{HasLabel}
+use Rattle.pid_tables.specs.Rows.Steps.LabelRows.{IsMetaFirst}
 use Rattle.pid_tables.specs.Rows.Leaves.{OnlyReads, RestsIn}
 use Rattle.pid_tables.specs.Rows.Schema.{more_tables, schema_of}
 use Rattle.pid_tables.specs.Rows.Shows.{ShowsIn}

@@ -2,5 +2,4 @@ pub mod Conditions
 pub mod Checking
 pub mod Shapes
 pub mod Queries
-pub mod Asking
 pub mod Steps

@@ -21,9 +21,6 @@ use Rattle.pid_tables.specs.ShowsOrBlank as shows
 use Rattle.pid_tables.specs.Statements.{IsMadeBy, move_statements, registry_statements}
 
 module _ {S : Type 0} (store : Ghosts S) where
-  abbrev pub IsBlank : Held S → Type 0
-  IsBlank conn = creation.IsBlank (state store conn)
-
   abbrev pub IsNameTaken : Held S → Type 0
   IsNameTaken conn = creation.IsNameTaken (state store conn)
 

@@ -12,8 +12,6 @@ use Rattle.sqlite_rules.specs.Lists.{Has}
 use Rattle.pid_moderation.specs.History.{new_history}
 use Rattle.pid_moderation.specs.Views.{Views, views_of}
 use Rattle.pid_tables.specs.declared.rows.fault.TableFault.{TableFault}
-use Rattle.pid_tables.specs.declared.rows.fault.TableFault.TheVariants.{Memory, Store, NewerSchema}
-use Rattle.pid_tables.specs.declared.rows.fault.TableFault.TheVariants.{Damaged}
 use Rattle.pid_tables.specs.Rows.Causes.{IsCaused}
 use Rattle.pid_tables.specs.Rows.Faults.{IsMemoryOrStore, IsNotNewerSchema}
 use Rattle.pid_tables.specs.Rows.Schema.{no_schema}
@@ -33,14 +31,6 @@ pub record AreMade (tables : List Table) (db : Database) : Type 0 where
 -- trees that list no table
 abbrev pub ListsNoTable : Trees → Type 0
 ListsNoTable db = IsDatabase (record { schema = no_schema; trees = db })
-
--- outside a transaction, while it is open, the database has no table, and nor has anything that a
--- crash may leave
-pub record IsBlank (s : State) : Type 0 where
-  pub settled : s.in_transaction ≡ false
-  pub same : IsTrue s.is_open → s.now ≡ s.committed
-  pub empty : IsTrue s.is_open → AreMade [] s.now
-  pub leaves : HasCleanDisk s → (db : Trees) → s.may_leave db → ListsNoTable db
 
 -- a transaction failed to commit: what was committed before is seen again
 pub record IsUndone (old new : State) : Type 0 where
@@ -64,8 +54,8 @@ pub record LeavesBareOrNew (s : State) : Type 0 where
   pub each : HasCleanDisk s → (db : Trees) → s.may_leave db
       → ListsNoTable db ⊎ Shows (as_found db) (views_of new_history)
 
--- the same, but a crash may leave the new registry: one could not be made, and the next call may
--- try again
+-- outside a transaction, while it is open, the database has no table; a crash may leave the new
+-- registry, if one could not be made, and the next call may try again
 pub record RestsBare (s : State) : Type 0 where
   pub settled : s.in_transaction ≡ false
   pub same : IsTrue s.is_open → s.now ≡ s.committed
@@ -80,13 +70,6 @@ table_names = codes "meta" ∷ codes "account" ∷ codes "item" ∷ codes "submi
 abbrev pub IsNameTaken : State → Type 0
 IsNameTaken s = (name : List ℕ) × Has table_names name × (is_used s.now.schema name ≡ true)
 
--- tables of a registry are there already, which is answered as damage; else a fault has its cause
-abbrev pub IsFaultOfTaken : State → State → TableFault → Type 0
-IsFaultOfTaken old new Memory = Unit {0}
-IsFaultOfTaken old new Store = IsCaused old new Store
-IsFaultOfTaken old new (NewerSchema n) = ⊥
-IsFaultOfTaken old new Damaged = Unit {0}
-
 -- If there is no table, a new registry is made. After a fault there is still none, and it says
 -- nothing of the rows.
 pub record MakesNew {X : Type 0} (old new : State) (result : Result X TableFault) : Type 0 where
@@ -94,8 +77,7 @@ pub record MakesNew {X : Type 0} (old new : State) (result : Result X TableFault
   pub untold : HasCleanDisk new → RestsBare old → IfErr result IsMemoryOrStore
   pub bare : RestsBare old → OnErr result (RestsBare new)
 
--- If a name is taken, or a fault has shut the connection, nothing is made. So tables that show
--- views go on to show them.
+-- If a name is taken, or a fault has shut the connection, nothing is made.
 pub record MakesNothing {X : Type 0} (old new : State) (result : Result X TableFault)
     : Type 0 where
   pub rests : (IsTrue old.is_open → IsNameTaken old) → OnlyReads old new
@@ -103,9 +85,5 @@ pub record MakesNothing {X : Type 0} (old new : State) (result : Result X TableF
       → MatchResult result (λ _. ⊥) IsNotNewerSchema
   pub shut : HasCleanDisk new → old.is_open ≡ false
       → MatchResult result (λ _. ⊥) IsMemoryOrStore
-  pub kept : (v : Views) → AtRest old v → AtRest new v
-  -- Where views are shown, their tables have the names.
-  pub met : HasCleanDisk new → (v : Views) → AtRest old v
-      → MatchResult result (λ _. ⊥) (IsFaultOfTaken old new)
   -- Whatever there is, no later schema is named.
   pub never : HasCleanDisk new → IfErr result IsNotNewerSchema

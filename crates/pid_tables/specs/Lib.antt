@@ -1,6 +1,7 @@
 pub mod Rows
 pub mod Check
 pub mod Lists
+pub mod Searches
 pub mod Creation
 pub mod AtOnce
 pub mod Statements
@@ -12,9 +13,7 @@ pub mod ShowsOrBlank
 pub mod Steps
 pub mod Clauses
 pub mod Faults
-pub mod Tallies
 pub mod Putting
-pub mod PutSinks
 pub mod Judging
 pub mod Importing
 pub mod ImportClauses

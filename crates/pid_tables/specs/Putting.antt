@@ -12,22 +12,6 @@ use Rattle.pid_tables.specs.Rows.Writes.{with_name}
 use Rattle.pid_tables.specs.declared.putting.Put.{Put}
 use Rattle.pid_tables.specs.Puts.{put_over}
 
--- one entry is put with this number: the transaction shows the views with it, and it is said what
--- it was to these
-pub record Puts (n : ℕ) (old new : State) (item : Item) (put : Put) : Type 0 where
-  pub clean : HasCleanDisk new → HasCleanDisk old
-  pub limit : new.step_limit ≡ old.step_limit
-  pub written : (c : Counts) (v w : Views) → Within c old v w
-      → Written c new v (with_name n item.0 item.1 w)
-  pub told : HasCleanDisk new → (c : Counts) (v w : Views) → Within c old v w
-      → put ≡ put_over item.1 (name_at item.0 w.items)
-
--- an entry is not put, and the transaction is given up
-pub record GivesUp (old new : State) : Type 0 where
-  pub clean : HasCleanDisk new → HasCleanDisk old
-  pub limit : new.step_limit ≡ old.step_limit
-  pub holds : (c : Counts) (v w : Views) → Within c old v w → KeepsCommitted new v
-
 -- A name is put at a path, with this number, within a transaction on these views.
 pub record PutsName (old new : State) (result : Result Put TableFault) (n : ℕ) (item : Item)
     : Type 0 where

@@ -6,11 +6,8 @@ pub mod Accounts
 pub mod Answers
 pub mod Shows
 pub mod Causes
-pub mod Queries
-pub mod Unread
 pub mod Leaves
 pub mod Clauses
-pub mod Standings
 pub mod Writes
 pub mod LabelRows
 pub mod Steps

@@ -12,3 +12,4 @@ pub mod Putting
 pub mod ImportParts
 pub mod MakingTables
 pub mod Tallies
+pub mod PutSinks

@@ -25,18 +25,15 @@ ghost use Rattle.pid_moderation.specs.Changes.{
 };
 ghost use Rattle.pid_tables.specs.Rows.Faults.{IsMemoryOrStore};
 ghost use Rattle.pid_tables.specs.Rows.Shows.{Counts, Shows, counts_of};
-ghost use Rattle.pid_tables.specs.Rows.Writes.{with_rank, with_submission};
+ghost use Rattle.pid_tables.specs.Rows.Steps.Writes.{with_rank, with_submission};
 ghost use Rattle.pid_tables.specs.Applies.{CountsFit};
 ghost use Rattle.pid_tables.specs.Steps.Applies.{recounted, turn_of};
 ghost use Rattle.pid_tables.specs.Steps.Clauses.{WritesChange};
 ghost use Rattle.pid_tables.specs.Clauses.{EndsCommit, PutsName};
 ghost use Rattle.pid_tables.specs.Rows.Clauses.{
   AtRest,
-  ChangesTo,
-  GoesOn,
   HasCleanDisk,
   KeepsCommitted,
-  LeadsTo,
   LeavesEither,
   Survives,
   Within,
@@ -44,6 +41,7 @@ ghost use Rattle.pid_tables.specs.Rows.Clauses.{
   is_open,
   seen,
 };
+ghost use Rattle.pid_tables.specs.Rows.Steps.Clauses.{ChangesTo, GoesOn, LeadsTo};
 
 use crate::putting::{Put, put_text};
 use crate::rows::TableFault;
@@ -147,7 +145,9 @@ fn decision<S: Alter>(
         None => Ok(()),
         Some(write) => {
             let path = write.path.path_text(alloc)?;
-            edit_item(batch, path.as_str(), &write.edit, revision)?;
+            let edited = edit_item(batch, path.as_str(), &write.edit, revision);
+            drop(path);
+            edited?;
             count_items(batch, write.items)
         }
     }

@@ -17,5 +17,4 @@ mod tables;
 mod value;
 mod words;
 
-pub use checking::check;
 pub use shape::has_some_table;

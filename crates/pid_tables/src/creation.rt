@@ -13,9 +13,7 @@ ghost use Rattle.std.specs.Prelude.{
   IsTrue,
 };
 ghost use Rattle.sqlite.specs.declared.types.Value.TheVariants.{Text};
-ghost use Rattle.sqlite.specs.Listing.{understood};
 ghost use Rattle.sqlite.specs.Table.{Table};
-ghost use Rattle.pid_tables.specs.Rows.Schema.{pid_schema};
 ghost use Rattle.pid_tables.specs.Rows.Faults.{IsMemoryOrStore, IsNotNewerSchema};
 ghost use Rattle.pid_tables.specs.Rows.PairRows.{Map};
 ghost use Rattle.pid_tables.specs.Rows.Steps.Shows.{meta_of};
@@ -27,7 +25,6 @@ ghost use Rattle.pid_tables.specs.Steps.MakingTables.{
   Creates,
   CreatesInTurn,
   IsMakerOf,
-  IsTextRefused,
   HasOnlyMeta,
   with_label,
 };
@@ -39,19 +36,15 @@ ghost use Rattle.pid_tables.specs.Steps.Making.{
   all_tables,
   label_statements,
 };
-ghost use Rattle.pid_tables.specs.Rows.Clauses.{
-  GoesOn,
-  HasCleanDisk,
-  is_open,
-  seen,
-};
+ghost use Rattle.pid_tables.specs.Rows.Clauses.{HasCleanDisk, is_open, seen};
+ghost use Rattle.pid_tables.specs.Rows.Steps.Clauses.{GoesOn};
 ghost use Rattle.pid_tables.specs.Clauses.{
   IsNameTaken,
   MakesNew,
   MakesNothing,
   WritesAtOnce,
 };
-ghost use Rattle.pid_tables.specs.Steps.Clauses.{FindsTables, Makes, Takes};
+ghost use Rattle.pid_tables.specs.Steps.Clauses.{Makes, Takes};
 
 use crate::batch::commit;
 use crate::rows::run::write_one;
@@ -98,8 +91,6 @@ fn make_table<S: Alter>(tx: &mut Transaction<'_, S>, sql: &str) -> Result<(), Ta
         → Makes S.Store tx.old.conn.now tx.new.conn.now result before (before ++ table ∷ []) }
     ensures takes { (name : List ℕ) → IsMakerOf sql.now name
         → Takes S.Store tx.old.conn.now tx.new.conn.now result (name ∷ []) }
-    ensures met { IsTextRefused (understood pid_schema sql.now)
-        → FindsTables S.Store tx.old.conn.now tx.new.conn.now result }
     ensures carried { CarriesOut S.Store tx.old.conn.now tx.new.conn.now result
         ((sql.now, []) ∷ []) }
 {
@@ -122,8 +113,6 @@ fn make_three<S: Alter>(
     ensures takes { (a b c : List ℕ) → IsMakerOf first.now a → IsMakerOf second.now b
         → IsMakerOf third.now c
         → Takes S.Store tx.old.conn.now tx.new.conn.now result (a ∷ b ∷ c ∷ []) }
-    ensures met { IsTextRefused (understood pid_schema first.now)
-        → FindsTables S.Store tx.old.conn.now tx.new.conn.now result }
     ensures carried { CarriesOut S.Store tx.old.conn.now tx.new.conn.now result
         ((first.now, []) ∷ (second.now, []) ∷ (third.now, []) ∷ []) }
 {
@@ -137,7 +126,6 @@ fn make_tables<S: Alter>(tx: &mut Transaction<'_, S>) -> Result<(), TableFault>
     ensures goes { GoesOn S.Store tx.old.conn.now tx.new.conn.now result }
     ensures made { Makes S.Store tx.old.conn.now tx.new.conn.now result [] all_tables }
     ensures takes { Takes S.Store tx.old.conn.now tx.new.conn.now result table_names }
-    ensures met { FindsTables S.Store tx.old.conn.now tx.new.conn.now result }
     ensures carried { CarriesOut S.Store tx.old.conn.now tx.new.conn.now result all_statements }
 {
     make_three(tx, META, ACCOUNT, ITEM)?;
@@ -193,7 +181,6 @@ fn fill<S: Alter>(tx: &mut Transaction<'_, S>) -> Result<(), TableFault>
     ensures refused { HasCleanDisk S.Store tx.new.conn.now → IsTrue tx.old.conn.now.in_transaction
         → (IsTrue (is_open S.Store tx.old.conn.now) → IsNameTaken S.Store tx.old.conn.now)
         → MatchResult result (λ _. ⊥) IsNotNewerSchema }
-    ensures met { FindsTables S.Store tx.old.conn.now tx.new.conn.now result }
     ensures carried { CarriesOut S.Store tx.old.conn.now tx.new.conn.now result
         registry_statements }
 {

@@ -1,17 +1,12 @@
 //! Laws of the definitions. Each is the contract of a function that does nothing of its own.
 ghost use Rattle.pid_moderation.specs.History.{History, TooLong, asked, is_import};
 ghost use Rattle.pid_moderation.specs.Sound.{IsSound};
-ghost use Rattle.pid_moderation.specs.Views.{Views, views_of, items_of};
+ghost use Rattle.pid_moderation.specs.Views.{views_of, items_of};
 ghost use Rattle.pid_moderation.specs.WellMade.{AllItems, HoldsParents, HasGoodFile, IsFile};
 ghost use Rattle.pid_tables.specs.Rows.Causes.{IsReadable};
-ghost use Rattle.pid_tables.specs.Rows.Leaves.{as_found, found_in};
-ghost use Rattle.pid_tables.specs.Rows.Schema.{schema_of};
-ghost use Rattle.pid_tables.specs.declared.rows.version.Version.{Version};
-ghost use Rattle.pid_tables.specs.Rows.Shows.{AreViews, Shows, ShowsIn};
-ghost use Rattle.pid_tables.specs.Creation.{ListsNoTable};
+ghost use Rattle.pid_tables.specs.Rows.Shows.{AreViews};
 ghost use Rattle.sqlite.specs.Held.{state};
-ghost use Rattle.pid_tables.specs.Rows.Clauses.{AtRest, OnlyReads, RestsIn, is_open, seen};
-ghost use Rattle.pid_tables.specs.Clauses.{IsBlank, IsOpened, ShowsOrBlank};
+ghost use Rattle.pid_tables.specs.Rows.Clauses.{is_open, seen};
 ghost use Rattle.std.specs.Prelude.{◌≡◌, ◌↔◌, ◌<◌, ℕ, List, length, true, false, IsTrue, None};
 ghost use Rattle.pid_moderation.specs.declared.command.Command.{Command};
 ghost use Rattle.pid_moderation.specs.CheckTables.{most_file_bytes};
@@ -33,18 +28,6 @@ pub fn views_of_sound_histories()
     pid_moderation::laws::trees_are_last_writes(); // proof only
 }
 
-/// A connection that has just found trees which show views is at rest on them, in the schema in
-/// which they do; if it found no table, it is blank.
-pub fn opened_tables_rest<S: Alter>(conn: &Connection<S>)
-    ensures shown { (v : Views) → IsOpened S.Store conn.now
-        → Shows (as_found (seen S.Store conn.now).trees) v → AtRest S.Store conn.now v }
-    ensures rests { (version : Version) (v : Views) → IsOpened S.Store conn.now
-        → ShowsIn version (found_in (schema_of version) (seen S.Store conn.now).trees) v
-        → RestsIn S.Store version conn.now v }
-    ensures bare { IsOpened S.Store conn.now → ListsNoTable (seen S.Store conn.now).trees
-        → IsBlank S.Store conn.now }
-{}
-
 /// Outside a transaction a connection sees what is committed.
 pub fn all_is_committed_outside_transactions<S: Alter>(conn: &Connection<S>)
     ensures { conn.now.in_transaction ≡ false → IsTrue (is_open S.Store conn.now)
@@ -52,12 +35,6 @@ pub fn all_is_committed_outside_transactions<S: Alter>(conn: &Connection<S>)
 {
     let _outside = conn.is_autocommit();
 }
-
-/// A read leaves what was shown, also if there is no table.
-pub fn reads_keep_what_is_shown<S: Alter>(old: &Connection<S>, new: &Connection<S>)
-    ensures { (h : History) → OnlyReads S.Store old.now new.now → ShowsOrBlank S.Store old.now h
-        → ShowsOrBlank S.Store new.now h }
-{}
 
 /// The entries of a text that is refused nowhere are a file: names at paths, with the parent of
 /// each, not too many, and no path twice. So what each file reads to is that of a well made import.

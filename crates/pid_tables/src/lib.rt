@@ -15,6 +15,7 @@ mod put_file;
 mod put_sink;
 mod putting;
 pub mod rows;
+pub mod searches;
 mod tables;
 mod tally;
 
@@ -23,7 +24,7 @@ pub use creation::create;
 pub use faults::refusal_of;
 pub use judging::{Early, judge_import};
 pub use lists::EachEnd;
-pub use migration::{Step, migrate};
+pub use migration::Step;
 pub use put_file::{Stop, bring_in};
 pub use putting::Put;
 pub use rows::{TableFault, Version};

@@ -37,11 +37,12 @@ ghost use Rattle.pid_tables.specs.Steps.Bringing.{IsStanding, is_latest, step_fo
 ghost use Rattle.pid_tables.specs.Steps.Found.{BringsFound};
 
 use crate::batch::commit;
-use crate::check::{check, has_some_table};
+use crate::check::has_some_table;
 use crate::creation::create;
 use crate::moving::move_tables;
 use crate::rows::meta::schema_number;
 use crate::rows::{LATEST, TableFault, Version};
+use crate::tables::Tables;
 use sqlite::{Alter, Connection};
 use std::alloc::Global;
 
@@ -84,29 +85,6 @@ fn is_current<S: Alter>(conn: &mut Connection<S>) -> Result<bool, TableFault>
     }
 }
 
-// The schema of the tables; none if there is no table. Those of schema 1 are judged, those of
-// schema 2 are not.
-fn standing<S: Alter>(
-    conn: &mut Connection<S>,
-    alloc: Global,
-) -> Result<Option<Version>, TableFault>
-    requires { conn.old.in_transaction ≡ false }
-    ensures rests { OnlyReads S.Store conn.old conn.new }
-    ensures same { IsTrue (is_open S.Store conn.new)
-        → (seen S.Store conn.new) ≡ (seen S.Store conn.old) }
-    ensures shown { FindsShown S.Store conn.old conn.new result }
-    ensures told { HasCleanDisk S.Store conn.new
-        → MatchResult result (IsStanding (seen S.Store conn.old))
-        (Explains (seen S.Store conn.old)) }
-{
-    crate::check::laws::sound_histories_are_registries(); // proof only
-    crate::laws::all_is_committed_outside_transactions(conn); // proof only
-    if is_current(conn)? {
-        return Ok(Some(Version::Two));
-    }
-    check(conn, alloc)
-}
-
 // Moves tables of schema 1 in one transaction.
 fn move_up<S: Alter>(conn: &mut Connection<S>) -> Result<(), TableFault>
     requires { conn.old.in_transaction ≡ false }
@@ -146,25 +124,47 @@ fn bring<S: Alter>(conn: &mut Connection<S>, found: Option<Version>) -> Result<S
     }
 }
 
-/// Moves the database to schema 2: makes the tables of a new registry if there is none, moves those
-/// of schema 1, and leaves those of schema 2 as they are.
-///
-/// Tables of schema 1 are judged before, as `check` does it, and moved in one transaction. Whatever
-/// a crash leaves of that shows the same history, in schema 1 or in schema 2. Tables whose labels
-/// name schema 2 are not judged. Whatever other tables there are, nothing is written but the
-/// statements of a new registry, if there is no table of one, or else those that move schema 1; and
-/// `Created` and `Moved` say that they were carried out. A fault other than `Memory` and `Store`
-/// changes nothing; after those two the connection shows what it showed, and the call may be made
-/// again.
-pub fn migrate<S: Alter>(conn: &mut Connection<S>, alloc: Global) -> Result<Step, TableFault>
-    requires { conn.old.in_transaction ≡ false }
-    // Whatever there is, it is one step.
-    ensures at_once { WritesAtOnce S.Store conn.old conn.new result }
-    ensures shown { MigratesShown S.Store conn.old conn.new result }
-    ensures judged { MigratesJudged S.Store conn.old conn.new result }
-    ensures none { MigratesNone S.Store conn.old conn.new result }
-{
-    crate::check::laws::schemas_have_tables(); // proof only
-    let found = standing(conn, alloc)?;
-    bring(conn, found)
+impl<S: Alter + Drop> Tables<S> {
+    // The schema of the tables; none if there is no table. Those of schema 1 are judged, those of
+    // schema 2 are not.
+    fn schema_found(&mut self, alloc: Global) -> Result<Option<Version>, TableFault>
+        requires { self.old.conn.in_transaction ≡ false }
+        ensures rests { OnlyReads S.Store self.old.conn self.new.conn }
+        ensures same { IsTrue (is_open S.Store self.new.conn)
+            → (seen S.Store self.new.conn) ≡ (seen S.Store self.old.conn) }
+        ensures shown { FindsShown S.Store self.old.conn self.new.conn result }
+        ensures told { HasCleanDisk S.Store self.new.conn
+            → MatchResult result (IsStanding (seen S.Store self.old.conn))
+            (Explains (seen S.Store self.old.conn)) }
+    {
+        crate::check::laws::sound_histories_are_registries(); // proof only
+        crate::laws::all_is_committed_outside_transactions(&self.conn); // proof only
+        if is_current(&mut self.conn)? {
+            return Ok(Some(Version::Two));
+        }
+        self.check(alloc)
+    }
+
+    /// Moves the database to schema 2: makes the tables of a new registry if there is none, moves
+    /// those of schema 1, and leaves those of schema 2 as they are.
+    ///
+    /// Tables of schema 1 are judged before, as `check` does it, and moved in one transaction.
+    /// Whatever a crash leaves of that shows the same history, in schema 1 or in schema 2. Tables
+    /// whose labels name schema 2 are not judged. Whatever other tables there are, nothing is
+    /// written but the statements of a new registry, if there is no table of one, or else those
+    /// that move schema 1; and `Created` and `Moved` say that they were carried out. A fault other
+    /// than `Memory` and `Store` changes nothing; after those two the connection shows what it
+    /// showed, and the call may be made again.
+    pub fn migrate(&mut self, alloc: Global) -> Result<Step, TableFault>
+        requires { self.old.conn.in_transaction ≡ false }
+        // Whatever there is, it is one step.
+        ensures at_once { WritesAtOnce S.Store self.old.conn self.new.conn result }
+        ensures shown { MigratesShown S.Store self.old.conn self.new.conn result }
+        ensures judged { MigratesJudged S.Store self.old.conn self.new.conn result }
+        ensures none { MigratesNone S.Store self.old.conn self.new.conn result }
+    {
+        crate::check::laws::schemas_have_tables(); // proof only
+        let found = self.schema_found(alloc)?;
+        bring(&mut self.conn, found)
+    }
 }

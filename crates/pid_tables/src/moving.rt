@@ -1,7 +1,7 @@
 //! The tables of schema 1 become those of schema 2, inside a transaction.
 ghost use Rattle.std.specs.Prelude.{◌≡◌, IfErr};
 ghost use Rattle.pid_tables.specs.Rows.Faults.{IsNotNewerSchema};
-ghost use Rattle.pid_tables.specs.Rows.Clauses.{GoesOn};
+ghost use Rattle.pid_tables.specs.Rows.Steps.Clauses.{GoesOn};
 ghost use Rattle.pid_tables.specs.Statements.{move_statements};
 ghost use Rattle.pid_tables.specs.Steps.Clauses.{Moves};
 ghost use Rattle.pid_tables.specs.Steps.Making.{CarriesOut};

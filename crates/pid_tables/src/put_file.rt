@@ -28,7 +28,6 @@ use pid_moderation::{
 use pid_reader::{CutEnd, InputEnd, ReadRefusal, cut_input};
 use sqlite::{Alter, Connection};
 use std::alloc::Global;
-use thiserror::Error;
 
 /// Why a file was not imported.
 ///
@@ -36,13 +35,10 @@ use thiserror::Error;
 /// - `Refused`: the import is refused for this reason. The tables are as before.
 /// - `Failed`: out of memory, or the store failed within the transaction. Of the tables no more is
 ///   known than that what a crash may leave shows the history before the import, or with it.
-#[derive(Clone, Copy, Debug, Error)]
+#[derive(Clone, Copy)]
 pub enum Stop {
-    #[error("the input failed")]
     Body,
-    #[error("{0}")]
     Refused(Refusal),
-    #[error("{0}")]
     Failed(Refusal),
 }
 

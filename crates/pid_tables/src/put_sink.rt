@@ -1,6 +1,6 @@
 //! The entries of a file, put into a transaction one by one.
 ghost use Rattle.std.specs.Prelude.{◌≡◌, ◌+◌, IfOk};
-ghost use Rattle.pid_tables.specs.Tallies.{tallied};
+ghost use Rattle.pid_tables.specs.Steps.Tallies.{tallied};
 ghost use Rattle.pid_tables.specs.Steps.Tallies.{no_tally};
 
 use crate::batch::put;
@@ -38,7 +38,7 @@ pub(crate) trait Putter {
 
 impl<S: Alter> Putter for Transaction<'_, S> {
     ghost use Rattle.std.specs.Prelude.{◌≡◌};
-    ghost use Rattle.pid_tables.specs.ImportClauses.{Puts, GivesUp};
+    ghost use Rattle.pid_tables.specs.Steps.ImportClauses.{Puts, GivesUp};
 
     ghost puts = { λ n s item put t. (t.conn.ghost_name ≡ s.conn.ghost_name)
         × Puts S.Store n s.conn.now t.conn.now item put };
@@ -110,7 +110,7 @@ fn tally_with(put: Put, tally: Tally) -> Result<Tally, TableFault>
 
 impl<K: Putter> Sink for PutSink<'_, K, Global> {
     ghost use Rattle.std.specs.Prelude.{◌≡◌};
-    ghost use Rattle.pid_tables.specs.PutSinks.{TakesEntry, LeavesEntry};
+    ghost use Rattle.pid_tables.specs.Steps.PutSinks.{TakesEntry, LeavesEntry};
 
     type Fault = TableFault;
 

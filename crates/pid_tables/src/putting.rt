@@ -5,7 +5,7 @@ ghost use Rattle.pid_tables.specs.Puts.{put_over};
 ghost use Rattle.pid_tables.specs.Steps.Clauses.{TellsWithin};
 ghost use Rattle.pid_tables.specs.Rows.Steps.Answers.{name_row};
 ghost use Rattle.pid_tables.specs.Rows.Writes.{with_name};
-ghost use Rattle.pid_tables.specs.Rows.Clauses.{ChangesTo, GoesOn};
+ghost use Rattle.pid_tables.specs.Rows.Steps.Clauses.{ChangesTo, GoesOn};
 
 use crate::rows::TableFault;
 use crate::rows::item::{add_item, rename_item};
@@ -15,7 +15,7 @@ use sqlite::types::ToSql;
 use sqlite::{Alter, Row, Transaction};
 
 /// What a name that was put at a path was to it.
-#[derive(Clone, Copy, PartialEq, Eq)]
+#[derive(Clone, Copy)]
 pub enum Put {
     /// There was no item.
     Added,

@@ -2,7 +2,7 @@
 use Rattle.std.proofs.Common.{◌≡◌, ℕ, Bool, true, false, List, [], ◌∷◌, ◌++◌, Some, None, ap, ◌∙◌}
 use Rattle.std.specs.Prelude.{map, if◌then◌else◌}
 use Rattle.std.proofs.lemmas.List.{map-append}
-use Rattle.pid_http_stream.specs.Moments.{IsNoted}
+use Rattle.pid_ident.specs.Steps.Moments.{IsNoted}
 use Rattle.pid_tests_http.specs.Accounts.{moment_of}
 use Rattle.pid_tests_http.specs.declared.account.Kept.{Kept}
 

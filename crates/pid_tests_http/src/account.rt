@@ -1,6 +1,6 @@
 //! A reader that keeps account of when it is read.
 ghost use Rattle.std.specs.Prelude.{◌≡◌, Some};
-ghost use Rattle.pid_http_stream.specs.Moments.{IsNoted};
+ghost use Rattle.pid_ident.specs.Steps.Moments.{IsNoted};
 
 use pid_http_stream::Incoming;
 use pid_ident::{FaultyOutput, ReadFault};

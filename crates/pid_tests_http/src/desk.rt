@@ -1,14 +1,15 @@
 //! A handler with few paths.
 ghost use Rattle.std.specs.Prelude.{◌≡◌, Err, IsSome, IsTrue};
 ghost use Rattle.pid_http_stream.specs.Handling.{WritesBody};
-ghost use Rattle.pid_http_stream.specs.Statuses.{allows_body};
+ghost use Rattle.pid_http_stream.specs.HttpStatuses.{allows_body};
 
 use http::StatusCode;
 use pid_http_stream::{
-    BodyStop, Content, Handler, Head, NoReply, Reply, ReplyBody, ReplyHead, Served, Wanted,
-    discard, serve_stream,
+    BodyStop, Content, Handler, Head, LONGEST_BODY, NoReply, Reply, ReplyBody, ReplyHead, Served,
+    Wanted, serve_stream,
 };
 use pid_ident::{FaultyInput, FaultyOutput, Input, Output, write_all};
+use pid_reader::skip_input;
 use std::alloc::Global;
 
 /// Answers `/echo` with its body, drops the one of `/import`, writes that of `/pci.ids` itself,
@@ -124,8 +125,10 @@ impl Handler for Desk {
         _head: &Head<'_>,
         body: &mut B,
     ) -> Result<Reply, NoReply> {
-        discard(body)?;
-        reply(self.alloc, StatusCode::OK, Content::Text, b"taken\n")
+        match skip_input(LONGEST_BODY, body) {
+            Ok(()) => reply(self.alloc, StatusCode::OK, Content::Text, b"taken\n"),
+            Err(_) => Err(NoReply),
+        }
     }
 
     fn write_body<W: Output>(&mut self, out: &mut W) -> Result<(), BodyStop> {

@@ -1,7 +1,7 @@
 //! Streams that are refused, each with its status, its refusal and its length.
 use crate::desk::serve;
 use crate::lines::{push_reply, push_request};
-use pid_http_stream::{Served, StreamEnd};
+use pid_http_stream::{Served, StreamEnd, StreamFault};
 use std::alloc::Global;
 use std::test::Fail;
 
@@ -39,9 +39,12 @@ RAW POST /echo HTTP/1.1~Content-Length: 4~~abc
 RAW POST /import HTTP/1.1~X-Account: root~Content-Length: 20~~8086  Int
 ";
 
-// Whether the stream, however it is cut, gets this reply alone and ends so.
-fn is_refused(alloc: Global, stream: &[u8], reply: &[u8], end: StreamEnd) -> bool {
-    let wanted = Served { answered: 1, end };
+// Whether the stream, however it is cut, gets this reply alone and is refused for this.
+fn is_refused(alloc: Global, stream: &[u8], reply: &[u8], fault: StreamFault) -> bool {
+    let wanted = Served {
+        answered: 1,
+        end: StreamEnd::Refused(fault),
+    };
     for most in [1, 7, 4096, 100_000] {
         let outcome = serve(alloc, stream, most, 100_000);
         if outcome.served != wanted || outcome.written.as_slice() != reply {
@@ -52,17 +55,22 @@ fn is_refused(alloc: Global, stream: &[u8], reply: &[u8], end: StreamEnd) -> boo
 }
 
 // Whether the bytes of a line (`crate::lines`) are refused so.
-fn is_line_refused(alloc: Global, line: &str, reply: &str, end: StreamEnd) -> Result<bool, Fail> {
+fn is_line_refused(
+    alloc: Global,
+    line: &str,
+    reply: &str,
+    fault: StreamFault,
+) -> Result<bool, Fail> {
     let mut stream = String::new(alloc);
     push_request(alloc, &mut stream, line)?;
     let mut replied = String::new(alloc);
     push_reply(alloc, &mut replied, reply)?;
-    Ok(is_refused(alloc, stream.as_bytes(), replied.as_bytes(), end))
+    Ok(is_refused(alloc, stream.as_bytes(), replied.as_bytes(), fault))
 }
 
-fn try_lines(alloc: Global, lines: &str, reply: &str, end: StreamEnd) -> Result<(), Fail> {
+fn try_lines(alloc: Global, lines: &str, reply: &str, fault: StreamFault) -> Result<(), Fail> {
     for line in lines.lines() {
-        if !is_line_refused(alloc, line, reply, end)? {
+        if !is_line_refused(alloc, line, reply, fault)? {
             return Err(line)?;
         }
     }
@@ -71,14 +79,14 @@ fn try_lines(alloc: Global, lines: &str, reply: &str, end: StreamEnd) -> Result<
 
 #[test]
 fn heads_are_refused(rt: HostRuntime) -> Result<(), Fail> {
-    try_lines(rt.alloc(), BAD_HEADS, BAD_HEAD, StreamEnd::HeadFault)?;
-    try_lines(rt.alloc(), ENCODED, ENCODING, StreamEnd::HeadFault)
+    try_lines(rt.alloc(), BAD_HEADS, BAD_HEAD, StreamFault::BadHead)?;
+    try_lines(rt.alloc(), ENCODED, ENCODING, StreamFault::Encoding)
 }
 
 #[test]
 fn bodies_are_refused(rt: HostRuntime) -> Result<(), Fail> {
-    try_lines(rt.alloc(), LONG_BODIES, TOO_LONG, StreamEnd::BodyFault)?;
-    try_lines(rt.alloc(), SHORT_BODIES, SHORT, StreamEnd::BodyFault)
+    try_lines(rt.alloc(), LONG_BODIES, TOO_LONG, StreamFault::BodyTooLong)?;
+    try_lines(rt.alloc(), SHORT_BODIES, SHORT, StreamFault::BodyShort)
 }
 
 const REFUSED_HEAD: &[u8] =
@@ -91,7 +99,7 @@ fn is_judged(alloc: Global, stream: &[u8], most: usize, is_good: bool) -> bool {
         let (answered, end) = (1, StreamEnd::Clean);
         serve(alloc, stream, most, 100).served == Served { answered, end }
     } else {
-        is_refused(alloc, stream, REFUSED_HEAD, StreamEnd::HeadFault)
+        is_refused(alloc, stream, REFUSED_HEAD, StreamFault::BadHead)
     }
 }
 

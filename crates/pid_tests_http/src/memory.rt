@@ -39,7 +39,7 @@ fn are_answers(written: &[u8], answered: u64, end: StreamEnd) -> bool {
     }
     let text = THEIR_REPLIES.get(82..180).unwrap_or(b"");
     let ends_so = match end {
-        StreamEnd::BodyFault => answered == 3 && rest.is_empty(),
+        StreamEnd::Refused(_) => answered == 3 && rest.is_empty(),
         StreamEnd::StoreFault => answered == 1 && text.starts_with(rest),
         _ => end == StreamEnd::Memory && rest.is_empty(),
     };

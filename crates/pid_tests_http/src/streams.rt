@@ -1,7 +1,7 @@
 //! Whole streams, byte for byte, and how they end.
 use crate::exchange::{TURNS, are_replies, serve_new};
 use crate::lines::push_reply;
-use pid_http_stream::{Served, StreamEnd};
+use pid_http_stream::{Served, StreamEnd, StreamFault};
 use pid_ident::{FaultyInput, FaultyOutput, Plain};
 use std::alloc::Global;
 use std::io::Read;
@@ -24,7 +24,7 @@ pub(crate) const THEIR_REPLIES: &[u8] =
 /// How many of them there are, and how the stream ends.
 pub(crate) const THEIR_END: Served = Served {
     answered: 3,
-    end: StreamEnd::BodyFault,
+    end: StreamEnd::Refused(StreamFault::BodyShort),
 };
 
 #[test]
@@ -64,18 +64,24 @@ const HEADS: &str =
 RAW GET / HTTP/1.1~Content-Length: 0~Content-Length: 0~~ | 400 Bad Request close json {"ok":false,\
 "refused":20,"word":"BadHead"}
 RAW GET / HTTP/1.1~Content-Length: x~~ | 400 Bad Request close json {"ok":false,"refused":20,"word":"BadHead"}
-RAW POST /import HTTP/1.1~Transfer-Encoding: chunked~~ | 501 Not Implemented close json \
+"#;
+
+const ENCODED: &str =
+    r#"RAW POST /import HTTP/1.1~Transfer-Encoding: chunked~~ | 501 Not Implemented close json \
 {"ok":false,"refused":22,"word":"Encoding"}
 RAW GET / HTTP/1.1~Content-Length: x~Transfer-Encoding: gzip~~ | 501 Not Implemented close json \
 {"ok":false,"refused":22,"word":"Encoding"}
 "#;
 
-const BODIES: &str =
+const LONG_BODIES: &str =
     r#"RAW POST /import HTTP/1.1~Content-Length: 4194305~~ | 413 Payload Too Large close json \
 {"ok":false,"refused":21,"word":"BodyTooLong"}
 RAW GET /nope HTTP/1.1~Content-Length: 999999999999999999999999999999~~ | 413 Payload Too Large \
 close json {"ok":false,"refused":21,"word":"BodyTooLong"}
-RAW POST /import HTTP/1.1~X-Account: root~Content-Length: 20~~8086  Int | 400 Bad Request close \
+"#;
+
+const SHORT_BODIES: &str =
+    r#"RAW POST /import HTTP/1.1~X-Account: root~Content-Length: 20~~8086  Int | 400 Bad Request close \
 json {"ok":false,"refused":23,"word":"BodyShort"}
 RAW POST /import HTTP/1.1~X-Account: alice~Content-Length: 20~~8086  Int | 400 Bad Request close \
 json {"ok":false,"refused":23,"word":"BodyShort"}
@@ -101,8 +107,10 @@ fn each_end_is_told(rt: HostRuntime) -> Result<(), Fail> {
         (NO_ITEMS, StreamEnd::Clean),
         (CLOSED, StreamEnd::Closed),
         (OPEN, StreamEnd::Clean),
-        (HEADS, StreamEnd::HeadFault),
-        (BODIES, StreamEnd::BodyFault),
+        (HEADS, StreamEnd::Refused(StreamFault::BadHead)),
+        (ENCODED, StreamEnd::Refused(StreamFault::Encoding)),
+        (LONG_BODIES, StreamEnd::Refused(StreamFault::BodyTooLong)),
+        (SHORT_BODIES, StreamEnd::Refused(StreamFault::BodyShort)),
         (NO_ITEMS, StreamEnd::Clean),
     ];
     let mut input = FaultyInput::new(b"\r\n", 1);
@@ -137,7 +145,7 @@ fn is_judged(alloc: Global, head: &[u8], is_good: bool) -> Result<bool, Fail> {
     let (line, end) = if is_good {
         ("200 OK json []", StreamEnd::Clean)
     } else {
-        (BAD_HEAD, StreamEnd::HeadFault)
+        (BAD_HEAD, StreamEnd::Refused(StreamFault::BadHead))
     };
     let mut reply = String::new(alloc);
     push_reply(alloc, &mut reply, line)?;

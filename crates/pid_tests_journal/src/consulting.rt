@@ -23,7 +23,7 @@ fn an_import_that_comes_as_an_input_has_its_line(rt: HostRuntime) -> Result<(), 
         paper
             .bytes
             .as_slice()
-            .ends_with(b"\nimport root file=8086++Intel%0A\n")
+            .ends_with(b"\nimport root file=8086++Intel%0A\n\n")
     );
     Ok(())
 }

@@ -1,7 +1,7 @@
 //! Faults of the journal's file.
 use crate::paper::{is_told, on_paper};
-use pid_ident::Account;
-use pid_moderation::{Act, Command, File, Refusal};
+use pid_ident::{Account, LineKind};
+use pid_moderation::{Act, Command, File, FileFault, Refusal};
 use std::alloc::Global;
 use std::process::Abort;
 use std::test::Fail;
@@ -21,7 +21,12 @@ fn an_entry_that_is_not_written_is_cut_off(rt: HostRuntime) -> Result<(), Fail> 
     assert!(rt; is_told(alloc, &mut registry, SECOND, b"refused 17 Store\n")?);
     assert!(rt; is_told(alloc, &mut registry, READ, b"refused 25 NoItem\n")?);
     let (_, paper) = registry.into_parts();
-    assert!(rt; paper.bytes.as_slice().ends_with(FIRST));
+    assert!(rt;
+        paper
+            .bytes
+            .as_slice()
+            .ends_with(b"account root who=bob&rank=1\n\n")
+    );
     Ok(())
 }
 
@@ -57,13 +62,13 @@ pub(crate) fn root_of(alloc: Global) -> Result<Account, Fail> {
     }
 }
 
-// No line says a file that is not UTF-8.
+// No line of a script says such a file, and it is answered as without a journal.
 #[test]
-fn a_file_that_has_no_line_is_not_imported(rt: HostRuntime) -> Result<(), Fail> {
+fn a_file_that_is_not_utf8_has_no_line(rt: HostRuntime) -> Result<(), Fail> {
     let alloc = rt.alloc();
     let mut registry = on_paper(alloc, 10, true)?;
     let mut bytes = Vec::new(alloc);
-    bytes.extend_from_slice(b"8086  Intel\xff\n")?;
+    bytes.extend_from_slice(b"8086  Intel\n8087  Intel\xff\n")?;
     let command = Command {
         account: root_of(alloc)?,
         key: None,
@@ -71,7 +76,17 @@ fn a_file_that_has_no_line_is_not_imported(rt: HostRuntime) -> Result<(), Fail> 
             file: File::new(bytes),
         },
     };
-    assert!(rt; matches!(registry.obey(command), Err(Refusal::Store)));
+    let answer = registry.obey(command);
+    assert!(rt;
+        matches!(
+            answer,
+            Err(Refusal::FileFault(FileFault::Line {
+                line: 2,
+                kind: LineKind::NotUtf8
+            }))
+        )
+    );
+    assert!(rt; is_told(alloc, &mut registry, READ, b"refused 25 NoItem\n")?);
     let (_, paper) = registry.into_parts();
     assert!(rt; paper.bytes.is_empty());
     Ok(())

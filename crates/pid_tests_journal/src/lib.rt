@@ -12,3 +12,5 @@ mod openings;
 mod paper;
 #[cfg(test)]
 mod replays;
+#[cfg(test)]
+mod segments;

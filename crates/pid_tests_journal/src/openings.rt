@@ -1,13 +1,13 @@
 //! Openings with a journal that holds something.
-use crate::paper::{OnPaper, Paper, is_told, new_in_memory, on_paper, paper_of, replies};
-use pid_journal::{Journaled, OpenFault};
+use crate::paper::{OnPaper, folder_of, is_told, new_in_memory, on_paper, opened, replies};
+use pid_journal::OpenFault;
 use pid_service::Registry;
 use sqlite::MemStore;
 use std::alloc::Global;
 use std::process::Abort;
 use std::test::Fail;
 
-const FIRST: &[u8] = b"\
+pub(crate) const FIRST: &[u8] = b"\
 account root who=bob&rank=1
 submit bob path=PC/8086&name=Intel
 approve root num=1
@@ -15,19 +15,19 @@ approve root num=1
 ";
 
 // The last one has no key, so that a second time would be seen.
-const SECOND: &[u8] = b"\
+pub(crate) const SECOND: &[u8] = b"\
 submit bob path=PC/8086/1237&name=440FX
 approve root num=2
 submit bob path=PC/8086/1237&name=440FX+bridge
 ";
 
 // After both the third submission waits, and the next one is the fourth.
-const QUESTIONS: &[u8] = b"\
+pub(crate) const QUESTIONS: &[u8] = b"\
 export
 submit bob path=PC/8087&name=Other
 ";
 
-const ANSWERS: &[u8] = b"\
+pub(crate) const ANSWERS: &[u8] = b"\
 # PCI ID registry
 8086  Intel
 \t1237  440FX
@@ -35,7 +35,7 @@ ok 4
 ";
 
 // The text of the journal of these commands.
-fn text_of(alloc: Global, script: &[u8], more: &[u8]) -> Result<Vec<u8>, Fail> {
+pub(crate) fn text_of(alloc: Global, script: &[u8], more: &[u8]) -> Result<Vec<u8>, Fail> {
     let mut registry = on_paper(alloc, 1_000, true)?;
     let _ = replies(alloc, &mut registry, script)?;
     let _ = replies(alloc, &mut registry, more)?;
@@ -44,25 +44,28 @@ fn text_of(alloc: Global, script: &[u8], more: &[u8]) -> Result<Vec<u8>, Fail> {
 }
 
 // A registry without a journal that has obeyed these commands.
-fn registry_of(alloc: Global, script: &[u8], more: &[u8]) -> Result<Registry<MemStore>, Fail> {
+pub(crate) fn registry_of(
+    alloc: Global,
+    script: &[u8],
+    more: &[u8],
+) -> Result<Registry<MemStore>, Fail> {
     let mut registry = new_in_memory(alloc)?;
     let _ = replies(alloc, &mut registry, script)?;
     let _ = replies(alloc, &mut registry, more)?;
     Ok(registry)
 }
 
-fn resumed(alloc: Global, registry: Registry<MemStore>, paper: Paper) -> Result<OnPaper, Fail> {
-    match Journaled::resume(alloc, registry, paper) {
-        Ok(registry) => Ok(registry),
-        Err((_, _, _)) => Err("it was not resumed")?,
+fn resumed(alloc: Global, registry: Registry<MemStore>, text: &[u8]) -> Result<OnPaper, Fail> {
+    match opened(alloc, registry, &mut folder_of(alloc, text)?, 1_000_000) {
+        Ok(opened) => Ok(opened.registry),
+        Err(_) => Err("it was not resumed")?,
     }
 }
 
 // Whether this registry, with the journal of both, shows what both lead to.
 fn comes_to_both(alloc: Global, registry: Registry<MemStore>) -> Result<bool, Fail> {
     let text = text_of(alloc, FIRST, SECOND)?;
-    let paper = paper_of(alloc, text.as_slice())?;
-    let mut registry = resumed(alloc, registry, paper)?;
+    let mut registry = resumed(alloc, registry, text.as_slice())?;
     is_told(alloc, &mut registry, QUESTIONS, ANSWERS)
 }
 
@@ -107,45 +110,19 @@ fn a_command_in_doubt_is_obeyed_once(rt: HostRuntime) -> Result<(), Fail> {
 fn a_torn_line_is_cut_off(rt: HostRuntime) -> Result<(), Fail> {
     let alloc = rt.alloc();
     let whole = text_of(alloc, FIRST, SECOND)?;
-    for less in [1, 5, 30] {
+    for less in [2, 5, 30] {
         let (torn, _) = whole.split_at(usize::saturating_sub(whole.len(), less));
         let registry = registry_of(alloc, FIRST, b"")?;
-        let resumed = resumed(alloc, registry, paper_of(alloc, torn)?)?;
+        let resumed = resumed(alloc, registry, torn)?;
         let (mut registry, paper) = resumed.into_parts();
-        assert!(rt; paper.bytes.as_slice().ends_with(b"\n"));
-        assert!(rt; torn.starts_with(paper.bytes.as_slice()));
+        let (kept, mark) = paper
+            .bytes
+            .split_at(usize::saturating_sub(paper.bytes.len(), 1));
+        assert_eq!(rt; mark, b"\n".as_slice());
+        assert!(rt; whole.as_slice().starts_with(kept));
         let wanted = b"# PCI ID registry\n8086  Intel\n\t1237  440FX\nok 3\n";
         assert!(rt; is_told(alloc, &mut registry, QUESTIONS, wanted)?);
     }
-    Ok(())
-}
-
-// Whether an opening is refused, and leaves the text as it is.
-fn is_refused(
-    alloc: Global,
-    registry: Registry<MemStore>,
-    text: &[u8],
-    newer: bool,
-) -> Result<bool, Fail> {
-    match Journaled::resume(alloc, registry, paper_of(alloc, text)?) {
-        Ok(_) => Ok(false),
-        Err((_, paper, fault)) => {
-            let is = match fault {
-                OpenFault::Newer => newer,
-                OpenFault::Another => !newer,
-                OpenFault::Refused(_) => false,
-            };
-            Ok(is && paper.bytes.as_slice() == text)
-        }
-    }
-}
-
-#[test]
-fn a_registry_that_is_newer_is_refused(rt: HostRuntime) -> Result<(), Fail> {
-    let alloc = rt.alloc();
-    let text = text_of(alloc, FIRST, b"")?;
-    let registry = registry_of(alloc, FIRST, SECOND)?;
-    assert!(rt; is_refused(alloc, registry, text.as_slice(), true)?);
     Ok(())
 }
 
@@ -155,7 +132,13 @@ fn the_journal_of_another_registry_is_refused(rt: HostRuntime) -> Result<(), Fai
     let text = text_of(alloc, FIRST, SECOND)?;
     let other = b"account root who=bob&rank=1\naccount root who=eve&rank=1\n";
     let registry = registry_of(alloc, other, b"")?;
-    assert!(rt; is_refused(alloc, registry, text.as_slice(), false)?);
+    let end = opened(
+        alloc,
+        registry,
+        &mut folder_of(alloc, text.as_slice())?,
+        1_000_000,
+    );
+    assert!(rt; matches!(end, Err(OpenFault::Another)));
     Ok(())
 }
 
@@ -165,10 +148,10 @@ fn a_journal_goes_on_after_an_opening(rt: HostRuntime) -> Result<(), Fail> {
     let alloc = rt.alloc();
     let text = text_of(alloc, FIRST, b"")?;
     let registry = registry_of(alloc, FIRST, b"")?;
-    let mut registry = resumed(alloc, registry, paper_of(alloc, text.as_slice())?)?;
+    let mut registry = resumed(alloc, registry, text.as_slice())?;
     let _ = replies(alloc, &mut registry, SECOND)?;
     let (_, paper) = registry.into_parts();
-    let mut again = resumed(alloc, new_in_memory(alloc)?, paper)?;
+    let mut again = resumed(alloc, new_in_memory(alloc)?, paper.bytes.as_slice())?;
     assert!(rt; is_told(alloc, &mut again, QUESTIONS, ANSWERS)?);
     Ok(())
 }

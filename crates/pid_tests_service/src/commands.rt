@@ -3,7 +3,7 @@ use crate::asking::{expect_line, expect_told, halves, line_of, new_in_memory};
 use crate::rows::command_in;
 use pid_ident::Text;
 use pid_moderation::{Act, Command, Refusal, Reply};
-use pid_service::Registry;
+use pid_service::{Moderated, Registry};
 use sqlite::Alter;
 use std::alloc::Global;
 use std::process::Abort;

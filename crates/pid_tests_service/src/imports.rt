@@ -92,7 +92,7 @@ fn expect_prefix<S: Alter + Drop>(
     writes: usize,
 ) {
     let mut output = FaultyOutput::new(alloc, 1).failing_after(writes as u64, WriteFault::Zero);
-    let fault = registry.export(&mut output);
+    let fault = registry.export_rows(&mut output);
     assert!(rt; matches!(fault, Err(ExportFault::Write(WriteFault::Zero))));
     assert!(rt; output.taken.len() == writes && TEXT.starts_with(output.taken.as_slice()));
 }

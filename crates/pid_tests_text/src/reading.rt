@@ -255,9 +255,8 @@ fn a_refusal_says_its_line_and_kind(rt: HostRuntime) -> Result<(), Fail> {
     let (line, kind) = (2, LineKind::Duplicate);
     let refusal = ReadRefusal::Line { line, kind };
     let fault = LineFault { line, kind };
-    let end: CutEnd<Never> = CutEnd::Refused(refusal);
-    let text = format!(in alloc; "{refusal}, {fault}, {end}")?;
-    assert!(rt; text.as_str() == "line 2: 7 Duplicate, line 2: 7 Duplicate, line 2: 7 Duplicate");
+    let text = format!(in alloc; "{refusal}, {fault}")?;
+    assert!(rt; text.as_str() == "line 2: 7 Duplicate, line 2: 7 Duplicate");
     Ok(())
 }
 

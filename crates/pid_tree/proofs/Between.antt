@@ -11,7 +11,8 @@ use Rattle.std.proofs.lemmas.Cmp.{nat_list_cmp_total, tied_itself}
 use Rattle.std.proofs.lemmas.Map.Views.{range_contains-from_IsInRange}
 use Rattle.std.specs.FinMap.{get}
 use Rattle.pid_file.specs.declared.path.Path.{Path}
-use Rattle.pid_file.specs.PathTexts.{IsPath, path_text, parent_of, path_cmp}
+use Rattle.pid_file.specs.PathTexts.{IsPath, path_text, parent_of}
+use Rattle.pid_file.specs.Steps.Paths.{path_cmp}
 use Rattle.pid_file.specs.Trees.{TreeMap, text_cmp}
 use Rattle.pid_file.specs.Items.{tree_of}
 use Rattle.pid_tree.specs.Parents.{HasChild}

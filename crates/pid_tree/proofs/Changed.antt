@@ -8,7 +8,8 @@ use Rattle.std.specs.List.Sorted.{IsStrictlySortedBy}
 use Rattle.std.proofs.lemmas.Cmp.{nat_list_cmp_total, tied_itself}
 use Rattle.std.specs.FinMap.{get, insert, entries, empty, len, get-from_entries, get-insert, get-empty, len-entries, same_map}
 use Rattle.pid_file.specs.declared.path.Path.{Path}
-use Rattle.pid_file.specs.PathTexts.{IsPath, IsTextOf, path_text, parent_of, path_cmp}
+use Rattle.pid_file.specs.PathTexts.{IsPath, IsTextOf, path_text, parent_of}
+use Rattle.pid_file.specs.Steps.Paths.{path_cmp}
 use Rattle.pid_file.specs.Words.{is_name}
 use Rattle.pid_file.specs.Trees.{TreeMap, IsTree, text_cmp}
 use Rattle.pid_file.specs.Items.{item_of, tree_of}

@@ -13,7 +13,8 @@ use Rattle.std.proofs.lemmas.Cmp.{nat_list_cmp_total, tied_itself}
 use Rattle.std.specs.FinMap.{get, remove, get-from_entries, get-remove, same_map}
 use Rattle.std.specs.FinMap.Entries.{find as value_at}
 use Rattle.pid_file.specs.declared.path.Path.{Path}
-use Rattle.pid_file.specs.PathTexts.{IsPath, path_text, parent_of, path_cmp}
+use Rattle.pid_file.specs.PathTexts.{IsPath, path_text, parent_of}
+use Rattle.pid_file.specs.Steps.Paths.{path_cmp}
 use Rattle.pid_file.specs.Words.{is_name}
 use Rattle.pid_file.specs.Trees.{TreeMap, IsTree, text_cmp}
 use Rattle.pid_file.specs.Items.{item_of, tree_of}

@@ -1,7 +1,8 @@
 //! Whether a path has children in a tree.
 ghost use Rattle.std.specs.Prelude.{◌≡◌, ◌↔◌, Some, false, IsTrue};
 ghost use Rattle.std.specs.BTreeMap.Range.{IsLeBy, IsInRange};
-ghost use Rattle.pid_file.specs.PathTexts.{path_cmp, parent_of, IsPath};
+ghost use Rattle.pid_file.specs.PathTexts.{parent_of, IsPath};
+ghost use Rattle.pid_file.specs.Steps.Paths.{path_cmp};
 ghost use Rattle.pid_tree.specs.Parents.{HasChild};
 ghost use Rattle.pid_tree.specs.Steps.Between.{HasNoneBetween};
 

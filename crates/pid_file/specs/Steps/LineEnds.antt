@@ -1,12 +1,18 @@
 -- What became of a sink at one more line.
 -- Serves private functions alone; no promise rests on it.
-use Rattle.std.specs.Prelude.{◌≡◌, ℕ, List, [], ◌∷◌, None, Result, Ok, Err}
+use Rattle.std.specs.Prelude.{◌≡◌, ℕ, List, [], ◌∷◌, Option, None, Result, Ok, Err}
 use Rattle.pid_file.specs.declared.refusal.ReadRefusal.{ReadRefusal}
 use Rattle.pid_file.specs.declared.sink.CutEnd.{CutEnd}
 use Rattle.pid_file.specs.declared.sink.CutEnd.TheVariants.{Refused, Fault}
 use Rattle.pid_file.specs.Numbered.{Numbered, numbered_at}
-use Rattle.pid_file.specs.Refusals.{refusal_at, IsRefusal}
+use Rattle.pid_file.specs.Refusals.{IsRefusal}
 use Rattle.pid_file.specs.Sinks.{Took}
+use Rattle.pid_file.specs.Faults.{fault_of}
+use Rattle.pid_file.specs.Reading.{refused_at}
+
+-- what is refused at a line after others
+abbrev pub refusal_at : List (List ℕ) → List ℕ → Option ReadRefusal
+refusal_at earlier line = refused_at earlier line (fault_of earlier line)
 
 -- it is not refused, and the sink took its entry, if it is one
 pub record TookLine {S : Type 0} (takes : S → Numbered → S → Type 0) (earlier : List (List ℕ))

@@ -11,7 +11,8 @@ ghost use Rattle.std.specs.Cmp.{
 ghost use Rattle.std.specs.Cmp.Lexicographic.{nat_list_cmp_total};
 ghost use Rattle.std.specs.Cmp.Rules.{comparing};
 ghost use Rattle.std.proofs.Common.{refl, rules};
-ghost use Rattle.pid_file.specs.PathTexts.{IsPath, path_text, path_cmp};
+ghost use Rattle.pid_file.specs.PathTexts.{IsPath, path_text};
+ghost use Rattle.pid_file.specs.Steps.Paths.{path_cmp};
 ghost use Rattle.pid_file.specs.Steps.PathPlaces.{path_head, path_rest, path_key};
 
 use super::Path;

@@ -1,13 +1,11 @@
 -- The answers with items that were added or renamed: choices of this project. An item has the
 -- number of the last change of its name.
-use Rattle.std.specs.Prelude.{ℕ, List, ◌++◌, map, codes, decimal}
+use Rattle.std.specs.Prelude.{ℕ, List, ◌++◌, codes, decimal}
 use Rattle.std.specs.List.{flat_map}
-use Rattle.serde_json.specs.Data.{Data, number, unsigned, string, array, object, member, no_members}
-use Rattle.serde_json.specs.View.{items_of}
+use Rattle.serde_json.specs.Data.{Data, number, unsigned, string, object, member, no_members}
 use Rattle.pid_moderation.specs.ChangePages.{Changed, ChangePage}
 use Rattle.pid_http_stream.specs.Replies.{Answer}
-use Rattle.pid_http.specs.Api.Replying.{answer_in}
-use Rattle.pid_http.specs.Api.WordLines.{word_line}
+use Rattle.pid_http.specs.Api.Replying.{answer_in, rows_data, word_line}
 use Rattle.pid_http.specs.declared.api.format.Format.{Format}
 
 -- {"name":"Intel","path":"PC/8086","since":3}
@@ -17,13 +15,9 @@ changed_data item =
     (member (codes "path") (string item.path)
     (member (codes "since") (number (unsigned item.since)) no_members)))
 
--- an array of them, in order
-abbrev pub changed_items : List Changed → Data
-changed_items items = array (items_of (map changed_data items))
-
 -- {"items":[],"revision":4}
 abbrev pub changes_data : ChangePage → Data
-changes_data page = object (member (codes "items") (changed_items page.items)
+changes_data page = object (member (codes "items") (rows_data changed_data page.items)
     (member (codes "revision") (number (unsigned page.revision)) no_members))
 
 -- 3 PC/8086 Intel

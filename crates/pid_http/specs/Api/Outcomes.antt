@@ -1,6 +1,6 @@
 -- The answers to commands: a status (RFC 9110, section 15), and the outcome as JSON or as the reply
 -- line of scripts. Choices of this project.
-use Rattle.std.specs.Prelude.{ℕ, true, false, codes, Result, Ok, Err}
+use Rattle.std.specs.Prelude.{ℕ, true, false, List, codes, Result, Ok, Err}
 use Rattle.serde_json.specs.Written.{compact_text}
 use Rattle.serde_json.specs.Data.{Data, number, unsigned, string, boolean}
 use Rattle.serde_json.specs.Data.{object, member, no_members}
@@ -16,7 +16,7 @@ use Rattle.pid_moderation.specs.declared.refusal.FileFault.TheVariants.{Line, To
 use Rattle.pid_moderation.specs.declared.refusal.Refusal.{Refusal}
 use Rattle.pid_moderation.specs.declared.refusal.Refusal.TheVariants as refusals
 use Rattle.pid_http_stream.specs.Replies.{Answer, answer_with}
-use Rattle.pid_http_stream.specs.RequestRefusals.{refusal_data}
+use Rattle.pid_http_stream.specs.StreamFaults.{refusal_data}
 use Rattle.pid_http_stream.specs.declared.reply_head.Content.TheVariants.{Json}
 use Rattle.pid_http.specs.Api.Replying.{answer_in}
 use Rattle.pid_http.specs.declared.api.format.Format.{Format}
@@ -48,22 +48,6 @@ abbrev pub status_of_outcome : Result Reply Refusal → ℕ
 status_of_outcome (Ok reply) = 200
 status_of_outcome (Err refusal) = status_of_refusal refusal
 
--- {"ok":true}
-abbrev pub done_data : Data
-done_data = object (member (codes "ok") (boolean true) no_members)
-
--- {"num":1,"ok":true}
-abbrev pub numbered_data : ℕ → Data
-numbered_data n = object (member (codes "num") (number (unsigned n))
-    (member (codes "ok") (boolean true) no_members))
-
--- {"added":1,"ok":true,"renamed":0,"same":0}
-abbrev pub counts_data : ℕ → ℕ → ℕ → Data
-counts_data added renamed same =
-    object (member (codes "added") (number (unsigned added)) (member (codes "ok") (boolean true)
-    (member (codes "renamed") (number (unsigned renamed))
-    (member (codes "same") (number (unsigned same)) no_members))))
-
 -- {"kind":7,"line":3,"ok":false,"refused":14,"word":"FileFault"}
 abbrev pub fault_data : ℕ → ℕ → Data
 fault_data line kind =
@@ -78,11 +62,16 @@ refused_data (refusals.FileFault (Line line kind)) = fault_data line (line_kinds
 refused_data (refusals.FileFault TooMany) = fault_data 0 0
 refused_data refusal = refusal_data (refusal_number refusal) (refusal_word refusal)
 
--- what was answered, or why it was refused
+-- what was answered, or why it was refused: {"ok":true}; {"num":1,"ok":true};
+-- {"added":1,"ok":true,"renamed":0,"same":0}
 abbrev pub outcome_data : Result Reply Refusal → Data
-outcome_data (Ok Done) = done_data
-outcome_data (Ok (Numbered n)) = numbered_data n
-outcome_data (Ok (Counts added renamed same)) = counts_data added renamed same
+outcome_data (Ok Done) = object (member (codes "ok") (boolean true) no_members)
+outcome_data (Ok (Numbered n)) = object (member (codes "num") (number (unsigned n))
+    (member (codes "ok") (boolean true) no_members))
+outcome_data (Ok (Counts added renamed same)) =
+    object (member (codes "added") (number (unsigned added)) (member (codes "ok") (boolean true)
+    (member (codes "renamed") (number (unsigned renamed))
+    (member (codes "same") (number (unsigned same)) no_members))))
 outcome_data (Err refusal) = refused_data refusal
 
 -- the answer to a command
@@ -90,13 +79,17 @@ abbrev pub outcome_answer : Format → Result Reply Refusal → Answer
 outcome_answer format outcome = answer_in format (status_of_outcome outcome) (outcome_data outcome)
     (outcome_line outcome)
 
+-- the answer with a refusal that is none of a command, as JSON
+abbrev pub refused_answer : ℕ → ℕ → List ℕ → Answer
+refused_answer status n word = answer_with status Json (compact_text (refusal_data n word))
+
 -- {"ok":false,"refused":25,"word":"NoItem"}
 abbrev pub unanswered_data : Unanswered → Data
 unanswered_data why = refusal_data (unanswered_number why) (unanswered_word why)
 
--- the answer to a question that has none, as JSON
+-- the answer to a question that has none
 abbrev pub unanswered_answer : ℕ → Unanswered → Answer
-unanswered_answer status why = answer_with status Json (compact_text (unanswered_data why))
+unanswered_answer status why = refused_answer status (unanswered_number why) (unanswered_word why)
 
 -- the answer if no item is at a path
 abbrev pub missing_answer : Format → Answer

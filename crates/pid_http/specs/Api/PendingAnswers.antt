@@ -1,16 +1,11 @@
--- The answers with pending submissions: choices of this project. A submission has its number.
-use Rattle.std.specs.Prelude.{ℕ, List, ◌++◌, map, codes, decimal}
-use Rattle.std.specs.List.{flat_map}
-use Rattle.serde_json.specs.Data.{Data, null, number, unsigned, string, array}
+-- Pending submissions in answers: choices of this project. A submission has its number.
+use Rattle.std.specs.Prelude.{ℕ, List, ◌++◌, codes, decimal}
+use Rattle.serde_json.specs.Data.{Data, null, number, unsigned, string}
 use Rattle.serde_json.specs.Data.{object, member, no_members}
-use Rattle.serde_json.specs.View.{items_of}
 use Rattle.pid_ident.specs.PathTexts.{path_text}
 use Rattle.pid_moderation.specs.declared.command.Proposal.{Proposal}
 use Rattle.pid_moderation.specs.declared.command.Proposal.TheVariants.{Name, Removal}
 use Rattle.pid_moderation.specs.Submissions.{Standing}
-use Rattle.pid_http_stream.specs.Replies.{Answer}
-use Rattle.pid_http.specs.Api.Replying.{answer_in}
-use Rattle.pid_http.specs.declared.api.format.Format.{Format}
 
 -- the name that is proposed; null for a removal
 abbrev pub proposed_data : Proposal → Data
@@ -25,10 +20,6 @@ pending_data (n, s) =
     (member (codes "num") (number (unsigned n))
     (member (codes "path") (string (path_text s.submitted.path)) no_members))))
 
--- an array of them, in order
-abbrev pub pendings_data : List (ℕ × Standing) → Data
-pendings_data page = array (items_of (map pending_data page))
-
 -- name PC/8086 Intel; remove PC/8086
 abbrev pub proposal_words : Proposal → List ℕ → List ℕ
 proposal_words (Name name) path = codes "name " ++ path ++ codes " " ++ name
@@ -39,7 +30,3 @@ abbrev pub pending_line : ℕ × Standing → List ℕ
 pending_line (n, s) =
     decimal n ++ codes " " ++ s.submitted.author ++ codes " " ++ proposal_words s.submitted.proposal
     (path_text s.submitted.path) ++ codes "\n"
-
--- pending submissions; a line of text for each
-abbrev pub pending_answer : Format → List (ℕ × Standing) → Answer
-pending_answer format page = answer_in format 200 (pendings_data page) (flat_map pending_line page)

@@ -2,7 +2,7 @@
 use Rattle.std.specs.Prelude.{ℕ, Bool, not, ◌&&◌, if◌then◌else◌, List, codes}
 use Rattle.std.specs.Prelude.{Option, Some, None, Result, Ok, Err}
 use Rattle.std.specs.List.{list_all, list_any}
-use Rattle.std.specs.Option.{ok_or}
+use Rattle.std.specs.Option.{ok_or, option_map}
 use Rattle.std.specs.Str.{bytes_eq}
 use Rattle.pid_form.specs.Fields.{is_twice}
 use Rattle.pid_form.specs.Numbers as numbers
@@ -10,6 +10,7 @@ use Rattle.pid_ident.specs.Bytes.{is_empty}
 use Rattle.pid_ident.specs.PathReading.{path_of}
 use Rattle.pid_ident.specs.Words.{is_account}
 use Rattle.pid_file.specs.declared.path.Path.{Path}
+use Rattle.pid_lookup.specs.Fields.{Lookup, lookup_from}
 use Rattle.pid_moderation.specs.CheckTables.{most_revision}
 use Rattle.pid_moderation.specs.Fields.{Fields, value}
 use Rattle.pid_moderation.specs.Forms.{number_in}
@@ -18,6 +19,7 @@ use Rattle.pid_http.specs.declared.api.early.Early.{Early}
 use Rattle.pid_http.specs.declared.api.early.Early.TheVariants.{BadQuery, BadValue}
 use Rattle.pid_http.specs.declared.api.format.Format.{Format}
 use Rattle.pid_http.specs.declared.api.format.Format.TheVariants.{Json, Text}
+use Rattle.pid_http.specs.declared.api.question.LookupQuery.{LookupQuery}
 
 -- what is said, or how it is refused
 abbrev pub Said : Type 0 → Type 0
@@ -78,3 +80,8 @@ named_path format text = ok_or (path_of text) (BadValue BadPath format)
 -- the path that is named, if a text names one; none if it is empty
 abbrev pub path_said : Format → List ℕ → Said (Option Path)
 path_said format text = if is_empty text then Ok None else on_said Some (named_path format text)
+
+-- the look-up that the fields say, which are those of `pid_lookup`, if they are not bad
+abbrev pub query_said : Fields → Option LookupQuery
+query_said fields = option_map
+    (λ (l : Lookup). record { flags = l.flags; args = l.args; size = l.size }) (lookup_from fields)

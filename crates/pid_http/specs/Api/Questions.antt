@@ -10,10 +10,9 @@ use Rattle.pid_form.specs.FormFields.{fields_in}
 use Rattle.pid_moderation.specs.Fields.{Fields, value, text_at}
 use Rattle.pid_moderation.specs.Forms.{number_in}
 use Rattle.pid_moderation.specs.declared.refusal.Refusal.TheVariants.{BadText}
-use Rattle.pid_http.specs.Api.Lookups.{query_said}
 use Rattle.pid_http.specs.Api.Queries.{Said, on_said, then_said, format_in}
 use Rattle.pid_http.specs.Api.Queries.{account_said, author_said, after_said}
-use Rattle.pid_http.specs.Api.Queries.{named_path, path_said, revision_said}
+use Rattle.pid_http.specs.Api.Queries.{named_path, path_said, query_said, revision_said}
 use Rattle.pid_http.specs.Api.Routes.{names_of, route_at, topic_at, payload_at}
 use Rattle.pid_http.specs.declared.api.format.Format.{Format}
 use Rattle.pid_http.specs.declared.api.route.Query.{Query}
@@ -27,28 +26,14 @@ use Rattle.pid_http.specs.declared.api.early.Early.TheVariants.{NoRoute, WantsGe
 use Rattle.pid_http.specs.declared.api.early.Early.TheVariants.{BadQuery, BadValue}
 use Rattle.pid_http.specs.declared.api.question.Question.{Question}
 use Rattle.pid_http.specs.declared.api.question.Question.TheVariants as questions
-use Rattle.pid_http.specs.declared.api.question.Request.{Request}
-use Rattle.pid_http.specs.declared.api.question.Request.TheVariants.{Refused, Asks, Obeys}
+use Rattle.pid_http.specs.declared.api.request.Request.{Request}
+use Rattle.pid_http.specs.declared.api.request.Request.TheVariants.{Refused, Asks, Obeys}
 use Rattle.pid_http_stream.specs.declared.handler.Wanted.{Wanted}
 use Rattle.pid_http_stream.specs.declared.handler.Wanted.TheVariants.{Buffered, Streamed}
 
 -- what follows the prefix of a path, if the path has it
 abbrev pub rest_after : List ℕ → List ℕ → List ℕ
 rest_after front path = if starts_with ◌==◌ path front then drop (length front) path else []
-
--- the item at the path after `/read/`
-abbrev pub item_asked : List ℕ → Format → Said Question
-item_asked path format = on_said questions.Read
-    (named_path format (rest_after (codes "/read/") path))
-
--- the submission with the number after `/submission/`
-abbrev pub number_asked : List ℕ → Format → Said Question
-number_asked path format = on_said questions.Submission
-    (ok_or (number_in (rest_after (codes "/submission/") path)) (BadValue BadText format))
-
--- a look-up
-abbrev pub lookup_asked : Fields → Said Question
-lookup_asked fields = on_said questions.Lookup (ok_or (query_said fields) BadQuery)
 
 -- the submissions for `path`, of `author`, below `before`
 abbrev pub submissions_asked : Fields → Format → Said Question
@@ -60,11 +45,14 @@ submissions_asked fields format = then_said (λ before. then_said (λ author. on
 -- what is asked about a topic, by the path and the fields of a query
 unfoldable pub topic_asked : Topic → List ℕ → Fields → Format → Said Question
 topic_asked topics.Export path fields format = Ok questions.Export
-topic_asked topics.Read path fields format = item_asked path format
+topic_asked topics.Read path fields format = on_said questions.Read
+    (named_path format (rest_after (codes "/read/") path))
 topic_asked topics.Children path fields format = on_said questions.Children
     (path_said format (text_at (codes "of") fields))
-topic_asked topics.Lookup path fields format = lookup_asked fields
-topic_asked topics.Submission path fields format = number_asked path format
+topic_asked topics.Lookup path fields format = on_said questions.Lookup
+    (ok_or (query_said fields) BadQuery)
+topic_asked topics.Submission path fields format = on_said questions.Submission
+    (ok_or (number_in (rest_after (codes "/submission/") path)) (BadValue BadText format))
 topic_asked topics.Pending path fields format = on_said questions.Pending
     (after_said (value (codes "after") fields))
 topic_asked topics.Changes path fields format = then_said

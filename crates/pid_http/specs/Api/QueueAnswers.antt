@@ -1,15 +1,11 @@
--- The answers with the queue of a moderator: a choice of this project.
-use Rattle.std.specs.Prelude.{ℕ, List, map, Option, Some, None, codes}
-use Rattle.std.specs.List.{flat_map}
-use Rattle.serde_json.specs.Data.{Data, null, number, unsigned, string, array}
+-- The queue of a moderator in answers, each submission with its note, the name at its path and the
+-- count of its remarks: a choice of this project.
+use Rattle.std.specs.Prelude.{ℕ, List, Option, Some, None, codes}
+use Rattle.serde_json.specs.Data.{Data, null, number, unsigned, string}
 use Rattle.serde_json.specs.Data.{object, member, no_members}
-use Rattle.serde_json.specs.View.{items_of}
 use Rattle.pid_ident.specs.PathTexts.{path_text}
 use Rattle.pid_moderation.specs.QueuePages.{QueueEntry}
-use Rattle.pid_http_stream.specs.Replies.{Answer}
 use Rattle.pid_http.specs.Api.PendingAnswers.{pending_line, proposed_data}
-use Rattle.pid_http.specs.Api.Replying.{answer_in}
-use Rattle.pid_http.specs.declared.api.format.Format.{Format}
 
 -- the name that the path has today; null if no item is there
 abbrev pub now_data : Option (List ℕ) → Data
@@ -27,15 +23,6 @@ queued_data q =
     (member (codes "path") (string (path_text q.standing.submitted.path))
     (member (codes "remarks") (number (unsigned q.remarks)) no_members)))))))
 
--- an array of them, in order
-abbrev pub queue_data : List QueueEntry → Data
-queue_data page = array (items_of (map queued_data page))
-
 -- as that of a pending submission
 abbrev pub queued_line : QueueEntry → List ℕ
 queued_line q = pending_line (q.number, q.standing)
-
--- pending submissions, each with its note, the name at its path and the count of its remarks; a
--- line of text for each
-abbrev pub queue_answer : Format → List QueueEntry → Answer
-queue_answer format page = answer_in format 200 (queue_data page) (flat_map queued_line page)

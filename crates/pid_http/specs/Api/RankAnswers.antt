@@ -5,9 +5,8 @@ use Rattle.serde_json.specs.Data.{Data, number, unsigned, string, object, member
 use Rattle.pid_moderation.specs.Ranks.{rank_number}
 use Rattle.pid_moderation.specs.declared.rank.Rank.{Rank}
 use Rattle.pid_http_stream.specs.Replies.{Answer}
-use Rattle.pid_http_stream.specs.RequestRefusals.{refusal_data}
-use Rattle.pid_http.specs.Api.Replying.{answer_in}
-use Rattle.pid_http.specs.Api.WordLines.{word_line}
+use Rattle.pid_http_stream.specs.StreamFaults.{refusal_data}
+use Rattle.pid_http.specs.Api.Replying.{answer_in, word_line}
 use Rattle.pid_http.specs.declared.api.format.Format.{Format}
 
 -- {"rank":0,"who":"alice"}
@@ -15,20 +14,9 @@ abbrev pub rank_data : List ℕ → Rank → Data
 rank_data who rank = object (member (codes "rank") (number (unsigned (rank_number rank)))
     (member (codes "who") (string who) no_members))
 
--- alice 0
-abbrev pub rank_line : List ℕ → Rank → List ℕ
-rank_line who rank = word_line who (decimal (rank_number rank))
-
--- an account of this rank
-abbrev pub ranked_answer : Format → List ℕ → Rank → Answer
-ranked_answer format who rank = answer_in format 200 (rank_data who rank) (rank_line who rank)
-
--- there is no such account
-abbrev pub no_account_answer : Format → Answer
-no_account_answer format = answer_in format 404 (refusal_data 29 (codes "NoSuchAccount"))
-    (codes "refused 29 NoSuchAccount\n")
-
--- the rank of an account, or that there is no such account
+-- the rank of an account (alice 0), or that there is no such account
 abbrev pub rank_answer : Format → List ℕ → Option Rank → Answer
-rank_answer format who None = no_account_answer format
-rank_answer format who (Some rank) = ranked_answer format who rank
+rank_answer format who None = answer_in format 404 (refusal_data 29 (codes "NoSuchAccount"))
+    (codes "refused 29 NoSuchAccount\n")
+rank_answer format who (Some rank) = answer_in format 200 (rank_data who rank)
+    (word_line who (decimal (rank_number rank)))

@@ -1,6 +1,8 @@
 -- Answers in a format, and replies that are one.
-use Rattle.std.specs.Prelude.{◌≡◌, ℕ, List, Result, IfOk}
-use Rattle.serde_json.specs.Data.{Data}
+use Rattle.std.specs.Prelude.{◌≡◌, ℕ, List, ◌++◌, map, codes, Result, IfOk}
+use Rattle.std.specs.List.{flat_map}
+use Rattle.serde_json.specs.Data.{Data, array}
+use Rattle.serde_json.specs.View.{items_of}
 use Rattle.serde_json.specs.Written.{compact_text}
 use Rattle.pid_http_stream.specs.Replies.{Answer, answer_with}
 use Rattle.pid_http_stream.specs.declared.handler.Reply.{Reply}
@@ -16,6 +18,18 @@ use Rattle.pid_http.specs.declared.api.format.Format.TheVariants.{Json, Text}
 abbrev pub answer_in : Format → ℕ → Data → List ℕ → Answer
 answer_in Json status value text = answer_with status contents.Json (compact_text value)
 answer_in Text status value text = answer_with status contents.Text text
+
+-- a line of a word and what it says
+abbrev pub word_line : List ℕ → List ℕ → List ℕ
+word_line word value = word ++ codes " " ++ value ++ codes "\n"
+
+-- rows as an array, in their order
+abbrev pub rows_data : {X : Type 0} → (X → Data) → List X → Data
+rows_data json rows = array (items_of (map json rows))
+
+-- the answer with a list of rows; a line of text for each
+abbrev pub list_answer : {X : Type 0} → (X → Data) → (X → List ℕ) → Format → List X → Answer
+list_answer json line format rows = answer_in format 200 (rows_data json rows) (flat_map line rows)
 
 -- the body is there, and after this head it is the answer
 abbrev pub IsBodyOf : ReplyHead → ReplyBody → Answer → Type 0

@@ -3,8 +3,7 @@ use Rattle.std.specs.Prelude.{ℕ, List, ◌++◌, codes, decimal}
 use Rattle.serde_json.specs.Data.{Data, number, unsigned, object, member, no_members}
 use Rattle.pid_moderation.specs.RegistryStatus.{RegistryStatus}
 use Rattle.pid_http_stream.specs.Replies.{Answer}
-use Rattle.pid_http.specs.Api.Replying.{answer_in}
-use Rattle.pid_http.specs.Api.WordLines.{word_line}
+use Rattle.pid_http.specs.Api.Replying.{answer_in, word_line}
 use Rattle.pid_http.specs.declared.api.format.Format.{Format}
 
 -- {"accounts":2,"items":35598,"pending":44,"revision":72,"submissions":52}

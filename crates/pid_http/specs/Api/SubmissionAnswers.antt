@@ -1,8 +1,7 @@
 -- The answer with a submission as it stands, and the remarks on it: a choice of this project.
-use Rattle.std.specs.Prelude.{ℕ, List, ◌++◌, map, codes, decimal}
+use Rattle.std.specs.Prelude.{ℕ, List, ◌++◌, codes, decimal}
 use Rattle.std.specs.List.{flat_map}
-use Rattle.serde_json.specs.Data.{Data, number, unsigned, string, array, object, member, no_members}
-use Rattle.serde_json.specs.View.{items_of}
+use Rattle.serde_json.specs.Data.{Data, number, unsigned, string, object, member, no_members}
 use Rattle.pid_ident.specs.PathTexts.{path_text}
 use Rattle.pid_moderation.specs.Views.{Remark}
 use Rattle.pid_moderation.specs.declared.command.Proposal.{Proposal}
@@ -13,8 +12,7 @@ use Rattle.pid_moderation.specs.declared.facts.State.TheVariants.{Rejected, With
 use Rattle.pid_moderation.specs.Submissions.{Standing, decider_of, reason_of}
 use Rattle.pid_http_stream.specs.Replies.{Answer}
 use Rattle.pid_http.specs.Api.PendingAnswers.{proposed_data}
-use Rattle.pid_http.specs.Api.Replying.{answer_in}
-use Rattle.pid_http.specs.Api.WordLines.{word_line}
+use Rattle.pid_http.specs.Api.Replying.{answer_in, rows_data, word_line}
 use Rattle.pid_http.specs.declared.api.format.Format.{Format}
 
 -- its state, in one word
@@ -29,10 +27,6 @@ abbrev pub remark_data : Remark → Data
 remark_data remark = object (member (codes "author") (string remark.author)
     (member (codes "text") (string remark.text) no_members))
 
--- an array of them, in order
-abbrev pub remarks_data : List Remark → Data
-remarks_data remarks = array (items_of (map remark_data remarks))
-
 -- the keys author, decider, name, note, num, path, reason, remarks and state
 abbrev pub submission_data : ℕ → Standing × List Remark → Data
 submission_data n (s, remarks) =
@@ -43,7 +37,7 @@ submission_data n (s, remarks) =
     (member (codes "num") (number (unsigned n))
     (member (codes "path") (string (path_text s.submitted.path))
     (member (codes "reason") (string (reason_of s.state))
-    (member (codes "remarks") (remarks_data remarks)
+    (member (codes "remarks") (rows_data remark_data remarks)
     (member (codes "state") (string (state_word s.state)) no_members)))))))))
 
 -- the name that is proposed, or that the item is to be removed

@@ -1,16 +1,14 @@
 -- The answer with a page of submissions: a choice of this project.
-use Rattle.std.specs.Prelude.{ℕ, List, ◌++◌, map, codes, decimal}
+use Rattle.std.specs.Prelude.{ℕ, List, ◌++◌, codes, decimal}
 use Rattle.std.specs.List.{flat_map}
-use Rattle.serde_json.specs.Data.{Data, number, unsigned, string, array, object, member, no_members}
-use Rattle.serde_json.specs.View.{items_of}
+use Rattle.serde_json.specs.Data.{Data, number, unsigned, string, object, member, no_members}
 use Rattle.pid_ident.specs.PathTexts.{path_text}
 use Rattle.pid_moderation.specs.SubmissionPages.{Listing, ListingPage}
 use Rattle.pid_moderation.specs.Submissions.{decider_of, reason_of}
 use Rattle.pid_http_stream.specs.Replies.{Answer}
 use Rattle.pid_http.specs.Api.PendingAnswers.{proposal_words, proposed_data}
-use Rattle.pid_http.specs.Api.Replying.{answer_in}
+use Rattle.pid_http.specs.Api.Replying.{answer_in, rows_data, word_line}
 use Rattle.pid_http.specs.Api.SubmissionAnswers.{state_word}
-use Rattle.pid_http.specs.Api.WordLines.{word_line}
 use Rattle.pid_http.specs.declared.api.format.Format.{Format}
 
 -- the keys author, decider, name, num, path, reason, remarks and state
@@ -25,14 +23,10 @@ listed_data l =
     (member (codes "remarks") (number (unsigned l.remarks))
     (member (codes "state") (string (state_word l.standing.state)) no_members))))))))
 
--- an array of them, in order
-abbrev pub listed_items : List Listing → Data
-listed_items listings = array (items_of (map listed_data listings))
-
 -- {"before":0,"submissions":[]}
 abbrev pub submissions_data : ListingPage → Data
 submissions_data page = object (member (codes "before") (number (unsigned page.before))
-    (member (codes "submissions") (listed_items page.submissions) no_members))
+    (member (codes "submissions") (rows_data listed_data page.submissions) no_members))
 
 -- 9 approved alice name PC/8086/1237 440FX
 abbrev pub listed_line : Listing → List ℕ

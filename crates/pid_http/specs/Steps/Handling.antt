@@ -6,10 +6,11 @@ use Rattle.pid_service_laws.specs.Calls.{AreNothing, Call}
 use Rattle.pid_moderation.specs.History.{History}
 use Rattle.pid_moderation.specs.Writes.{tree_of}
 use Rattle.pid_file.specs.Printing.{print}
-use Rattle.pid_http_stream.specs.Replies.{answer_behind}
+use Rattle.pid_http_stream.specs.Replies.{answer_after, answer_with}
 use Rattle.pid_http_stream.specs.Requests.{Request}
+use Rattle.pid_http_stream.specs.declared.reply_head.Content.TheVariants.{Text}
 use Rattle.pid_http_stream.specs.declared.reply_head.ReplyHead.{ReplyHead}
-use Rattle.pid_http.specs.Answering.{answer_over, text_answer}
+use Rattle.pid_http.specs.Answering.{answer_over}
 use Rattle.pid_http.specs.Errands.{Errand, errand_of}
 use Rattle.pid_http.specs.Known.{Known, Live, Between, Down, Told, ByCalls}
 use Rattle.pid_http.specs.Serving.{AreQuestions, IsErrandMet, AnsweredOver, IsPromised}
@@ -28,7 +29,7 @@ WritesText registry t body u = ByCalls registry t u
 
 same_answer : (h : History) (head : ReplyHead) (told : ℕ) (body : List ℕ) → IsTextHead h head told
     → body ≡ print (tree_of h)
-    → answer_behind head told body ≡ text_answer h
+    → answer_after head told body ≡ answer_with 200 Text (print (tree_of h))
 same_answer h head told body t e = λ i. record {
   status = t.status i;
   content = t.content i;
@@ -51,11 +52,11 @@ questions_then m n calls more p q = (
 text_met : (a : Known) (errand : Errand) (head : ReplyHead) (told : ℕ) (calls : List Call)
     (b : Known) (body : List ℕ) (more : List Call) (c : Known)
     → IsPromised a errand head told calls b → AreQuestions 1 more → WritesOver b body c
-    → IsErrandMet a errand (answer_behind head told body) (calls ++ more) c
+    → IsErrandMet a errand (answer_after head told body) (calls ++ more) c
 unfolding answer_over
 text_met (Live h) errand head told calls b body more c (asked, is, none, same) none_more writes =
     let w : WritesOver (Live h) body c = subst (λ k. WritesOver k body c) same writes in
-    subst (λ x. IsErrandMet (Live h) x (answer_behind head told body) (calls ++ more) c) (sym asked.1)
+    subst (λ x. IsErrandMet (Live h) x (answer_after head told body) (calls ++ more) c) (sym asked.1)
     (AnsweredOver (same_answer h head told body is w.0)
     (questions_then 1 1 calls more none none_more) w.1)
 text_met (Between before behind) errand head told calls b body more c promised none_more writes =
@@ -66,7 +67,7 @@ text_met Down errand head told calls b body more c promised none_more writes = a
 pub exports_text : {R : Type 0} {registry : Ghosts R} (a : Told registry) (request : Request)
     (head : ReplyHead) (told : ℕ) (b : Told registry) (body : List ℕ) (c : Told registry)
     → (serving registry).promises a request head told b → WritesText registry b body c
-    → (serving registry).answers a request (answer_behind head told body) c
+    → (serving registry).answers a request (answer_after head told body) c
 exports_text a request head told b body c p w = record {
   same_life = w.same_life ∙ p.same_life;
   more = p.more ++ w.more;

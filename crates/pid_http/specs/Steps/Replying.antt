@@ -12,7 +12,7 @@ use Rattle.pid_moderation.specs.declared.command.Reply.{Reply as Outcome}
 use Rattle.pid_moderation.specs.declared.refusal.Refusal.{Refusal}
 use Rattle.pid_moderation.specs.declared.refusal.Refusal.TheVariants as refusals
 use Rattle.pid_service_laws.specs.Outcomes.{IsMemoryOrStore}
-use Rattle.pid_http_stream.specs.BodyLengths.{longest_body}
+use Rattle.pid_http_stream.specs.declared.limits.TheConstants.{LONGEST_BODY}
 use Rattle.pid_http_stream.specs.Replies.{Answer, answer_with}
 use Rattle.pid_http_stream.specs.declared.handler.Reply.{Reply}
 use Rattle.pid_http_stream.specs.declared.handler.ReplyBody.{ReplyBody}
@@ -75,5 +75,5 @@ abbrev pub RepliesToFile : {R E : Type 0} → (registry : Ghosts R) → R
     → R → Option (List ℕ) → Option (List ℕ) → (List ℕ → Errand) → Result Reply E
     → Type 0
 RepliesToFile registry old new to_come left errand result = Goes registry old new
-    (λ k calls now. (file : List ℕ) → to_come ≡ Some file → length file ≤ longest_body
+    (λ k calls now. (file : List ℕ) → to_come ≡ Some file → length file ≤ LONGEST_BODY
     → IsMetBehind k (errand file) result left calls now)

@@ -5,10 +5,10 @@ ghost use Rattle.pid_http.specs.Api.EarlyAnswers.{early_answer};
 ghost use Rattle.pid_http.specs.Api.Replying.{IsReplyOf, MakesReply};
 
 use crate::api::Format;
-use crate::api::outcome::{refusal_reply, request_reply};
+use crate::api::outcome::{refusal_reply, refused_reply};
 use crate::api::reply::reply_with;
 use http::StatusCode;
-use pid_http_stream::{Content, Reply, RequestRefusal};
+use pid_http_stream::{Content, Reply};
 use pid_moderation::Refusal;
 use std::alloc::{AllocError, Global};
 
@@ -70,8 +70,7 @@ fn allow_reply(alloc: Global, content: Content) -> Reply
 }
 
 /// The reply to a request that comes to no call. One of another method gets the list of those that
-/// are allowed, with no body; any other has a
-/// refusal, which is JSON but for a bad value.
+/// are allowed, with no body; any other has a refusal, which is JSON but for a bad value.
 pub fn early_reply(alloc: Global, early: Early) -> Result<Reply, AllocError>
     ensures { MakesReply result (early_answer early) }
 {
@@ -79,8 +78,8 @@ pub fn early_reply(alloc: Global, early: Early) -> Result<Reply, AllocError>
         Early::AnotherMethod => Ok(allow_reply(alloc, Content::AllowBoth)),
         Early::WantsGet => Ok(allow_reply(alloc, Content::AllowGet)),
         Early::WantsPost => Ok(allow_reply(alloc, Content::AllowPost)),
-        Early::BadTarget => request_reply(alloc, RequestRefusal::BadTarget),
-        Early::NoRoute => request_reply(alloc, RequestRefusal::NoRoute),
+        Early::BadTarget => refused_reply(alloc, StatusCode::BAD_REQUEST, 28, "BadTarget"),
+        Early::NoRoute => refused_reply(alloc, StatusCode::NOT_FOUND, 24, "NoRoute"),
         Early::BadQuery => refusal_reply(alloc, Format::Json, Refusal::BadText),
         Early::BadValue(refusal, format) => refusal_reply(alloc, format, refusal),
     }

@@ -24,14 +24,9 @@ pub(crate) trait Found {
 
 impl<R: Row> Found for Vec<R> {
     ghost use Rattle.std.specs.Prelude.{map};
-    ghost use Rattle.std.specs.List.{flat_map};
-    ghost use Rattle.serde_json.specs.Data.{array};
-    ghost use Rattle.serde_json.specs.View.{items_of};
-    ghost use Rattle.pid_http.specs.Api.Replying.{answer_in};
+    ghost use Rattle.pid_http.specs.Api.Replying.{list_answer};
 
-    ghost answer = { λ format rows. answer_in format 200
-        (array (items_of (map R.json (map R.seen rows.items))))
-        (flat_map R.line (map R.seen rows.items)) };
+    ghost answer = { λ format rows. list_answer R.json R.line format (map R.seen rows.items) };
 
     fn reply(&self, alloc: Global, format: Format) -> Result<Reply, AllocError> {
         list_reply(alloc, format, self)

@@ -1,5 +1,5 @@
 //! Replies with items.
-ghost use Rattle.std.specs.Prelude.{◌≡◌, ℕ, List, map, refl, IfOk};
+ghost use Rattle.std.specs.Prelude.{◌≡◌, ℕ, List, refl, IfOk};
 ghost use Rattle.pid_ident.specs.PathTexts.{path_text};
 ghost use Rattle.pid_moderation.specs.ItemPairs.{pair_of};
 ghost use Rattle.serde_json.specs.View.{view};
@@ -7,12 +7,11 @@ ghost use Rattle.pid_http.specs.Api.ItemAnswers.{
   item_answer,
   item_data,
   child_line,
-  children_answer,
 };
 ghost use Rattle.pid_http.specs.Api.Replying.{MakesReply};
 
 use crate::api::Format;
-use crate::api::list::{Row, list_reply};
+use crate::api::list::Row;
 use crate::api::members::{with_path, with_text};
 use crate::api::reply::{json_reply, text_reply};
 use crate::api::text::push_line;
@@ -53,6 +52,7 @@ pub fn item_reply(
     }
 }
 
+// The line has its path, a space and its name.
 impl Row for Item {
     ghost Seen = { List ℕ × List ℕ };
 
@@ -72,12 +72,4 @@ impl Row for Item {
     }
 
     ghost no_float = { λ _. refl };
-}
-
-/// The reply with items, in their order. The text has a line for each: its path, a space and its
-/// name.
-pub fn children_reply(alloc: Global, format: Format, items: &[Item]) -> Result<Reply, AllocError>
-    ensures { MakesReply result (children_answer format (map pair_of items.now)) }
-{
-    list_reply(alloc, format, items)
 }

@@ -1,10 +1,10 @@
 //! Lists: an array in JSON, or a line of text for each row.
 ghost use Rattle.std.specs.Prelude.{◌≡◌, ◌++◌, false, map, string_bytes, IfOk, OnOk};
 ghost use Rattle.std.specs.List.{flat_map};
-ghost use Rattle.serde_json.specs.Data.{Data, array};
-ghost use Rattle.serde_json.specs.View.{items_of, view};
+ghost use Rattle.serde_json.specs.Data.{Data};
+ghost use Rattle.serde_json.specs.View.{view};
 ghost use Rattle.serde_json.specs.Written.{comma_if, compact_text, has_float};
-ghost use Rattle.pid_http.specs.Api.Replying.{answer_in, MakesReply};
+ghost use Rattle.pid_http.specs.Api.Replying.{MakesReply, list_answer, rows_data};
 
 use crate::api::Format;
 use crate::api::reply::{json_text_reply, printed, text_reply};
@@ -44,8 +44,7 @@ pub(crate) trait Row {
 
 /// The rows as an array.
 pub(crate) fn rows_value<R: Row>(alloc: Global, rows: &[R]) -> Result<Value, AllocError>
-    ensures { IfOk result (λ value. view value
-        ≡ array (items_of (map R.json (map R.seen rows.now)))) }
+    ensures { IfOk result (λ value. view value ≡ rows_data R.json (map R.seen rows.now)) }
 {
     let mut values = Vec::new(alloc);
     for row in rows {
@@ -88,7 +87,7 @@ pub(crate) fn push_rows<R: Row>(
     rows: &[R],
 ) -> Result<(), AllocError>
     ensures { OnOk result (string_bytes text.new ≡ string_bytes text.old
-        ++ compact_text (array (items_of (map R.json (map R.seen rows.now))))) }
+        ++ compact_text (rows_data R.json (map R.seen rows.now))) }
 {
     text.push_str("[")?;
     let mut later = false;
@@ -121,9 +120,7 @@ pub(crate) fn list_reply<R: Row>(
     format: Format,
     rows: &[R],
 ) -> Result<Reply, AllocError>
-    ensures { MakesReply result (answer_in format 200
-        (array (items_of (map R.json (map R.seen rows.now))))
-        (flat_map R.line (map R.seen rows.now))) }
+    ensures { MakesReply result (list_answer R.json R.line format (map R.seen rows.now)) }
 {
     let mut text = String::new(alloc);
     match format {

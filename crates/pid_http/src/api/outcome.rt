@@ -1,27 +1,24 @@
 //! Replies to commands.
-ghost use Rattle.std.specs.Prelude.{◌≡◌, IfOk, IsTrue};
+ghost use Rattle.std.specs.Prelude.{◌≡◌, Ok, IfOk, IsTrue};
 ghost use Rattle.serde_json.specs.View.{view};
 ghost use Rattle.pid_http.specs.Api.Outcomes.{
-  counts_data,
-  done_data,
   fault_data,
   missing_answer,
-  numbered_data,
   outcome_answer,
   outcome_data,
+  refused_answer,
   status_of_outcome,
   unanswered_answer,
 };
 ghost use Rattle.pid_http.specs.Api.Replying.{MakesReply};
-ghost use Rattle.pid_http_stream.specs.Replies.{request_answer};
-ghost use Rattle.pid_http_stream.specs.RequestRefusals.{refusal_data};
-ghost use Rattle.pid_http_stream.specs.Statuses.{allows_body};
+ghost use Rattle.pid_http_stream.specs.StreamFaults.{refusal_data};
+ghost use Rattle.pid_http_stream.specs.HttpStatuses.{allows_body};
 
 use crate::api::Format;
 use crate::api::members::{with_text, with_value};
 use crate::api::reply::{json_reply, text_reply};
 use http::StatusCode;
-use pid_http_stream::{Reply as HttpReply, RequestRefusal};
+use pid_http_stream::Reply as HttpReply;
 use pid_lookup::Unanswered;
 use pid_moderation::{FileFault, Refusal, Reply, reply_line};
 use serde_json::{Map, Value};
@@ -52,14 +49,15 @@ fn status_of(outcome: Result<Reply, Refusal>) -> StatusCode
 }
 
 fn done_value(alloc: Global) -> Result<Value, AllocError>
-    ensures { IfOk result (λ value. view value ≡ done_data) }
+    ensures { IfOk result (λ value. view value ≡ outcome_data (Ok Reply.Done)) }
 {
     let members = with_value(Map::new(alloc), alloc, "ok", Value::Bool(true))?;
     Ok(Value::Object(members))
 }
 
 fn numbered_value(alloc: Global, number: u32) -> Result<Value, AllocError>
-    ensures { IfOk result (λ value. view value ≡ numbered_data number) }
+    ensures { IfOk result (λ value. view value
+        ≡ outcome_data (Ok (Reply.Numbered number))) }
 {
     let members = with_value(Map::new(alloc), alloc, "num", Value::from(number))?;
     let members = with_value(members, alloc, "ok", Value::Bool(true))?;
@@ -67,7 +65,8 @@ fn numbered_value(alloc: Global, number: u32) -> Result<Value, AllocError>
 }
 
 fn counts_value(alloc: Global, added: u32, renamed: u32, same: u32) -> Result<Value, AllocError>
-    ensures { IfOk result (λ value. view value ≡ counts_data added renamed same) }
+    ensures { IfOk result (λ value. view value
+        ≡ outcome_data (Ok (Reply.Counts added renamed same))) }
 {
     let members = with_value(Map::new(alloc), alloc, "added", Value::from(added))?;
     let members = with_value(members, alloc, "ok", Value::Bool(true))?;
@@ -152,12 +151,18 @@ pub fn refusal_reply(
     outcome_reply(alloc, format, Err(refusal))
 }
 
-/// The reply to a request that is refused before anything is asked for it, as JSON.
-pub(crate) fn request_reply(alloc: Global, refusal: RequestRefusal) -> Result<HttpReply, AllocError>
-    ensures { MakesReply result (request_answer refusal) }
+/// The reply with a refusal that is none of a command, as JSON.
+pub(crate) fn refused_reply(
+    alloc: Global,
+    status: StatusCode,
+    number: u8,
+    word: &str,
+) -> Result<HttpReply, AllocError>
+    requires { IsTrue (allows_body status) }
+    ensures { MakesReply result (refused_answer status number word.now) }
 {
-    let value = refusal_value(alloc, refusal.number(), refusal.word())?;
-    json_reply(alloc, refusal.status(), value)
+    let value = refusal_value(alloc, number, word)?;
+    json_reply(alloc, status, value)
 }
 
 /// The reply to a question that has no answer, as JSON.
@@ -169,8 +174,7 @@ pub(crate) fn unanswered_reply(
     requires { IsTrue (allows_body status) }
     ensures { MakesReply result (unanswered_answer status why) }
 {
-    let value = refusal_value(alloc, why.number(), why.word())?;
-    json_reply(alloc, status, value)
+    refused_reply(alloc, status, why.number(), why.word())
 }
 
 /// The reply if no item is at a path.

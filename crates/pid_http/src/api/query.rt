@@ -103,10 +103,7 @@ pub(crate) fn author_named(alloc: Global, value: Option<&str>) -> Result<Option<
 {
     match value {
         None => Ok(None),
-        Some(text) => match account_named(alloc, text) {
-            Ok(account) => Ok(Some(account)),
-            Err(unasked) => Err(unasked),
-        },
+        Some(text) => Ok(Some(account_named(alloc, text)?)),
     }
 }
 

@@ -1,30 +1,35 @@
-//! What a method and a target ask for.
-ghost use Rattle.std.specs.Prelude.{◌≡◌, true, false, IfOk, MatchOption};
-ghost use Rattle.form_urlencoded.specs.Form.{split_once as split_bytes};
+//! What may be asked of a registry, and how a path and a query ask it.
+ghost use Rattle.std.specs.Prelude.{◌≡◌, codes};
+ghost use Rattle.std.specs.Option.{ok_or};
+ghost use Rattle.pid_moderation.specs.Fields.{texts_of};
+ghost use Rattle.pid_moderation.specs.Forms.{number_in};
+ghost use Rattle.pid_http.specs.Api.Queries.{named_path, on_said, query_said};
 ghost use Rattle.pid_http.specs.Api.Questions.{
-  asked_by,
-  get_asked,
-  is_target,
-  post_asked,
-  question,
-  target_asked,
+  rest_after as rest_of,
+  submissions_asked,
+  topic_asked,
 };
-ghost use Rattle.pid_http.specs.Api.Routes.{payload_at, topic_at};
 ghost use Rattle.pid_http.specs.Api.Steps.Making.{MakesSaid};
+ghost use Rattle.pid_http.specs.declared.api.question.Question.TheVariants as questions;
 
-use crate::api::asking::ask_topic;
 use crate::api::early::{Early, Unasked};
 use crate::api::format::Format;
-use crate::api::lookup_query::LookupQuery;
-use crate::api::query::format_of;
-use crate::api::route::{Payload, Route};
-use crate::api::routes::Routes;
-use crate::api::utf8::text_of;
-use pid_form::fields_of;
-use pid_http_stream::Wanted;
-use pid_ident::{Account, Path};
-use pid_moderation::Verb;
-use std::alloc::{AllocError, Global};
+use crate::api::query::{account_named, author_named, number_named, path_named, revision_named};
+use crate::api::route::Topic;
+use pid_form::{text_at, value};
+use pid_ident::{Account, Path, PathText};
+use pid_lookup::{Args, args_of};
+use pid_moderation::{Refusal, submission_number};
+use std::alloc::Global;
+
+/// A look-up: its flags, what is looked up, and the size of the buffer that its answer is cut to,
+/// in bytes.
+#[derive(Clone, Copy)]
+pub struct LookupQuery {
+    pub flags: u32,
+    pub args: Args,
+    pub size: u32,
+}
 
 /// What a request asks the registry.
 #[derive(Drop)]
@@ -62,129 +67,88 @@ pub enum Question {
     Rank(Account),
 }
 
-/// What a request whose body is held in memory asks for by its method and its target.
-#[derive(Drop)]
-pub enum Request {
-    /// Nothing: it is refused before the registry is asked.
-    Refused(Early),
-    /// An answer, in a format.
-    Asks(Question, Format),
-    /// That a command is obeyed, whose fields are the body, with the reply in a format.
-    Obeys(Verb, Format),
+// What follows a prefix of a path.
+fn rest_after<'a>(path: &'a str, front: &str) -> &'a str
+    ensures { result.now ≡ rest_of front.now path.now }
+{
+    path.strip_prefix(front).unwrap_or("")
 }
 
-// The path and the query of a target.
-fn split_target(target: &str) -> (&str, &str)
-    ensures path { result.0.now ≡ (split_bytes 63 target.now).0 }
-    ensures query { result.1.now ≡ (split_bytes 63 target.now).1 }
+fn item_of(path: &str, format: Format) -> Result<Question, Early>
+    ensures { result ≡ on_said questions.Read
+        (named_path format (rest_of (codes "/read/") path.now)) }
 {
-    match target.split_once('?') {
-        Some((path, query)) => (path, query),
-        None => (target, ""),
+    match Path::parse(rest_after(path, "/read/")) {
+        Some(path) => Ok(Question::Read(path)),
+        None => Err(Early::BadValue(Refusal::BadPath, format)),
     }
 }
 
-// The target as text, if it begins with a slash.
-fn text_of_target(target: &[u8]) -> Option<&str>
-    ensures { MatchOption result (is_target target.now ≡ false)
-        (λ text. (text.now ≡ target.now) × (is_target target.now ≡ true)) }
+fn number_of(path: &str, format: Format) -> Result<Question, Early>
+    ensures { result ≡ on_said questions.Submission (ok_or
+        (number_in (rest_of (codes "/submission/") path.now))
+        (Early.BadValue Refusal.BadText format)) }
 {
-    let text = text_of(target)?;
-    match text.as_bytes() {
-        [b'/', ..] => Some(text),
-        _ => None,
+    match submission_number(rest_after(path, "/submission/")) {
+        Some(number) => Ok(Question::Submission(number)),
+        None => Err(Early::BadValue(Refusal::BadText, format)),
     }
 }
 
-// What a GET asks for at a route, by its path and its query.
-fn get(alloc: Global, route: Route, path: &str, query: &str) -> Result<Request, Unasked>
-    ensures { MakesSaid result (get_asked (topic_at route) path.now query.now) }
+fn lookup_of(fields: &[(String, String)]) -> Result<Question, Early>
+    ensures { result ≡ on_said questions.Lookup
+        (ok_or (query_said (texts_of fields.now)) Early.BadQuery) }
 {
-    let Some((topic, allowed)) = route.topic() else {
-        return Err(Unasked::Early(Early::WantsPost));
-    };
-    let fields = fields_of(alloc, query)?;
-    let format = format_of(&fields, allowed.names())?;
-    let question = ask_topic(alloc, topic, path, &fields, format)?;
-    Ok(Request::Asks(question, format))
-}
-
-// What a POST asks for at a route, by its query.
-fn post(alloc: Global, route: Route, query: &str) -> Result<Wanted<Request, Format>, Unasked>
-    ensures { MakesSaid result (post_asked (payload_at route) query.now) }
-{
-    let Some(payload) = route.payload() else {
-        return Err(Unasked::Early(Early::WantsGet));
-    };
-    let fields = fields_of(alloc, query)?;
-    let format = format_of(&fields, &["format"])?;
-    match payload {
-        Payload::Command(verb) => Ok(Wanted::Buffered(Request::Obeys(verb, format))),
-        Payload::Import => Ok(Wanted::Streamed(format)),
+    match args_of(fields) {
+        Ok((flags, args, size)) => Ok(Question::Lookup(LookupQuery { flags, args, size })),
+        Err(_) => Err(Early::BadQuery),
     }
 }
 
-// What is asked for by a target that is text and begins with a slash, by GET or else by POST.
-#[tactic(auto, unfolding(crate::specs::Api::Questions::target_asked))]
-fn ask(
+fn submissions_of(
     alloc: Global,
-    routes: &Routes,
-    is_get: bool,
-    target: &str,
-) -> Result<Wanted<Request, Format>, Unasked>
-    ensures { MakesSaid result (target_asked is_get target.now) }
+    fields: &[(String, String)],
+    format: Format,
+) -> Result<Question, Unasked>
+    ensures { MakesSaid result (submissions_asked (texts_of fields.now) format) }
 {
-    let (path, query) = split_target(target);
-    let Some(route) = routes.route_of(path) else {
-        return Err(Unasked::Early(Early::NoRoute));
-    };
-    if is_get {
-        let request = get(alloc, route, path, query)?;
-        return Ok(Wanted::Buffered(request));
-    }
-    post(alloc, route, query)
+    let before = number_named(value(fields, "before"))?;
+    let author = author_named(alloc, value(fields, "author"))?;
+    let path = path_named(text_at(fields, "path"), format)?;
+    Ok(Question::Submissions {
+        path,
+        author,
+        before,
+    })
 }
 
-// The same, by a method and a target.
-fn judge(
+// The question about a topic, by the path of its target and the fields of its query, whose names
+// are good and which say this format.
+#[tactic(auto, unfolding(crate::specs::Api::Questions::topic_asked))]
+pub(crate) fn ask_topic(
     alloc: Global,
-    routes: &Routes,
-    method: &[u8],
-    target: &[u8],
-) -> Result<Wanted<Request, Format>, Unasked>
-    ensures { MakesSaid result (asked_by method.now target.now) }
+    topic: Topic,
+    path: &str,
+    fields: &[(String, String)],
+    format: Format,
+) -> Result<Question, Unasked>
+    ensures { MakesSaid result (topic_asked topic path.now (texts_of fields.now) format) }
 {
-    let is_get = method == b"GET".as_slice();
-    if !is_get && method != b"POST".as_slice() {
-        return Err(Unasked::Early(Early::AnotherMethod));
-    }
-    let Some(target) = text_of_target(target) else {
-        return Err(Unasked::Early(Early::BadTarget));
-    };
-    ask(alloc, routes, is_get, target)
-}
-
-/// What a method and a target ask for. The file of an import is read as it comes; the format is
-/// that of its reply.
-///
-/// The path of the target is what comes before its first `?`, the query what comes after it.
-/// Neither is decoded except for the names and values of the query's fields.
-///
-/// # Errors
-///
-/// There is no memory for what the query says.
-#[tactic(auto, unfolding(crate::specs::Api::Questions::question))]
-pub fn question_of(
-    alloc: Global,
-    routes: &Routes,
-    method: &[u8],
-    target: &[u8],
-) -> Result<Wanted<Request, Format>, AllocError>
-    ensures { IfOk result (λ wanted. wanted ≡ question method.now target.now) }
-{
-    match judge(alloc, routes, method, target) {
-        Ok(wanted) => Ok(wanted),
-        Err(Unasked::Early(early)) => Ok(Wanted::Buffered(Request::Refused(early))),
-        Err(Unasked::Memory) => Err(AllocError),
+    match topic {
+        Topic::Export => Ok(Question::Export),
+        Topic::Read => Ok(item_of(path, format)?),
+        Topic::Children => Ok(Question::Children(path_named(text_at(fields, "of"), format)?)),
+        Topic::Lookup => Ok(lookup_of(fields)?),
+        Topic::Submission => Ok(number_of(path, format)?),
+        Topic::Pending => Ok(Question::Pending(number_named(value(fields, "after"))?)),
+        Topic::Changes => {
+            let since = revision_named(value(fields, "since"))?;
+            let after = path_named(text_at(fields, "after"), format)?;
+            Ok(Question::Changes { since, after })
+        }
+        Topic::Queue => Ok(Question::Queue(number_named(value(fields, "after"))?)),
+        Topic::Submissions => submissions_of(alloc, fields, format),
+        Topic::Status => Ok(Question::Status),
+        Topic::Rank => Ok(Question::Rank(account_named(alloc, text_at(fields, "who"))?)),
     }
 }

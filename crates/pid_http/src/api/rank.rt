@@ -1,12 +1,7 @@
 //! The reply with the rank of an account.
-ghost use Rattle.std.specs.Prelude.{◌≡◌, IfOk};
+ghost use Rattle.std.specs.Prelude.{◌≡◌, [], None, Some, IfOk};
 ghost use Rattle.serde_json.specs.View.{view};
-ghost use Rattle.pid_http.specs.Api.RankAnswers.{
-  no_account_answer,
-  rank_answer,
-  rank_data,
-  ranked_answer,
-};
+ghost use Rattle.pid_http.specs.Api.RankAnswers.{rank_answer, rank_data};
 ghost use Rattle.pid_http.specs.Api.Replying.{MakesReply};
 
 use crate::api::Format;
@@ -36,7 +31,7 @@ fn ranked_reply(
     who: &Account,
     rank: Rank,
 ) -> Result<Reply, AllocError>
-    ensures { MakesReply result (ranked_answer format who.now rank) }
+    ensures { MakesReply result (rank_answer format who.now (Some rank)) }
 {
     match format {
         Format::Json => {
@@ -53,7 +48,7 @@ fn ranked_reply(
 }
 
 fn no_account_reply(alloc: Global, format: Format) -> Result<Reply, AllocError>
-    ensures { MakesReply result (no_account_answer format) }
+    ensures { MakesReply result (rank_answer format [] None) }
 {
     match format {
         Format::Json => {

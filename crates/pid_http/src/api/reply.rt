@@ -4,7 +4,7 @@ ghost use Rattle.serde_json.specs.Data.{Data};
 ghost use Rattle.serde_json.specs.View.{view};
 ghost use Rattle.serde_json.specs.Written.{compact_text, has_float};
 ghost use Rattle.pid_http_stream.specs.Replies.{answer_with};
-ghost use Rattle.pid_http_stream.specs.Statuses.{allows_body};
+ghost use Rattle.pid_http_stream.specs.HttpStatuses.{allows_body};
 ghost use Rattle.pid_http.specs.Api.Replying.{IsReplyOf, MakesReply};
 
 use http::StatusCode;

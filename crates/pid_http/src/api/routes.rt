@@ -24,6 +24,7 @@ impl Routes {
     {
         let mut router = Router::new(alloc);
         for row in ROUTES {
+            // Not `?`, which is dear to prove here.
             match router.insert(row.0, row.1) {
                 Ok(()) => {}
                 Err(error) => return Err(error),

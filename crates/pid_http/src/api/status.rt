@@ -6,7 +6,7 @@ ghost use Rattle.pid_http.specs.Api.StatusAnswers.{
   status_data,
   status_text as text_of_status,
 };
-ghost use Rattle.pid_http.specs.Api.WordLines.{word_line};
+ghost use Rattle.pid_http.specs.Api.Replying.{word_line};
 
 use crate::api::Format;
 use crate::api::found::Found;

@@ -11,12 +11,11 @@ ghost use Rattle.pid_moderation.specs.Views.{Remark};
 ghost use Rattle.serde_json.specs.Data.{object, string};
 ghost use Rattle.serde_json.specs.View.{view};
 ghost use Rattle.serde_json.specs.Written.{compact_text};
-ghost use Rattle.pid_http.specs.Api.Replying.{MakesReply};
+ghost use Rattle.pid_http.specs.Api.Replying.{MakesReply, rows_data};
 ghost use Rattle.pid_http.specs.Api.SubmissionAnswers.{
   proposal_line,
   remark_data,
   remark_line,
-  remarks_data,
   standing_text,
   state_word,
   submission_answer,
@@ -126,7 +125,7 @@ fn push_remarks_and_state(
 ) -> Result<(), AllocError>
     ensures { OnOk result (string_bytes text.new ≡ string_bytes text.old
         ++ codes ",\"remarks\":"
-        ++ compact_text (remarks_data (map remark_of discussion.now.remarks.items))
+        ++ compact_text (rows_data remark_data (map remark_of discussion.now.remarks.items))
         ++ codes ",\"state\":"
         ++ compact_text (string (state_word discussion.now.submission.state)) ++ codes "}") }
 {

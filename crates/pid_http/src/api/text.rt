@@ -1,6 +1,6 @@
 //! Lines of text.
 ghost use Rattle.std.specs.Prelude.{◌≡◌, ◌++◌, codes, string_bytes, OnOk};
-ghost use Rattle.pid_http.specs.Api.WordLines.{word_line};
+ghost use Rattle.pid_http.specs.Api.Replying.{word_line};
 
 use std::alloc::AllocError;
 

@@ -1,22 +1,23 @@
 -- What comes in from a reader, and what the bytes that came begin with.
 use Rattle.std.specs.Prelude.{◌≡◌, ℕ, ◌<◌, ◌≤◌, List, ◌++◌, take, map, Option, Some, IfSome}
-use Rattle.std.specs.Prelude.{IsSome, ⊤}
+use Rattle.std.specs.Prelude.{None, IsSome, ⊤, Result, Ok, Err}
 use Rattle.std.specs.Io.KnownBytes.{Consumes, IsAtEnd}
 use Rattle.httparse.specs.Spans.{header_bytes, IsRequestWithin, IsRequestOf}
 use Rattle.httparse.specs.declared.spans.HeaderSpan.{HeaderSpan}
 use Rattle.httparse.specs.declared.spans.RequestSpans.{RequestSpans}
 use Rattle.pid_file.specs.declared.io.ReadFault.{ReadFault}
-use Rattle.pid_http_stream.specs.Bodies.{idle_at}
-use Rattle.pid_http_stream.specs.BodyLengths.{body_length, longest_body}
+use Rattle.pid_http_stream.specs.Steps.Bodies.{idle_at}
+use Rattle.pid_http_stream.specs.BodyLengths.{body_length}
 use Rattle.pid_http_stream.specs.Endings.{HasFault}
-use Rattle.pid_http_stream.specs.Heads.{longest_head, most_fields}
 use Rattle.pid_http_stream.specs.Leftovers.{IsLeftover}
 use Rattle.pid_http_stream.specs.Moments.{Moment}
 use Rattle.pid_http_stream.specs.Unfinished.{IsHeadUnfinished, IsUnfinished}
 use Rattle.pid_http_stream.specs.declared.body_input.BodyFault.TheVariants as faults
 use Rattle.pid_http_stream.specs.declared.body_length.BodyLength.TheVariants.{Bytes}
-use Rattle.pid_http_stream.specs.declared.judging.Judged.{Judged}
-use Rattle.pid_http_stream.specs.declared.judging.Judged.TheVariants as judged
+use Rattle.pid_http_stream.specs.declared.judging.FoundHead.{FoundHead}
+use Rattle.pid_http_stream.specs.declared.limits.TheConstants.{LONGEST_BODY, LONGEST_HEAD}
+use Rattle.pid_http_stream.specs.declared.limits.TheConstants.{MOST_FIELDS}
+use Rattle.pid_http_stream.specs.declared.refusal.StreamFault.{StreamFault}
 use Rattle.pid_http_stream.specs.declared.intake.Filled.{Filled}
 use Rattle.pid_http_stream.specs.declared.intake.Filled.TheVariants as filled
 use Rattle.pid_http_stream.specs.declared.intake.Stop.{Stop}
@@ -60,24 +61,19 @@ StopsFor stops.Memory before now left = now ≡ before
 
 -- a read that stops has its cause; another one has not failed
 abbrev pub FillStops : Filled → Option ReadFault → Option ReadFault → ℕ → Type 0
-FillStops filled.Piece before now left = now ≡ before
-FillStops filled.End before now left = now ≡ before
 FillStops (filled.Stopped stop) before now left = StopsFor stop before now left
+FillStops filled before now left = now ≡ before
 
 -- and so it is with a head that is not read to its end
 abbrev pub HeadStops : HeadRead → Option ReadFault → Option ReadFault → ℕ → Type 0
-HeadStops (heads.Head spans body) before now left = now ≡ before
-HeadStops heads.Nothing before now left = now ≡ before
-HeadStops (heads.Faulty why) before now left = now ≡ before
 HeadStops (heads.Stopped stop) before now left = StopsFor stop before now left
+HeadStops read before now left = now ≡ before
 
 -- the same when a handler was asked: only a body that breaks off by it changes the reader's fault
 abbrev pub AskStops : Asked → Option ReadFault → Option ReadFault → ℕ → Type 0
-AskStops (asked.Reply reply) before now left = now ≡ before
-AskStops asked.NoMemory before now left = now ≡ before
-AskStops (asked.Broken faults.Short) before now left = now ≡ before
 AskStops (asked.Broken faults.ReadFault) before now left = IsSome now
 AskStops (asked.Broken faults.TurnsSpent) before now left = (left ≡ 0) × (now ≡ before)
+AskStops asked before now left = now ≡ before
 
 -- how many reads may be idle: if reading stops so, if this came of a read or for a head, and if this
 -- came of asking a handler
@@ -92,7 +88,7 @@ idle_filled filled.End = 1
 idle_filled (filled.Stopped stop) = idle_stop stop
 
 abbrev pub idle_head : HeadRead → ℕ
-idle_head (heads.Head spans body) = 0
+idle_head (heads.Head found) = 0
 idle_head heads.Nothing = 1
 idle_head (heads.Faulty why) = 1
 idle_head (heads.Stopped stop) = idle_stop stop
@@ -107,21 +103,21 @@ pub record StandsAt (held : List ℕ) (headers : List HeaderSpan) (spans : Reque
     (body : ℕ) : Type 0 where
   pub found : IsRequestOf held headers spans
   pub within : IsRequestWithin held headers spans
-  pub short : spans.len ≤ longest_head
-  pub few : spans.headers ≤ most_fields
+  pub short : spans.len ≤ LONGEST_HEAD
+  pub few : spans.headers ≤ MOST_FIELDS
   pub some : 0 < spans.len
-  pub fits : body ≤ longest_body
+  pub fits : body ≤ LONGEST_BODY
   pub says : body_length (map (header_bytes held) (take spans.headers headers)) ≡ Bytes body
 
 -- at a fault the stream has it, whatever comes after
-abbrev pub IsHeadJudged : List ℕ → List HeaderSpan → Judged → Type 0
-IsHeadJudged held headers judged.More = IsHeadUnfinished held
-IsHeadJudged held headers (judged.Head spans body) = StandsAt held headers spans body
-IsHeadJudged held headers (judged.Faulty fault) = (more : List ℕ) → HasFault (held ++ more) fault
+abbrev pub IsHeadJudged : List ℕ → List HeaderSpan → Result (Option FoundHead) StreamFault → Type 0
+IsHeadJudged held headers (Ok None) = IsHeadUnfinished held
+IsHeadJudged held headers (Ok (Some found)) = StandsAt held headers found.spans found.body
+IsHeadJudged held headers (Err fault) = (more : List ℕ) → HasFault (held ++ more) fault
 
 -- left: what is left of the reader
 abbrev pub IsHeadRead : List ℕ → List HeaderSpan → Option (List ℕ) → HeadRead → Type 0
-IsHeadRead held headers left (heads.Head spans body) = StandsAt held headers spans body
+IsHeadRead held headers left (heads.Head found) = StandsAt held headers found.spans found.body
 IsHeadRead held headers left heads.Nothing = IsAtEnd left × IsLeftover held
 IsHeadRead held headers left (heads.Faulty fault) = IfSome left
     (λ more. HasFault (held ++ more) fault)

@@ -1,6 +1,7 @@
 -- What the steps of the serving loop do.
 use Rattle.std.specs.Prelude.{◌≡◌, ℕ, ◌+◌, ◌⊎◌, Bool, true, false, List, ◌++◌, drop, Option, Some}
-use Rattle.std.specs.Prelude.{None, Result, Ok, Err, ◌==◌, if◌then◌else◌}
+use Rattle.std.specs.Prelude.{None, IsSome, Result, Ok, Err, ◌==◌, if◌then◌else◌, ⊤}
+use Rattle.pid_file.specs.declared.io.WriteFault.{WriteFault}
 use Rattle.std.specs.Io.KnownBytes.{Appends, IsAtEnd}
 use Rattle.httparse.specs.Spans.{IsRequestAt}
 use Rattle.httparse.specs.declared.spans.HeaderSpan.{HeaderSpan}
@@ -11,15 +12,16 @@ use Rattle.pid_http_stream.specs.Endings.{HasFault, IsShort}
 use Rattle.pid_http_stream.specs.Handling.{MayReply}
 use Rattle.pid_http_stream.specs.Replies.{Answer, reply_head, reply_bytes, fault_answer}
 use Rattle.pid_http_stream.specs.Requests.{Request, IsRequest}
-use Rattle.pid_http_stream.specs.Serving.{saturated, Outside, WritesFront, IsWrittenNext}
-use Rattle.pid_http_stream.specs.Serving.{IsCutInBody, RunsOut, is_head_fault}
+use Rattle.pid_http_stream.specs.Serving.{saturated, Outside, WritesFront, IsCutInReply}
+use Rattle.pid_http_stream.specs.Serving.{IsCutInBody, IsCutNext, RunsOut, WaitsOver}
 use Rattle.pid_http_stream.specs.Steps.Intakes.{StandsAt}
 use Rattle.pid_http_stream.specs.Streams.{closes}
-use Rattle.pid_http_stream.specs.Unfinished.{IsUnfinished}
-use Rattle.pid_http_stream.specs.declared.judging.StreamFault.{StreamFault}
-use Rattle.pid_http_stream.specs.declared.judging.StreamFault.TheVariants.{BodyShort}
+use Rattle.pid_http_stream.specs.declared.refusal.StreamFault.{StreamFault}
+use Rattle.pid_http_stream.specs.declared.refusal.StreamFault.TheVariants.{BodyShort}
 use Rattle.pid_http_stream.specs.declared.body_input.BodyFault.{BodyFault}
 use Rattle.pid_http_stream.specs.declared.body_input.BodyFault.TheVariants as faults
+use Rattle.pid_http_stream.specs.declared.handler.BodyStop.{BodyStop}
+use Rattle.pid_http_stream.specs.declared.handler.BodyStop.TheVariants.{Writer, Store}
 use Rattle.pid_http_stream.specs.declared.handler.Reply.{Reply}
 use Rattle.pid_http_stream.specs.declared.head.Head.{Head}
 use Rattle.pid_http_stream.specs.declared.reply_head.ReplyHead.{ReplyHead}
@@ -27,10 +29,6 @@ use Rattle.pid_http_stream.specs.declared.one_request.Asked.{Asked}
 use Rattle.pid_http_stream.specs.declared.one_request.Asked.TheVariants as asked
 use Rattle.pid_http_stream.specs.declared.intake.Stop.{Stop}
 use Rattle.pid_http_stream.specs.declared.intake.Stop.TheVariants as stops
-use Rattle.pid_http_stream.specs.declared.sending.Sent.{Sent}
-use Rattle.pid_http_stream.specs.declared.sending.Sent.TheVariants as sent
-use Rattle.pid_http_stream.specs.declared.stream.Answered.{Answered}
-use Rattle.pid_http_stream.specs.declared.stream.Answered.TheVariants as answered
 use Rattle.pid_http_stream.specs.declared.stream.StreamEnd.{StreamEnd}
 use Rattle.pid_http_stream.specs.declared.stream.StreamEnd.TheVariants as ends
 
@@ -87,9 +85,9 @@ IsAskedOver conduct o c (asked.Broken faults.Short) =
     StandsOver conduct o.a (c.front.held ++ c.came) o.b × IsAtEnd o.input_after
     × IsShort (c.front.held ++ c.came)
 IsAskedOver conduct o c (asked.Broken faults.ReadFault) =
-    StandsOver conduct o.a (c.front.held ++ c.came) o.b × IsUnfinished (c.front.held ++ c.came)
+    WaitsOver conduct o.a (c.front.held ++ c.came) o.b
 IsAskedOver conduct o c (asked.Broken faults.TurnsSpent) =
-    StandsOver conduct o.a (c.front.held ++ c.came) o.b × IsUnfinished (c.front.held ++ c.came)
+    WaitsOver conduct o.a (c.front.held ++ c.came) o.b
 
 -- the handler was asked, and this came for the body
 pub record AsksHandler {H : Type 0} (conduct : Conduct H) (o : Around H) (front : FrontHead)
@@ -101,10 +99,9 @@ pub record AsksHandler {H : Type 0} (conduct : Conduct H) (o : Around H) (front 
   pub is : IsAskedOver conduct o (record { front = front; came = came }) result
 
 -- the bytes were written, whole or a prefix of them
-abbrev pub SendsText : Sent → Option (List ℕ) → Option (List ℕ) → List ℕ → Type 0
-SendsText sent.Whole old new bytes = Appends old new bytes
-SendsText sent.WriteFault old new bytes = WritesFront old new bytes
-SendsText sent.StoreFault old new bytes = ⊥
+abbrev pub SendsText : Result (Unit {0}) BodyStop → Option (List ℕ) → Option (List ℕ) → List ℕ → Type 0
+SendsText (Ok x) old new bytes = Appends old new bytes
+SendsText (Err stop) old new bytes = WritesFront old new bytes
 
 -- a request, and whether the stream ends after its reply
 pub record Replied : Type 0 where
@@ -116,33 +113,31 @@ replied request closing = record { request = request; closing = closing }
 
 -- an answer was written, a prefix of one, or a prefix of the head of one whose body was not asked
 -- for; or it was cut in its body
-abbrev pub IsSent : {H : Type 0} → Conduct H → Outside H → Replied → Sent → Type 0
-IsSent conduct o r sent.Whole = (answer : Answer)
+abbrev pub IsSent : {H : Type 0} → Conduct H → Outside H → Replied → Result (Unit {0}) BodyStop → Type 0
+IsSent conduct o r (Ok x) = (answer : Answer)
     × conduct.answers o.handler r.request answer o.handler_after
     × Appends o.taken o.taken_after (reply_bytes answer r.closing)
-IsSent conduct o r sent.WriteFault =
+IsSent conduct o r (Err Writer) =
     ((answer : Answer) × conduct.answers o.handler r.request answer o.handler_after
     × WritesFront o.taken o.taken_after (reply_bytes answer r.closing))
     ⊎ ((head : ReplyHead) × (told : ℕ)
     × conduct.promises o.handler r.request head told o.handler_after
     × WritesFront o.taken o.taken_after (reply_head head.status head.content told r.closing))
-IsSent conduct o r sent.StoreFault = closes r.request ≡ r.closing
-    → IsCutInBody conduct o.handler r.request o.handler_after o.taken o.taken_after
+IsSent conduct o r (Err Store) = closes r.request ≡ r.closing → IsCutInBody conduct r.request o
+
+-- why it was not sent whole, by the fault that the writer keeps, and what the handler says of itself
+abbrev pub SendStops : Result (Unit {0}) BodyStop → Option WriteFault → Type 0 → Type 0
+SendStops (Ok x) write_fault stuck = ⊤
+SendStops (Err Writer) write_fault stuck = IsSome write_fault
+SendStops (Err Store) write_fault stuck = (write_fault ≡ None) × stuck
 
 -- a refusal was written, whole or a prefix of it
 abbrev pub WritesRefusal : StreamFault → Option (List ℕ) → Option (List ℕ) → StreamEnd → Type 0
-WritesRefusal fault old new ends.HeadFault = (is_head_fault fault ≡ true)
-    × Appends old new (reply_bytes (fault_answer fault) true)
-WritesRefusal fault old new ends.BodyFault = (is_head_fault fault ≡ false)
+WritesRefusal fault old new (ends.Refused said) = (said ≡ fault)
     × Appends old new (reply_bytes (fault_answer fault) true)
 WritesRefusal fault old new ends.WriteFault = WritesFront old new
     (reply_bytes (fault_answer fault) true)
-WritesRefusal fault old new ends.Clean = ⊥
-WritesRefusal fault old new ends.Closed = ⊥
-WritesRefusal fault old new ends.ReadFault = ⊥
-WritesRefusal fault old new ends.StoreFault = ⊥
-WritesRefusal fault old new ends.Memory = ⊥
-WritesRefusal fault old new ends.TurnsSpent = ⊥
+WritesRefusal fault old new end = ⊥
 
 -- how the stream ends if a body broke off
 abbrev pub EndsBroken : BodyFault → Option (List ℕ) → Option (List ℕ) → StreamEnd → Type 0
@@ -167,35 +162,26 @@ pub record IsReplied {H : Type 0} (conduct : Conduct H) (o : Outside H) (p : Por
   pub written : Appends o.taken o.taken_after (reply_bytes answer (closes request))
   pub closes_so : closes request ≡ closing
 
--- no request was answered, and nothing written, while one had not come whole
-abbrev pub WaitsWithin : {H : Type 0} → Conduct H → Outside H → Portion → Type 0
-WaitsWithin conduct o p = StandsOver conduct o.handler p.came o.handler_after
-    × IsUnfinished p.came × (o.taken_after ≡ o.taken)
-
--- the stream ends within a request
+-- the stream ends with a request, or within it
 abbrev pub EndsWithin : {H : Type 0} → Conduct H → Outside H → Portion → StreamEnd → Type 0
-EndsWithin conduct o p ends.StoreFault = (request : Request) × (behind : List ℕ)
-    × IsRequest p.all request behind
-    × IsCutInBody conduct o.handler request o.handler_after o.taken o.taken_after
-EndsWithin conduct o p ends.WriteFault = (bytes : List ℕ)
-    × IsWrittenNext conduct o.handler p.all bytes o.handler_after
-    × WritesFront o.taken o.taken_after bytes
-EndsWithin conduct o p ends.BodyFault = HasFault p.all BodyShort
+EndsWithin conduct o p ends.Closed = IsReplied conduct o p true
+EndsWithin conduct o p ends.StoreFault = IsCutNext conduct p.all o
+EndsWithin conduct o p ends.WriteFault = IsCutInReply conduct p.all o
+EndsWithin conduct o p (ends.Refused fault) = (fault ≡ BodyShort) × HasFault p.all BodyShort
     × StandsOver conduct o.handler p.all o.handler_after
     × Appends o.taken o.taken_after (reply_bytes (fault_answer BodyShort) true)
-EndsWithin conduct o p ends.ReadFault = WaitsWithin conduct o p
-EndsWithin conduct o p ends.TurnsSpent = WaitsWithin conduct o p
+EndsWithin conduct o p ends.ReadFault = WaitsOver conduct o.handler p.came o.handler_after
+    × (o.taken_after ≡ o.taken)
+EndsWithin conduct o p ends.TurnsSpent = WaitsOver conduct o.handler p.came o.handler_after
+    × (o.taken_after ≡ o.taken)
 EndsWithin conduct o p ends.Memory = RunsOut conduct o.handler p.came o.handler_after
     × (o.taken_after ≡ o.taken)
 EndsWithin conduct o p ends.Clean = ⊥
-EndsWithin conduct o p ends.Closed = ⊥
-EndsWithin conduct o p ends.HeadFault = ⊥
 
--- what became of the request: it was answered, or the stream ends within it
-abbrev pub IsStep : {H : Type 0} → Conduct H → Outside H → Portion → Answered → Type 0
-IsStep conduct o p answered.Open = IsReplied conduct o p false
-IsStep conduct o p answered.Closed = IsReplied conduct o p true
-IsStep conduct o p (answered.Ended end) = EndsWithin conduct o p end
+-- what became of the request: it was answered and the stream goes on, or the stream ends
+abbrev pub IsStep : {H : Type 0} → Conduct H → Outside H → Portion → Result (Unit {0}) StreamEnd → Type 0
+IsStep conduct o p (Ok x) = IsReplied conduct o p false
+IsStep conduct o p (Err end) = EndsWithin conduct o p end
 
 -- before and after a step: the reader's bytes to come, and what is held
 pub record Taken : Type 0 where
@@ -220,7 +206,7 @@ portion_of t came more =
 
 -- one request was served
 pub record Steps {H : Type 0} (conduct : Conduct H) (o : Outside H) (t : Taken)
-    (result : Answered) : Type 0 where
+    (result : Result (Unit {0}) StreamEnd) : Type 0 where
   pub came : List ℕ
   pub more : List ℕ
   pub before : t.input ≡ Some (came ++ more)
@@ -234,24 +220,22 @@ pub record EndsWhy (end : StreamEnd) (left : ℕ) (s : LastState) : Type 0 where
   pub failed : (s.after.fault ≡ s.before.fault) ⊎ (end ≡ ends.ReadFault)
   pub spent : end ≡ ends.TurnsSpent → left ≡ 0
 
--- if the stream ends within the request, it is known why; if not, the reader has not failed
-abbrev pub EndsSo : Answered → ℕ → LastState → Type 0
-EndsSo answered.Open left s = s.after.fault ≡ s.before.fault
-EndsSo answered.Closed left s = s.after.fault ≡ s.before.fault
-EndsSo (answered.Ended end) left s = EndsWhy end left s
+-- if the stream ends with the request, it is known why; if not, the reader has not failed
+abbrev pub EndsSo : Result (Unit {0}) StreamEnd → ℕ → LastState → Type 0
+EndsSo (Ok x) left s = s.after.fault ≡ s.before.fault
+EndsSo (Err end) left s = EndsWhy end left s
 
 -- how many reads may be idle if this became of a request
-abbrev pub idle_answered : Answered → ℕ
-idle_answered answered.Open = 0
-idle_answered answered.Closed = 0
-idle_answered (answered.Ended end) = idle_reads end
+abbrev pub idle_answered : Result (Unit {0}) StreamEnd → ℕ
+idle_answered (Ok x) = 0
+idle_answered (Err end) = idle_reads end
 
 -- what becomes of a request whose reply was sent so far
-abbrev pub answered_so : Sent → Bool → Answered
-answered_so sent.Whole true = answered.Closed
-answered_so sent.Whole false = answered.Open
-answered_so sent.WriteFault closing = answered.Ended ends.WriteFault
-answered_so sent.StoreFault closing = answered.Ended ends.StoreFault
+abbrev pub answered_so : Result (Unit {0}) BodyStop → Bool → Result (Unit {0}) StreamEnd
+answered_so (Ok x) true = Err ends.Closed
+answered_so (Ok x) false = Ok x
+answered_so (Err Writer) closing = Err ends.WriteFault
+answered_so (Err Store) closing = Err ends.StoreFault
 
 -- how a stream ends if reading stops
 abbrev pub stop_end : Stop → StreamEnd
@@ -273,14 +257,8 @@ broken_so (Some fault) = asked.Broken fault
 abbrev pub asked_so : {E : Type 0} → Result Reply E → ℕ → Option BodyFault → Asked
 asked_so result wanted fault = if wanted == 0 then whole_so result else broken_so fault
 
--- how many replies were written, with the refusal that ends the stream
+-- how many replies were written, with the one that ends the stream
 abbrev pub count_with : StreamEnd → ℕ → ℕ
-count_with ends.HeadFault count = saturated (count + 1)
-count_with ends.BodyFault count = saturated (count + 1)
-count_with ends.Clean count = count
-count_with ends.Closed count = count
-count_with ends.ReadFault count = count
-count_with ends.WriteFault count = count
-count_with ends.StoreFault count = count
-count_with ends.Memory count = count
-count_with ends.TurnsSpent count = count
+count_with ends.Closed count = saturated (count + 1)
+count_with (ends.Refused fault) count = saturated (count + 1)
+count_with end count = count

@@ -1,5 +1,5 @@
 -- What the steps of a command leave of a registry and of its journal.
-use Rattle.std.specs.Prelude.{◌≡◌, ◌⊎◌, ℕ, Bool, true, false, List, ◌++◌, length, Some}
+use Rattle.std.specs.Prelude.{◌≡◌, ◌⊎◌, ℕ, Bool, true, false, List, [], ◌∷◌, ◌++◌, length, Option, Some}
 use Rattle.pid_moderation.specs.History.{History}
 use Rattle.pid_service_laws.specs.Registries.{Showing}
 use Rattle.pid_journal.specs.declared.file.JournalFile as files
@@ -18,6 +18,21 @@ pub record IsProbed {R : Type 0} (w : Showing R) (is_live : R → Bool) (old new
   pub fallen : (h next : History) → w.fails_between old h next
       → (live ≡ false) × w.fails_between new h next
   pub off : is_live old ≡ false → (live ≡ false) × (new ≡ old)
+
+-- of so many bytes nothing was cut off
+abbrev pub GrowsAfter : (old now : Option (List ℕ)) → ℕ → Type 0
+GrowsAfter old now count = (front behind : List ℕ) → old ≡ Some (front ++ behind)
+    → length front ≡ count → (more : List ℕ) × (now ≡ Some (front ++ more))
+
+-- an LF was written to the end, or is left out
+abbrev pub MayBeMarked : (old now : Option (List ℕ)) → Type 0
+MayBeMarked old now = (text : List ℕ) → old ≡ Some text
+    → (now ≡ Some text) ⊎ (now ≡ Some (text ++ 10 ∷ []))
+
+-- no mark is in an entry, nor after an LF that comes before it
+pub record IsUnmarked (entry : List ℕ) : Type 0 where
+  pub first : (rest : List ℕ) → entry ≡ 10 ∷ rest → ⊥
+  pub within : (above rest : List ℕ) → entry ≡ above ++ 10 ∷ 10 ∷ rest → ⊥
 
 -- The entry after so many bytes was cut off, or the registry counts as failed.
 abbrev pub IsCutBack : {R J : Type 0} → files.Ghosts J → (old new : Journaled R J) → ℕ → Type 0

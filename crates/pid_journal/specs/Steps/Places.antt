@@ -15,7 +15,8 @@ use Rattle.pid_journal.specs.declared.placing.Said.TheVariants.{Holds, Nothing, 
 use Rattle.pid_journal.specs.declared.placing.Step.{Step}
 use Rattle.pid_journal.specs.declared.placing.Step.TheVariants.{Here, Behind, Nowhere}
 use Rattle.pid_journal.specs.Comments.{counts_held, counts_said}
-use Rattle.pid_journal.specs.Journals.{IsOnWay, after_line}
+use Rattle.pid_journal.specs.Journals.{after_line}
+use Rattle.pid_journal.specs.Steps.Ways.{IsOnWay}
 use Rattle.pid_journal.specs.Openings.{IsRefused}
 
 -- the text ends so, after whole lines
@@ -53,8 +54,10 @@ IsNextPlace said now place step = (shown h : History) (line : List ℕ) (lines :
     → LeadsToPlace step shown h line lines
 
 -- The lines of the rest lead on from the history shown to where all lines lead.
-abbrev pub FindsPlace : {X : Type 0} → List ℕ → Counts → Result X OpenFault → (X → List ℕ) → Type 0
-FindsPlace text now result rest_of = (start shown : History) → IsMarked start
-    → counts_held shown ≡ now → IsOnWay start false (whole_lines text) shown
+abbrev pub FindsPlace : {X : Type 0} → List ℕ → Counts → ℕ → Result X OpenFault → (X → List ℕ)
+    → Type 0
+FindsPlace text now begin result rest_of = (start shown : History) → IsMarked start
+    → revision_of start ≡ begin → counts_held shown ≡ now
+    → IsOnWay start false (whole_lines text) shown
     → MatchResult result (λ x. history_after shown (whole_lines (rest_of x))
     ≡ history_after start (whole_lines text)) IsRefused

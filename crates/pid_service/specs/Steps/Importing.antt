@@ -18,7 +18,6 @@ use Rattle.pid_service_laws.specs.declared.faults.ImportEnd.TheVariants.{Refused
 use Rattle.pid_service.specs.declared.registry.Registry.{Registry}
 use Rattle.pid_service.specs.Histories.{IsMemoryOrStore, IsReached, OverHistory, Shows}
 use Rattle.pid_service.specs.Importing.{ObeysImport}
-use Rattle.pid_service.specs.KeptViews.{kept_by, nothing}
 use Rattle.pid_service.specs.Obeying.{ImportFaults}
 use Rattle.pid_service.specs.Registries.{HasCleanDisk, KeepsLimit, is_live}
 use Rattle.pid_service.specs.Steps.Obeying.{StaysLive}
@@ -47,12 +46,6 @@ IsPlain (Ok reply) result = result ≡ Ok reply
 IsPlain (Err (Refused e)) result = result ≡ Err e
 IsPlain (Err Body) result = result ≡ Err Store
 
--- the history is left, or memory ran out or the store or the input failed
-abbrev pub EndSpares : Result Reply ImportEnd → History → Asked → Type 0
-EndSpares (Ok reply) h c = after h c ≡ h
-EndSpares (Err (Refused e)) h c = (after h c ≡ h) ⊎ IsMemoryOrStore e
-EndSpares (Err Body) h c = Unit {0}
-
 module _ {S : Type 0} (store : Ghosts S) where
   -- whether the registry is live after an import, and its limit of steps
   pub record EndStays (old new : Registry S store) (result : Result Reply ImportEnd) : Type 0 where
@@ -80,14 +73,12 @@ module _ {S : Type 0} (store : Ghosts S) where
       → HangsOnFile old facts items command h (asked command (file_reading text))
       → ObeysImport store result new h (asked command (file_reading text))
 
-  -- the same of an import, whatever was known of it; and no name is kept in memory, or it leaves
-  -- the history
-  pub record TakesText (old new : Registry S store) (result : Result Reply ImportEnd)
-      (command : Command) (text : List ℕ) : Type 0 where
-    pub obeyed : OverHistory store old new (λ h. is_import command.act ≡ true
-        → ObeysImport store result new h (asked command (file_reading text)))
-    pub spares : OverHistory store old new (λ h. is_import command.act ≡ true
-        → (kept_by new ≡ nothing) ⊎ EndSpares result h (asked command (file_reading text)))
+  -- the same of an import, whatever was known of it
+  abbrev pub TakesText : Registry S store → Registry S store → Result Reply ImportEnd → Command
+      → List ℕ → Type 0
+  TakesText old new result command text = OverHistory store old new
+      (λ h. is_import command.act ≡ true
+      → ObeysImport store result new h (asked command (file_reading text)))
 
   -- this holds of an import of these bytes, which are not too many
   abbrev pub OverBytes : Registry S store → Registry S store → Command → List ℕ

@@ -1,17 +1,14 @@
 -- What comes of a command before anything is written.
-use Rattle.std.specs.Prelude.{◌≡◌, ◌⊎◌, Bool, true, false, not, Result, Ok, Err}
+use Rattle.std.specs.Prelude.{◌≡◌, ◌⊎◌, false, Result, Ok, Err}
 use Rattle.sqlite.specs.Held.{Held}
 use Rattle.sqlite_trees.specs.declared.store.Store.{Ghosts}
 use Rattle.pid_moderation.specs.declared.change.Change.{Change}
-use Rattle.pid_moderation.specs.declared.change.Effect.{Effect}
-use Rattle.pid_moderation.specs.declared.change.Effect.TheVariants.{Decided, Imported}
 use Rattle.pid_moderation.specs.declared.command.Command.{Command}
 use Rattle.pid_moderation.specs.declared.command.Reply.{Reply}
 use Rattle.pid_moderation.specs.declared.facts.Facts.{Facts}
 use Rattle.pid_moderation.specs.declared.refusal.Refusal.{Refusal}
 use Rattle.pid_moderation.specs.FactsOfViews.{facts_of}
 use Rattle.pid_moderation.specs.Changes.{changed, FitsViews}
-use Rattle.pid_moderation.specs.CheckTables.{is_pending}
 use Rattle.pid_moderation.specs.History.{Asked, History, Reading, asked, is_import}
 use Rattle.pid_moderation.specs.Judgement.{Accepts, judge, answer, after}
 use Rattle.pid_moderation.specs.Views.{views_of}
@@ -21,19 +18,12 @@ use Rattle.pid_service.specs.declared.judging.Judged.TheVariants.{Kept, Accepted
 use Rattle.pid_service.specs.Asking.{IsCausedAs}
 use Rattle.pid_service.specs.Histories.{IsMemoryOrStore, IsReached}
 
--- an effect of a command other than an import: no file was written, and a decision is none to wait
-abbrev pub is_plain : Effect → Bool
-is_plain (Decided number state w) = not (is_pending state)
-is_plain (Imported items) = false
-is_plain effect = true
-
 -- An accepted command has a change, which leads from what the history shows to what it shows with
 -- the command.
 pub record AcceptsWith (h : History) (c : Asked) (change : Change) (reply : Reply) : Type 0 where
   pub judged : judge (views_of h) c ≡ Accepts reply
   pub leads : views_of (after h c) ≡ changed change (views_of h)
   pub fits : FitsViews change (views_of h)
-  pub plain : is_plain change.effect ≡ true
 
 -- A reply that was kept changes nothing. A refusal is that of the judgement and changes nothing, or
 -- memory ran out or the store failed.

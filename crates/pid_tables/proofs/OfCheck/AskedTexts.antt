@@ -1,6 +1,6 @@
 -- The query of each table is refused in no way on tables of the schema.
 use Rattle.std.proofs.Common.{List, [], ◌∷◌, codes, refl}
-use Rattle.pid_tables.specs.Rows.Queries.{IsQuery}
+use Rattle.pid_tables.specs.Rows.Steps.Queries.{IsQuery}
 use Rattle.pid_tables.specs.declared.rows.version.Version.TheVariants.{Two}
 use Rattle.pid_tables.specs.Rows.Schema.{schema_of, item_since}
 use Rattle.sqlite.specs.Table.{Table as Stored}

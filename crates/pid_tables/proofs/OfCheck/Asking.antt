@@ -19,10 +19,10 @@ use Rattle.sqlite_trees.specs.declared.error.StoreError.TheVariants as store
 use Rattle.pid_moderation.specs.Views.{Views}
 use Rattle.pid_tables.specs.declared.rows.fault.TableFault.{TableFault}
 use Rattle.pid_tables.specs.declared.rows.fault.TableFault.TheVariants.{Damaged}
-use Rattle.pid_tables.specs.Rows.Faults.{fault_of_sql}
+use Rattle.pid_tables.specs.Rows.Steps.Faults.{fault_of_sql}
 use Rattle.pid_tables.specs.Rows.Causes.{IsCaused}
 use Rattle.pid_tables.specs.Rows.Leaves.{AtRest, OnlyReads}
-use Rattle.pid_tables.specs.Rows.Queries.{IsQuery}
+use Rattle.pid_tables.specs.Rows.Steps.Queries.{IsQuery}
 use Rattle.pid_tables.specs.Rows.Schema.{pid_schema}
 use Rattle.pid_tables.proofs.OfRows.CauseLemmas.{not_run_caused, caused_later}
 use Rattle.pid_tables.proofs.OfRows.OnlyReading.{keeps_left, rests_on, reads_then}

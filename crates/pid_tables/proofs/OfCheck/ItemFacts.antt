@@ -12,7 +12,8 @@ use Rattle.sqlite.specs.declared.types.Value.TheVariants.{Text}
 use Rattle.sqlite.specs.Order.{Row, column}
 use Rattle.sqlite_rules.specs.Lists.{Has}
 use Rattle.pid_file.specs.declared.path.Path.{Path}
-use Rattle.pid_ident.specs.PathTexts.{IsPath, path_text, path_cmp, parent_of}
+use Rattle.pid_ident.specs.PathTexts.{IsPath, path_text, parent_of}
+use Rattle.pid_file.specs.Steps.Paths.{path_cmp}
 use Rattle.pid_ident.specs.Trees.{text_cmp}
 use Rattle.pid_ident.specs.Words.{is_name}
 use Rattle.pid_moderation.specs.CheckTables.{most_items}

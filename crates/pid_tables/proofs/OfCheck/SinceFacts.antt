@@ -3,7 +3,7 @@ use Rattle.std.proofs.Common.{◌≡◌, ◌↔◌, ◌&&◌, Bool, IsTrue, ℕ,
 use Rattle.std.specs.BTreeSet.{BTreeSet, IsSubset}
 use Rattle.sqlite.specs.Order.{Row, column}
 use Rattle.pid_file.specs.declared.path.Path.{Path}
-use Rattle.pid_ident.specs.PathTexts.{path_cmp}
+use Rattle.pid_file.specs.Steps.Paths.{path_cmp}
 use Rattle.pid_tables.specs.Rows.TableRows.{number}
 use Rattle.pid_tables.specs.Check.Conditions.{IsSinceRow, AreSinces}
 use Rattle.pid_tables.specs.Check.Steps.PathSets.{ArePathsOf, HasPath}

@@ -28,7 +28,7 @@ use Rattle.pid_moderation.specs.Items.{Items, is_parent}
 use Rattle.sqlite.specs.Order.{Row, column}
 use Rattle.sqlite.specs.declared.types.Value.TheVariants.{Text}
 use Rattle.pid_tables.specs.Rows.Steps.Answers.{item_shown}
-use Rattle.pid_tables.specs.Rows.Unread.{IsUnreadable}
+use Rattle.pid_tables.specs.Rows.Steps.Unread.{IsUnreadable}
 use Rattle.pid_tables.specs.Lists.Steps.Children.{children_among}
 use Rattle.pid_moderation.specs.ItemPairs.{pair_of}
 use Rattle.pid_moderation.specs.declared.lists.Item.{Item}

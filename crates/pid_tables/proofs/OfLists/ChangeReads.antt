@@ -8,7 +8,7 @@ use Rattle.pid_ident.specs.PathTexts.{path_text}
 use Rattle.pid_moderation.specs.Items.{name_at}
 use Rattle.pid_moderation.specs.Views.{Views}
 use Rattle.pid_tables.specs.Rows.Causes.{IsReadable}
-use Rattle.pid_tables.specs.Rows.Unread.{IsWholeNumber}
+use Rattle.pid_tables.specs.Rows.Steps.Unread.{IsWholeNumber}
 use Rattle.pid_tables.specs.Rows.Steps.Unread.{IsPathText, IsWord}
 use Rattle.pid_tables.proofs.OfRows.RangeLemmas.{found_in}
 use Rattle.pid_tables.proofs.OfRows.ReadBack.{among}

@@ -34,7 +34,7 @@ use Rattle.pid_tables.specs.Rows.Shows.{Counts, ShowsCounting}
 use Rattle.pid_tables.proofs.OfRows.Statements.{program, listing, whole, IsAlone, command_alone, plain_alone}
 use Rattle.pid_tables.proofs.OfRows.MapLemmas.{none_over}
 use Rattle.pid_tables.proofs.OfRows.QueryTexts.{IsOneAs, one_alone, in_order}
-use Rattle.pid_tables.specs.Rows.Queries.{IsQuery}
+use Rattle.pid_tables.specs.Rows.Steps.Queries.{IsQuery}
 use Rattle.pid_tables.proofs.OfRows.Lengths.{IsDistinct}
 use Rattle.pid_tables.proofs.OfRows.OneRowEach.{item_keys_apart}
 use Rattle.pid_tables.proofs.OfRows.Select.{passing, out}

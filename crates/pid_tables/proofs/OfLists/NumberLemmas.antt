@@ -1,27 +1,20 @@
 -- Submissions that are read by their numbers.
-use Rattle.std.proofs.Common.{◌≡◌, inl, inr, ℕ, zero, suc, ◌+◌, ◌<◌, List, Option, [], ◌∷◌, ◌++◌, length, map, filter, take, get_or, Bool, true, false, Some, Ok, Err, Result, MatchResult, OnOk, IfErr, refl, sym, ap, subst, ◌∙◌, arith, add-one}
-use Rattle.std.specs.Prelude.{◌&&◌, nat_lt, option_map}
+use Rattle.std.proofs.Common.{◌≡◌, inl, inr, ℕ, zero, suc, ◌+◌, ◌<◌, List, Option, [], ◌∷◌, ◌++◌, length, map, take, get_or, Some, Ok, Err, Result, MatchResult, OnOk, IfErr, refl, sym, ap, subst, ◌∙◌, arith, add-one}
+use Rattle.std.specs.Prelude.{option_map}
 use Rattle.std.specs.List.{filter_map, cons_option}
-use Rattle.std.proofs.lemmas.Bool.Decides.{nat_tests}
-use Rattle.std.proofs.lemmas.List.{map-append, take-map}
+use Rattle.std.proofs.lemmas.List.{map-append}
 use Rattle.std.proofs.lemmas.List.Elements.{filter_map-append}
-use Rattle.sqlite_trees.proofs.ListLemmas.{filter-map}
 use Rattle.sqlite.specs.State.{State, HasCleanDisk}
 use Rattle.sqlite_rules.specs.Lists.{Has}
-use Rattle.pid_moderation.specs.CheckTables.{is_pending}
-use Rattle.pid_moderation.specs.PendingPages.{pending_in, standings_from, waiting_above, waits_above}
 use Rattle.pid_moderation.specs.Submissions.{Standing, standing_in}
 use Rattle.pid_moderation.specs.Views.{Views}
 use Rattle.pid_tables.specs.Rows.Causes.{IsCaused, IsReadable}
 use Rattle.pid_tables.specs.Rows.Leaves.{OnlyReads}
-use Rattle.pid_tables.specs.Rows.Unread.{IsUnreadable}
+use Rattle.pid_tables.specs.Rows.Steps.Unread.{IsUnreadable}
 use Rattle.pid_tables.proofs.OfRows.CauseLemmas.{caused_later}
 use Rattle.pid_tables.specs.declared.rows.fault.TableFault.{TableFault}
 use Rattle.pid_tables.specs.declared.rows.fault.TableFault.TheVariants.{Memory}
 use Rattle.pid_tables.specs.Lists.ByNumber.{standing_at, standings_at}
-use Rattle.pid_tables.specs.Lists.Laws.{pending_number}
-use Rattle.pid_tables.proofs.OfLists.FallingLemmas.{filter_same_on, filter_twice}
-use Rattle.pid_tables.proofs.OfLists.PendingLists.{among_all, in_standing}
 
 pub nothing_left : {X : Type 0} (l : List X) → length l ≡ 0 → l ≡ []
 nothing_left [] h = refl
@@ -68,22 +61,3 @@ read_again v [] there = refl
 read_again v (x ∷ all) there =
     ap (λ o. cons_option (option_map (λ (s : Standing). (x.0, s)) o) (standings_at (map (λ (e : ℕ × Standing). e.0) all) v)) (there x (inl refl))
     ∙ ap (λ l. x ∷ l) (read_again v all (λ e h. there e (inr h)))
-
--- those that wait above a number, of the numbers of all that wait
-pub kept_page : (v : Views) (most after : ℕ) → standings_at (take most (filter (nat_lt after) (map pending_number (waiting_above 0 v)))) v ≡ pending_in most after v
-kept_page v most after =
-    ap (λ l. standings_at (take most l) v) (filter-map (nat_lt after) pending_number (waiting_above 0 v) ∙ ap (map pending_number) (filter_twice (λ (e : ℕ × Standing). nat_lt after e.0) (waits_above 0) (standings_from 1 v.submits v.state)
-    ∙ filter_same_on _ (waits_above after) (standings_from 1 v.submits v.state) (λ e h. turned e.0 (nat_lt after e.0) refl (is_pending e.1.state))))
-    ∙ ap (λ l. standings_at l v) (take-map pending_number most (waiting_above after v)) ∙ read_again v (pending_in most after v) (λ e h. in_standing v e (among_all v after most e h))
-  where
-    never : (a : Bool) → (a && false) ≡ false
-    never true = refl
-    never false = refl
-
-    turned : (n : ℕ) (above : Bool) → nat_lt after n ≡ above → (b : Bool) → ((nat_lt 0 n && b) && above) ≡ (above && b)
-    turned n true h b = let positive : nat_lt 0 n ≡ true = grind (arith, nat_tests) in ap (λ x. (x && b) && true) positive ∙ both b
-      where
-        both : (b : Bool) → (b && true) ≡ b
-        both true = refl
-        both false = refl
-    turned n false h b = never (nat_lt 0 n && b)

@@ -36,7 +36,7 @@ use Rattle.pid_tables.specs.Rows.TableRows.{number, submission_row, state_number
 use Rattle.pid_moderation.specs.Submissions.{Standing, standing_in, standing_of}
 use Rattle.pid_tables.specs.Rows.Answers.{standing_row}
 use Rattle.pid_moderation.specs.declared.lists.Submission.{Submission}
-use Rattle.pid_tables.specs.Rows.Standings.{ReadsTo}
+use Rattle.pid_tables.specs.Rows.Steps.Standings.{ReadsTo}
 use Rattle.pid_tables.proofs.OfRows.DecodeLemmas.{HaveOnePath, mapped_some, standing_read}
 use Rattle.pid_tables.proofs.OfRows.ReadBack.{standing_readable}
 use Rattle.pid_tables.specs.Rows.Causes.{IsReadable}
@@ -45,7 +45,7 @@ use Rattle.pid_tables.specs.Rows.Shows.{Counts, ShowsCounting, AreViews}
 use Rattle.pid_tables.proofs.OfRows.Statements.{program, listing, IsAlone, command_alone, plain_alone}
 use Rattle.pid_tables.proofs.OfRows.MapLemmas.{none_over}
 use Rattle.pid_tables.proofs.OfRows.QueryTexts.{IsOneAs, one_alone, in_order}
-use Rattle.pid_tables.specs.Rows.Queries.{IsQuery}
+use Rattle.pid_tables.specs.Rows.Steps.Queries.{IsQuery}
 use Rattle.pid_tables.proofs.OfRows.Keys.{pos_same}
 use Rattle.pid_tables.proofs.OfRows.OneRowEach.{rowids_apart}
 use Rattle.pid_tables.proofs.OfRows.Select.{passing, said, out, integers_equal, integer_equal}

@@ -35,7 +35,7 @@ use Rattle.pid_tables.specs.Rows.Shows.{Counts, ShowsCounting, counted_from_one}
 use Rattle.pid_tables.proofs.OfRows.Statements.{program, listing, whole, IsAlone, command_alone, plain_alone}
 use Rattle.pid_tables.proofs.OfRows.MapLemmas.{none_over}
 use Rattle.pid_tables.proofs.OfRows.QueryTexts.{IsOneAs, one_alone, in_order}
-use Rattle.pid_tables.specs.Rows.Queries.{IsQuery}
+use Rattle.pid_tables.specs.Rows.Steps.Queries.{IsQuery}
 use Rattle.pid_tables.proofs.OfRows.Keys.{pos_same}
 use Rattle.pid_tables.proofs.OfRows.KeyTexts.{by_first}
 use Rattle.pid_tables.proofs.OfRows.Lengths.{IsDistinct}

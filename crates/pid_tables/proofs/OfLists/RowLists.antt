@@ -4,7 +4,7 @@ use Rattle.sqlite.specs.State.{State}
 use Rattle.pid_moderation.specs.Views.{Views}
 use Rattle.pid_tables.specs.declared.rows.fault.TableFault.{TableFault}
 use Rattle.pid_tables.specs.Rows.Causes.{IsCaused, IsReadable}
-use Rattle.pid_tables.specs.Rows.Unread.{IsUnreadable}
+use Rattle.pid_tables.specs.Rows.Steps.Unread.{IsUnreadable}
 use Rattle.pid_tables.proofs.OfRows.UnreadLemmas.{caused_unread}
 use Rattle.sqlite.specs.Order.{Row}
 use Rattle.sqlite_rules.specs.Lists.{Has}

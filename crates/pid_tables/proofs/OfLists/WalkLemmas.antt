@@ -23,10 +23,10 @@ use Rattle.sqlite.specs.Order.{column}
 use Rattle.sqlite_rules.specs.Lists.{Has}
 use Rattle.pid_tables.specs.declared.rows.fault.TableFault.{TableFault}
 use Rattle.pid_tables.specs.Rows.Causes.{IsCaused, IsReadable}
-use Rattle.pid_tables.specs.Rows.Faults.{fault_of_sql}
+use Rattle.pid_tables.specs.Rows.Steps.Faults.{fault_of_sql}
 use Rattle.pid_tables.specs.Rows.Leaves.{AtRest, OnlyReads}
 use Rattle.pid_tables.specs.Rows.Schema.{pid_schema}
-use Rattle.pid_tables.specs.Rows.Unread.{IsUnreadable, ReadsAsItem}
+use Rattle.pid_tables.specs.Rows.Steps.Unread.{IsUnreadable, ReadsAsItem}
 use Rattle.pid_ident.specs.Words.{is_name}
 use Rattle.sqlite.specs.declared.types.Value.TheVariants.{Text}
 use Rattle.pid_tables.specs.Rows.Steps.Unread.{IsPathText, IsWord}

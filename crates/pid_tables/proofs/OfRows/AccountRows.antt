@@ -29,7 +29,7 @@ use Rattle.pid_moderation.specs.RegistryStatus.{AreRanked}
 use Rattle.pid_moderation.specs.Views.{Views}
 use Rattle.pid_tables.specs.Rows.Accounts.{HasAccounts}
 use Rattle.pid_tables.specs.Rows.PairRows.{IsPairRow}
-use Rattle.pid_tables.specs.Rows.Queries.{IsQuery}
+use Rattle.pid_tables.specs.Rows.Steps.Queries.{IsQuery}
 use Rattle.pid_tables.specs.Rows.Schema.{schema_of, account}
 use Rattle.pid_tables.specs.Rows.Shows.{Counts, Numbers, ShowsKeeping}
 use Rattle.pid_tables.specs.Rows.TableRows.{account_row}

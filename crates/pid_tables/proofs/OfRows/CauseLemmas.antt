@@ -21,8 +21,8 @@ use Rattle.sqlite_typing.specs.Types.{accepts_program}
 use Rattle.pid_tables.specs.declared.rows.fault.TableFault.{TableFault}
 use Rattle.pid_tables.specs.declared.rows.fault.TableFault.TheVariants.{Memory, Store, NewerSchema, Damaged}
 use Rattle.pid_tables.specs.Rows.Causes.{IsCaused}
-use Rattle.pid_tables.specs.Rows.Faults.{fault_of_sql}
-use Rattle.pid_tables.specs.Rows.Queries.{IsSafeSelect, IsOneStatement, IsQueryAs, IsQuery}
+use Rattle.pid_tables.specs.Rows.Steps.Faults.{fault_of_sql}
+use Rattle.pid_tables.specs.Rows.Steps.Queries.{IsSafeSelect, IsOneStatement, IsQueryAs, IsQuery}
 use Rattle.sqlite.specs.Schema.{Schema}
 
 pub moved : (old new : State) (e f : Error) → e ≡ f → IsCaused old new (fault_of_sql f) → IsCaused old new (fault_of_sql e)

@@ -24,7 +24,7 @@ use Rattle.pid_tables.specs.Rows.Answers.{standing_row}
 use Rattle.pid_tables.specs.Rows.Steps.Answers.{name_row, rank_row, reply_row}
 use Rattle.pid_tables.specs.Rows.Steps.Unread.{IsReplyIn}
 use Rattle.pid_tables.specs.Rows.Shows.{AreViews}
-use Rattle.pid_tables.specs.Rows.Standings.{ReadsTo}
+use Rattle.pid_tables.specs.Rows.Steps.Standings.{ReadsTo}
 
 pub number_same : (m n : ℕ) → number m ≡ number n → m ≡ n
 number_same m n e = cc

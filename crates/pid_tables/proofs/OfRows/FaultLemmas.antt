@@ -18,7 +18,8 @@ use Rattle.sqlite.specs.Effect.{Database, RefusesToRead}
 use Rattle.sqlite.specs.State.{State, IsNotRun, FailsToShow, FailsToQuery, IsTooLate, store_error}
 use Rattle.sqlite.specs.Clock.{timed}
 use Rattle.sqlite.proofs.Callers.{IsPlain}
-use Rattle.pid_tables.specs.Rows.Faults.{fault_of_sql, IsMemoryOrStore, IsNotNewerSchema}
+use Rattle.pid_tables.specs.Rows.Faults.{IsMemoryOrStore, IsNotNewerSchema}
+use Rattle.pid_tables.specs.Rows.Steps.Faults.{fault_of_sql}
 
 pub failed : (c : ErrorCode) → IsMemoryOrStore (fault_of_sql (SqliteFailure c))
 failed code.OutOfMemory = tt

@@ -6,7 +6,8 @@ use Rattle.sqlite.specs.State.{State, Survives}
 use Rattle.sqlite.specs.State.{HasCleanDisk}
 use Rattle.pid_moderation.specs.Views.{Views}
 use Rattle.pid_tables.specs.Rows.Shows.{Counts, ShowsCounting, Shows}
-use Rattle.pid_tables.specs.Rows.Leaves.{KeepsCommitted, Within, Written, GoesOn}
+use Rattle.pid_tables.specs.Rows.Leaves.{KeepsCommitted, Within, Written}
+use Rattle.pid_tables.specs.Rows.Steps.Turns.{GoesOn}
 use Rattle.pid_tables.proofs.OfRows.LeaveLemmas.{leaves_on}
 
 pub earlier : {P : Trees → Type 0} (old new : State) → Survives old new P → HasCleanDisk new → HasCleanDisk old

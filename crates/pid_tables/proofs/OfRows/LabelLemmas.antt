@@ -29,8 +29,10 @@ use Rattle.sqlite_trees.specs.declared.store.Store.{Ghosts}
 use Rattle.pid_tables.specs.declared.rows.fault.TableFault.{TableFault}
 use Rattle.pid_tables.specs.declared.rows.fault.TableFault.TheVariants.{Memory, Store, NewerSchema, Damaged}
 use Rattle.pid_tables.specs.Rows.Faults.{IsMemoryOrStore, IsNotNewerSchema}
-use Rattle.pid_tables.specs.Rows.LabelRows.{ExplainsNumber, HasLabel, IsDamageOf, IsMetaFirst, LacksNumber, ShowsNoNumber, ShowsNumber, ShowsValues, value_text}
-use Rattle.pid_tables.specs.Rows.Unread.{IsUnreadable, IsNumber}
+use Rattle.pid_tables.specs.Rows.LabelRows.{ExplainsNumber, HasLabel, IsDamageOf, LacksNumber, ShowsNoNumber, ShowsNumber, ShowsValues, value_text}
+use Rattle.pid_tables.specs.Rows.Steps.LabelRows.{IsMetaFirst}
+use Rattle.pid_tables.specs.Rows.Steps.Unread.{IsUnreadable}
+use Rattle.pid_tables.specs.Rows.LabelRows.{IsNumber}
 use Rattle.pid_tables.specs.Rows.TableRows.{number}
 use Rattle.pid_tables.proofs.OfRows.KeyTexts.{by_first}
 use Rattle.pid_tables.proofs.OfRows.LabelTexts.{IsPlainIfAsked, plain_if_asked, value_is}

@@ -17,7 +17,7 @@ use Rattle.pid_moderation.specs.Views.{Views}
 use Rattle.pid_tables.specs.declared.rows.version.Version.TheVariants.{One, Two}
 use Rattle.pid_tables.specs.Rows.Steps.Moving.{IsBetween}
 use Rattle.pid_tables.specs.Rows.PairRows.{RowsAre}
-use Rattle.pid_tables.specs.Rows.Queries.{IsWriteAs}
+use Rattle.pid_tables.specs.Rows.Steps.Queries.{IsWriteAs}
 use Rattle.pid_tables.specs.Rows.Schema.{schema_of, meta, item_since}
 use Rattle.pid_tables.specs.Rows.Shows.{Counts, ShowsKeeping, ShowsCounting, labels_of, numbers_in, remark_in, receipt_in, since_in}
 use Rattle.pid_moderation.specs.Submissions.{standing_in}

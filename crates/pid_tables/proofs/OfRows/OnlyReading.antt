@@ -10,7 +10,8 @@ use Rattle.sqlite_trees.specs.declared.store.Store.{Ghosts}
 use Rattle.pid_tables.specs.declared.rows.fault.TableFault.{TableFault}
 use Rattle.pid_tables.specs.Rows.Causes.{IsCaused, IsReadable}
 use Rattle.pid_tables.proofs.OfRows.CauseLemmas.{caused_later}
-use Rattle.pid_tables.specs.Rows.Leaves.{RestsOn, RestsIn, GoesOn, OnlyReads}
+use Rattle.pid_tables.specs.Rows.Leaves.{RestsOn, RestsIn, OnlyReads}
+use Rattle.pid_tables.specs.Rows.Steps.Turns.{GoesOn}
 use Rattle.pid_tables.specs.Rows.Shows.{ShowsIn, Shows}
 use Rattle.pid_tables.proofs.OfRows.GoingLemmas.{earlier}
 use Rattle.pid_tables.proofs.OfRows.LeaveLemmas.{leaves_on, shown_on}

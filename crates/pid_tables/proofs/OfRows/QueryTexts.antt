@@ -16,7 +16,7 @@ use Rattle.sqlite_sql.specs.Program.{ProgramOverflows}
 use Rattle.sqlite_value.specs.declared.keys.Key.{Key}
 use Rattle.sqlite.specs.Schema.{Schema}
 use Rattle.pid_tables.specs.Rows.TableRows.{number}
-use Rattle.pid_tables.specs.Rows.Queries.{IsSafeSelect, IsOneStatement, IsQueryAs, IsQuery}
+use Rattle.pid_tables.specs.Rows.Steps.Queries.{IsSafeSelect, IsOneStatement, IsQueryAs, IsQuery}
 use Rattle.sqlite_typing.specs.Types.{accepts_program}
 use Rattle.pid_tables.specs.declared.rows.version.Version.{Version}
 use Rattle.pid_tables.specs.Rows.Schema.{schema_of}

@@ -20,7 +20,8 @@ use Rattle.pid_tables.specs.Rows.Shows.{Counts, labels_of, more_labels, counts_o
 use Rattle.pid_tables.specs.Rows.Steps.Shows.{meta_of}
 use Rattle.pid_moderation.specs.Submissions.{standing_in, Standing}
 use Rattle.pid_tables.specs.Rows.TableRows.{number}
-use Rattle.pid_tables.specs.Rows.Unread.{IsUnreadable, IsNumber, IsWholeNumber, ReadsAsStanding}
+use Rattle.pid_tables.specs.Rows.Steps.Unread.{IsUnreadable, IsWholeNumber, ReadsAsStanding}
+use Rattle.pid_tables.specs.Rows.LabelRows.{IsNumber}
 use Rattle.pid_tables.specs.Rows.Steps.Unread.{IsWord, IsReplyRow}
 use Rattle.pid_tables.proofs.OfRows.DecodeLemmas.{some_row, number_same, mapped_some, all_at}
 use Rattle.pid_tables.proofs.OfRows.RangeLemmas.{found_in}

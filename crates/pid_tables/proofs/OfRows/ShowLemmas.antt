@@ -18,7 +18,7 @@ use Rattle.pid_tables.specs.declared.rows.version.Version.TheVariants.{One, Two}
 use Rattle.pid_tables.specs.Rows.Schema.{meta, account, item, submission, remark, receipt, item_since, schema_of, more_tables}
 use Rattle.pid_tables.specs.Rows.PairRows.{Map, RowsAre}
 use Rattle.pid_tables.specs.Rows.TableRows.{meta_row, account_row, item_row, submission_row, remark_row, receipt_row, since_row}
-use Rattle.pid_tables.specs.Rows.Writes.{with_revision}
+use Rattle.pid_tables.specs.Rows.Steps.Writes.{with_revision}
 use Rattle.pid_tables.specs.Rows.Shows.{Counts, Numbers, ShowsNumbers, ShowsKeeping, labels_of, remark_in, receipt_in}
 use Rattle.pid_moderation.specs.Submissions.{standing_in}
 use Rattle.pid_tables.proofs.OfRows.MapLemmas.{Wrote}

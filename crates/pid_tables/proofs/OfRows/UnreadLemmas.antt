@@ -15,7 +15,7 @@ use Rattle.pid_file.specs.declared.path.Path.TheVariants.{Vendor, Device, Subsys
 use Rattle.pid_tables.specs.declared.rows.fault.TableFault.{TableFault}
 use Rattle.pid_tables.specs.declared.rows.fault.TableFault.TheVariants.{Memory, Store, NewerSchema, Damaged}
 use Rattle.pid_tables.specs.Rows.Causes.{IsCaused}
-use Rattle.pid_tables.specs.Rows.Unread.{IsUnreadable}
+use Rattle.pid_tables.specs.Rows.Steps.Unread.{IsUnreadable}
 
 -- what is written as it should be is read
 pub caused_unread : {Written : Type 0} (old new : State) (e : TableFault) → Written → IsUnreadable Written e → IsCaused old new e

@@ -36,8 +36,9 @@ use Rattle.sqlite_schema.specs.declared.schema.Constraint.TheVariants.{ForeignKe
 use Rattle.sqlite_schema.specs.declared.schema.Keys.{Keys}
 use Rattle.sqlite_schema.specs.declared.schema.Schema.{Schema}
 use Rattle.pid_tables.specs.declared.rows.fault.TableFault.{TableFault}
-use Rattle.pid_tables.specs.Rows.Faults.{fault_of_sql, IsMemoryOrStore}
-use Rattle.pid_tables.specs.Rows.Queries.{IsWrite, IsWriteAs}
+use Rattle.pid_tables.specs.Rows.Faults.{IsMemoryOrStore}
+use Rattle.pid_tables.specs.Rows.Steps.Faults.{fault_of_sql}
+use Rattle.pid_tables.specs.Rows.Steps.Queries.{IsWrite, IsWriteAs}
 use Rattle.pid_tables.proofs.OfRows.FaultLemmas.{failed, of_store, moved, not_run}
 use Rattle.pid_tables.proofs.OfRows.Statements.{IsInsert, IsUpdate, IsDelete}
 use Rattle.sqlite.specs.Term.{Term}

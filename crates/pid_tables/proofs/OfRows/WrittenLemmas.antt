@@ -9,7 +9,8 @@ use Rattle.pid_moderation.specs.declared.command.Reply.{Reply}
 use Rattle.pid_moderation.specs.declared.command.Reply.TheVariants.{Done, Numbered, Counts}
 use Rattle.pid_tables.specs.Rows.Causes.{IsReadableReply}
 use Rattle.pid_tables.specs.Rows.TableRows.{reply_kind, first_number, second_number, third_number}
-use Rattle.pid_tables.specs.Rows.Unread.{IsNumber, ReadsAsStanding}
+use Rattle.pid_tables.specs.Rows.Steps.Unread.{ReadsAsStanding}
+use Rattle.pid_tables.specs.Rows.LabelRows.{IsNumber}
 use Rattle.pid_tables.specs.Rows.Steps.Unread.{IsWord, IsPathText, IsProposal, IsState, IsReplyRow}
 use Rattle.pid_tables.proofs.OfRows.DecodeLemmas.{text_same}
 

@@ -11,3 +11,4 @@ pub mod PlaceSets
 pub mod Reading
 pub mod NamesRead
 pub mod Shapes
+pub mod Asking

@@ -1,16 +1,14 @@
 -- Laws of pages: each is the contract of a public function that does nothing.
-use Rattle.std.specs.Prelude.{◌≡◌, ℕ, ◌*◌, ◌≤◌, ◌==◌, nat_lt, true, if◌then◌else◌, List, [], ◌++◌}
-use Rattle.std.specs.Prelude.{length, map, filter, take, drop}
+use Rattle.std.specs.Prelude.{◌≡◌, ℕ, ◌*◌, ◌≤◌, ◌==◌, true, if◌then◌else◌, List, [], ◌++◌}
+use Rattle.std.specs.Prelude.{length, take, drop}
 use Rattle.std.specs.FinMap.Entries.{is_sorted}
 use Rattle.pid_ident.specs.Trees.{text_cmp}
 use Rattle.pid_moderation.specs.Views.{Views}
 use Rattle.pid_moderation.specs.Submissions.{Standing}
 use Rattle.pid_moderation.specs.ChangePages.{Changed, changes_in, changed_behind}
 use Rattle.pid_moderation.specs.SubmissionPages.{Search, Listing, sought_in, submissions_of}
-use Rattle.pid_tables.specs.Lists.ByNumber.{standings_at}
-use Rattle.pid_tables.specs.Lists.Pages.{last_of, most_listed, pages_after, pages_down}
+use Rattle.pid_tables.specs.Lists.Pages.{last_of, pages_after, pages_down}
 use Rattle.pid_moderation.specs.PendingPages.{pending_in, waiting_above}
-use Rattle.pid_moderation.specs.declared.lists.TheConstants.{PAGE}
 
 -- what a page of pending submissions goes on from
 abbrev pub pending_number : ℕ × Standing → ℕ
@@ -58,20 +56,6 @@ ChangePagesAreAll = (most since count : ℕ) (after : List ℕ) (v : Views)
     → pages_after changed_path (λ behind. (changes_in most since behind v).items) count after
     ≡ changed_behind since after v
 
--- no page lists more than it holds
-abbrev pub HoldMostListed : Type 0
-HoldMostListed = (there : ℕ) → most_listed there ≤ PAGE
-
--- a page lists as many as there are, while it holds them: one that is not full is the last
-abbrev pub PendingMostListed : Type 0
-PendingMostListed = (after : ℕ) (v : Views)
-    → length (pending_in PAGE after v) ≡ most_listed (length (waiting_above after v))
-
-abbrev pub ChangesMostListed : Type 0
-ChangesMostListed = (since : ℕ) (after : List ℕ) (v : Views)
-    → length (changes_in PAGE since after v).items
-    ≡ most_listed (length (changed_behind since after v))
-
 -- the same search below another number
 abbrev pub search_below : Search → ℕ → Search
 search_below search before = record search { before = before }
@@ -92,9 +76,3 @@ SubmissionPagesAreAll = (most searched count : ℕ) (search : Search) (v : Views
     → 1 ≤ most → 1 ≤ searched → length v.submits ≤ count
     → pages_down (λ before. submissions_of most searched (search_below search before) v) count
     search.before ≡ sought_in search v
-
--- the numbers of all that wait, as a caller may keep them, make each page of pending submissions
-abbrev pub PendingByNumber : Type 0
-PendingByNumber = (most after : ℕ) (v : Views)
-    → standings_at (take most (filter (nat_lt after) (map pending_number (waiting_above 0 v)))) v
-    ≡ pending_in most after v

@@ -1,11 +1,6 @@
 -- Lists that are answered page by page.
-use Rattle.std.specs.Prelude.{ℕ, zero, suc, min, ◌==◌, if◌then◌else◌, List, [], ◌∷◌, ◌++◌}
+use Rattle.std.specs.Prelude.{ℕ, zero, suc, ◌==◌, if◌then◌else◌, List, [], ◌∷◌, ◌++◌}
 use Rattle.pid_moderation.specs.SubmissionPages.{Listing, ListingPage}
-use Rattle.pid_moderation.specs.declared.lists.TheConstants.{PAGE}
-
--- how many of so many a page has: all of them, or as many as it holds
-abbrev pub most_listed : ℕ → ℕ
-most_listed there = min PAGE there
 
 -- the key of the last entry of a page, after which the next one is asked; of a page without
 -- entries this one, after which it was asked

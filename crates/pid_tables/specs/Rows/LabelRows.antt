@@ -1,11 +1,10 @@
 -- The labels of meta, whatever numbers they have.
-use Rattle.std.specs.Prelude.{◌≡◌, ◌⊎◌, ℕ, List, [], ◌∷◌, slice_get, Some, Ok, codes}
+use Rattle.std.specs.Prelude.{◌≡◌, ◌⊎◌, ℕ, ◌<◌, ◌^◌, List, [], ◌∷◌, slice_get, Some, Ok, codes}
 use Rattle.sqlite.specs.Effect.{Database, Reads}
 use Rattle.sqlite.specs.Listing.{understood, reads_listing, IsSourceOf}
 use Rattle.sqlite.specs.Order.{Row, column}
-use Rattle.sqlite.specs.Schema.{Schema}
-use Rattle.sqlite.specs.Table.{Table}
 use Rattle.sqlite.specs.Tree.{Trees}
+use Rattle.sqlite.specs.declared.types.Value.{Value}
 use Rattle.sqlite.specs.declared.types.Value.TheVariants.{Text}
 use Rattle.sqlite_resolve.specs.declared.compiled.Compiled.{Compiled}
 use Rattle.sqlite_rules.specs.Lists.{Has}
@@ -14,7 +13,10 @@ use Rattle.pid_tables.specs.declared.rows.fault.TableFault.TheVariants.{Memory, 
 use Rattle.pid_tables.specs.declared.rows.fault.TableFault.TheVariants.{Damaged}
 use Rattle.pid_tables.specs.Rows.Schema.{meta}
 use Rattle.pid_tables.specs.Rows.TableRows.{number}
-use Rattle.pid_tables.specs.Rows.Unread.{IsNumber}
+
+-- a number of 32 bits
+abbrev pub IsNumber : Value → Type 0
+IsNumber value = (n : ℕ) × (n < 2 ^ 32) × (value ≡ number n)
 
 -- the query of the value of a label
 abbrev pub value_text : List ℕ
@@ -39,10 +41,6 @@ ShowsNoNumber db label =
     ((query : Compiled) → ¬ (understood db.schema value_text ≡ Ok query))
     ⊎ ((rows : List Row) × ShowsValues db label rows
     × ((first : Row) → slice_get rows 0 ≡ Some first → ¬ (IsNumber (column first 0))))
-
--- the table meta was made first, with its columns; whatever else was made comes after it
-abbrev pub IsMetaFirst : Schema → Type 0
-IsMetaFirst schema = (others : List Table) × (schema.tables ≡ meta ∷ others)
 
 -- some row of meta has the label, with this number
 abbrev pub HasLabel : Trees → List ℕ → ℕ → Type 0

@@ -15,17 +15,17 @@
 -- `KeepsCommitted v`), and one after a failed commit the one or the other. `Written` says more than
 -- `Within`: the connection is open. A read goes from at rest to at rest (`OnlyReads`), a call in a
 -- transaction stays in it (`GoesOn`) and leads on to the next views (`LeadsTo`). A connection that
--- a fault has shut shows nothing, but what a crash leaves is as good as it was.
+-- a fault has shut shows nothing, but what a crash leaves is as good as it was. `GoesOn` and
+-- `LeadsTo` are in Steps/Turns.
 --
 -- All of it is of schema 2. `RestsIn` is at rest in one schema or the other.
-use Rattle.std.specs.Prelude.{◌≡◌, ◌⊎◌, false, Result, OnOk, MatchResult, IsTrue}
+use Rattle.std.specs.Prelude.{◌≡◌, ◌⊎◌, false, Result, MatchResult, IsTrue}
 use Rattle.sqlite.specs.Tree.{Trees}
 use Rattle.sqlite.specs.State.{State, HasCleanDisk, Survives}
 use Rattle.sqlite.specs.Effect.{Database}
 use Rattle.sqlite.specs.Schema.{Schema}
 use Rattle.pid_moderation.specs.Views.{Views}
 use Rattle.pid_tables.specs.declared.rows.fault.TableFault.{TableFault}
-use Rattle.pid_tables.specs.Rows.Faults.{IsMemoryOrStore}
 use Rattle.pid_tables.specs.Rows.Causes.{IsCaused, IsReadable}
 use Rattle.pid_tables.specs.declared.rows.version.Version.{Version}
 use Rattle.pid_tables.specs.Rows.Schema.{schema_of, pid_schema}
@@ -89,36 +89,6 @@ pub record Within (c : Counts) (s : State) (held now : Views) : Type 0 where
 pub record Written (c : Counts) (s : State) (held now : Views) : Type 0 where
   pub within : Within c s held now
   pub opened : HasCleanDisk s → IsTrue s.is_open
-
--- A call inside a transaction commits nothing, whatever it answers; if it answers a value, the
--- transaction goes on.
-pub record GoesOn {X E : Type 0} (old new : State) (result : Result X E) : Type 0 where
-  pub survives : Survives old new (λ _. ⊥)
-  pub was_open : HasCleanDisk new → IsTrue new.is_open → IsTrue old.is_open
-  pub committed : HasCleanDisk new → IsTrue old.in_transaction → IsTrue new.is_open
-      → new.committed ≡ old.committed
-  pub going : HasCleanDisk new → IsTrue old.in_transaction
-      → OnOk result (IsTrue new.is_open × IsTrue new.in_transaction)
-
--- What a call in a transaction changes: the counts of meta and the views that it is for, and what
--- it makes of each.
-pub record Turn : Type 1 where
-  pub IsFor : Counts → Views → Type 0
-  pub recount : Counts → Counts
-  pub next : Views → Views
-
--- the counts alone are changed
-abbrev pub recounting : (Counts → Counts) → Turn
-recounting recount = record { IsFor = λ c v. Unit {0}; recount = recount; next = λ v. v }
-
--- If the transaction shows what the turn is for, the call answers a value only with the
--- transaction showing what comes next, and a fault only if there is no memory or the store
--- failed or refused.
-abbrev pub LeadsTo : {X : Type 0} → State → State → Result X TableFault → Turn → Type 0
-LeadsTo old new result turn =
-    HasCleanDisk new → IsTrue old.in_transaction → (c : Counts) (v : Views)
-    → ShowsCounting c old.now v → turn.IsFor c v
-    → MatchResult result (λ _. ShowsCounting (turn.recount c) new.now (turn.next v)) IsMemoryOrStore
 
 -- while it is open, the connection sees this database, and it is committed
 pub record RestsOn (s : State) (d : Database) : Type 0 where

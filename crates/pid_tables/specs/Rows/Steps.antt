@@ -6,3 +6,9 @@ pub mod Ranges
 pub mod Shows
 pub mod Writes
 pub mod Unread
+pub mod Queries
+pub mod Standings
+pub mod Turns
+pub mod Clauses
+pub mod Faults
+pub mod LabelRows

@@ -5,7 +5,7 @@ use Rattle.pid_moderation.specs.declared.change.Effect.TheVariants.{Nothing, Ran
 use Rattle.pid_moderation.specs.declared.change.Effect.TheVariants.{Remarked, Decided, Imported}
 use Rattle.pid_moderation.specs.Changes.{FitsEffect}
 use Rattle.pid_moderation.specs.Views.{Views}
-use Rattle.pid_tables.specs.Rows.Leaves.{Turn}
+use Rattle.pid_tables.specs.Rows.Steps.Turns.{Turn}
 use Rattle.pid_tables.specs.Rows.Shows.{Counts}
 
 -- the counts that an effect leaves

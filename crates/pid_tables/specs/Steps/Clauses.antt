@@ -26,9 +26,6 @@ module _ {S : Type 0} (store : Ghosts S) where
   abbrev pub Takes : {X : Type 0} → Held S → Held S → Result X TableFault → List (List ℕ) → Type 0
   Takes old new result names = making.Takes (state store old) (state store new) result names
 
-  abbrev pub FindsTables : {X : Type 0} → Held S → Held S → Result X TableFault → Type 0
-  FindsTables old new result = making.FindsTables (state store old) (state store new) result
-
   abbrev pub FindsShown : Held S → Held S → Result (Option Version) TableFault → Type 0
   FindsShown old new result = steps.FindsShown (state store old) (state store new) result
 

@@ -10,7 +10,10 @@ use Rattle.pid_tables.specs.Rows.Clauses.{Within}
 use Rattle.pid_tables.specs.Rows.Shows.{counts_of}
 use Rattle.pid_tables.specs.declared.put_file.Stop.{Stop}
 use Rattle.pid_tables.specs.Steps.Importing as importing
+use Rattle.pid_tables.specs.Steps.Putting as putting
 use Rattle.pid_tables.specs.Steps.Putting.{put_in_turn}
+use Rattle.pid_reader.specs.LookingBack.{Item}
+use Rattle.pid_tables.specs.declared.putting.Put.{Put}
 
 module _ {S : Type 0} (store : Ghosts S) where
   abbrev pub Applies : Held S → Result Reply Stop → History → Asked → Type 0
@@ -20,3 +23,9 @@ module _ {S : Type 0} (store : Ghosts S) where
   abbrev pub HoldsPut : Held S → History → ℕ → Items → Type 0
   HoldsPut conn h n pairs = Within store conn (counts_of (views_of h)) (views_of h)
       (put_in_turn n pairs (views_of h))
+
+  abbrev pub Puts : ℕ → Held S → Held S → Item → Put → Type 0
+  Puts n old new item put = putting.Puts n (state store old) (state store new) item put
+
+  abbrev pub GivesUp : Held S → Held S → Type 0
+  GivesUp old new = putting.GivesUp (state store old) (state store new)

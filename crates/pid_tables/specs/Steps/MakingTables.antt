@@ -22,7 +22,7 @@ use Rattle.pid_tables.specs.Rows.Schema.{pid_schema}
 use Rattle.pid_tables.specs.Rows.Schema as tables
 use Rattle.pid_tables.specs.Rows.TableRows.{meta_row}
 pub use Rattle.pid_tables.specs.Creation.{making}
-use Rattle.pid_tables.specs.Creation.{AreMade, IsFaultOfTaken}
+use Rattle.pid_tables.specs.Creation.{AreMade}
 
 -- one statement that defines a table
 abbrev pub IsDefinition : List ℕ → Compiled → Type 0
@@ -76,16 +76,6 @@ pub record TookNames (names : List (List ℕ)) (old new : Schema) : Type 0 where
 abbrev pub Takes : {X : Type 0} → State → State → Result X TableFault → List (List ℕ) → Type 0
 Takes old new result names = HasCleanDisk new → IsTrue old.in_transaction
     → MatchResult result (λ _. TookNames names old.now.schema new.now.schema) IsNotNewerSchema
-
-abbrev pub IsTextRefused : Result Compiled CompileError → Type 0
-IsTextRefused (Ok c) = ⊥
-IsTextRefused (Err e) = Unit {0}
-
--- a step that meets the tables of a registry
-abbrev pub FindsTables : {X : Type 0} → State → State → Result X TableFault → Type 0
-FindsTables old new result = HasCleanDisk new → IsTrue old.in_transaction
-    → (IsTrue old.is_open → old.now.schema ≡ pid_schema)
-    → MatchResult result (λ _. ⊥) (IsFaultOfTaken old new)
 
 -- all seven, if meta has some rows and the others have none
 pub record HasOnlyMeta (m : Map (List ℕ) ℕ) (db : Database) : Type 0 where

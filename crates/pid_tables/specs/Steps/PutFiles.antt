@@ -13,7 +13,7 @@ use Rattle.pid_moderation.specs.CheckTables.{most_file_bytes}
 use Rattle.pid_tables.specs.declared.rows.fault.TableFault.{TableFault}
 use Rattle.pid_tables.specs.declared.putting.Put.{Put}
 use Rattle.pid_tables.specs.declared.tally.Tally.{Tally}
-use Rattle.pid_tables.specs.Tallies.{tallied}
+use Rattle.pid_tables.specs.Steps.Tallies.{tallied}
 use Rattle.pid_tables.specs.Steps.Tallies.{no_tally}
 
 -- these items were put in turn, of which the last is the first here, and counted

@@ -1,7 +1,11 @@
 //! The check of all tables: first which are there, and then their rows.
-ghost use Rattle.std.specs.Prelude.{◌≡◌, false, None, Some, MatchResult};
+ghost use Rattle.std.specs.Prelude.{◌≡◌, ◌≤◌, false, Some, MatchResult};
+ghost use Rattle.pid_moderation.specs.CheckTables.{most_revision};
+ghost use Rattle.pid_moderation.specs.History.{History};
+ghost use Rattle.pid_moderation.specs.Sound.{IsSound};
+ghost use Rattle.pid_moderation.specs.Views.{revision_of, views_of};
 ghost use Rattle.pid_tables.specs.Rows.Faults.{IsMemoryOrStore};
-ghost use Rattle.pid_tables.specs.Rows.Clauses.{HasCleanDisk, OnlyReads, is_open, seen};
+ghost use Rattle.pid_tables.specs.Rows.Clauses.{HasCleanDisk, OnlyReads, RestsIn, is_open, seen};
 ghost use Rattle.pid_tables.specs.Check.Checking.{Explains, FindsVersion, ShowsRegistry};
 ghost use Rattle.pid_tables.specs.Check.Steps.Clauses.{JudgesRows};
 ghost use Rattle.pid_tables.specs.Check.Steps.Labels.{ShowsLabels};
@@ -13,6 +17,7 @@ use crate::check::meta::{Labels, are_labels, read_labels, revision_told};
 use crate::check::shape::{SIX, has_some_table, some_can, tables_of};
 use crate::check::tables::read_tables;
 use crate::rows::{TableFault, Version};
+use crate::tables::Tables;
 use sqlite::{Alter, Connection};
 use std::alloc::Global;
 
@@ -62,35 +67,43 @@ fn check_tables<S: Alter>(
     Ok(found)
 }
 
-/// The schema of the tables, if they are those of some registry; `None` if there is no table.
-///
-/// It finds out which tables are there by preparing a query of each table's columns by their names.
-/// If none can be prepared, it answers `None`: there is nothing to be damaged. If some can, and not
-/// each of a schema, it answers `Damaged`, and so it does if a table `item_since` of any columns is
-/// there with the six of schema 1. It answers a schema only if all conditions of that schema hold
-/// of the rows that the queries answer, and `Damaged` only if one of them fails. A later schema is
-/// judged before either, whatever the tables: `NewerSchema` only if the labels have that greater
-/// number, and a schema or `Damaged` only if they have none. It answers `Memory` and `Store`
-/// otherwise, and changes nothing. Other tables, indexes and views are allowed.
-pub fn check<S: Alter>(
-    conn: &mut Connection<S>,
-    alloc: Global,
-) -> Result<Option<Version>, TableFault>
-    requires { conn.old.in_transaction ≡ false }
-    ensures rests { OnlyReads S.Store conn.old conn.new }
-    ensures shut { HasCleanDisk S.Store conn.new → is_open S.Store conn.old ≡ false
-        → MatchResult result (λ x. ⊥) IsMemoryOrStore }
-    // Whatever the schema: what it answers is so of the rows that the queries of the tables answer,
-    // and by `judgements_hold_of_storage` of those that storage has.
-    ensures told { HasCleanDisk S.Store conn.new
-        → MatchResult result (FindsVersion (seen S.Store conn.old))
-        (Explains (seen S.Store conn.old)) }
-{
-    if !some_can(conn, &SIX, false)? {
-        return check_tables(conn, alloc);
+impl<S: Alter + Drop> Tables<S> {
+    /// The schema of the tables, if they are those of some registry; `None` if there is no table:
+    /// every row is read and judged. `docs/STORAGE.md` has the conditions.
+    ///
+    /// It finds out which tables are there by preparing a query of each table's columns by their
+    /// names. If none can be prepared, it answers `None`: there is nothing to be damaged. If some
+    /// can, and not each of a schema, it answers `Damaged`, and so it does if a table `item_since`
+    /// of any columns is there with the six of schema 1. It answers a schema only if all conditions
+    /// of that schema hold of the rows that the queries answer, and `Damaged` only if one of them
+    /// fails. A later schema is judged before either, whatever the tables: `NewerSchema` only if
+    /// the labels have that greater number, and a schema or `Damaged` only if they have none. It
+    /// answers `Memory` and `Store` otherwise, and changes nothing. Other tables, indexes and views
+    /// are allowed.
+    pub fn check(&mut self, alloc: Global) -> Result<Option<Version>, TableFault>
+        requires { self.old.conn.in_transaction ≡ false }
+        ensures rests { OnlyReads S.Store self.old.conn self.new.conn }
+        ensures shut { HasCleanDisk S.Store self.new.conn → is_open S.Store self.old.conn ≡ false
+            → MatchResult result (λ x. ⊥) IsMemoryOrStore }
+        // Whatever the schema: what it answers is so of the rows that the queries of the tables
+        // answer, and by `judgements_hold_of_storage` of those that storage has.
+        ensures told { HasCleanDisk S.Store self.new.conn
+            → MatchResult result (FindsVersion (seen S.Store self.old.conn))
+            (Explains (seen S.Store self.old.conn)) }
+        // Tables that show a sound history, whose revision is within its limit, are neither damaged
+        // nor of a later schema.
+        ensures good { HasCleanDisk S.Store self.new.conn → (h : History) → IsSound h
+            → revision_of h ≤ most_revision → (schema : Version)
+            → RestsIn S.Store schema self.old.conn (views_of h)
+            → MatchResult result (λ found. found ≡ Some schema) IsMemoryOrStore }
+    {
+        crate::check::laws::sound_histories_are_registries(); // proof only
+        if !some_can(&mut self.conn, &SIX, false)? {
+            return check_tables(&mut self.conn, alloc);
+        }
+        if has_some_table(&mut self.conn)? {
+            return check_lacking(&mut self.conn);
+        }
+        Ok(None)
     }
-    if has_some_table(conn)? {
-        return check_lacking(conn);
-    }
-    Ok(None)
 }

@@ -17,7 +17,8 @@ ghost use Rattle.std.specs.Prelude.{
 ghost use Rattle.pid_tables.specs.Rows.Clauses.{OnlyReads};
 ghost use Rattle.std.specs.BTreeSet.{contains};
 ghost use Rattle.sqlite.specs.Order.{Row as Values};
-ghost use Rattle.pid_ident.specs.PathTexts.{IsPath, path_cmp, parent_of};
+ghost use Rattle.pid_ident.specs.PathTexts.{IsPath, parent_of};
+ghost use Rattle.pid_file.specs.Steps.Paths.{path_cmp};
 ghost use Rattle.pid_tables.specs.Check.Steps.PathSets.{
   ArePathsOf,
   HasPath,

@@ -1,12 +1,10 @@
 //! Laws of the definitions. Each is the contract of a function that does nothing.
-ghost use Rattle.std.specs.Prelude.{◌≡◌, ◌↔◌, ◌≤◌, ℕ, List, Option, Some, Result, MatchResult};
+ghost use Rattle.std.specs.Prelude.{◌≡◌, ◌↔◌, ◌≤◌, Option, Some, Result, MatchResult};
 ghost use Rattle.sqlite.specs.Effect.{Database};
 ghost use Rattle.pid_moderation.specs.CheckTables.{most_revision};
-ghost use Rattle.pid_moderation.specs.History.{Asked, Begins, History};
-ghost use Rattle.pid_moderation.specs.Judgement.{after_all};
+ghost use Rattle.pid_moderation.specs.History.{History};
 ghost use Rattle.pid_moderation.specs.Sound.{IsSound};
 ghost use Rattle.pid_moderation.specs.Views.{revision_of, views_of};
-ghost use Rattle.pid_moderation.specs.WellMade.{AreWellMade};
 ghost use Rattle.pid_tables.specs.Rows.Faults.{IsMemoryOrStore};
 ghost use Rattle.pid_tables.specs.declared.rows.fault.TableFault.{TableFault};
 ghost use Rattle.pid_tables.specs.declared.rows.version.Version.{Version};
@@ -24,17 +22,6 @@ pub fn sound_histories_are_registries()
 {
     pid_moderation::laws::items_are_sorted(); // proof only
     pid_moderation::laws::sinces_are_last_changes(); // proof only
-}
-
-/// So does every database that shows what well made commands lead to, from any beginning.
-pub fn shown_tables_are_registries()
-    ensures { (mark : ℕ) (commands : List Asked) → AreWellMade commands
-        → (version : Version) (db : Database)
-        → ShowsIn version db (views_of (after_all (Begins mark) commands)) → IsRegistry version db }
-{
-    pid_moderation::laws::histories_are_sound(); // proof only
-    pid_moderation::laws::revisions_are_within(); // proof only
-    crate::check::laws::sound_histories_are_registries(); // proof only
 }
 
 /// What is answered of the rows that the queries of the tables answer is so of those that storage

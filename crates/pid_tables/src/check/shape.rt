@@ -14,12 +14,13 @@ ghost use Rattle.std.specs.Prelude.{
 };
 ghost use Rattle.std.specs.List.{Any};
 ghost use Rattle.sqlite.specs.Held.{state};
-ghost use Rattle.pid_tables.specs.Rows.Faults.{fault_of_sql, IsMemoryOrStore};
+ghost use Rattle.pid_tables.specs.Rows.Faults.{IsMemoryOrStore};
+ghost use Rattle.pid_tables.specs.Rows.Steps.Faults.{fault_of_sql};
 ghost use Rattle.pid_tables.specs.declared.rows.fault.TableFault.TheVariants.{Damaged};
 ghost use Rattle.pid_moderation.specs.Views.{Views};
-ghost use Rattle.pid_tables.specs.Rows.Queries.{IsQuery};
+ghost use Rattle.pid_tables.specs.Rows.Steps.Queries.{IsQuery};
 ghost use Rattle.pid_tables.specs.Rows.Schema.{pid_schema};
-ghost use Rattle.pid_tables.specs.Check.Asking.{AsksTables};
+ghost use Rattle.pid_tables.specs.Check.Steps.Asking.{AsksTables};
 ghost use Rattle.pid_tables.specs.Check.Shapes.{CanBeAsked, HasEachTable};
 ghost use Rattle.pid_tables.specs.Check.Steps.Shapes.{HasTablesOf};
 ghost use Rattle.pid_tables.specs.Check.Queries.{query_of};

@@ -5,7 +5,6 @@ ghost use Rattle.std.specs.Prelude.{
   [],
   List,
   false,
-  length,
   map,
   Some,
 };
@@ -18,13 +17,11 @@ ghost use Rattle.pid_tables.specs.Rows.TableRows.{number};
 ghost use Rattle.pid_moderation.specs.ChangePages.{
   AreHeld,
   Changed,
-  changed_behind,
   changed_of,
   changes_in,
   page_of as told_page,
   start_text,
 };
-ghost use Rattle.pid_tables.specs.Lists.Pages.{most_listed};
 ghost use Rattle.pid_tables.specs.Lists.Steps.ChangeRows.{
   AreChangesIn,
   IsChangeIn,
@@ -32,15 +29,15 @@ ghost use Rattle.pid_tables.specs.Lists.Steps.ChangeRows.{
 };
 
 use crate::lists::adding::put_last;
-use crate::lists::names::{name_of, text_or_empty};
+use crate::lists::paths::text_or_empty;
 use crate::rows::TableFault;
-use crate::rows::meta::revision;
 use crate::rows::run::read_rows;
 use crate::rows::value::{path_at, whole_at};
+use crate::tables::Tables;
 use pid_ident::Path;
 use pid_moderation::{ChangedItem, Changes, PAGE};
 use sqlite::types::{ToSql, ValueRef};
-use sqlite::{Alter, Connection, Row};
+use sqlite::{Alter, Row};
 use std::alloc::Global;
 
 // A number as a query asks for it: for one that SQLite does not hold, the greatest that it holds.
@@ -53,74 +50,75 @@ fn held<'a>(whole: u64) -> ValueRef<'a>
     }
 }
 
-// Adds the item of a row, which has its path and the number of its last change.
-fn add_changed<S: Alter>(
-    items: &mut Vec<ChangedItem>,
-    conn: &mut Connection<S>,
-    alloc: Global,
-    row: &Row,
-) -> Result<(), TableFault>
-    requires { conn.old.in_transaction ≡ false }
-    ensures rests { OnlyReads S.Store conn.old conn.new }
-    ensures told { TellsOf S.Store conn.old conn.new result
-        (λ v item. IsChangeIn v item row.now)
-        (λ item _. Adds changed_of items.old.items items.new.items (item ∷ [])) }
-{
-    let path = path_at(row, 0)?;
-    let since = whole_at(row, 1)?;
-    match name_of(conn, alloc, path)? {
-        Some(name) => put_last(items, ChangedItem { path, name, since }),
-        None => Err(TableFault::Damaged),
+impl<S: Alter + Drop> Tables<S> {
+    // Adds the item of a row, which has its path and the number of its last change.
+    fn add_changed(
+        &mut self,
+        items: &mut Vec<ChangedItem>,
+        alloc: Global,
+        row: &Row,
+    ) -> Result<(), TableFault>
+        requires { self.old.conn.in_transaction ≡ false }
+        ensures rests { OnlyReads S.Store self.old.conn self.new.conn }
+        ensures told { TellsOf S.Store self.old.conn self.new.conn result
+            (λ v item. IsChangeIn v item row.now)
+            (λ item _. Adds changed_of items.old.items items.new.items (item ∷ [])) }
+    {
+        let path = path_at(row, 0)?;
+        let since = whole_at(row, 1)?;
+        match self.item(alloc, &path)? {
+            Some(name) => put_last(items, ChangedItem { path, name, since }),
+            None => Err(TableFault::Damaged),
+        }
     }
-}
 
-// The items of rows, in their order.
-fn changed_items<S: Alter>(
-    conn: &mut Connection<S>,
-    alloc: Global,
-    rows: &[Row],
-) -> Result<Vec<ChangedItem>, TableFault>
-    requires { conn.old.in_transaction ≡ false }
-    ensures rests { OnlyReads S.Store conn.old conn.new }
-    ensures told { TellsOf S.Store conn.old conn.new result
-        (λ v (all : List Changed). AreChangesIn v all rows.now)
-        (λ all items. map changed_of items.items ≡ all) }
-{
-    let mut items = Vec::new(alloc);
-    for row in rows {
-        add_changed(&mut items, conn, alloc, row)?;
+    // The items of rows, in their order.
+    fn changed_items(&mut self, alloc: Global, rows: &[Row]) -> Result<Vec<ChangedItem>, TableFault>
+        requires { self.old.conn.in_transaction ≡ false }
+        ensures rests { OnlyReads S.Store self.old.conn self.new.conn }
+        ensures told { TellsOf S.Store self.old.conn self.new.conn result
+            (λ v (all : List Changed). AreChangesIn v all rows.now)
+            (λ all items. map changed_of items.items ≡ all) }
+    {
+        let mut items = Vec::new(alloc);
+        for row in rows {
+            self.add_changed(&mut items, alloc, row)?;
+        }
+        Ok(items)
     }
-    Ok(items)
-}
 
-/// The first items whose last change has a number above this one and whose paths come after that
-/// path, at most a page of them, in the canonical order. Without a path the page begins with the
-/// first item. Items that were removed are not listed. Items without such a change are passed over,
-/// row by row.
-pub fn changes_page<S: Alter>(
-    conn: &mut Connection<S>,
-    alloc: Global,
-    since: u64,
-    after: Option<&Path>,
-) -> Result<Changes, TableFault>
-    requires { conn.old.in_transaction ≡ false }
-    ensures page { Reads S.Store conn.old conn.new result
-        (λ v changes. AreHeld v → told_page changes
-        ≡ changes_in PAGE since (start_text (option_copied after.entry)) v) }
-    // As many as there are, while a page holds them: one that is not full is the last.
-    ensures most_listed { Reads S.Store conn.old conn.new result
-        (λ v changes. AreHeld v → length changes.items.items
-        ≡ most_listed (length (changed_behind since (start_text (option_copied after.entry)) v))) }
-{
-    let revision = revision(conn)?;
-    let start = text_or_empty(alloc, after)?;
-    let after = start.as_str().to_sql();
-    let since = held(since);
-    let rows = read_rows(
-        conn,
-        "SELECT path, since FROM item_since WHERE path > ?1 AND since > ?2 ORDER BY path LIMIT 100",
-        &[after, since],
-    )?;
-    let items = changed_items(conn, alloc, rows.as_slice())?;
-    Ok(Changes { revision, items })
+    /// The first items whose names were changed by a command after this number, and whose paths
+    /// come after that path, `PAGE` at most; with the revision. From no path on, and then from the
+    /// last path that was listed, pages go through all of them. Items without such a change are
+    /// passed over, row by row.
+    ///
+    /// It holds of views whose numbers SQLite holds, as those of every history do whose revision is
+    /// within its limit.
+    pub fn changes_page(
+        &mut self,
+        alloc: Global,
+        since: u64,
+        after: Option<&Path>,
+    ) -> Result<Changes, TableFault>
+        requires { self.old.conn.in_transaction ≡ false }
+        ensures { Reads S.Store self.old.conn self.new.conn result
+            (λ v changes. AreHeld v → told_page changes
+            ≡ changes_in PAGE since (start_text (option_copied after.entry)) v) }
+    {
+        let revision = self.revision()?;
+        let start = text_or_empty(alloc, after)?;
+        let after = start.as_str().to_sql();
+        let since = held(since);
+        let rows = read_rows(
+            &mut self.conn,
+            "SELECT path, since FROM item_since WHERE path > ?1 AND since > ?2 ORDER BY path LIMIT 100",
+            &[after, since],
+        );
+        drop(start);
+        let rows = rows?;
+        let listed = self.changed_items(alloc, rows.as_slice());
+        drop(rows);
+        let items = listed?;
+        Ok(Changes { revision, items })
+    }
 }

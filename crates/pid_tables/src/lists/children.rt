@@ -18,7 +18,7 @@ ghost use Rattle.pid_moderation.specs.WellMade.{IsItem, AllItems};
 ghost use Rattle.pid_reader.specs.LookingBack.{Item as Pair};
 ghost use Rattle.pid_tables.specs.Rows.Steps.Answers.{item_shown};
 ghost use Rattle.pid_moderation.specs.ItemPairs.{pair_of};
-ghost use Rattle.pid_tables.specs.Rows.Unread.{IsUnreadable};
+ghost use Rattle.pid_tables.specs.Rows.Steps.Unread.{IsUnreadable};
 ghost use Rattle.pid_tables.specs.Rows.Shows.{AreViews};
 ghost use Rattle.pid_moderation.specs.Children.{children_of};
 ghost use Rattle.pid_tables.specs.Lists.Steps.Adding.{Adds};
@@ -27,10 +27,11 @@ ghost use Rattle.pid_tables.specs.Lists.Children.{AreChildren};
 ghost use Rattle.pid_tables.specs.Rows.Clauses.{Reads};
 
 use crate::lists::adding::put_last;
-use crate::lists::walk::{EachEnd, each_item};
+use crate::lists::walk::EachEnd;
 use crate::rows::TableFault;
 use crate::rows::item::{item_of, range_below};
 use crate::rows::run::read_rows;
+use crate::tables::Tables;
 use pid_ident::{Name, Path, PathText, hex4};
 use pid_moderation::Item;
 use pid_reader::{Entry, Sink};
@@ -136,52 +137,59 @@ impl Sink for Tops {
     }
 }
 
-fn at_the_top<S: Alter>(conn: &mut Connection<S>, alloc: Global) -> Result<Vec<Item>, TableFault>
-    requires { conn.old.in_transaction ≡ false }
-    ensures { Reads S.Store conn.old conn.new result
-        (λ v items. map pair_of items.items ≡ children_of None v.items) }
-{
-    let mut tops = Tops {
-        kept: Vec::new(alloc),
-        alloc,
-    };
-    match each_item(conn, &mut tops) {
-        Ok(()) => {
-            let Tops { kept, alloc: _ } = tops;
-            Ok(kept)
+impl<S: Alter + Drop> Tables<S> {
+    fn at_the_top(&mut self, alloc: Global) -> Result<Vec<Item>, TableFault>
+        requires { self.old.conn.in_transaction ≡ false }
+        ensures { Reads S.Store self.old.conn self.new.conn result
+            (λ v items. map pair_of items.items ≡ children_of None v.items) }
+    {
+        let mut tops = Tops {
+            kept: Vec::new(alloc),
+            alloc,
+        };
+        match self.each_item(&mut tops) {
+            Ok(()) => {
+                let Tops { kept, alloc: _ } = tops;
+                Ok(kept)
+            }
+            Err(EachEnd::Tables(fault)) => Err(fault),
+            Err(EachEnd::Fault(fault)) => Err(fault),
         }
-        Err(EachEnd::Tables(fault)) => Err(fault),
-        Err(EachEnd::Fault(fault)) => Err(fault),
     }
-}
 
-/// The items directly below a path, in the canonical order, which puts the generic subsystems of a
-/// vendor after its devices. Without a path, the vendors and the classes: they have no range of
-/// their own, so all items are walked over.
-pub fn children_below<S: Alter>(
-    conn: &mut Connection<S>,
-    alloc: Global,
-    above: Option<Path>,
-) -> Result<Vec<Item>, TableFault>
-    requires { conn.old.in_transaction ≡ false }
-    ensures { Reads S.Store conn.old conn.new result
-        (λ v items. AreChildren (option_map path_text above) v items.items) }
-{
-    let Some(path) = above else {
-        return at_the_top(conn, alloc);
-    };
-    let text = path.path_text(alloc)?;
-    let mut kept = Vec::new(alloc);
-    let added = add_under(&mut kept, conn, alloc, b"", text.as_bytes(), path);
-    drop(text);
-    added?;
-    match path {
-        Path::Vendor { vendor } => {
-            // its generic subsystems, as PS/8086/.. of PC/8086
-            let digits = hex4(vendor);
-            add_under(&mut kept, conn, alloc, b"PS/", digits.as_slice(), path)?;
-            Ok(kept)
+    /// The items directly below a path, in the canonical order, which puts the generic subsystems
+    /// of a vendor after its devices. Without a path, the vendors and the classes.
+    ///
+    /// Vendors and classes have no range of their own, so all items are walked over. It holds of
+    /// views whose paths are paths, as those of every history are.
+    pub fn children(&mut self, alloc: Global, above: Option<Path>) -> Result<Vec<Item>, TableFault>
+        requires { self.old.conn.in_transaction ≡ false }
+        ensures { Reads S.Store self.old.conn self.new.conn result
+            (λ v items. AreChildren (option_map path_text above) v items.items) }
+    {
+        let Some(path) = above else {
+            return self.at_the_top(alloc);
+        };
+        let text = path.path_text(alloc)?;
+        let mut kept = Vec::new(alloc);
+        let added = add_under(&mut kept, &mut self.conn, alloc, b"", text.as_bytes(), path);
+        drop(text);
+        added?;
+        match path {
+            Path::Vendor { vendor } => {
+                // its generic subsystems, as PS/8086/.. of PC/8086
+                let digits = hex4(vendor);
+                add_under(
+                    &mut kept,
+                    &mut self.conn,
+                    alloc,
+                    b"PS/",
+                    digits.as_slice(),
+                    path,
+                )?;
+                Ok(kept)
+            }
+            _ => Ok(kept),
         }
-        _ => Ok(kept),
     }
 }

@@ -7,12 +7,7 @@ ghost use Rattle.pid_tables.specs.Lists.Laws.{
   ChangePagesJoin,
   ChangePagesAreAll,
 };
-ghost use Rattle.pid_tables.specs.Lists.Laws.{HoldMostListed, PendingMostListed, ChangesMostListed};
-ghost use Rattle.pid_tables.specs.Lists.Laws.{
-  PendingByNumber,
-  SubmissionPagesAreAll,
-  SubmissionsGoOn,
-};
+ghost use Rattle.pid_tables.specs.Lists.Laws.{SubmissionPagesAreAll, SubmissionsGoOn};
 
 /// The next page of pending submissions, asked after the last number of a page, begins with what
 /// that page left out.
@@ -32,20 +27,6 @@ pub fn changes_go_on()
     // order of the paths.
     ensures joined { ChangePagesJoin }
     ensures whole { ChangePagesAreAll }
-{}
-
-/// A page has as many entries as there are, and no more than it holds: one that is not full is the
-/// last.
-pub fn pages_hold_most_listed()
-    ensures limit { HoldMostListed }
-    ensures pending { PendingMostListed }
-    ensures changes { ChangesMostListed }
-{}
-
-/// A page of pending submissions is what is read by the numbers of those that wait, which a caller
-/// may keep.
-pub fn pending_by_number()
-    ensures { PendingByNumber }
 {}
 
 /// A page of the submissions that are sought, and what is sought below the number that it names,

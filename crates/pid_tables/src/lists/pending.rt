@@ -6,18 +6,16 @@ ghost use Rattle.std.specs.Prelude.{
   ℕ,
   List,
   false,
-  length,
   map,
   MatchResult,
 };
 ghost use Rattle.std.specs.List.{AllByRecursion};
 ghost use Rattle.sqlite.specs.Held.{state};
 ghost use Rattle.pid_moderation.specs.Views.{Views};
-ghost use Rattle.pid_tables.specs.Rows.Unread.{IsUnreadable};
+ghost use Rattle.pid_tables.specs.Rows.Steps.Unread.{IsUnreadable};
 ghost use Rattle.pid_moderation.specs.Submissions.{Standing};
-ghost use Rattle.pid_moderation.specs.PendingPages.{pending_in, told_of, waiting_above};
+ghost use Rattle.pid_moderation.specs.PendingPages.{pending_in, told_of};
 ghost use Rattle.pid_tables.specs.Lists.ByNumber.{standings_at};
-ghost use Rattle.pid_tables.specs.Lists.Pages.{most_listed};
 ghost use Rattle.pid_tables.specs.Lists.Steps.Adding.{Adds};
 ghost use Rattle.pid_tables.specs.Lists.Steps.PendingRows.{
   ArePendingIn,
@@ -31,6 +29,7 @@ use crate::rows::TableFault;
 use crate::rows::run::read_rows;
 use crate::rows::submission::{standing, submission_of};
 use crate::rows::value::number_at;
+use crate::tables::Tables;
 use pid_moderation::{PAGE, Pending};
 use sqlite::types::ToSql;
 use sqlite::{Alter, Connection, Row};
@@ -59,30 +58,6 @@ fn page_of(rows: &[Row], alloc: Global) -> Result<Vec<Pending>, TableFault>
     Ok(page)
 }
 
-/// The first pending submissions whose numbers are above a number, at most a page of them. Decided
-/// ones are passed over, row by row.
-pub fn pending_page<S: Alter>(
-    conn: &mut Connection<S>,
-    alloc: Global,
-    after: u32,
-) -> Result<Vec<Pending>, TableFault>
-    requires { conn.old.in_transaction ≡ false }
-    ensures page { Reads S.Store conn.old conn.new result
-        (λ v page. map told_of page.items ≡ pending_in PAGE after v) }
-    // As many as there are, while a page holds them: one that is not full is the last.
-    ensures most_listed { Reads S.Store conn.old conn.new result
-        (λ v page. length page.items ≡ most_listed (length (waiting_above after v))) }
-{
-    let after = after.to_sql();
-    let rows = read_rows(
-        conn,
-        "SELECT author, path, form, name, note, state, decider, reason, num FROM submission \
-            WHERE state = 0 AND num > ?1 ORDER BY num LIMIT 100",
-        &[after],
-    )?;
-    page_of(rows.as_slice(), alloc)
-}
-
 // Adds the submission with a number, as a pending one; nothing if there is none.
 fn add_numbered<S: Alter>(
     page: &mut Vec<Pending>,
@@ -100,21 +75,37 @@ fn add_numbered<S: Alter>(
     }
 }
 
-/// The submissions with these numbers, in the order of the numbers, for a caller that knows which
-/// are pending: one that was decided is listed too. A number that no submission has is passed over.
-/// Each is read by its key.
-pub fn pending_at<S: Alter>(
-    conn: &mut Connection<S>,
-    alloc: Global,
-    numbers: &[u32],
-) -> Result<Vec<Pending>, TableFault>
-    requires { conn.old.in_transaction ≡ false }
-    ensures { Reads S.Store conn.old conn.new result
-        (λ v page. map told_of page.items ≡ standings_at numbers.now v) }
-{
-    let mut page = Vec::new(alloc);
-    for number in numbers {
-        add_numbered(&mut page, conn, alloc, *number)?;
+impl<S: Alter + Drop> Tables<S> {
+    /// The first pending submissions whose numbers are above a number, `PAGE` at most. From 0 on,
+    /// and then from the last number that was listed, pages go through all that are pending.
+    /// Decided ones are passed over, row by row.
+    pub fn pending_page(&mut self, alloc: Global, after: u32) -> Result<Vec<Pending>, TableFault>
+        requires { self.old.conn.in_transaction ≡ false }
+        ensures { Reads S.Store self.old.conn self.new.conn result
+            (λ v page. map told_of page.items ≡ pending_in PAGE after v) }
+    {
+        let after = after.to_sql();
+        let rows = read_rows(
+            &mut self.conn,
+            "SELECT author, path, form, name, note, state, decider, reason, num FROM submission \
+                WHERE state = 0 AND num > ?1 ORDER BY num LIMIT 100",
+            &[after],
+        )?;
+        page_of(rows.as_slice(), alloc)
     }
-    Ok(page)
+
+    /// The submissions with these numbers, in the order of the numbers, for a caller that knows which
+    /// are pending: one that was decided is listed too. A number that no submission has is passed over.
+    /// Each is read by its key.
+    pub fn pending_at(&mut self, alloc: Global, numbers: &[u32]) -> Result<Vec<Pending>, TableFault>
+        requires { self.old.conn.in_transaction ≡ false }
+        ensures { Reads S.Store self.old.conn self.new.conn result
+            (λ v page. map told_of page.items ≡ standings_at numbers.now v) }
+    {
+        let mut page = Vec::new(alloc);
+        for number in numbers {
+            add_numbered(&mut page, &mut self.conn, alloc, *number)?;
+        }
+        Ok(page)
+    }
 }

@@ -5,7 +5,7 @@ ghost use Rattle.pid_moderation.specs.Views.{Remark};
 ghost use Rattle.pid_tables.specs.Rows.Steps.Answers.{remark_shown};
 ghost use Rattle.pid_tables.specs.Rows.Causes.{IsReadableRemark};
 ghost use Rattle.pid_moderation.specs.Submissions.{remark_of, discussion_in, discussion_of};
-ghost use Rattle.pid_tables.specs.Rows.Unread.{IsUnreadable};
+ghost use Rattle.pid_tables.specs.Rows.Steps.Unread.{IsUnreadable};
 ghost use Rattle.pid_tables.specs.Rows.Clauses.{Reads};
 ghost use Rattle.pid_tables.specs.Lists.Steps.Adding.{Adds};
 
@@ -14,6 +14,7 @@ use crate::rows::TableFault;
 use crate::rows::remark::comment_of;
 use crate::rows::run::read_rows;
 use crate::rows::submission::standing;
+use crate::tables::Tables;
 use pid_moderation::{Comment, Discussion};
 use sqlite::types::ToSql;
 use sqlite::{Alter, Connection, Row};
@@ -58,23 +59,24 @@ fn comments<S: Alter>(
     comments_of(rows.as_slice(), alloc)
 }
 
-/// The submission with the number, as it stands, and the remarks on it in their order. None if
-/// there is none.
-pub fn submission_with_remarks<S: Alter>(
-    conn: &mut Connection<S>,
-    alloc: Global,
-    number: u32,
-) -> Result<Option<Discussion>, TableFault>
-    requires { conn.old.in_transaction ≡ false }
-    ensures { Reads S.Store conn.old conn.new result
-        (λ v d. option_map discussion_of d ≡ discussion_in v number) }
-{
-    let remarks = comments(conn, alloc, number)?;
-    match standing(conn, alloc, number)? {
-        Some(submission) => Ok(Some(Discussion {
-            submission,
-            remarks,
-        })),
-        None => Ok(None),
+impl<S: Alter + Drop> Tables<S> {
+    /// The submission with the number, as it stands, and the remarks on it in their order.
+    pub fn submission(
+        &mut self,
+        alloc: Global,
+        number: u32,
+    ) -> Result<Option<Discussion>, TableFault>
+        requires { self.old.conn.in_transaction ≡ false }
+        ensures { Reads S.Store self.old.conn self.new.conn result
+            (λ v d. option_map discussion_of d ≡ discussion_in v number) }
+    {
+        let remarks = comments(&mut self.conn, alloc, number)?;
+        match standing(&mut self.conn, alloc, number)? {
+            Some(submission) => Ok(Some(Discussion {
+                submission,
+                remarks,
+            })),
+            None => Ok(None),
+        }
     }
 }

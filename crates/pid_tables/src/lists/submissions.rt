@@ -22,13 +22,13 @@ ghost use Rattle.pid_tables.specs.Lists.Steps.SubmissionRows.{
 };
 
 use crate::lists::adding::put_last;
-use crate::lists::names::text_or_empty;
+use crate::lists::paths::text_or_empty;
 use crate::rows::TableFault;
-use crate::rows::meta::submissions;
 use crate::rows::remark::remark_count;
 use crate::rows::run::read_rows;
 use crate::rows::submission::standing;
 use crate::rows::value::number_at;
+use crate::tables::Tables;
 use pid_ident::{Account, Path};
 use pid_moderation::{Listed, PAGE, SEARCHED, SubmissionPage};
 use sqlite::types::ToSql;
@@ -142,7 +142,7 @@ fn end_of(page: &[Listed], lowest: u32) -> u32
 }
 
 // Where the next page begins, after one that looked at numbers down to `lowest`.
-fn next_of(page: &[Listed], lowest: u32) -> u32
+pub(crate) fn next_of(page: &[Listed], lowest: u32) -> u32
     ensures { result ≡ next_after PAGE (map listed_of page.now) lowest }
 {
     let number = end_of(page, lowest);
@@ -159,35 +159,41 @@ fn author_or_any(author: Option<&Account>) -> &str
     }
 }
 
-/// The latest submissions for a path, if one is named, and of an author, if one is named, whose
-/// numbers are below `before`, of which 0 stands for no bound: at most `PAGE` of them, out of at
-/// most `SEARCHED` that are looked at. `before` of the page is where the next one begins; 0 where
-/// there is none. From 0 on, and then from there, pages go through all of them.
-pub fn submissions_page<S: Alter>(
-    conn: &mut Connection<S>,
-    alloc: Global,
-    path: Option<&Path>,
-    author: Option<&Account>,
-    before: u32,
-) -> Result<SubmissionPage, TableFault>
-    requires { conn.old.in_transaction ≡ false }
-    ensures { Reads S.Store conn.old conn.new result
-        (λ v page. submission_page_of page ≡ submissions_of PAGE SEARCHED (record {
-          path = option_copied path.entry;
-          author = option_copied author.entry;
-          before = before;
-        }) v) }
-{
-    let path = text_or_empty(alloc, path)?;
-    let author = author_or_any(author);
-    let count = submissions(conn)?;
-    let last = last_of(count, before);
-    let low = last.saturating_sub(SEARCHED as u32);
-    let rows = number_rows(conn, low, last, path.as_str(), author)?;
-    let submissions = listed_at(conn, alloc, rows.as_slice())?;
-    let before = next_of(submissions.as_slice(), low + 1);
-    Ok(SubmissionPage {
-        before,
-        submissions,
-    })
+impl<S: Alter + Drop> Tables<S> {
+    /// The latest submissions for a path, if one is named, and of an author, if one is named, whose
+    /// numbers are below `before`, of which 0 stands for no bound: at most `PAGE` of them, out of at
+    /// most `SEARCHED` that are looked at. `before` of the page is where the next one begins; 0 where
+    /// there is none. From 0 on, and then from there, pages go through all of them.
+    pub fn submissions_page(
+        &mut self,
+        alloc: Global,
+        path: Option<&Path>,
+        author: Option<&Account>,
+        before: u32,
+    ) -> Result<SubmissionPage, TableFault>
+        requires { self.old.conn.in_transaction ≡ false }
+        ensures { Reads S.Store self.old.conn self.new.conn result
+            (λ v page. submission_page_of page ≡ submissions_of PAGE SEARCHED (record {
+              path = option_copied path.entry;
+              author = option_copied author.entry;
+              before = before;
+            }) v) }
+    {
+        let count = self.submissions()?;
+        let last = last_of(count, before);
+        let low = last.saturating_sub(SEARCHED as u32);
+        let author = author_or_any(author);
+        let path = text_or_empty(alloc, path)?;
+        let rows = number_rows(&mut self.conn, low, last, path.as_str(), author);
+        drop(path);
+        let rows = rows?;
+        let listed = listed_at(&mut self.conn, alloc, rows.as_slice());
+        drop(rows);
+        let submissions = listed?;
+        let before = next_of(submissions.as_slice(), low + 1);
+        Ok(SubmissionPage {
+            before,
+            submissions,
+        })
+    }
 }

@@ -4,8 +4,8 @@ ghost use Rattle.pid_reader.specs.LookingBack.{Item};
 ghost use Rattle.pid_reader.specs.Numbered.{Numbered};
 ghost use Rattle.pid_tables.specs.Rows.Steps.Answers.{item_shown};
 ghost use Rattle.pid_tables.specs.Rows.Causes.{IsReadable};
-ghost use Rattle.pid_tables.specs.Rows.Faults.{fault_of_sql};
-ghost use Rattle.pid_tables.specs.Rows.Unread.{ReadsAsItem};
+ghost use Rattle.pid_tables.specs.Rows.Steps.Faults.{fault_of_sql};
+ghost use Rattle.pid_tables.specs.Rows.Steps.Unread.{ReadsAsItem};
 ghost use Rattle.pid_tables.specs.Lists.EachItem.{Walks, WalksSome, placed_from};
 ghost use Rattle.pid_tables.specs.Lists.Steps.EachItem.{TakesOne, IsUnreadEnd};
 ghost use Rattle.pid_tables.specs.declared.lists.walk.EachEnd.TheVariants as ends;
@@ -14,17 +14,15 @@ ghost use Rattle.pid_tables.specs.Lists.Clauses.{IsCausedEnd, OverViews};
 
 use crate::rows::TableFault;
 use crate::rows::value::{path_at, text_at};
+use crate::tables::Tables;
 use pid_ident::is_name;
 use pid_reader::{Entry, Sink};
 use sqlite::{Alter, Connection, Error as SqlError, Row};
-use thiserror::Error;
 
 /// Why a walk over the items ended early: the tables faulted, or the sink.
-#[derive(Debug, Drop, Error)]
+#[derive(Drop)]
 pub enum EachEnd<F> {
-    #[error("{0}")]
     Tables(TableFault),
-    #[error("the sink faulted")]
     Fault(F),
 }
 
@@ -62,10 +60,8 @@ fn hand_on<K: Sink>(row: &Row, line: usize, sink: &mut K) -> Result<(), EachEnd<
     }
 }
 
-/// Hands all items to a sink, in the canonical order, one at a time: no list of them is made. The
-/// line of an entry is its place among them, counted from 1. If it ends early, the sink keeps
-/// what it took until then.
-pub fn each_item<S: Alter, K: Sink>(
+// Hands all items to a sink, as `each_item` of `Tables` does.
+fn each_item<S: Alter, K: Sink>(
     conn: &mut Connection<S>,
     sink: &mut K,
 ) -> Result<(), EachEnd<K::Fault>>
@@ -85,4 +81,23 @@ pub fn each_item<S: Alter, K: Sink>(
         hand_on(row, at + 1, sink)?;
     }
     Err(EachEnd::Tables(TableFault::Damaged))
+}
+
+impl<S: Alter + Drop> Tables<S> {
+    /// Hands all items to a sink, in the canonical order, one at a time: no list of them is made.
+    /// The line of an entry is its place among them, counted from 1.
+    ///
+    /// If it fails, the sink took the items before one, in their order, and faulted at that one,
+    /// or was handed no more: nothing that it took is taken back.
+    pub fn each_item<K: Sink>(&mut self, sink: &mut K) -> Result<(), EachEnd<K::Fault>>
+        requires { self.old.conn.in_transaction ≡ false }
+        ensures rests { OnlyReads S.Store self.old.conn self.new.conn }
+        ensures told { OverViews S.Store self.old.conn self.new.conn
+            (λ v. Walks K.takes K.faults result (placed_from 1 v.items) sink.old sink.new) }
+        ensures some { WalksSome K.takes K.faults result sink.old sink.new }
+        ensures caused { OverViews S.Store self.old.conn self.new.conn
+            (λ v. IsReadable v → IfErr result (IsCausedEnd S.Store self.old.conn self.new.conn)) }
+    {
+        each_item(&mut self.conn, sink)
+    }
 }

@@ -1,7 +1,7 @@
 //! Faults of the tables.
 ghost use Rattle.std.specs.Prelude.{◌≡◌};
 ghost use Rattle.pid_tables.specs.declared.rows.fault.TableFault.TheVariants as variants;
-ghost use Rattle.pid_tables.specs.Rows.Faults.{fault_of_sql, fault_of_word};
+ghost use Rattle.pid_tables.specs.Rows.Steps.Faults.{fault_of_sql, fault_of_word};
 
 use pid_ident::WordFault;
 use sqlite::{Error as SqlError, ErrorCode};
@@ -17,7 +17,7 @@ use thiserror::Error;
 ///   row that another needs, or a number that it does not hold.
 /// - `NewerSchema`: the tables are of a later schema, of this number.
 /// - `Damaged`: a table, a row or a value is not one that this program writes.
-#[derive(Clone, Copy, Debug, PartialEq, Error)]
+#[derive(Clone, Copy, Debug, Error)]
 pub enum TableFault {
     #[error("no memory")]
     Memory,

@@ -13,9 +13,11 @@ ghost use Rattle.pid_tables.specs.Rows.TableRows.{number};
 ghost use Rattle.pid_ident.specs.PathTexts.{path_text};
 ghost use Rattle.pid_moderation.specs.WellMade.{AllItems, HoldsParents};
 ghost use Rattle.pid_tables.specs.Rows.Shows.{AreViews};
-ghost use Rattle.pid_tables.specs.Rows.Unread.{IsUnreadable, ReadsAsItem};
-ghost use Rattle.pid_tables.specs.Rows.Writes.{with_name, without_item};
-ghost use Rattle.pid_tables.specs.Rows.Clauses.{ChangesTo, GoesOn, Reads};
+ghost use Rattle.pid_tables.specs.Rows.Steps.Unread.{IsUnreadable, ReadsAsItem};
+ghost use Rattle.pid_tables.specs.Rows.Writes.{with_name};
+ghost use Rattle.pid_tables.specs.Rows.Steps.Writes.{without_item};
+ghost use Rattle.pid_tables.specs.Rows.Clauses.{Reads};
+ghost use Rattle.pid_tables.specs.Rows.Steps.Clauses.{ChangesTo, GoesOn};
 
 use crate::rows::fault::TableFault;
 use crate::rows::run::{read_rows, write_one};

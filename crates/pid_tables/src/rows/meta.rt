@@ -21,32 +21,25 @@ ghost use Rattle.pid_tables.specs.Rows.LabelRows.{
   ExplainsNumber,
   HasLabel,
   IsDamageOf,
-  IsMetaFirst,
   ShowsNoNumber,
   ShowsNumber,
   ShowsValues,
   value_text,
 };
+ghost use Rattle.pid_tables.specs.Rows.Steps.LabelRows.{IsMetaFirst};
 ghost use Rattle.pid_tables.specs.declared.rows.version.Version.TheVariants.{One};
 ghost use Rattle.pid_tables.specs.Rows.Schema.{latest};
 ghost use Rattle.pid_tables.specs.Rows.Shows.{Counts, labels_of, counts_of};
 ghost use Rattle.pid_tables.specs.Rows.Steps.Shows.{meta_of};
-ghost use Rattle.pid_tables.specs.Rows.Leaves.{recounting};
-ghost use Rattle.pid_tables.specs.Rows.Writes.{with_revision};
-ghost use Rattle.pid_tables.specs.Rows.Clauses.{
-  ChangesTo,
-  GoesOn,
-  HasCleanDisk,
-  LeadsTo,
-  OnlyReads,
-  Reads,
-  Tells,
-  seen,
-};
+ghost use Rattle.pid_tables.specs.Rows.Steps.Turns.{recounting};
+ghost use Rattle.pid_tables.specs.Rows.Steps.Writes.{with_revision};
+ghost use Rattle.pid_tables.specs.Rows.Clauses.{HasCleanDisk, OnlyReads, Reads, Tells, seen};
+ghost use Rattle.pid_tables.specs.Rows.Steps.Clauses.{ChangesTo, GoesOn, LeadsTo};
 
 use crate::rows::fault::TableFault;
 use crate::rows::run::{read_inside, read_rows, write_one};
 use crate::rows::value::{number_at, stored, whole_at};
+use crate::tables::Tables;
 use sqlite::types::ToSql;
 use sqlite::{Alter, Connection, Row, Transaction};
 
@@ -151,37 +144,6 @@ fn count<S: Alter>(conn: &mut Connection<S>, label: &str) -> Result<u32, TableFa
     }
 }
 
-/// How many items there are, by the table of counts. A count that is missing, or that 32 bits do
-/// not hold, is `Damaged`.
-pub fn items<S: Alter>(conn: &mut Connection<S>) -> Result<u32, TableFault>
-    requires { conn.old.in_transaction ≡ false }
-    ensures { Reads S.Store conn.old conn.new result (λ v n. n ≡ length v.items) }
-{
-    count(conn, "items")
-}
-
-/// How many submissions there are, by the table of counts. A count that is missing, or that 32 bits
-/// do not hold, is `Damaged`.
-pub fn submissions<S: Alter>(conn: &mut Connection<S>) -> Result<u32, TableFault>
-    requires { conn.old.in_transaction ≡ false }
-    ensures { Reads S.Store conn.old conn.new result (λ v n. n ≡ length v.submits) }
-{
-    count(conn, "submissions")
-}
-
-/// How many commands were accepted, by the table of counts. A number that is missing, or that is no
-/// whole number, is `Damaged`.
-pub fn revision<S: Alter>(conn: &mut Connection<S>) -> Result<u64, TableFault>
-    requires { conn.old.in_transaction ≡ false }
-    ensures { Reads S.Store conn.old conn.new result (λ v n. n ≡ v.revision) }
-{
-    let rows = value_rows(conn, "revision")?;
-    match rows.first() {
-        Some(row) => whole_at(row, 0),
-        None => Err(TableFault::Damaged),
-    }
-}
-
 /// The number of the schema, by the table of counts: 1 or 2 in tables that this program made,
 /// another in those of a later one. A number that is missing, or that 32 bits do not hold, is
 /// `Damaged`.
@@ -200,4 +162,37 @@ pub fn schema_number<S: Alter>(conn: &mut Connection<S>) -> Result<u32, TableFau
     ensures never { IfErr result IsNotNewerSchema }
 {
     count(conn, "schema")
+}
+
+impl<S: Alter + Drop> Tables<S> {
+    /// How many items there are, by the table of counts. A count that is missing, or that 32 bits do
+    /// not hold, is `Damaged`.
+    pub fn items(&mut self) -> Result<u32, TableFault>
+        requires { self.old.conn.in_transaction ≡ false }
+        ensures { Reads S.Store self.old.conn self.new.conn result (λ v n. n ≡ length v.items) }
+    {
+        count(&mut self.conn, "items")
+    }
+
+    /// How many submissions there are, by the table of counts. A count that is missing, or that 32 bits
+    /// do not hold, is `Damaged`.
+    pub fn submissions(&mut self) -> Result<u32, TableFault>
+        requires { self.old.conn.in_transaction ≡ false }
+        ensures { Reads S.Store self.old.conn self.new.conn result (λ v n. n ≡ length v.submits) }
+    {
+        count(&mut self.conn, "submissions")
+    }
+
+    /// How many commands were accepted, by the table of counts. A number that is missing, or that is no
+    /// whole number, is `Damaged`.
+    pub fn revision(&mut self) -> Result<u64, TableFault>
+        requires { self.old.conn.in_transaction ≡ false }
+        ensures { Reads S.Store self.old.conn self.new.conn result (λ v n. n ≡ v.revision) }
+    {
+        let rows = value_rows(&mut self.conn, "revision")?;
+        match rows.first() {
+            Some(row) => whole_at(row, 0),
+            None => Err(TableFault::Damaged),
+        }
+    }
 }

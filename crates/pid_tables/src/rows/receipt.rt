@@ -6,8 +6,9 @@ ghost use Rattle.pid_tables.specs.Rows.TableRows.{
   second_number,
   third_number,
 };
-ghost use Rattle.pid_tables.specs.Rows.Writes.{with_reply};
-ghost use Rattle.pid_tables.specs.Rows.Clauses.{ChangesTo, GoesOn, Reads};
+ghost use Rattle.pid_tables.specs.Rows.Steps.Writes.{with_reply};
+ghost use Rattle.pid_tables.specs.Rows.Clauses.{Reads};
+ghost use Rattle.pid_tables.specs.Rows.Steps.Clauses.{ChangesTo, GoesOn};
 
 use crate::rows::fault::TableFault;
 use crate::rows::run::{read_rows, write_one};

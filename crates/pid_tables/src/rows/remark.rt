@@ -2,9 +2,10 @@
 ghost use Rattle.std.specs.Prelude.{◌≡◌, ◌+◌, false, length, IfOk, IfErr};
 ghost use Rattle.sqlite.specs.Order.{column};
 ghost use Rattle.sqlite.specs.declared.types.Value.TheVariants.{Text as TextValue};
-ghost use Rattle.pid_tables.specs.Rows.Unread.{IsUnreadable, ReadsAsRemark};
-ghost use Rattle.pid_tables.specs.Rows.Writes.{with_remark};
-ghost use Rattle.pid_tables.specs.Rows.Clauses.{ChangesTo, GoesOn, Reads};
+ghost use Rattle.pid_tables.specs.Rows.Steps.Unread.{IsUnreadable, ReadsAsRemark};
+ghost use Rattle.pid_tables.specs.Rows.Steps.Writes.{with_remark};
+ghost use Rattle.pid_tables.specs.Rows.Clauses.{Reads};
+ghost use Rattle.pid_tables.specs.Rows.Steps.Clauses.{ChangesTo, GoesOn};
 
 use crate::rows::fault::TableFault;
 use crate::rows::run::{read_rows, write_one};

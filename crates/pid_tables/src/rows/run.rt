@@ -3,14 +3,8 @@ ghost use Rattle.std.specs.Prelude.{◌≡◌, false, true, IfOk, IfErr};
 ghost use Rattle.sqlite.specs.Values.{bound};
 ghost use Rattle.sqlite.specs.Held.{Held};
 ghost use Rattle.pid_tables.specs.Rows.Faults.{IsNotNewerSchema};
-ghost use Rattle.pid_tables.specs.Rows.Clauses.{
-  FaultsQuery,
-  GoesOn,
-  HasCleanDisk,
-  OnlyReads,
-  RunsWrite,
-  Shown,
-};
+ghost use Rattle.pid_tables.specs.Rows.Clauses.{HasCleanDisk, OnlyReads};
+ghost use Rattle.pid_tables.specs.Rows.Steps.Clauses.{FaultsQuery, GoesOn, RunsWrite, Shown};
 
 use crate::rows::fault::TableFault;
 use sqlite::types::ValueRef;

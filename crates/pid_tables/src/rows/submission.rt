@@ -14,10 +14,11 @@ ghost use Rattle.pid_ident.specs.PathTexts.{path_text};
 ghost use Rattle.pid_moderation.specs.Views.{submission_at};
 ghost use Rattle.pid_tables.specs.Rows.TableRows.{form_of, name_of, state_number};
 ghost use Rattle.pid_moderation.specs.Submissions.{decider_of, reason_of, standing_in, standing_of};
-ghost use Rattle.pid_tables.specs.Rows.Standings.{ReadsTo};
-ghost use Rattle.pid_tables.specs.Rows.Unread.{IsUnreadable, ReadsAsStanding};
-ghost use Rattle.pid_tables.specs.Rows.Writes.{with_submission, with_state};
-ghost use Rattle.pid_tables.specs.Rows.Clauses.{ChangesTo, GoesOn, Reads};
+ghost use Rattle.pid_tables.specs.Rows.Steps.Standings.{ReadsTo};
+ghost use Rattle.pid_tables.specs.Rows.Steps.Unread.{IsUnreadable, ReadsAsStanding};
+ghost use Rattle.pid_tables.specs.Rows.Steps.Writes.{with_submission, with_state};
+ghost use Rattle.pid_tables.specs.Rows.Clauses.{Reads};
+ghost use Rattle.pid_tables.specs.Rows.Steps.Clauses.{ChangesTo, GoesOn};
 
 use crate::rows::fault::TableFault;
 use crate::rows::run::{read_rows, write_one};

@@ -13,7 +13,8 @@ ghost use Rattle.pid_ident.specs.Words.{
 ghost use Rattle.pid_moderation.specs.declared.rank.Rank.{Rank as RankValue};
 ghost use Rattle.pid_moderation.specs.Ranks.{rank_number};
 ghost use Rattle.pid_tables.specs.Rows.Faults.{IsMemoryOrStore};
-ghost use Rattle.pid_tables.specs.Rows.Unread.{IsUnreadable, IsMistold, IsNumber, IsWholeNumber};
+ghost use Rattle.pid_tables.specs.Rows.Steps.Unread.{IsUnreadable, IsMistold, IsWholeNumber};
+ghost use Rattle.pid_tables.specs.Rows.LabelRows.{IsNumber};
 ghost use Rattle.pid_tables.specs.Rows.Steps.Unread.{
   IsWord,
   IsPathText,

@@ -4,7 +4,8 @@ use Rattle.std.specs.FinMap.{get}
 use Rattle.std.specs.BTreeMap.Range.{IsInRange}
 use Rattle.std.specs.declared.ops.Bound.TheVariants.{Included}
 use Rattle.pid_file.specs.declared.path.Path.{Path}
-use Rattle.pid_file.specs.PathTexts.{IsPath, path_text, path_cmp, parent_of}
+use Rattle.pid_file.specs.PathTexts.{IsPath, path_text, parent_of}
+use Rattle.pid_file.specs.Steps.Paths.{path_cmp}
 use Rattle.pid_file.specs.Trees.{TreeMap}
 
 -- the tree holds no child of the path that lies between these two paths, both included

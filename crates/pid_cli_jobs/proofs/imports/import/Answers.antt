@@ -1,5 +1,5 @@
 use Rattle.std.proofs.Common.{refl, sym}
-use Rattle.pid_file.specs.Wrapping.{kept_read_fault, wrapped}
+use Rattle.pid_file.specs.Steps.Wrapping.{kept_read_fault, wrapped}
 use Rattle.pid_cli_jobs.specs.Imports.{FileRead, OfFile}
 use Rattle.pid_cli_jobs.proofs.imports.import.Goals as goal
 
@@ -15,4 +15,4 @@ returns g c =
     OfFile c.in-Some.file c.in-Some.ensures c.in-Ok.ensures.good file
     (rw (c.new-input.ensures.wraps, c.new.ensures) refl) c.bring_in-found.result
     (rw (sym c.in-Ok.ensures.ok.0, sym c.in-Ok.ensures.ok.1) c.bring_in-found.ensures)
-    c.tell_import.ensures
+    c.report_import.ensures

@@ -1,6 +1,6 @@
 use Rattle.std.proofs.Common.{ap, refl, ◌∙◌}
 use Rattle.std.proofs.lemmas.Option.{IfSome_then}
-use Rattle.pid_cli_jobs.specs.declared.job_end.JobEnd.TheVariants.{Told}
+use Rattle.pid_cli_jobs.specs.declared.job_end.JobEnd.TheVariants.{Exited}
 use Rattle.pid_cli_jobs.specs.Lookups.{Answered, Unread}
 use Rattle.pid_cli_jobs.proofs.Ends.{unread_failed, unread_told}
 use Rattle.pid_cli_jobs.proofs.lookups.look_up.Goals as goal
@@ -19,4 +19,4 @@ pub returns-in_default : goal.returns-in_default
 returns-in_default g c = Unread c.tell_unread.result c.tell_unread.ensures.not_done
     c.tell_unread.ensures.reports
     (IfSome_then (g.I.Input.to_come c.args.input.now) c.in-Err.ensures.answer c.tell_unread.ensures.told) refl
-    (ap Told c.status.ensures ∙ unread_told c.tell_unread.result c.in_default.not-ReadFault c.in_default.not-WriteFault)
+    (ap Exited c.status.ensures ∙ unread_told c.tell_unread.result c.in_default.not-ReadFault c.in_default.not-WriteFault)

@@ -1,5 +1,7 @@
+use Rattle.std.specs.Prelude.{◌∷◌}
 use Rattle.std.proofs.Common.{ap, refl}
-use Rattle.pid_cli_jobs.specs.declared.job_end.JobEnd.TheVariants.{Told}
+use Rattle.pid_service_laws.specs.Calls.{nothing_sent}
+use Rattle.pid_cli_jobs.specs.declared.job_end.JobEnd.TheVariants.{Exited}
 use Rattle.pid_cli_jobs.specs.Sessions.{Session, Unopened}
 use Rattle.pid_cli_jobs.proofs.serving.serve.Goals as goal
 
@@ -8,14 +10,21 @@ returns-in-Ok g c = Session (record {
   opened = c.in-Ok.registry;
   opens = c.in-Ok.ensures.opened;
   ended = c.serve_registry-end.new.registry;
-  goes = c.serve_registry-end.ensures.goes;
-  does = c.serve_registry-end.ensures.serves;
-  closes = c.close_at.ensures;
+  goes = record {
+    calls = nothing_sent ∷ c.serve_registry-end.ensures.goes.calls;
+    lead = (c.prepare.new.registry, c.prepare.ensures.calls, c.serve_registry-end.ensures.goes.lead);
+  };
+  does = record {
+    prepared = c.prepare.new.registry;
+    prepares = c.prepare.ensures;
+    offers = c.serve_registry-end.ensures.offers;
+  };
+  closes = c.close.ensures;
 })
 
 pub returns-in-Err : goal.returns-in-Err
-returns-in-Err g c = Unopened c.in-Err.fault c.in-Err.ensures.unopened (record {
+returns-in-Err g c = Unopened c.in-Err.why c.in-Err.ensures.unopened (record {
   silent = refl;
-  told = c.tell_unopened.ensures.told;
-  ends = ap Told c.tell_unopened.ensures.status;
+  told = c.report_unopened.ensures.told;
+  ends = ap Exited c.report_unopened.ensures.status;
 })

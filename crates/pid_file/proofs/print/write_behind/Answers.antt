@@ -3,7 +3,7 @@ use Rattle.std.specs.Prelude.{codes}
 use Rattle.std.proofs.lemmas.Result.{err_from_is_err_and}
 use Rattle.pid_file.specs.Identifiers.{hex4}
 use Rattle.pid_file.specs.PathTexts.{path_text}
-use Rattle.pid_file.specs.Printing.{text_or_none}
+use Rattle.pid_file.specs.Steps.Printing.{text_or_none}
 use Rattle.pid_file.proofs.Written.{block_and_item, block_stopped, item_alone}
 use Rattle.pid_file.proofs.print.write_behind.Goals as goal
 use Rattle.pid_file.proofs.print.write_behind.Goals.{in-Some+in_ok-write_block, in_default}

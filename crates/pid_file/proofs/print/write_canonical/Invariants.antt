@@ -1,4 +1,5 @@
-use Rattle.pid_file.specs.Printing.{print, text_or_none}
+use Rattle.pid_file.specs.Printing.{print}
+use Rattle.pid_file.specs.Steps.Printing.{text_or_none}
 use Rattle.pid_file.proofs.Written.{IsWritten}
 use Rattle.pid_file.proofs.print.write_canonical.Given as goal
 

@@ -17,8 +17,9 @@ use Rattle.pid_moderation.specs.declared.lists.SubmissionPage.{SubmissionPage}
 use Rattle.pid_moderation.specs.declared.lists.TheConstants.{PAGE}
 use Rattle.pid_http.specs.declared.api.format.Format.{Format}
 use Rattle.pid_http.specs.Api.ChangeAnswers.{changes_answer}
-use Rattle.pid_http.specs.Api.PendingAnswers.{pending_answer}
-use Rattle.pid_http.specs.Api.QueueAnswers.{queue_answer}
+use Rattle.pid_http.specs.Api.PendingAnswers.{pending_data, pending_line}
+use Rattle.pid_http.specs.Api.QueueAnswers.{queued_data, queued_line}
+use Rattle.pid_http.specs.Api.Replying.{list_answer}
 use Rattle.pid_http.specs.Api.StatusAnswers.{status_answer}
 use Rattle.pid_http.specs.Api.SubmissionPageAnswers.{submissions_answer}
 use Rattle.pid_http.specs.Answering.{answer_over}
@@ -27,13 +28,13 @@ use Rattle.pid_http.specs.declared.api.question.Question.TheVariants as question
 use Rattle.pid_http.proofs.Meeting.{IsQuestion, question_met, replied}
 use Rattle.pid_http.proofs.dispatch.ask.Goals as goal
 
-pending_question : (after : ℕ) (format : Format) → IsQuestion format (λ (page : Vec Pending Global). pending_answer format (map told_of page.items)) (λ h (page : Vec Pending Global). map told_of page.items ≡ pending_in PAGE after (views_of h)) (Asks (questions.Pending after) format)
+pending_question : (after : ℕ) (format : Format) → IsQuestion format (λ (page : Vec Pending Global). list_answer pending_data pending_line format (map told_of page.items)) (λ h (page : Vec Pending Global). map told_of page.items ≡ pending_in PAGE after (views_of h)) (Asks (questions.Pending after) format)
 unfolding answer_over
-pending_question after format = record { over = λ h x e. ap (pending_answer format) e; refused = λ e. (refl, refl); no_command = refl }
+pending_question after format = record { over = λ h x e. ap (list_answer pending_data pending_line format) e; refused = λ e. (refl, refl); no_command = refl }
 
-queue_question : (after : ℕ) (format : Format) → IsQuestion format (λ (page : Vec Queued Global). queue_answer format (map queued_of page.items)) (λ h (page : Vec Queued Global). map queued_of page.items ≡ queue_in PAGE after (views_of h)) (Asks (questions.Queue after) format)
+queue_question : (after : ℕ) (format : Format) → IsQuestion format (λ (page : Vec Queued Global). list_answer queued_data queued_line format (map queued_of page.items)) (λ h (page : Vec Queued Global). map queued_of page.items ≡ queue_in PAGE after (views_of h)) (Asks (questions.Queue after) format)
 unfolding answer_over
-queue_question after format = record { over = λ h x e. ap (queue_answer format) e; refused = λ e. (refl, refl); no_command = refl }
+queue_question after format = record { over = λ h x e. ap (list_answer queued_data queued_line format) e; refused = λ e. (refl, refl); no_command = refl }
 
 status_question : (format : Format) → IsQuestion format (λ (status : Status). status_answer format (registry_status_of status)) (λ h (status : Status). registry_status_of status ≡ status_of_registry h) (Asks questions.Status format)
 unfolding answer_over

@@ -11,9 +11,9 @@ use Rattle.pid_moderation.specs.Writes.{tree_of}
 use Rattle.pid_moderation.specs.declared.refusal.Refusal.{Refusal}
 use Rattle.pid_moderation.specs.declared.refusal.Refusal.TheVariants.{Memory, Failed as HasFailed}
 use Rattle.pid_service_laws.specs.Moderating.{LooksUp}
-use Rattle.pid_http.specs.declared.api.lookup_query.LookupQuery.{LookupQuery}
+use Rattle.pid_http.specs.declared.api.question.LookupQuery.{LookupQuery}
 use Rattle.pid_http.specs.Api.LookupAnswers.{lookup_answer}
-use Rattle.pid_http.specs.Answering.{answer_over, lookup_in, IsErrandRefused}
+use Rattle.pid_http.specs.Answering.{answer_over, IsErrandRefused}
 use Rattle.pid_http.specs.Errands.{Asks}
 use Rattle.pid_http.specs.declared.api.question.Question.TheVariants as questions
 use Rattle.pid_http.specs.declared.api.format.Format.{Format}
@@ -21,6 +21,9 @@ use Rattle.pid_http.specs.Serving.{IsMetOver, AnsweredOver, NotDone, Refused}
 use Rattle.pid_http.specs.Known.{Live}
 use Rattle.pid_http.proofs.Meeting.{from_call, one_call, one_question, replied}
 use Rattle.pid_http.proofs.queries.lookup.Goals as goal
+
+abbrev lookup_in : LookupQuery → History → Result Found (LookupRefusal Refusal)
+lookup_in l h = if is_bad l.flags then Err lookups.BadFlags else Ok (answer_of (tree_of h) l.flags l.args l.size)
 
 -- by whether the flags are bad
 by_flags : (l : LookupQuery) (h : History) (b : Bool) → is_bad l.flags ≡ b → (if b then Err lookups.BadFlags else Ok (answer_of (tree_of h) l.flags l.args l.size)) ≡ lookup_in l h

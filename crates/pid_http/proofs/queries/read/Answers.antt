@@ -1,14 +1,21 @@
-use Rattle.std.proofs.Common.{◌≡◌, refl, ap}
+use Rattle.std.proofs.Common.{◌≡◌, ℕ, List, Option, refl, ap}
+use Rattle.std.specs.Option.{option_map_or}
 use Rattle.pid_ident.specs.PathTexts.{path_text}
 use Rattle.pid_file.specs.declared.path.Path.{Path}
 use Rattle.pid_moderation.specs.Items.{name_at}
 use Rattle.pid_moderation.specs.Views.{items_of}
+use Rattle.pid_http_stream.specs.Replies.{Answer}
+use Rattle.pid_http.specs.Api.ItemAnswers.{item_answer}
+use Rattle.pid_http.specs.Api.Outcomes.{missing_answer}
 use Rattle.pid_http.specs.declared.api.format.Format.{Format}
-use Rattle.pid_http.specs.Answering.{answer_over, item_or_missing}
+use Rattle.pid_http.specs.Answering.{answer_over}
 use Rattle.pid_http.specs.Errands.{Asks}
 use Rattle.pid_http.specs.declared.api.question.Question.TheVariants as questions
 use Rattle.pid_http.proofs.Meeting.{IsQuestion, question_met, replied}
 use Rattle.pid_http.proofs.queries.read.Goals as goal
+
+abbrev item_or_missing : Path → Format → Option (List ℕ) → Answer
+item_or_missing path format name = option_map_or (λ (n : List ℕ). item_answer format (path_text path, n)) name (missing_answer format)
 
 question : (path : Path) (format : Format) → IsQuestion format (item_or_missing path format) (λ h name. name ≡ name_at (path_text path) (items_of h)) (Asks (questions.Read path) format)
 unfolding answer_over

@@ -1,18 +1,20 @@
-use Rattle.std.proofs.Common.{◌≡◌, ℕ, [], ◌∷◌, Some, Result, Ok, Err, refl, sym, ap, ◌∙◌, inl, inr}
+use Rattle.std.specs.Option.{option_map_or}
+use Rattle.std.proofs.Common.{◌≡◌, ℕ, List, Option, [], ◌∷◌, Some, Result, Ok, Err, refl, sym, ap, ◌∙◌, inl, inr}
 use Rattle.std.specs.Prelude.{MatchResult}
 use Rattle.pid_service_laws.specs.declared.moderated.Moderated.{Ghosts}
 use Rattle.pid_service_laws.specs.Calls.{nothing_sent}
 use Rattle.pid_moderation.specs.History.{History}
-use Rattle.pid_moderation.specs.Views.{views_of}
+use Rattle.pid_moderation.specs.Views.{Remark, views_of}
 use Rattle.pid_moderation.specs.declared.refusal.Refusal.{Refusal}
-use Rattle.pid_moderation.specs.declared.refusal.Refusal.TheVariants.{Failed as HasFailed}
+use Rattle.pid_moderation.specs.declared.refusal.Refusal.TheVariants.{NoSubmission, Failed as HasFailed}
 use Rattle.pid_service_laws.specs.Questions.{IsAnsweredIfThere, IsMissing}
-use Rattle.pid_moderation.specs.Submissions.{discussion_in, discussion_of}
+use Rattle.pid_moderation.specs.Submissions.{Standing, discussion_in, discussion_of}
 use Rattle.pid_moderation.specs.declared.lists.Discussion.{Discussion}
+use Rattle.pid_http_stream.specs.Replies.{Answer}
 use Rattle.pid_http.specs.declared.api.format.Format.{Format}
 use Rattle.pid_http.specs.Api.Outcomes.{outcome_answer}
 use Rattle.pid_http.specs.Api.SubmissionAnswers.{submission_answer}
-use Rattle.pid_http.specs.Answering.{answer_over, submission_or_missing, IsErrandRefused}
+use Rattle.pid_http.specs.Answering.{answer_over, IsErrandRefused}
 use Rattle.pid_http.specs.Errands.{Asks}
 use Rattle.pid_http.specs.declared.api.question.Question.TheVariants as questions
 use Rattle.pid_http.specs.Steps.Going.{Goes}
@@ -21,6 +23,9 @@ use Rattle.pid_http.specs.Serving.{IsErrandMet, IsMetOver, AnsweredOver, NotDone
 use Rattle.pid_http.specs.Known.{Live}
 use Rattle.pid_http.proofs.Meeting.{Lives, from_call, one_call, one_question, replied}
 use Rattle.pid_http.proofs.queries.submission.Goals as goal
+
+abbrev submission_or_missing : ℕ → Format → Option (Standing × List Remark) → Answer
+submission_or_missing number format discussion = option_map_or (submission_answer format number) discussion (outcome_answer format (Err NoSubmission))
 
 over : (number : ℕ) (format : Format) (h : History) (found : Result Discussion Refusal) → MatchResult found (λ d. discussion_in (views_of h) number ≡ Some (discussion_of d)) (IsMissing (discussion_in (views_of h) number))
     → IsMetOver h (Asks (questions.Submission number) format) (answer_or format (λ d. submission_answer format number (discussion_of d)) found) (nothing_sent ∷ []) (Live h)

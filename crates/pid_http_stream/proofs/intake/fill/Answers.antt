@@ -1,7 +1,7 @@
 use Rattle.std.proofs.Common.{rules, refl, take}
 use Rattle.std.proofs.KnownBytes.{Consumes-nil}
-use Rattle.pid_http_stream.specs.BodyLaws.{no_turns}
-use Rattle.pid_http_stream.specs.MomentLaws.{since_none}
+use Rattle.pid_http_stream.specs.Steps.BodyLaws.{no_turns}
+use Rattle.pid_ident.specs.Steps.MomentLaws.{since_none}
 use Rattle.pid_http_stream.specs.Steps.Intakes.{IsMoment}
 use Rattle.pid_http_stream.proofs.BodyReads.{keeps_nil, one_turn, last_turn, some_of, some_taken, some_told, still_good}
 use Rattle.pid_http_stream.proofs.Noting.{since_noted}

@@ -1,11 +1,11 @@
 use Rattle.std.proofs.Common.{rules, length, refl, sym, ap, subst, ◌∙◌, arith, inl}
 use Rattle.httparse.specs.Grammar.{HasNoRequest as HasNoHeadYet}
-use Rattle.pid_http_stream.specs.BodyLaws.{no_turns, more_turns}
-use Rattle.pid_http_stream.specs.MomentLaws.{since_none}
+use Rattle.pid_http_stream.specs.Steps.BodyLaws.{no_turns, more_turns}
+use Rattle.pid_ident.specs.Steps.MomentLaws.{since_none}
 use Rattle.pid_http_stream.specs.Steps.Intakes.{IsHeadRead, WaitsForRequest, idle_stop}
 use Rattle.pid_http_stream.specs.Unfinished.{IsHeadUnfinished, IsUnfinished}
 use Rattle.pid_http_stream.proofs.BodyReads.{idle_turns}
-use Rattle.pid_http_stream.proofs.HeadReads.{nothing_came, comes_then, any_faulty, stops_never, stops_since, still_fits, still_wants, waits_on}
+use Rattle.pid_http_stream.proofs.HeadReads.{judged_none, judged_found, nothing_came, comes_then, any_faulty, stops_never, stops_since, still_fits, still_wants, waits_on}
 use Rattle.pid_http_stream.proofs.intake.read_head.Goals as goal
 
 pub reading-init : goal.reading-init
@@ -28,15 +28,15 @@ reading-preserved g c = record {
   failed = c.in-Piece.ensures.stopped ∙ c.reading.invariant.failed;
   pace = let p = c.in-Piece.ensures.piece refl in omega (arith, c.reading.invariant.pace, p.0, p.1);
   room = search rules;
-  waits = waits_on _ _ _ _ _ _ _ _ c.reading.invariant.comes (inl (rw c.in-More.is at c.reading.invariant.judged)) c.reading.invariant.waits c.in-Piece.ensures.noted;
+  waits = waits_on _ _ _ _ _ _ _ _ c.reading.invariant.comes (inl (judged_none c.reading.held.items c.reading.fields _ _ c.in-Ok.is c.in-None.is c.reading.invariant.judged)) c.reading.invariant.waits c.in-Piece.ensures.noted;
   goes = g.met.I.Incoming.joins _ _ _ c.reading.invariant.goes c.in-Piece.ensures.goes;
 }
 
-pub returns-in-Faulty-clause-head : goal.returns-in-Faulty-clause-head
-returns-in-Faulty-clause-head g c = any_faulty _ _ (rw c.in-Faulty.is at c.reading.invariant.judged) _
+pub returns-in-Err-clause-head : goal.returns-in-Err-clause-head
+returns-in-Err-clause-head g c = any_faulty _ _ (rw c.in-Err.is at c.reading.invariant.judged) _
 
 pub returns-in-Stopped-clause-head : goal.returns-in-Stopped-clause-head
-returns-in-Stopped-clause-head g c = subst IsUnfinished (sym c.in-Stopped.ensures.stays) (inl (rw c.in-More.is at c.reading.invariant.judged))
+returns-in-Stopped-clause-head g c = subst IsUnfinished (sym c.in-Stopped.ensures.stays) (inl (judged_none c.reading.held.items c.reading.fields _ _ c.in-Ok.is c.in-None.is c.reading.invariant.judged))
 
 pub returns-in-Stopped-clause-stopped : goal.returns-in-Stopped-clause-stopped
 returns-in-Stopped-clause-stopped g c = stops_since c.in-Stopped.stop _ _ _ _ c.reading.invariant.failed c.in-Stopped.ensures.stopped
@@ -60,10 +60,10 @@ pub returns-in-End-clause-stopped : goal.returns-in-End-clause-stopped
 returns-in-End-clause-stopped g c = stops_never c.judge_end.result _ _ _ _ c.judge_end.ensures.stopped c.in-End.ensures.stopped c.reading.invariant.failed
 
 pub returns-in-Stopped-clause-waits : goal.returns-in-Stopped-clause-waits
-returns-in-Stopped-clause-waits g c = waits_on _ _ _ _ _ _ _ _ c.reading.invariant.comes (inl (rw c.in-More.is at c.reading.invariant.judged)) c.reading.invariant.waits c.in-Stopped.ensures.noted
+returns-in-Stopped-clause-waits g c = waits_on _ _ _ _ _ _ _ _ c.reading.invariant.comes (inl (judged_none c.reading.held.items c.reading.fields _ _ c.in-Ok.is c.in-None.is c.reading.invariant.judged)) c.reading.invariant.waits c.in-Stopped.ensures.noted
 
 pub returns-in-End-clause-waits : goal.returns-in-End-clause-waits
-returns-in-End-clause-waits g c = waits_on _ _ _ _ _ _ _ _ c.reading.invariant.comes (inl (rw c.in-More.is at c.reading.invariant.judged)) c.reading.invariant.waits c.in-End.ensures.noted
+returns-in-End-clause-waits g c = waits_on _ _ _ _ _ _ _ _ c.reading.invariant.comes (inl (judged_none c.reading.held.items c.reading.fields _ _ c.in-Ok.is c.in-None.is c.reading.invariant.judged)) c.reading.invariant.waits c.in-End.ensures.noted
 
 pub returns-in-Stopped-clause-goes : goal.returns-in-Stopped-clause-goes
 returns-in-Stopped-clause-goes g c = g.met.I.Incoming.joins _ _ _ c.reading.invariant.goes c.in-Stopped.ensures.goes
@@ -82,59 +82,59 @@ reading-smaller g c = let p = c.in-Piece.ensures.piece refl in omega (arith, p.0
 
 pub judge_end-requires-clause-none : goal.judge_end-requires-clause-none
 judge_end-requires-clause-none g c =
-    let u : IsHeadUnfinished c.reading.held.items = rw c.in-More.is at c.reading.invariant.judged in
+    let u : IsHeadUnfinished c.reading.held.items = judged_none c.reading.held.items c.reading.fields _ _ c.in-Ok.is c.in-None.is c.reading.invariant.judged in
     subst HasNoHeadYet (sym (c.deref-in-End.ensures.value ∙ c.in-End.ensures.stays.0)) u.none
 
 pub judge_end-requires-clause-short : goal.judge_end-requires-clause-short
 judge_end-requires-clause-short g c =
-    let u : IsHeadUnfinished c.reading.held.items = rw c.in-More.is at c.reading.invariant.judged in
+    let u : IsHeadUnfinished c.reading.held.items = judged_none c.reading.held.items c.reading.fields _ _ c.in-Ok.is c.in-None.is c.reading.invariant.judged in
     let e = ap length (c.deref-in-End.ensures.value ∙ c.in-End.ensures.stays.0) in omega (arith, e, u.short)
 
-pub returns-in-Head-clause-comes : goal.returns-in-Head-clause-comes
-returns-in-Head-clause-comes g c = c.reading.invariant.comes
+pub returns-in-Some-clause-comes : goal.returns-in-Some-clause-comes
+returns-in-Some-clause-comes g c = c.reading.invariant.comes
 
-pub returns-in-Head-clause-head : goal.returns-in-Head-clause-head
-returns-in-Head-clause-head g c = rw c.in-Head.is at c.reading.invariant.judged
+pub returns-in-Some-clause-head : goal.returns-in-Some-clause-head
+returns-in-Some-clause-head g c = judged_found c.reading.held.items c.reading.fields _ _ _ c.in-Ok.is c.in-Some.is c.reading.invariant.judged
 
-pub returns-in-Head-clause-turns : goal.returns-in-Head-clause-turns
-returns-in-Head-clause-turns g c = c.reading.invariant.turns
+pub returns-in-Some-clause-turns : goal.returns-in-Some-clause-turns
+returns-in-Some-clause-turns g c = c.reading.invariant.turns
 
-pub returns-in-Head-clause-pace : goal.returns-in-Head-clause-pace
-returns-in-Head-clause-pace g c = c.reading.invariant.pace
+pub returns-in-Some-clause-pace : goal.returns-in-Some-clause-pace
+returns-in-Some-clause-pace g c = c.reading.invariant.pace
 
-pub returns-in-Head-clause-waits : goal.returns-in-Head-clause-waits
-returns-in-Head-clause-waits g c = c.reading.invariant.waits
+pub returns-in-Some-clause-waits : goal.returns-in-Some-clause-waits
+returns-in-Some-clause-waits g c = c.reading.invariant.waits
 
-pub returns-in-Head-clause-stopped : goal.returns-in-Head-clause-stopped
-returns-in-Head-clause-stopped g c = c.reading.invariant.failed
+pub returns-in-Some-clause-stopped : goal.returns-in-Some-clause-stopped
+returns-in-Some-clause-stopped g c = c.reading.invariant.failed
 
-pub returns-in-Head-clause-goes : goal.returns-in-Head-clause-goes
-returns-in-Head-clause-goes g c = c.reading.invariant.goes
+pub returns-in-Some-clause-goes : goal.returns-in-Some-clause-goes
+returns-in-Some-clause-goes g c = c.reading.invariant.goes
 
-pub returns-in-Faulty-clause-comes : goal.returns-in-Faulty-clause-comes
-returns-in-Faulty-clause-comes g c = c.reading.invariant.comes
+pub returns-in-Err-clause-comes : goal.returns-in-Err-clause-comes
+returns-in-Err-clause-comes g c = c.reading.invariant.comes
 
-pub returns-in-Faulty-clause-turns : goal.returns-in-Faulty-clause-turns
-returns-in-Faulty-clause-turns g c = idle_turns 1 _ _ c.reading.invariant.turns
+pub returns-in-Err-clause-turns : goal.returns-in-Err-clause-turns
+returns-in-Err-clause-turns g c = idle_turns 1 _ _ c.reading.invariant.turns
 
-pub returns-in-Faulty-clause-pace : goal.returns-in-Faulty-clause-pace
-returns-in-Faulty-clause-pace g c = c.reading.invariant.pace
+pub returns-in-Err-clause-pace : goal.returns-in-Err-clause-pace
+returns-in-Err-clause-pace g c = c.reading.invariant.pace
 
-pub returns-in-Faulty-clause-waits : goal.returns-in-Faulty-clause-waits
-returns-in-Faulty-clause-waits g c = c.reading.invariant.waits
+pub returns-in-Err-clause-waits : goal.returns-in-Err-clause-waits
+returns-in-Err-clause-waits g c = c.reading.invariant.waits
 
-pub returns-in-Faulty-clause-stopped : goal.returns-in-Faulty-clause-stopped
-returns-in-Faulty-clause-stopped g c = c.reading.invariant.failed
+pub returns-in-Err-clause-stopped : goal.returns-in-Err-clause-stopped
+returns-in-Err-clause-stopped g c = c.reading.invariant.failed
 
-pub returns-in-Faulty-clause-goes : goal.returns-in-Faulty-clause-goes
-returns-in-Faulty-clause-goes g c = c.reading.invariant.goes
+pub returns-in-Err-clause-goes : goal.returns-in-Err-clause-goes
+returns-in-Err-clause-goes g c = c.reading.invariant.goes
 
 pub fill-requires : goal.fill-requires
-fill-requires g c = record { waits = inl (rw c.in-More.is at c.reading.invariant.judged) }
+fill-requires g c = record { waits = inl (judged_none c.reading.held.items c.reading.fields _ _ c.in-Ok.is c.in-None.is c.reading.invariant.judged) }
 
 pub judge_more-judged-requires-clause-wants : goal.judge_more-judged-requires-clause-wants
 judge_more-judged-requires-clause-wants g c =
-    still_wants c.reading.held.items c.fill.new.held.items c.deref-in-Piece.result.now c.len-before.result _ _ c.deref-in-Piece.ensures.value c.in-Piece.ensures.comes (c.len-before.ensures ∙ search rules) (rw c.in-More.is at c.reading.invariant.judged)
+    still_wants c.reading.held.items c.fill.new.held.items c.deref-in-Piece.result.now c.len-before.result _ _ c.deref-in-Piece.ensures.value c.in-Piece.ensures.comes (c.len-before.ensures ∙ search rules) (judged_none c.reading.held.items c.reading.fields _ _ c.in-Ok.is c.in-None.is c.reading.invariant.judged)
 
 pub judge_more-judged-requires-clause-before : goal.judge_more-judged-requires-clause-before
 judge_more-judged-requires-clause-before g c =

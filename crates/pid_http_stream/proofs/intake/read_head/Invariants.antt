@@ -1,5 +1,5 @@
 use Rattle.std.proofs.Common.{◌≡◌, ◌+◌, ◌*◌, ◌≤◌, length}
-use Rattle.pid_http_stream.specs.Bodies.{SpendsTurns, turns_at}
+use Rattle.pid_http_stream.specs.Steps.Bodies.{SpendsTurns, turns_at}
 use Rattle.pid_http_stream.specs.Steps.Intakes.{ComesIn, IsHeadJudged, WaitsForRequest}
 use Rattle.pid_http_stream.specs.Moments.{AllSince}
 use Rattle.pid_http_stream.specs.declared.limits.TheConstants.{READ_SIZE}

@@ -1,6 +1,6 @@
 use Rattle.std.proofs.Common.{rules, ◌≡◌, refl, None, subst}
 use Rattle.std.specs.Prelude.{IfSome}
-use Rattle.pid_http_stream.specs.Bodies.{BodyState, SpendsTurns, turns_at}
+use Rattle.pid_http_stream.specs.Steps.Bodies.{BodyState, SpendsTurns, turns_at}
 use Rattle.pid_http_stream.specs.Steps.Intakes.{AskStops, WaitsForRequest, idle_asked}
 use Rattle.pid_http_stream.specs.Moments.{AllSince}
 use Rattle.pid_http_stream.specs.Steps.Loop.{AsksHandler, asked_so}

@@ -1,7 +1,6 @@
 use Rattle.std.proofs.Common.{inl, inr}
 use Rattle.pid_http_stream.proofs.Leading.{stays, turned}
 use Rattle.pid_http_stream.proofs.Lines.{headed, head_front, head_then_body, head_then_front, front_then_nothing, cut_in_body, wrote_none}
-use Rattle.pid_http_stream.proofs.Stepping.{whole_is_no_fault, whole_is_not_stuck, fault_is_not_stuck, stuck_is_no_fault}
 use Rattle.pid_http_stream.proofs.sending.send_written.Goals as goal
 
 pub returns-in-Ok-write_body-clause-sent : goal.returns-in-Ok-write_body-clause-sent
@@ -38,36 +37,6 @@ returns-in_default-clause-becomes g c = g.met.H.Handler.stays _
 
 pub returns-in_default-clause-sent : goal.returns-in_default-clause-sent
 returns-in_default-clause-sent g c = stays _ _ (λ v a request promised. inr (c.args.head, c.args.content_length, promised, head_front c.args.head _ _ _ _ c.in_default.ensures.sent))
-
-pub returns-in-Ok-write_body-clause-store : goal.returns-in-Ok-write_body-clause-store
-returns-in-Ok-write_body-clause-store g c = λ e. whole_is_not_stuck e
-
-pub returns-in-Ok-write_body-clause-stuck : goal.returns-in-Ok-write_body-clause-stuck
-returns-in-Ok-write_body-clause-stuck g c = λ e. whole_is_not_stuck e
-
-pub returns-in-Err-Writer-clause-store : goal.returns-in-Err-Writer-clause-store
-returns-in-Err-Writer-clause-store g c = λ e. fault_is_not_stuck e
-
-pub returns-in-Err-Writer-clause-stuck : goal.returns-in-Err-Writer-clause-stuck
-returns-in-Err-Writer-clause-stuck g c = λ e. fault_is_not_stuck e
-
-pub returns-in-Err-clause-store : goal.returns-in-Err-clause-store
-returns-in-Err-clause-store g c = λ e. fault_is_not_stuck e
-
-pub returns-in-Err-clause-stuck : goal.returns-in-Err-clause-stuck
-returns-in-Err-clause-stuck g c = λ e. fault_is_not_stuck e
-
-pub returns-in_default-clause-store : goal.returns-in_default-clause-store
-returns-in_default-clause-store g c = λ e. fault_is_not_stuck e
-
-pub returns-in_default-clause-stuck : goal.returns-in_default-clause-stuck
-returns-in_default-clause-stuck g c = λ e. fault_is_not_stuck e
-
-pub returns-in-Ok-write_body-clause-fault : goal.returns-in-Ok-write_body-clause-fault
-returns-in-Ok-write_body-clause-fault g c = λ e. whole_is_no_fault e
-
-pub returns-in-Ok-write-clause-fault : goal.returns-in-Ok-write-clause-fault
-returns-in-Ok-write-clause-fault g c = λ e. stuck_is_no_fault e
 
 pub returns-in-Ok-write_body-clause-becomes : goal.returns-in-Ok-write_body-clause-becomes
 returns-in-Ok-write_body-clause-becomes g c = c.write_body.ensures.becomes

@@ -1,15 +1,15 @@
 use Rattle.std.proofs.Common.{rules, arith, refl, sym, subst, ◌∙◌, inl}
 use Rattle.std.specs.Prelude.{IfSome}
-use Rattle.pid_http_stream.specs.Bodies.{turns_at}
-use Rattle.pid_http_stream.specs.BodyLaws.{no_turns, more_turns}
+use Rattle.pid_http_stream.specs.Steps.Bodies.{turns_at}
+use Rattle.pid_http_stream.specs.Steps.BodyLaws.{no_turns, more_turns}
 use Rattle.pid_http_stream.specs.Causes.{idle_reads}
 use Rattle.pid_http_stream.specs.Steps.Intakes.{idle_stop}
 use Rattle.pid_http_stream.specs.Steps.Loop.{stop_end}
 use Rattle.pid_http_stream.proofs.HeadReads.{stops_since}
 use Rattle.pid_http_stream.proofs.Leading.{stays, turned, joined, beside}
-use Rattle.pid_http_stream.proofs.Looping.{loop_unread, loop_nothing, loop_faulty, loop_stopped, loop_open, loop_closed, loop_ended, loop_waits, loop_waits_within, less_left}
+use Rattle.pid_http_stream.proofs.Looping.{loop_unread, loop_nothing, loop_faulty, loop_stopped, loop_open, loop_ended, loop_waits, loop_waits_within, less_left}
 use Rattle.pid_http_stream.proofs.Serving.{IsServing, begins}
-use Rattle.pid_http_stream.proofs.Stepping.{clean_is_not_spent, closed_is_not_spent, ends_for, fewer_turns, refused_ends, refused_idle, stopped_ends, stopped_idle, why_later}
+use Rattle.pid_http_stream.proofs.Stepping.{clean_is_not_spent, ends_for, fewer_turns, refused_ends, refused_idle, stopped_ends, stopped_idle, why_later}
 use Rattle.pid_http_stream.proofs.stream.serve_held.Goals as goal
 
 pub serving-init : goal.serving-init
@@ -25,11 +25,8 @@ serving-init g c = record {
   goes = g.met.I.Incoming.stays _;
 }
 
-pub returns-in-Closed-clause-becomes : goal.returns-in-Closed-clause-becomes
-returns-in-Closed-clause-becomes g c = g.met.H.Handler.joins _ _ _ c.serving.invariant.becomes c.serve_request.ensures.becomes
-
-pub returns-in-Ended-clause-becomes : goal.returns-in-Ended-clause-becomes
-returns-in-Ended-clause-becomes g c = g.met.H.Handler.joins _ _ _ c.serving.invariant.becomes c.serve_request.ensures.becomes
+pub returns-in-Err-clause-becomes : goal.returns-in-Err-clause-becomes
+returns-in-Err-clause-becomes g c = g.met.H.Handler.joins _ _ _ c.serving.invariant.becomes c.serve_request.ensures.becomes
 
 pub returns-in-Nothing-clause-goes : goal.returns-in-Nothing-clause-goes
 returns-in-Nothing-clause-goes g c = g.met.I.Incoming.joins _ _ _ c.serving.invariant.goes c.read_head.ensures.goes
@@ -44,36 +41,30 @@ pub returns-in-Nothing-clause-served : goal.returns-in-Nothing-clause-served
 returns-in-Nothing-clause-served g c = turned _ _ _ _ (λ v w serving. loop_nothing _ _ _ _ _ _ _ _ _ _ _ serving c.in-Nothing.ensures.comes c.in-Nothing.ensures.head) c.serving.invariant.serving
 
 pub returns-in-Faulty-clause-served : goal.returns-in-Faulty-clause-served
-returns-in-Faulty-clause-served g c = turned _ _ _ _ (λ v w serving. rw c.with_refusal-answered.ensures (loop_faulty _ _ _ _ _ _ _ _ _ _ _ _ _ _ serving c.in-Faulty.ensures.comes c.in-Faulty.ensures.head c.refuse-end.ensures.refused)) c.serving.invariant.serving
+returns-in-Faulty-clause-served g c = turned _ _ _ _ (λ v w serving. rw c.with_last-answered.ensures (loop_faulty _ _ _ _ _ _ _ _ _ _ _ _ _ _ serving c.in-Faulty.ensures.comes c.in-Faulty.ensures.head c.refuse-end.ensures.refused)) c.serving.invariant.serving
 
 pub returns-in-Stopped-clause-served : goal.returns-in-Stopped-clause-served
 returns-in-Stopped-clause-served g c = turned _ _ _ _ (λ v w serving. rw c.end_of-end.ensures (loop_stopped _ _ _ _ _ _ _ _ _ _ _ _ serving c.in-Stopped.ensures.comes c.in-Stopped.ensures.head)) c.serving.invariant.serving
 
-pub returns-in-Closed-clause-served : goal.returns-in-Closed-clause-served
-returns-in-Closed-clause-served g c = joined _ _ _ _ _ _ (λ u v w serving stepped. loop_closed _ _ _ _ _ _ _ _ _ _ _ _ _ _ _ _ _ serving c.in-Head.ensures.comes c.deref.ensures.value stepped c.saturating_add.ensures) c.serving.invariant.serving c.in-Closed.ensures.stepped
-
-pub returns-in-Ended-clause-served : goal.returns-in-Ended-clause-served
-returns-in-Ended-clause-served g c = joined _ _ _ _ _ _ (λ u v w serving stepped. rw c.with_refusal-answered-in-Ended.ensures (loop_ended _ _ _ _ _ _ _ _ _ _ _ _ _ _ _ _ _ serving c.in-Head.ensures.comes c.deref.ensures.value stepped)) c.serving.invariant.serving c.in-Ended.ensures.stepped
+pub returns-in-Err-clause-served : goal.returns-in-Err-clause-served
+returns-in-Err-clause-served g c = joined _ _ _ _ _ _ (λ u v w serving stepped. rw c.with_last-answered-in-Err.ensures (loop_ended _ _ _ _ _ _ _ _ _ _ _ _ _ _ _ _ _ serving c.in-Head.ensures.comes c.deref.ensures.value stepped)) c.serving.invariant.serving c.in-Err.ensures.stepped
 
 pub serving-preserved : goal.serving-preserved
 serving-preserved g c = record {
-  serving = joined _ _ _ _ _ _ (λ u v w serving stepped. loop_open _ _ _ _ _ _ _ _ _ _ _ _ _ _ _ _ _ _ serving c.in-Head.ensures.comes c.deref.ensures.value stepped c.saturating_add-answered.ensures c.drop_front.ensures) c.serving.invariant.serving c.in-Open.ensures.stepped;
-  caught_up = joined _ _ _ _ _ _ (λ u v w past step. past) (beside _ _ _ _ _ (λ u v w serving past. loop_waits_within _ _ _ _ _ _ _ _ _ _ _ _ _ _ _ _ serving past c.in-Head.ensures.waits c.in-Head.ensures.comes c.deref.ensures.value c.in-Open.ensures.waits) c.serving.invariant.serving c.serving.invariant.caught_up) c.in-Open.ensures.stepped;
+  serving = joined _ _ _ _ _ _ (λ u v w serving stepped. loop_open _ _ _ _ _ _ _ _ _ _ _ _ _ _ _ _ _ _ serving c.in-Head.ensures.comes c.deref.ensures.value stepped c.saturating_add-answered.ensures c.drop_front.ensures) c.serving.invariant.serving c.in-Ok.ensures.stepped;
+  caught_up = joined _ _ _ _ _ _ (λ u v w past step. past) (beside _ _ _ _ _ (λ u v w serving past. loop_waits_within _ _ _ _ _ _ _ _ _ _ _ _ _ _ _ _ serving past c.in-Head.ensures.waits c.in-Head.ensures.comes c.deref.ensures.value c.in-Ok.ensures.waits) c.serving.invariant.serving c.serving.invariant.caught_up) c.in-Ok.ensures.stepped;
   becomes = g.met.H.Handler.joins _ _ _ c.serving.invariant.becomes c.serve_request.ensures.becomes;
   room = search rules;
-  turns = more_turns 0 _ _ _ c.serving.invariant.turns (more_turns 0 _ _ _ c.in-Head.ensures.turns c.in-Open.ensures.turns);
-  failed = c.in-Open.ensures.ended ∙ c.in-Head.ensures.stopped ∙ c.serving.invariant.failed;
+  turns = more_turns 0 _ _ _ c.serving.invariant.turns (more_turns 0 _ _ _ c.in-Head.ensures.turns c.in-Ok.ensures.turns);
+  failed = c.in-Ok.ensures.ended ∙ c.in-Head.ensures.stopped ∙ c.serving.invariant.failed;
   goes = g.met.I.Incoming.joins _ _ _ (g.met.I.Incoming.joins _ _ _ c.serving.invariant.goes c.read_head.ensures.goes) c.serve_request.ensures.goes;
 }
 
 pub overflow_add-spans : goal.overflow_add-spans
 overflow_add-spans g c = let stands = c.in-Head.ensures.head in omega (arith, stands.short, stands.fits)
 
-pub returns-in-Closed-clause-goes : goal.returns-in-Closed-clause-goes
-returns-in-Closed-clause-goes g c = g.met.I.Incoming.joins _ _ _ (g.met.I.Incoming.joins _ _ _ c.serving.invariant.goes c.read_head.ensures.goes) c.serve_request.ensures.goes
-
-pub returns-in-Ended-clause-goes : goal.returns-in-Ended-clause-goes
-returns-in-Ended-clause-goes g c = g.met.I.Incoming.joins _ _ _ (g.met.I.Incoming.joins _ _ _ c.serving.invariant.goes c.read_head.ensures.goes) c.serve_request.ensures.goes
+pub returns-in-Err-clause-goes : goal.returns-in-Err-clause-goes
+returns-in-Err-clause-goes g c = g.met.I.Incoming.joins _ _ _ (g.met.I.Incoming.joins _ _ _ c.serving.invariant.goes c.read_head.ensures.goes) c.serve_request.ensures.goes
 
 pub returns-in-Nothing-clause-caught_up : goal.returns-in-Nothing-clause-caught_up
 returns-in-Nothing-clause-caught_up g c = beside _ _ _ _ _ (λ u v w serving past. loop_waits _ _ _ _ _ _ _ _ _ _ _ _ serving past c.in-Nothing.ensures.waits) c.serving.invariant.serving c.serving.invariant.caught_up
@@ -84,11 +75,8 @@ returns-in-Faulty-clause-caught_up g c = beside _ _ _ _ _ (λ u v w serving past
 pub returns-in-Stopped-clause-caught_up : goal.returns-in-Stopped-clause-caught_up
 returns-in-Stopped-clause-caught_up g c = beside _ _ _ _ _ (λ u v w serving past. loop_waits _ _ _ _ _ _ _ _ _ _ _ _ serving past c.in-Stopped.ensures.waits) c.serving.invariant.serving c.serving.invariant.caught_up
 
-pub returns-in-Closed-clause-caught_up : goal.returns-in-Closed-clause-caught_up
-returns-in-Closed-clause-caught_up g c = joined _ _ _ _ _ _ (λ u v w past step. past) (beside _ _ _ _ _ (λ u v w serving past. loop_waits_within _ _ _ _ _ _ _ _ _ _ _ _ _ _ _ _ serving past c.in-Head.ensures.waits c.in-Head.ensures.comes c.deref.ensures.value c.in-Closed.ensures.waits) c.serving.invariant.serving c.serving.invariant.caught_up) c.in-Closed.ensures.stepped
-
-pub returns-in-Ended-clause-caught_up : goal.returns-in-Ended-clause-caught_up
-returns-in-Ended-clause-caught_up g c = joined _ _ _ _ _ _ (λ u v w past step. past) (beside _ _ _ _ _ (λ u v w serving past. loop_waits_within _ _ _ _ _ _ _ _ _ _ _ _ _ _ _ _ serving past c.in-Head.ensures.waits c.in-Head.ensures.comes c.deref.ensures.value c.in-Ended.ensures.waits) c.serving.invariant.serving c.serving.invariant.caught_up) c.in-Ended.ensures.stepped
+pub returns-in-Err-clause-caught_up : goal.returns-in-Err-clause-caught_up
+returns-in-Err-clause-caught_up g c = joined _ _ _ _ _ _ (λ u v w past step. past) (beside _ _ _ _ _ (λ u v w serving past. loop_waits_within _ _ _ _ _ _ _ _ _ _ _ _ _ _ _ _ serving past c.in-Head.ensures.waits c.in-Head.ensures.comes c.deref.ensures.value c.in-Err.ensures.waits) c.serving.invariant.serving c.serving.invariant.caught_up) c.in-Err.ensures.stepped
 
 pub returns-in-Nothing-clause-ended : goal.returns-in-Nothing-clause-ended
 returns-in-Nothing-clause-ended g c = ends_for _ _ _ (more_turns 1 _ _ _ c.serving.invariant.turns c.in-Nothing.ensures.turns) (record { cause = tt; failed = inl (c.in-Nothing.ensures.stopped ∙ c.serving.invariant.failed); spent = λ e. clean_is_not_spent e })
@@ -103,15 +91,10 @@ returns-in-Stopped-clause-ended g c =
     rw c.end_of-end.ensures (ends_for _ (stop_end c.in-Stopped.stop) c.read_head.new.turns_left (rw (stopped_idle c.in-Stopped.stop) (more_turns (idle_stop c.in-Stopped.stop) _ _ _ c.serving.invariant.turns c.in-Stopped.ensures.turns))
     (stopped_ends _ c.in-Stopped.stop _ (stops_since c.in-Stopped.stop _ _ _ _ c.serving.invariant.failed c.in-Stopped.ensures.stopped)))
 
-pub returns-in-Closed-clause-ended : goal.returns-in-Closed-clause-ended
-returns-in-Closed-clause-ended g c =
-    ends_for _ _ _ (more_turns 0 _ _ _ c.serving.invariant.turns (more_turns 0 _ _ _ c.in-Head.ensures.turns c.in-Closed.ensures.turns))
-    (record { cause = tt; failed = inl (c.in-Closed.ensures.ended ∙ c.in-Head.ensures.stopped ∙ c.serving.invariant.failed); spent = λ e. closed_is_not_spent e })
-
-pub returns-in-Ended-clause-ended : goal.returns-in-Ended-clause-ended
-returns-in-Ended-clause-ended g c =
-    ends_for _ c.in-Ended.end _ (more_turns (idle_reads c.in-Ended.end) _ _ _ c.serving.invariant.turns (more_turns (idle_reads c.in-Ended.end) _ _ _ c.in-Head.ensures.turns c.in-Ended.ensures.turns))
-    (why_later _ _ _ _ _ _ _ _ (c.in-Head.ensures.stopped ∙ c.serving.invariant.failed) c.in-Ended.end c.in-Ended.ensures.ended)
+pub returns-in-Err-clause-ended : goal.returns-in-Err-clause-ended
+returns-in-Err-clause-ended g c =
+    ends_for _ c.in-Err.end _ (more_turns (idle_reads c.in-Err.end) _ _ _ c.serving.invariant.turns (more_turns (idle_reads c.in-Err.end) _ _ _ c.in-Head.ensures.turns c.in-Err.ensures.turns))
+    (why_later _ _ _ _ _ _ _ _ (c.in-Head.ensures.stopped ∙ c.serving.invariant.failed) c.in-Err.end c.in-Err.ensures.ended)
 
 pub returns-in-Nothing-clause-becomes : goal.returns-in-Nothing-clause-becomes
 returns-in-Nothing-clause-becomes g c = c.serving.invariant.becomes
@@ -125,4 +108,4 @@ returns-in-Stopped-clause-becomes g c = c.serving.invariant.becomes
 pub serving-smaller : goal.serving-smaller
 serving-smaller g c =
     let stands = c.in-Head.ensures.head in
-    less_left _ _ c.serve_request.new.turns_left _ _ _ _ _ c.read_head.ensures.pace (fewer_turns 0 (turns_at g.I.Incoming c.read_head.new.input c.read_head.new.turns_left) (turns_at g.I.Incoming c.serve_request.new.input c.serve_request.new.turns_left) c.in-Open.ensures.turns) stands.some stands.within.section.len_fits c.drop_front.ensures
+    less_left _ _ c.serve_request.new.turns_left _ _ _ _ _ c.read_head.ensures.pace (fewer_turns 0 (turns_at g.I.Incoming c.read_head.new.input c.read_head.new.turns_left) (turns_at g.I.Incoming c.serve_request.new.input c.serve_request.new.turns_left) c.in-Ok.ensures.turns) stands.some stands.within.section.len_fits c.drop_front.ensures

@@ -1,6 +1,6 @@
 use Rattle.std.proofs.Common.{◌≡◌, ◌+◌, ◌*◌, length}
 use Rattle.std.specs.Prelude.{IfSome}
-use Rattle.pid_http_stream.specs.Bodies.{SpendsTurns, turns_at}
+use Rattle.pid_http_stream.specs.Steps.Bodies.{SpendsTurns, turns_at}
 use Rattle.pid_http_stream.specs.Leading.{Leads}
 use Rattle.pid_http_stream.specs.Moments.{AllSince}
 use Rattle.pid_http_stream.specs.Serving.{IsCaughtUp}

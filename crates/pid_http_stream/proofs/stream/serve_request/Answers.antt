@@ -7,7 +7,7 @@ pub returns-in-Reply-clause-stepped : goal.returns-in-Reply-clause-stepped
 returns-in-Reply-clause-stepped g c = joined _ _ _ _ _ _ (λ u v w asked sent. rw c.answered_by.ensures (replied_step g.H.Handler.conduct u v w _ _ _ _ c.args.head.now.bytes.now c.args.head.now.fields.now c.args.head.now.spans c.args.content_length c.in-Reply.reply c.send.result c.closes-closes.result asked sent c.closes-closes.ensures)) c.in-Reply.ensures.asked c.send.ensures.sent
 
 pub returns-in-Reply-clause-ended : goal.returns-in-Reply-clause-ended
-returns-in-Reply-clause-ended g c = rw c.answered_by.ensures (sent_ends _ _ c.send.result c.closes-closes.result c.in-Reply.ensures.stopped c.send.ensures.fault c.send.ensures.store c.send.ensures.stuck)
+returns-in-Reply-clause-ended g c = rw c.answered_by.ensures (sent_ends _ _ c.send.result c.closes-closes.result c.in-Reply.ensures.stopped c.send.ensures.stops)
 
 pub returns-in-Reply-clause-turns : goal.returns-in-Reply-clause-turns
 returns-in-Reply-clause-turns g c = rw c.answered_by.ensures (sent_turns c.send.result c.closes-closes.result _ _ c.in-Reply.ensures.turns)

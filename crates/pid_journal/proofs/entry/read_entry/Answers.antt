@@ -1,5 +1,5 @@
 -- The first two lines of an entry.
-use Rattle.std.proofs.Common.{◌≡◌, ℕ, List, [], true, Option, Some, length, sym, ap, ◌∙◌}
+use Rattle.std.proofs.Common.{◌≡◌, ◌≤◌, ℕ, List, [], true, Option, Some, length, sym, ap, subst, ◌∙◌}
 use Rattle.std.specs.Prelude.{◌==◌}
 use Rattle.std.proofs.Common.{arith}
 use Rattle.std.proofs.lemmas.Bool.Decides.{nat_tests}
@@ -23,5 +23,6 @@ pub returns : goal.returns
 returns c =
     let none : c.in-Some-split_line.behind.now ≡ [] = empty_is c.in-Some-split_line.behind.now (sym c.if-not-is_empty.false ∙ c.is_empty.ensures) in
     reads c.args.entry.now c.in-Some.comment.now c.in-Some.rest.now c.in-Some-split_line.line.now c.in-Some-split_line.behind.now c.in-Some-2.counts (asks c.in_ok-command.command) c.in-Some.ensures.parts.0 c.in-Some.ensures.parts.1 c.in-Some-split_line.ensures.parts.0 c.in-Some-split_line.ensures.parts.1 none
-    (of_line _ _ c.in-Some-2.counts _ c.without_cr.ensures c.in_ok-counts.ensures c.in-Some-2.is)
-    (ap (λ (l : List ℕ). command_of (ask_of l)) (sym c.without_cr-2.ensures) ∙ c.in_ok-command.ensures.said)
+    (of_line _ _ c.in-Some-2.counts _ c.without_cr-short.ensures c.in_ok-counts.ensures c.in-Some-2.is)
+    (subst (λ (l : List ℕ). length l ≤ 1000) c.without_cr-short.ensures c.if-short-gt-LONGEST_COMMENT.false)
+    (ap (λ (l : List ℕ). command_of (ask_of l)) (sym c.without_cr.ensures) ∙ c.in_ok-command.ensures.said)

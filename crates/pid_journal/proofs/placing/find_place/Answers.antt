@@ -6,26 +6,26 @@ use Rattle.pid_journal.proofs.Places.{found_first, found_here, found_last, found
 use Rattle.pid_journal.proofs.placing.find_place.Goals as goal
 
 pub loop-line-init : goal.loop-line-init
-loop-line-init c = found_first c.args.text.now c.args.now
+loop-line-init c = found_first c.args.text.now c.args.now c.args.begin
 
 pub loop-line-preserved : goal.loop-line-preserved
 loop-line-preserved c =
-    found_on c.args.text.now c.loop-line.rest.now c.in-Some.line.now c.in-Some.behind.now c.args.now c.loop-line.place c.in-Behind.next c.loop-line.invariant c.in-Some.ensures.parts.0 c.in-Some.ensures.parts.1
+    found_on c.args.text.now c.loop-line.rest.now c.in-Some.line.now c.in-Some.behind.now c.args.now c.args.begin c.loop-line.place c.in-Behind.next c.loop-line.invariant c.in-Some.ensures.parts.0 c.in-Some.ensures.parts.1
     (λ shown h is placed. c.in-Behind.ensures shown h (drop_cr c.in-Some.line.now) (whole_lines c.in-Some.behind.now) is (subst (λ (l : List ℕ). IsSaid l c.in-Ok.said) c.without_cr.ensures c.in-Ok.ensures) placed)
 
 pub returns-in-Here-clause-parts : goal.returns-in-Here-clause-parts
 returns-in-Here-clause-parts c = c.loop-line.invariant.end
 
 pub returns-in-Here-clause-found : goal.returns-in-Here-clause-found
-returns-in-Here-clause-found c start shown marked is way =
-    let r = c.loop-line.invariant.reached start shown marked is way in
+returns-in-Here-clause-found c start shown marked begins is way =
+    let r = c.loop-line.invariant.reached start shown marked begins is way in
     let parts = c.in-Some.ensures.parts in
     found_here start shown c.args.text.now c.loop-line.rest.now c.loop-line.place r
     (c.in-Here.ensures shown r.here (drop_cr c.in-Some.line.now) (whole_lines c.in-Some.behind.now) is (subst (λ (l : List ℕ). IsSaid l c.in-Ok.said) c.without_cr.ensures c.in-Ok.ensures) (placed_at shown r.here c.loop-line.place c.loop-line.rest.now c.in-Some.line.now c.in-Some.behind.now parts.0 parts.1 r.placed))
 
 pub returns-in-Nowhere-clause-found : goal.returns-in-Nowhere-clause-found
-returns-in-Nowhere-clause-found c start shown marked is way =
-    let r = c.loop-line.invariant.reached start shown marked is way in
+returns-in-Nowhere-clause-found c start shown marked begins is way =
+    let r = c.loop-line.invariant.reached start shown marked begins is way in
     let parts = c.in-Some.ensures.parts in
     c.in-Nowhere.ensures shown r.here (drop_cr c.in-Some.line.now) (whole_lines c.in-Some.behind.now) is (subst (λ (l : List ℕ). IsSaid l c.in-Ok.said) c.without_cr.ensures c.in-Ok.ensures) (placed_at shown r.here c.loop-line.place c.loop-line.rest.now c.in-Some.line.now c.in-Some.behind.now parts.0 parts.1 r.placed)
 
@@ -33,8 +33,8 @@ pub returns-clause-parts : goal.returns-clause-parts
 returns-clause-parts c = c.loop-line.invariant.end
 
 pub returns-clause-found : goal.returns-clause-found
-returns-clause-found c start shown marked is way = found_last start shown c.args.text.now c.loop-line.rest.now c.loop-line.place (c.loop-line.invariant.reached start shown marked is way) c.in_default.ensures.parts
+returns-clause-found c start shown marked begins is way = found_last start shown c.args.text.now c.loop-line.rest.now c.loop-line.place (c.loop-line.invariant.reached start shown marked begins is way) c.in_default.ensures.parts
 
 pub returns-then-place-now-clause-found : goal.returns-then-place-now-clause-found
-returns-then-place-now-clause-found c start shown marked is way =
-    found_newer start shown c.args.text.now c.loop-line.rest.now c.args.now c.loop-line.place is (c.loop-line.invariant.reached start shown marked is way) c.in_default.ensures.parts c.if-place-now.true
+returns-then-place-now-clause-found c start shown marked begins is way =
+    found_newer start shown c.args.text.now c.loop-line.rest.now c.args.now c.loop-line.place is (c.loop-line.invariant.reached start shown marked begins is way) c.in_default.ensures.parts c.if-place-now.true

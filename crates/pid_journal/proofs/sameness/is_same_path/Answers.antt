@@ -6,7 +6,8 @@ use Rattle.std.specs.declared.cmp.Ordering.TheVariants.{Less, Equal, Greater}
 use Rattle.std.specs.FinMap.{slice_cmp-IsAntisymmetric, nat_cmp-IsAntisymmetric}
 use Rattle.pid_file.proofs.Kin.{same_path}
 use Rattle.pid_file.specs.declared.path.Path.{Path}
-use Rattle.pid_file.specs.PathTexts.{IsPath, path_cmp, path_text}
+use Rattle.pid_file.specs.PathTexts.{IsPath, path_text}
+use Rattle.pid_file.specs.Steps.Paths.{path_cmp}
 use Rattle.pid_journal.proofs.sameness.is_same_path.Goals as goal
 
 equal_is : (o : Ordering) → is_eq o ≡ true → o ≡ Equal

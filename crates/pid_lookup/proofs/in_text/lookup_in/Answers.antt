@@ -1,5 +1,5 @@
 use Rattle.std.proofs.Common.{refl}
-use Rattle.pid_lookup.specs.Kept.{kept_map}
+use Rattle.pid_lookup.specs.Steps.Kept.{kept_map}
 use Rattle.pid_lookup.proofs.Answered.{answered}
 use Rattle.pid_lookup.proofs.in_text.lookup_in.Goals as goal
 

@@ -1,5 +1,5 @@
 use Rattle.pid_file.proofs.InputTexts.{read_whole}
-use Rattle.pid_lookup.specs.AskedNames.{HasAsked}
+use Rattle.pid_lookup.specs.Steps.AskedNames.{HasAsked}
 use Rattle.pid_lookup.proofs.Asking.{has_asked, has_only}
 use Rattle.pid_lookup.proofs.names_in_text.names_in.Goals as goal
 

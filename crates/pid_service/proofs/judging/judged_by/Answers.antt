@@ -1,8 +1,8 @@
 use Rattle.pid_moderation.specs.History.{asked}
-use Rattle.pid_moderation.specs.Judgement.{Accepts, judge, judged}
+use Rattle.pid_moderation.specs.Judgement.{Accepts, judge}
 use Rattle.pid_moderation.specs.Views.{views_of}
 use Rattle.std.proofs.Common.{is_some, true, false, ◌≡◌, ap, sym, ◌∙◌}
-use Rattle.pid_service.proofs.Judged.{refusal_told, told_or_memory, leads, fits, newly_accepts, plain, repeated_stays}
+use Rattle.pid_service.proofs.Judged.{refusal_told, told_or_memory, leads, fits, newly_accepts, repeated_stays}
 use Rattle.pid_service.proofs.judging.judged_by.Goals as goal
 
 pub returns-in-Err-clause-judged : goal.returns-in-Err-clause-judged
@@ -17,7 +17,6 @@ returns-else-is_some-clause-judged c h reading is marked other =
       judged = accepts;
       leads = leads h c.args.command.now reading c.in-Ok.change other (c.in-Ok.ensures.change h reading marked is);
       fits = fits h c.args.command.now reading c.in-Ok.change other (c.in-Ok.ensures.fits h reading is);
-      plain = plain c.args.facts.now c.args.command.now reading c.in-Ok.change c.in-Ok.reply other (c.in-Ok.ensures.decides reading).1 (ap (λ f. judged f asks) is ∙ accepts);
     }
 
 pub returns-then-is_some-clause-judged : goal.returns-then-is_some-clause-judged

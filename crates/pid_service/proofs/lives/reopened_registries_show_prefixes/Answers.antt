@@ -15,7 +15,6 @@ returns g c = record {
         history = start;
         shown = shows;
         prefixes = subst (λ h. IsAfterPrefixes h [] h) (sym from.reached) (no_life c.keys_stand_once.ensures c.marks_stay.ensures.mark from.mark from.commands);
-        sound = sound;
         read_back = λ t. c.printed_trees_read_back.ensures (tree_of start) t sound.tree;
       };
   more = λ opened ended next start lives calls shows lead again clean.
@@ -28,7 +27,6 @@ returns g c = record {
         history = found.0;
         shown = found.1;
         prefixes = subst (λ h. IsAfterPrefixes h (lives ++ calls ∷ []) found.0) (sym from.reached) found.2;
-        sound = sound;
         read_back = λ t. c.printed_trees_read_back.ensures (tree_of found.0) t sound.tree;
       };
 }

@@ -1,5 +1,4 @@
-use Rattle.std.proofs.Common.{Option, ap, subst, ◌∙◌}
-use Rattle.std.specs.Prelude.{not}
+use Rattle.std.proofs.Common.{Option, subst}
 use Rattle.sqlite.specs.Held.{state}
 use Rattle.pid_moderation.specs.Views.{views_of}
 use Rattle.pid_tables.specs.Check.Checking.{FindsVersion}

@@ -39,7 +39,7 @@ pub returns-in_default-clause-history : goal.returns-in_default-clause-history
 returns-in_default-clause-history g c = record { clean = λ clean. clean; opened = λ h reached shown clean. (tt, shown) }
 
 pub returns-in_default-clause-registry : goal.returns-in_default-clause-registry
-returns-in_default-clause-registry g c off = record { lives = tt; fresh = tt; kept = record { judged = λ clean. tt; kept = λ clean. tt } }
+returns-in_default-clause-registry g c off = record { lives = tt; kept = record { judged = λ clean. tt; kept = λ clean. tt } }
 
 pub returns-in_default-clause-at_once : goal.returns-in_default-clause-at_once
 returns-in_default-clause-at_once g c off =
@@ -75,7 +75,7 @@ returns-in-Ok-make_ready-clause-history g c =
     }
 
 pub returns-in-Ok-make_ready-clause-registry : goal.returns-in-Ok-make_ready-clause-registry
-returns-in-Ok-make_ready-clause-registry g c off = record { lives = refl; fresh = c.in-Ok.ensures; kept = kept_of c.new-tables.ensures refl c.in-Ok-make_ready.ensures.kept }
+returns-in-Ok-make_ready-clause-registry g c off = record { lives = refl; kept = kept_of c.new-tables.ensures refl c.in-Ok-make_ready.ensures.kept }
 
 pub returns-in-Ok-make_ready-clause-at_once : goal.returns-in-Ok-make_ready-clause-at_once
 returns-in-Ok-make_ready-clause-at_once g c off = at_once_of c.new-tables.ensures refl c.in-Ok-make_ready.ensures.at_once
@@ -96,7 +96,7 @@ returns-in-Err-clause-history g c =
     }
 
 pub returns-in-Err-clause-registry : goal.returns-in-Err-clause-registry
-returns-in-Err-clause-registry g c off = record { lives = tt; fresh = tt; kept = record { judged = λ clean. tt; kept = λ clean. tt } }
+returns-in-Err-clause-registry g c off = record { lives = tt; kept = record { judged = λ clean. tt; kept = λ clean. tt } }
 
 pub returns-in-Err-clause-at_once : goal.returns-in-Err-clause-at_once
 returns-in-Err-clause-at_once g c off = at_once_of c.new-tables.ensures c.into_conn.ensures c.in-Err.ensures.at_once

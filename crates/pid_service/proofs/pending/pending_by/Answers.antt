@@ -9,7 +9,7 @@ returns-in_default g c = reads_as g.S.Store c.args.tables.now.conn c.pending_pag
 
 pub returns-in-Some-numbers_above : goal.returns-in-Some-numbers_above
 returns-in-Some-numbers_above g c =
-    reads_as g.S.Store c.args.tables.now.conn c.pending_at.new.conn c.pending_at.result _ _
+    reads_as g.S.Store c.args.tables.now.conn c.pending_at.new.self.conn c.pending_at.result _ _
     (λ v page told holds.
     let held : c.in-Some.numbers.items ≡ numbers_waiting v = subst (λ o. HoldsWaiting o v) c.in-Some.is holds in
     told ∙ page_numbered v 100 c.args.after c.as_slice.result.now c.as_slice-in-Some-numbers_above.result.now (c.as_slice.ensures.value ∙ held) (c.as_slice-in-Some-numbers_above.ensures.value ∙ c.in-Some-numbers_above.ensures))

@@ -12,11 +12,11 @@ use Rattle.pid_tables.proofs.OfRows.CauseLemmas.{passed_on, passed_from}
 use Rattle.pid_tables.proofs.OfRows.LeaveLemmas.{on_err}
 use Rattle.pid_tables.proofs.OfRows.GoingLemmas.{earlier}
 use Rattle.pid_tables.proofs.OfRows.OnlyReading.{reads_begun}
-use Rattle.pid_tables.proofs.MetLemmas.{reads_if_never, met_at_rest, met_first}
+use Rattle.pid_tables.proofs.MetLemmas.{reads_if_never}
 use Rattle.pid_tables.proofs.MoveLemmas.{all_never, all_untold, not_on_ok}
 use Rattle.pid_tables.proofs.AtOnceLemmas.{reads_at_once, reads_never, commit_at_once, commit_bare, committed_as, kept_as, still_bare}
 use Rattle.pid_tables.specs.AtOnce.{WritesAtOnce}
-use Rattle.pid_tables.specs.Creation.{IsFaultOfTaken, IsNameTaken, MakesNew, MakesNothing}
+use Rattle.pid_tables.specs.Creation.{IsNameTaken, MakesNew, MakesNothing}
 use Rattle.pid_tables.specs.Statements.{Carries, IsMadeBy, registry_statements}
 use Rattle.pid_tables.proofs.creation.create.Given.{Over}
 use Rattle.pid_tables.proofs.creation.create.Goals as goal
@@ -83,7 +83,6 @@ returns-in_err-fill-clause-spares g c =
     let goes = rw c.transaction-batch.ensures.begun at c.fill.ensures.goes in
     let filled = rw c.transaction-batch.ensures.begun at c.in_err-fill.ensures.filled in
     let refused = rw c.transaction-batch.ensures.begun at c.in_err-fill.ensures.refused in
-    let met = rw c.transaction-batch.ensures.begun at c.in_err-fill.ensures.met in
     let never = rw c.transaction-batch.ensures.begun at c.in_err-fill.ensures.never in
     let reads = (reads_begun g.S.Store c.args.conn.now first end c.fill.result (clean_if_open (g.S.Store.view first.store) (g.met.S.Store.shut_if_dirty first.store))
     (clean_if_open (g.S.Store.view end.store) (g.met.S.Store.shut_if_dirty end.store)) goes c.drop-batch.ensures.ended c.drop-batch.ensures.undone c.drop-batch.ensures.survives) in
@@ -93,11 +92,6 @@ returns-in_err-fill-clause-spares g c =
       shut = λ clean closed.
           passed_on c.from_residual.result _ _ IsMemoryOrStore c.from_residual.ensures.1
           (filled (earlier (state g.S.Store first) (state g.S.Store end) c.drop-batch.ensures.survives clean) refl (λ opened. absurd (never_open _ closed opened)));
-      kept = λ v rest. reads.kept v rest;
-      met = λ clean v rest.
-          passed_on c.from_residual.result _ _ (IsFaultOfTaken old (state g.S.Store end)) c.from_residual.ensures.1
-          (met_first old (state g.S.Store first) (state g.S.Store end) _ c.drop-batch.ensures.survives.counts
-          (met (earlier (state g.S.Store first) (state g.S.Store end) c.drop-batch.ensures.survives clean) refl (λ opened. (rest.shows opened).schema)));
       never = λ clean. passed_from c.from_residual.result _ IsNotNewerSchema c.from_residual.ensures.1 (never (earlier (state g.S.Store first) (state g.S.Store end) c.drop-batch.ensures.survives clean) refl);
     })
 
@@ -164,7 +158,6 @@ returns-clause-spares g c =
     let same = same_ended g c in
     let goes = rw c.transaction-batch.ensures.begun at c.in_ok-fill.ensures.goes in
     let refused = rw c.transaction-batch.ensures.begun at c.in_ok-fill.ensures.refused in
-    let met = rw c.transaction-batch.ensures.begun at c.in_ok-fill.ensures.met in
     let begun = state g.S.Store (record c.args.conn.now { in_transaction = true }) in
     let reads : (IsTrue old.is_open → IsNameTaken old) → OnlyReads old (state g.S.Store end) = λ met.
     reads_if_never old (state g.S.Store end) (λ db. db ≡ mid.now.trees)
@@ -179,8 +172,6 @@ returns-clause-spares g c =
       shut = λ clean closed.
           let early = earlier mid (state g.S.Store end) c.commit.ensures.survives clean in
           absurd (never_open _ closed (goes.was_open early (goes.going early refl).0));
-      kept = λ v rest. (reads (met_at_rest old v rest)).kept v rest;
-      met = λ clean v rest. absurd (met (earlier mid (state g.S.Store end) c.commit.ensures.survives clean) refl (λ opened. (rest.shows opened).schema));
       never = λ clean.
           let early = earlier mid (state g.S.Store end) c.commit.ensures.survives clean in
           all_never c.commit.result (all_untold mid (state g.S.Store end) c.commit.result (c.commit.ensures.ends.caused clean (goes.going early refl).1));

@@ -11,7 +11,6 @@ use Rattle.pid_tables.proofs.OfRows.GoingLemmas.{earlier, goes_then}
 use Rattle.pid_tables.proofs.OfRows.KeyTexts.{insert_account_is}
 use Rattle.pid_tables.proofs.OfRows.WriteFaults.{led, insert_writes}
 use Rattle.pid_tables.proofs.OfRows.WriteRows.{account_added}
-use Rattle.pid_tables.specs.Creation.{IsFaultOfTaken}
 use Rattle.pid_tables.specs.Statements.{new_account_text}
 use Rattle.pid_tables.specs.Steps.Making.{all_statements, label_statements, root_statement}
 use Rattle.pid_tables.proofs.Carrying.{carried_both, carried_one, carried_then}
@@ -55,22 +54,6 @@ returns-clause-refused g c clean inside met =
     let first = earlier b d c.add_labels.ensures.goes.survives second in
     let one = c.in_ok-make_tables.ensures in
     absurd (none_met _ _ (one.takes first inside) (met (one.goes.was_open first (one.goes.going first inside).0)))
-
--- ---- where a registry is
-
-pub returns-in_err-make_tables-clause-met : goal.returns-in_err-make_tables-clause-met
-returns-in_err-make_tables-clause-met g c clean inside has =
-    passed_on c.from_residual.result _ _ (IsFaultOfTaken (state g.S.Store c.args.tx.now.conn.now) (state g.S.Store c.make_tables.new.tx.conn.now)) c.from_residual.ensures.1 (c.in_err-make_tables.ensures.met clean inside has)
-
-pub returns-in_err-add_labels-clause-met : goal.returns-in_err-add_labels-clause-met
-returns-in_err-add_labels-clause-met g c clean inside has =
-    absurd (c.in_ok-make_tables.ensures.met (earlier (state g.S.Store c.make_tables.new.tx.conn.now) (state g.S.Store c.add_labels.new.tx.conn.now) c.add_labels.ensures.goes.survives clean) inside has)
-
-pub returns-clause-met : goal.returns-clause-met
-returns-clause-met g c clean inside has =
-    let d = state g.S.Store c.add_labels.new.tx.conn.now in
-    let second = earlier d (state g.S.Store c.write_one.new.tx.conn.now) c.write_one.ensures.goes.survives clean in
-    absurd (c.in_ok-make_tables.ensures.met (earlier (state g.S.Store c.make_tables.new.tx.conn.now) d c.add_labels.ensures.goes.survives second) inside has)
 
 -- ---- no fault tells a later schema
 

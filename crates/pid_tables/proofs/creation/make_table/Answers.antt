@@ -2,7 +2,7 @@ use Rattle.std.proofs.Common.{[]}
 use Rattle.sqlite.specs.Held.{state}
 use Rattle.pid_tables.proofs.Carrying.{carried_one}
 use Rattle.pid_tables.proofs.CreateLemmas.{made_one}
-use Rattle.pid_tables.proofs.MetLemmas.{taken, met_fault}
+use Rattle.pid_tables.proofs.MetLemmas.{taken}
 use Rattle.pid_tables.proofs.creation.make_table.Goals as goal
 
 pub returns-clause-made : goal.returns-clause-made
@@ -11,11 +11,7 @@ returns-clause-made g c before table it tables =
 
 pub returns-clause-takes : goal.returns-clause-takes
 returns-clause-takes g c name it clean inside =
-    taken c.args.sql.now name (state g.S.Store c.args.tx.now.conn.now) (state g.S.Store c.write_one.new.tx.conn.now) it c.write_one.result (c.write_one.ensures.runs.ran clean inside) (c.write_one.ensures.runs.refused clean inside)
-
-pub returns-clause-met : goal.returns-clause-met
-returns-clause-met g c bad clean inside has =
-    met_fault c.args.sql.now (state g.S.Store c.args.tx.now.conn.now) (state g.S.Store c.write_one.new.tx.conn.now) bad has c.write_one.result clean inside c.write_one.ensures.goes (c.write_one.ensures.runs.ran clean inside) (c.write_one.ensures.runs.refused clean inside)
+    taken c.args.sql.now name (state g.S.Store c.args.tx.now.conn.now) (state g.S.Store c.write_one.new.tx.conn.now) it c.write_one.result (c.write_one.ensures.runs.ran clean inside) c.write_one.ensures.never
 
 pub returns-clause-carried : goal.returns-clause-carried
 returns-clause-carried g c clean inside = carried_one g.S.Store c.args.sql.now [] c.args.tx.now.conn.now c.write_one.new.tx.conn.now c.write_one.result (c.write_one.ensures.runs.ran clean inside)

@@ -4,13 +4,12 @@ use Rattle.pid_tables.specs.Rows.Faults.{IsMemoryOrStore, IsNotNewerSchema}
 use Rattle.pid_tables.specs.Rows.Schema.{meta, account, item, submission, remark, receipt, item_since}
 use Rattle.pid_tables.proofs.OfRows.CauseLemmas.{passed_on}
 use Rattle.pid_tables.proofs.OfRows.GoingLemmas.{earlier, goes_then}
-use Rattle.pid_tables.specs.Creation.{IsFaultOfTaken}
 use Rattle.pid_tables.specs.Statements.{item_since_text}
 use Rattle.pid_tables.specs.Steps.Making.{first_statements, rest_statements}
 use Rattle.pid_tables.specs.Steps.MakingTables.{CreatesInTurn}
 use Rattle.pid_tables.proofs.Carrying.{carried_both, carried_then}
 use Rattle.pid_tables.proofs.CreateTexts.{meta_creates, account_creates, item_creates, submission_creates, remark_creates, receipt_creates, item_since_creates}
-use Rattle.pid_tables.proofs.MakerTexts.{create_meta, create_account, create_item, create_submission, create_remark, create_receipt, meta_maker, account_maker, item_maker, submission_maker, remark_maker, receipt_maker, item_since_maker, meta_met}
+use Rattle.pid_tables.proofs.MakerTexts.{create_meta, create_account, create_item, create_submission, create_remark, create_receipt, meta_maker, account_maker, item_maker, submission_maker, remark_maker, receipt_maker, item_since_maker}
 use Rattle.pid_tables.proofs.MetLemmas.{took_then, took_both}
 use Rattle.pid_tables.proofs.MoveLemmas.{goes_fault, goes_fault_after, not_on_ok}
 use Rattle.pid_tables.proofs.creation.make_tables.Goals as goal
@@ -63,21 +62,6 @@ returns-clause-takes g c clean inside =
     took_then (codes "meta" ∷ codes "account" ∷ codes "item" ∷ codes "submission" ∷ codes "remark" ∷ codes "receipt" ∷ []) (codes "item_since" ∷ []) a.now.schema d.now.schema e.now.schema
     (took_both (codes "meta" ∷ codes "account" ∷ codes "item" ∷ []) (codes "submission" ∷ codes "remark" ∷ codes "receipt" ∷ []) a.now.schema b.now.schema d.now.schema (one.takes (codes "meta") (codes "account") (codes "item") meta_maker account_maker item_maker first inside) (two.takes (codes "submission") (codes "remark") (codes "receipt") submission_maker remark_maker receipt_maker second within))
     c.make_table.result (c.make_table.ensures.takes (codes "item_since") item_since_maker clean (two.goes.going second within).1)
-
-pub returns-in_err-make_three-clause-met : goal.returns-in_err-make_three-clause-met
-returns-in_err-make_three-clause-met g c clean inside has =
-    passed_on c.from_residual.result _ _ (IsFaultOfTaken (state g.S.Store c.args.tx.now.conn.now) (state g.S.Store c.make_three.new.tx.conn.now)) c.from_residual.ensures.1 (c.in_err-make_three.ensures.met meta_met clean inside has)
-
-pub returns-in_err-make_three-2-clause-met : goal.returns-in_err-make_three-2-clause-met
-returns-in_err-make_three-2-clause-met g c clean inside has =
-    absurd (c.in_ok-make_three.ensures.met meta_met (earlier (state g.S.Store c.make_three.new.tx.conn.now) (state g.S.Store c.make_three-2.new.tx.conn.now) c.make_three-2.ensures.goes.survives clean) inside has)
-
-pub returns-clause-met : goal.returns-clause-met
-returns-clause-met g c clean inside has =
-    let b = state g.S.Store c.make_three.new.tx.conn.now in
-    let d = state g.S.Store c.make_three-2.new.tx.conn.now in
-    let second = earlier d (state g.S.Store c.make_table.new.tx.conn.now) c.make_table.ensures.goes.survives clean in
-    absurd (c.in_ok-make_three.ensures.met meta_met (earlier b d c.make_three-2.ensures.goes.survives second) inside has)
 
 pub returns-clause-carried : goal.returns-clause-carried
 returns-clause-carried g c clean inside =

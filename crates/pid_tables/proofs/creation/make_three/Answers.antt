@@ -3,7 +3,6 @@ use Rattle.sqlite.specs.Held.{state}
 use Rattle.pid_tables.specs.Rows.Faults.{IsMemoryOrStore, IsNotNewerSchema}
 use Rattle.pid_tables.proofs.OfRows.CauseLemmas.{passed_on}
 use Rattle.pid_tables.proofs.OfRows.GoingLemmas.{earlier, goes_then}
-use Rattle.pid_tables.specs.Creation.{IsFaultOfTaken}
 use Rattle.pid_tables.proofs.Carrying.{carried_both, carried_then}
 use Rattle.pid_tables.proofs.MetLemmas.{took_then, took_both}
 use Rattle.pid_tables.proofs.MoveLemmas.{goes_fault, goes_fault_after, not_on_ok}
@@ -52,20 +51,6 @@ returns-clause-takes g c one_name two_name three_name one_made two_made three_ma
     took_then (one_name ∷ two_name ∷ []) (three_name ∷ []) a.now.schema d.now.schema e.now.schema
     (took_both (one_name ∷ []) (two_name ∷ []) a.now.schema b.now.schema d.now.schema (one.takes one_name one_made first inside) (two.takes two_name two_made second within))
     c.make_table-3.result (c.make_table-3.ensures.takes three_name three_made clean (two.goes.going second within).1)
-
-pub returns-in_err-make_table-clause-met : goal.returns-in_err-make_table-clause-met
-returns-in_err-make_table-clause-met g c refused clean inside has =
-    let old = state g.S.Store c.args.tx.now.conn.now in
-    passed_on c.from_residual.result _ _ (IsFaultOfTaken old (state g.S.Store c.make_table.new.tx.conn.now)) c.from_residual.ensures.1 (c.in_err-make_table.ensures.met refused clean inside has)
-
-pub returns-in_err-make_table-2-clause-met : goal.returns-in_err-make_table-2-clause-met
-returns-in_err-make_table-2-clause-met g c refused clean inside has =
-    absurd (c.in_ok-make_table.ensures.met refused (earlier (state g.S.Store c.make_table.new.tx.conn.now) (state g.S.Store c.make_table-2.new.tx.conn.now) c.make_table-2.ensures.goes.survives clean) inside has)
-
-pub returns-clause-met : goal.returns-clause-met
-returns-clause-met g c refused clean inside has =
-    let second = earlier (state g.S.Store c.make_table-2.new.tx.conn.now) (state g.S.Store c.make_table-3.new.tx.conn.now) c.make_table-3.ensures.goes.survives clean in
-    absurd (c.in_ok-make_table.ensures.met refused (earlier (state g.S.Store c.make_table.new.tx.conn.now) (state g.S.Store c.make_table-2.new.tx.conn.now) c.make_table-2.ensures.goes.survives second) inside has)
 
 pub returns-clause-carried : goal.returns-clause-carried
 returns-clause-carried g c clean inside =

@@ -1,7 +1,7 @@
 use Rattle.std.proofs.Common.{◌≡◌, ℕ, Ok, Err, rules, subst}
 use Rattle.pid_moderation.specs.CheckTables.{most_file_bytes}
 use Rattle.pid_tables.specs.Steps.PutFiles.{PutsFile}
-use Rattle.pid_tables.specs.PutSinks.{TakesEntry, LeavesEntry}
+use Rattle.pid_tables.specs.Steps.PutSinks.{TakesEntry, LeavesEntry}
 use Rattle.pid_tables.proofs.FilePut.{Went, left, left_same, left_some, put_ok, put_err}
 use Rattle.pid_tables.proofs.put_file.put_file.Goals as goal
 

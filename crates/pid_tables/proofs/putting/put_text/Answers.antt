@@ -4,7 +4,7 @@ use Rattle.sqlite.specs.State.{State, HasCleanDisk}
 use Rattle.pid_moderation.specs.Items.{name_at}
 use Rattle.pid_tables.specs.declared.rows.fault.TableFault.{TableFault}
 use Rattle.pid_tables.specs.Rows.Faults.{IsMemoryOrStore}
-use Rattle.pid_tables.specs.Rows.Leaves.{GoesOn, LeadsTo, Turn}
+use Rattle.pid_tables.specs.Rows.Steps.Turns.{GoesOn, LeadsTo, Turn}
 use Rattle.pid_tables.specs.Rows.Writes.{with_name}
 use Rattle.pid_tables.proofs.OfRows.CauseLemmas.{passed_on}
 use Rattle.pid_tables.proofs.OfRows.GoingLemmas.{earlier, goes_then}

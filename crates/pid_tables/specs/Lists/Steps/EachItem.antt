@@ -1,7 +1,7 @@
 -- Steps of EachItem.
 use Rattle.std.specs.Prelude.{◌≡◌, Result, Ok, Err}
 use Rattle.pid_reader.specs.Numbered.{Numbered}
-use Rattle.pid_tables.specs.Rows.Unread.{IsUnreadable}
+use Rattle.pid_tables.specs.Rows.Steps.Unread.{IsUnreadable}
 use Rattle.pid_tables.specs.declared.lists.walk.EachEnd.{EachEnd}
 use Rattle.pid_tables.specs.declared.lists.walk.EachEnd.TheVariants.{Tables, Fault}
 

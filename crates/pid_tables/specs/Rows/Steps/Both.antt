@@ -8,7 +8,7 @@ use Rattle.sqlite_trees.specs.declared.store.Store.{Ghosts}
 use Rattle.pid_tables.specs.declared.rows.fault.TableFault.{TableFault}
 use Rattle.pid_tables.specs.Rows.Clauses.{Executes, HasCleanDisk, seen}
 use Rattle.pid_tables.specs.Rows.Faults.{IsMemoryOrStore}
-use Rattle.pid_tables.specs.Rows.Queries.{IsWriteAs}
+use Rattle.pid_tables.specs.Rows.Steps.Queries.{IsWriteAs}
 
 -- the texts, each with its parameters
 pub record Both : Type 0 where

@@ -1,6 +1,6 @@
 use Rattle.std.specs.BTreeMap.Range.{entries_between}
 use Rattle.std.specs.declared.ops.Bound.TheVariants.{Included}
-use Rattle.pid_file.specs.PathTexts.{path_cmp}
+use Rattle.pid_file.specs.Steps.Paths.{path_cmp}
 use Rattle.std.proofs.Common.{sym, ◌∙◌}
 use Rattle.pid_tree.proofs.Between.{all_remain, fewer_remain}
 use mathlib.Core.Bool.{true≢false}

@@ -1,7 +1,7 @@
 use Rattle.std.proofs.Common.{◌≡◌, false, [], ◌∙◌, sym, refl, arith, inr}
 use mathlib.Core.Logic.{⊎_elim}
 use Rattle.pid_file.specs.LookingBack.{entry_of, is_block}
-use Rattle.pid_file.specs.OpenLevels.{open_behind}
+use Rattle.pid_file.specs.Steps.OpenLevels.{open_behind}
 use Rattle.pid_file.specs.SeenPaths.{has_seen}
 use Rattle.pid_file.proofs.OneMoreLine.{block_refused, block_good, quiet_good, quiet_taken, kept_by, duplicate_refused, many_refused, item_taken, not_true, not_false}
 use Rattle.pid_file.proofs.progress.Progress.admit.Goals as goal

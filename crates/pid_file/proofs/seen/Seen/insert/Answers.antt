@@ -1,5 +1,5 @@
 use Rattle.std.proofs.Common.{◌≡◌, ◌∙◌, sym, ap, subst, not, ◌++◌, ◌∷◌, [], if◌then◌else◌}
-use Rattle.pid_file.specs.SeenItems.{IsOneMore}
+use Rattle.pid_file.specs.Steps.SeenPaths.{IsOneMore}
 use Rattle.pid_file.proofs.Rising.{run_one_more, rest_one_more}
 use Rattle.pid_file.proofs.seen.Seen.insert.Goals as goal
 

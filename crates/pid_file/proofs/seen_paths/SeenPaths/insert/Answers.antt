@@ -3,8 +3,10 @@ use mathlib.Core.Logic.{⊎_elim}
 use Rattle.std.specs.Ordering.{nat_cmp}
 use Rattle.pid_file.specs.PathTexts.{IsPath}
 use Rattle.pid_file.specs.Steps.PathPlaces.{path_key}
-use Rattle.pid_file.specs.SeenItems.{IsOneMore, has_item, seen_items}
-use Rattle.pid_file.specs.SeenPaths.{has_seen, with_path}
+use Rattle.pid_file.specs.SeenItems.{has_item, seen_items}
+use Rattle.pid_file.specs.Steps.SeenPaths.{IsOneMore}
+use Rattle.pid_file.specs.SeenPaths.{has_seen}
+use Rattle.pid_file.specs.Steps.SeenPaths.{with_path}
 use Rattle.pid_file.proofs.SeenMore.{if_ok, vendor_more, class_more, generic_more, below_more, nested_seen, part_of}
 use Rattle.pid_file.proofs.seen_paths.SeenPaths.insert.Goals as goal
 

@@ -1,7 +1,7 @@
 use Rattle.std.proofs.Common.{Ok, [], ◌∙◌, sym, subst, reverse}
 use Rattle.std.specs.BTreeMap.{IsFromIterResult}
 use Rattle.std.proofs.lemmas.Iterator.Adapters.{fact_from_collect, YieldsList-from_vec}
-use Rattle.pid_file.specs.PathTexts.{path_cmp}
+use Rattle.pid_file.specs.Steps.Paths.{path_cmp}
 use Rattle.pid_file.specs.Trees.{IsTree}
 use Rattle.pid_file.proofs.WholeLemmas.{sound_tree, same_trees, turned}
 use Rattle.pid_file.proofs.tree.Tree.of_items.Goals as goal

@@ -2,8 +2,8 @@ use Rattle.std.proofs.Common.{rules, arith, ◌++◌, length, take, drop, refl, 
 use Rattle.std.specs.Io.KnownBytes.{Consumes}
 use Rattle.std.proofs.KnownBytes.{Consumes-nil}
 use Rattle.std.proofs.lemmas.List.{length-take-le, take-append-drop, take-append-le}
-use Rattle.pid_http_stream.specs.BodyLaws.{no_body_reads, no_turns}
-use Rattle.pid_http_stream.specs.MomentLaws.{since_none}
+use Rattle.pid_http_stream.specs.Steps.BodyLaws.{no_body_reads, no_turns}
+use Rattle.pid_ident.specs.Steps.MomentLaws.{since_none}
 use Rattle.pid_http_stream.specs.Steps.Intakes.{IsMoment}
 use Rattle.pid_http_stream.specs.declared.body_input.BodyFault.TheVariants.{Short, ReadFault, TurnsSpent}
 use Rattle.pid_http_stream.proofs.Noting.{since_noted}

@@ -1,4 +1,4 @@
-use Rattle.std.proofs.Common.{inl, inr, Result, Err, ap, subst, ◌∙◌}
+use Rattle.std.proofs.Common.{inl, inr, Result, Err, ap, sym, subst, ◌∙◌}
 use Rattle.pid_moderation.specs.declared.lists.Status.{Status}
 use Rattle.pid_moderation.specs.declared.refusal.Refusal.{Refusal}
 use Rattle.pid_moderation.specs.declared.refusal.Refusal.TheVariants.{Failed}
@@ -7,7 +7,9 @@ use Rattle.pid_moderation.specs.Views.{views_of}
 use Rattle.pid_journal.specs.Pairs.{PairShows}
 use Rattle.pid_journal.specs.Steps.Living.{registry_off}
 use Rattle.pid_journal.proofs.Forms.{broken_stays, tells_any}
-use Rattle.pid_journal.proofs.Noted.{fault_of, is_error}
+use Rattle.pid_journal.specs.Steps.Parts.{IsUnmarked}
+use Rattle.pid_journal.proofs.Marks.{unmarked}
+use Rattle.pid_journal.proofs.Noted.{fault_of, is_error, unnoted}
 use Rattle.pid_journal.proofs.Probing.{refusal_or}
 use Rattle.pid_journal.proofs.Pairing.{not_both, still_shows, with_registry}
 use Rattle.pid_journal.proofs.Resuming.{entry_at}
@@ -57,3 +59,13 @@ returns-clause-obeyed g c clean start h shows =
 pub returns-clause-failed : goal.returns-clause-failed
 returns-clause-failed g c off =
     let f = c.in_ok-status.ensures.failed (registry_off c.args.self.now.failed (g.R.Moderated.is_live c.args.self.now.registry) c.if-self.false off) in absurd (let no : ⊥ = cc (f.0) in no)
+
+-- a file that is not UTF-8
+pub returns-then-branch-clause-obeyed : goal.returns-then-branch-clause-obeyed
+returns-then-branch-clause-obeyed g c clean start h shows =
+    let t = c.in_ok-status.ensures.told (c.obey.ensures.honest clean) h shows.shown in
+    unnoted g.R.Moderated g.J.JournalFile start h (with_registry g.R.Moderated g.J.JournalFile c.args.self.now c.status.new.self) c.obey.new.self c.obey.result (asks c.args.command)
+    (still_shows g.R.Moderated g.J.JournalFile start h c.args.self.now c.status.new.self shows t.1) (c.in_ok-has_no_line.ensures.never c.if-branch.true h) (c.obey.ensures.obeys clean h t.1)
+
+pub obey_noted-requires : goal.obey_noted-requires
+obey_noted-requires g c = subst IsUnmarked (sym c.as_bytes.ensures.value) (unmarked _ _ _ c.in_ok-entry.ensures.reads_back)

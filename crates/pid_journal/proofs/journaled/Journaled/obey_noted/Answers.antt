@@ -3,6 +3,7 @@ use Rattle.pid_moderation.specs.Files.{asks}
 use Rattle.pid_moderation.specs.Judgement.{after}
 use Rattle.pid_moderation.specs.Views.{views_of}
 use Rattle.pid_journal.specs.Steps.Parts.{IsCutBack}
+use Rattle.pid_journal.proofs.Marks.{appended_part, grown, grown_back, grown_marked, left_within, marked_or_not}
 use Rattle.pid_journal.proofs.Noted.{counted, done, fallen, judged, shows_same, taken_back}
 use Rattle.pid_journal.proofs.Pairing.{not_both}
 use Rattle.pid_journal.proofs.journaled.Journaled.obey_noted.Goals as goal
@@ -14,7 +15,7 @@ returns-in-Err-clause-honest g c clean = subst g.R.Moderated.showing.is_clean c.
 pub returns-in-Err-clause-obeyed : goal.returns-in-Err-clause-obeyed
 returns-in-Err-clause-obeyed g c clean start h shows is =
     let mid = record c.args.self.now { journal = c.append.new.self } in
-    let part = c.in-Err.ensures shows.text shows.safe in
+    let part = c.in-Err.ensures.appended shows.text shows.safe in
     let count = counted (g.J.JournalFile.safe c.args.self.now.journal) shows.text c.count-count.result shows.safe c.count-count.ensures in
     inr (
       inr refl,
@@ -26,9 +27,9 @@ returns-in-Err-clause-obeyed g c clean start h shows is =
 -- the command was judged
 pub returns-then-not-is_fault-clause-obeyed : goal.returns-then-not-is_fault-clause-obeyed
 returns-then-not-is_fault-clause-obeyed g c clean start h shows is =
-    let new = record c.args.self.now { registry = c.obey-answer.new.self; journal = c.append.new.self } in
+    let new = record c.args.self.now { registry = c.obey-answer.new.self; journal = c.mark.new.self } in
     elim (c.obey-answer.ensures.obeys clean h shows.shown) [
-      | inl told ↦ inl (told.0, judged g.R.Moderated g.J.JournalFile start h new shows.text c.args.entry.now (asks c.args.command) shows.leads is told.1 (c.in-Ok.ensures shows.text shows.safe) shows.settled)
+      | inl told ↦ inl (told.0, judged g.R.Moderated g.J.JournalFile start h new shows.text c.args.entry.now (asks c.args.command) (g.J.JournalFile.safe c.append.new.self) shows.leads is told.1 (c.in-Ok.ensures.appended shows.text shows.safe) (marked_or_not _ _ c.mark.ensures) shows.settled)
       | inr fault ↦ absurd (c.is_fault.ensures.no c.if-not-is_fault.true fault.0)
     ]
 
@@ -44,7 +45,7 @@ returns-then-not-is_answering-clause-obeyed g c clean start h shows is =
     let end = c.obey-answer.ensures.obeys (probe.clean clean) h shows.shown in
     elim (done h (asks c.args.command) c.obey-answer.result (c.judgements_are_outcomes.ensures (views_of h) (asks c.args.command)) fault end) [
       | inl shown ↦ absurd (not_both c.is_answering.result (probe.shown clean h shown).0 c.if-not-is_answering.true)
-      | inr fails ↦ inr (fault, inr (fallen g.R.Moderated g.J.JournalFile start h new shows.text c.args.entry.now (asks c.args.command) shows.leads is (probe.fallen h (after h (asks c.args.command)) fails).1 (c.in-Ok.ensures shows.text shows.safe)))
+      | inr fails ↦ inr (fault, inr (fallen g.R.Moderated g.J.JournalFile start h new shows.text c.args.entry.now (asks c.args.command) shows.leads is (probe.fallen h (after h (asks c.args.command)) fails).1 (c.in-Ok.ensures.appended shows.text shows.safe)))
     ]
 
 -- it was not obeyed
@@ -64,8 +65,41 @@ returns-else-not-is_answering-clause-obeyed g c clean start h shows is =
       | inl shown ↦ inr (
         fault,
         taken_back g.R.Moderated g.J.JournalFile start h mid c.take_back.new.self shows.text c.args.entry.now c.args.entry.now [] (asks c.args.command) shows.leads is (sym (append-nil c.args.entry.now))
-            (shows_same g.R.Moderated g.J.JournalFile _ _ h same (probe.shown asked h shown).1) (c.in-Ok.ensures shows.text shows.safe) shows.settled
+            (shows_same g.R.Moderated g.J.JournalFile _ _ h same (probe.shown asked h shown).1) (c.in-Ok.ensures.appended shows.text shows.safe) shows.settled
             (subst (IsCutBack g.J.JournalFile mid c.take_back.new.self) (sym count) c.take_back.ensures.taken),
       )
       | inr fails ↦ absurd (not_both c.is_answering.result c.if-not-is_answering.false (probe.fallen h (after h (asks c.args.command)) fails).0)
     ]
+
+-- WHAT STAYS
+
+pub take_back-requires : goal.take_back-requires
+take_back-requires g c =
+    left_within (g.J.JournalFile.safe c.args.self.now.journal) (g.J.JournalFile.safe c.append.new.self) c.args.entry.now c.count-count.result c.requires c.count-count.ensures c.in-Ok.ensures.unknown
+    (appended_part (g.J.JournalFile.safe c.args.self.now.journal) (g.J.JournalFile.safe c.append.new.self) c.args.entry.now c.in-Ok.ensures.appended)
+
+pub take_back-requires-in-Err : goal.take_back-requires-in-Err
+take_back-requires-in-Err g c =
+    left_within (g.J.JournalFile.safe c.args.self.now.journal) (g.J.JournalFile.safe c.append.new.self) c.args.entry.now c.count-count.result c.requires c.count-count.ensures c.in-Err.ensures.unknown c.in-Err.ensures.appended
+
+pub returns-then-not-is_fault-clause-kept : goal.returns-then-not-is_fault-clause-kept
+returns-then-not-is_fault-clause-kept g c =
+    let old = g.J.JournalFile.safe c.args.self.now.journal in
+    let mid = g.J.JournalFile.safe c.append.new.self in
+    grown_marked old mid (g.J.JournalFile.safe c.mark.new.self) (grown old mid c.args.entry.now (appended_part old mid c.args.entry.now c.in-Ok.ensures.appended)) (marked_or_not _ _ c.mark.ensures)
+
+pub returns-then-not-is_answering-clause-kept : goal.returns-then-not-is_answering-clause-kept
+returns-then-not-is_answering-clause-kept g c =
+    let old = g.J.JournalFile.safe c.args.self.now.journal in
+    let mid = g.J.JournalFile.safe c.append.new.self in
+    grown old mid c.args.entry.now (appended_part old mid c.args.entry.now c.in-Ok.ensures.appended)
+
+pub returns-else-not-is_answering-clause-kept : goal.returns-else-not-is_answering-clause-kept
+returns-else-not-is_answering-clause-kept g c =
+    let old = g.J.JournalFile.safe c.args.self.now.journal in
+    let mid = g.J.JournalFile.safe c.append.new.self in
+    grown_back old mid (g.J.JournalFile.safe c.take_back.new.self.journal) c.args.entry.now c.count-count.result c.count-count.ensures (appended_part old mid c.args.entry.now c.in-Ok.ensures.appended) c.take_back.ensures.kept
+
+pub returns-in-Err-clause-kept : goal.returns-in-Err-clause-kept
+returns-in-Err-clause-kept g c =
+    grown_back (g.J.JournalFile.safe c.args.self.now.journal) (g.J.JournalFile.safe c.append.new.self) (g.J.JournalFile.safe c.take_back-in-Err.new.self.journal) c.args.entry.now c.count-count.result c.count-count.ensures c.in-Err.ensures.appended c.take_back-in-Err.ensures.kept

@@ -1,8 +1,8 @@
 use Rattle.std.proofs.Common.{refl, sym, ◌∙◌}
 use Rattle.std.proofs.lemmas.List.Folds.{Any-from_list_any}
 use Rattle.std.specs.Ordering.{eq_by_cmp}
-use Rattle.pid_file.specs.PathTexts.{path_cmp}
-use Rattle.pid_lookup.specs.Kept.{kept_map}
+use Rattle.pid_file.specs.Steps.Paths.{path_cmp}
+use Rattle.pid_lookup.specs.Steps.Kept.{kept_map}
 use Rattle.pid_lookup.proofs.Entries.{is_kept, keeps_only, not_asked}
 use Rattle.pid_lookup.proofs.asked_names.AskedNamesSink.entry.Goals as goal
 

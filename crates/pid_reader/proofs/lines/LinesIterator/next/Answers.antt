@@ -1,6 +1,6 @@
 use Rattle.std.proofs.Common.{◌≡◌, ap, arith, refl, []}
 use Rattle.std.proofs.lemmas.List.{nil_from_length}
-use Rattle.pid_file.specs.OpenLevels.{items_of}
+use Rattle.pid_file.specs.Steps.OpenLevels.{items_of}
 use Rattle.pid_reader.proofs.LinesTold.{left_quiet, left_entry, left_fault, left_none, no_items}
 use Rattle.pid_reader.proofs.lines.LinesIterator.next.Goals as goal
 

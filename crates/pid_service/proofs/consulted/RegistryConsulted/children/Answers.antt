@@ -1,5 +1,19 @@
-use Rattle.pid_service.proofs.Consulting.{asked}
+use Rattle.std.proofs.Common.{refl}
+use Rattle.pid_service.proofs.Consulting.{promised}
+use Rattle.pid_service.proofs.Questions.{answers_read, failed_here}
 use Rattle.pid_service.proofs.consulted.RegistryConsulted.children.Goals as goal
 
-pub returns-clause-answered : goal.returns-clause-answered
-returns-clause-answered g c = asked g.S.Store c.args.self.now c.children.new.self c.children.result _ c.children.ensures.answers
+pub returns-then-not-self : goal.returns-then-not-self
+returns-then-not-self g c =
+    promised g.S.Store c.args.self.now _ _ _
+    (failed_here g.S.Store c.args.self.now _ c.if-not-self.true c.args.self.now.settled)
+
+pub returns-in-None : goal.returns-in-None
+returns-in-None g c =
+    promised g.S.Store c.args.self.now _ _ _
+    (rw c.in-None.is c.top.ensures)
+
+pub returns-in-Some : goal.returns-in-Some
+returns-in-Some g c =
+    promised g.S.Store c.args.self.now _ _ _
+    (answers_read g.S.Store c.args.self.now _ c.children.result c.or_refusal.result _ _ c.if-not-self.false refl refl c.children.ensures c.or_refusal.ensures c.reached_histories_are_kept.ensures.readable (λ h items shows clean told. told (c.reached_histories_are_kept.ensures.items h shows.history).0))

@@ -1,5 +1,14 @@
-use Rattle.pid_service.proofs.Consulting.{asked}
+use Rattle.std.proofs.Common.{refl}
+use Rattle.pid_service.proofs.Consulting.{promised}
+use Rattle.pid_service.proofs.Questions.{answers_behind, answers_refused}
 use Rattle.pid_service.proofs.consulted.RegistryConsulted.queue.Goals as goal
 
-pub returns-clause-answered : goal.returns-clause-answered
-returns-clause-answered g c = asked g.S.Store c.args.self.now c.queue.new.self c.queue.result _ c.queue.ensures.answers
+pub returns-in-Ok : goal.returns-in-Ok
+returns-in-Ok g c =
+    promised g.S.Store c.args.self.now _ _ _
+    (answers_behind g.S.Store c.args.self.now c.keep_pending.new.self _ _ c.queue_by.result c.or_refusal.result _ _ _ c.in-Ok.ensures refl refl c.queue_by.ensures c.or_refusal.ensures c.reached_histories_are_kept.ensures.readable (λ h queue shows clean told. told (shows.kept clean).pending))
+
+pub returns-in-Err : goal.returns-in-Err
+returns-in-Err g c =
+    promised g.S.Store c.args.self.now _ _ _
+    (answers_refused g.S.Store c.args.self.now c.keep_pending.new.self c.in-Err.refusal _ _ c.in-Err.ensures)

@@ -35,13 +35,13 @@ returns-in-Ok-Some-clause-kept g c =
         lives = shows.lives;
         history = shows.history;
         tables = shows.tables;
-        kept = λ clean. record { names = c.get.ensures.agrees (λ path. name_at path (items_of h)) (shows.kept clean).names; text = (shows.kept clean).text; top = (shows.kept clean).top; changes = (shows.kept clean).changes; pending = (shows.kept clean).pending; numbers = (shows.kept clean).numbers };
+        kept = λ clean. record { names = c.get.ensures.agrees (λ path. name_at path (items_of h)) (shows.kept clean).names; text = (shows.kept clean).text; top = (shows.kept clean).top; changes = (shows.kept clean).changes; pending = (shows.kept clean).pending; numbers = (shows.kept clean).numbers; accounts = (shows.kept clean).accounts };
       };
       was_honest = λ clean. clean;
       faults = λ f. (λ may. may, λ may. may);
       told = (λ may. may, λ may. may);
       asked = λ start asked.
-          asked_then g.S.Store start c.args.self.now _ on refl (nothing_read (state g.S.Store c.args.self.now.tables.conn) c.args.self.now.settled) (record { text = refl; top = refl; pending = refl; read = refl }) asked;
+          asked_then g.S.Store start c.args.self.now _ on refl (nothing_read (state g.S.Store c.args.self.now.tables.conn) c.args.self.now.settled) asked;
     }
 
 pub returns-in-Err-clause-kept : goal.returns-in-Err-clause-kept
@@ -52,13 +52,13 @@ returns-in-Err-clause-kept g c =
         lives = shows.lives;
         history = shows.history;
         tables = shows.tables;
-        kept = λ clean. record { names = c.get.ensures.agrees (λ path. name_at path (items_of h)) (shows.kept clean).names; text = (shows.kept clean).text; top = (shows.kept clean).top; changes = (shows.kept clean).changes; pending = (shows.kept clean).pending; numbers = (shows.kept clean).numbers };
+        kept = λ clean. record { names = c.get.ensures.agrees (λ path. name_at path (items_of h)) (shows.kept clean).names; text = (shows.kept clean).text; top = (shows.kept clean).top; changes = (shows.kept clean).changes; pending = (shows.kept clean).pending; numbers = (shows.kept clean).numbers; accounts = (shows.kept clean).accounts };
       };
       was_honest = λ clean. clean;
       faults = λ f. (λ may. may, λ may. may);
       told = (λ may. may, λ may. may);
       asked = λ start asked.
-          asked_then g.S.Store start c.args.self.now _ on refl (nothing_read (state g.S.Store c.args.self.now.tables.conn) c.args.self.now.settled) (record { text = refl; top = refl; pending = refl; read = refl }) asked;
+          asked_then g.S.Store start c.args.self.now _ on refl (nothing_read (state g.S.Store c.args.self.now.tables.conn) c.args.self.now.settled) asked;
     }
 
 -- ---- the tables are asked
@@ -79,12 +79,12 @@ returns-in-Ok-clause-kept g c =
         kept = λ clean.
             let at : List ℕ → Option (List ℕ) = λ path. name_at path (items_of h) in
             let kept = shows.kept (rests.clean clean) in
-            record { names = c.put.ensures.agrees at (sym (c.in-Ok.ensures.told clean (views_of h) shows.tables)) (c.get.ensures.agrees at kept.names); text = kept.text; top = kept.top; changes = kept.changes; pending = kept.pending; numbers = kept.numbers };
+            record { names = c.put.ensures.agrees at (sym (c.in-Ok.ensures.told clean (views_of h) shows.tables)) (c.get.ensures.agrees at kept.names); text = kept.text; top = kept.top; changes = kept.changes; pending = kept.pending; numbers = kept.numbers; accounts = kept.accounts };
       };
       was_honest = rests.clean;
       faults = λ f. (λ may. may, λ may. may);
       told = (λ may. may, λ may. may);
-      asked = λ start asked. asked_then g.S.Store start c.args.self.now _ on refl rests (record { text = refl; top = refl; pending = refl; read = refl }) asked;
+      asked = λ start asked. asked_then g.S.Store start c.args.self.now _ on refl rests asked;
     }
 
 pub returns-in-Err-item-clause-kept : goal.returns-in-Err-item-clause-kept
@@ -98,12 +98,12 @@ returns-in-Err-item-clause-kept g c =
         tables = rests.kept (views_of h) shows.tables;
         kept = λ clean.
             let kept = shows.kept (rests.clean clean) in
-            record { names = c.get.ensures.agrees (λ path. name_at path (items_of h)) kept.names; text = kept.text; top = kept.top; changes = kept.changes; pending = kept.pending; numbers = kept.numbers };
+            record { names = c.get.ensures.agrees (λ path. name_at path (items_of h)) kept.names; text = kept.text; top = kept.top; changes = kept.changes; pending = kept.pending; numbers = kept.numbers; accounts = kept.accounts };
       };
       was_honest = rests.clean;
       faults = λ f. (λ may. may, λ may. may);
       told = (λ may. may, λ may. may);
-      asked = λ start asked. asked_then g.S.Store start c.args.self.now _ on refl rests (record { text = refl; top = refl; pending = refl; read = refl }) asked;
+      asked = λ start asked. asked_then g.S.Store start c.args.self.now _ on refl rests asked;
     }
 
 -- ---- why a fault came

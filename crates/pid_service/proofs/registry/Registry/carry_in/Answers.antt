@@ -3,9 +3,11 @@ use Rattle.pid_tables.specs.declared.put_file.Stop.TheVariants as stops
 use Rattle.pid_service_laws.specs.declared.faults.ImportEnd.TheVariants as imports
 use Rattle.pid_moderation.specs.History.{asked}
 use Rattle.pid_moderation.specs.Files.{file_reading}
+use Rattle.pid_moderation.specs.Views.{views_of}
 use Rattle.pid_service.proofs.Imported.{body_carried, body_read, failed_carried, failed_read, failure_not, ok_obeyed, refusal_not, refused_alive, refused_carried, refused_read, stop_not}
 use Rattle.pid_service.proofs.ImportCauses.{refused_stays}
-use Rattle.pid_service.proofs.Keeping.{nothing_kept, ok_not}
+use Rattle.pid_service.proofs.ForgottenItems.{all_left, import_leaves}
+use Rattle.pid_service.proofs.Keeping.{ok_not}
 use Rattle.pid_service.proofs.Lasting.{fault_alive}
 use Rattle.pid_service.proofs.registry.Registry.carry_in.Goals as goal
 
@@ -15,7 +17,7 @@ returns-in-Ok-clause-obeyed g c = let r = c.in-Ok.ensures.stops in
       text = r.0;
       consumed = r.1;
       read = r.2;
-      holds = λ clean h w. ok_obeyed g.S.Store c.args.self.now _ h (asked c.args.command.now (file_reading r.0)) c.in-Ok.reply w.shows refl w.reached (λ clean. nothing_kept _ _ c.clear.ensures) (r.3 clean h w.shows.tables w.shows.history.marked w.import w.waits w.many);
+      holds = λ clean h w. ok_obeyed g.S.Store c.args.self.now _ h (asked c.args.command.now (file_reading r.0)) c.in-Ok.reply w.shows refl w.reached (λ clean. c.forget_items.ensures (views_of h) _ (import_leaves h c.args.command.now (file_reading r.0) w.import) (w.shows.kept (c.bring_in.ensures.ends.clean clean))) (r.3 clean h w.shows.tables w.shows.history.marked w.import w.waits w.many);
     }
 
 pub returns-in-Err-Body-clause-obeyed : goal.returns-in-Err-Body-clause-obeyed
@@ -27,7 +29,7 @@ returns-in-Err-Body-clause-obeyed g c =
       consumed = r.1;
       read = body_read c.in-Err-Body.field-0 _ r.0 is r.2;
       holds = λ clean h w.
-          body_carried g.S.Store c.args.self.now _ h (asked c.args.command.now (file_reading r.0)) c.in-Err-Body.field-0 is w.shows refl (λ clean. nothing_kept _ _ c.clear.ensures)
+          body_carried g.S.Store c.args.self.now _ h (asked c.args.command.now (file_reading r.0)) c.in-Err-Body.field-0 is w.shows refl (λ clean. c.forget_items.ensures (views_of h) (views_of h) (all_left (views_of h)) (w.shows.kept (c.bring_in.ensures.ends.clean clean)))
           (r.3 clean h w.shows.tables w.shows.history.marked w.import w.waits w.many);
     }
 
@@ -40,7 +42,7 @@ returns-in-Err-Refused-clause-obeyed g c =
       consumed = r.1;
       read = refused_read c.in-Err-Refused.field-0 c.in-Err-Refused.refusal _ r.0 is r.2;
       holds = λ clean h w.
-          refused_carried g.S.Store c.args.self.now _ h (asked c.args.command.now (file_reading r.0)) c.in-Err-Refused.field-0 c.in-Err-Refused.refusal is w.shows refl (λ clean. nothing_kept _ _ c.clear.ensures)
+          refused_carried g.S.Store c.args.self.now _ h (asked c.args.command.now (file_reading r.0)) c.in-Err-Refused.field-0 c.in-Err-Refused.refusal is w.shows refl (λ clean. c.forget_items.ensures (views_of h) (views_of h) (all_left (views_of h)) (w.shows.kept (c.bring_in.ensures.ends.clean clean)))
           (r.3 clean h w.shows.tables w.shows.history.marked w.import w.waits w.many);
     }
 
@@ -81,9 +83,6 @@ returns-in-Ok-clause-held g c =
 pub returns-in-Ok-clause-clean : goal.returns-in-Ok-clause-clean
 returns-in-Ok-clause-clean g c = c.bring_in.ensures.ends.clean
 
-pub returns-in-Ok-clause-forgets : goal.returns-in-Ok-clause-forgets
-returns-in-Ok-clause-forgets g c = c.clear.ensures.items
-
 pub returns-in-Ok-clause-limit : goal.returns-in-Ok-clause-limit
 returns-in-Ok-clause-limit g c = c.bring_in.ensures.ends.limit
 
@@ -101,9 +100,6 @@ returns-in-Err-Body-clause-held g c =
 
 pub returns-in-Err-Body-clause-clean : goal.returns-in-Err-Body-clause-clean
 returns-in-Err-Body-clause-clean g c = c.bring_in.ensures.ends.clean
-
-pub returns-in-Err-Body-clause-forgets : goal.returns-in-Err-Body-clause-forgets
-returns-in-Err-Body-clause-forgets g c = c.clear.ensures.items
 
 pub returns-in-Err-Body-clause-limit : goal.returns-in-Err-Body-clause-limit
 returns-in-Err-Body-clause-limit g c = c.bring_in.ensures.ends.limit
@@ -124,9 +120,6 @@ returns-in-Err-Refused-clause-held g c =
 pub returns-in-Err-Refused-clause-clean : goal.returns-in-Err-Refused-clause-clean
 returns-in-Err-Refused-clause-clean g c = c.bring_in.ensures.ends.clean
 
-pub returns-in-Err-Refused-clause-forgets : goal.returns-in-Err-Refused-clause-forgets
-returns-in-Err-Refused-clause-forgets g c = c.clear.ensures.items
-
 pub returns-in-Err-Refused-clause-limit : goal.returns-in-Err-Refused-clause-limit
 returns-in-Err-Refused-clause-limit g c = c.bring_in.ensures.ends.limit
 
@@ -141,9 +134,6 @@ returns-in-Err-Failed-clause-held g c =
 
 pub returns-in-Err-Failed-clause-clean : goal.returns-in-Err-Failed-clause-clean
 returns-in-Err-Failed-clause-clean g c = c.bring_in.ensures.ends.clean
-
-pub returns-in-Err-Failed-clause-forgets : goal.returns-in-Err-Failed-clause-forgets
-returns-in-Err-Failed-clause-forgets g c = c.clear.ensures.items
 
 pub returns-in-Err-Failed-clause-limit : goal.returns-in-Err-Failed-clause-limit
 returns-in-Err-Failed-clause-limit g c = c.bring_in.ensures.ends.limit

@@ -16,7 +16,6 @@ returns-then-not-self g c = record {
   form = λ on. true_not c.args.self.now.live on c.if-not-self.true;
   obeyed = λ clean h shows. true_not c.args.self.now.live shows.lives c.if-not-self.true;
   caused = λ clean h shows. true_not c.args.self.now.live shows.lives c.if-not-self.true;
-  forgets = λ h shows. true_not c.args.self.now.live shows.lives c.if-not-self.true;
   lasts = record { alive = λ on. true_not c.args.self.now.live on c.if-not-self.true; stays = λ on. true_not c.args.self.now.live on c.if-not-self.true; fails = λ on. true_not c.args.self.now.live on c.if-not-self.true; limit = refl };
 }
 
@@ -34,6 +33,5 @@ returns g c =
       caused = λ clean h shows reading.
           subst (λ (k : Command). IfErr c.import_bytes-answer.result (Faults g.S.Store c.args.self.now.tables.conn c.import_bytes-answer.new.self.tables.conn c.import_bytes-answer.new.self.live h (asked k reading))) c.import_command-command.ensures
           (c.import_bytes-answer.ensures.caused clean h shows reading import);
-      forgets = c.import_bytes-answer.ensures.forgets;
       lasts = lasting g.S.Store c.args.self.now c.import_bytes-answer.new.self c.import_bytes-answer.result c.import_bytes-answer.ensures.lasts.live c.import_bytes-answer.ensures.lasts.limit;
     }

@@ -1,8 +1,8 @@
-use Rattle.std.proofs.Common.{inl, inr, refl, ◌∙◌}
+use Rattle.std.proofs.Common.{refl, ◌∙◌}
 use Rattle.pid_moderation.specs.History.{asked}
 use Rattle.pid_moderation.specs.Files.{file_reading}
 use Rattle.pid_service.proofs.ImportCauses.{Faults, bad_text, early_faults, open_faults, past_faults}
-use Rattle.pid_service.proofs.Imported.{past_obeyed, past_spares}
+use Rattle.pid_service.proofs.Imported.{past_obeyed}
 use Rattle.pid_service.proofs.Lasting.{still_live}
 use Rattle.pid_service.proofs.Obeyed.{only_read}
 use Rattle.pid_service.proofs.registry.Registry.import_act.Goals as goal
@@ -13,15 +13,10 @@ returns-in-Answered-clause-taken g c = let r = c.answer_past.ensures.past in
       text = r.text;
       consumed = r.consumed;
       read = r.read;
-      holds = record {
-        obeyed = λ clean h shows import.
-            past_obeyed g.S.Store _ h c.args.command.now c.in-Answered.answer c.answer_past.result r.text c.long_files_are_refused.ensures.readings c.long_files_are_refused.ensures.refused import
-            (only_read g.S.Store c.args.self.now _ h refl c.judge_import.ensures.rests refl shows)
-            (c.in-Answered.ensures.judged clean h (c.reached_histories_are_kept.ensures.sound h shows.history) shows.tables) r.holds;
-        spares = λ clean h shows import.
-            inr (past_spares h c.args.command.now c.in-Answered.answer c.answer_past.result r.text c.long_files_are_refused.ensures.readings c.long_files_are_refused.ensures.refused import
-            (c.in-Answered.ensures.judged clean h (c.reached_histories_are_kept.ensures.sound h shows.history) shows.tables) r.holds);
-      };
+      holds = λ clean h shows import.
+          past_obeyed g.S.Store _ h c.args.command.now c.in-Answered.answer c.answer_past.result r.text c.long_files_are_refused.ensures.readings c.long_files_are_refused.ensures.refused import
+          (only_read g.S.Store c.args.self.now _ h refl c.judge_import.ensures.rests refl shows)
+          (c.in-Answered.ensures.judged clean h (c.reached_histories_are_kept.ensures.sound h shows.history) shows.tables) r.holds;
     }
 
 pub returns-in-Open-clause-taken : goal.returns-in-Open-clause-taken
@@ -30,26 +25,17 @@ returns-in-Open-clause-taken g c = let r = c.carry_in-end.ensures.obeyed in
       text = r.text;
       consumed = r.consumed;
       read = r.read;
-      holds = record {
-        obeyed = λ clean h shows import.
-            let early = c.in-Open.ensures.judged (c.carry_in-end.ensures.clean clean) h (c.reached_histories_are_kept.ensures.sound h shows.history) shows.tables in
-            r.holds clean h
-            (record {
-              shows = only_read g.S.Store c.args.self.now _ h refl c.judge_import.ensures.rests refl shows;
-              import = import;
-              waits = early.0;
-              many = early.1;
-              reached = c.commands_lead_on.ensures h (asked c.args.command.now (file_reading r.text)) shows.history (c.command_is_well_made.ensures (file_reading r.text) (c.texts_read_to_files.ensures.readings r.text));
-            });
-        spares = λ clean h shows import. inl c.carry_in-end.ensures.forgets;
-      };
+      holds = λ clean h shows import.
+          let early = c.in-Open.ensures.judged (c.carry_in-end.ensures.clean clean) h (c.reached_histories_are_kept.ensures.sound h shows.history) shows.tables in
+          r.holds clean h
+          (record {
+            shows = only_read g.S.Store c.args.self.now _ h refl c.judge_import.ensures.rests refl shows;
+            import = import;
+            waits = early.0;
+            many = early.1;
+            reached = c.commands_lead_on.ensures h (asked c.args.command.now (file_reading r.text)) shows.history (c.command_is_well_made.ensures (file_reading r.text) (c.texts_read_to_files.ensures.readings r.text));
+          });
     }
-
-pub returns-in-Answered-clause-forgets : goal.returns-in-Answered-clause-forgets
-returns-in-Answered-clause-forgets g c h shows = inr (only_read g.S.Store c.args.self.now _ h refl c.judge_import.ensures.rests refl shows)
-
-pub returns-in-Open-clause-forgets : goal.returns-in-Open-clause-forgets
-returns-in-Open-clause-forgets g c h shows = inl c.carry_in-end.ensures.forgets
 
 pub returns-in-Answered-clause-lasts : goal.returns-in-Answered-clause-lasts
 returns-in-Answered-clause-lasts g c = record {
@@ -84,17 +70,11 @@ returns-in-Open-clause-caused g c clean h shows reading import =
 pub returns-in-Answered-clause-clean : goal.returns-in-Answered-clause-clean
 returns-in-Answered-clause-clean g c = c.judge_import.ensures.rests.clean
 
-pub returns-in-Answered-clause-none : goal.returns-in-Answered-clause-none
-returns-in-Answered-clause-none g c none = none
-
 pub returns-in-Answered-clause-reads : goal.returns-in-Answered-clause-reads
 returns-in-Answered-clause-reads g c = c.answer_past.ensures.reads
 
 pub returns-in-Open-clause-clean : goal.returns-in-Open-clause-clean
 returns-in-Open-clause-clean g c clean = c.judge_import.ensures.rests.clean (c.carry_in-end.ensures.clean clean)
-
-pub returns-in-Open-clause-none : goal.returns-in-Open-clause-none
-returns-in-Open-clause-none g c none = c.carry_in-end.ensures.forgets
 
 pub returns-in-Open-clause-reads : goal.returns-in-Open-clause-reads
 returns-in-Open-clause-reads g c = c.carry_in-end.ensures.reads

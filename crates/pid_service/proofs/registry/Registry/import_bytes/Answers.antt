@@ -2,18 +2,13 @@ use Rattle.std.proofs.Common.{sym, ◌∙◌}
 use Rattle.std.proofs.lemmas.Bool.{false≢true}
 use Rattle.pid_moderation.specs.History.{asked}
 use Rattle.pid_service.proofs.ImportCauses.{Faults, plain_faults}
-use Rattle.pid_service.proofs.Imported.{bytes_obeyed, bytes_spare}
+use Rattle.pid_service.proofs.Imported.{bytes_obeyed}
 use Rattle.pid_service.proofs.registry.Registry.import_bytes.Goals as goal
 
 pub returns-clause-obeyed : goal.returns-clause-obeyed
 returns-clause-obeyed g c clean h shows import short = let r = c.import_act-end.ensures.taken in
     bytes_obeyed g.S.Store c.import_act-end.result c.plain.result c.import_act-end.new.self h c.args.command.now c.args.file.now r.text c.import_act-end.new.input.rest.now c.plain.ensures.same
-    (λ e. absurd (false≢true (c.import_act-end.ensures.reads.fault e))) (sym c.new-input.ensures.rest ∙ r.consumed) r.read short (r.holds.obeyed clean h shows import)
-
-pub returns-clause-spares : goal.returns-clause-spares
-returns-clause-spares g c clean h shows import short = let r = c.import_act-end.ensures.taken in
-    bytes_spare g.S.Store c.import_act-end.result c.plain.result _ h c.args.command.now c.args.file.now r.text c.import_act-end.new.input.rest.now c.plain.ensures.same
-    (λ e. absurd (false≢true (c.import_act-end.ensures.reads.fault e))) (sym c.new-input.ensures.rest ∙ r.consumed) r.read short (r.holds.spares clean h shows import)
+    (λ e. absurd (false≢true (c.import_act-end.ensures.reads.fault e))) (sym c.new-input.ensures.rest ∙ r.consumed) r.read short (r.holds clean h shows import)
 
 pub returns-clause-lasts : goal.returns-clause-lasts
 returns-clause-lasts g c = record {
@@ -30,9 +25,3 @@ returns-clause-caused g c clean h shows reading import =
 
 pub returns-clause-clean : goal.returns-clause-clean
 returns-clause-clean g c = c.import_act-end.ensures.clean
-
-pub returns-clause-forgets : goal.returns-clause-forgets
-returns-clause-forgets g c = c.import_act-end.ensures.forgets
-
-pub returns-clause-none : goal.returns-clause-none
-returns-clause-none g c = c.import_act-end.ensures.none

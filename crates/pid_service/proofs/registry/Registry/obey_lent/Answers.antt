@@ -8,46 +8,31 @@ use Rattle.pid_service.specs.Histories.{Shows}
 use Rattle.pid_service.specs.Obeying.{Obeys}
 use Rattle.pid_service.specs.Registries.{HasCleanDisk}
 use Rattle.pid_service.specs.Steps.Judging.{JudgesCommand}
-use Rattle.pid_service.specs.Steps.Obeying.{SparesNames}
 use Rattle.pid_service.proofs.ImportCauses.{bad_text}
 use Rattle.pid_service.proofs.Imported.{file_given}
 use Rattle.pid_service.proofs.Keeping.{true_not}
 use Rattle.pid_service.proofs.Lasting.{carried, lasting, not_failed}
-use Rattle.pid_service.proofs.Obeyed.{broken_form, broken_spares, failed_over, judged_for, off_fails, only_read, refused, repeats, refused_spares, spare_forgets, then_spares, well_made}
+use Rattle.pid_service.proofs.Obeyed.{broken_form, failed_over, judged_for, only_read, refused, well_made}
 use Rattle.pid_service.proofs.ReadFiles.{tells_any}
 use Rattle.pid_service.proofs.registry.Registry.obey_lent.Goals as goal
 
 -- ---- a registry that has failed
 
-pub returns-then-not-self-clause-does : goal.returns-then-not-self-clause-does
-returns-then-not-self-clause-does g c = record {
+pub returns-then-not-self : goal.returns-then-not-self
+returns-then-not-self g c = record {
   clean = λ clean. clean;
   failed = λ still. (refl, refl);
   form = λ on. true_not c.args.self.now.live on c.if-not-self.true;
   obeyed = λ clean h shows. true_not c.args.self.now.live shows.lives c.if-not-self.true;
   caused = λ clean h shows. true_not c.args.self.now.live shows.lives c.if-not-self.true;
   import_caused = λ clean h shows. true_not c.args.self.now.live shows.lives c.if-not-self.true;
-  forgets = λ clean h shows. true_not c.args.self.now.live shows.lives c.if-not-self.true;
-  unmoved = λ other same. refl;
-  repeated = λ clean h shows. true_not c.args.self.now.live shows.lives c.if-not-self.true;
-  read = λ other. tt;
-  carried = λ clean h shows. true_not c.args.self.now.live shows.lives c.if-not-self.true;
   lasts = record { alive = λ on. true_not c.args.self.now.live on c.if-not-self.true; stays = λ on. true_not c.args.self.now.live on c.if-not-self.true; fails = λ on. true_not c.args.self.now.live on c.if-not-self.true; limit = refl };
 }
 
-pub returns-then-not-self-clause-spares : goal.returns-then-not-self-clause-spares
-returns-then-not-self-clause-spares g c clean h shows = true_not c.args.self.now.live shows.lives c.if-not-self.true
-
-pub returns-then-not-self-clause-none : goal.returns-then-not-self-clause-none
-returns-then-not-self-clause-none g c none = none
-
 -- ---- what breaks a rule of form
 
-pub returns-then-breaks_form-clause-none : goal.returns-then-breaks_form-clause-none
-returns-then-breaks_form-clause-none g c none = none
-
-pub returns-then-breaks_form-clause-does : goal.returns-then-breaks_form-clause-does
-returns-then-breaks_form-clause-does g c =
+pub returns-then-breaks_form : goal.returns-then-breaks_form
+returns-then-breaks_form g c =
     let is = λ (h : History). c.breaks_form.ensures.refused (views_of h) (file_reading (file_of c.args.command.now.act)) (tells_any c.args.command.now.act) c.if-breaks_form.true in
     record {
       clean = λ clean. clean;
@@ -56,22 +41,13 @@ returns-then-breaks_form-clause-does g c =
       obeyed = λ clean h shows. broken_form g.S.Store c.args.self.now h (asks c.args.command.now) shows (is h);
       caused = λ clean h shows other. inl (ap answer (is h));
       import_caused = λ clean h shows import. bad_text;
-      forgets = λ clean h shows other. inr shows;
-      unmoved = λ other same. refl;
-      repeated = λ clean h shows other reply is. refl;
-      read = λ other. tt;
-      carried = λ clean h shows other. tt;
       lasts = lasting g.S.Store c.args.self.now c.args.self.now _ (not_failed, inr refl) refl;
     }
 
-pub returns-then-breaks_form-clause-spares : goal.returns-then-breaks_form-clause-spares
-returns-then-breaks_form-clause-spares g c clean h shows =
-    broken_spares _ h (asks c.args.command.now) (c.breaks_form.ensures.refused (views_of h) (file_reading (file_of c.args.command.now.act)) (tells_any c.args.command.now.act) c.if-breaks_form.true)
-
 -- ---- an import
 
-pub returns-in-Import-clause-does : goal.returns-in-Import-clause-does
-returns-in-Import-clause-does g c =
+pub returns-in-Import : goal.returns-in-Import
+returns-in-Import g c =
     let sound : is_broken c.args.command.now.act ≡ false = sym c.breaks_form.ensures.broken ∙ c.if-breaks_form.false in
     let import : is_import c.args.command.now.act ≡ true = ap is_import c.in-Import.is in
     record {
@@ -83,24 +59,13 @@ returns-in-Import-clause-does g c =
           (λ import short. c.import_bytes.ensures.obeyed clean h shows import short);
       caused = λ clean h shows other. true_not (is_import c.args.command.now.act) import other;
       import_caused = λ clean h shows import. c.import_bytes.ensures.caused clean h shows (reading_of c.args.command.now.act) import;
-      forgets = λ clean h shows other. c.import_bytes.ensures.forgets h shows;
-      unmoved = λ other. true_not (is_import c.args.command.now.act) import other;
-      repeated = λ clean h shows other. true_not (is_import c.args.command.now.act) import other;
-      read = λ other. true_not (is_import c.args.command.now.act) import other;
-      carried = λ clean h shows other. true_not (is_import c.args.command.now.act) import other;
       lasts = lasting g.S.Store c.args.self.now c.import_bytes.new.self c.import_bytes.result c.import_bytes.ensures.lasts.live c.import_bytes.ensures.lasts.limit;
     }
 
-pub returns-in-Import-clause-spares : goal.returns-in-Import-clause-spares
-returns-in-Import-clause-spares g c clean h shows =
-    let sound : is_broken c.args.command.now.act ≡ false = sym c.breaks_form.ensures.broken ∙ c.if-breaks_form.false in
-    file_given g.S.Store (λ (a : Asked). SparesNames c.import_bytes.result c.import_bytes.new.self h a) c.args.command.now c.in-Import.file c.as_bytes.result.now c.in-Import.is c.as_bytes.ensures sound
-    (λ import short. c.import_bytes.ensures.spares clean h shows import short)
-
 -- ---- a refusal of the judgement, or a fault
 
-pub returns-in-Err-clause-does : goal.returns-in-Err-clause-does
-returns-in-Err-clause-does g c =
+pub returns-in-Err : goal.returns-in-Err
+returns-in-Err g c =
     let reading = file_reading (file_of c.args.command.now.act) in
     let other : is_import c.args.command.now.act ≡ false = search rules in
     record {
@@ -112,23 +77,13 @@ returns-in-Err-clause-does g c =
           (c.in-Err.ensures.judged clean h reading shows.history shows.tables other);
       import_caused = λ clean h shows import. true_not (is_import c.args.command.now.act) import other;
       caused = λ clean h shows same. judged_for g.S.Store c.args.self.now.tables.conn c.judge.new.tables.conn c.args.self.now.live h (asks c.args.command.now) c.in-Err.refusal shows.lives (c.in-Err.ensures.caused clean h reading shows.history shows.tables other);
-      forgets = λ clean h shows same. inr (only_read g.S.Store c.args.self.now _ h refl c.judge.ensures.rests refl shows);
-      unmoved = λ other live. refl;
-      repeated = λ clean h shows other reply is. refl;
-      read = λ other. tt;
-      carried = λ clean h shows other. tt;
       lasts = lasting g.S.Store c.args.self.now _ _ (c.in-Err.ensures.alive, inr refl) c.judge.ensures.rests.survives.limit;
     }
 
-pub returns-in-Err-clause-spares : goal.returns-in-Err-clause-spares
-returns-in-Err-clause-spares g c clean h shows =
-    let other : is_import c.args.command.now.act ≡ false = search rules in
-    refused_spares _ h (asks c.args.command.now) c.in-Err.refusal (c.in-Err.ensures.judged clean h (file_reading (file_of c.args.command.now.act)) shows.history shows.tables other)
-
 -- ---- what comes of it otherwise
 
-pub returns-in-Ok-clause-does : goal.returns-in-Ok-clause-does
-returns-in-Ok-clause-does g c =
+pub returns-in-Ok : goal.returns-in-Ok
+returns-in-Ok g c =
     let reading = file_reading (file_of c.args.command.now.act) in
     let other : is_import c.args.command.now.act ≡ false = search rules in
     let told : (clean : HasCleanDisk g.S.Store c.carry_out-answer.new.self) (h : History) (shows : Shows g.S.Store c.args.self.now h) → JudgesCommand h (asks c.args.command.now) (Ok c.in-Ok.judged) =
@@ -145,47 +100,6 @@ returns-in-Ok-clause-does g c =
             comes = told clean h shows;
           });
       import_caused = λ clean h shows import. true_not (is_import c.args.command.now.act) import other;
-      caused = λ clean h shows same. failed_over g.S.Store c.args.self.now c.carry_out-answer.new.self c.args.self.now.live h (asks c.args.command.now) c.in-Ok.judged c.carry_out-answer.result c.carry_out-answer.ensures.held (λ reply is. (c.carry_out-answer.ensures.kept.repeated reply is).0) (told clean h shows);
-      forgets = λ clean h shows.
-          spare_forgets g.S.Store c.carry_out-answer.new.self h (asks c.args.command.now)
-          (c.carry_out-answer.ensures.spares h (asks c.args.command.now)
-          (record {
-            shows = only_read g.S.Store c.args.self.now _ h refl c.judge.ensures.rests refl shows;
-            reached = c.commands_lead_on.ensures h (asks c.args.command.now) shows.history (well_made c.args.command.now reading other c.command_is_well_made.ensures);
-            comes = told clean h shows;
-          }));
-      unmoved = λ other. off_fails g.S.Store _ c.carry_out-answer.result c.args.self.now.live c.carry_out-answer.new.self.live c.carry_out-answer.ensures.held;
-      repeated = λ clean h shows other reply is. repeats g.S.Store _ h (asks c.args.command.now) c.in-Ok.judged reply (told clean h shows) is (λ kept same. (c.carry_out-answer.ensures.kept.repeated kept same).1);
-      read = λ other. c.carry_out-answer.ensures.kept.read;
-      carried = λ clean h shows other.
-          c.carry_out-answer.ensures.kept.carried h (asks c.args.command.now)
-          (record {
-            shows = only_read g.S.Store c.args.self.now _ h refl c.judge.ensures.rests refl shows;
-            reached = c.commands_lead_on.ensures h (asks c.args.command.now) shows.history (well_made c.args.command.now reading other c.command_is_well_made.ensures);
-            comes = told clean h shows;
-          });
+      caused = λ clean h shows same. failed_over g.S.Store c.args.self.now c.carry_out-answer.new.self c.args.self.now.live h (asks c.args.command.now) c.in-Ok.judged c.carry_out-answer.result c.carry_out-answer.ensures.held c.carry_out-answer.ensures.repeated (told clean h shows);
       lasts = lasting g.S.Store c.args.self.now c.carry_out-answer.new.self c.carry_out-answer.result (carried c.carry_out-answer.result c.args.self.now.live c.carry_out-answer.new.self.live c.carry_out-answer.ensures.held) (c.carry_out-answer.ensures.limit ∙ c.judge.ensures.rests.survives.limit);
     }
-
-pub returns-in-Ok-clause-spares : goal.returns-in-Ok-clause-spares
-returns-in-Ok-clause-spares g c clean h shows =
-    let reading = file_reading (file_of c.args.command.now.act) in
-    let other : is_import c.args.command.now.act ≡ false = search rules in
-    then_spares _ h (asks c.args.command.now) c.carry_out-answer.result
-    (c.carry_out-answer.ensures.spares h (asks c.args.command.now)
-    (record {
-      shows = only_read g.S.Store c.args.self.now _ h refl c.judge.ensures.rests refl shows;
-      reached = c.commands_lead_on.ensures h (asks c.args.command.now) shows.history (well_made c.args.command.now reading other c.command_is_well_made.ensures);
-      comes = c.in-Ok.ensures.judged (c.carry_out-answer.ensures.clean clean) h reading shows.history shows.tables other;
-    }))
-
--- ---- what is kept
-
-pub returns-in-Import-clause-none : goal.returns-in-Import-clause-none
-returns-in-Import-clause-none g c = c.import_bytes.ensures.none
-
-pub returns-in-Err-clause-none : goal.returns-in-Err-clause-none
-returns-in-Err-clause-none g c none = none
-
-pub returns-in-Ok-clause-none : goal.returns-in-Ok-clause-none
-returns-in-Ok-clause-none g c = c.carry_out-answer.ensures.none

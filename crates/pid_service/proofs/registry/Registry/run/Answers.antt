@@ -1,4 +1,4 @@
-use Rattle.std.proofs.Common.{◌≡◌, ℕ, ◌+◌, ◌<◌, ◌≤◌, List, [], ◌∷◌, Some, length, vec_capacity, vec_len, length-append, take, drop, map, suc, not, true, false, is_ok, is_some, inl, inr, refl, rules, sym, ap, subst, ◌∙◌, arith}
+use Rattle.std.proofs.Common.{◌≡◌, ℕ, ◌+◌, ◌<◌, ◌≤◌, List, [], ◌∷◌, Some, length, vec_capacity, vec_len, length-append, take, drop, map, suc, not, true, false, is_ok, is_some, inl, refl, rules, sym, ap, subst, ◌∙◌, arith}
 use Rattle.pid_moderation.specs.declared.refusal.Refusal.TheVariants.{Failed, Memory}
 use Rattle.pid_moderation.specs.History.{Asked}
 use Rattle.pid_moderation.specs.Judgement.{after_all}
@@ -7,7 +7,7 @@ use Rattle.std.specs.List.{AllByRecursion}
 use Rattle.pid_service.specs.Running.{ObeysInTurn, ReplyIsNotFailed}
 use Rattle.pid_service.proofs.Keeping.{true_not}
 use Rattle.pid_service.proofs.Lasting.{all_more, given_live, on_after, some_fault}
-use Rattle.pid_service.proofs.Runs.{ends_at, forgets_all, forgets_at, forgets_more, forgets_none, next_is, no_room, none_next, none_of, none_then, obeyed_more, one_more, runs_all, runs_none, so_many, some_not, turn_ends, turn_more, turn_none, turn_short, turn_stops}
+use Rattle.pid_service.proofs.Runs.{ends_at, next_is, no_room, none_next, none_of, obeyed_more, one_more, runs_all, runs_none, so_many, some_not, turn_ends, turn_more, turn_none, turn_short, turn_stops}
 use Rattle.pid_service.proofs.registry.Registry.run.Goals as goal
 
 -- ---- a registry that has failed
@@ -24,7 +24,6 @@ returns-then-not-self g c =
       most = let few : length c.new.result.items ≡ 0 = ap length none in omega (arith, few);
       ran = λ clean h shows. true_not c.args.self.now.live shows.lives c.if-not-self.true;
       in_turn = λ on. true_not c.args.self.now.live on c.if-not-self.true;
-      forgets = λ clean h shows. true_not c.args.self.now.live shows.lives c.if-not-self.true;
       stays = λ on. true_not c.args.self.now.live on c.if-not-self.true;
       fails = λ on. true_not c.args.self.now.live on c.if-not-self.true;
       alive = λ on. true_not c.args.self.now.live on c.if-not-self.true;
@@ -46,7 +45,6 @@ returns-in_default g c =
       most = omega (arith, less);
       ran = λ clean h shows. runs_none g.S.Store asks _ _ h c.args.commands.now Memory none refl (inl refl) less shows;
       in_turn = λ on. turn_short g.S.Store _ c.args.commands.now c.args.self.now none refl less;
-      forgets = λ clean h shows. forgets_none g.S.Store _ c.args.self.now h (map asks c.args.commands.now) none shows;
       stays = λ on fine. on;
       fails = λ on off. inl refl;
       alive = λ on. subst (AllByRecursion ReplyIsNotFailed) (sym none) tt;
@@ -73,7 +71,6 @@ loop-command-init g c =
       λ clean h shows. (none, shows),
       λ on. on,
       λ on. subst (AllByRecursion ReplyIsNotFailed) (sym none) tt,
-      λ clean h shows. inr tt,
       refl,
       turn_none g.S.Store _ _ none,
     )
@@ -87,28 +84,22 @@ loop-command-preserved g c =
       rw good at c.push.ensures.len ∙ ap (λ n. n + 1) c.loop-command.invariant.0,
       ap length (rw good at c.push.ensures.items) ∙ length-append c.loop-command.replies.items (c.obey_lent-outcome.result ∷ []) ∙ ap (λ n. n + 1) c.loop-command.invariant.1,
       omega (arith, c.loop-command.invariant.2, c.push.ensures.capacity),
-      λ clean. c.loop-command.invariant.3 (c.obey_lent-outcome.ensures.does.clean clean),
+      λ clean. c.loop-command.invariant.3 (c.obey_lent-outcome.ensures.clean clean),
       λ clean h shows.
           let more = obeyed_more g.S.Store c.obey_lent-outcome.result c.loop-command.self c.obey_lent-outcome.new.self h (take i all) (take (i + 1) all) (asks c.command-item.result) c.loop-command.replies.items
           (one_more asks c.args.commands.now i c.command-item.result (omega (arith, c.loop-command-test.true)) (sym c.command-item.is))
-          (c.loop-command.invariant.4 (c.obey_lent-outcome.ensures.does.clean clean) h shows)
-          (λ so. c.obey_lent-outcome.ensures.does.obeyed clean (after_all h (take i all)) so)
+          (c.loop-command.invariant.4 (c.obey_lent-outcome.ensures.clean clean) h shows)
+          (λ so. c.obey_lent-outcome.ensures.obeyed clean (after_all h (take i all)) so)
           none in
           (rw good at c.push.ensures.items ∙ more.0, more.1),
-      λ on. on_after c.obey_lent-outcome.result c.obey_lent-outcome.new.self.live none (λ off. c.obey_lent-outcome.ensures.does.lasts.fails (c.loop-command.invariant.5 on) off),
+      λ on. on_after c.obey_lent-outcome.result c.obey_lent-outcome.new.self.live none (λ off. c.obey_lent-outcome.ensures.lasts.fails (c.loop-command.invariant.5 on) off),
       λ on.
           subst (AllByRecursion ReplyIsNotFailed) (sym (rw good at c.push.ensures.items))
-          (all_more ReplyIsNotFailed c.loop-command.replies.items c.obey_lent-outcome.result (c.loop-command.invariant.6 on) (c.obey_lent-outcome.ensures.does.lasts.alive (c.loop-command.invariant.5 on))),
-      λ clean h shows.
-          let was = c.obey_lent-outcome.ensures.does.clean clean in
-          forgets_more _ _ c.obey_lent-outcome.result h (take i all) (take (i + 1) all) (asks c.command-item.result)
-          (one_more asks c.args.commands.now i c.command-item.result (omega (arith, c.loop-command-test.true)) (sym c.command-item.is))
-          c.obey_lent-outcome.ensures.none (c.loop-command.invariant.7 was h shows)
-          (c.obey_lent-outcome.ensures.spares clean (after_all h (take i all)) (c.loop-command.invariant.4 was h shows).1) none,
-      c.obey_lent-outcome.ensures.does.lasts.limit ∙ c.loop-command.invariant.8,
+          (all_more ReplyIsNotFailed c.loop-command.replies.items c.obey_lent-outcome.result (c.loop-command.invariant.6 on) (c.obey_lent-outcome.ensures.lasts.alive (c.loop-command.invariant.5 on))),
+      c.obey_lent-outcome.ensures.lasts.limit ∙ c.loop-command.invariant.7,
       subst (λ l. ObeysInTurn g.S.Store (take (i + 1) c.args.commands.now) l c.args.self.now c.obey_lent-outcome.new.self) (sym (rw good at c.push.ensures.items))
           (turn_more g.S.Store c.args.commands.now i c.loop-command.replies.items c.args.self.now c.loop-command.self c.obey_lent-outcome.new.self c.command-item.result c.obey_lent-outcome.result
-          (omega (arith, c.loop-command-test.true)) (sym c.command-item.is) c.loop-command.invariant.9 c.obey_lent-outcome.ensures.does),
+          (omega (arith, c.loop-command-test.true)) (sym c.command-item.is) c.loop-command.invariant.8 c.obey_lent-outcome.ensures),
     )
 
 -- ---- at the fault of a command
@@ -117,7 +108,7 @@ pub returns-then-is_some : goal.returns-then-is_some
 returns-then-is_some g c =
     let i : ℕ = c.loop-command.command-index in
     let all : List Asked = map asks c.args.commands.now in
-    let does = c.obey_lent-outcome.ensures.does in
+    let does = c.obey_lent-outcome.ensures in
     let some : is_some c.fault_of-fault.result ≡ true = sym c.is_some.ensures ∙ c.if-is_some.true in
     record {
       failed = true_not c.args.self.now.live c.if-not-self.false;
@@ -136,17 +127,11 @@ returns-then-is_some g c =
           some;
       in_turn = λ on.
           turn_stops g.S.Store _ c.args.commands.now i c.args.self.now c.loop-command.self c.obey_lent-outcome.new.self c.command-item.result c.obey_lent-outcome.result
-          (omega (arith, c.loop-command-test.true)) (sym c.command-item.is) c.loop-command.invariant.1 c.loop-command.invariant.9 does c.fault_of-fault.ensures.told some;
-      forgets = λ clean h shows.
-          let was = does.clean clean in
-          forgets_at g.S.Store _ c.obey_lent-outcome.new.self h i all (drop (suc i) all) (asks c.command-item.result)
-          (next_is asks c.args.commands.now i c.command-item.result (omega (arith, c.loop-command-test.true)) (sym c.command-item.is))
-          c.loop-command.invariant.1 (none_then _ _ _ c.obey_lent-outcome.ensures.none (c.loop-command.invariant.7 was h shows))
-          (does.forgets clean (after_all h (take i all)) (c.loop-command.invariant.4 was h shows).1);
+          (omega (arith, c.loop-command-test.true)) (sym c.command-item.is) c.loop-command.invariant.1 c.loop-command.invariant.8 does c.fault_of-fault.ensures.told some;
       stays = λ on none. absurd (some_not c.fault_of-fault.result some none);
       fails = λ on off. some_fault c.fault_of-fault.result some c.fault_of-fault.ensures.fault;
       alive = c.loop-command.invariant.6;
-      limit = does.lasts.limit ∙ c.loop-command.invariant.8;
+      limit = does.lasts.limit ∙ c.loop-command.invariant.7;
     }
 
 -- ---- all were obeyed
@@ -162,10 +147,9 @@ returns g c =
       cut = λ on some. absurd (let no : ⊥ = cc in no);
       most = omega arith;
       ran = λ clean h shows. runs_all g.S.Store _ c.loop-command.self h c.loop-command.command-index (map asks c.args.commands.now) end c.loop-command.invariant.1 refl (c.loop-command.invariant.4 clean h shows);
-      in_turn = λ on. turn_ends g.S.Store _ c.args.commands.now c.loop-command.command-index c.args.self.now c.loop-command.self c.loop-command.invariant.1 c.loop-command.invariant.9 refl;
-      forgets = λ clean h shows. forgets_all g.S.Store _ c.loop-command.self h c.loop-command.command-index (map asks c.args.commands.now) end c.loop-command.invariant.1 (c.loop-command.invariant.7 clean h shows);
+      in_turn = λ on. turn_ends g.S.Store _ c.args.commands.now c.loop-command.command-index c.args.self.now c.loop-command.self c.loop-command.invariant.1 c.loop-command.invariant.8 refl;
       stays = λ on none. c.loop-command.invariant.5 on;
       fails = λ on. true_not c.loop-command.self.live (c.loop-command.invariant.5 on);
       alive = c.loop-command.invariant.6;
-      limit = c.loop-command.invariant.8;
+      limit = c.loop-command.invariant.7;
     }

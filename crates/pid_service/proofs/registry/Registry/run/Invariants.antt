@@ -1,12 +1,11 @@
-use Rattle.std.proofs.Common.{◌≡◌, ◌⊎◌, ◌≤◌, true, length, take, map, vec_capacity, vec_len}
+use Rattle.std.proofs.Common.{◌≡◌, ◌≤◌, true, length, take, map, vec_capacity, vec_len}
 use Rattle.std.specs.List.{AllByRecursion}
 use Rattle.pid_moderation.specs.History.{History}
 use Rattle.pid_moderation.specs.Judgement.{answers, after_all}
 use Rattle.pid_moderation.specs.Files.{asks}
 use Rattle.pid_service.specs.Histories.{Shows}
 use Rattle.pid_service.specs.Registries.{HasCleanDisk, KeepsLimit, is_live}
-use Rattle.pid_service.specs.KeptViews.{kept_by, nothing}
-use Rattle.pid_service.specs.Running.{ReplyIsNotFailed, LeaveItems, ObeysInTurn}
+use Rattle.pid_service.specs.Running.{ReplyIsNotFailed, ObeysInTurn}
 use Rattle.pid_service.proofs.registry.Registry.run.Given as goal
 
 abbrev pub invariant-loop-command : goal.invariant-loop-command
@@ -17,6 +16,5 @@ invariant-loop-command g l =
     → (l.replies.items ≡ answers h (take l.command-index (map asks l.commands))) × Shows g.S.Store l.self (after_all h (take l.command-index (map asks l.commands))))
     × (is_live l.fn.self ≡ true → is_live l.self ≡ true)
     × (is_live l.fn.self ≡ true → AllByRecursion ReplyIsNotFailed l.replies.items)
-    × (HasCleanDisk g.S.Store l.self → (h : History) → Shows g.S.Store l.fn.self h → (kept_by l.self ≡ nothing) ⊎ LeaveItems h (take l.command-index (map asks l.commands)))
     × KeepsLimit g.S.Store l.fn.self l.self
     × ObeysInTurn g.S.Store (take l.command-index l.commands) l.replies.items l.fn.self l.self

@@ -1,4 +1,4 @@
-use Rattle.std.proofs.Common.{◌≡◌, IfSome, None, Option, Some, refl, rules, subst, sym, ◌∙◌}
+use Rattle.std.proofs.Common.{Option, refl, subst, ◌∙◌}
 use Rattle.std.specs.Prelude.{Vec}
 use Rattle.std.specs.declared.alloc.Global.{Global}
 use Rattle.pid_moderation.specs.declared.lists.Item.{Item}
@@ -11,33 +11,32 @@ use Rattle.pid_service.proofs.registry.Registry.top.Goals as goal
 
 -- ---- they are kept
 
-pub returns-in-Some-copied-clause-answers : goal.returns-in-Some-copied-clause-answers
-returns-in-Some-copied-clause-answers g c =
+pub returns-in-Some-copied : goal.returns-in-Some-copied
+returns-in-Some-copied g c =
     answered_here g.S.Store c.args.self.now _ _ c.requires c.args.self.now.settled
     (λ clean h shows. (rw c.as_slice.ensures.value at c.in-Some-copied.ensures) ∙ subst (λ (t : Option (Vec Item Global)). HoldsTop t (views_of h)) c.in-Some.is (shows.kept clean).top)
 
-pub returns-in-None-clause-answers : goal.returns-in-None-clause-answers
-returns-in-None-clause-answers g c = short_here g.S.Store c.args.self.now _ c.requires c.args.self.now.settled
+pub returns-in-None : goal.returns-in-None
+returns-in-None g c = short_here g.S.Store c.args.self.now _ c.requires c.args.self.now.settled
 
 -- ---- the items are read
 
-pub returns-in-Ok-clause-answers : goal.returns-in-Ok-clause-answers
-returns-in-Ok-clause-answers g c =
+pub returns-in-Ok : goal.returns-in-Ok
+returns-in-Ok g c =
     let rests = c.children.ensures.rests in
     record {
       failed = true_not c.args.self.now.live c.requires;
       fault = tt;
       lives = refl;
       rests = rests;
-      leaves = record { names = refl; text = λ some. refl; top = search rules; pending = λ some. refl; read = λ was. (was, refl) };
       told = λ clean h shows.
           let kept = shows.kept (rests.clean clean) in
           let told = c.in-Ok.ensures.told clean (views_of h) shows.tables (c.reached_histories_are_kept.ensures.items h shows.history).0 in
-          (told, record { lives = shows.lives; history = shows.history; tables = rests.kept (views_of h) shows.tables; kept = λ still. record { names = kept.names; text = kept.text; top = copied_holds _ _ (views_of h) told (rw c.as_slice-in-Ok.ensures.value at c.copied-in-Ok.ensures); changes = kept.changes; pending = kept.pending; numbers = kept.numbers } });
+          (told, record { lives = shows.lives; history = shows.history; tables = rests.kept (views_of h) shows.tables; kept = λ still. record { names = kept.names; text = kept.text; top = copied_holds _ _ (views_of h) told (rw c.as_slice-in-Ok.ensures.value at c.copied-in-Ok.ensures); changes = kept.changes; pending = kept.pending; numbers = kept.numbers; accounts = kept.accounts } });
       caused = λ clean h shows. tt;
     }
 
-pub returns-in-Err-clause-answers : goal.returns-in-Err-clause-answers
-returns-in-Err-clause-answers g c =
+pub returns-in-Err : goal.returns-in-Err
+returns-in-Err g c =
     answers_fault g.S.Store c.args.self.now _ c.in-Err.fault c.refusal_of.result _ c.requires refl refl c.children.ensures.rests c.refusal_of.ensures.same c.refusal_of.ensures.fault
     (λ clean h shows. c.in-Err.ensures.told clean (views_of h) shows.tables (c.reached_histories_are_kept.ensures.readable h shows.history))

@@ -2,7 +2,7 @@ use Rattle.std.proofs.Common.{[], ◌↔◌, IsTrue, refl, arith, sym, subst, �
 use Rattle.std.proofs.lemmas.Bool.{false≢true}
 use Rattle.sqlite.specs.Held.{state}
 use Rattle.pid_tables.specs.Rows.Causes.{IsCaused}
-use Rattle.pid_tables.specs.Rows.Queries.{IsQuery}
+use Rattle.pid_tables.specs.Rows.Steps.Queries.{IsQuery}
 use Rattle.pid_tables.specs.Rows.Schema.{pid_schema}
 use Rattle.pid_tables.proofs.OfRows.CauseLemmas.{passed_from}
 use Rattle.pid_tables.proofs.OfRows.OnlyReading.{reads_then}

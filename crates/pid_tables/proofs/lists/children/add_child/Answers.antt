@@ -2,7 +2,7 @@ use Rattle.std.proofs.Common.{◌++◌, ◌∙◌, ap, append-nil, map, sym}
 use Rattle.sqlite.specs.Order.{column}
 use Rattle.pid_moderation.specs.ItemPairs.{pair_of}
 use Rattle.pid_moderation.specs.WellMade.{IsItem}
-use Rattle.pid_tables.specs.Rows.Unread.{IsUnreadable}
+use Rattle.pid_tables.specs.Rows.Steps.Unread.{IsUnreadable}
 use Rattle.pid_tables.proofs.OfRows.CauseLemmas.{passed_on}
 use Rattle.pid_tables.proofs.OfRows.UnreadLemmas.{unread_more}
 use Rattle.pid_tables.proofs.OfLists.BelowLemmas.{child_kept, child_passed, kept_child}

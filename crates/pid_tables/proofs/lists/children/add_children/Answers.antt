@@ -4,7 +4,7 @@ use Rattle.std.proofs.lemmas.List.Elements.{filter-append}
 use Rattle.pid_ident.specs.PathTexts.{path_text}
 use Rattle.pid_tables.specs.Rows.Steps.Answers.{item_shown}
 use Rattle.pid_moderation.specs.ItemPairs.{pair_of}
-use Rattle.pid_tables.specs.Rows.Unread.{IsUnreadable}
+use Rattle.pid_tables.specs.Rows.Steps.Unread.{IsUnreadable}
 use Rattle.pid_tables.proofs.OfRows.CauseLemmas.{passed_on}
 use Rattle.pid_tables.proofs.OfRows.ReadBack.{among}
 use Rattle.pid_tables.proofs.OfRows.UnreadLemmas.{unread_more}

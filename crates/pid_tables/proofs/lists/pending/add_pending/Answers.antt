@@ -1,7 +1,7 @@
 use Rattle.std.proofs.Common.{ap}
 use Rattle.sqlite.specs.Order.{column}
 use Rattle.pid_moderation.specs.PendingPages.{told_of}
-use Rattle.pid_tables.specs.Rows.Unread.{IsUnreadable}
+use Rattle.pid_tables.specs.Rows.Steps.Unread.{IsUnreadable}
 use Rattle.pid_tables.proofs.OfRows.CauseLemmas.{passed_on}
 use Rattle.pid_tables.proofs.OfRows.UnreadLemmas.{unread_more}
 use Rattle.pid_tables.specs.Lists.Steps.PendingRows.{IsReadablePending}

@@ -2,7 +2,7 @@ use Rattle.std.proofs.Common.{ℕ, ◌≡◌, ◌∷◌, ◌++◌, [], Some, ap,
 use Rattle.std.proofs.lemmas.List.{length-map}
 use Rattle.std.specs.List.{AllByRecursion}
 use Rattle.sqlite_rules.proofs.ListLemmas.{all_has}
-use Rattle.pid_tables.specs.Rows.Unread.{IsUnreadable}
+use Rattle.pid_tables.specs.Rows.Steps.Unread.{IsUnreadable}
 use Rattle.pid_tables.proofs.OfRows.CauseLemmas.{passed_on}
 use Rattle.pid_tables.proofs.OfRows.UnreadLemmas.{unread_more}
 use Rattle.pid_moderation.specs.Submissions.{standing_in, Standing}

@@ -4,7 +4,7 @@ use Rattle.std.specs.List.{AllByRecursion}
 use Rattle.sqlite_rules.proofs.ListLemmas.{all_has}
 use Rattle.pid_tables.specs.Rows.Steps.Answers.{remark_shown}
 use Rattle.pid_tables.specs.Rows.Causes.{IsReadableRemark}
-use Rattle.pid_tables.specs.Rows.Unread.{IsUnreadable}
+use Rattle.pid_tables.specs.Rows.Steps.Unread.{IsUnreadable}
 use Rattle.pid_tables.proofs.OfRows.CauseLemmas.{passed_on}
 use Rattle.pid_tables.proofs.OfRows.UnreadLemmas.{unread_more}
 use Rattle.pid_tables.proofs.OfLists.RowLists.{next_of}

@@ -12,7 +12,7 @@ use Rattle.pid_tables.specs.declared.rows.fault.TableFault.TheVariants.{Memory, 
 use Rattle.pid_tables.proofs.OfRows.CauseLemmas.{caused_first}
 use Rattle.pid_tables.proofs.OfRows.GoingLemmas.{earlier}
 use Rattle.pid_tables.proofs.OfRows.OnlyReading.{reads_begun}
-use Rattle.pid_tables.specs.Rows.Clauses.{FaultsQuery}
+use Rattle.pid_tables.specs.Rows.Steps.Clauses.{FaultsQuery}
 use Rattle.pid_tables.proofs.rows.run.read_rows.Goals as goal
 
 there : {S : Type 0} (g : Ghosts S) {X E : Type 0} (sql : List _) (params : Row) (old : State) (mid : Held S) (r : Result X E) (rows : X → List Row) → IfOk r (λ v. Shown sql params old (state g mid) (rows v))

@@ -1,13 +1,13 @@
-use Rattle.std.proofs.Common.{◌≡◌, ℕ, sym, subst, Ok, Err, IfErr, OnOk, inl, inr}
+use Rattle.std.proofs.Common.{ℕ, sym, subst, Ok, IfErr, OnOk, inl, inr}
 use Rattle.std.proofs.lemmas.Bool.{cases_Bool}
 use Rattle.std.proofs.lemmas.Result.{err_from_is_err_and}
 use Rattle.sqlite.specs.Values.{bound}
 use Rattle.sqlite.specs.Held.{state}
-use Rattle.sqlite.specs.State.{Executes, ExecutesInside}
-use Rattle.sqlite.specs.declared.error.Error.{Error}
+use Rattle.sqlite.specs.State.{Executes}
 use Rattle.sqlite.specs.declared.error.ErrorCode.TheVariants as code
 use Rattle.sqlite.specs.declared.error.Error.TheVariants.{SqliteFailure}
-use Rattle.pid_tables.specs.Rows.Faults.{IsMemoryOrStore, IsNotNewerSchema, fault_of_sql}
+use Rattle.pid_tables.specs.Rows.Faults.{IsMemoryOrStore, IsNotNewerSchema}
+use Rattle.pid_tables.specs.Rows.Steps.Faults.{fault_of_sql}
 use Rattle.pid_tables.proofs.OfRows.FaultLemmas.{failed, moved, not_later}
 use Rattle.pid_tables.proofs.OfRows.WriteFaults.{write_untold}
 use Rattle.pid_tables.proofs.rows.run.write_one.Goals as goal
@@ -25,9 +25,6 @@ returns-in_err-execute-clause-runs g c =
             | inr ended ↦ moved c.in_err-execute.field-0.0 (SqliteFailure code.TransactionState) (let is = (c.in_err-execute.ensures.ended ended).0 in cc) (failed code.TransactionState)
           ] in
           subst (λ r. IfErr r IsMemoryOrStore) (sym p.1) (subst IsMemoryOrStore (sym p.2) told);
-      refused = λ clean inside.
-          subst (λ r. IfErr r (λ fault. (e : Error) × (fault ≡ fault_of_sql e) × ExecutesInside 0 c.args.sql.now (bound c.args.params.now) old new (Err e))) (sym p.1)
-          (c.in_err-execute.field-0.0, p.2, c.in_err-execute.ensures.runs clean inside);
     }
 
 pub returns-in_err-execute-clause-never : goal.returns-in_err-execute-clause-never

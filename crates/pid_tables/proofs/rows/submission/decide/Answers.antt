@@ -6,7 +6,7 @@ use Rattle.pid_tables.specs.declared.rows.version.Version.TheVariants.{Two}
 use Rattle.pid_tables.specs.Rows.Faults.{IsMemoryOrStore}
 use Rattle.pid_tables.specs.Rows.Schema.{pid_schema}
 use Rattle.pid_tables.specs.Rows.Shows.{ShowsCounting}
-use Rattle.pid_tables.specs.Rows.Writes.{with_state}
+use Rattle.pid_tables.specs.Rows.Steps.Writes.{with_state}
 use Rattle.pid_tables.specs.Rows.Steps.Writes.{NamesDecider}
 use Rattle.pid_tables.proofs.OfRows.KeyTexts.{update_submission_is, withdraw_submission_is}
 use Rattle.pid_tables.proofs.OfRows.WriteFaults.{led, update_writes}

@@ -1,5 +1,5 @@
-use Rattle.pid_tables.specs.Rows.Standings.{ReadsTo}
-use Rattle.pid_tables.specs.Rows.Unread.{IsUnreadable, ReadsAsStanding}
+use Rattle.pid_tables.specs.Rows.Steps.Standings.{ReadsTo}
+use Rattle.pid_tables.specs.Rows.Steps.Unread.{IsUnreadable, ReadsAsStanding}
 use Rattle.pid_tables.proofs.OfRows.CauseLemmas.{no_value, passed_from}
 use Rattle.pid_tables.proofs.OfRows.UnreadLemmas.{unread_more}
 use Rattle.pid_tables.proofs.OfRows.WrittenLemmas.{author_written, path_written, proposal_written, note_written, state_written}

@@ -1,6 +1,6 @@
 use Rattle.sqlite.specs.Order.{column}
 use Rattle.pid_ident.specs.Words.{is_name}
-use Rattle.pid_tables.specs.Rows.Unread.{IsUnreadable}
+use Rattle.pid_tables.specs.Rows.Steps.Unread.{IsUnreadable}
 use Rattle.pid_tables.specs.Rows.Steps.Unread.{IsWord}
 use Rattle.pid_tables.proofs.OfRows.CauseLemmas.{passed_from}
 use Rattle.pid_tables.proofs.OfRows.UnreadLemmas.{unread_more, name_utf8}

@@ -1,4 +1,4 @@
-use Rattle.pid_tables.specs.Rows.Unread.{IsUnreadable}
+use Rattle.pid_tables.specs.Rows.Steps.Unread.{IsUnreadable}
 use Rattle.pid_tables.specs.Rows.Steps.Unread.{IsReplyIn, IsReplyRow}
 use Rattle.pid_tables.proofs.OfRows.CauseLemmas.{no_value, passed_from}
 use Rattle.pid_tables.proofs.OfRows.UnreadLemmas.{unread_more}

@@ -1,0 +1,2 @@
+-- What serves private functions alone; no promise rests on it.
+pub mod Addresses

@@ -1,0 +1,4 @@
+pub mod Openings
+pub mod Exports
+pub mod Migrations
+pub mod Files

@@ -1,0 +1,30 @@
+//! Why no registry was opened, by what failed.
+ghost use Rattle.std.specs.Prelude.{◌≡◌};
+ghost use Rattle.pid_cli_registry.specs.Openings.{reason_of_tables, reason_unconnected};
+
+use pid_cli_jobs::Unopened;
+use pid_cli_machine::Unconnected;
+use pid_service::TableFault;
+
+/// There was no connection.
+pub fn of_connection(fault: Unconnected) -> Unopened
+    ensures { result ≡ reason_unconnected fault }
+{
+    match fault {
+        Unconnected::Memory => Unopened::Memory,
+        Unconnected::Store => Unopened::Store,
+        Unconnected::Damaged => Unopened::Damaged,
+    }
+}
+
+/// The tables were refused.
+pub fn of_tables(fault: TableFault) -> Unopened
+    ensures { result ≡ reason_of_tables fault }
+{
+    match fault {
+        TableFault::Memory => Unopened::Memory,
+        TableFault::Store => Unopened::Store,
+        TableFault::Damaged => Unopened::Damaged,
+        TableFault::NewerSchema(schema) => Unopened::NewerSchema(schema),
+    }
+}

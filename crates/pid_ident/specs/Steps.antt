@@ -1,0 +1,4 @@
+-- What serves private functions alone; no promise rests on it.
+pub mod MomentLaws
+pub mod ReadLaws
+pub mod Moments

@@ -1,0 +1,305 @@
+-- Segments in turn.
+use Rattle.std.proofs.Common.{◌≡◌, ◌⊎◌, inl, inr, ℕ, ◌<◌, ◌≤◌, Bool, true, false, List, [], ◌∷◌, ◌++◌, Option, Some, None, Result, Ok, Err, refl, sym, ap, subst, ◌∙◌, arith, append_assoc, append-nil}
+use Rattle.std.specs.Prelude.{IfSome, MatchResult}
+use Rattle.pid_file.specs.WholeLines.{whole_lines}
+use Rattle.pid_moderation.proofs.RevisionLemmas.{grows, marked_stays}
+use Rattle.pid_moderation.specs.History.{History}
+use Rattle.pid_moderation.specs.Revisions.{IsMarked}
+use Rattle.pid_moderation.specs.Views.{revision_of}
+use Rattle.pid_script.specs.Replies.{commands_of_lines, history_after}
+use Rattle.pid_service_laws.specs.Registries.{Showing}
+use Rattle.pid_service_laws.specs.declared.moderated.Moderated.{Ghosts}
+use Rattle.pid_journal.specs.declared.file.JournalFile as files
+use Rattle.pid_journal.specs.declared.folder.JournalFolder as folders
+use Rattle.pid_journal.specs.declared.open_fault.OpenFault.{OpenFault}
+use Rattle.pid_journal.specs.Journals.{JournalLeads}
+use Rattle.pid_journal.specs.Steps.Ways.{IsOnWay}
+use Rattle.pid_journal.specs.Openings.{IsRefused}
+use Rattle.pid_journal.specs.Segments.{IsOnSegments, lines_in}
+use Rattle.pid_journal.specs.Steps.Opening.{ShowsAll}
+use Rattle.pid_journal.specs.Steps.Segments.{BeginsIn, EndsIn, EndsLast, FollowsAll, FollowsSegment, IsSameFolder, KeepsShown, LinesMayBeObeyed, PassesSegment, ShowsWithin, StaysQuiet, TellsRevision}
+use Rattle.pid_journal.proofs.LinesObeyed.{history_both}
+use Rattle.pid_journal.proofs.Places.{no_lines_left, same_by_revision}
+
+-- TWO PARTS OF A LIST, TWICE
+
+abbrev pub Parts : {A : Type 0} → (xs ys before later : List A) → Type 0
+Parts {A} xs ys before later = ((b : List A) × (before ≡ xs ++ b) × (ys ≡ b ++ later)) ⊎ ((l : List A) × (xs ≡ before ++ l) × (later ≡ l ++ ys))
+
+one_longer : {A : Type 0} (x y : A) (xs ys before later : List A) → x ≡ y → Parts xs ys before later → Parts (x ∷ xs) ys (y ∷ before) later
+one_longer x y xs ys before later same (inl (b, is, rest)) = inl (b, (λ i. sym same i ∷ is i), rest)
+one_longer x y xs ys before later same (inr (l, is, rest)) = inr (l, (λ i. same i ∷ is i), rest)
+
+pub in_parts : {A : Type 0} (xs ys before later : List A) → xs ++ ys ≡ before ++ later → Parts xs ys before later
+in_parts [] ys before later is = inl (before, refl, is)
+in_parts (x ∷ xs) ys [] later is = inr (x ∷ xs, refl, sym is)
+in_parts (x ∷ xs) ys (b ∷ bs) later is =
+    let first : x ≡ b = cc in
+    let rest : xs ++ ys ≡ bs ++ later = cc in
+    one_longer x b xs ys bs later first (in_parts xs ys bs later rest)
+
+-- ONE SEGMENT
+
+pub lines_marked : (h : History) (lines : List (List ℕ)) → IsMarked h → IsMarked (history_after h lines)
+lines_marked h lines marked = marked_stays h (commands_of_lines lines) marked
+
+pub lines_grow : (h : History) (lines : List (List ℕ)) → revision_of h ≤ revision_of (history_after h lines)
+lines_grow h lines = grows h (commands_of_lines lines)
+
+squeezed : (a b n : ℕ) → a ≤ b → b ≡ n → n ≤ a → b ≡ a
+squeezed a b n le is ge = omega arith
+
+-- The registry is where the next segment begins, or later.
+pub skipped : (text : ℕ → List ℕ) (h shown : History) (name next : ℕ) (names : List ℕ) → IsMarked h → IsOnSegments text h (name ∷ next ∷ names) shown → next ≤ revision_of shown
+    → IsOnSegments text (history_after h (whole_lines (text name))) (next ∷ names) shown
+skipped text h shown name next names marked way late =
+    let lines = whole_lines (text name) in
+    let rest = lines_in text (next ∷ names) in
+    let end = history_after h lines in
+    elim (in_parts lines rest way.before way.later way.parts) [
+      | inl (b, is, parts) ↦ record { told = way.told.2; before = b; later = way.later; parts = parts; so_far = sym (history_both h lines b) ∙ ap (history_after h) (sym is) ∙ way.so_far }
+      | inr (l, is, parts) ↦
+          let on : end ≡ history_after shown l = ap (history_after h) is ∙ history_both h way.before l ∙ ap (λ (g : History). history_after g l) way.so_far in
+          let grown : revision_of shown ≤ revision_of end = subst (λ (g : History). revision_of shown ≤ revision_of g) (sym on) (lines_grow shown l) in
+          let same : revision_of (history_after shown l) ≡ revision_of shown = ap revision_of (sym on) ∙ squeezed (revision_of shown) (revision_of end) next grown way.told.2.0 late in
+          let there : IsMarked shown = subst IsMarked way.so_far (lines_marked h way.before marked) in
+          record { told = way.told.2; before = []; later = rest; parts = refl; so_far = on ∙ same_by_revision shown (commands_of_lines l) there same }
+    ]
+
+beyond : (a b n : ℕ) → a ≡ n → a ≤ b → b < n → ⊥
+beyond a b n is le lt = omega arith
+
+-- The registry is before the next segment, so within this one.
+pub within : (text : ℕ → List ℕ) (h shown : History) (name next : ℕ) (names : List ℕ) → IsOnSegments text h (name ∷ next ∷ names) shown → revision_of shown < next → IsOnWay h false (whole_lines (text name)) shown
+within text h shown name next names way early =
+    let lines = whole_lines (text name) in
+    let end = history_after h lines in
+    elim (in_parts lines (lines_in text (next ∷ names)) way.before way.later way.parts) [
+      | inl (b, is, parts) ↦
+          let on : history_after end b ≡ shown = sym (history_both h lines b) ∙ ap (history_after h) (sym is) ∙ way.so_far in
+          absurd (beyond (revision_of end) (revision_of shown) next way.told.2.0 (subst (λ (g : History). revision_of end ≤ revision_of g) on (lines_grow end b)) early)
+      | inr (l, is, parts) ↦ record { told = way.told.1; before = way.before; later = l; parts = is; so_far = way.so_far }
+    ]
+
+-- There is no next segment.
+pub within_last : (text : ℕ → List ℕ) (h shown : History) (name : ℕ) → IsOnSegments text h (name ∷ []) shown → IsOnWay h false (whole_lines (text name)) shown
+within_last text h shown name way = record { told = way.told.1; before = way.before; later = way.later; parts = sym (append-nil (whole_lines (text name))) ∙ way.parts; so_far = way.so_far }
+
+-- the next segments, from where this one ends
+pub at_next : (text : ℕ → List ℕ) (h shown : History) (name : ℕ) (names : List ℕ) → IsOnSegments text h (name ∷ names) shown → IsOnSegments text (history_after h (whole_lines (text name))) names (history_after h (whole_lines (text name)))
+at_next text h shown name names way = record { told = way.told.2; before = []; later = lines_in text names; parts = refl; so_far = refl }
+
+-- SEGMENTS IN TURN
+
+pub lines_both : (text : ℕ → List ℕ) (xs ys : List ℕ) → lines_in text (xs ++ ys) ≡ lines_in text xs ++ lines_in text ys
+lines_both text [] ys = refl
+lines_both text (x ∷ xs) ys =
+    ap (λ (ls : List (List ℕ)). whole_lines (text x) ++ ls) (lines_both text xs ys) ∙ sym (append_assoc (whole_lines (text x)) (lines_in text xs) (lines_in text ys))
+
+pub one_segment_more : (text : ℕ → List ℕ) (start : History) (front : List ℕ) (name : ℕ) → history_after start (lines_in text (front ++ name ∷ [])) ≡ history_after (history_after start (lines_in text front)) (whole_lines (text name))
+one_segment_more text start front name =
+    ap (history_after start) (lines_both text front (name ∷ []) ∙ ap (λ (ls : List (List ℕ)). lines_in text front ++ ls) (append-nil (whole_lines (text name))))
+    ∙ history_both start (lines_in text front) (whole_lines (text name))
+
+-- the registry is at one of the segments
+pub record HasTurn {R : Type 0} (w : Showing R) (text : ℕ → List ℕ) (start : History) (names : List ℕ) (name : ℕ) (rest : List ℕ) (now : R) : Type 0 where
+  pub front : List ℕ
+  pub parts : names ≡ front ++ name ∷ rest
+  pub shows : ShowsWithin w text (history_after start (lines_in text front)) (name ∷ rest) now
+
+pub record IsInTurn {R F J : Type 0} (w : Showing R) (folder : folders.Ghosts F J) (old now : R) (f g : F) (names : List ℕ) (name : ℕ) (rest : List ℕ) (moved : Bool) : Type 0 where
+  pub same : IsSameFolder folder f g
+  pub clean : w.is_clean now → w.is_clean old
+  pub kept : moved ≡ false → StaysQuiet w folder old now f g
+  pub turn : w.is_clean now → folder.names f ≡ Some names → (start : History) → IsMarked start → ShowsWithin w (folder.text_in f) start names old → HasTurn w (folder.text_in f) start names name rest now
+
+module _ {R F J : Type 0} (w : Showing R) (folder : folders.Ghosts F J) where
+  pub first_turn : (r : R) (f : F) (names : List ℕ) (name : ℕ) (rest : List ℕ) → names ≡ name ∷ rest → IsInTurn w folder r r f f names name rest false
+  first_turn r f names name rest is = record {
+    same = (refl, refl);
+    clean = λ clean. clean;
+    kept = λ off. ((λ clean h shown. shown), refl);
+    turn = λ clean known start marked shows. record { front = []; parts = is; shows = subst (λ (ns : List ℕ). ShowsWithin w (folder.text_in f) start ns r) is shows };
+  }
+
+  -- what a step says of the folder as it is then, it says of the folder as it was
+  abbrev Steps : (now new : R) (text : ℕ → List ℕ) (name next : ℕ) (later : List ℕ) → Type 0
+  Steps now new text name next later = (h : History) → IsMarked h → ShowsWithin w text h (name ∷ next ∷ later) now → ShowsWithin w text (history_after h (whole_lines (text name))) (next ∷ later) new
+
+  next_turn : (text : ℕ → List ℕ) (start : History) (names : List ℕ) (name next : ℕ) (rest later : List ℕ) (now new : R) → IsMarked start → rest ≡ next ∷ later → Steps now new text name next later → HasTurn w text start names name rest now → HasTurn w text start names next later new
+  next_turn text start names name next rest later now new marked is steps turn = record {
+    front = turn.front ++ name ∷ [];
+    parts = turn.parts ∙ ap (λ (ns : List ℕ). turn.front ++ name ∷ ns) is ∙ sym (append_assoc turn.front (name ∷ []) (next ∷ later));
+    shows =
+        subst (λ (h : History). ShowsWithin w text h (next ∷ later) new) (sym (one_segment_more text start turn.front name))
+        (steps (history_after start (lines_in text turn.front)) (lines_marked start (lines_in text turn.front) marked) (subst (λ (ns : List ℕ). ShowsWithin w text (history_after start (lines_in text turn.front)) (name ∷ ns) now) is turn.shows));
+  }
+
+  pub both_quiet : (old now new : R) (f g k : F) → (w.is_clean new → w.is_clean now) → StaysQuiet w folder old now f g → StaysQuiet w folder now new g k → StaysQuiet w folder old new f k
+  both_quiet old now new f g k honest one two = ((λ clean h shown. two.0 clean h (one.0 (honest clean) h shown)), two.1 ∙ one.1)
+
+  pub turns : (old now new : R) (f g k : F) (names : List ℕ) (name next : ℕ) (rest later : List ℕ) (moved obeyed next_moved : Bool) → IsInTurn w folder old now f g names name rest moved → rest ≡ next ∷ later
+      → IsSameFolder folder g k → (w.is_clean new → w.is_clean now) → (obeyed ≡ false → StaysQuiet w folder now new g k) → (next_moved ≡ false → (moved ≡ false) × (obeyed ≡ false))
+      → (w.is_clean new → (all : List ℕ) → folder.names g ≡ Some all → Steps now new (folder.text_in g) name next later)
+      → IsInTurn w folder old new f k names next later next_moved
+  turns old now new f g k names name next rest later moved obeyed next_moved turn is same honest kept both steps = record {
+    same = (same.0 ∙ turn.same.0, same.1 ∙ turn.same.1);
+    clean = λ clean. turn.clean (honest clean);
+    kept = λ off. let offs = both off in both_quiet old now new f g k honest (turn.kept offs.0) (kept offs.1);
+    turn = λ clean known start marked shows.
+        next_turn (folder.text_in f) start names name next rest later now new marked is
+        (subst (λ (text : ℕ → List ℕ). Steps now new text name next later) turn.same.1 (steps clean names (turn.same.0 ∙ known)))
+        (turn.turn (honest clean) known start marked shows);
+  }
+
+-- WHAT CALLS DO
+
+le_along : (a b d : ℕ) → a ≤ b → b ≡ d → a ≤ d
+le_along a b d le is = omega arith
+
+lt_along : (a b d : ℕ) → b ≡ a → b < d → a < d
+lt_along a b d is lt = omega arith
+
+-- what is said where the names are known
+pub if_known : (o : Option (List ℕ)) (names : List ℕ) (P : Type 0) → o ≡ Some names → IfSome o (λ all. P) → P
+if_known None names P known said = absurd (let no : ⊥ = cc in no)
+if_known (Some all) names P known said = said
+
+pub read_names : (o : Option (List ℕ)) (names items : List ℕ) → o ≡ Some names → IfSome o (λ all. items ≡ all) → items ≡ names
+read_names None names items known said = absurd (let no : ⊥ = cc in no)
+read_names (Some all) names items known said = let same : all ≡ names = cc in said ∙ same
+
+empty_leads : (h : History) → JournalLeads h [] h
+empty_leads h = record { whole = refl; told = tt; leads = refl }
+
+module _ {R J : Type 0} (registry : Ghosts R) (file : files.Ghosts J) where
+  -- all segments were obeyed
+  pub ends_shown : (text : ℕ → List ℕ) (start : History) (names : List ℕ) (new : R) (last : Option J) → EndsLast registry file text start names new last → registry.showing.shows new (history_after start (lines_in text names))
+  ends_shown text start names new None ends = subst (λ (ns : List ℕ). registry.showing.shows new (history_after start (lines_in text ns))) (sym ends.0) ends.1
+  ends_shown text start names new (Some k) ends =
+      subst (λ (h : History). registry.showing.shows new h) (sym (ap (λ (ns : List ℕ). history_after start (lines_in text ns)) ends.2 ∙ one_segment_more text start ends.0 ends.1)) ends.3.shown
+
+  last_grows : (text : ℕ → List ℕ) (front names : List ℕ) (name : ℕ) (kept : List ℕ) (more : List (List ℕ)) → names ≡ front ++ name ∷ [] → whole_lines kept ≡ whole_lines (text name) ++ more → lines_in text front ++ whole_lines kept ≡ lines_in text names ++ more
+  last_grows text front names name kept more last is =
+      ap (λ (ls : List (List ℕ)). lines_in text front ++ ls) is
+      ∙ sym (append_assoc (lines_in text front) (whole_lines (text name)) more)
+      ∙ ap (λ (ls : List (List ℕ)). ls ++ more) (ap (λ (ls : List (List ℕ)). lines_in text front ++ ls) (sym (append-nil (whole_lines (text name)))) ∙ sym (lines_both text front (name ∷ [])) ∙ ap (λ (ns : List ℕ). lines_in text ns) (sym last))
+
+  -- the journal goes on in the last one
+  pub ends_in : (text : ℕ → List ℕ) (start : History) (names : List ℕ) (mid new : R) (k : J) → EndsLast registry file text start names mid (Some k) → registry.showing.shows new (history_after start (lines_in text names)) → EndsIn registry file text start names new k
+  ends_in text start names mid new k ends shown = record {
+    front = ends.0;
+    last = inr (ends.1, ends.2);
+    shown = shown;
+    kept = ends.3.front;
+    safe = ends.3.safe;
+    leads =
+        subst (λ (h : History). JournalLeads (history_after start (lines_in text ends.0)) ends.3.front h) (sym (ap (λ (ns : List ℕ). history_after start (lines_in text ns)) ends.2 ∙ one_segment_more text start ends.0 ends.1)) ends.3.leads;
+    more = ends.3.more;
+    grows = last_grows text ends.0 names ends.1 ends.3.front ends.3.more ends.2 ends.3.kept;
+  }
+
+  -- or in a new one
+  pub begins_in : (text : ℕ → List ℕ) (start : History) (names : List ℕ) (new : R) (k : J) → file.safe k ≡ Some [] → registry.showing.shows new (history_after start (lines_in text names)) → EndsIn registry file text start names new k
+  begins_in text start names new k safe shown =
+      record { front = names; last = inl refl; shown = shown; kept = []; safe = safe; leads = empty_leads (history_after start (lines_in text names)); more = []; grows = refl }
+
+  module _ {F : Type 0} (folder : folders.Ghosts F J) where
+    pub skip_passes : (old new : R) (f : F) (name next n : ℕ) (x : Bool) → KeepsShown registry.showing old new → TellsRevision registry.showing old new (Ok n) → next ≤ n → PassesSegment registry file folder old new f name next (Ok x)
+    skip_passes old new f name next n x kept told late clean names later known h marked shows =
+        let shown = kept clean shows.shown shows.shows in
+        record { shown = shows.shown; shows = shown; way = skipped (folder.text_in f) h shows.shown name next later marked shows.way (le_along next n (revision_of shows.shown) late (told clean shows.shown shows.shows)) }
+
+    way_of : (old mid : R) (f : F) (name next n : ℕ) (later : List ℕ) (h : History) → registry.showing.is_clean mid → KeepsShown registry.showing old mid → TellsRevision registry.showing old mid (Ok n) → n < next
+        → (shows : ShowsWithin registry.showing (folder.text_in f) h (name ∷ next ∷ later) old) → IsOnWay h false (whole_lines (folder.text_in f name)) shows.shown
+    way_of old mid f name next n later h clean kept told early shows =
+        within (folder.text_in f) h shows.shown name next later shows.way (lt_along (revision_of shows.shown) n next (told clean shows.shown shows.shows) early)
+
+    pub follow_passes : (old mid new : R) (f : F) (name next n : ℕ) (k : J) (x : Bool) → (registry.showing.is_clean new → registry.showing.is_clean mid) → KeepsShown registry.showing old mid → TellsRevision registry.showing old mid (Ok n) → n < next
+        → FollowsSegment registry file folder mid new f name (Ok k) → PassesSegment registry file folder old new f name next (Ok x)
+    follow_passes old mid new f name next n k x honest kept told early follows clean names later known h marked shows =
+        let there = kept (honest clean) shows.shown shows.shows in
+        let all = follows clean names known h shows.shown marked shows.way.told.0 there (way_of old mid f name next n later h (honest clean) kept told early shows) in
+        record { shown = history_after h (whole_lines (folder.text_in f name)); shows = all.shown; way = at_next (folder.text_in f) h shows.shown name (next ∷ later) shows.way }
+
+    pub fault_passes : (old mid new : R) (f : F) (name next n : ℕ) (fault given : OpenFault) → (registry.showing.is_clean new → registry.showing.is_clean mid) → KeepsShown registry.showing old mid → TellsRevision registry.showing old mid (Ok n) → n < next
+        → FollowsSegment registry file folder mid new f name (Err fault) → (IsRefused fault → IsRefused given) → PassesSegment registry file folder old new f name next (Err given)
+    fault_passes old mid new f name next n fault given honest kept told early follows says clean names later known h marked shows =
+        says (follows clean names known h shows.shown marked shows.way.told.0 (kept (honest clean) shows.shown shows.shows) (way_of old mid f name next n later h (honest clean) kept told early shows))
+
+    -- at the last segment
+    abbrev AtLast : (mid : R) (f g : F) (names : List ℕ) (name : ℕ) (start : History) → Type 0
+    AtLast mid f g names name start = (front : List ℕ) × (names ≡ front ++ name ∷ []) × IsMarked (history_after start (lines_in (folder.text_in f) front))
+        × (revision_of (history_after start (lines_in (folder.text_in f) front)) ≡ name)
+        × ((shown : History) × registry.showing.shows mid shown × IsOnWay (history_after start (lines_in (folder.text_in f) front)) false (whole_lines (folder.text_in g name)) shown)
+
+    at_last : (old mid : R) (f g : F) (names : List ℕ) (name : ℕ) (rest : List ℕ) (moved : Bool) → IsInTurn registry.showing folder old mid f g names name rest moved → rest ≡ []
+        → registry.showing.is_clean mid → folder.names f ≡ Some names → (start : History) → IsMarked start → ShowsWithin registry.showing (folder.text_in f) start names old → AtLast mid f g names name start
+    at_last old mid f g names name rest moved turn none clean known start marked shows =
+        let t = turn.turn clean known start marked shows in
+        let h = history_after start (lines_in (folder.text_in f) t.front) in
+        let way = subst (λ (ns : List ℕ). IsOnSegments (folder.text_in f) h (name ∷ ns) t.shows.shown) none t.shows.way in (
+          t.front,
+          t.parts ∙ ap (λ (ns : List ℕ). t.front ++ name ∷ ns) none,
+          lines_marked start (lines_in (folder.text_in f) t.front) marked,
+          way.told.0,
+          (t.shows.shown, t.shows.shows, subst (λ (text : ℕ → List ℕ). IsOnWay h false (whole_lines (text name)) t.shows.shown) (sym turn.same.1) (within_last (folder.text_in f) h t.shows.shown name way)),
+        )
+
+    pub ok_last : (old mid new : R) (f g : F) (names : List ℕ) (name : ℕ) (rest : List ℕ) (moved : Bool) (k : J) → IsInTurn registry.showing folder old mid f g names name rest moved → rest ≡ [] → (registry.showing.is_clean new → registry.showing.is_clean mid)
+        → FollowsSegment registry file folder mid new g name (Ok k) → FollowsAll registry file folder old new f names (Ok (Some k))
+    ok_last old mid new f g names name rest moved k turn none honest follows clean known start marked shows =
+        let a = at_last old mid f g names name rest moved turn none (honest clean) known start marked shows in
+        let h = history_after start (lines_in (folder.text_in f) a.0) in
+        let all = follows clean names (turn.same.0 ∙ known) h a.4.0 a.2 a.3 a.4.1 a.4.2 in
+        (a.0, name, a.1, subst (λ (text : ℕ → List ℕ). ShowsAll registry file h (text name) new k) turn.same.1 all)
+
+    pub err_last : (old mid new : R) (f g : F) (names : List ℕ) (name : ℕ) (rest : List ℕ) (moved : Bool) (fault given : OpenFault) → IsInTurn registry.showing folder old mid f g names name rest moved → rest ≡ [] → (registry.showing.is_clean new → registry.showing.is_clean mid)
+        → FollowsSegment registry file folder mid new g name (Err fault) → (IsRefused fault → IsRefused given) → FollowsAll registry file folder old new f names (Err given)
+    err_last old mid new f g names name rest moved fault given turn none honest follows says clean known start marked shows =
+        let a = at_last old mid f g names name rest moved turn none (honest clean) known start marked shows in
+        says (follows clean names (turn.same.0 ∙ known) (history_after start (lines_in (folder.text_in f) a.0)) a.4.0 a.2 a.3 a.4.1 a.4.2)
+
+    -- a fault at a segment before the last
+    pub err_between : (old mid new : R) (f g : F) (names : List ℕ) (name next : ℕ) (rest later : List ℕ) (moved : Bool) (fault given : OpenFault) → IsInTurn registry.showing folder old mid f g names name rest moved → rest ≡ next ∷ later
+        → (registry.showing.is_clean new → registry.showing.is_clean mid) → PassesSegment registry file folder mid new g name next (Err fault) → (IsRefused fault → IsRefused given) → FollowsAll registry file folder old new f names (Err given)
+    err_between old mid new f g names name next rest later moved fault given turn is honest passes says clean known start marked shows =
+        let t = turn.turn (honest clean) known start marked shows in
+        let h = history_after start (lines_in (folder.text_in f) t.front) in
+        let at = subst (λ (ns : List ℕ). ShowsWithin registry.showing (folder.text_in f) h (name ∷ ns) mid) is t.shows in
+        says (passes clean names later (turn.same.0 ∙ known) h (lines_marked start (lines_in (folder.text_in f) t.front) marked) (subst (λ (text : ℕ → List ℕ). ShowsWithin registry.showing text h (name ∷ next ∷ later) mid) (sym turn.same.1) at))
+
+    -- what a fault says of the lines that were obeyed
+    pub stays_through : (old mid new : R) (f g k : F) (moved : Bool) (fault given : OpenFault) → (moved ≡ false → StaysQuiet registry.showing folder old mid f g) → (registry.showing.is_clean new → registry.showing.is_clean mid)
+        → LinesMayBeObeyed fault ⊎ StaysQuiet registry.showing folder mid new g k → (moved ≡ true → LinesMayBeObeyed given) → LinesMayBeObeyed given ⊎ (given ≡ fault) → LinesMayBeObeyed given ⊎ StaysQuiet registry.showing folder old new f k
+    stays_through old mid new f g k true fault given kept honest stays moved same = inl (moved refl)
+    stays_through old mid new f g k false fault given kept honest stays moved (inl says) = inl says
+    stays_through old mid new f g k false fault given kept honest (inl says) moved (inr same) = inl (subst LinesMayBeObeyed (sym same) says)
+    stays_through old mid new f g k false fault given kept honest (inr still) moved (inr same) = inr (both_quiet registry.showing folder old mid new f g k honest (kept refl) still)
+
+    -- there is no segment
+    pub none_follows : (r : R) (f : F) (names : List ℕ) → names ≡ [] → FollowsAll registry file folder r r f names (Ok None)
+    none_follows r f names none clean known start marked shows =
+        let way = subst (λ (ns : List ℕ). IsOnSegments (folder.text_in f) start ns shows.shown) none shows.way in
+        (none, subst (λ (h : History). registry.showing.shows r h) (sym (no_lines_left start shows.shown way.before way.later way.parts way.so_far)) shows.shows)
+
+    -- the same of the folder as it was, and of the names as they were read
+    pub at_folder : (old mid : R) (f g : F) (names begins : List ℕ) (result : Result (Option J) OpenFault) → IsSameFolder folder f g → begins ≡ names → FollowsAll registry file folder old mid g begins result → FollowsAll registry file folder old mid f names result
+    at_folder old mid f g names begins result same is follows clean known start marked shows =
+        let there = subst (λ (text : ℕ → List ℕ). ShowsWithin registry.showing text start begins old) (sym same.1) (subst (λ (ns : List ℕ). ShowsWithin registry.showing (folder.text_in f) start ns old) (sym is) shows) in
+        let said = follows clean (same.0 ∙ known ∙ ap (λ (ns : List ℕ). Some ns) (sym is)) start marked there in
+        subst (λ (text : ℕ → List ℕ). MatchResult result (EndsLast registry file text start names mid) IsRefused) same.1
+        (subst (λ (ns : List ℕ). MatchResult result (EndsLast registry file (folder.text_in g) start ns mid) IsRefused) is said)
+
+    -- a journal that goes on after the last segment
+    pub found : (old mid new : R) (f g : F) (names : List ℕ) (last : Option J) (k : J) → (registry.showing.is_clean new → registry.showing.is_clean mid) → FollowsAll registry file folder old mid f names (Ok last) → KeepsShown registry.showing mid new
+        → folder.names g ≡ folder.names f → (last ≡ Some k) ⊎ BeginsIn registry file folder mid new g k
+        → registry.showing.is_clean new → folder.names f ≡ Some names → (start : History) → IsMarked start → ShowsWithin registry.showing (folder.text_in f) start names old → EndsIn registry file (folder.text_in f) start names new k
+    found old mid new f g names last k honest follows kept same (inl is) clean known start marked shows =
+        let ends = follows (honest clean) known start marked shows in
+        let shown = kept clean (history_after start (lines_in (folder.text_in f) names)) (ends_shown (folder.text_in f) start names mid last ends) in
+        ends_in (folder.text_in f) start names mid new k (subst (λ (l : Option J). EndsLast registry file (folder.text_in f) start names mid l) is ends) shown
+    found old mid new f g names last k honest follows kept same (inr begins) clean known start marked shows =
+        let ends = follows (honest clean) known start marked shows in
+        let shown = kept clean (history_after start (lines_in (folder.text_in f) names)) (ends_shown (folder.text_in f) start names mid last ends) in
+        begins_in (folder.text_in f) start names new k (begins names (same ∙ known)).0 shown

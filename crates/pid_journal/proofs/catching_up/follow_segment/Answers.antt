@@ -1,0 +1,35 @@
+use Rattle.std.proofs.Common.{inr, ℕ, false, List, Some, ap, sym, subst, ◌∙◌}
+use Rattle.pid_file.specs.WholeLines.{whole_lines}
+use Rattle.pid_moderation.specs.History.{History}
+use Rattle.pid_journal.specs.Steps.Ways.{IsOnWay}
+use Rattle.pid_journal.proofs.InTurn.{if_known}
+use Rattle.pid_journal.proofs.Resuming.{before_begin, counted_status, if_opened, segment_ended}
+use Rattle.pid_journal.proofs.catching_up.follow_segment.Goals as goal
+
+-- the registry is before the beginning
+pub returns-then-now-begin-clause-followed : goal.returns-then-now-begin-clause-followed
+returns-then-now-begin-clause-followed g c clean names known h shown marked begins shows way =
+    let told = c.in-Ok.ensures.told clean shown shows in
+    before_begin h shown c.counts_of-now.result c.args.begin (whole_lines (g.F.JournalFolder.text_in c.args.folder.now c.args.begin)) begins (counted_status _ shown told.0 ∙ sym c.counts_of-now.ensures) way c.if-now-begin.true
+
+-- the registry has no place in the segment
+pub returns-in-Err-find_place-clause-followed : goal.returns-in-Err-find_place-clause-followed
+returns-in-Err-find_place-clause-followed g c clean names known h shown marked begins shows way =
+    let told = c.in-Ok.ensures.told clean shown shows in
+    let is = c.as_slice-bytes.ensures.value ∙ if_known (g.F.JournalFolder.names c.args.folder.now) names _ known c.in-Ok-text.ensures.read in
+    c.in-Err-find_place.ensures.found h shown marked begins (counted_status _ shown told.0 ∙ sym c.counts_of-now.ensures) (subst (λ (l : List ℕ). IsOnWay h false (whole_lines l) shown) (sym is) way)
+
+pub returns-in-Err-find_place-clause-stays : goal.returns-in-Err-find_place-clause-stays
+returns-in-Err-find_place-clause-stays g c = inr ((λ clean h shown. (c.in-Ok.ensures.told clean h shown).1), c.in-Ok-text.ensures.unopened)
+
+-- the end of the segment
+pub returns-in-Ok-obey_rest-clause-followed : goal.returns-in-Ok-obey_rest-clause-followed
+returns-in-Ok-obey_rest-clause-followed g c clean names known h shown marked begins shows way =
+    let told = c.in-Ok.ensures.told (c.obey_rest.ensures.honest clean) shown shows in
+    let is = c.as_slice-bytes.ensures.value ∙ if_known (g.F.JournalFolder.names c.args.folder.now) names _ known c.in-Ok-text.ensures.read in
+    let on = subst (λ (l : List ℕ). IsOnWay h false (whole_lines l) shown) (sym is) way in
+    let found = c.in-Ok-find_place.ensures.found h shown marked begins (counted_status _ shown told.0 ∙ sym c.counts_of-now.ensures) on in
+    let opened = if_opened (g.F.JournalFolder.names c.text.new.self) names _ _ (c.in-Ok-text.ensures.same.0 ∙ known) c.in-Ok-segment.ensures.opened ∙ ap (λ (text : ℕ → List ℕ). Some (text c.args.begin)) c.in-Ok-text.ensures.same.1 in
+    segment_ended g.R.Moderated g.F.Segment.JournalFile h shown (g.F.JournalFolder.text_in c.args.folder.now c.args.begin) c.as_slice-bytes.result.now c.obey_rest.new.registry c.in-Ok-segment.segment c.obey_rest.new.journal is opened
+    (subst (λ (x : History). g.R.Moderated.showing.shows c.obey_rest.new.registry x) found (c.in-Ok-obey_rest.ensures.obeyed clean shown told.1))
+    on c.in-Ok-obey_rest.ensures.ended

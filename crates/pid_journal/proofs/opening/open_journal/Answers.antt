@@ -1,0 +1,22 @@
+use Rattle.std.proofs.Common.{refl}
+use Rattle.pid_journal.proofs.Resuming.{untouched}
+use Rattle.pid_journal.proofs.opening.open_journal.Goals as goal
+
+pub returns-in-Ok-clause-resumed : goal.returns-in-Ok-clause-resumed
+returns-in-Ok-clause-resumed g c start names belongs clean =
+    let found = c.in-Ok.ensures.found clean names belongs.known start belongs.marked (record { shown = belongs.shown; shows = belongs.shows; way = belongs.way }) in (
+      found.0,
+      record {
+        front = found.1.front;
+        last = found.1.last;
+        shows = record { shown = found.1.shown; settled = refl; text = found.1.kept; safe = found.1.safe; leads = found.1.leads };
+        more = found.1.more;
+        grows = found.1.grows;
+      },
+    )
+
+pub returns-in-Err-clause-resumed : goal.returns-in-Err-clause-resumed
+returns-in-Err-clause-resumed g c start names belongs clean = c.in-Err.ensures.found clean names belongs.known start belongs.marked (record { shown = belongs.shown; shows = belongs.shows; way = belongs.way })
+
+pub returns-in-Err-clause-others : goal.returns-in-Err-clause-others
+returns-in-Err-clause-others g c = untouched c.in-Err.fault c.in-Err.ensures.stays

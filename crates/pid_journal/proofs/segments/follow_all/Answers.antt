@@ -1,0 +1,33 @@
+use Rattle.std.proofs.Common.{◌≡◌, true}
+use Rattle.pid_journal.proofs.InTurn.{err_between, err_last, none_follows, ok_last, turns}
+use Rattle.pid_journal.proofs.segments.follow_all.Goals as goal
+
+pub returns-in_default-clause-followed : goal.returns-in_default-clause-followed
+returns-in_default-clause-followed g c = none_follows g.R.Moderated g.F.Segment.JournalFile g.F.JournalFolder c.args.registry.now c.args.folder.now c.args.begins.now c.in_default.ensures
+
+pub returns-in-Err-clause-followed : goal.returns-in-Err-clause-followed
+returns-in-Err-clause-followed g c =
+    err_between g.R.Moderated g.F.Segment.JournalFile g.F.JournalFolder c.args.registry.now c.loop-next.registry c.pass_segment.new.registry c.args.folder.now c.loop-next.folder c.args.begins.now c.loop-next.begin c.in-Some-first_of.next c.loop-next.rest.now c.in-Some-first_of.others.now c.loop-next.moved c.in-Err.fault c.fault_after.result
+    c.loop-next.invariant c.in-Some-first_of.ensures c.pass_segment.ensures.honest c.in-Err.ensures.passed c.fault_after.ensures.refused
+
+pub loop-next-preserved-then-moved : goal.loop-next-preserved-then-moved
+loop-next-preserved-then-moved g c =
+    turns g.R.Moderated.showing g.F.JournalFolder c.args.registry.now c.loop-next.registry c.pass_segment.new.registry c.args.folder.now c.loop-next.folder c.pass_segment.new.folder c.args.begins.now c.loop-next.begin c.in-Some-first_of.next c.loop-next.rest.now c.in-Some-first_of.others.now c.loop-next.moved c.in-Ok.obeyed c.loop-next.moved
+    c.loop-next.invariant c.in-Some-first_of.ensures c.pass_segment.ensures.same c.pass_segment.ensures.honest c.in-Ok.ensures.stays.1 (λ off. let on : c.loop-next.moved ≡ true = c.if-moved.true in absurd (let no : ⊥ = cc in no))
+    (λ clean all known h marked shows. c.in-Ok.ensures.passed clean all c.in-Some-first_of.others.now known h marked shows)
+
+pub loop-next-preserved : goal.loop-next-preserved
+loop-next-preserved g c =
+    turns g.R.Moderated.showing g.F.JournalFolder c.args.registry.now c.loop-next.registry c.pass_segment.new.registry c.args.folder.now c.loop-next.folder c.pass_segment.new.folder c.args.begins.now c.loop-next.begin c.in-Some-first_of.next c.loop-next.rest.now c.in-Some-first_of.others.now c.loop-next.moved c.in-Ok.obeyed c.in-Ok.obeyed
+    c.loop-next.invariant c.in-Some-first_of.ensures c.pass_segment.ensures.same c.pass_segment.ensures.honest c.in-Ok.ensures.stays.1 (λ off. (c.if-moved.false, off))
+    (λ clean all known h marked shows. c.in-Ok.ensures.passed clean all c.in-Some-first_of.others.now known h marked shows)
+
+pub returns-in-Ok-follow_segment-clause-followed : goal.returns-in-Ok-follow_segment-clause-followed
+returns-in-Ok-follow_segment-clause-followed g c =
+    ok_last g.R.Moderated g.F.Segment.JournalFile g.F.JournalFolder c.args.registry.now c.loop-next.registry c.follow_segment.new.registry c.args.folder.now c.loop-next.folder c.args.begins.now c.loop-next.begin c.loop-next.rest.now c.loop-next.moved c.in-Ok-follow_segment.segment
+    c.loop-next.invariant c.in_default-first_of.ensures c.follow_segment.ensures.honest c.in-Ok-follow_segment.ensures.followed
+
+pub returns-in-Err-follow_segment-clause-followed : goal.returns-in-Err-follow_segment-clause-followed
+returns-in-Err-follow_segment-clause-followed g c =
+    err_last g.R.Moderated g.F.Segment.JournalFile g.F.JournalFolder c.args.registry.now c.loop-next.registry c.follow_segment.new.registry c.args.folder.now c.loop-next.folder c.args.begins.now c.loop-next.begin c.loop-next.rest.now c.loop-next.moved c.in-Err-follow_segment.fault c.fault_after-in-Err-follow_segment.result
+    c.loop-next.invariant c.in_default-first_of.ensures c.follow_segment.ensures.honest c.in-Err-follow_segment.ensures.followed c.fault_after-in-Err-follow_segment.ensures.refused

@@ -1,0 +1,17 @@
+use Rattle.std.proofs.Common.{false, true}
+use Rattle.pid_journal.proofs.InTurn.{fault_passes, follow_passes, skip_passes}
+use Rattle.pid_journal.proofs.segments.pass_segment.Goals as goal
+
+pub returns-then-next-revision-clause-passed : goal.returns-then-next-revision-clause-passed
+returns-then-next-revision-clause-passed g c =
+    skip_passes g.R.Moderated g.F.Segment.JournalFile g.F.JournalFolder c.args.registry.now c.revision_of.new.registry c.args.folder.now c.args.begin c.args.next c.in-Ok.revision false c.in-Ok.ensures.kept c.in-Ok.ensures.told c.if-next-revision.true
+
+pub returns-in-Ok-follow_segment-clause-passed : goal.returns-in-Ok-follow_segment-clause-passed
+returns-in-Ok-follow_segment-clause-passed g c =
+    follow_passes g.R.Moderated g.F.Segment.JournalFile g.F.JournalFolder c.args.registry.now c.revision_of.new.registry c.follow_segment.new.registry c.args.folder.now c.args.begin c.args.next c.in-Ok.revision c.in-Ok-follow_segment._segment true
+    c.follow_segment.ensures.honest c.in-Ok.ensures.kept c.in-Ok.ensures.told c.if-next-revision.false c.in-Ok-follow_segment.ensures.followed
+
+pub returns-in-Err-follow_segment-clause-passed : goal.returns-in-Err-follow_segment-clause-passed
+returns-in-Err-follow_segment-clause-passed g c =
+    fault_passes g.R.Moderated g.F.Segment.JournalFile g.F.JournalFolder c.args.registry.now c.revision_of.new.registry c.follow_segment.new.registry c.args.folder.now c.args.begin c.args.next c.in-Ok.revision c.in-Err-follow_segment.fault c.fault_between.result
+    c.follow_segment.ensures.honest c.in-Ok.ensures.kept c.in-Ok.ensures.told c.if-next-revision.false c.in-Err-follow_segment.ensures.followed c.fault_between.ensures.refused

@@ -1,0 +1,129 @@
+//! The segments of a journal, obeyed in turn by a registry that does not have them yet.
+ghost use Rattle.std.specs.Prelude.{◌≡◌, ◌⊎◌, [], ◌∷◌, true, IfErr, MatchOption};
+ghost use Rattle.pid_service_laws.specs.CallLaws.{StaysClean};
+ghost use Rattle.pid_journal.specs.Openings.{IsRefused};
+ghost use Rattle.pid_journal.specs.Steps.Segments.{
+  FollowsAll,
+  IsSameFolder,
+  KeepsShown,
+  LinesMayBeObeyed,
+  PassesSegment,
+  StaysOrMoved,
+  StaysOrPassed,
+  TellsRevision,
+};
+
+use crate::catching_up::follow_segment;
+use crate::folder::JournalFolder;
+use crate::open_fault::OpenFault;
+use pid_service_laws::Consulted;
+use std::alloc::Global;
+
+/// The revision of a registry.
+pub fn revision_of<R: Consulted>(registry: &mut R) -> Result<u64, OpenFault>
+    ensures honest { StaysClean R.showing registry.old registry.new }
+    ensures kept { KeepsShown R.showing registry.old registry.new }
+    ensures told { TellsRevision R.showing registry.old registry.new result }
+    ensures fault { IfErr result (λ fault. IsRefused fault × LinesMayBeObeyed fault) }
+{
+    match registry.status() {
+        Ok(status) => Ok(status.revision),
+        Err(refusal) => Err(OpenFault::Refused(refusal)),
+    }
+}
+
+// The first of some names, and the others.
+fn first_of(names: &[u64]) -> Option<(u64, &[u64])>
+    ensures { MatchOption result (names.now ≡ []) (λ p. names.now ≡ p.0 ∷ p.1.now) }
+{
+    let (first, others) = names.split_first()?;
+    Some((*first, others))
+}
+
+// A fault of a segment. Where lines of one before it were obeyed, what does not go on from there is
+// missing.
+fn fault_after(moved: bool, fault: OpenFault) -> OpenFault
+    ensures refused { IsRefused fault → IsRefused result }
+    ensures moved { moved ≡ true → LinesMayBeObeyed result }
+    ensures stays { LinesMayBeObeyed result ⊎ (result ≡ fault) }
+{
+    match fault {
+        OpenFault::Refused(_) | OpenFault::Missing => fault,
+        OpenFault::Another | OpenFault::Newer => { if moved { OpenFault::Missing } else { fault } }
+    }
+}
+
+// A fault of a segment after which another comes. A registry that has more commands than this one
+// has not those of the next, so that some are missing between the two.
+fn fault_between(fault: OpenFault) -> OpenFault
+    ensures refused { IsRefused fault → IsRefused result }
+    ensures stays { LinesMayBeObeyed result ⊎ (result ≡ fault) }
+{
+    match fault {
+        OpenFault::Refused(_) | OpenFault::Another | OpenFault::Missing => fault,
+        OpenFault::Newer => OpenFault::Missing,
+    }
+}
+
+// Brings a registry up to where the next segment begins, unless it is there or later already.
+// Answers whether it obeyed the segment.
+fn pass_segment<R: Consulted, F: JournalFolder>(
+    alloc: Global,
+    registry: &mut R,
+    folder: &mut F,
+    begin: u64,
+    next: u64,
+) -> Result<bool, OpenFault>
+    ensures honest { StaysClean R.showing registry.old registry.new }
+    ensures same { IsSameFolder F.JournalFolder folder.old folder.new }
+    ensures passed { PassesSegment R.Moderated F.Segment.JournalFile F.JournalFolder registry.old
+        registry.new folder.old begin next result }
+    ensures stays { StaysOrPassed R.showing F.JournalFolder registry.old registry.new folder.old
+        folder.new result }
+{
+    match revision_of(registry) {
+        Ok(revision) => {
+            if next <= revision {
+                return Ok(false);
+            }
+        }
+        Err(fault) => return Err(fault),
+    }
+    match follow_segment(alloc, registry, folder, begin) {
+        Ok(_segment) => Ok(true),
+        Err(fault) => Err(fault_between(fault)),
+    }
+}
+
+/// Brings a registry up to the end of the segments that begin at these revisions. Answers the last
+/// one, if there is one.
+pub fn follow_all<R: Consulted, F: JournalFolder>(
+    alloc: Global,
+    registry: &mut R,
+    folder: &mut F,
+    begins: &[u64],
+) -> Result<Option<F::Segment>, OpenFault>
+    ensures honest { StaysClean R.showing registry.old registry.new }
+    ensures same { IsSameFolder F.JournalFolder folder.old folder.new }
+    ensures followed { FollowsAll R.Moderated F.Segment.JournalFile F.JournalFolder registry.old
+        registry.new folder.old begins.now result }
+    ensures stays { StaysOrMoved R.showing F.JournalFolder registry.old registry.new folder.old
+        folder.new result }
+{
+    let Some((mut begin, mut rest)) = first_of(begins) else {
+        return Ok(None);
+    };
+    let mut moved = false;
+    while let Some((next, others)) = first_of(rest) {
+        match pass_segment(alloc, registry, folder, begin, next) {
+            Ok(obeyed) => moved = moved || obeyed,
+            Err(fault) => return Err(fault_after(moved, fault)),
+        }
+        begin = next;
+        rest = others;
+    }
+    match follow_segment(alloc, registry, folder, begin) {
+        Ok(segment) => Ok(Some(segment)),
+        Err(fault) => Err(fault_after(moved, fault)),
+    }
+}

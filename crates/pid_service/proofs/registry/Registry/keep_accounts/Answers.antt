@@ -1,0 +1,33 @@
+use Rattle.std.proofs.Common.{refl}
+use Rattle.pid_moderation.specs.Views.{views_of}
+use Rattle.pid_service.proofs.Keeping.{true_not}
+use Rattle.pid_service.proofs.Questions.{answered_here, answers_fault, answers_unkept, failed_here}
+use Rattle.pid_service.proofs.registry.Registry.keep_accounts.Goals as goal
+
+pub returns-then-not-self : goal.returns-then-not-self
+returns-then-not-self g c = failed_here g.S.Store c.args.self.now _ c.if-not-self.true c.args.self.now.settled
+
+pub returns-then-is_some : goal.returns-then-is_some
+returns-then-is_some g c = answered_here g.S.Store c.args.self.now _ _ c.if-not-self.false c.args.self.now.settled (λ clean h shows. tt)
+
+pub returns-in-Ok : goal.returns-in-Ok
+returns-in-Ok g c =
+    let rests = c.accounts.ensures.rests in
+    record {
+      failed = true_not c.args.self.now.live c.if-not-self.false;
+      fault = tt;
+      lives = refl;
+      rests = rests;
+      told = λ clean h shows.
+          let kept = shows.kept (rests.clean clean) in
+          (tt, record { lives = shows.lives; history = shows.history; tables = rests.kept (views_of h) shows.tables; kept = λ still. record { names = kept.names; text = kept.text; top = kept.top; changes = kept.changes; pending = kept.pending; numbers = kept.numbers; accounts = c.in-Ok.ensures.told clean (views_of h) shows.tables } });
+      caused = λ clean h shows. tt;
+    }
+
+pub returns-in-Err-Memory : goal.returns-in-Err-Memory
+returns-in-Err-Memory g c = answers_unkept g.S.Store c.args.self.now _ c.if-not-self.false refl refl c.accounts.ensures.rests
+
+pub returns-in-Err : goal.returns-in-Err
+returns-in-Err g c =
+    answers_fault g.S.Store c.args.self.now _ c.in-Err.fault c.refusal_of.result _ c.if-not-self.false refl refl c.accounts.ensures.rests c.refusal_of.ensures.same c.refusal_of.ensures.fault
+    (λ clean h shows. c.in-Err.ensures.told clean (views_of h) shows.tables (c.reached_histories_are_kept.ensures.readable h shows.history))

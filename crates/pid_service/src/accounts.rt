@@ -1,0 +1,73 @@
+//! How many accounts there are, as a registry keeps it in memory.
+ghost use Rattle.std.specs.Prelude.{◌≡◌, ◌+◌, ℕ, IfSome, false};
+ghost use Rattle.pid_moderation.specs.Changes.{FitsEffect, affected};
+ghost use Rattle.pid_moderation.specs.Views.{Views};
+ghost use Rattle.pid_tables.specs.Rows.Accounts.{HasAccounts};
+ghost use Rattle.pid_tables.specs.Rows.Clauses.{Reads};
+ghost use Rattle.pid_service.specs.KeptViews.{HoldsAccounts};
+ghost use Rattle.pid_service.specs.Steps.Asking.{Finds};
+
+use crate::laws;
+use crate::registry::Registry;
+use pid_moderation::{Effect, Refusal};
+use pid_tables::{TableFault, Tables, refusal_of};
+use sqlite::Alter;
+
+/// How many accounts there are after a change.
+pub(crate) fn accounts_after(count: Option<u64>, effect: &Effect) -> Option<u64>
+    ensures { (n : ℕ) (v : Views) → FitsEffect effect.now v → HoldsAccounts count v
+        → HoldsAccounts result (affected n effect.now v) }
+{
+    let count = count?;
+    match effect {
+        Effect::Ranked { is_new, .. } => if *is_new {
+            count.checked_add(1)
+        } else {
+            Some(count)
+        },
+        Effect::Nothing
+        | Effect::Submitted { .. }
+        | Effect::Remarked { .. }
+        | Effect::Decided { .. }
+        | Effect::Imported { .. } => Some(count),
+    }
+}
+
+/// How many accounts there are, by the number that is kept; if none is, their rows are counted.
+pub(crate) fn count_accounts<S: Alter + Drop>(
+    tables: &mut Tables<S>,
+    kept: Option<u64>,
+) -> Result<u64, TableFault>
+    requires { tables.old.conn.in_transaction ≡ false }
+    ensures { Reads S.Store tables.old.conn tables.new.conn result
+        (λ v n. HoldsAccounts kept v → HasAccounts v n) }
+{
+    match kept {
+        Some(count) => Ok(count),
+        None => tables.accounts(),
+    }
+}
+
+impl<S: Alter + Drop> Registry<S> {
+    // Counts the accounts, unless that was done, and keeps their number if memory is there for
+    // their rows.
+    pub(crate) fn keep_accounts(&mut self) -> Result<(), Refusal>
+        ensures { Finds S.Store self.old self.new result (λ h _. Unit {0}) }
+    {
+        if !self.live {
+            return Err(Refusal::Failed);
+        }
+        laws::reached_histories_are_kept(); // proof only
+        if self.kept.accounts.is_some() {
+            return Ok(());
+        }
+        match self.tables.accounts() {
+            Ok(count) => {
+                self.kept.accounts = Some(count);
+                Ok(())
+            }
+            Err(TableFault::Memory) => Ok(()),
+            Err(fault) => Err(refusal_of(fault)),
+        }
+    }
+}

@@ -1,0 +1,37 @@
+use Rattle.std.proofs.Common.{ap, refl, ◌∙◌, arith, take_all}
+use Rattle.sqlite.specs.Held.{state}
+use Rattle.pid_tables.specs.Rows.Causes.{IsCaused, IsReadable}
+use Rattle.pid_tables.proofs.OfRows.CauseLemmas.{caused_later, passed_on}
+use Rattle.pid_tables.proofs.OfRows.OnlyReading.{reads_then}
+use Rattle.pid_tables.specs.Lists.ByNumber.{standings_at}
+use Rattle.pid_tables.proofs.OfLists.NumberLemmas.{more_there}
+use Rattle.pid_tables.proofs.tables.Tables.pending_at.Goals as goal
+
+pub loop-number-preserved : goal.loop-number-preserved
+loop-number-preserved g c =
+    let one = c.in_ok-add_numbered.ensures in
+    let before = c.loop-number.invariant in (
+      reads_then _ _ _ before.0 one.rests,
+      λ clean v rest.
+          more_there v c.args.numbers.now c.loop-number.number-index _ _ _ _ refl c.loop-number-test.true (one.told clean v (before.0.kept v rest)) (before.1 (one.rests.clean clean) v rest),
+    )
+
+pub returns : goal.returns
+returns g c = record {
+  rests = c.loop-number.invariant.0;
+  told = λ clean v rest. c.loop-number.invariant.1 clean v rest ∙ ap (λ l. standings_at l v) (take_all c.loop-number.number-index c.args.numbers.now (let done = c.loop-number-test.false in omega (arith, done)));
+}
+
+pub returns-in_err-add_numbered : goal.returns-in_err-add_numbered
+returns-in_err-add_numbered g c =
+    let one = c.in_err-add_numbered.ensures in
+    let before = c.loop-number.invariant in
+    let old = state g.S.Store c.args.self.now.conn in
+    let mid = state g.S.Store c.loop-number.self.conn in
+    let new = state g.S.Store c.add_numbered.new.conn in
+    record {
+      rests = reads_then _ _ _ before.0 one.rests;
+      told = λ clean v rest.
+          passed_on c.from_residual.result _ _ (λ fault. IsReadable v → IsCaused old new fault) c.from_residual.ensures.1
+          (λ readable. caused_later old mid new (λ _. ⊥) c.in_err-add_numbered.field-0.0 before.0.survives one.rests.survives.counts (one.rests.clean clean) (one.told clean v (before.0.kept v rest) readable));
+    }

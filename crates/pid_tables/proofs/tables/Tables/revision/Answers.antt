@@ -1,0 +1,24 @@
+use Rattle.std.proofs.Common.{ap, ◌∙◌, slice_get}
+use Rattle.sqlite.specs.Held.{state}
+use Rattle.pid_tables.proofs.OfRows.ReadBack.{whole_read}
+use Rattle.pid_tables.proofs.OfRows.MapLemmas.{some_same}
+use Rattle.pid_tables.proofs.tables.Tables.revision.Goals as goal
+
+pub returns-in-Some : goal.returns-in-Some
+returns-in-Some g c = record {
+  rests = c.in_ok-rows.ensures.reads.rests;
+  told = λ clean v rest.
+      let found = c.in_ok-rows.ensures.reads.told clean v rest in
+      whole_read (state g.S.Store c.args.self.now.conn) (state g.S.Store c.value_rows.new.conn) v c.in-Some.row.now c.whole_at.result v.revision
+      (some_same (c.in-Some.ensures.value ∙ ap (λ l. slice_get l 0) c.deref.ensures.value ∙ found)) c.whole_at.ensures.read c.whole_at.ensures.unread;
+}
+
+pub returns : goal.returns
+returns g c = record {
+  rests = c.in_ok-rows.ensures.reads.rests;
+  told = λ clean v rest readable.
+      let found = c.in_ok-rows.ensures.reads.told clean v rest in
+      let none = c.in-None.ensures.value ∙ ap (λ l. slice_get l 0) c.deref.ensures.value ∙ found in
+      let bad : ⊥ = cc in
+      bad;
+}

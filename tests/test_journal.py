@@ -1,0 +1,219 @@
+"""A registry with `--journal`: the line of each command, a registry that is lost or restored from
+an older copy, journals that do not fit, and a journal that cannot be written."""
+import os
+import re
+import shutil
+import time
+import urllib.parse
+
+import pytest
+
+from disks import small_disk
+from http_server import Server
+from journal_room import lose, names_in, text_of
+from program import HEADER, WHOLE
+from registry import asked, script, work
+
+pytestmark = pytest.mark.needs("sqlite3")
+
+# Each kind of command, accepted, with its reply.
+COMMANDS = [
+    ("account root who=bob&rank=2", "ok"),
+    ("import bob file=8086++Intel%0A%091237++440FX%0A&key=i1", "ok added=2 renamed=0 same=0"),
+    ("submit bob path=PC/8086&name=%E2%82%AC+%26+%2B%25&note=a+note&key=s1", "ok 1"),
+    ("submit bob path=PC/8086/1237&remove=yes", "ok 2"),
+    ("comment root num=1&text=seen", "ok"),
+    ("withdraw bob num=2", "ok"),
+    ("confirm root num=1&was=Intel", "ok"),
+    ("submit bob path=PD/01&name=Storage", "ok 3"),
+    ("reject bob num=3&reason=no", "refused 10 OwnDecision"),
+    ("reject root num=3&reason=no+such+class", "ok"),
+    ("submit root path=PS/1af4/1100&name=Card", "ok 4"),
+    ("approve bob num=4", "refused 11 ParentMissing"),
+    ("confirm bob num=4&was=", "refused 11 ParentMissing"),
+]
+TEXT = "".join(line + "\n" for line, _ in COMMANDS).encode()
+REPLIES = "".join(reply + "\n" for _, reply in COMMANDS).encode()
+NOTE = re.compile(r"# time=(\d+)&revision=(\d+)&accounts=(\d+)&items=(\d+)&submissions=(\d+)")
+
+
+def journaled(text, db, journal, **how):
+    return work(text, "script", "--db", db, "--journal", journal, **how)
+
+
+def lines_of(journal):
+    """The lines of commands."""
+    lines = text_of(journal).decode().splitlines()
+    return [line for line in lines if line and not line.startswith("#")]
+
+
+def meant(line):
+    """A line without the order of its fields and the way in which they are encoded."""
+    word, account, fields = line.split(" ")
+    given = dict(urllib.parse.parse_qsl(fields, keep_blank_values=True))
+    if word == "submit":
+        given.setdefault("note", "")
+    return word, account, sorted(given.items())
+
+
+def rows(path):
+    return asked(path, ".dump")
+
+
+def test_lines(cases, folder):
+    """Each kind of command has its line, below a comment with the time and the counts before it."""
+    db, journal = os.path.join(folder, "r.db"), os.path.join(folder, "journal")
+    begun = int(time.time())
+    cases.equal("the replies", journaled(TEXT, db, journal), (REPLIES, b"", 0))
+    cases.equal("the segments", names_in(journal), ["0" * 20 + ".script"])
+    want = [meant(line) for line, _ in COMMANDS]
+    cases.equal("the lines", [meant(line) for line in lines_of(journal)], want)
+    notes = [NOTE.fullmatch(it) for it in text_of(journal).decode().splitlines() if it[:1] == "#"]
+    cases.equal("a comment for each", len([it for it in notes if it]), len(COMMANDS))
+    times = [int(it.group(1)) for it in notes if it]
+    cases.equal("times", begun <= min(times) <= max(times) <= time.time(), True)
+    cases.equal("the first counts", notes[0].groups()[1:], ("0", "1", "0", "0"))
+    cases.equal("the last counts", notes[-1].groups()[1:4], ("10", "2", "2"))
+
+
+def test_as_a_script(cases, folder):
+    """The text of a journal is a script that makes the same registry, row by row."""
+    db, journal, copy = (os.path.join(folder, it) for it in ("r.db", "journal", "copy.db"))
+    cases.equal("the replies", journaled(TEXT, db, journal), (REPLIES, b"", 0))
+    cases.equal("as a script", work(text_of(journal), "script", "--db", copy), (REPLIES, b"", 0))
+    cases.equal("the rows", rows(copy), rows(db))
+    want = HEADER + "8086  € & +%\n\t1237  440FX\n".encode()
+    told = work(b"export\n", "script", "--journal", journal)
+    cases.equal("in memory", told, (want, b"", 0))
+
+
+def test_no_lines(cases, folder):
+    """Questions have no line, and neither has a command that breaks its form or a file that is not
+    UTF-8; one that is refused for another reason has one."""
+    db, journal, ids = (os.path.join(folder, it) for it in ("r.db", "journal", "ids"))
+    text = b"export\nread path=PC/8086\naccount root who=bob&rank=9\nsubmit root path=PC/8086\n"
+    told = HEADER + b"refused 25 NoItem\nrefused 3 BadText\nrefused 3 BadText\n"
+    cases.equal("questions and bad forms", journaled(text, db, journal), (told, b"", 0))
+    cases.equal("no line", lines_of(journal), [])
+    with open(ids, "wb") as file:
+        file.write(b"8086  \xff\n")
+    words = ("import", "--db", db, "--account", "root", ids)
+    without = work(b"", *words)
+    refused = b"refused 14 FileFault line=1 kind=1 NotUtf8\n"
+    cases.equal("without a journal", without, (refused, b"", 1))
+    cases.equal("not UTF-8", work(b"", *words, "--journal", journal), without)
+    cases.equal("still no line", lines_of(journal), [])
+    told = journaled(b"approve root num=1\n", db, journal)
+    cases.equal("no submission", told, (b"refused 7 NoSubmission\n", b"", 0))
+    cases.equal("its line", lines_of(journal), ["approve root num=1"])
+    with open(ids, "wb") as file:
+        file.write(b"8086  Intel\n")
+    told = work(b"", *words, "--journal", journal, "--key", "k1")
+    cases.equal("an import", told, (b"ok added=1 renamed=0 same=0\n", b"", 0))
+    want = ("import", "root", [("file", "8086  Intel\n"), ("key", "k1")])
+    cases.equal("its line", meant(lines_of(journal)[-1]), want)
+
+
+def test_restored(cases, folder):
+    """A registry that is lost, or restored from any older copy, has every command again."""
+    db, journal = os.path.join(folder, "r.db"), os.path.join(folder, "journal")
+    copies = []
+    for number, (line, reply) in enumerate(COMMANDS):
+        told = journaled(line.encode() + b"\n", db, journal)
+        cases.equal(f"line {number}", told, (reply.encode() + b"\n", b"", 0))
+        copies.append(os.path.join(folder, f"copy{number}"))
+        shutil.copy(db, copies[-1])
+    want, text = rows(db), text_of(journal)
+    for number, copy in enumerate([None, *copies]):
+        lose(db)
+        if copy:
+            shutil.copy(copy, db)
+        cases.equal(f"opened on copy {number}", journaled(b"", db, journal), (b"", b"", 0))
+        cases.equal(f"the rows from copy {number}", rows(db), want)
+    cases.equal("the journal", text_of(journal), text)
+
+
+def test_in_doubt(cases, folder):
+    """A last line that is whole is obeyed once; one that is not is cut off."""
+    db, journal = os.path.join(folder, "r.db"), os.path.join(folder, "journal")
+    cases.equal("begun", journaled(b"account root who=bob&rank=1\n", db, journal)[2], 0)
+    before = text_of(journal)
+    note = b"# time=1&revision=1&accounts=2&items=0&submissions=0\n"
+    line = b"submit bob path=PC/8086&name=Intel&note=\n"
+    path = os.path.join(folder, "journal", names_in(journal)[0])
+    for length in (1, len(note), len(note) + 5, len(note) + len(line) - 1):
+        with open(path, "ab") as file:
+            file.write((note + line)[:length])
+        cases.equal(f"{length} bytes of it", journaled(b"", db, journal), (b"", b"", 0))
+        cases.equal("nothing was obeyed", asked(db, "SELECT count(*) FROM submission"), "0\n")
+        if length < len(note):
+            cases.equal("they are cut off", text_of(journal), before)
+        with open(path, "wb") as file:
+            file.write(before)
+    with open(path, "ab") as file:
+        file.write(note + line)
+    for _ in range(2):
+        cases.equal("a whole line", journaled(b"", db, journal), (b"", b"", 0))
+        cases.equal("is obeyed once", asked(db, "SELECT count(*) FROM submission"), "1\n")
+
+
+def test_journals_that_do_not_fit(cases, folder):
+    """Another registry's journal is refused and nothing is written; after commands without the
+    journal it goes on after a gap; one without its beginning is refused."""
+    db, journal, other = (os.path.join(folder, it) for it in ("r.db", "journal", "other.db"))
+    cases.equal("begun", journaled(TEXT, db, journal), (REPLIES, b"", 0))
+    lines = [f"account root who=u{number}&rank=0" for number in range(3)]
+    cases.equal("another registry", script(other, *lines)[2], 0)
+    text, found = text_of(journal), rows(other)
+    words = ("export", *(f"account root who=v{number}&rank=0" for number in range(3)))
+    told = journaled("".join(it + "\n" for it in words).encode(), other, journal)
+    cases.equal("another registry's", told, (b"", b"journal: Another\n", 3))
+    cases.equal("as they were", (text_of(journal), rows(other)), (text, found))
+    words = [f"account root who={name}&rank=0" for name in ("eve", "frank")]
+    cases.equal("without it", script(db, *words), (b"ok\nok\n", b"", 0))
+    told = journaled(b"account root who=mallory&rank=0\n", db, journal)
+    cases.equal("a gap", told, (b"ok\n", b"journal: gap\n", 0))
+    names = names_in(journal)
+    cases.equal("two segments", names, ["0" * 20 + ".script", f"{12:020}.script"])
+    want = rows(db)
+    cases.equal("after the gap", journaled(b"", db, journal), (b"", b"", 0))
+    os.remove(os.path.join(journal, names[0]))
+    lose(db)
+    told = journaled(b"", db, journal)
+    cases.equal("segments that are missing", told, (b"", b"journal: Missing\n", 3))
+    cases.equal("a gap has rows", "mallory" in want, True)
+
+
+def test_folders(cases, folder):
+    """A folder that another program has, or that cannot be had, is reported."""
+    db, journal, other = (os.path.join(folder, it) for it in ("r.db", "journal", "other.db"))
+    with Server(db, program=WHOLE, journal=journal):
+        told = journaled(b"export\n", other, journal)
+        cases.equal("in use", told, (b"", b"journal: failed\n", 3))
+    cases.equal("free again", journaled(b"", db, journal), (b"", b"", 0))
+    file = os.path.join(folder, "file")
+    with open(file, "wb"):
+        pass
+    for name, place in (("a file", file), ("no folder above", os.path.join(folder, "no", "j"))):
+        told = journaled(b"export\n", db, place)
+        cases.equal(name, told, (b"", b"journal: failed\n", 3))
+
+
+def test_full(cases, folder):
+    """A command whose line cannot be written is answered 17 and not obeyed."""
+    db = os.path.join(folder, "r.db")
+    with small_disk(folder, 64) as place:
+        journal = os.path.join(place, "journal")
+        cases.equal("begun", journaled(b"account root who=bob&rank=1\n", db, journal)[2], 0)
+        note = "x" * 900
+        lines = [f"submit bob path=PC/{number:04x}&name={note}" for number in range(100)]
+        out, faults, status = journaled("".join(it + "\n" for it in lines).encode(), db, journal)
+        replies = out.decode().splitlines()
+        done = len(replies) - 1
+        told = (replies[-1], faults, status)
+        cases.equal("refused in the end", told, ("refused 17 Store", b"", 3))
+        cases.equal("some were obeyed", 20 < done < 80, True)
+        cases.equal("and no other", asked(db, "SELECT count(*) FROM submission"), f"{done}\n")
+        cases.equal("nor has it a line", len(lines_of(journal)), done + 1)
+        told = journaled(b"read path=PC/0000\n", db, journal)
+        cases.equal("opened again", told, (b"refused 25 NoItem\n", b"", 0))
