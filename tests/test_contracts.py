@@ -20,10 +20,8 @@ CHARACTERS = 91
 ABOVE = ("pid_service", "pid_http", "pid_http_stream", "pid_script", "pid_cli", "pid_cli_jobs",
          "pid_cli_registry", "pid_cli_words")
 # Of each crate so many definitions, but those in Steps, are reached by no call that the lists of
-# PROMISES.md name: numbers of faults, the journal, a file's name, a double of tests. None is to be
-# added.
-UNNAMED = {"pid_file": 1, "pid_tree": 1, "pid_lookup": 1, "pid_service_laws": 2, "pid_tables": 1,
-           "pid_journal": 13, "pid_cli_machine": 1, "pid_cli_jobs": 1, "pid_tests_http": 2}
+# PROMISES.md name: those of a double of tests. None is to be added.
+UNNAMED = {"pid_tests_http": 2}
 # One notion, of a connection as of a registry over it, and of a fault as of its refusal.
 SHARED = ["HasCleanDisk", "IsMemoryOrStore", "OnlyReads", "Shows"]
 # Different ones, of a file and of tables.
