@@ -34,8 +34,8 @@ RT = """#!/bin/sh
 [ "$1" = doc ] && echo "$(dirname "$0")/../START-HERE.md"
 """
 
-# Takes a while, and notes the crate, its jobs, whether it writes statements, and the libraries that
-# it is given.
+# Notes the crate, its jobs, whether it writes statements, and the libraries that it is given.
+# Leaves a mark of that, and waits for the marks that WAITS names for this crate.
 RATTLE = """#!/usr/bin/env python3
 import os, sys, time
 words = sys.argv[1:]
@@ -51,8 +51,12 @@ print(os.getpid(), file=open(os.environ["NOTES"] + ".pids", "a"))
 kind = ["statements"] if "--statements" in words else []
 names = sorted(name for name, _ in given)
 print("begin", crate, "jobs", value("--jobs"), *kind, "over", *names, file=note, flush=True)
-pause = float(os.environ.get("PAUSE", "0.5"))
-time.sleep({"low": 0.1, "aside": pause / 2}.get(crate, pause))
+marks, end = os.environ["NOTES"] + ".marks", time.monotonic() + 300
+open(os.path.join(marks, crate), "w").close()
+waits = dict(it.split(":") for it in os.environ.get("WAITS", "").split())
+left = [os.path.join(marks, it) for it in waits.get(crate, "").split(",")]
+while not all(map(os.path.exists, left)) and time.monotonic() < end:
+    time.sleep(0.02)
 if os.environ.get("BROKEN") == crate:
     print("noise::a_function: proved\\nstatements noise\\nby-macro: noise")
     sys.exit("src/lib.rt:1: error: not proved")
@@ -105,6 +109,7 @@ def make(folder, crates=CRATES):
         shutil.copy(path, os.path.join(folder, "tools"))
     write(os.path.join(folder, "tools", "seconds.txt"), f"# Seconds.\n{SECONDS}")
     shutil.copy(WRAPPER, folder)
+    os.mkdir(os.path.join(folder, "notes.marks"))
     for name, text in (("rt", RT), ("rattle", RATTLE), ("rattle-link", LINK), ("rtlib.py", RTLIB)):
         write(os.path.join(folder, "kit", "bin", name), text)
 
@@ -126,11 +131,26 @@ def start(folder, **more):
     )
 
 
+def mark(folder, name):
+    write(os.path.join(folder, "notes.marks", name), "")
+
+
+def said_by(process, folder):
+    """What a build writes to standard error, up to its end. Each crate that it names as proved
+    leaves the mark `CRATE.told`."""
+    said = ""
+    for line in process.stderr:
+        said += line
+        if named := re.match(r"pciids: (\w+) is proved", line):
+            mark(folder, f"{named[1]}.told")
+    return said
+
+
 def build(folder, **more):
     """What a whole run of the script says, line by line, and its status."""
-    process = start(folder, **more)
-    told, said = process.communicate(timeout=60)
-    assert told == ""
+    with start(folder, **more) as process:
+        said = said_by(process, folder)
+        assert process.stdout.read() == ""
     return said.splitlines(), process.returncode
 
 
@@ -148,7 +168,10 @@ def test_builds(cases):
     """Each crate is built once, over the crates below it, two of them at the same time."""
     with tempfile.TemporaryDirectory() as folder:
         make(folder)
-        said, status = build(folder, PAUSE="4")
+        # The three in the middle run until all of them have begun, and two of them until the end of
+        # the third was reported.
+        waits = "aside:left,right left:aside.told right:aside.told program:top.told"
+        said, status = build(folder, WAITS=waits)
         cases.equal("the status", status, 0)
         first = "pciids: building the whole program: 6 crates, about 20 s"
         cases.equal("how long it takes", said[0], first)
@@ -156,8 +179,8 @@ def test_builds(cases):
         named, counts, now = zip(*(re.fullmatch(form, it).groups("") for it in said[1:-1]))
         cases.equal("each library is reported", sorted(named), sorted(NAMES))
         cases.equal("how many there are", "".join(counts), "12345")
-        now = set(", ".join(now).split(", "))
-        cases.equal("what is being proved", {"left", "right"} <= now - {""}, True)
+        others = sorted(now[named.index("aside")].split(", "))
+        cases.equal("what is being proved", others, ["left", "right"])
         cases.equal("the end", re.sub("[0-9]+", "N", said[-1]), "pciids: built in N s")
         noted = notes(folder)
         low = "begin low jobs 2 statements over std std_thing"
@@ -222,14 +245,26 @@ def test_breaks(cases):
 
 def running(folder):
     """How many of the provers that were begun run."""
+    count = 0
     with open(os.path.join(folder, "notes.pids")) as file:
-        return sum(os.path.exists(f"/proc/{it}") for it in file.read().split())
+        for it in file.read().split():
+            # One that has ended stays listed until its parent asks for its status.
+            with contextlib.suppress(OSError), open(f"/proc/{it}/stat") as stat:
+                count += stat.read().rpartition(")")[2].split()[0] != "Z"
+    return count
 
 
 def wait_until(holds):
     end = time.monotonic() + 30
     while not holds() and time.monotonic() < end:
         time.sleep(0.05)
+
+
+def leave_marks(folder, said):
+    """The line that moves leaves the mark `M.N` when it is shown for the Nth time in build M."""
+    for number, part in enumerate(said.split(b"pciids: building ")):
+        for line in range(part.count(b"\rpciids: ")):
+            mark(folder, f"{number}.{line + 1}")
 
 
 def at_terminal(folder, *words, **more):
@@ -244,6 +279,7 @@ def at_terminal(folder, *words, **more):
         with contextlib.suppress(OSError):
             while piece := os.read(here, 4096):
                 said += piece
+                leave_marks(folder, said)
         running.wait(timeout=60)
     os.close(here)
     return said.decode().replace("\r\n", "\n")
@@ -253,18 +289,23 @@ def test_at_terminal(cases):
     """There one line moves, and its names are cut where it would be too long."""
     with tempfile.TemporaryDirectory() as folder:
         make(folder, "pid_cli_first:\npid_cli: low left_out right\n" + CRATES)
-        text = at_terminal(folder, "script", PAUSE="3.5")
+        text = at_terminal(folder, "script", WAITS="pid_cli_first:1.1 right:2.5")
         first, whole = text.split("pciids: building ")[1:]
         cases.equal("the first", [it.count("\n") for it in (first, whole)], [3, 3])
         lines = whole.split("\n")[1].split("\r")[1:]
         cases.equal("lines move", len(lines) > 3, True)
         cases.equal("each clears what was there", {it[-3:] for it in lines}, {"\033[K"})
         cases.equal("no line is too long", max(map(len, lines)) <= 79 + 3, True)
-        form = r"pciids: \d of \d crates, \d+ s, about \d+ (s|min) left, proving \w.*"
-        shown = [re.fullmatch(form, it[:-3]) for it in lines]
-        cases.equal("what they say", None in shown, False)
-        write(os.path.join(folder, "crates", "pid_cli", "src", "lib.rt"), "//! Something.\n")
-        broken = at_terminal(folder, "script", BROKEN="pid_cli", PAUSE="5")
+        # Between two crates nothing is being proved.
+        form = r"pciids: \d of \d crates, (\d+ min )?\d+ s, about \d+ (s|min) left(, proving \w.*)?"
+        shown = [it[:-3] for it in lines if not re.fullmatch(form, it[:-3])]
+        cases.equal("other lines", shown, [])
+        proving = sum(it.endswith(", proving right\033[K") for it in lines)
+        cases.equal("lines that say what is being proved", proving > 3, True)
+    with tempfile.TemporaryDirectory() as folder:
+        make(folder, "pid_cli_first:\npid_cli:\n")
+        waits = "pid_cli_first:1.1 pid_cli:2.1"
+        broken = at_terminal(folder, "script", BROKEN="pid_cli", WAITS=waits)
         end = "\033[K\nsrc/lib.rt:1: error: not proved\npciids: the crate pid_cli was not built\n"
         cases.equal("a fault has lines of its own", end in broken, True)
 
@@ -274,15 +315,15 @@ def test_silence(cases, monkeypatch, capsys):
     monkeypatch.syspath_prepend(os.path.dirname(TOOLS[0]))
     progress = importlib.import_module("progress")
     cases.equal("two minutes", progress.SILENCE, 120)
+    after, clock = 0, time.monotonic()
+    monkeypatch.setattr(progress.time, "monotonic", lambda: clock + after)
     build = types.SimpleNamespace(
         changed=threading.Condition(), crates=["pid_file", "pid_cli"], built=set(),
-        proved=[], running={"pid_file": time.monotonic()}, processors=4, broken=None,
+        proved=[], running={"pid_file": clock}, processors=4, broken=None,
         estimate=progress.Estimate({"pid_file": 9, "pid_cli": 1}, {"pid_file": [], "pid_cli": []}),
     )
     shown = progress.Progress(build, "it", 0)
-    clock = time.monotonic()
     for after in (1, 119, 121, 122, 240, 242):
-        monkeypatch.setattr(progress.time, "monotonic", lambda: clock + after)
         shown.look()
     said = [re.sub("about .*? left", "LEFT", it) for it in capsys.readouterr().err.splitlines()]
     line = "pciids: 0 of 2 crates, {} min 0{} s, LEFT, proving pid_file"
@@ -293,7 +334,7 @@ def test_stops(cases):
     """Stopped while it builds, it ends its provers, and the next run goes on from what is built."""
     with tempfile.TemporaryDirectory() as folder:
         make(folder)
-        process = start(folder, PAUSE="300")
+        process = start(folder, WAITS="left:never right:never aside:never")
         wait_until(lambda: os.path.exists(f"{folder}/notes") and len(begun(folder)) == 4)
         cases.equal("provers run", running(folder), 3)
         process.send_signal(signal.SIGINT)
@@ -308,21 +349,19 @@ def test_stops(cases):
 
 def call(folder, *words, **more):
     """What ./pciids prints with these words, and its status."""
-    ran = subprocess.run(
-        [os.path.join(folder, "pciids"), *words],
-        capture_output=True,
-        env=environment(folder, **more),
-        text=True,
-        timeout=60,
-    )
-    return ran.stdout, ran.stderr, ran.returncode
+    command = [os.path.join(folder, "pciids"), *words]
+    how = {"stdout": subprocess.PIPE, "stderr": subprocess.PIPE, "text": True}
+    with subprocess.Popen(command, env=environment(folder, **more), **how) as process:
+        said = said_by(process, folder)
+        told = process.stdout.read()
+    return told, said, process.returncode
 
 
 def test_wrapper(cases):
     """It builds what the arguments need, once, and says what it does."""
     with tempfile.TemporaryDirectory() as folder:
         make(folder, PROGRAMS)
-        told, said, status = call(folder, PAUSE="2.5")
+        told, said, status = call(folder, WAITS="pid_cli_first:pid_file.told")
         cases.equal("no arguments", (told, status), ("pid_cli_first runs\n", 0))
         what = "pciids: building the first program, for tidy, check and help: 2 crates, about "
         cases.equal("what it builds", said.startswith(what), True)

@@ -290,6 +290,8 @@ class Build:
         with self.changed:
             if process.returncode and not self.failed:
                 self.failed, self.broken = True, (crate, told)
+                # It is not one of those for which the build waits.
+                self.running.pop(crate, None)
         return process.returncode == 0
 
     def stop(self):
