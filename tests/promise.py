@@ -4,9 +4,9 @@
 `tests/promise.py NUMBER` prints it in one piece, in the order of reading: the contracts of the
 promise's calls; the definitions that these reach, each file before those that it cites; the types
 of the sources that the definitions name; and the names that they have from the toolchain, with the
-file of each. `tests/promise.py 7 | less` is the reading of the headline, and
-`tests/promise.py 7 --first | less` that of its first hour, which leaves shut what clauses hand on
-to each other and what other promises speak of.
+file of each. `tests/promise.py 7 --first | less` is the first reading of the headline, which leaves
+shut what clauses hand on to each other and what other promises speak of; `7 --then` is the second,
+of what promises 2 and 5 speak of.
 """
 import os
 import re
@@ -34,12 +34,15 @@ def contracts(sources, calls):
         yield f"{sources.places[call]}:{at + 1}\n" + re.sub(r"\n\s*\{(\})?$", "", contract)
 
 
-def definitions(specs, keys, first):
-    """The definitions file by file, with the lines that give several of them more arguments."""
+def definitions(specs, keys, first, shown):
+    """Those that are shown, file by file, with the lines that give several of them more
+    arguments."""
     for module in order(specs, keys, first):
+        found = [specs.definitions[it] for it in shown if it[0] == module]
+        if not found:
+            continue
         path, scope = path_of(module), None
         yield os.path.relpath(path, TOP)
-        found = (specs.definitions[it] for it in keys if it[0] == module)
         for it in sorted(found, key=lambda it: it.first):
             if it.scope not in (None, scope):
                 scope = it.scope
@@ -80,28 +83,31 @@ def types(named):
         yield f"{os.path.relpath(path, TOP)}:{at + 1}\n" + "\n".join(lines[at:end + 1])
 
 
-def reading(number, shut=frozenset()):
-    """All that is to be read for a promise, in parts, if some definitions stay shut."""
+def reading(number, shut=frozenset(), later=frozenset()):
+    """All that is to be read for a promise, in parts, if some definitions stay shut; or only what
+    some others lead to."""
     specs, sources = Specs(), Sources()
     calls = PROMISES[number - 1][1]
     first = [it for it in cited_first(specs, sources, calls) if it[1] not in shut]
     keys = specs.reached(first, shut)
-    named = set(others(specs, keys))
+    shown = keys - specs.reached([it for it in first if it[1] not in later], shut | later) \
+        if later else keys
+    named = set(others(specs, shown))
     declared = {it for it in named if ".specs.declared." in it[0]
                 and os.path.isdir(os.path.join(CRATES, it[0].split(".")[1]))}
     kit = {}
     for module, name in named - declared:
         _, crate, *inner = module.split(".")
         kit.setdefault("/".join([crate, *inner]), []).append(name)
-    yield from contracts(sources, calls)
-    yield from definitions(specs, keys, first)
+    yield from () if later else contracts(sources, calls)
+    yield from definitions(specs, keys, first, shown)
     yield from dict.fromkeys(types(declared))
     yield ("From the toolchain, below the folder `rattle` next to the page that `rt doc` prints;\n"
            "if a file is not there, `specs/Lib.antt` of its crate says where it is. A name below\n"
            "`declared` is a type: `grep -rnwE '(struct|enum|trait) NAME' */src` finds it.")
     yield "\n".join(f"{it}: {', '.join(sorted(kit[it]))}" for it in sorted(kit))
-    size = sum(specs.definitions[key].size for key in keys)
-    yield f"{len(keys)} definitions, {size:,} lines"
+    size = sum(specs.definitions[key].size for key in shown)
+    yield f"{len(shown)} definitions, {size:,} lines"
 
 
 def main(words):
@@ -109,8 +115,12 @@ def main(words):
         shut = HANDED_ON | OF_OTHERS
         print("\n\n".join(reading(7, shut)), "without " + ", ".join(sorted(shut)), sep="; ")
         return 0
+    if words == ["7", "--then"]:
+        print("\n\n".join(reading(7, HANDED_ON, OF_OTHERS)))
+        return 0
     if len(words) != 1 or words[0] not in map(str, range(1, len(PROMISES) + 1)):
-        print(f"usage: promise.py NUMBER, from 1 to {len(PROMISES)}; or 7 --first", file=sys.stderr)
+        print(f"usage: promise.py NUMBER, from 1 to {len(PROMISES)}; or 7 --first, 7 --then",
+              file=sys.stderr)
         return 2
     print("\n\n".join(reading(int(words[0]))))
     return 0

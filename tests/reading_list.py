@@ -50,9 +50,12 @@ HANDED_ON = {
     "Shows", "FailsBetween", "ShowsOrBlank", "IsShown", "IsReached", "ShowsAgain", "Does",
     "OverHistory", "Obeys", "ObeysImport", "Runs", "AnswersFailed", "OpensTo", "MovesTo",
     "IsExported", "IsLookedUp",
+    # Whatever they say, the text is of the tree alone, an answer of that and of what was asked:
+    # what the format and the flags are is said by promises 1 and 4.
+    "Reads", "answer_of",
 }
-# And these are what promises 2, 4 and 5 speak of.
-OF_OTHERS = {"print", "Reads", "answer_of", "judge", "views_of", "tree_of", "kept_of"}
+# And these are what promises 2 and 5 speak of.
+OF_OTHERS = {"print", "judge", "views_of", "tree_of", "kept_of"}
 
 
 def lines_of(path):
@@ -203,7 +206,9 @@ class Specs:
 
     def cited_by(self, key):
         module = key[0]
-        return self.cited(self.definitions[key].code, self.uses[module], self.local[module]) - {key}
+        # the name of a field is no name of a definition
+        code = re.sub(rf"^(\s+pub ){NAME}( :)", r"\1\2", self.definitions[key].code, flags=re.M)
+        return self.cited(code, self.uses[module], self.local[module]) - {key}
 
     def reached(self, keys, shut=()):
         """The definitions that are reached from these, but through none whose name is shut."""
