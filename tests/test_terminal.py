@@ -224,6 +224,19 @@ def test_journals(cases, folder):
         holder.stdin.close()
 
 
+def test_new_registry_of_a_journal(cases, folder):
+    """A registry that is made anew by its journal, and one whose journal is new, too."""
+    db, journal = journaled(folder, "a", 0)
+    words = [program.PROGRAM, "script", "--db", db, "--journal", journal]
+    said = f"pciids: {db} was not there: it was made, with the commands of {journal}\n".encode()
+    without(words, b"submit root path=PC/8086&name=Intel\n")
+    for ran, told in ((without, b""), (at_terminal, said)):
+        os.remove(db)
+        cases.equal("made anew", ran(words), (b"", told, 0))
+        asked = without([program.WHOLE, "script", "--db", db], b"submission num=1\n")
+        cases.equal("it has them", b"8086" in asked[0], True)
+
+
 def test_gap(cases, folder):
     """Commands that a registry was given without its journal."""
     db, journal = journaled(folder, "a", 0)

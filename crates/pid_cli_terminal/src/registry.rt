@@ -16,20 +16,24 @@ const DATABASE: &[u8] = b"SQLite format 3\0";
 pub struct RegistryFile<'s> {
     rt: &'s HostRuntime,
     path: &'s str,
+    // The folder of the journal that gives a new one its commands.
+    journal: Option<&'s str>,
     // Whether it was missing before the run, and nothing was said of it yet.
     is_awaited: &'s Cell<bool>,
 }
 
 impl<'s> RegistryFile<'s> {
-    /// The file at a path, and whether to say so once it is there.
+    /// The file at a path, the folder of its journal, and whether to say so once it is there.
     pub fn new(
         rt: &'s HostRuntime,
         path: Option<&'s str>,
+        journal: Option<&'s str>,
         is_awaited: &'s Cell<bool>,
     ) -> RegistryFile<'s> {
         RegistryFile {
             rt,
             path: path.unwrap_or(""),
+            journal,
             is_awaited,
         }
     }
@@ -38,12 +42,22 @@ impl<'s> RegistryFile<'s> {
     pub fn tell_made(&self) {
         if self.is_awaited.get() && !is_missing(self.rt, self.path) {
             self.is_awaited.set(false);
-            let path = self.path;
-            let _ = write!(
-                self.rt.stderr(),
-                "pciids: {path} was not there: a new, empty registry was made\n"
-            );
+            self.tell_new();
         }
+    }
+
+    fn tell_new(&self) {
+        let (path, mut err) = (self.path, self.rt.stderr());
+        let _ = match self.journal {
+            Some(folder) => write!(
+                err,
+                "pciids: {path} was not there: it was made, with the commands of {folder}\n"
+            ),
+            None => write!(
+                err,
+                "pciids: {path} was not there: a new, empty registry was made\n"
+            ),
+        };
     }
 
     /// Says what to do with a damaged registry.

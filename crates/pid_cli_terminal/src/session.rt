@@ -71,7 +71,12 @@ impl<'r> Session<'r> {
     }
 
     fn file(&self) -> RegistryFile<'_> {
-        RegistryFile::new(self.rt, self.path, &self.is_awaited)
+        let journal = if is_of_journal(self.fault.get()) {
+            None
+        } else {
+            self.job.and_then(|job| journal_of(job))
+        };
+        RegistryFile::new(self.rt, self.path, journal, &self.is_awaited)
     }
 
     /// Explains the end of the run, by what standard input and standard output met.
@@ -175,6 +180,14 @@ fn tell_reading(rt: &HostRuntime, job: Option<Job<'_>>) {
         Some(Job::Script { .. }) => tell_input(rt, "commands"),
         _ => {}
     }
+}
+
+// Whether no journal was put in front of the registry.
+fn is_of_journal(fault: Option<Fault>) -> bool {
+    matches!(
+        fault,
+        Some(Fault::AnotherJournal | Fault::SegmentsMissing | Fault::Journal)
+    )
 }
 
 fn is_unopened(fault: Option<Fault>) -> bool {
