@@ -3,14 +3,13 @@ all commands, and the same answers to all questions. The registry's file is open
 by scripts, and by servers, which are killed."""
 import json
 import os
-import random
 from urllib.parse import urlencode
 
 import pytest
 
 import refusals
 from answer_texts import as_json, as_text
-from generated import ACCOUNTS, NAMES, PATHS, Commands
+from generated import ACCOUNTS, NAMES, PATHS, Commands, Sampled
 from http_server import Server, posted, read_reply
 from old_registry import canonical
 from program import WHOLE
@@ -33,20 +32,16 @@ def told(question, *words):
         return refused.told
 
 
-class History:
+class History(Sampled):
     """The same commands for both, over one file."""
 
     def __init__(self, cases, path, seed):
-        self.cases, self.path, self.seed = cases, path, seed
-        self.slow, self.random = SlowRegistry(), random.Random(seed)
+        super().__init__(cases, seed)
+        self.path, self.slow = path, SlowRegistry()
         self.commands, self.count = Commands(self.slow, seed), 0
 
-    def expect(self, asked, got, want):
-        """Compares. After a difference there is nothing more to compare."""
-        at = f"history {self.seed}, command {self.count}: {asked}"
-        self.cases.equal(at, got, want)
-        if got != want:
-            pytest.fail(f"PCIIDS_SAMPLE={SAMPLE}: {at}", pytrace=False)
+    def commands_so_far(self):
+        return self.count
 
     def draw(self):
         self.count += 1

@@ -4,7 +4,6 @@ before they serve. What was acknowledged is there, a command in doubt was obeyed
 and in the end the rows are those of a run that nobody disturbed. 40 kills, with --all 1,000."""
 import json
 import os
-import random
 import subprocess
 import threading
 import time
@@ -15,7 +14,7 @@ import pytest
 
 import refusals
 from answer_texts import as_json
-from generated import Commands
+from generated import Commands, Sampled
 from http_server import Server, free_port, posted, read_reply
 from journal_room import lose, names_in, text_of
 from program import WHOLE
@@ -39,11 +38,11 @@ class Drawn(NamedTuple):
     after: dict
 
 
-class Story:
+class Story(Sampled):
     """A registry and its journal, and what a slow registry says of them."""
 
     def __init__(self, cases, folder, seed):
-        self.cases, self.seed, self.random = cases, seed, random.Random(seed)
+        super().__init__(cases, seed)
         self.db, self.journal, self.other = (
             os.path.join(folder, it) for it in ("r.db", "journal", "other.db")
         )
@@ -55,12 +54,8 @@ class Story:
         self.is_in_doubt, self.pace = False, 0.005
         self.ends = {"obeyed": 0, "not obeyed": 0}
 
-    def expect(self, name, got, want):
-        """Compares. After a difference there is nothing more to compare."""
-        at = f"{name}, story {self.seed}, after {len(self.done)} commands"
-        self.cases.equal(at, got, want)
-        if got != want:
-            pytest.fail(f"PCIIDS_SAMPLE={SAMPLE}: {at}", pytrace=False)
+    def commands_so_far(self):
+        return len(self.done)
 
     def draw(self):
         verb, account, key, pairs = self.commands.one()

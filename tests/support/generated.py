@@ -3,7 +3,10 @@ and keys, and now and then with a form that breaks a rule."""
 import random
 import re
 
+import pytest
+
 from old_registry import canonical
+from shims import SAMPLE
 from slow_file import parent
 
 ACCOUNTS = ("root", "mona", "bob", "sue", "joe")
@@ -137,3 +140,21 @@ class Commands:
             lines = [re.sub(rb"^[^ ]*(?: |\t)", lambda it: it[0].upper(), it) for it in lines]
             return {"file": b"\r\n".join(lines)}
         return {"file": b"\n".join(lines)}
+
+
+class Sampled:
+    """What is drawn by a seed that the sample of a run gives."""
+
+    def __init__(self, cases, seed):
+        self.cases, self.seed, self.random = cases, seed, random.Random(seed)
+
+    def commands_so_far(self):
+        """How many commands there were before a comparison."""
+        raise NotImplementedError
+
+    def expect(self, name, got, want):
+        """Compares. After a difference there is nothing more to compare."""
+        at = f"{name}: seed {self.seed}, after {self.commands_so_far()} commands"
+        self.cases.equal(at, got, want)
+        if got != want:
+            pytest.fail(f"PCIIDS_SAMPLE={SAMPLE}: {at}", pytrace=False)
