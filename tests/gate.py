@@ -3,8 +3,9 @@
 Proves every crate and its tests from nothing, runs the tests and the programs as two compilers
 build them (`rt ci`, in a copy without the must-fail edits), and tries the built program against
 real peers (tests/run). With --edits `rt ci` runs in the repository itself, and the prover has to
-refuse each edit, and for more than a name that it takes away. The last line is 'N passed,
-N failed', and ', N skipped' if cases were skipped.
+refuse each edit, and for more than a name that it takes away. Before the last line it prints what
+that took: the processor minutes of the provers by crate, and the minutes by the clock of `rt ci`
+and of tests/run. The last line is 'N passed, N failed', and ', N skipped' if cases were skipped.
 """
 import glob
 import os
@@ -40,7 +41,7 @@ def counted(line):
 def ran(folder, *words):
     """Runs a command and shows what it prints, each line with the minutes until then. Returns the
     counts of the last line, with a failure if the status says so, and each edit that was refused
-    for a name alone as failed."""
+    for a name alone as failed; and the minutes that it took."""
     how = {"stdin": subprocess.DEVNULL, "stdout": subprocess.PIPE, "stderr": subprocess.STDOUT}
     # What is tried was built in the folder, whatever the caller's PCIIDS names.
     environment = {name: value for name, value in os.environ.items() if name != "PCIIDS"}
@@ -52,14 +53,15 @@ def ran(folder, *words):
             named += FOR_A_NAME.fullmatch(line) is not None
     passed, failed, skipped = counted(line)
     failed += running.returncode != 0 and not failed
-    return max(passed - named, 0), failed + named, skipped
+    counts = max(passed - named, 0), failed + named, skipped
+    return counts, (time.monotonic() - start) / 60
 
 
 def gate(folder):
     """Proves and tries what is in a folder. Returns whether something failed."""
     start, meter = time.time_ns(), Meter()
-    proved, tried = ran(folder, "rt", "ci"), (0, 1, 0)
-    print(meter.table())
+    proved, took = ran(folder, "rt", "ci")
+    tried, took_tests = (0, 1, 0), 0
     for path in glob.glob("crates/*/must-fail", root_dir=TOP) if folder != TOP else ():
         # Tests of the documents count them.
         shutil.copytree(os.path.join(TOP, path), os.path.join(folder, path))
@@ -68,7 +70,9 @@ def gate(folder):
         for it in programs:
             # A source that has changed since then is newer.
             os.utime(it, ns=(start, start))
-        tried = ran(folder, os.path.join(folder, "tests", "run"))
+        tried, took_tests = ran(folder, os.path.join(folder, "tests", "run"))
+    print(meter.table())
+    print(f"wall minutes: {took:.1f} of rt ci, {took_tests:.1f} of tests/run")
     counts = [sum(it) for it in zip(proved, tried)]
     print(last_line(*counts))
     return counts[1] != 0

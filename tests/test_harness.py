@@ -1,5 +1,6 @@
 """The tests' own frame: whatever ends a test early is one failure, and the counts come last."""
 import os
+import re
 import shutil
 import subprocess
 import sys
@@ -109,6 +110,12 @@ FOR_A_NAME = (
     " edit took away, so this says little of the contract: change a value and keep the names):"
     " proofs/one/Answers.antt:3:7: error: `c` is not in scope"
 )
+# What the gate says that it took, where no crate is proved.
+TOOK = [
+    "processor minutes proof tests edits all",
+    "all N N N N",
+    "wall minutes: N of rt ci, N of tests/run",
+]
 
 
 def line_of(passed, failed, skipped):
@@ -177,6 +184,8 @@ def test_edits_refused_for_a_name(cases, proved, capsys, names):
     has_failed = gate(proved)
     lines = capsys.readouterr().out.splitlines()
     cases.equal("the last line", lines[-1], line_of(6, names, 0))
+    took = [re.sub(r"\d+\.\d", "N", " ".join(it.split())) for it in lines[-4:-1]]
+    cases.equal("what it took", took, TOOK)
     cases.equal("the gate has failed", has_failed, names > 0)
     cases.equal("edits shown", sum("must-fail" in it for it in lines), names)
 
