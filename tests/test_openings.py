@@ -50,7 +50,7 @@ UNREAD = (
     ("PRAGMA auto_vacuum = 1; VACUUM", STORE, "PRAGMA auto_vacuum = 0; VACUUM"),
 )
 
-# Rows that break a rule of their table, what docs/OPERATE.md has sqlite3 asked of them and what it
+# Rows that break a rule of their table, what docs/FAILURES.md has sqlite3 asked of them and what it
 # says, and what mends them.
 UNRULY = (
     (

@@ -1,6 +1,6 @@
 """The packages on a machine of their own: from `apt install` to a moderated name in the published
-file, then stops, backup, restore, upgrade, removal and purge. Each example of docs/OPERATE.md is
-run on the way."""
+file, then stops, backup, restore, upgrade, removal and purge. Each example of docs/OPERATE.md and
+docs/FAILURES.md is run on the way."""
 import contextlib
 import os
 import re
@@ -45,12 +45,16 @@ for sent in (b"", b"\r\n\r\n", b"GET /pen", command):
             client.sendall(sent)
 """
 
+PAGES = ("docs/OPERATE.md", "docs/FAILURES.md")
+
 
 def examples():
-    """The blocks of shell commands of docs/OPERATE.md, each with the heading above it."""
-    with open(os.path.join(TOP, "docs", "OPERATE.md"), encoding="utf-8") as page:
-        sections = re.split(r"^##+ ", page.read(), flags=re.M)[1:]
-    for section in sections:
+    """The blocks of shell commands of the pages, each with the heading above it."""
+    text = ""
+    for name in PAGES:
+        with open(os.path.join(TOP, name), encoding="utf-8") as page:
+            text += page.read()
+    for section in re.split(r"^##+ ", text, flags=re.M)[1:]:
         for block in re.findall(r"^```sh\n(.*?)^```$", section, re.S | re.M):
             yield section.partition("\n")[0], block
 
@@ -730,4 +734,4 @@ def test_machine(cases):
         began_anew(story)
         # test_machine_journal.py has these.
         others = [it for it in story.examples if it[0] != "A journal and a standby"]
-        cases.equal("machine: examples of docs/OPERATE.md that were not run", others, [])
+        cases.equal("machine: examples of the pages that were not run", others, [])
