@@ -11,7 +11,7 @@ import built_packages
 import program
 from joining_unit import password, verifier
 from machine_room import Machine
-from program import TOP
+from program import SUPPORT, TOP
 
 HOST = "pciids.example.org"
 UNITS = "http join publish sign announce backup restore@x standby web failed@x"
@@ -155,6 +155,27 @@ def sandbox(story):
     story.works("the socket, by the web server", f"{by('pciids-web')} {IS_UP}")
     as_root = "ps -eo user:20,args | grep -c '^root .*[/ ]pciids '"
     story.same("nothing of the service runs as root", as_root, "0", 1)
+
+
+def mailed(story):
+    """The program of docs/OPERATE.md that sends a letter, in the sandbox of its unit. Lines of a
+    letter end with CR LF: many servers refuse others."""
+    with open(os.path.join(TOP, "docs", "OPERATE.md"), encoding="utf-8") as page:
+        example = re.search(r"^```\n(#!/bin/sh\n# /etc/pciids/on-failure.*?)^```$", page.read(),
+                            re.S | re.M)[1]
+    story.machine.run("cat > /etc/pciids/on-failure; chmod 755 /etc/pciids/on-failure",
+                      text=example.replace("@NAME", f"@{HOST}").encode())
+    story.machine.put(os.path.join(SUPPORT, "mail_server.py"), "/srv/mail_server.py")
+    story.machine.run("echo 127.0.0.1 mail.example.org >> /etc/hosts;"
+                      " python3 -B /srv/mail_server.py /srv/letter > /dev/null 2>&1 < /dev/null &")
+    listens = story.machine.until("ss -ltn | grep -q '127.0.0.1:25 '")
+    story.cases.equal("machine: a mail server", listens, True)
+    story.works("a report", "systemctl start pciids-failed@pciids-backup")
+    letter = story.machine.run("sed -n '/^DATA/,/^\\./p' /srv/letter | cat -A")[1].split("\n")
+    want = ["DATA", f"From: pciids@{HOST}", "To: you@example.org", "Subject: pciids-backup failed",
+            "", "See journalctl -u pciids-backup", "."]
+    story.cases.equal("machine: the letter", letter, [it + "^M$" for it in want] + [""])
+    story.works("no more letters", "rm /etc/pciids/on-failure; sed -i '/mail.example/d' /etc/hosts")
 
 
 def accounts(story):
@@ -712,6 +733,7 @@ def test_machine(cases):
     with machine_for(cases) as (story, folder):
         install(story)
         sandbox(story)
+        mailed(story)
         accounts(story)
         web(story)
         joined(story)
