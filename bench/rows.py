@@ -5,6 +5,8 @@ from dataclasses import dataclass
 from typing import Callable, Optional
 
 OURS, KITS = "ours", "the kit's"
+# What is so little that it was not measured, where it is the difference of two times.
+NOTHING = 1e-9
 TITLES = ("work / the other", "whose", "pciids", "other", "ratio", "bar", "aim", "met")
 
 
@@ -30,7 +32,7 @@ class Figures:
 
     def judged(self):
         """What the bar is compared with."""
-        return self.ours if self.other is None else self.ours / self.other
+        return self.ours if self.other is None else self.ours / max(self.other, NOTHING)
 
     def ratio(self):
         if self.other is None:

@@ -21,6 +21,15 @@ print(run.cells_of(row, None)[0][4])
 """
 
 
+# The ratio to what took no time that could be measured.
+NONE = """
+import sys
+sys.path.insert(0, sys.argv[1].rpartition("/")[0])
+import rows
+print(*(rows.Row("none", "none", "ours", None, 2).met(rows.Figures(0.001, it)) for it in (0.0, -1)))
+"""
+
+
 @pytest.mark.needs("gcc", "libc6-dev", "libpci-dev", "libsqlite3-dev")
 @pytest.mark.needs("nginx-light", "pci.ids", "sqlite3", "valgrind")
 def test_rows(cases):
@@ -41,9 +50,20 @@ def test_rows(cases):
             cases.equal(f"bench: {work}", [bool(it) for it in cells[2:3]], [True])
 
 
+def printed(code):
+    words = [sys.executable, "-B", "-W", "ignore", "-c", code, RUN]
+    return subprocess.run(words, capture_output=True, text=True, timeout=60)
+
+
+def test_no_time(cases):
+    """On small input the other may take as little as the process without any, which is taken off:
+    its bar is not met, and the row does not break."""
+    ran = printed(NONE)
+    cases.equal("beside no time", (ran.stdout, ran.stderr), ("no no\n", ""))
+
+
 def test_broken_row(cases):
     """A row that cannot be measured says so, and costs no other."""
-    words = [sys.executable, "-B", "-W", "ignore", "-c", BROKEN, RUN]
-    ran = subprocess.run(words, capture_output=True, text=True, timeout=60)
+    ran = printed(BROKEN)
     cases.equal("broken", (ran.stdout, ran.returncode), ("failed\n", 0))
     cases.equal("why", "broken failed: ValueError" in ran.stderr, True)
