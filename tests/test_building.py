@@ -175,7 +175,7 @@ def test_builds(cases):
         cases.equal("the status", status, 0)
         first = "pciids: building the whole program: 6 crates, about 20 s"
         cases.equal("how long it takes", said[0], first)
-        form = r"pciids: (\w+) is proved: (\d) of 6 crates, .* left(?:, proving (.*))?"
+        form = r"pciids: (\w+) is proved: (\d) of 6 crates, .*? left(?:, proving (.*))?"
         named, counts, now = zip(*(re.fullmatch(form, it).groups("") for it in said[1:-1]))
         cases.equal("each library is reported", sorted(named), sorted(NAMES))
         cases.equal("how many there are", "".join(counts), "12345")
