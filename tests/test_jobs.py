@@ -7,6 +7,7 @@ import random
 import struct
 import subprocess
 import termios
+import threading
 import time
 
 import pytest
@@ -264,6 +265,19 @@ def test_killed_between_lines(cases, folder):
             )
 
 
+def submissions(turn):
+    return b"".join(b"submit bob path=PC/%04x&name=n%d\n" % (it, turn) for it in range(500))
+
+
+def time_of_script(folder):
+    """How long a script of so many submissions takes here, in seconds."""
+    other = os.path.join(folder, "other.db")
+    script(other, "account root who=bob&rank=1")
+    start = time.monotonic()
+    work(submissions(0), "script", "--db", other)
+    return time.monotonic() - start
+
+
 @pytest.mark.needs("sqlite3")
 def test_killed_anywhere(cases, folder):
     """A script is killed at any moment, fifty times, and goes on where its file stands: nothing
@@ -271,20 +285,16 @@ def test_killed_anywhere(cases, folder):
     chance = random.Random(17)
     db = os.path.join(folder, "killed.db")
     script(db, "account root who=bob&rank=1")
-    known = 0
+    known, whole = 0, time_of_script(folder)
     for turn in range(50):
-        lines = b"".join(
-            b"submit bob path=PC/%04x&name=n%d\n" % (number % 65_536, turn)
-            for number in range(2_000)
-        )
+        lines = submissions(turn)
         running = subprocess.Popen(
             [WHOLE, "script", "--db", db], stdin=subprocess.PIPE, stdout=subprocess.PIPE
         )
-        timer = subprocess.Popen(
-            ["sh", "-c", f"sleep {chance.random() * 0.15:.3f}; kill -9 {running.pid}"]
-        )
+        killer = threading.Timer(chance.random() * whole, running.kill)
+        killer.start()
         told = running.communicate(lines)[0].splitlines(True)
-        timer.wait()
+        killer.join()
         numbers = [
             int(line[3:]) for line in told if line.startswith(b"ok ") and line.endswith(b"\n")
         ]

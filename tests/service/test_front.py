@@ -214,7 +214,10 @@ def limits(cases, front):
     clients = [front.connect(here) for _ in range(16)]
     for it in clients:
         it.sendall(HALF_BODY)
-    time.sleep(0.2)
+    # nginx takes them when it comes to it.
+    end = time.monotonic() + PATIENCE / 4
+    while front.curl("/pending", "--interface", here)[0] == 200 and time.monotonic() < end:
+        time.sleep(0.05)
     told = front.post("bob", here), front.post("bob", there)
     cases.equal("front: a request beside sixteen open ones", told, (429, 200))
     told = front.curl("/site/main.js", "--interface", here)[0]

@@ -148,8 +148,9 @@ def dates(cases, world, firefox):
     world.publish(time.time() - 3 * 86_400)
     number = world.submit("alice", "PC/8086/a091", "Known since yesterday")
     world.ask("/approve", {"num": number}, "mona")
-    world.publish(time.time() - 86_400)
-    day = time.strftime("%Y-%m-%d", time.gmtime(time.time() - 86_400))
+    yesterday = time.time() - 86_400
+    world.publish(yesterday)
+    day = time.strftime("%Y-%m-%d", time.gmtime(yesterday))
     for path, text in (("/recent", "Known since yesterday"), (f"/recent/{day}", "1 added."),
                        (f"/recent?month={day[:7]}", "changed by proposals"),
                        ("/item/PC/8086/a091", "It has its name since yesterday"),
