@@ -37,7 +37,7 @@ from cases import Counts, last_line  # noqa: E402
 # How many processes try the parts of a folder, in this order: many those that mostly wait, a few
 # those that have browsers. Beside what takes times or measures memory nothing is tried.
 FOLDERS = {"": len(os.sched_getaffinity(0)), "service": 99, "site": 3, "alone": 1}
-ALONE = ("progress", "serving", "serving_memory", "site_access")
+ALONE = ("front_attack", "progress", "serving", "serving_memory", "site_access")
 # Where tests of the first program are: those that have the mark `first`.
 OF_FIRST = ("fault_gallery", "limits", "lspci", "real_file", "words", "worked_rows")
 # What tries no program.

@@ -13,7 +13,7 @@ BOUNDS = {
         ("zone=pciids_rest:32k rate=5r/s", "zone=pciids_rest:32k rate=1r/m"),
         ("zone=pciids_lookers:1m rate=2r/s", "zone=pciids_lookers:1m rate=1r/m"),
     ),
-    "pciids_site": (("burst=20 delay=5", "burst=20 nodelay"),),
+    "pciids_site": (("burst=20 delay=1", "burst=20 nodelay"),),
 }
 # For how long a list is kept, in seconds, and longer for tests that must not wait for that.
 KEPT, LONG = 2, 600
@@ -29,7 +29,7 @@ OTHERS = ("/children?of=PC%2F8086", "/children?of=PC/8086&", "/children?&of=PC/8
           "/children?format=text&of=PC/8086", "/%63hildren", "//children", "/status?",
           "/submission/07", "/submission/8", "/changes?since=3", "/pending", "/queue",
           "/submissions?path=PC/8086", "/read/PC/8086", "/account?who=alice")
-ALICE = ("-u", "alice:pw-alice")
+ALICE, LIVE = ("-u", "alice:pw-alice"), ("-H", "Cache-Control: no-cache")
 
 
 def asked(front, recorder, path, *words):
@@ -132,11 +132,28 @@ def bounds(cases, front):
     cases.equal("lists: those of another one", told, 200)
 
 
+def unread(cases, front, recorder):
+    """Whoever asks for long answers and does not read them takes no share of others."""
+    recorder.answers["/pci.ids"] = recorder.answers["/changes"] = (200, b"n" * 8_000_000)
+    text = b"GET /pci.ids HTTP/1.1\r\nHost: a\r\nCache-Control: no-cache\r\n\r\n"
+    clients = [front.connect(f"127.0.13.{it}") for it in range(1, 5)]
+    for at, it in enumerate(clients):
+        it.sendall(text if at % 2 else b"GET /changes HTTP/1.1\r\nHost: a\r\n\r\n")
+        # Its first bytes are there.
+        it.recv(1)
+    told = [front.curl("/changes?since=3", "--interface", f"127.0.13.{it}")[0] for it in (9, 10)]
+    told.append(front.curl("/pci.ids", "--interface", "127.0.13.9", *LIVE)[0])
+    cases.equal("lists: beside answers that are not read", told, [200] * 3)
+    for it in clients:
+        it.close()
+
+
 def test_front_lists(cases):
     needed()
     for name, tests, more in (
         ("long", (kept, anew, at_once), LONGER), ("short", (ends,), {}),
         ("bounds", (lambda cases, front, _: bounds(cases, front),), BOUNDS),
+        ("unread", (unread,), {}),
     ):
         recorder = Recorder()
         with tempfile.TemporaryDirectory() as folder:
