@@ -34,7 +34,9 @@ COMMANDS = [
 ]
 TEXT = "".join(line + "\n" for line, _ in COMMANDS).encode()
 REPLIES = "".join(reply + "\n" for _, reply in COMMANDS).encode()
-NOTE = re.compile(r"# time=(\d+)&revision=(\d+)&accounts=(\d+)&items=(\d+)&submissions=(\d+)")
+COUNTS = r"revision=(\d+)&accounts=(\d+)&items=(\d+)&submissions=(\d+)"
+NOTE = re.compile(r"# time=(\d+)&" + COUNTS)
+ENDED = re.compile(r"# ended&" + COUNTS)
 
 
 def journaled(text, db, journal, **how):
@@ -61,19 +63,24 @@ def rows(path):
 
 
 def test_lines(cases, folder):
-    """Each kind of command has its line, below a comment with the time and the counts before it."""
+    """Each kind of command has its line, below a comment with the time and the counts before it,
+    and above its mark with those after it."""
     db, journal = os.path.join(folder, "r.db"), os.path.join(folder, "journal")
     begun = int(time.time())
     cases.equal("the replies", journaled(TEXT, db, journal), (REPLIES, b"", 0))
     cases.equal("the segments", names_in(journal), ["0" * 20 + ".script"])
     want = [meant(line) for line, _ in COMMANDS]
     cases.equal("the lines", [meant(line) for line in lines_of(journal)], want)
-    notes = [NOTE.fullmatch(it) for it in text_of(journal).decode().splitlines() if it[:1] == "#"]
-    cases.equal("a comment for each", len([it for it in notes if it]), len(COMMANDS))
-    times = [int(it.group(1)) for it in notes if it]
+    text = text_of(journal).decode()
+    notes = [NOTE.fullmatch(it) for it in text.splitlines() if it.startswith("# time")]
+    cases.equal("a comment for each", len(notes), len(COMMANDS))
+    times = [int(it.group(1)) for it in notes]
     cases.equal("times", begun <= min(times) <= max(times) <= time.time(), True)
     cases.equal("the first counts", notes[0].groups()[1:], ("0", "1", "0", "0"))
     cases.equal("the last counts", notes[-1].groups()[1:4], ("10", "2", "2"))
+    marks = [ENDED.fullmatch(it).groups() for it in text.splitlines() if it.startswith("# ended")]
+    cases.equal("a mark for each", text.count("\n\n"), len(COMMANDS))
+    cases.equal("the counts of marks", marks, [it.groups()[1:] for it in notes[1:]] + [marks[-1]])
 
 
 def test_as_a_script(cases, folder):
@@ -182,6 +189,26 @@ def test_journals_that_do_not_fit(cases, folder):
     told = journaled(b"", db, journal)
     cases.equal("segments that are missing", told, (b"", b"journal: Missing\n", 3))
     cases.equal("a gap has rows", "mallory" in want, True)
+
+
+def test_gap_of_one(cases, folder):
+    """One command without the journal is a gap, also after a line that was refused."""
+    db, journal = os.path.join(folder, "r.db"), os.path.join(folder, "journal")
+    text = b"account root who=bob&rank=1\napprove root num=1\n"
+    told = (b"ok\nrefused 7 NoSubmission\n", b"", 0)
+    cases.equal("begun", journaled(text, db, journal), told)
+    copy = os.path.join(folder, "copy.db")
+    shutil.copy(db, copy)
+    cases.equal("without it", script(db, "account root who=eve&rank=0"), (b"ok\n", b"", 0))
+    before = text_of(journal)
+    told = journaled(b"read path=PC/8086\n", db, journal)
+    cases.equal("a gap", told, (b"refused 25 NoItem\n", b"journal: gap\n", 0))
+    cases.equal("a segment", names_in(journal)[1:], [f"{2:020}.script"])
+    cases.equal("the lines before it", text_of(journal), before)
+    other, without = os.path.join(folder, "other"), os.path.join(folder, "without.db")
+    cases.equal("another journal", journaled(text, without, other)[2], 0)
+    cases.equal("refused without it", script(copy, "approve root num=2")[2], 0)
+    cases.equal("is no gap", journaled(b"", copy, other), (b"", b"", 0))
 
 
 def test_folders(cases, folder):

@@ -182,7 +182,8 @@ def test_long_replay(cases, room):
     with open(os.path.join(journal, name_of(0)), "w") as file:
         for number in range(REPLAYED):
             file.write(f"# time=1&revision={number}&accounts=1&items=0&submissions={number}\n"
-                       "submit root path=PC/8086&name=Intel&note=\n\n")
+                       "submit root path=PC/8086&name=Intel&note=\n# ended&revision="
+                       f"{number + 1}&accounts=1&items=0&submissions={number + 1}\n\n")
     for at_terminal in (True, False):
         lose(db)
         script(db)

@@ -1,9 +1,10 @@
 """The segments of a journal: files of a folder, named by the revision at which they begin.
 
-Each is a script. An entry is a comment with its time and with what the registry held before it, the
-line of a command, and an empty line once the command has ended. What is above an empty line stays
-as it is for ever; below the last one a line may be cut off again. So all of a segment stays once
-another one has begun, and of the last segment what is above its last empty line.
+Each is a script. An entry is a comment with its time and with what the registry held before it, and
+the line of a command; below it comes a mark once the command has ended, a comment with what the
+registry held then and an empty line. What is above an empty line stays as it is for ever; below the
+last one a line may be cut off again. So all of a segment stays once another one has begun, and of
+the last segment what is above its last empty line.
 """
 import gzip
 import os

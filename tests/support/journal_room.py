@@ -32,7 +32,7 @@ class Main:
         self.write(head % (1_000 + self.count, self.count) + line + b"\n")
         self.count += 1
         if is_ended:
-            self.write(b"\n")
+            self.write(b"# ended&revision=%d&accounts=1&items=0&submissions=0\n\n" % self.count)
             self.ended.append(line)
 
     def cut(self):

@@ -13,6 +13,8 @@ pub struct HostSegment<'r> {
     file: File,
     // How many bytes it holds, but for what a fault left after them.
     length: u64,
+    // A mark may have left a part of itself after them.
+    is_torn: bool,
     progress: Progress<'r>,
 }
 
@@ -24,6 +26,7 @@ impl<'r> HostSegment<'r> {
             rt,
             file,
             length,
+            is_torn: false,
             progress: Progress::new(rt, "replaying the journal", rt.stderr().is_terminal()),
         })
     }
@@ -55,6 +58,9 @@ impl JournalFile for HostSegment<'_> {
 
     fn append(&mut self, bytes: &[u8]) -> Result<(), WriteFault> {
         self.progress.clear();
+        if self.is_torn {
+            self.cut(self.length)?;
+        }
         if self.file.write_all(bytes).is_err() || self.file.sync_data().is_err() {
             return Err(WriteFault::Device);
         }
@@ -62,10 +68,13 @@ impl JournalFile for HostSegment<'_> {
         Ok(())
     }
 
-    fn mark(&mut self) {
-        if self.file.write_all(b"\n").is_ok() {
-            self.length = self.length.saturating_add(1);
+    // What a fault leaves of it is cut off before the next append.
+    fn mark(&mut self, bytes: &[u8]) {
+        if self.is_torn || self.file.write_all(bytes).is_err() {
+            self.is_torn = true;
+            return;
         }
+        self.length = self.length.saturating_add(bytes.len() as u64);
     }
 
     fn cut(&mut self, count: u64) -> Result<(), WriteFault> {
@@ -73,6 +82,7 @@ impl JournalFile for HostSegment<'_> {
             return Err(WriteFault::Device);
         }
         self.length = count;
+        self.is_torn = false;
         Ok(())
     }
 }

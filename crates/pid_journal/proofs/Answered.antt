@@ -15,7 +15,7 @@ use Rattle.pid_script.specs.Asking.{command_in_form}
 use Rattle.pid_script.specs.Replies.{command_of, history_after, line_reply, outcome_of, replies, those_sent}
 use Rattle.pid_script.specs.ScriptLines.{Ask, AsksNothing, AsksCommand, AsksExport, AsksName, AsksLookup, Unclear, TooLong, ask_of}
 use Rattle.pid_journal.specs.Comments.{counts_held}
-use Rattle.pid_journal.specs.Journals.{IsEntry, JournalLeads, after_line}
+use Rattle.pid_journal.specs.Journals.{IsEntry, IsNote, JournalLeads, after_line}
 use Rattle.pid_journal.specs.Laws.{EntriesAreAnswered}
 use Rattle.pid_journal.proofs.Appending.{after_first, whole_both}
 use Rattle.pid_journal.proofs.Reading.{short_idle}
@@ -57,18 +57,20 @@ reply_of TooLong h c is = absurd (let no : ⊥ = cc in no)
 nothing_first : (h : History) (line : List ℕ) (lines : List (List ℕ)) → ask_of line ≡ AsksNothing → replies h (line ∷ lines) ≡ replies h lines
 nothing_first h line lines idle = ap (λ (a : Ask). line_reply a h ++ replies (after_all h (command_of a)) lines) idle
 
+noted_answered : (h : History) (text line : List ℕ) → IsNote text (counts_held h) line → replies h (whole_lines text) ≡ line_reply (ask_of line) h
+noted_answered h text line is = ap (replies h) is.lines ∙ nothing_first h is.comment (line ∷ []) is.idle ∙ append-nil (line_reply (ask_of line) h)
+
 entry_answered : (h : History) (entry : List ℕ) (c : Asked) → IsEntry entry (counts_held h) c → replies h (whole_lines entry) ≡ outcome_line (answer (judge (views_of h) c))
-entry_answered h entry c is =
-    ap (replies h) is.lines
-    ∙ nothing_first h is.comment (is.line ∷ []) is.idle
-    ∙ append-nil (line_reply (ask_of is.line) h)
-    ∙ reply_of (ask_of is.line) h c is.asks
+entry_answered h entry c is = noted_answered h entry is.line is.note ∙ reply_of (ask_of is.line) h c is.asks
 
 empty_asks : ask_of [] ≡ AsksNothing
 empty_asks = short_idle [] (is_utf8-from_IsUtf8 [] IsUtf8-nil) refl (omega arith)
 
 pub answered : EntriesAreAnswered
 answered start h text leads = (
-  (λ entry c is. more_answered start h text entry leads is.whole ∙ ap (λ (l : List ℕ). replies start (lines_of text) ++ l) (entry_answered h entry c is)),
-  more_answered start h text (10 ∷ []) leads refl ∙ ap (λ (l : List ℕ). replies start (lines_of text) ++ l) (nothing_first h [] [] empty_asks) ∙ append-nil (replies start (lines_of text)),
+  (λ entry c is. more_answered start h text entry leads is.note.whole ∙ ap (λ (l : List ℕ). replies start (lines_of text) ++ l) (entry_answered h entry c is)),
+  λ mark is.
+      more_answered start h text mark leads is.whole
+      ∙ ap (λ (l : List ℕ). replies start (lines_of text) ++ l) (noted_answered h mark [] is ∙ ap (λ (a : Ask). line_reply a h) empty_asks)
+      ∙ append-nil (replies start (lines_of text)),
 )

@@ -10,8 +10,8 @@ use Rattle.pid_script.specs.Replies.{command_of, commands_of_lines, history_afte
 use Rattle.pid_script.specs.ScriptLines.{ask_of, is_idle_line}
 use Rattle.pid_journal.specs.declared.counts.Counts.{Counts}
 use Rattle.pid_journal.specs.Comments.{counts_held, counts_said}
-use Rattle.pid_journal.specs.Journals.{AreTrue, IsEntry, JournalLeads, after_line, noted_after}
-use Rattle.pid_journal.specs.Steps.Ways.{EntryLeads}
+use Rattle.pid_journal.specs.Doubts.{EntryLeads}
+use Rattle.pid_journal.specs.Journals.{AreTrue, IsEntry, IsMark, IsNote, JournalLeads, after_line, noted_after}
 use Rattle.pid_journal.proofs.Reading.{idle_says_none, said_is_idle}
 
 pub after_both : (h : History) (xs ys : List Asked) → after_all h (xs ++ ys) ≡ after_all (after_all h xs) ys
@@ -29,9 +29,17 @@ whole_both text more whole =
     ∙ map_append drop_cr (ended_pieces text) (ended_pieces (open_part text ++ more))
     ∙ ap (λ (o : List ℕ). whole_lines text ++ map drop_cr (ended_pieces (o ++ more))) whole
 
+-- what is noted asks what its line asks
+pub noted_asks : (text : List ℕ) (k : Counts) (line : List ℕ) → IsNote text k line → commands_of_lines (whole_lines text) ≡ command_of (ask_of line) ++ []
+noted_asks text k line is = ap commands_of_lines is.lines ∙ (λ i. idle_says_none is.comment (said_is_idle is.comment k is.says) i ++ (command_of (ask_of line) ++ []))
+
 -- an entry asks its command alone
 pub entry_asks : (text : List ℕ) (k : Counts) (c : Asked) → IsEntry text k c → commands_of_lines (whole_lines text) ≡ c ∷ []
-entry_asks text k c is = ap commands_of_lines is.lines ∙ (λ i. idle_says_none is.comment (said_is_idle is.comment k is.says) i ++ (is.asks i ++ []))
+entry_asks text k c is = noted_asks text k is.line is.note ∙ (λ i. is.asks i ++ [])
+
+-- a mark asks nothing
+pub mark_asks : (text : List ℕ) (k : Counts) → IsMark text k → commands_of_lines (whole_lines text) ≡ []
+mark_asks text k is = noted_asks text k [] is ∙ (λ i. idle_says_none [] refl i ++ [])
 
 -- COMMENTS
 
@@ -52,69 +60,63 @@ if_none (Some x) k never = absurd (never x refl)
 not_idle : (line : List ℕ) (c : Asked) → command_of (ask_of line) ≡ c ∷ [] → is_idle_line line ≡ true → ⊥
 not_idle line c asks idle = let none : command_of (ask_of line) ≡ [] = idle_says_none line idle in cc
 
--- an entry is true at its place
-pub entry_true : (h : History) (noted : Bool) (text : List ℕ) (c : Asked) → IsEntry text (counts_held h) c → AreTrue h noted (whole_lines text)
-entry_true h noted text c is =
+-- what is noted is true at its place, if the line itself says no counts
+noted_true : (h : History) (noted : Bool) (text line : List ℕ) → IsNote text (counts_held h) line → ((x : Counts) → counts_said line ≡ Some x → ⊥) → AreTrue h noted (whole_lines text)
+noted_true h noted text line is never =
     let idle : is_idle_line is.comment ≡ true = said_is_idle is.comment (counts_held h) is.says in
     let g : History = after_line h is.comment in
     subst (λ (ls : List (List ℕ)). AreTrue h noted ls) (sym is.lines) (
       if_said (counts_said is.comment) (counts_held h) is.says,
       (λ off. absurd (let no : ⊥ = cc in no)),
-      (
-        if_none (counts_said is.line) (counts_held g) (λ x says. not_idle is.line c is.asks (said_is_idle is.line x says)),
-        (λ off. λ i. cond (idle i) (is_some (is.says i) || noted) false),
-        tt,
-      ),
+      (if_none (counts_said line) (counts_held g) never, (λ off. λ i. cond (idle i) (is_some (is.says i) || noted) false), tt),
     )
 
-pub on_true : (h next : History) (noted : Bool) (text : List ℕ) → EntryLeads text h next → AreTrue h noted (whole_lines text)
-on_true h next noted text (inl (c, is, ends)) = entry_true h noted text c is
-on_true h next noted text (inr (none, same)) = subst (λ (l : List ℕ). AreTrue h noted (whole_lines l)) (sym none) tt
-
-pub on_leads : (h next : History) (text : List ℕ) → EntryLeads text h next → after_all h (commands_of_lines (whole_lines text)) ≡ next
-on_leads h next text (inl (c, is, ends)) = ap (after_all h) (entry_asks text (counts_held h) c is) ∙ sym ends
-on_leads h next text (inr (none, same)) = ap (λ (l : List ℕ). after_all h (commands_of_lines (whole_lines l))) none ∙ sym same
-
--- a journal with an entry more leads on to the history after its command
-pub appended : (start h : History) (text entry : List ℕ) (c : Asked) → JournalLeads start text h → IsEntry entry (counts_held h) c → JournalLeads start (text ++ entry) (after h c)
-appended start h text entry c before is = record {
-  whole = open_more text entry ∙ ap (λ (o : List ℕ). open_part (o ++ entry)) before.whole ∙ is.whole;
-  told =
-      subst (λ (ls : List (List ℕ)). AreTrue start false ls) (sym (whole_both text entry before.whole))
-      (true_both (whole_lines text) (whole_lines entry) start false before.told (λ m. subst (λ (g : History). AreTrue g m (whole_lines entry)) (sym before.leads) (entry_true h m entry c is)));
-  leads =
-      ap (history_after start) (whole_both text entry before.whole)
-      ∙ ap (after_all start) (commands_both (whole_lines text) (whole_lines entry))
-      ∙ after_both start (commands_of_lines (whole_lines text)) (commands_of_lines (whole_lines entry))
-      ∙ ap (λ (g : History). after_all g (commands_of_lines (whole_lines entry))) before.leads
-      ∙ ap (after_all h) (entry_asks entry (counts_held h) c is);
-}
-
--- A MARK
+-- an entry is true at its place
+pub entry_true : (h : History) (noted : Bool) (text : List ℕ) (c : Asked) → IsEntry text (counts_held h) c → AreTrue h noted (whole_lines text)
+entry_true h noted text c is = noted_true h noted text is.line is.note (λ x says. not_idle is.line c is.asks (said_is_idle is.line x says))
 
 pub empty_says_none : counts_said [] ≡ None
 unfolding counts_said
 empty_says_none = refl
 
--- an empty line is true anywhere
-empty_true : (h : History) (noted : Bool) → AreTrue h noted ([] ∷ [])
-empty_true h noted = (
-  if_none (counts_said []) (counts_held h) (λ x says. let no : None ≡ Some x = sym empty_says_none ∙ says in absurd (let never : ⊥ = cc in never)),
-  (λ off. absurd (let no : ⊥ = cc in no)),
-  tt,
-)
+-- so is a mark
+pub mark_true : (h : History) (noted : Bool) (text : List ℕ) → IsMark text (counts_held h) → AreTrue h noted (whole_lines text)
+mark_true h noted text is = noted_true h noted text [] is (λ x says. let no : None ≡ Some x = sym empty_says_none ∙ says in let never : ⊥ = cc in never)
+
+pub on_true : (h next : History) (noted : Bool) (text : List ℕ) → EntryLeads text h next → AreTrue h noted (whole_lines text)
+on_true h next noted text (inl (c, is, ends)) = entry_true h noted text c is
+on_true h next noted text (inr (inl none, same)) = subst (λ (l : List ℕ). AreTrue h noted (whole_lines l)) (sym none) tt
+on_true h next noted text (inr (inr mark, same)) = mark_true h noted text mark
+
+pub on_leads : (h next : History) (text : List ℕ) → EntryLeads text h next → after_all h (commands_of_lines (whole_lines text)) ≡ next
+on_leads h next text (inl (c, is, ends)) = ap (after_all h) (entry_asks text (counts_held h) c is) ∙ sym ends
+on_leads h next text (inr (inl none, same)) = ap (λ (l : List ℕ). after_all h (commands_of_lines (whole_lines l))) none ∙ sym same
+on_leads h next text (inr (inr mark, same)) = ap (after_all h) (mark_asks text (counts_held h) mark) ∙ sym same
+
+on_whole : (h next : History) (text : List ℕ) → EntryLeads text h next → open_part text ≡ []
+on_whole h next text (inl (c, is, ends)) = is.note.whole
+on_whole h next text (inr (inl none, same)) = ap open_part none
+on_whole h next text (inr (inr mark, same)) = mark.whole
+
+-- a journal leads on with what leads on
+longer : (start h next : History) (text more : List ℕ) → JournalLeads start text h → EntryLeads more h next → JournalLeads start (text ++ more) next
+longer start h next text more before on = record {
+  whole = open_more text more ∙ ap (λ (o : List ℕ). open_part (o ++ more)) before.whole ∙ on_whole h next more on;
+  told =
+      subst (λ (ls : List (List ℕ)). AreTrue start false ls) (sym (whole_both text more before.whole))
+      (true_both (whole_lines text) (whole_lines more) start false before.told (λ m. subst (λ (g : History). AreTrue g m (whole_lines more)) (sym before.leads) (on_true h next m more on)));
+  leads =
+      ap (history_after start) (whole_both text more before.whole)
+      ∙ ap (after_all start) (commands_both (whole_lines text) (whole_lines more))
+      ∙ after_both start (commands_of_lines (whole_lines text)) (commands_of_lines (whole_lines more))
+      ∙ ap (λ (g : History). after_all g (commands_of_lines (whole_lines more))) before.leads
+      ∙ on_leads h next more on;
+}
+
+-- a journal with an entry more leads on to the history after its command
+pub appended : (start h : History) (text entry : List ℕ) (c : Asked) → JournalLeads start text h → IsEntry entry (counts_held h) c → JournalLeads start (text ++ entry) (after h c)
+appended start h text entry c before is = longer start h (after h c) text entry before (inl (c, is, refl))
 
 -- a journal with a mark more leads to the same history
-pub marked : (start h : History) (text : List ℕ) → JournalLeads start text h → JournalLeads start (text ++ 10 ∷ []) h
-marked start h text before = record {
-  whole = open_more text (10 ∷ []) ∙ ap (λ (o : List ℕ). open_part (o ++ 10 ∷ [])) before.whole;
-  told =
-      subst (λ (ls : List (List ℕ)). AreTrue start false ls) (sym (whole_both text (10 ∷ []) before.whole))
-      (true_both (whole_lines text) ([] ∷ []) start false before.told (λ m. empty_true (history_after start (whole_lines text)) m));
-  leads =
-      ap (history_after start) (whole_both text (10 ∷ []) before.whole)
-      ∙ ap (after_all start) (commands_both (whole_lines text) ([] ∷ []))
-      ∙ after_both start (commands_of_lines (whole_lines text)) (commands_of_lines ([] ∷ []))
-      ∙ ap (λ (g : History). after_all g (commands_of_lines ([] ∷ []))) before.leads
-      ∙ ap (λ (cs : List Asked). after_all h (cs ++ [])) (idle_says_none [] refl);
-}
+pub marked : (start h : History) (text mark : List ℕ) → JournalLeads start text h → IsMark mark (counts_held h) → JournalLeads start (text ++ mark) h
+marked start h text mark before is = longer start h h text mark before (inr (inr is, refl))

@@ -14,7 +14,7 @@ use Rattle.pid_journal.specs.declared.folder.JournalFolder as folders
 use Rattle.pid_journal.specs.declared.open_fault.OpenFault.{OpenFault}
 use Rattle.pid_journal.specs.Journals.{JournalLeads}
 use Rattle.pid_journal.specs.Steps.Ways.{IsOnWay}
-use Rattle.pid_journal.specs.Openings.{IsRefused}
+use Rattle.pid_journal.specs.Openings.{HasBegun, IsRefused}
 use Rattle.pid_journal.specs.Segments.{IsOnSegments, lines_in}
 use Rattle.pid_journal.specs.Steps.Opening.{ShowsAll}
 use Rattle.pid_journal.specs.Steps.Segments.{BeginsIn, EndsIn, EndsLast, FollowsAll, FollowsSegment, IsSameFolder, KeepsShown, LinesMayBeObeyed, PassesSegment, ShowsWithin, StaysQuiet, TellsRevision}
@@ -111,7 +111,12 @@ pub record IsInTurn {R F J : Type 0} (w : Showing R) (folder : folders.Ghosts F 
   pub same : IsSameFolder folder f g
   pub clean : w.is_clean now → w.is_clean old
   pub kept : moved ≡ false → StaysQuiet w folder old now f g
+  pub at : (front : List ℕ) × (names ≡ front ++ name ∷ rest)
+  pub past : w.is_clean now → (h : History) → w.shows old h → HasBegun h names → (moved ≡ false) × w.shows now h
   pub turn : w.is_clean now → folder.names f ≡ Some names → (start : History) → IsMarked start → ShowsWithin w (folder.text_in f) start names old → HasTurn w (folder.text_in f) start names name rest now
+
+next_at : (front names : List ℕ) (name next : ℕ) (rest later : List ℕ) → names ≡ front ++ name ∷ rest → rest ≡ next ∷ later → names ≡ (front ++ name ∷ []) ++ next ∷ later
+next_at front names name next rest later parts is = parts ∙ ap (λ (ns : List ℕ). front ++ name ∷ ns) is ∙ sym (append_assoc front (name ∷ []) (next ∷ later))
 
 module _ {R F J : Type 0} (w : Showing R) (folder : folders.Ghosts F J) where
   pub first_turn : (r : R) (f : F) (names : List ℕ) (name : ℕ) (rest : List ℕ) → names ≡ name ∷ rest → IsInTurn w folder r r f f names name rest false
@@ -119,6 +124,8 @@ module _ {R F J : Type 0} (w : Showing R) (folder : folders.Ghosts F J) where
     same = (refl, refl);
     clean = λ clean. clean;
     kept = λ off. ((λ clean h shown. shown), refl);
+    at = ([], is);
+    past = λ clean h shown begun. (refl, shown);
     turn = λ clean known start marked shows. record { front = []; parts = is; shows = subst (λ (ns : List ℕ). ShowsWithin w (folder.text_in f) start ns r) is shows };
   }
 
@@ -139,13 +146,18 @@ module _ {R F J : Type 0} (w : Showing R) (folder : folders.Ghosts F J) where
   both_quiet old now new f g k honest one two = ((λ clean h shown. two.0 clean h (one.0 (honest clean) h shown)), two.1 ∙ one.1)
 
   pub turns : (old now new : R) (f g k : F) (names : List ℕ) (name next : ℕ) (rest later : List ℕ) (moved obeyed next_moved : Bool) → IsInTurn w folder old now f g names name rest moved → rest ≡ next ∷ later
-      → IsSameFolder folder g k → (w.is_clean new → w.is_clean now) → (obeyed ≡ false → StaysQuiet w folder now new g k) → (next_moved ≡ false → (moved ≡ false) × (obeyed ≡ false))
+      → IsSameFolder folder g k → (w.is_clean new → w.is_clean now) → (obeyed ≡ false → StaysQuiet w folder now new g k) → (next_moved ≡ false → (moved ≡ false) × (obeyed ≡ false)) → (moved ≡ false → obeyed ≡ false → next_moved ≡ false) → (w.is_clean new → (h : History) → w.shows now h → next ≤ revision_of h → (obeyed ≡ false) × w.shows new h)
       → (w.is_clean new → (all : List ℕ) → folder.names g ≡ Some all → Steps now new (folder.text_in g) name next later)
       → IsInTurn w folder old new f k names next later next_moved
-  turns old now new f g k names name next rest later moved obeyed next_moved turn is same honest kept both steps = record {
+  turns old now new f g k names name next rest later moved obeyed next_moved turn is same honest kept both neither late steps = record {
     same = (same.0 ∙ turn.same.0, same.1 ∙ turn.same.1);
     clean = λ clean. turn.clean (honest clean);
     kept = λ off. let offs = both off in both_quiet old now new f g k honest (turn.kept offs.0) (kept offs.1);
+    at = (turn.at.0 ++ name ∷ [], next_at turn.at.0 names name next rest later turn.at.1 is);
+    past = λ clean h shown begun.
+        let past = turn.past (honest clean) h shown begun in
+        let passed = late clean h past.1 (begun (turn.at.0 ++ name ∷ []) later next (next_at turn.at.0 names name next rest later turn.at.1 is)) in
+        (neither past.0 passed.0, passed.1);
     turn = λ clean known start marked shows.
         next_turn (folder.text_in f) start names name next rest later now new marked is
         (subst (λ (text : ℕ → List ℕ). Steps now new text name next later) turn.same.1 (steps clean names (turn.same.0 ∙ known)))

@@ -6,6 +6,7 @@ pub mod Pairing
 pub mod Forms
 pub mod Scripts
 pub mod Places
+pub mod Comparing
 pub mod LinesObeyed
 pub mod Resuming
 pub mod Imported

@@ -1,22 +1,29 @@
 -- Marks, and what may be cut off.
-use Rattle.std.proofs.Common.{◌≡◌, ◌⊎◌, inl, inr, ℕ, suc, ◌+◌, ◌≤◌, List, [], ◌∷◌, ◌++◌, length, map, Option, Some, None, refl, sym, ap, subst, ◌∙◌, arith, append_assoc, append-nil, length-append}
-use Rattle.std.specs.Prelude.{IfSome}
+use Rattle.std.proofs.Common.{◌≡◌, ◌⊎◌, inl, inr, ℕ, suc, ◌+◌, ◌≤◌, List, [], ◌∷◌, ◌++◌, length, map, Option, Some, None, Result, Ok, Err, refl, sym, ap, subst, ◌∙◌, arith, append_assoc, append-nil, length-append}
+use Rattle.std.specs.Prelude.{IfSome, IsErr, IsErrAnd}
 use Rattle.pid_file.proofs.Cuts.{ended_line, ended_more, map_append, open_no_lf}
 use Rattle.pid_file.specs.Lines.{drop_cr}
 use Rattle.pid_file.specs.WholeLines.{ended_pieces, open_part, whole_lines}
-use Rattle.pid_moderation.specs.History.{Asked}
+use Rattle.pid_moderation.specs.declared.command.Reply.{Reply}
+use Rattle.pid_moderation.specs.declared.refusal.Refusal.{Refusal}
+use Rattle.pid_moderation.specs.History.{Asked, History}
+use Rattle.pid_moderation.specs.RegistryStatus.{RegistryStatus, status_of_registry}
 use Rattle.pid_script.specs.Replies.{command_of}
 use Rattle.pid_script.specs.ScriptLines.{ask_of}
+use Rattle.pid_service_laws.specs.Outcomes.{IsMemoryOrStore}
+use Rattle.pid_service_laws.specs.Registries.{Showing}
 use Rattle.pid_journal.specs.declared.counts.Counts.{Counts}
-use Rattle.pid_journal.specs.Comments.{counts_said}
-use Rattle.pid_journal.specs.Files.{Grows, LeavesPart, MarksAreWithin}
-use Rattle.pid_journal.specs.Journals.{IsEntry}
+use Rattle.pid_journal.specs.Comments.{counts_held, counts_in, counts_said}
+use Rattle.pid_journal.specs.Files.{LeavesPart, MarksAreWithin, MayBeAdded}
+use Rattle.pid_journal.specs.Journals.{IsEntry, IsMark}
 use Rattle.pid_journal.specs.Steps.Opening.{IsWholeUpTo}
-use Rattle.pid_journal.specs.Steps.Parts.{GrowsAfter, IsUnmarked, MayBeMarked}
+use Rattle.pid_journal.specs.Pairs.{AddsEntry, IsAdded}
+use Rattle.pid_journal.specs.Steps.Parts.{CutsAfter, IsUnmarked, MayBeMarked}
 use Rattle.pid_journal.proofs.Appending.{empty_says_none}
 use Rattle.pid_journal.proofs.InTurn.{in_parts}
 use Rattle.pid_journal.proofs.Noted.{counted}
 use Rattle.pid_journal.proofs.Reading.{idle_says_none}
+use Rattle.pid_journal.proofs.Resuming.{counted_status}
 
 -- the pieces around an LF
 pieces_at : (a rest : List ℕ) → ended_pieces (a ++ 10 ∷ rest) ≡ ended_pieces a ++ open_part a ∷ ended_pieces rest
@@ -74,10 +81,10 @@ lines_at_mark : (above rest : List ℕ) → whole_lines (above ++ 10 ∷ 10 ∷ 
 lines_at_mark above rest = ap (map drop_cr) (pieces_at above (10 ∷ rest)) ∙ map_append drop_cr (ended_pieces above) (open_part above ∷ [] ∷ ended_pieces rest)
 
 pub unmarked : (entry : List ℕ) (k : Counts) (c : Asked) → IsEntry entry k c → IsUnmarked entry
-unmarked entry k c is = record {
-  first = λ rest starts. let lines : [] ∷ map drop_cr (ended_pieces rest) ≡ is.comment ∷ is.line ∷ [] = ap whole_lines (sym starts) ∙ is.lines in let none : is.comment ≡ [] = cc in says_something is.comment k is.says none;
+unmarked entry k c is = let noted = is.note in record {
+  first = λ rest starts. let lines : [] ∷ map drop_cr (ended_pieces rest) ≡ noted.comment ∷ is.line ∷ [] = ap whole_lines (sym starts) ∙ noted.lines in let none : noted.comment ≡ [] = cc in says_something noted.comment k noted.says none;
   within = λ above rest has.
-      asks_something is.line c is.asks (no_more (map drop_cr (ended_pieces above)) (map drop_cr (ended_pieces rest)) (drop_cr (open_part above)) is.comment is.line (sym (lines_at_mark above rest) ∙ ap whole_lines (sym has) ∙ is.lines));
+      asks_something is.line c is.asks (no_more (map drop_cr (ended_pieces above)) (map drop_cr (ended_pieces rest)) (drop_cr (open_part above)) noted.comment is.line (sym (lines_at_mark above rest) ∙ ap whole_lines (sym has) ∙ noted.lines));
 }
 
 entered : (above b text part gone entry rest : List ℕ) (count : ℕ) → IsUnmarked entry → entry ≡ part ++ gone → text ≡ above ++ b → 10 ∷ 10 ∷ rest ≡ b ++ part → length text ≡ count → length above + 2 ≤ count
@@ -109,30 +116,52 @@ left_within (Some text) mid entry count un counts unknown leaves =
     let left = leaves text refl in
     subst (λ (o : Option (List ℕ)). IfSome o (λ t. MarksAreWithin t count)) (sym left.left) (part_within text left.part left.gone entry count un left.parts (sym counts))
 
-pub stays : (safe : Option (List ℕ)) → Grows safe safe
-stays safe text is = ([], is ∙ ap (λ (l : List ℕ). Some l) (sym (append-nil text)))
+pub stays : (safe : Option (List ℕ)) (c : Asked) (result : Result Reply Refusal) → AddsEntry safe safe c result
+stays safe c result text is = ([], is ∙ ap (λ (l : List ℕ). Some l) (sym (append-nil text)), inl refl)
 
-pub grown : (old now : Option (List ℕ)) (entry : List ℕ) → ((front : List ℕ) → old ≡ Some front → LeavesPart now front entry) → Grows old now
-grown old now entry leaves text is = let left = leaves text is in (left.part, left.left)
+of_part : (entry part gone : List ℕ) (k : Counts) (c : Asked) (result : Result Reply Refusal) → IsEntry entry k c → IsErr result → entry ≡ part ++ gone → IsAdded part c result
+of_part entry part gone k c result is fault parts = record { entry = entry; counts = k; is = is; ends = inr (inr (gone, parts, fault)) }
 
-pub grown_back : (old mid now : Option (List ℕ)) (entry : List ℕ) (count : ℕ) → IfSome old (λ text. count ≡ length text) → ((front : List ℕ) → old ≡ Some front → LeavesPart mid front entry) → GrowsAfter mid now count → Grows old now
-grown_back old mid now entry count counts leaves after text is = let left = leaves text is in after text left.part left.left (counted old text count is counts)
+-- an entry came to it whole
+pub added : (old now : Option (List ℕ)) (entry : List ℕ) (k : Counts) (c : Asked) (result : Result Reply Refusal) → IsEntry entry k c → ((front : List ℕ) → old ≡ Some front → now ≡ Some (front ++ entry)) → AddsEntry old now c result
+added old now entry k c result is appends text known = (entry, appends text known, inr (record { entry = entry; counts = k; is = is; ends = inl refl }))
 
-one_lf : (now : Option (List ℕ)) (text part gone : List ℕ) → 10 ∷ [] ≡ part ++ gone → now ≡ Some (text ++ part) → (now ≡ Some text) ⊎ (now ≡ Some (text ++ 10 ∷ []))
-one_lf now text [] gone parts left = inl (left ∙ ap (λ (l : List ℕ). Some l) (append-nil text))
-one_lf now text (b ∷ []) gone parts left = let lf : b ≡ 10 = cc in inr (left ∙ ap (λ (x : ℕ). Some (text ++ x ∷ [])) lf)
-one_lf now text (b ∷ x ∷ xs) gone parts left = absurd (let no : ⊥ = cc in no)
-
-pub marked_or_not : (old now : Option (List ℕ)) → ((text : List ℕ) → old ≡ Some text → LeavesPart now text (10 ∷ [])) → MayBeMarked old now
-marked_or_not old now leaves text is = let left = leaves text is in one_lf now text left.part left.gone left.parts left.left
-
-pub grown_marked : (old mid now : Option (List ℕ)) → Grows old mid → MayBeMarked mid now → Grows old now
-grown_marked old mid now grows marks text is =
-    let longer = grows text is in
-    elim (marks (text ++ longer.0) longer.1) [
-      | inl same ↦ (longer.0, same)
-      | inr more ↦ (longer.0 ++ 10 ∷ [], more ∙ ap (λ (l : List ℕ). Some l) (append_assoc text longer.0 (10 ∷ [])))
+-- and maybe a mark
+pub added_marked : {R : Type 0} (w : Showing R) (r s : R) (old mid now : Option (List ℕ)) (entry : List ℕ) (k : Counts) (c : Asked) (result : Result Reply Refusal) → IsEntry entry k c → ((front : List ℕ) → old ≡ Some front → mid ≡ Some (front ++ entry)) → MayBeMarked w r s mid now
+    → AddsEntry old now c result
+added_marked w r s old mid now entry k c result is appends marks text known =
+    elim (marks (text ++ entry) (appends text known)) [
+      | inl same ↦ (entry, same, inr (record { entry = entry; counts = k; is = is; ends = inl refl }))
+      | inr (mark, held, marked, more, told) ↦ (
+        entry ++ mark,
+        more ∙ ap (λ (l : List ℕ). Some l) (append_assoc text entry mark),
+        inr (record { entry = entry; counts = k; is = is; ends = inr (inl (mark, held, marked, refl)) }),
+      )
     ]
 
-pub cut_off : (now : Option (List ℕ)) (front : List ℕ) → now ≡ Some front → (more : List ℕ) × (now ≡ Some (front ++ more))
-cut_off now front is = ([], is ∙ ap (λ (l : List ℕ). Some l) (sym (append-nil front)))
+-- a part of an entry came to it at a fault, and what came to it may be cut off again
+pub added_back : (old mid now : Option (List ℕ)) (entry : List ℕ) (count : ℕ) (k : Counts) (c : Asked) (result : Result Reply Refusal) → IsEntry entry k c → IsErr result → IfSome old (λ text. count ≡ length text) → ((front : List ℕ) → old ≡ Some front → LeavesPart mid front entry)
+    → CutsAfter mid now count → AddsEntry old now c result
+added_back old mid now entry count k c result is fault counts leaves after text known =
+    let left = leaves text known in
+    let cut = after text left.part left.left (counted old text count known counts) in (
+      cut.part,
+      cut.left,
+      inr (of_part entry cut.part (cut.gone ++ left.gone) k c result is fault (left.parts ∙ ap (λ (l : List ℕ). l ++ left.gone) cut.parts ∙ append_assoc cut.part cut.gone left.gone)),
+    )
+
+pub cut_off : (now : Option (List ℕ)) (front behind : List ℕ) → now ≡ Some front → LeavesPart now front behind
+cut_off now front behind is = record { part = []; gone = behind; parts = refl; left = is ∙ ap (λ (l : List ℕ). Some l) (sym (append-nil front)) }
+
+pub err_of : (result : Result Reply Refusal) → IsErrAnd result IsMemoryOrStore → IsErr result
+err_of (Ok x) fault = absurd fault
+err_of (Err e) fault = refl
+
+-- a mark of the status that the registry told
+pub marked_end : {R : Type 0} (w : Showing R) (r s : R) (safe now : Option (List ℕ)) (mark bytes : List ℕ) (status : RegistryStatus) → bytes ≡ mark → IsMark mark (counts_in status) → (w.is_clean s → (h : History) → w.shows r h → status ≡ status_of_registry h) → MayBeAdded safe now bytes
+    → MayBeMarked w r s safe now
+marked_end w r s safe now mark bytes status same is told adds text known =
+    elim (adds text known) [
+      | inl left ↦ inl left
+      | inr more ↦ inr (mark, counts_in status, is, more ∙ ap (λ (l : List ℕ). Some (text ++ l)) same, λ clean h shown. sym (counted_status status h (told clean h shown)))
+    ]

@@ -13,9 +13,10 @@ use Rattle.pid_journal.specs.declared.file.JournalFile as files
 use Rattle.pid_journal.specs.declared.journaled.Journaled.{Journaled}
 use Rattle.pid_journal.specs.Comments.{counts_held}
 use Rattle.pid_journal.specs.Doubts.{IsInDoubt}
-use Rattle.pid_journal.specs.Journals.{IsEntry, JournalLeads}
+use Rattle.pid_journal.specs.Journals.{IsEntry, IsMark, JournalLeads}
 use Rattle.pid_journal.specs.Pairs.{PairFailsBetween, PairShows, pair_showing, pair_showing_from}
 use Rattle.pid_journal.specs.Steps.Parts.{IsCutBack, MayBeMarked}
+use Rattle.pid_journal.specs.Steps.Segments.{KeepsShown}
 use Rattle.pid_journal.proofs.Appending.{appended, marked}
 
 -- a part of an entry after the text of a journal
@@ -75,14 +76,21 @@ module _ {R J : Type 0} (registry : Ghosts R) (file : files.Ghosts J) where
       ]
 
   -- the command was judged, and maybe its entry is marked
-  pub judged : (start h : History) (new : Journaled R J) (text entry : List ℕ) (c : Asked) (mid : Option (List ℕ)) → JournalLeads start text h → IsEntry entry (counts_held h) c → registry.showing.shows new.registry (after h c)
-      → mid ≡ Some (text ++ entry) → MayBeMarked mid (file.safe new.journal) → new.failed ≡ false
+  pub judged : (start h : History) (r : R) (new : Journaled R J) (text entry : List ℕ) (c : Asked) (mid : Option (List ℕ)) → JournalLeads start text h → IsEntry entry (counts_held h) c → registry.showing.is_clean new.registry → registry.showing.shows r (after h c)
+      → KeepsShown registry.showing r new.registry → mid ≡ Some (text ++ entry) → MayBeMarked registry.showing r new.registry mid (file.safe new.journal) → new.failed ≡ false
       → PairShows registry file start new (after h c)
-  judged start h new text entry c mid leads is shown safe marks settled =
+  judged start h r new text entry c mid leads is clean shown kept safe marks settled =
       let longer = appended start h text entry c leads is in
+      let still = kept clean (after h c) shown in
       elim (marks (text ++ entry) safe) [
-        | inl same ↦ record { shown = shown; settled = settled; text = text ++ entry; safe = same; leads = longer }
-        | inr more ↦ record { shown = shown; settled = settled; text = (text ++ entry) ++ 10 ∷ []; safe = more; leads = marked start (after h c) (text ++ entry) longer }
+        | inl same ↦ record { shown = still; settled = settled; text = text ++ entry; safe = same; leads = longer }
+        | inr (mark, held, says, more, told) ↦ record {
+          shown = still;
+          settled = settled;
+          text = (text ++ entry) ++ mark;
+          safe = more;
+          leads = marked start (after h c) (text ++ entry) mark longer (subst (IsMark mark) (told clean (after h c) shown) says);
+        }
       ]
 
   -- the registry has failed at the command
@@ -97,7 +105,7 @@ module _ {R J : Type 0} (registry : Ghosts R) (file : files.Ghosts J) where
   pub fallen_unnoted : (start h next : History) (new : Journaled R J) (text : List ℕ) → JournalLeads start text h → next ≡ h → registry.showing.fails_between new.registry h next → file.safe new.journal ≡ Some text
       → PairFailsBetween registry file start new h next
   fallen_unnoted start h next new text leads same fails safe =
-      record { text = text; safe = safe; doubt = record { before = text; part = []; gone = []; parts = sym (append-nil text); leads = leads; entry = inr (refl, same) }; fails = inr (refl, fails) }
+      record { text = text; safe = safe; doubt = record { before = text; part = []; gone = []; parts = sym (append-nil text); leads = leads; entry = inr (inl refl, same) }; fails = inr (refl, fails) }
 
   -- a command that changes nothing was obeyed without an entry
   pub unnoted : (start h : History) (p : Journaled R J) (r : R) (result : Result Reply Refusal) (c : Asked) → PairShows registry file start p h → after h c ≡ h → CommandLeaves registry.showing result r h c

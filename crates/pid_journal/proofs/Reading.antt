@@ -17,7 +17,7 @@ use Rattle.pid_script.specs.Replies.{command_of}
 use Rattle.pid_script.specs.ScriptLines.{LONGEST, Ask, AsksNothing, TooLong, Unclear, ask_of, is_idle_line}
 use Rattle.pid_journal.specs.declared.counts.Counts.{Counts}
 use Rattle.pid_journal.specs.Comments.{counts_in_fields, counts_said}
-use Rattle.pid_journal.specs.Journals.{IsEntry}
+use Rattle.pid_journal.specs.Journals.{IsEntry, IsNote}
 
 says_none : (long fits idle : Bool) (other : Ask) → idle ≡ true → command_of (cond long TooLong (cond (not fits) Unclear (cond idle AsksNothing other))) ≡ []
 says_none true fits idle other h = refl
@@ -89,23 +89,42 @@ short_idle line text idle short = asks_none (nat_lt LONGEST (length line)) (is_u
 comment_asks : (line : List ℕ) (k : Counts) → counts_said line ≡ Some k → length line ≤ 1000 → ask_of line ≡ AsksNothing
 comment_asks line k says short = short_idle line (said_is_text line k says) (said_is_idle line k says) short
 
--- AN ENTRY
+-- A COMMENT WITH A LINE
 
-joined : (comment line : List ℕ) (k : Counts) (c : Asked) → ended_pieces comment ≡ [] → ended_pieces line ≡ [] → counts_said (drop_cr comment) ≡ Some k → length (drop_cr comment) ≤ 1000 → command_of (ask_of (drop_cr line)) ≡ c ∷ []
-    → IsEntry (comment ++ 10 ∷ (line ++ 10 ∷ [])) k c
-joined comment line k c one two says short asks = record {
+joined : (comment line : List ℕ) (k : Counts) → ended_pieces comment ≡ [] → ended_pieces line ≡ [] → counts_said (drop_cr comment) ≡ Some k → length (drop_cr comment) ≤ 1000 → IsNote (comment ++ 10 ∷ (line ++ 10 ∷ [])) k (drop_cr line)
+joined comment line k one two says short = record {
   whole = open_line comment (line ++ 10 ∷ []) one ∙ open_line line [] two;
   comment = drop_cr comment;
-  line = drop_cr line;
   lines = ap (map drop_cr) (ended_line comment (line ++ 10 ∷ []) one ∙ ap (λ (pieces : List (List ℕ)). comment ∷ pieces) (ended_line line [] two));
   says = says;
   idle = comment_asks (drop_cr comment) k says short;
-  asks = asks;
 }
 
-pub reads : (entry comment rest line behind : List ℕ) (k : Counts) (c : Asked) → entry ≡ comment ++ 10 ∷ rest → ended_pieces comment ≡ [] → rest ≡ line ++ 10 ∷ behind → ended_pieces line ≡ []
-    → behind ≡ [] → counts_said (drop_cr comment) ≡ Some k → length (drop_cr comment) ≤ 1000 → command_of (ask_of (drop_cr line)) ≡ c ∷ []
-    → IsEntry entry k c
-reads entry comment rest line behind k c first one second two none says short asks =
+pub reads : (entry comment rest line behind : List ℕ) (k : Counts) → entry ≡ comment ++ 10 ∷ rest → ended_pieces comment ≡ [] → rest ≡ line ++ 10 ∷ behind → ended_pieces line ≡ []
+    → behind ≡ [] → counts_said (drop_cr comment) ≡ Some k → length (drop_cr comment) ≤ 1000 → IsNote entry k (drop_cr line)
+reads entry comment rest line behind k first one second two none says short =
     let is : entry ≡ comment ++ 10 ∷ (line ++ 10 ∷ []) = first ∙ ap (λ (l : List ℕ). comment ++ 10 ∷ l) (second ∙ ap (λ (l : List ℕ). line ++ 10 ∷ l) none) in
-    subst (λ (l : List ℕ). IsEntry l k c) (sym is) (joined comment line k c one two says short asks)
+    subst (λ (l : List ℕ). IsNote l k (drop_cr line)) (sym is) (joined comment line k one two says short)
+
+both_on : (a b : Bool) → (a && b) ≡ true → (a ≡ true) × (b ≡ true)
+both_on true b on = (refl, on)
+both_on false b on = let no : ⊥ = cc in absurd no
+
+nat_same : (a b : ℕ) → (a == b) ≡ true → a ≡ b
+nat_same a b on = grind (arith, nat_tests)
+
+-- the derived test of counts that are the same
+pub counts_same : (k l : Counts) → true ≡ (k.revision == l.revision && (k.accounts == l.accounts && (k.items == l.items && k.submissions == l.submissions))) → k ≡ l
+counts_same k l on =
+    let one = both_on (k.revision == l.revision) (k.accounts == l.accounts && (k.items == l.items && k.submissions == l.submissions)) (sym on) in
+    let two = both_on (k.accounts == l.accounts) (k.items == l.items && k.submissions == l.submissions) one.1 in
+    let three = both_on (k.items == l.items) (k.submissions == l.submissions) two.1 in
+    λ i. record {
+      revision = nat_same k.revision l.revision one.0 i;
+      accounts = nat_same k.accounts l.accounts two.0 i;
+      items = nat_same k.items l.items three.0 i;
+      submissions = nat_same k.submissions l.submissions three.1 i;
+    }
+
+pub same_entry : (text bytes : List ℕ) (k l : Counts) (c d : Asked) → text ≡ bytes → k ≡ l → c ≡ d → IsEntry text k c → IsEntry bytes l d
+same_entry text bytes k l c d text_is counts_are command_is is = subst (λ (x : List ℕ). IsEntry x l d) text_is (subst (λ (x : Counts). IsEntry text x d) counts_are (subst (IsEntry text k) command_is is))

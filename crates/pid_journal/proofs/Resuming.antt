@@ -8,16 +8,18 @@ use Rattle.pid_moderation.specs.History.{Asked, History}
 use Rattle.pid_moderation.specs.Views.{revision_of}
 use Rattle.pid_moderation.specs.RegistryStatus.{RegistryStatus, status_of_registry}
 use Rattle.pid_script.specs.Replies.{history_after}
+use Rattle.pid_service_laws.specs.Registries.{Showing}
 use Rattle.pid_service_laws.specs.declared.moderated.Moderated.{Ghosts}
 use Rattle.pid_journal.specs.declared.counts.Counts.{Counts}
 use Rattle.pid_journal.specs.declared.file.JournalFile as files
 use Rattle.pid_journal.specs.declared.open_fault.OpenFault.{OpenFault}
 use Rattle.pid_journal.specs.declared.open_fault.OpenFault.TheVariants.{Refused, Another, Newer, Missing}
 use Rattle.pid_journal.specs.Comments.{counts_in, counts_held}
-use Rattle.pid_journal.specs.Journals.{AreTrue, IsEntry, JournalLeads}
+use Rattle.pid_journal.specs.Journals.{AreTrue, IsEntry, IsMark, JournalLeads}
 use Rattle.pid_journal.specs.Steps.Ways.{IsOnWay}
 use Rattle.pid_journal.specs.Openings.{IsRefused}
-use Rattle.pid_journal.specs.Steps.Opening.{EndsFile, IsEnded, IsWholeUpTo, ShowsAll}
+use Rattle.pid_journal.specs.Steps.Opening.{IsEnded, IsWholeUpTo, ShowsAll}
+use Rattle.pid_journal.specs.Steps.Parts.{MayBeMarked}
 use Rattle.pid_journal.specs.Steps.Places.{IsEndOf, IsOpenEnd}
 use Rattle.pid_journal.specs.Steps.Segments.{LinesMayBeObeyed}
 use Rattle.pid_journal.proofs.Appending.{marked, whole_both}
@@ -74,7 +76,7 @@ journal_of start h text count up_to way =
 module _ {R J : Type 0} (registry : Ghosts R) (file : files.Ghosts J) where
   -- the whole lines are left, and maybe a mark
   ended : (start h : History) (text : List ℕ) (new : R) (k : J) (count : ℕ) (up_to : IsWholeUpTo text count) → registry.showing.shows new (history_after start (whole_lines text)) → IsOnWay start false (whole_lines text) h
-      → (file.safe k ≡ Some up_to.front) ⊎ (file.safe k ≡ Some (up_to.front ++ 10 ∷ []))
+      → (file.safe k ≡ Some up_to.front) ⊎ ((mark : List ℕ) × IsMark mark (counts_held (history_after start (whole_lines text))) × (file.safe k ≡ Some (up_to.front ++ mark)))
       → ShowsAll registry file start text new k
   ended start h text new k count up_to shown way (inl safe) = record {
     shown = shown;
@@ -84,27 +86,30 @@ module _ {R J : Type 0} (registry : Ghosts R) (file : files.Ghosts J) where
     more = [];
     kept = sym (lines_kept text count up_to) ∙ sym (append-nil (whole_lines text));
   }
-  ended start h text new k count up_to shown way (inr safe) = record {
+  ended start h text new k count up_to shown way (inr (mark, is, safe)) = record {
     shown = shown;
-    front = up_to.front ++ 10 ∷ [];
+    front = up_to.front ++ mark;
     safe = safe;
-    leads = marked start (history_after start (whole_lines text)) up_to.front (journal_of start h text count up_to way);
-    more = [] ∷ [];
-    kept = whole_both up_to.front (10 ∷ []) up_to.whole ∙ ap (λ (ls : List (List ℕ)). ls ++ [] ∷ []) (sym (lines_kept text count up_to));
+    leads = marked start (history_after start (whole_lines text)) up_to.front mark (journal_of start h text count up_to way) is;
+    more = whole_lines mark;
+    kept = whole_both up_to.front mark up_to.whole ∙ ap (λ (ls : List (List ℕ)). ls ++ whole_lines mark) (sym (lines_kept text count up_to));
   }
 
   -- the bytes that were read are the text of the segment
   pub segment_ended : (start h : History) (text bytes : List ℕ) (new : R) (old k : J) → bytes ≡ text → file.safe old ≡ Some text → registry.showing.shows new (history_after start (whole_lines bytes)) → IsOnWay start false (whole_lines bytes) h
-      → IsEnded bytes (file.safe old) (file.safe k) → ShowsAll registry file start text new k
+      → IsEnded (history_after start (whole_lines bytes)) bytes (file.safe old) (file.safe k) → ShowsAll registry file start text new k
   segment_ended start h text bytes new old k is safe shown way ends =
       let e = ends (safe ∙ ap (λ (l : List ℕ). Some l) (sym is)) in
       subst (λ (l : List ℕ). ShowsAll registry file start l new k) is (ended start h bytes new k e.0 e.1 shown way e.2)
 
 -- how the file of a text ends
-pub ends_text : {J X : Type 0} (file : files.Ghosts J) (result : Result X OpenFault) (old : Option (List ℕ)) (j k : J) (text : List ℕ) (count : ℕ) → IsWholeUpTo text count → file.safe j ≡ old → EndsFile file j k text count result
-    → IfOk result (λ x. IsEnded text old (file.safe k))
-ends_text file (Ok x) old j k text count up_to same says = λ is. (count, up_to, says (same ∙ is) up_to)
-ends_text file (Err fault) old j k text count up_to same says = tt
+pub ends_text : {R : Type 0} (w : Showing R) (r s : R) (h : History) (old mid cut now : Option (List ℕ)) (text : List ℕ) (count : ℕ) (up_to : IsWholeUpTo text count) → mid ≡ old → (mid ≡ Some text → (up_to : IsWholeUpTo text count) → cut ≡ Some up_to.front) → MayBeMarked w r s cut now
+    → w.is_clean s → w.shows r h → IsEnded h text old now
+ends_text w r s h old mid cut now text count up_to same cuts marks clean shown is =
+    elim (marks up_to.front (cuts (same ∙ is) up_to)) [
+      | inl left ↦ (count, up_to, inl left)
+      | inr (mark, held, says, more, told) ↦ (count, up_to, inr (mark, subst (IsMark mark) (told clean h shown) says, more))
+    ]
 
 pub ends_refused : {X : Type 0} (result : Result X OpenFault) (P : X → Type 0) → MatchResult result P IsRefused → IfErr result IsRefused
 ends_refused (Ok x) P says = tt

@@ -6,13 +6,12 @@ use Rattle.pid_file.specs.WholeLines.{ended_pieces, open_part, whole_lines}
 use Rattle.pid_moderation.specs.History.{Asked, History}
 use Rattle.pid_moderation.specs.Judgement.{after, after_all}
 use Rattle.pid_script.specs.Replies.{commands_of_lines, history_after}
-use Rattle.pid_journal.specs.declared.counts.Counts.{Counts}
 use Rattle.pid_journal.specs.Comments.{counts_held}
-use Rattle.pid_journal.specs.Doubts.{IsInDoubt}
-use Rattle.pid_journal.specs.Journals.{AreTrue, IsEntry, JournalLeads, after_line, noted_after}
-use Rattle.pid_journal.specs.Steps.Ways.{EntryLeads, IsOnWay}
+use Rattle.pid_journal.specs.Doubts.{EntryLeads, IsInDoubt}
+use Rattle.pid_journal.specs.Journals.{AreTrue, JournalLeads, after_line, noted_after}
+use Rattle.pid_journal.specs.Steps.Ways.{IsOnWay}
 use Rattle.pid_journal.specs.Laws.{DoubtsLeaveEither, JournalsAreScripts}
-use Rattle.pid_journal.proofs.Appending.{after_both, commands_both, entry_asks, on_leads, on_true, true_both, whole_both}
+use Rattle.pid_journal.proofs.Appending.{after_both, commands_both, entry_asks, mark_asks, on_leads, on_true, true_both, whole_both}
 
 pub scripts : JournalsAreScripts
 scripts start h text is =
@@ -27,12 +26,12 @@ one_part h (x ∷ y ∷ xs) ys c is = absurd (let no : ⊥ = cc in no)
 part_lines : (part gone : List ℕ) → whole_lines part ++ map drop_cr (ended_pieces (open_part part ++ gone)) ≡ whole_lines (part ++ gone)
 part_lines part gone = sym (ap (map drop_cr) (ended_more part gone) ∙ map_append drop_cr (ended_pieces part) (ended_pieces (open_part part ++ gone)))
 
--- the whole lines of a part of an entry
-part_asks : (part gone : List ℕ) (k : Counts) (c : Asked) → IsEntry (part ++ gone) k c → commands_of_lines (whole_lines part) ++ commands_of_lines (map drop_cr (ended_pieces (open_part part ++ gone))) ≡ c ∷ []
-part_asks part gone k c is =
+-- the whole lines of a part of what asks some commands
+part_asks : (part gone : List ℕ) (cs : List Asked) → commands_of_lines (whole_lines (part ++ gone)) ≡ cs → commands_of_lines (whole_lines part) ++ commands_of_lines (map drop_cr (ended_pieces (open_part part ++ gone))) ≡ cs
+part_asks part gone cs is =
     sym (commands_both (whole_lines part) (map drop_cr (ended_pieces (open_part part ++ gone))))
     ∙ ap commands_of_lines (part_lines part gone)
-    ∙ entry_asks (part ++ gone) k c is
+    ∙ is
 
 -- the history after the whole lines of a text and a part
 joined_history : (start h : History) (text before part : List ℕ) → text ≡ before ++ part → JournalLeads start before h → history_after start (whole_lines text) ≡ after_all h (commands_of_lines (whole_lines part))
@@ -43,18 +42,20 @@ joined_history start h text before part parts is =
     ∙ after_both start (commands_of_lines (whole_lines before)) (commands_of_lines (whole_lines part))
     ∙ ap (λ (g : History). after_all g (commands_of_lines (whole_lines part))) is.leads
 
-no_part : (part gone : List ℕ) → part ++ gone ≡ [] → part ≡ []
+no_part : {A : Type 0} (part gone : List A) → part ++ gone ≡ [] → part ≡ []
 no_part [] gone none = refl
 no_part (b ∷ bs) gone none = absurd (let no : ⊥ = cc in no)
 
 -- of an entry, or of none, a part leads nowhere or to the next history
 part_leads : (h next : History) (part gone : List ℕ) → EntryLeads (part ++ gone) h next → (after_all h (commands_of_lines (whole_lines part)) ≡ h) ⊎ (after_all h (commands_of_lines (whole_lines part)) ≡ next)
 part_leads h next part gone (inl (c, is, ends)) =
-    elim (one_part h (commands_of_lines (whole_lines part)) (commands_of_lines (map drop_cr (ended_pieces (open_part part ++ gone)))) c (part_asks part gone (counts_held h) c is)) [
+    elim (one_part h (commands_of_lines (whole_lines part)) (commands_of_lines (map drop_cr (ended_pieces (open_part part ++ gone)))) c (part_asks part gone (c ∷ []) (entry_asks (part ++ gone) (counts_held h) c is))) [
       | inl same ↦ inl same
       | inr one ↦ inr (one ∙ sym ends)
     ]
-part_leads h next part gone (inr (none, same)) = inl (ap (λ (l : List ℕ). after_all h (commands_of_lines (whole_lines l))) (no_part part gone none))
+part_leads h next part gone (inr (inl none, same)) = inl (ap (λ (l : List ℕ). after_all h (commands_of_lines (whole_lines l))) (no_part part gone none))
+part_leads h next part gone (inr (inr mark, same)) =
+    inl (ap (after_all h) (no_part (commands_of_lines (whole_lines part)) (commands_of_lines (map drop_cr (ended_pieces (open_part part ++ gone)))) (part_asks part gone [] (mark_asks (part ++ gone) (counts_held h) mark))))
 
 pub either : DoubtsLeaveEither
 either start h next text doubt =

@@ -1,5 +1,5 @@
 -- What a journal says: it is a script, in which a comment above each command says what the registry
--- held before it. Choices of this project.
+-- held before it, and a mark below it what the registry held then. Choices of this project.
 use Rattle.std.specs.Prelude.{◌≡◌, ℕ, Bool, false, true, ◌||◌, if◌then◌else◌, List, [], ◌∷◌}
 use Rattle.std.specs.Prelude.{Some, IfSome, is_some}
 use Rattle.pid_file.specs.WholeLines.{whole_lines, open_part}
@@ -33,12 +33,19 @@ pub record JournalLeads (start : History) (text : List ℕ) (h : History) : Type
   pub told : AreTrue start false (whole_lines text)
   pub leads : history_after start (whole_lines text) ≡ h
 
--- The text is a comment that says these counts, and a line that asks one command.
-pub record IsEntry (text : List ℕ) (counts : Counts) (c : Asked) : Type 0 where
+-- The text is a comment that says these counts, and a line below it.
+pub record IsNote (text : List ℕ) (counts : Counts) (line : List ℕ) : Type 0 where
   pub whole : open_part text ≡ []
   pub comment : List ℕ
-  pub line : List ℕ
   pub lines : whole_lines text ≡ comment ∷ line ∷ []
   pub says : counts_said comment ≡ Some counts
   pub idle : ask_of comment ≡ AsksNothing
+
+-- An entry has the line of a command there, and a mark an empty one.
+pub record IsEntry (text : List ℕ) (counts : Counts) (c : Asked) : Type 0 where
+  pub line : List ℕ
+  pub note : IsNote text counts line
   pub asks : command_of (ask_of line) ≡ c ∷ []
+
+abbrev pub IsMark : List ℕ → Counts → Type 0
+IsMark text counts = IsNote text counts []

@@ -10,7 +10,7 @@ use Rattle.pid_moderation.specs.Views.{revision_of, views_of}
 use Rattle.pid_script.specs.Replies.{history_after, replies}
 use Rattle.pid_journal.specs.Comments.{counts_held}
 use Rattle.pid_journal.specs.Doubts.{IsInDoubt}
-use Rattle.pid_journal.specs.Journals.{IsEntry, JournalLeads}
+use Rattle.pid_journal.specs.Journals.{IsEntry, IsMark, JournalLeads}
 use Rattle.pid_journal.specs.Segments.{AreSegments, IsOnSegments, lines_in}
 
 -- as a script, the text of a journal leads from the one history to the other
@@ -25,7 +25,8 @@ EntriesAreAnswered = (start h : History) (text : List ℕ) → JournalLeads star
     → ((entry : List ℕ) (c : Asked) → IsEntry entry (counts_held h) c
     → replies start (lines_of (text ++ entry))
     ≡ replies start (lines_of text) ++ outcome_line (answer (judge (views_of h) c)))
-    × (replies start (lines_of (text ++ 10 ∷ [])) ≡ replies start (lines_of text))
+    × ((mark : List ℕ) → IsMark mark (counts_held h)
+    → replies start (lines_of (text ++ mark)) ≡ replies start (lines_of text))
 
 -- its whole lines lead to one of the two histories between which a registry has failed
 abbrev pub DoubtsLeaveEither : Type 0

@@ -1,17 +1,21 @@
 -- What an opening makes of a registry and of the folder of its journal: choices of this project.
-use Rattle.std.specs.Prelude.{◌≡◌, ◌⊎◌, ℕ, true, false, List, [], ◌∷◌, ◌++◌, Some, Result, MatchResult}
-use Rattle.std.specs.Prelude.{IfErr, IfOk}
+use Rattle.std.specs.Prelude.{◌≡◌, ◌⊎◌, ◌<◌, ◌≤◌, nat_lt, ℕ, true, false, if◌then◌else◌, List, [], ◌∷◌, ◌++◌}
+use Rattle.std.specs.Prelude.{Option, Some, None, IfSome, Result, MatchResult, IfErr, IfOk}
 use Rattle.pid_file.specs.WholeLines.{whole_lines}
 use Rattle.pid_moderation.specs.History.{History}
 use Rattle.pid_moderation.specs.Revisions.{IsMarked}
+use Rattle.pid_moderation.specs.Views.{revision_of}
 use Rattle.pid_script.specs.Replies.{history_after}
+use Rattle.pid_script.specs.ScriptLines.{is_idle_line}
 use Rattle.pid_service_laws.specs.declared.moderated.Moderated.{Ghosts}
+use Rattle.pid_journal.specs.declared.counts.Counts.{Counts}
 use Rattle.pid_journal.specs.declared.file.JournalFile as files
 use Rattle.pid_journal.specs.declared.folder.JournalFolder as folders
 use Rattle.pid_journal.specs.declared.journaled.Journaled.{Journaled}
 use Rattle.pid_journal.specs.declared.open_fault.OpenFault.{OpenFault}
 use Rattle.pid_journal.specs.declared.open_fault.OpenFault.TheVariants.{Refused, Another, Newer}
 use Rattle.pid_journal.specs.declared.opened.Opened.{Opened}
+use Rattle.pid_journal.specs.Comments.{counts_held, counts_said}
 use Rattle.pid_journal.specs.Pairs.{PairShows}
 use Rattle.pid_journal.specs.Segments.{IsOnSegments, lines_in}
 
@@ -19,6 +23,23 @@ use Rattle.pid_journal.specs.Segments.{IsOnSegments, lines_in}
 abbrev pub IsRefused : OpenFault → Type 0
 IsRefused (Refused refusal) = Unit {0}
 IsRefused other = ⊥
+
+-- Of lines in turn the first counts that are no older than a registry's are compared with those; older
+-- ones stand up to the next command, and are compared at the end.
+abbrev pub compared_on : Counts → (Option Counts → Option Counts) → (said told : Option Counts)
+    → Option Counts
+compared_on now rest None told = rest told
+compared_on now rest (Some k) told = if nat_lt k.revision now.revision then rest (Some k) else Some k
+
+abbrev pub compared : Counts → Option Counts → List (List ℕ) → Option Counts
+compared now told [] = told
+compared now told (line ∷ lines) = compared_on now (λ next. compared now next lines)
+    (counts_said line) (if is_idle_line line then told else None)
+
+-- the segments begin at no later revisions
+abbrev pub HasBegun : History → List ℕ → Type 0
+HasBegun h names = (above below : List ℕ) (name : ℕ) → names ≡ above ++ name ∷ below
+    → name ≤ revision_of h
 
 -- `registry` is `R.Moderated`, `folder` is `F.JournalFolder`, and `file` is that of its segments
 module _ {R F J : Type 0} (registry : Ghosts R) (folder : folders.Ghosts F J) (file : files.Ghosts J) where
@@ -61,6 +82,16 @@ module _ {R F J : Type 0} (registry : Ghosts R) (folder : folders.Ghosts F J) (f
   BeginsAfterGap r f result = IfOk result (λ o. o.gap ≡ true → (names : List ℕ)
       → folder.names f ≡ Some names → registry.showing.is_clean o.registry.registry → (h : History)
       → registry.showing.shows r h → PairShows registry file h o.registry h)
+
+  -- Of a registry that has come to the beginning of each segment the counts are compared: the same are
+  -- no gap, older ones are one, and any others are another registry's.
+  abbrev pub ComparesCounts : R → F → Result (Opened R J) (R × OpenFault) → Type 0
+  ComparesCounts r f result = (front : List ℕ) (name : ℕ) → folder.names f ≡ Some (front ++ name ∷ [])
+      → (h : History) → registry.showing.shows r h → HasBegun h (front ++ name ∷ [])
+      → IfSome (compared (counts_held h) None (whole_lines (folder.text_in f name))) (λ k.
+      MatchResult result (λ o. registry.showing.is_clean o.registry.registry
+      → (o.gap ≡ false → k ≡ counts_held h) × (o.gap ≡ true → k.revision < (counts_held h).revision))
+      (λ back. registry.showing.is_clean back.0 → (back.1 ≡ Another) ⊎ IsRefused back.1))
 
   -- with another's journal the registry shows what it showed, and no file was opened to be written
   abbrev pub RefusesOthers : R → (f g : F) → Result (Opened R J) (R × OpenFault) → Type 0

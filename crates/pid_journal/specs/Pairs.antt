@@ -1,15 +1,17 @@
 -- A registry and the journal in front of it: what they show. Choices of this project.
-use Rattle.std.specs.Prelude.{◌≡◌, ◌⊎◌, ℕ, Bool, true, false, not, ◌&&◌, List, [], Some, Result, Err}
+use Rattle.std.specs.Prelude.{◌≡◌, ◌⊎◌, ℕ, Bool, true, false, not, ◌&&◌, List, [], ◌++◌, Option, Some}
+use Rattle.std.specs.Prelude.{Result, Err, IsErr}
 use Rattle.pid_moderation.specs.declared.command.Reply.{Reply}
 use Rattle.pid_moderation.specs.declared.refusal.Refusal.{Refusal}
 use Rattle.pid_moderation.specs.declared.refusal.Refusal.TheVariants.{Failed}
 use Rattle.pid_moderation.specs.History.{Asked, History}
 use Rattle.pid_service_laws.specs.Registries.{CommandLeaves, Showing}
 use Rattle.pid_service_laws.specs.declared.moderated.Moderated.{Ghosts}
+use Rattle.pid_journal.specs.declared.counts.Counts.{Counts}
 use Rattle.pid_journal.specs.declared.file.JournalFile as files
 use Rattle.pid_journal.specs.declared.journaled.Journaled.{Journaled}
 use Rattle.pid_journal.specs.Doubts.{IsInDoubt}
-use Rattle.pid_journal.specs.Journals.{JournalLeads}
+use Rattle.pid_journal.specs.Journals.{IsEntry, IsMark, JournalLeads}
 
 -- the registry, the file of its journal, and whether an entry is left whose command was not obeyed
 abbrev pub pair_parts : {R J : Type 0} → Journaled R J → R × J × Bool
@@ -60,3 +62,17 @@ module _ {R J : Type 0} (registry : Ghosts R) (file : files.Ghosts J) where
   -- one that has failed obeys nothing, and stays as it is
   abbrev pub StaysFailed : Journaled R J → Result Reply Refusal → Journaled R J → Type 0
   StaysFailed old result new = pair_is_live old ≡ false → (result ≡ Err Failed) × (new ≡ old)
+
+-- The bytes are an entry of the command, and maybe a mark; at a fault maybe a part of the entry.
+pub record IsAdded (bytes : List ℕ) (c : Asked) (result : Result Reply Refusal) : Type 0 where
+  pub entry : List ℕ
+  pub counts : Counts
+  pub is : IsEntry entry counts c
+  pub ends : (bytes ≡ entry)
+      ⊎ (((mark : List ℕ) × (held : Counts) × IsMark mark held × (bytes ≡ entry ++ mark))
+      ⊎ ((gone : List ℕ) × (entry ≡ bytes ++ gone) × IsErr result))
+
+-- what is there stays, and such bytes come to it, or none
+abbrev pub AddsEntry : (old now : Option (List ℕ)) → Asked → Result Reply Refusal → Type 0
+AddsEntry old now c result = (text : List ℕ) → old ≡ Some text → (bytes : List ℕ)
+    × (now ≡ Some (text ++ bytes)) × ((bytes ≡ []) ⊎ IsAdded bytes c result)

@@ -4,6 +4,7 @@ pub mod Ways
 pub mod Living
 pub mod Lending
 pub mod Places
+pub mod Comparing
 pub mod Following
 pub mod Opening
 pub mod Segments

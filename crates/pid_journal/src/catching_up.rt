@@ -1,23 +1,27 @@
 //! One segment of a journal, obeyed by a registry that does not have all of it yet.
 ghost use Rattle.std.specs.Prelude.{◌≡◌, IfErr, IfOk, IfSome};
-ghost use Rattle.pid_file.specs.WholeLines.{whole_lines};
-ghost use Rattle.pid_moderation.specs.History.{History};
-ghost use Rattle.pid_script.specs.Replies.{history_after};
 ghost use Rattle.pid_service_laws.specs.CallLaws.{StaysClean};
 ghost use Rattle.pid_journal.specs.Openings.{IsRefused};
-ghost use Rattle.pid_journal.specs.Steps.Opening.{EndsFile, IsEnded, IsWholeUpTo};
+ghost use Rattle.pid_journal.specs.Steps.Comparing.{ComparesSegment};
+ghost use Rattle.pid_journal.specs.Steps.Opening.{EndsFile, IsWholeUpTo, ObeysRest};
 ghost use Rattle.pid_journal.specs.Steps.Parts.{MayBeMarked};
 ghost use Rattle.pid_journal.specs.Steps.Places.{IsEndOf};
-ghost use Rattle.pid_journal.specs.Steps.Segments.{FollowsSegment, IsSameFolder, StaysOrMoved};
+ghost use Rattle.pid_journal.specs.Steps.Segments.{
+  FollowsSegment,
+  IsSameFolder,
+  KeepsShown,
+  StaysOrMoved,
+};
 
 use crate::file::JournalFile;
 use crate::folder::JournalFolder;
 use crate::following::follow;
+use crate::marking::mark_end;
 use crate::open_fault::OpenFault;
 use crate::placing::find_place;
 use crate::status_counts::counts_of;
 use pid_moderation::Refusal;
-use pid_service_laws::{Consulted, Moderated};
+use pid_service_laws::Consulted;
 use std::alloc::Global;
 
 // Whether the last line of a text is marked, or there is none.
@@ -25,15 +29,8 @@ fn is_marked(text: &[u8]) -> bool {
     matches!(text, [] | [.., b'\n', b'\n'])
 }
 
-// Marks the last line of a file, if that goes well.
-fn mark_end<J: JournalFile>(journal: &mut J)
-    ensures { MayBeMarked (J.safe journal.old) (J.safe journal.new) }
-{
-    journal.mark();
-}
-
-// Cuts off what comes after so many bytes of the text that is in a file, and marks the last line.
-fn end_file<J: JournalFile>(journal: &mut J, text: &[u8], count: usize) -> Result<(), OpenFault>
+// Cuts off what comes after so many bytes of the text that is in a file.
+fn cut_torn<J: JournalFile>(journal: &mut J, text: &[u8], count: usize) -> Result<(), OpenFault>
     requires read { IfSome (J.safe journal.old) (λ bytes. bytes ≡ text.now) }
     requires whole { IsWholeUpTo text.now count }
     ensures { EndsFile J.JournalFile journal.old journal.new text.now count result }
@@ -44,16 +41,29 @@ fn end_file<J: JournalFile>(journal: &mut J, text: &[u8], count: usize) -> Resul
             Err(_) => return Err(OpenFault::Refused(Refusal::Store)),
         }
     }
-    let whole = text.get(..count).unwrap_or(text);
-    if !is_marked(whole) {
-        mark_end(journal);
-    }
     Ok(())
+}
+
+// Marks the last line of a file with this text, if it is not marked yet.
+fn mark_last<R: Consulted, J: JournalFile>(
+    alloc: Global,
+    registry: &mut R,
+    journal: &mut J,
+    text: &[u8],
+)
+    ensures honest { StaysClean R.showing registry.old registry.new }
+    ensures kept { KeepsShown R.showing registry.old registry.new }
+    ensures marked { MayBeMarked R.showing registry.old registry.new (J.safe journal.old)
+        (J.safe journal.new) }
+{
+    if !is_marked(text) {
+        mark_end(alloc, registry, journal);
+    }
 }
 
 // A registry obeys the lines at the end of a text that is in a file. What is no whole line there is
 // cut off, and the end is marked.
-fn obey_rest<R: Moderated, J: JournalFile>(
+fn obey_rest<R: Consulted, J: JournalFile>(
     alloc: Global,
     registry: &mut R,
     journal: &mut J,
@@ -63,18 +73,21 @@ fn obey_rest<R: Moderated, J: JournalFile>(
     requires read { IfSome (J.safe journal.old) (λ bytes. bytes ≡ text.now) }
     requires end { IsEndOf text.now rest.now }
     ensures honest { StaysClean R.showing registry.old registry.new }
-    ensures obeyed { IfOk result (λ x. R.showing.is_clean registry.new → (h : History)
-        → R.showing.shows registry.old h
-        → R.showing.shows registry.new (history_after h (whole_lines rest.now))) }
-    ensures ended { IfOk result
-        (λ x. IsEnded text.now (J.safe journal.old) (J.safe journal.new)) }
+    ensures obeyed { IfOk result (λ x. ObeysRest R.showing registry.old registry.new
+        (J.safe journal.old) (J.safe journal.new) text.now rest.now) }
     ensures fault { IfErr result IsRefused }
 {
     let torn = match follow(alloc, registry, journal, rest) {
         Ok(torn) => torn,
         Err(refusal) => return Err(OpenFault::Refused(refusal)),
     };
-    end_file(journal, text, text.len() - torn.len())
+    let count = text.len() - torn.len();
+    match cut_torn(journal, text, count) {
+        Ok(()) => {}
+        Err(fault) => return Err(fault),
+    }
+    mark_last(alloc, registry, journal, text.get(..count).unwrap_or(text));
+    Ok(())
 }
 
 /// Opens the segment that begins at a revision, and brings a registry up to its end. What is no
@@ -91,6 +104,8 @@ pub fn follow_segment<R: Consulted, F: JournalFolder>(
         registry.new folder.old begin result }
     ensures stays { StaysOrMoved R.showing F.JournalFolder registry.old registry.new folder.old
         folder.new result }
+    ensures compared { ComparesSegment R.showing F.JournalFolder registry.old registry.new folder.old
+        begin result }
 {
     let status = match registry.status() {
         Ok(status) => status,

@@ -91,14 +91,26 @@ fn form_of(alloc: Global, command: &Command) -> Result<String, AllocError> {
     Ok(form.finish())
 }
 
-// The comment, and its LF.
-fn comment_of(alloc: Global, seconds: u64, status: &Status) -> Result<String, AllocError> {
+fn counts_text(alloc: Global, status: &Status) -> Result<String, AllocError> {
     let revision = status.revision;
     let accounts = status.accounts;
     let items = status.items;
     let submissions = status.submissions;
-    let counts = format!(in alloc; "accounts={accounts}&items={items}&submissions={submissions}")?;
-    format!(in alloc; "# time={seconds}&revision={revision}&{counts}\n")
+    let rest = format!(in alloc; "accounts={accounts}&items={items}&submissions={submissions}")?;
+    format!(in alloc; "revision={revision}&{rest}")
+}
+
+// The comment, and its LF.
+fn comment_of(alloc: Global, seconds: u64, status: &Status) -> Result<String, AllocError> {
+    let counts = counts_text(alloc, status)?;
+    format!(in alloc; "# time={seconds}&{counts}\n")
+}
+
+/// The mark below the entry of a command that has ended: a comment with what the registry holds
+/// then, and an empty line.
+pub fn compose_mark(alloc: Global, status: &Status) -> Result<String, AllocError> {
+    let counts = counts_text(alloc, status)?;
+    format!(in alloc; "# ended&{counts}\n\n")
 }
 
 /// The entry of a command: a comment with the time, in seconds since the beginning of 1970, and

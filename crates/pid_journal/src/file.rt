@@ -1,6 +1,6 @@
 //! The file of a segment of a journal.
-ghost use Rattle.std.specs.Prelude.{◌≡◌, [], ◌∷◌, ℕ, List, Option, Some, None, IfSome, length};
-ghost use Rattle.pid_journal.specs.Files.{IsAppended, IsCut, LeavesPart, MarksAreWithin};
+ghost use Rattle.std.specs.Prelude.{◌≡◌, ℕ, List, Option, Some, None, IfSome, length};
+ghost use Rattle.pid_journal.specs.Files.{IsAppended, IsCut, MarksAreWithin, MayBeAdded};
 
 use pid_ident::WriteFault;
 
@@ -26,11 +26,10 @@ pub trait JournalFile {
         ensures appended { IsAppended result (safe self.old) (safe self.new) bytes.now }
         ensures unknown { safe self.old ≡ None → safe self.new ≡ None };
 
-    /// Writes an LF to the end of the file. It is not synced before the next append, so that a stop
-    /// may leave it out, and so may a fault.
-    fn mark(&mut self)
-        ensures { (text : List ℕ) → safe self.old ≡ Some text
-            → LeavesPart (safe self.new) text (10 ∷ []) };
+    /// Writes bytes to the end of the file, all of them or none that stay. They are not synced before
+    /// the next append, so that a stop may leave any prefix of them.
+    fn mark(&mut self, bytes: &[u8])
+        ensures { MayBeAdded (safe self.old) (safe self.new) bytes.now };
 
     /// Cuts off what comes after so many bytes, among which are all marks, and syncs the file. So
     /// what a reader has seen above a mark stays. After a fault any prefix of what is cut off may

@@ -2,10 +2,11 @@
 //! judged.
 //!
 //! A journal is a script. It has the line of each command, in the order in which commands are
-//! judged, below a comment with the time and with what the registry holds before it. An empty line
-//! says that the command above it has ended: what comes before it is never cut off again. The
-//! script is in segments, each named by the revision at which it begins. `open_journal` puts the
-//! folder of these in front of a registry, which obeys the lines that it does not have.
+//! judged, below a comment with the time and with what the registry holds before it. A mark, which is
+//! a comment with what the registry holds then and an empty line, says that the command above it has
+//! ended: what comes before it is never cut off again. The script is in segments, each named by the
+//! revision at which it begins. `open_journal` puts the folder of these in front of a registry, which
+//! obeys the lines that it does not have.
 //!
 //! `Journaled` is a registry under moderation, so scripts are run over it as over any other;
 //! questions and exports go past the journal. `laws` says to which history a journal leads.
@@ -25,6 +26,7 @@ mod following;
 mod importing;
 mod journaled;
 pub mod laws;
+mod marking;
 mod moderated;
 mod obeying;
 mod open_fault;

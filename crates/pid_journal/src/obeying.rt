@@ -5,21 +5,24 @@ ghost use Rattle.pid_moderation.specs.Files.{asks};
 ghost use Rattle.pid_moderation.specs.History.{History};
 ghost use Rattle.pid_service_laws.specs.CallLaws.{StaysClean};
 ghost use Rattle.pid_service_laws.specs.Registries.{CommandLeaves};
+ghost use Rattle.pid_journal.specs.declared.counts.Counts.{Counts};
 ghost use Rattle.pid_journal.specs.Comments.{counts_held};
-ghost use Rattle.pid_journal.specs.Files.{Grows, MarksAreWithin};
+ghost use Rattle.pid_journal.specs.Files.{MarksAreWithin};
 ghost use Rattle.pid_journal.specs.Journals.{IsEntry};
 ghost use Rattle.pid_journal.specs.Pairs.{
+  AddsEntry,
   ObeysAnywhere,
   PairShows,
   StaysFailed,
   pair_showing,
   pair_showing_from,
 };
-ghost use Rattle.pid_journal.specs.Steps.Parts.{GrowsAfter, IsProbed, IsCutBack, IsUnmarked};
+ghost use Rattle.pid_journal.specs.Steps.Parts.{CutsAfter, IsProbed, IsCutBack, IsUnmarked};
 
 use crate::entry::entry_of;
 use crate::file::JournalFile;
 use crate::journaled::Journaled;
+use crate::marking::mark_end;
 use crate::unaccepted::has_no_line;
 use pid_moderation::{Command, Refusal, Reply, breaks_form};
 use pid_service_laws::Consulted;
@@ -57,7 +60,7 @@ impl<R: Consulted, J: JournalFile> Journaled<R, J> {
     fn take_back(&mut self, count: u64)
         requires { IfSome (J.safe self.old.journal) (λ text. MarksAreWithin text count) }
         ensures same { self.new.registry ≡ self.old.registry }
-        ensures kept { GrowsAfter (J.safe self.old.journal) (J.safe self.new.journal) count }
+        ensures kept { CutsAfter (J.safe self.old.journal) (J.safe self.new.journal) count }
         ensures taken { IsCutBack J.JournalFile self.old self.new count }
     {
         match self.journal.cut(count) {
@@ -69,7 +72,8 @@ impl<R: Consulted, J: JournalFile> Journaled<R, J> {
     // Obeys a command that has this entry.
     fn obey_noted(&mut self, entry: &[u8], command: Command) -> Result<Reply, Refusal>
         requires { IsUnmarked entry.now }
-        ensures kept { Grows (J.safe self.old.journal) (J.safe self.new.journal) }
+        ensures added { (counts : Counts) → IsEntry entry.now counts (asks command)
+            → AddsEntry (J.safe self.old.journal) (J.safe self.new.journal) (asks command) result }
         ensures honest { R.showing.is_clean self.new.registry → R.showing.is_clean self.old.registry }
         ensures obeyed { R.showing.is_clean self.new.registry → (start h : History)
             → PairShows R.Moderated J.JournalFile start self.old h
@@ -83,7 +87,7 @@ impl<R: Consulted, J: JournalFile> Journaled<R, J> {
             Ok(()) => {
                 let answer = self.registry.obey(command);
                 if !is_fault(&answer) {
-                    self.journal.mark();
+                    mark_end(self.alloc, &mut self.registry, &mut self.journal);
                     return answer;
                 }
                 if !is_answering(&mut self.registry) {
@@ -114,8 +118,8 @@ impl<R: Consulted, J: JournalFile> Journaled<R, J> {
         // It shows the history to which its journal leads.
         ensures obeyed { ObeysAnywhere R.Moderated J.JournalFile self.old (asks command) result self.new }
         ensures failed { StaysFailed R.Moderated J.JournalFile self.old result self.new }
-        // What its journal has stays.
-        ensures kept { Grows (J.safe self.old.journal) (J.safe self.new.journal) }
+        // What its journal has stays, and the entry of the command comes to it.
+        ensures added { AddsEntry (J.safe self.old.journal) (J.safe self.new.journal) (asks command) result }
     {
         if self.failed {
             return Err(Refusal::Failed);

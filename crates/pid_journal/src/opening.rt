@@ -3,11 +3,13 @@ ghost use Rattle.std.specs.Prelude.{◌≡◌, ◌⊎◌, Some, true, IfErr, IfO
 ghost use Rattle.pid_service_laws.specs.CallLaws.{StaysClean};
 ghost use Rattle.pid_journal.specs.Openings.{
   BeginsAfterGap,
+  ComparesCounts,
   IsRefused,
   RefusesOthers,
   Resumes,
   StaysHonest,
 };
+ghost use Rattle.pid_journal.specs.Steps.Comparing.{ComparesGap};
 ghost use Rattle.pid_journal.specs.Steps.Segments.{
   BeginsIn,
   FindsJournal,
@@ -107,6 +109,8 @@ fn find_segment<R: Consulted, F: JournalFolder>(
         F.Segment.JournalFile F.JournalFolder registry.old registry.new folder.old found.0) }
     ensures stays { StaysOrMoved R.showing F.JournalFolder registry.old registry.new folder.old
         folder.new result }
+    ensures compared { ComparesGap R.showing F.JournalFolder registry.old registry.new folder.old
+        result }
 {
     let begins = match folder.begins(alloc) {
         Ok(begins) => begins,
@@ -155,6 +159,8 @@ pub fn open_journal<R: Consulted, F: JournalFolder>(
         folder.old result }
     ensures others { RefusesOthers R.Moderated F.JournalFolder F.Segment.JournalFile registry
         folder.old folder.new result }
+    ensures compared { ComparesCounts R.Moderated F.JournalFolder F.Segment.JournalFile registry
+        folder.old result }
 {
     match find_segment(alloc, &mut registry, folder, longest) {
         Ok((journal, gap)) => {

@@ -1,6 +1,8 @@
 //! Where in a journal a registry stands.
 ghost use Rattle.std.specs.Prelude.{◌≡◌, IfOk};
+ghost use Rattle.pid_file.specs.WholeLines.{whole_lines};
 ghost use Rattle.pid_script.specs.ScriptLines.{is_idle_line};
+ghost use Rattle.pid_journal.specs.Steps.Comparing.{Compares, ComparesLine};
 ghost use Rattle.pid_journal.specs.Steps.Places.{FindsPlace, IsEndOf, IsSaid, IsNextPlace};
 
 use crate::counts::{Counts, counts_said};
@@ -57,7 +59,8 @@ fn said_by(alloc: Global, line: &[u8]) -> Result<Said, AllocError>
 
 // The place of a registry with these counts, by what the next line says.
 fn judge_line(said: Said, now: Counts, place: Place) -> Step
-    ensures { IsNextPlace said now place result }
+    ensures next { IsNextPlace said now place result }
+    ensures compared { ComparesLine said now place result }
 {
     match said {
         Said::Holds(counts) => {
@@ -90,6 +93,7 @@ fn judge_line(said: Said, now: Counts, place: Place) -> Step
 pub fn find_place(alloc: Global, text: &[u8], now: Counts, begin: u64) -> Result<&[u8], OpenFault>
     ensures parts { IfOk result (λ rest. IsEndOf text.now rest.now) }
     ensures found { FindsPlace text.now now begin result (λ rest. rest.now) }
+    ensures compared { Compares now (whole_lines text.now) result }
 {
     let mut rest = text;
     let mut place = Place {

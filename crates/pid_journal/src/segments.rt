@@ -1,7 +1,8 @@
 //! The segments of a journal, obeyed in turn by a registry that does not have them yet.
-ghost use Rattle.std.specs.Prelude.{◌≡◌, ◌⊎◌, [], ◌∷◌, true, IfErr, MatchOption};
+ghost use Rattle.std.specs.Prelude.{◌≡◌, ◌⊎◌, [], ◌∷◌, true, false, IfErr, MatchOption};
 ghost use Rattle.pid_service_laws.specs.CallLaws.{StaysClean};
 ghost use Rattle.pid_journal.specs.Openings.{IsRefused};
+ghost use Rattle.pid_journal.specs.Steps.Comparing.{ComparesAll, SkipsLate};
 ghost use Rattle.pid_journal.specs.Steps.Segments.{
   FollowsAll,
   IsSameFolder,
@@ -46,6 +47,7 @@ fn fault_after(moved: bool, fault: OpenFault) -> OpenFault
     ensures refused { IsRefused fault → IsRefused result }
     ensures moved { moved ≡ true → LinesMayBeObeyed result }
     ensures stays { LinesMayBeObeyed result ⊎ (result ≡ fault) }
+    ensures same { moved ≡ false → result ≡ fault }
 {
     match fault {
         OpenFault::Refused(_) | OpenFault::Missing => fault,
@@ -80,6 +82,7 @@ fn pass_segment<R: Consulted, F: JournalFolder>(
         registry.new folder.old begin next result }
     ensures stays { StaysOrPassed R.showing F.JournalFolder registry.old registry.new folder.old
         folder.new result }
+    ensures late { SkipsLate R.showing registry.old registry.new next result }
 {
     match revision_of(registry) {
         Ok(revision) => {
@@ -109,6 +112,8 @@ pub fn follow_all<R: Consulted, F: JournalFolder>(
         registry.new folder.old begins.now result }
     ensures stays { StaysOrMoved R.showing F.JournalFolder registry.old registry.new folder.old
         folder.new result }
+    ensures compared { ComparesAll R.showing F.JournalFolder registry.old registry.new folder.old
+        begins.now result }
 {
     let Some((mut begin, mut rest)) = first_of(begins) else {
         return Ok(None);

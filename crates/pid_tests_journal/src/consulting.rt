@@ -19,12 +19,9 @@ fn an_import_that_comes_as_an_input_has_its_line(rt: HostRuntime) -> Result<(), 
     assert!(rt; answer.is_ok());
     assert!(rt; matches!(registry.status(), Ok(status) if status.items == 1));
     let (_, paper) = registry.into_parts();
-    assert!(rt;
-        paper
-            .bytes
-            .as_slice()
-            .ends_with(b"\nimport root file=8086++Intel%0A\n\n")
-    );
+    let ended = b"\nimport root file=8086++Intel%0A\n\
+        # ended&revision=1&accounts=1&items=1&submissions=0\n\n";
+    assert!(rt; paper.bytes.as_slice().ends_with(ended));
     Ok(())
 }
 

@@ -21,12 +21,9 @@ fn an_entry_that_is_not_written_is_cut_off(rt: HostRuntime) -> Result<(), Fail> 
     assert!(rt; is_told(alloc, &mut registry, SECOND, b"refused 17 Store\n")?);
     assert!(rt; is_told(alloc, &mut registry, READ, b"refused 25 NoItem\n")?);
     let (_, paper) = registry.into_parts();
-    assert!(rt;
-        paper
-            .bytes
-            .as_slice()
-            .ends_with(b"account root who=bob&rank=1\n\n")
-    );
+    let ended = b"account root who=bob&rank=1\n\
+        # ended&revision=1&accounts=2&items=0&submissions=0\n\n";
+    assert!(rt; paper.bytes.as_slice().ends_with(ended));
     Ok(())
 }
 

@@ -105,20 +105,27 @@ fn a_command_in_doubt_is_obeyed_once(rt: HostRuntime) -> Result<(), Fail> {
     Ok(())
 }
 
+// The mark of the last command.
+const MARK: &[u8] = b"# ended&revision=6&accounts=2&items=2&submissions=3\n\n";
+
+const EARLIER: &[u8] = b"# ended&revision=5&accounts=2&items=2&submissions=2\n\n";
+
 // However much of the last line is missing, the lines before it are all that is left.
 #[test]
 fn a_torn_line_is_cut_off(rt: HostRuntime) -> Result<(), Fail> {
     let alloc = rt.alloc();
     let whole = text_of(alloc, FIRST, SECOND)?;
-    for less in [2, 5, 30] {
+    assert!(rt; whole.as_slice().ends_with(MARK));
+    for more in [1, 4, 29] {
+        let less = usize::saturating_add(MARK.len(), more);
         let (torn, _) = whole.split_at(usize::saturating_sub(whole.len(), less));
         let registry = registry_of(alloc, FIRST, b"")?;
         let resumed = resumed(alloc, registry, torn)?;
         let (mut registry, paper) = resumed.into_parts();
         let (kept, mark) = paper
             .bytes
-            .split_at(usize::saturating_sub(paper.bytes.len(), 1));
-        assert_eq!(rt; mark, b"\n".as_slice());
+            .split_at(usize::saturating_sub(paper.bytes.len(), EARLIER.len()));
+        assert_eq!(rt; mark, EARLIER);
         assert!(rt; whole.as_slice().starts_with(kept));
         let wanted = b"# PCI ID registry\n8086  Intel\n\t1237  440FX\nok 3\n";
         assert!(rt; is_told(alloc, &mut registry, QUESTIONS, wanted)?);
@@ -126,19 +133,56 @@ fn a_torn_line_is_cut_off(rt: HostRuntime) -> Result<(), Fail> {
     Ok(())
 }
 
+// However much of the last mark is missing, it is written again, and no line is obeyed again.
+#[test]
+fn a_torn_mark_is_written_again(rt: HostRuntime) -> Result<(), Fail> {
+    let alloc = rt.alloc();
+    let whole = text_of(alloc, FIRST, SECOND)?;
+    for less in [2, 20, MARK.len()] {
+        let (torn, _) = whole.split_at(usize::saturating_sub(whole.len(), less));
+        let registry = registry_of(alloc, FIRST, SECOND)?;
+        let resumed = resumed(alloc, registry, torn)?;
+        let (mut registry, paper) = resumed.into_parts();
+        assert!(rt; paper.bytes.as_slice() == whole.as_slice());
+        assert!(rt; is_told(alloc, &mut registry, QUESTIONS, ANSWERS)?);
+    }
+    Ok(())
+}
+
+// How an opening with this journal ends of a registry that obeyed these commands.
+fn is_of_another(alloc: Global, text: &[u8], commands: &[u8]) -> Result<bool, Fail> {
+    let registry = registry_of(alloc, commands, b"")?;
+    let end = opened(alloc, registry, &mut folder_of(alloc, text)?, 1_000_000);
+    Ok(matches!(end, Err(OpenFault::Another)))
+}
+
 #[test]
 fn the_journal_of_another_registry_is_refused(rt: HostRuntime) -> Result<(), Fail> {
     let alloc = rt.alloc();
     let text = text_of(alloc, FIRST, SECOND)?;
     let other = b"account root who=bob&rank=1\naccount root who=eve&rank=1\n";
-    let registry = registry_of(alloc, other, b"")?;
-    let end = opened(
-        alloc,
-        registry,
-        &mut folder_of(alloc, text.as_slice())?,
-        1_000_000,
-    );
-    assert!(rt; matches!(end, Err(OpenFault::Another)));
+    assert!(rt; is_of_another(alloc, text.as_slice(), other)?);
+    // So is one where the last mark alone says what this registry does not hold.
+    let (two, _) = FIRST.split_at(63);
+    assert!(rt; two.ends_with(b"name=Intel\n"));
+    let text = text_of(alloc, two, b"")?;
+    assert!(rt; is_of_another(alloc, text.as_slice(), other)?);
+    Ok(())
+}
+
+// The last line was refused, and its mark says that the next command was given without the journal.
+#[test]
+fn one_command_without_the_journal_is_a_gap(rt: HostRuntime) -> Result<(), Fail> {
+    let alloc = rt.alloc();
+    let text = text_of(alloc, FIRST, b"")?;
+    let one = b"submit bob path=PC/8086/1237&name=440FX\n";
+    let registry = registry_of(alloc, FIRST, one)?;
+    let mut folder = folder_of(alloc, text.as_slice())?;
+    match opened(alloc, registry, &mut folder, 1_000_000) {
+        Ok(opened) => assert!(rt; opened.gap),
+        Err(_) => return Err("it was not opened")?,
+    }
+    assert_eq!(rt; folder.made, Some(4));
     Ok(())
 }
 

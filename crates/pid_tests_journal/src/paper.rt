@@ -63,8 +63,8 @@ impl JournalFile for Paper {
         self.take(bytes)
     }
 
-    fn mark(&mut self) {
-        let _ = self.bytes.push(b'\n');
+    fn mark(&mut self, bytes: &[u8]) {
+        let _ = self.bytes.extend_from_slice(bytes);
     }
 
     fn cut(&mut self, count: u64) -> Result<(), WriteFault> {

@@ -53,7 +53,7 @@ fn each_command_has_its_line_below_a_comment(rt: HostRuntime) -> Result<(), Fail
     for line in paper.bytes.as_slice().split(|b| *b == b'\n') {
         if line.starts_with(b"# time=1764370000&revision=") {
             comments = u32::saturating_add(comments, 1);
-        } else if !line.is_empty() {
+        } else if !line.is_empty() && !line.starts_with(b"# ended&revision=") {
             lines.extend_from_slice(line)?;
             lines.push(b'\n')?;
         }

@@ -3,10 +3,12 @@ use Rattle.std.specs.Prelude.{◌≡◌, ◌⊎◌, ℕ, List, [], ◌∷◌, �
 use Rattle.pid_file.specs.WholeLines.{ended_pieces, open_part, whole_lines}
 use Rattle.pid_moderation.specs.History.{History}
 use Rattle.pid_script.specs.Replies.{history_after}
+use Rattle.pid_service_laws.specs.Registries.{Showing}
 use Rattle.pid_service_laws.specs.declared.moderated.Moderated.{Ghosts}
 use Rattle.pid_journal.specs.declared.file.JournalFile as files
 use Rattle.pid_journal.specs.declared.open_fault.OpenFault.{OpenFault}
-use Rattle.pid_journal.specs.Journals.{JournalLeads}
+use Rattle.pid_journal.specs.Comments.{counts_held}
+use Rattle.pid_journal.specs.Journals.{IsMark, JournalLeads}
 use Rattle.pid_journal.specs.Openings.{IsRefused}
 
 -- so many bytes of the text are whole lines
@@ -18,17 +20,24 @@ pub record IsWholeUpTo (text : List ℕ) (count : ℕ) : Type 0 where
   pub whole : open_part front ≡ []
   pub torn : ended_pieces behind ≡ []
 
--- of the text of a file its whole lines are left, and maybe a mark
+-- of the text of a file its whole lines are left
 abbrev pub EndsFile : {J X : Type 0} → files.Ghosts J → J → J → List ℕ → ℕ → Result X OpenFault
     → Type 0
 EndsFile file j k text count result = MatchResult result (λ x. file.safe j ≡ Some text
-    → (up_to : IsWholeUpTo text count) → (file.safe k ≡ Some up_to.front)
-    ⊎ (file.safe k ≡ Some (up_to.front ++ 10 ∷ []))) IsRefused
+    → (up_to : IsWholeUpTo text count) → file.safe k ≡ Some up_to.front) IsRefused
 
--- the same of so many bytes as are whole lines
-abbrev pub IsEnded : List ℕ → (old now : Option (List ℕ)) → Type 0
-IsEnded text old now = old ≡ Some text → (count : ℕ) × (up_to : IsWholeUpTo text count)
-    × ((now ≡ Some up_to.front) ⊎ (now ≡ Some (up_to.front ++ 10 ∷ [])))
+-- the same of so many bytes as are whole lines, and maybe a mark
+abbrev pub IsEnded : History → List ℕ → (old now : Option (List ℕ)) → Type 0
+IsEnded h text old now = old ≡ Some text → (count : ℕ) × (up_to : IsWholeUpTo text count)
+    × ((now ≡ Some up_to.front)
+    ⊎ ((mark : List ℕ) × IsMark mark (counts_held h) × (now ≡ Some (up_to.front ++ mark))))
+
+-- the lines at the end of the text were obeyed
+abbrev pub ObeysRest : {R : Type 0} → Showing R → (old new : R) → (safe now : Option (List ℕ))
+    → (text rest : List ℕ) → Type 0
+ObeysRest w old new safe now text rest = w.is_clean new → (h : History) → w.shows old h
+    → w.shows new (history_after h (whole_lines rest))
+    × IsEnded (history_after h (whole_lines rest)) text safe now
 
 -- the registry shows the history of all lines, and these are what is left of the text
 pub record ShowsAll {R J : Type 0} (registry : Ghosts R) (file : files.Ghosts J) (start : History)

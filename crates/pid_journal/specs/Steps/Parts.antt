@@ -2,12 +2,15 @@
 use Rattle.std.specs.Prelude.{◌≡◌, ◌⊎◌, ℕ, Bool, true, false, List, [], ◌∷◌, ◌++◌, length, Option, Some}
 use Rattle.pid_moderation.specs.History.{History}
 use Rattle.pid_service_laws.specs.Registries.{Showing}
+use Rattle.pid_journal.specs.declared.counts.Counts.{Counts}
 use Rattle.pid_journal.specs.declared.file.JournalFile as files
 use Rattle.pid_journal.specs.declared.journaled.Journaled.{Journaled}
 use Rattle.pid_service_laws.specs.declared.moderated.Moderated.{Ghosts}
 use Rattle.pid_moderation.specs.declared.refusal.Refusal.{Refusal}
 use Rattle.pid_moderation.specs.declared.refusal.Refusal.TheVariants.{Failed}
+use Rattle.pid_journal.specs.Comments.{counts_held}
 use Rattle.pid_journal.specs.Files.{LeavesPart}
+use Rattle.pid_journal.specs.Journals.{IsMark}
 use Rattle.pid_journal.specs.Pairs.{PairShows}
 
 -- A registry was asked whether it is live.
@@ -20,14 +23,16 @@ pub record IsProbed {R : Type 0} (w : Showing R) (is_live : R → Bool) (old new
   pub off : is_live old ≡ false → (live ≡ false) × (new ≡ old)
 
 -- of so many bytes nothing was cut off
-abbrev pub GrowsAfter : (old now : Option (List ℕ)) → ℕ → Type 0
-GrowsAfter old now count = (front behind : List ℕ) → old ≡ Some (front ++ behind)
-    → length front ≡ count → (more : List ℕ) × (now ≡ Some (front ++ more))
+abbrev pub CutsAfter : (old now : Option (List ℕ)) → ℕ → Type 0
+CutsAfter old now count = (front behind : List ℕ) → old ≡ Some (front ++ behind)
+    → length front ≡ count → LeavesPart now front behind
 
--- an LF was written to the end, or is left out
-abbrev pub MayBeMarked : (old now : Option (List ℕ)) → Type 0
-MayBeMarked old now = (text : List ℕ) → old ≡ Some text
-    → (now ≡ Some text) ⊎ (now ≡ Some (text ++ 10 ∷ []))
+-- a mark was written to the end, which says what the registry holds, or none
+abbrev pub MayBeMarked : {R : Type 0} → Showing R → (old new : R) → (safe now : Option (List ℕ)) → Type 0
+MayBeMarked w old new safe now = (text : List ℕ) → safe ≡ Some text
+    → (now ≡ Some text) ⊎ ((mark : List ℕ) × (counts : Counts) × IsMark mark counts
+    × (now ≡ Some (text ++ mark))
+    × (w.is_clean new → (h : History) → w.shows old h → counts ≡ counts_held h))
 
 -- no mark is in an entry, nor after an LF that comes before it
 pub record IsUnmarked (entry : List ℕ) : Type 0 where

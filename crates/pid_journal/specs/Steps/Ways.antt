@@ -1,16 +1,8 @@
 -- The way along which the lines of a text lead.
-use Rattle.std.specs.Prelude.{◌≡◌, ◌⊎◌, ℕ, Bool, List, [], ◌++◌}
-use Rattle.pid_moderation.specs.History.{Asked, History}
-use Rattle.pid_moderation.specs.Judgement.{after}
+use Rattle.std.specs.Prelude.{◌≡◌, ℕ, Bool, List, ◌++◌}
+use Rattle.pid_moderation.specs.History.{History}
 use Rattle.pid_script.specs.Replies.{history_after}
-use Rattle.pid_journal.specs.Comments.{counts_held}
-use Rattle.pid_journal.specs.Journals.{AreTrue, IsEntry}
-
--- The text is an entry whose command leads from the one history to the other. Or there is none: then
--- they are the same.
-abbrev pub EntryLeads : List ℕ → (h next : History) → Type 0
-EntryLeads text h next = ((c : Asked) × IsEntry text (counts_held h) c × (next ≡ after h c))
-    ⊎ ((text ≡ []) × (next ≡ h))
+use Rattle.pid_journal.specs.Journals.{AreTrue}
 
 -- The history is one on the way along which the lines lead: the one after some of the first ones.
 pub record IsOnWay (start : History) (noted : Bool) (lines : List (List ℕ)) (h : History) : Type 0 where

@@ -1,13 +1,14 @@
-use Rattle.pid_journal.proofs.Resuming.{ends_refused, ends_text, whole_up_to}
+use Rattle.pid_journal.proofs.Resuming.{ends_text, whole_up_to}
 use Rattle.pid_journal.proofs.catching_up.obey_rest.Goals as goal
 
-pub end_file-requires-clause-whole : goal.end_file-requires-clause-whole
-end_file-requires-clause-whole g c = whole_up_to c.args.text.now c.args.rest.now c.in-Ok.torn.now c.requires.end c.in-Ok.ensures.ended
+pub cut_torn-requires-clause-whole : goal.cut_torn-requires-clause-whole
+cut_torn-requires-clause-whole g c = whole_up_to c.args.text.now c.args.rest.now c.in-Ok.torn.now c.requires.end c.in-Ok.ensures.ended
 
-pub returns-clause-ended : goal.returns-clause-ended
-returns-clause-ended g c =
-    ends_text g.J.JournalFile c.end_file.result (g.J.JournalFile.safe c.args.journal.now) c.follow.new.journal c.end_file.new.journal c.args.text.now _
-    (whole_up_to c.args.text.now c.args.rest.now c.in-Ok.torn.now c.requires.end c.in-Ok.ensures.ended) c.follow.ensures.same c.end_file.ensures
-
-pub returns-clause-fault : goal.returns-clause-fault
-returns-clause-fault g c = ends_refused c.end_file.result _ c.end_file.ensures
+pub returns-clause-obeyed : goal.returns-clause-obeyed
+returns-clause-obeyed g c clean h shown =
+    let now = c.mark_last.ensures.honest clean in
+    let all = c.in-Ok.ensures.obeyed now h shown in (
+      c.mark_last.ensures.kept clean _ all,
+      ends_text g.R.Moderated.showing c.follow.new.registry c.mark_last.new.registry _ (g.J.JournalFile.safe c.args.journal.now) (g.J.JournalFile.safe c.follow.new.journal) (g.J.JournalFile.safe c.cut_torn.new.journal) (g.J.JournalFile.safe c.mark_last.new.journal) c.args.text.now _
+          (whole_up_to c.args.text.now c.args.rest.now c.in-Ok.torn.now c.requires.end c.in-Ok.ensures.ended) c.follow.ensures.same c.in-Ok-cut_torn.ensures c.mark_last.ensures.marked clean all,
+    )

@@ -1,4 +1,5 @@
-use Rattle.std.proofs.Common.{refl}
+use Rattle.std.proofs.Common.{[], ◌∷◌, ◌++◌, refl}
+use Rattle.pid_journal.proofs.Comparing.{by_clean}
 use Rattle.pid_journal.proofs.Resuming.{untouched}
 use Rattle.pid_journal.proofs.opening.open_journal.Goals as goal
 
@@ -20,3 +21,9 @@ returns-in-Err-clause-resumed g c start names belongs clean = c.in-Err.ensures.f
 
 pub returns-in-Err-clause-others : goal.returns-in-Err-clause-others
 returns-in-Err-clause-others g c = untouched c.in-Err.fault c.in-Err.ensures.stays
+
+pub returns-in-Ok-clause-compared : goal.returns-in-Ok-clause-compared
+returns-in-Ok-clause-compared g c front name known h shown begun = by_clean _ _ (λ clean. c.in-Ok.ensures.compared (front ++ name ∷ []) known clean front name refl known h shown begun)
+
+pub returns-in-Err-clause-compared : goal.returns-in-Err-clause-compared
+returns-in-Err-clause-compared g c front name known h shown begun = by_clean _ _ (λ clean. c.in-Err.ensures.compared (front ++ name ∷ []) known clean front name refl known h shown begun)

@@ -1,4 +1,6 @@
 use Rattle.std.proofs.Common.{◌≡◌, true}
+use Rattle.pid_journal.specs.Steps.Comparing.{Fits}
+use Rattle.pid_journal.proofs.Comparing.{fault_all, last_all, none_all, refused_all}
 use Rattle.pid_journal.proofs.InTurn.{err_between, err_last, none_follows, ok_last, turns}
 use Rattle.pid_journal.proofs.segments.follow_all.Goals as goal
 
@@ -13,13 +15,13 @@ returns-in-Err-clause-followed g c =
 pub loop-next-preserved-then-moved : goal.loop-next-preserved-then-moved
 loop-next-preserved-then-moved g c =
     turns g.R.Moderated.showing g.F.JournalFolder c.args.registry.now c.loop-next.registry c.pass_segment.new.registry c.args.folder.now c.loop-next.folder c.pass_segment.new.folder c.args.begins.now c.loop-next.begin c.in-Some-first_of.next c.loop-next.rest.now c.in-Some-first_of.others.now c.loop-next.moved c.in-Ok.obeyed c.loop-next.moved
-    c.loop-next.invariant c.in-Some-first_of.ensures c.pass_segment.ensures.same c.pass_segment.ensures.honest c.in-Ok.ensures.stays.1 (λ off. let on : c.loop-next.moved ≡ true = c.if-moved.true in absurd (let no : ⊥ = cc in no))
+    c.loop-next.invariant c.in-Some-first_of.ensures c.pass_segment.ensures.same c.pass_segment.ensures.honest c.in-Ok.ensures.stays.1 (λ off. let on : c.loop-next.moved ≡ true = c.if-moved.true in absurd (let no : ⊥ = cc in no)) (λ off none. off) c.in-Ok.ensures.late
     (λ clean all known h marked shows. c.in-Ok.ensures.passed clean all c.in-Some-first_of.others.now known h marked shows)
 
 pub loop-next-preserved : goal.loop-next-preserved
 loop-next-preserved g c =
     turns g.R.Moderated.showing g.F.JournalFolder c.args.registry.now c.loop-next.registry c.pass_segment.new.registry c.args.folder.now c.loop-next.folder c.pass_segment.new.folder c.args.begins.now c.loop-next.begin c.in-Some-first_of.next c.loop-next.rest.now c.in-Some-first_of.others.now c.loop-next.moved c.in-Ok.obeyed c.in-Ok.obeyed
-    c.loop-next.invariant c.in-Some-first_of.ensures c.pass_segment.ensures.same c.pass_segment.ensures.honest c.in-Ok.ensures.stays.1 (λ off. (c.if-moved.false, off))
+    c.loop-next.invariant c.in-Some-first_of.ensures c.pass_segment.ensures.same c.pass_segment.ensures.honest c.in-Ok.ensures.stays.1 (λ off. (c.if-moved.false, off)) (λ off none. none) c.in-Ok.ensures.late
     (λ clean all known h marked shows. c.in-Ok.ensures.passed clean all c.in-Some-first_of.others.now known h marked shows)
 
 pub returns-in-Ok-follow_segment-clause-followed : goal.returns-in-Ok-follow_segment-clause-followed
@@ -31,3 +33,26 @@ pub returns-in-Err-follow_segment-clause-followed : goal.returns-in-Err-follow_s
 returns-in-Err-follow_segment-clause-followed g c =
     err_last g.R.Moderated g.F.Segment.JournalFile g.F.JournalFolder c.args.registry.now c.loop-next.registry c.follow_segment.new.registry c.args.folder.now c.loop-next.folder c.args.begins.now c.loop-next.begin c.loop-next.rest.now c.loop-next.moved c.in-Err-follow_segment.fault c.fault_after-in-Err-follow_segment.result
     c.loop-next.invariant c.in_default-first_of.ensures c.follow_segment.ensures.honest c.in-Err-follow_segment.ensures.followed c.fault_after-in-Err-follow_segment.ensures.refused
+
+-- WHAT IS COMPARED
+
+pub returns-in_default-clause-compared : goal.returns-in_default-clause-compared
+returns-in_default-clause-compared g c = none_all g.R.Moderated.showing g.F.JournalFolder c.args.registry.now c.args.folder.now c.args.begins.now Fits c.in_default.ensures
+
+pub returns-in-Err-clause-compared : goal.returns-in-Err-clause-compared
+returns-in-Err-clause-compared g c =
+    let turn = c.loop-next.invariant in
+    refused_all g.R.Moderated.showing g.F.JournalFolder c.args.registry.now c.loop-next.registry c.pass_segment.new.registry c.args.folder.now c.args.begins.now turn.at.0 c.loop-next.begin c.in-Some-first_of.next c.loop-next.rest.now c.in-Some-first_of.others.now c.loop-next.moved c.in-Err.fault c.fault_after.result turn.at.1
+    c.in-Some-first_of.ensures c.pass_segment.ensures.honest turn.past c.in-Err.ensures.late c.fault_after.ensures.refused
+
+pub returns-in-Ok-follow_segment-clause-compared : goal.returns-in-Ok-follow_segment-clause-compared
+returns-in-Ok-follow_segment-clause-compared g c =
+    let turn = c.loop-next.invariant in
+    last_all g.R.Moderated.showing g.F.JournalFolder c.args.registry.now c.loop-next.registry c.follow_segment.new.registry c.args.folder.now c.loop-next.folder c.args.begins.now turn.at.0 c.loop-next.begin c.loop-next.rest.now Fits turn.at.1 c.in_default-first_of.ensures turn.same c.follow_segment.ensures.honest
+    (λ clean h shown begun. (turn.past clean h shown begun).1) c.in-Ok-follow_segment.ensures.compared
+
+pub returns-in-Err-follow_segment-clause-compared : goal.returns-in-Err-follow_segment-clause-compared
+returns-in-Err-follow_segment-clause-compared g c =
+    let turn = c.loop-next.invariant in
+    fault_all g.R.Moderated.showing g.F.JournalFolder c.args.registry.now c.loop-next.registry c.follow_segment.new.registry c.args.folder.now c.loop-next.folder c.args.begins.now turn.at.0 c.loop-next.begin c.loop-next.rest.now c.loop-next.moved c.in-Err-follow_segment.fault c.fault_after-in-Err-follow_segment.result turn.at.1
+    c.in_default-first_of.ensures turn.same c.follow_segment.ensures.honest turn.past c.fault_after-in-Err-follow_segment.ensures.same c.in-Err-follow_segment.ensures.compared

@@ -1,4 +1,5 @@
-use Rattle.std.proofs.Common.{false, true}
+use Rattle.std.proofs.Common.{false, true, refl}
+use Rattle.pid_journal.proofs.Comparing.{not_late}
 use Rattle.pid_journal.proofs.InTurn.{fault_passes, follow_passes, skip_passes}
 use Rattle.pid_journal.proofs.segments.pass_segment.Goals as goal
 
@@ -15,3 +16,13 @@ pub returns-in-Err-follow_segment-clause-passed : goal.returns-in-Err-follow_seg
 returns-in-Err-follow_segment-clause-passed g c =
     fault_passes g.R.Moderated g.F.Segment.JournalFile g.F.JournalFolder c.args.registry.now c.revision_of.new.registry c.follow_segment.new.registry c.args.folder.now c.args.begin c.args.next c.in-Ok.revision c.in-Err-follow_segment.fault c.fault_between.result
     c.follow_segment.ensures.honest c.in-Ok.ensures.kept c.in-Ok.ensures.told c.if-next-revision.false c.in-Err-follow_segment.ensures.followed c.fault_between.ensures.refused
+
+-- a registry that has come to the next one
+pub returns-then-next-revision-clause-late : goal.returns-then-next-revision-clause-late
+returns-then-next-revision-clause-late g c clean h shown late = (refl, c.in-Ok.ensures.kept clean h shown)
+
+pub returns-in-Ok-follow_segment-clause-late : goal.returns-in-Ok-follow_segment-clause-late
+returns-in-Ok-follow_segment-clause-late g c clean h shown late = absurd (not_late g.R.Moderated.showing c.args.registry.now c.revision_of.new.registry c.in-Ok.revision c.args.next h c.in-Ok.ensures.told (c.follow_segment.ensures.honest clean) shown late c.if-next-revision.false)
+
+pub returns-in-Err-follow_segment-clause-late : goal.returns-in-Err-follow_segment-clause-late
+returns-in-Err-follow_segment-clause-late g c clean h shown late = absurd (not_late g.R.Moderated.showing c.args.registry.now c.revision_of.new.registry c.in-Ok.revision c.args.next h c.in-Ok.ensures.told (c.follow_segment.ensures.honest clean) shown late c.if-next-revision.false)

@@ -1,9 +1,12 @@
-use Rattle.std.proofs.Common.{inl, inr, Result, Err, ap, sym, subst, ◌∙◌}
+use Rattle.std.proofs.Common.{inl, inr, ℕ, List, Result, Err, ap, sym, subst, ◌∙◌}
 use Rattle.pid_moderation.specs.declared.lists.Status.{Status}
 use Rattle.pid_moderation.specs.declared.refusal.Refusal.{Refusal}
 use Rattle.pid_moderation.specs.declared.refusal.Refusal.TheVariants.{Failed}
 use Rattle.pid_moderation.specs.Files.{asks, reading_of}
 use Rattle.pid_moderation.specs.Views.{views_of}
+use Rattle.pid_moderation.specs.RegistryStatus.{registry_status_of}
+use Rattle.pid_journal.specs.Comments.{counts_in}
+use Rattle.pid_journal.specs.Journals.{IsEntry}
 use Rattle.pid_journal.specs.Pairs.{PairShows}
 use Rattle.pid_journal.specs.Steps.Living.{registry_off}
 use Rattle.pid_journal.proofs.Forms.{broken_stays, tells_any}
@@ -69,3 +72,10 @@ returns-then-branch-clause-obeyed g c clean start h shows =
 
 pub obey_noted-requires : goal.obey_noted-requires
 obey_noted-requires g c = subst IsUnmarked (sym c.as_bytes.ensures.value) (unmarked _ _ _ c.in_ok-entry.ensures.reads_back)
+
+-- WHAT COMES TO THE JOURNAL
+
+pub returns-clause-added : goal.returns-clause-added
+returns-clause-added g c =
+    let counts = counts_in (registry_status_of c.in_ok-status.status) in
+    c.obey_noted.ensures.added counts (subst (λ (l : List ℕ). IsEntry l counts (asks c.args.command)) (sym c.as_bytes.ensures.value) c.in_ok-entry.ensures.reads_back)

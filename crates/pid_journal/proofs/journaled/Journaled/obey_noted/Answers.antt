@@ -1,9 +1,10 @@
-use Rattle.std.proofs.Common.{inl, inr, [], refl, sym, subst, append-nil}
+use Rattle.std.proofs.Common.{inl, inr, [], Err, refl, sym, subst, append-nil}
+use Rattle.pid_moderation.specs.declared.refusal.Refusal.TheVariants.{Store}
 use Rattle.pid_moderation.specs.Files.{asks}
 use Rattle.pid_moderation.specs.Judgement.{after}
 use Rattle.pid_moderation.specs.Views.{views_of}
 use Rattle.pid_journal.specs.Steps.Parts.{IsCutBack}
-use Rattle.pid_journal.proofs.Marks.{appended_part, grown, grown_back, grown_marked, left_within, marked_or_not}
+use Rattle.pid_journal.proofs.Marks.{added, added_back, added_marked, appended_part, err_of, left_within}
 use Rattle.pid_journal.proofs.Noted.{counted, done, fallen, judged, shows_same, taken_back}
 use Rattle.pid_journal.proofs.Pairing.{not_both}
 use Rattle.pid_journal.proofs.journaled.Journaled.obey_noted.Goals as goal
@@ -25,11 +26,18 @@ returns-in-Err-clause-obeyed g c clean start h shows is =
     )
 
 -- the command was judged
+pub returns-then-not-is_fault-clause-honest : goal.returns-then-not-is_fault-clause-honest
+returns-then-not-is_fault-clause-honest g c clean = c.obey-answer.ensures.honest (c.mark_end.ensures.honest clean)
+
 pub returns-then-not-is_fault-clause-obeyed : goal.returns-then-not-is_fault-clause-obeyed
 returns-then-not-is_fault-clause-obeyed g c clean start h shows is =
-    let new = record c.args.self.now { registry = c.obey-answer.new.self; journal = c.mark.new.self } in
-    elim (c.obey-answer.ensures.obeys clean h shows.shown) [
-      | inl told ↦ inl (told.0, judged g.R.Moderated g.J.JournalFile start h new shows.text c.args.entry.now (asks c.args.command) (g.J.JournalFile.safe c.append.new.self) shows.leads is told.1 (c.in-Ok.ensures.appended shows.text shows.safe) (marked_or_not _ _ c.mark.ensures) shows.settled)
+    let new = record c.args.self.now { registry = c.mark_end.new.registry; journal = c.mark_end.new.journal } in
+    elim (c.obey-answer.ensures.obeys (c.mark_end.ensures.honest clean) h shows.shown) [
+      | inl told ↦ inl (
+        told.0,
+        judged g.R.Moderated g.J.JournalFile start h c.obey-answer.new.self new shows.text c.args.entry.now (asks c.args.command) (g.J.JournalFile.safe c.append.new.self) shows.leads is clean told.1 c.mark_end.ensures.kept
+            (c.in-Ok.ensures.appended shows.text shows.safe) c.mark_end.ensures.marked shows.settled,
+      )
       | inr fault ↦ absurd (c.is_fault.ensures.no c.if-not-is_fault.true fault.0)
     ]
 
@@ -82,24 +90,22 @@ pub take_back-requires-in-Err : goal.take_back-requires-in-Err
 take_back-requires-in-Err g c =
     left_within (g.J.JournalFile.safe c.args.self.now.journal) (g.J.JournalFile.safe c.append.new.self) c.args.entry.now c.count-count.result c.requires c.count-count.ensures c.in-Err.ensures.unknown c.in-Err.ensures.appended
 
-pub returns-then-not-is_fault-clause-kept : goal.returns-then-not-is_fault-clause-kept
-returns-then-not-is_fault-clause-kept g c =
+pub returns-then-not-is_fault-clause-added : goal.returns-then-not-is_fault-clause-added
+returns-then-not-is_fault-clause-added g c counts is =
+    added_marked g.R.Moderated.showing c.obey-answer.new.self c.mark_end.new.registry (g.J.JournalFile.safe c.args.self.now.journal) (g.J.JournalFile.safe c.append.new.self) (g.J.JournalFile.safe c.mark_end.new.journal) c.args.entry.now counts (asks c.args.command) c.obey-answer.result is
+    c.in-Ok.ensures.appended c.mark_end.ensures.marked
+
+pub returns-then-not-is_answering-clause-added : goal.returns-then-not-is_answering-clause-added
+returns-then-not-is_answering-clause-added g c counts is = added (g.J.JournalFile.safe c.args.self.now.journal) (g.J.JournalFile.safe c.append.new.self) c.args.entry.now counts (asks c.args.command) c.obey-answer.result is c.in-Ok.ensures.appended
+
+pub returns-else-not-is_answering-clause-added : goal.returns-else-not-is_answering-clause-added
+returns-else-not-is_answering-clause-added g c counts is =
     let old = g.J.JournalFile.safe c.args.self.now.journal in
     let mid = g.J.JournalFile.safe c.append.new.self in
-    grown_marked old mid (g.J.JournalFile.safe c.mark.new.self) (grown old mid c.args.entry.now (appended_part old mid c.args.entry.now c.in-Ok.ensures.appended)) (marked_or_not _ _ c.mark.ensures)
+    added_back old mid (g.J.JournalFile.safe c.take_back.new.self.journal) c.args.entry.now c.count-count.result counts (asks c.args.command) c.obey-answer.result is (err_of c.obey-answer.result (c.is_fault.ensures.yes c.if-not-is_fault.false)) c.count-count.ensures
+    (appended_part old mid c.args.entry.now c.in-Ok.ensures.appended) c.take_back.ensures.kept
 
-pub returns-then-not-is_answering-clause-kept : goal.returns-then-not-is_answering-clause-kept
-returns-then-not-is_answering-clause-kept g c =
-    let old = g.J.JournalFile.safe c.args.self.now.journal in
-    let mid = g.J.JournalFile.safe c.append.new.self in
-    grown old mid c.args.entry.now (appended_part old mid c.args.entry.now c.in-Ok.ensures.appended)
-
-pub returns-else-not-is_answering-clause-kept : goal.returns-else-not-is_answering-clause-kept
-returns-else-not-is_answering-clause-kept g c =
-    let old = g.J.JournalFile.safe c.args.self.now.journal in
-    let mid = g.J.JournalFile.safe c.append.new.self in
-    grown_back old mid (g.J.JournalFile.safe c.take_back.new.self.journal) c.args.entry.now c.count-count.result c.count-count.ensures (appended_part old mid c.args.entry.now c.in-Ok.ensures.appended) c.take_back.ensures.kept
-
-pub returns-in-Err-clause-kept : goal.returns-in-Err-clause-kept
-returns-in-Err-clause-kept g c =
-    grown_back (g.J.JournalFile.safe c.args.self.now.journal) (g.J.JournalFile.safe c.append.new.self) (g.J.JournalFile.safe c.take_back-in-Err.new.self.journal) c.args.entry.now c.count-count.result c.count-count.ensures c.in-Err.ensures.appended c.take_back-in-Err.ensures.kept
+pub returns-in-Err-clause-added : goal.returns-in-Err-clause-added
+returns-in-Err-clause-added g c counts is =
+    added_back (g.J.JournalFile.safe c.args.self.now.journal) (g.J.JournalFile.safe c.append.new.self) (g.J.JournalFile.safe c.take_back-in-Err.new.self.journal) c.args.entry.now c.count-count.result counts (asks c.args.command) (Err Store) is refl c.count-count.ensures c.in-Err.ensures.appended
+    c.take_back-in-Err.ensures.kept

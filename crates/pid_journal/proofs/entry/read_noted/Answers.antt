@@ -1,16 +1,14 @@
--- The first two lines of an entry.
+-- The first two lines of a text.
 use Rattle.std.proofs.Common.{◌≡◌, ◌≤◌, ℕ, List, [], true, Option, Some, length, sym, ap, subst, ◌∙◌}
 use Rattle.std.specs.Prelude.{◌==◌}
 use Rattle.std.proofs.Common.{arith}
 use Rattle.std.proofs.lemmas.Bool.Decides.{nat_tests}
 use Rattle.std.proofs.lemmas.List.{nil_from_length}
-use Rattle.pid_moderation.specs.Files.{asks}
-use Rattle.pid_script.specs.Replies.{command_of}
-use Rattle.pid_script.specs.ScriptLines.{ask_of}
 use Rattle.pid_journal.specs.declared.counts.Counts.{Counts}
 use Rattle.pid_journal.specs.Comments.{counts_said}
+use Rattle.pid_journal.specs.Journals.{IsNote}
 use Rattle.pid_journal.proofs.Reading.{reads}
-use Rattle.pid_journal.proofs.entry.read_entry.Goals as goal
+use Rattle.pid_journal.proofs.entry.read_noted.Goals as goal
 
 empty_is : (l : List ℕ) → true ≡ (length l == 0) → l ≡ []
 empty_is l e = nil_from_length l (grind (arith, nat_tests, e))
@@ -22,7 +20,7 @@ of_line line short k found same says is = ap counts_said (sym same) ∙ sym says
 pub returns : goal.returns
 returns c =
     let none : c.in-Some-split_line.behind.now ≡ [] = empty_is c.in-Some-split_line.behind.now (sym c.if-not-is_empty.false ∙ c.is_empty.ensures) in
-    reads c.args.entry.now c.in-Some.comment.now c.in-Some.rest.now c.in-Some-split_line.line.now c.in-Some-split_line.behind.now c.in-Some-2.counts (asks c.in_ok-command.command) c.in-Some.ensures.parts.0 c.in-Some.ensures.parts.1 c.in-Some-split_line.ensures.parts.0 c.in-Some-split_line.ensures.parts.1 none
+    subst (λ (l : List ℕ). IsNote c.args.text.now c.in-Some-2.counts l) (sym c.without_cr.ensures)
+    (reads c.args.text.now c.in-Some.comment.now c.in-Some.rest.now c.in-Some-split_line.line.now c.in-Some-split_line.behind.now c.in-Some-2.counts c.in-Some.ensures.parts.0 c.in-Some.ensures.parts.1 c.in-Some-split_line.ensures.parts.0 c.in-Some-split_line.ensures.parts.1 none
     (of_line _ _ c.in-Some-2.counts _ c.without_cr-short.ensures c.in_ok-counts.ensures c.in-Some-2.is)
-    (subst (λ (l : List ℕ). length l ≤ 1000) c.without_cr-short.ensures c.if-short-gt-LONGEST_COMMENT.false)
-    (ap (λ (l : List ℕ). command_of (ask_of l)) (sym c.without_cr.ensures) ∙ c.in_ok-command.ensures.said)
+    (subst (λ (l : List ℕ). length l ≤ 1000) c.without_cr-short.ensures c.if-short-gt-LONGEST_COMMENT.false))

@@ -1,0 +1,26 @@
+//! The mark at the end of a journal.
+ghost use Rattle.pid_service_laws.specs.CallLaws.{StaysClean};
+ghost use Rattle.pid_journal.specs.Steps.Parts.{MayBeMarked};
+ghost use Rattle.pid_journal.specs.Steps.Segments.{KeepsShown};
+
+use crate::entry::mark_of;
+use crate::file::JournalFile;
+use pid_service_laws::Consulted;
+use std::alloc::Global;
+
+/// Marks the last entry of a journal: its command has ended, and this is what the registry holds.
+/// There is no mark if the registry refuses the question, or memory runs out.
+pub fn mark_end<R: Consulted, J: JournalFile>(alloc: Global, registry: &mut R, journal: &mut J)
+    ensures honest { StaysClean R.showing registry.old registry.new }
+    ensures kept { KeepsShown R.showing registry.old registry.new }
+    ensures marked { MayBeMarked R.showing registry.old registry.new (J.safe journal.old)
+        (J.safe journal.new) }
+{
+    let Ok(status) = registry.status() else {
+        return;
+    };
+    let Some(mark) = mark_of(alloc, &status) else {
+        return;
+    };
+    journal.mark(mark.as_bytes());
+}
