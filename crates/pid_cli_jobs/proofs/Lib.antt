@@ -1,3 +1,1 @@
-pub mod Calling
-pub mod Lines
-pub mod Ends
+pub mod Writing

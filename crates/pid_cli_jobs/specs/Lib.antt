@@ -1,7 +1,3 @@
 pub mod Lines
 pub mod Sessions
-pub mod Scripts
-pub mod Imports
-pub mod Serving
-pub mod Lookups
-pub mod Steps
+pub mod Jobs

@@ -22,24 +22,16 @@ use Rattle.pid_cli_jobs.specs.declared.unopened.Unopened.TheVariants as unopened
 
 -- the status after the reply to a command: 0 if it was accepted, 3 if memory, the store or the
 -- registry failed, else 1
-abbrev pub refused_status : Refusal → ℕ
-refused_status refusals.Memory = 3
-refused_status refusals.Store = 3
-refused_status refusals.Failed = 3
-refused_status refusal = 1
-
 abbrev pub reply_status : Result Reply Refusal → ℕ
 reply_status (Ok reply) = 0
-reply_status (Err refusal) = refused_status refusal
+reply_status (Err refusals.Memory) = 3
+reply_status (Err refusals.Store) = 3
+reply_status (Err refusals.Failed) = 3
+reply_status (Err refusal) = 1
 
--- the line of an answer to a look-up, and the status after it
-abbrev pub lookup_line : Answer → List ℕ
-lookup_line (answers.Text text) = codes "text " ++ text ++ codes "\n"
-lookup_line answers.NoAnswer = unanswered_line unanswered.NoAnswer
-
-abbrev pub lookup_status : Answer → ℕ
-lookup_status (answers.Text text) = 0
-lookup_status answers.NoAnswer = 1
+-- a word and a count
+abbrev pub count_line : List ℕ → ℕ → List ℕ
+count_line word count = word ++ decimal count ++ codes "\n"
 
 -- the line of why a registry was not opened; after a newer schema comes its number
 abbrev pub unopened_word : Unopened → List ℕ
@@ -55,10 +47,6 @@ abbrev pub unopened_line : Unopened → List ℕ
 unopened_line (unopened.NewerSchema schema) = unopened_word (unopened.NewerSchema schema)
     ++ decimal schema ++ codes "\n"
 unopened_line why = unopened_word why
-
--- a word and a count
-abbrev pub count_line : List ℕ → ℕ → List ℕ
-count_line word count = word ++ decimal count ++ codes "\n"
 
 -- what became of the output, and of the writer of faults
 pub record Streams : Type 0 where
@@ -82,16 +70,19 @@ PrintsLine (Exited status) w line wanted = (status ≡ wanted) × Appends w.befo
 PrintsLine FileFailed w line wanted = FailsWithin w line
 PrintsLine (Refused refusal) w line wanted = ⊥
 
--- a job that prints the line of a reply, and reports nothing
-abbrev pub PrintsReply : Result Reply Refusal → Streams → JobEnd → Type 0
-PrintsReply reply w end = PrintsLine end w.output (outcome_line reply) (reply_status reply)
-    × IsUnreported w
+-- one that prints no more, and reports nothing; the line of a reply
+abbrev pub PrintsOnly : List ℕ → ℕ → Streams → JobEnd → Type 0
+PrintsOnly line status w end = PrintsLine end w.output line status × IsUnreported w
 
--- a job that prints nothing, reports this line and ends with status 3
-pub record ReportsOnly (line : List ℕ) (w : Streams) (end : JobEnd) : Type 0 where
-  pub silent : IsUnprinted w
-  pub told : TriesLine w.faults line
-  pub ends : end ≡ Exited 3
+abbrev pub PrintsReply : Result Reply Refusal → Streams → JobEnd → Type 0
+PrintsReply reply = PrintsOnly (outcome_line reply) (reply_status reply)
+
+-- a job that reports this line and ends with status 3; one that prints nothing, too
+abbrev pub Reports : List ℕ → WriterUse → JobEnd → Type 0
+Reports line w end = TriesLine w line × (end ≡ Exited 3)
+
+abbrev pub ReportsOnly : List ℕ → Streams → JobEnd → Type 0
+ReportsOnly line w end = IsUnprinted w × Reports line w.faults end
 
 -- out of memory, and why a registry was not opened
 abbrev pub ReportsMemory : Streams → JobEnd → Type 0
@@ -100,15 +91,18 @@ ReportsMemory = ReportsOnly (fault_line Memory)
 abbrev pub ReportsUnopened : Unopened → Streams → JobEnd → Type 0
 ReportsUnopened why = ReportsOnly (unopened_line why)
 
+-- a file failed, which is still to be reported
+abbrev pub FailsSilently : Streams → JobEnd → Type 0
+FailsSilently w end = (end ≡ FileFailed) × IsUnprinted w × IsUnreported w
+
 -- What becomes of the answer to a look-up, or of its refusal: its line, and the status after it.
 -- Out of memory nothing is printed, and that is reported.
 abbrev pub PrintsAnswer : {X : Type 0} → Result Answer (LookupRefusal X) → Streams → JobEnd → Type 0
-PrintsAnswer (Ok answer) w end =
-    PrintsLine end w.output (lookup_line answer) (lookup_status answer) × IsUnreported w
-PrintsAnswer (Err look_ups.BadFlags) w end =
-    PrintsLine end w.output (unanswered_line unanswered.BadFlags) 1 × IsUnreported w
-PrintsAnswer (Err look_ups.Memory) w end = ReportsMemory w end
-PrintsAnswer (Err (look_ups.Names fault)) w end = ReportsMemory w end
+PrintsAnswer (Ok (answers.Text text)) = PrintsOnly (codes "text " ++ text ++ codes "\n") 0
+PrintsAnswer (Ok answers.NoAnswer) = PrintsOnly (unanswered_line unanswered.NoAnswer) 1
+PrintsAnswer (Err look_ups.BadFlags) = PrintsOnly (unanswered_line unanswered.BadFlags) 1
+PrintsAnswer (Err look_ups.Memory) = ReportsMemory
+PrintsAnswer (Err (look_ups.Names fault)) = ReportsMemory
 
 -- the exit status
 abbrev pub exit_status : JobEnd → ℕ

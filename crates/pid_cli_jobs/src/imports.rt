@@ -1,25 +1,17 @@
 //! The import of a pci.ids file into the registry at a path.
-ghost use Rattle.std.specs.Prelude.{◌≡◌, true, IfOk, IsErrOf};
-ghost use Rattle.pid_file.specs.Words.{is_account};
+ghost use Rattle.std.specs.Prelude.{◌≡◌, IfOk, IsErrOf};
 ghost use Rattle.pid_file.specs.Writing.{use_of};
 ghost use Rattle.pid_cli_words.specs.Jobs.{text_given};
-ghost use Rattle.pid_cli_jobs.specs.Imports.{
-  BringsFile,
-  Imports,
-  IsBadSender,
-  IsGoodSender,
-  ReportsImport,
-};
+ghost use Rattle.pid_cli_jobs.specs.Jobs.{BringsFile, Imports, IsBadSender, ReportsImport};
 ghost use Rattle.pid_cli_jobs.specs.Lines.{streams};
 
-use crate::job_end::JobEnd;
+use crate::job_end::{JobEnd, report_memory};
+use crate::lines::{print_reply, report_unopened};
 use crate::registries::Registries;
-use crate::replies::{print_reply, report_unopened};
 use crate::unopened::Unopened;
 use pid_cli_machine::{Databases, Machine};
 use pid_cli_terminal::{Counted, Progress};
 use pid_cli_words::ImportWords;
-use pid_file::{TextEnd, tell_end};
 use pid_ident::{Account, Input, Key, Output, Plain, WordFault};
 use pid_moderation::{Refusal, Reply};
 use pid_service_laws::{Consulted, ImportEnd};
@@ -28,11 +20,8 @@ use std::alloc::Global;
 fn sender_of(alloc: Global, words: &ImportWords<'_>) -> Result<(Account, Option<Key>), WordFault>
     ensures ok { IfOk result (λ s. (s.0 ≡ words.now.account.now)
         × (s.1 ≡ text_given words.now.key)) }
-    ensures good { IfOk result (λ _. IsGoodSender words.now.account.now
-        (text_given words.now.key)) }
     ensures bad { IsErrOf result WordFault.Bad → IsBadSender words.now.account.now
         (text_given words.now.key) }
-    ensures memory { IsErrOf result WordFault.Memory → is_account words.now.account.now ≡ true }
 {
     let account = Account::of(alloc, words.account)?;
     match words.key {
@@ -50,11 +39,7 @@ fn bring_in<D: Databases, G: Registries<D>, I: Input>(
 ) -> Result<Result<Reply, ImportEnd>, Unopened>
     ensures { BringsFile G.Registry.Moderated (G.is_opened registries.old path.now)
         (G.is_unopened registries.old path.now) G.is_closed sender
-        (record {
-          come = I.to_come input.old;
-          left = I.to_come input.new;
-          fault = I.read_fault input.new;
-        }) result }
+        (I.to_come input.old) (I.to_come input.new) (I.read_fault input.new) result }
 {
     match registries.open(databases, path) {
         Ok(registry) => {
@@ -80,7 +65,7 @@ fn report_import<O: Output, F: Output>(
         Ok(Ok(reply)) => print_reply(Ok(reply), output),
         Ok(Err(ImportEnd::Refused(refusal))) => print_reply(Err(refusal), output),
         Ok(Err(ImportEnd::Body)) => JobEnd::FileFailed,
-        Err(why) => JobEnd::Exited(report_unopened(why, faults)),
+        Err(why) => report_unopened(why, faults),
     }
 }
 
@@ -102,7 +87,7 @@ pub fn import<M: Machine, G: Registries<M>, O: Output, F: Output>(
     let sender = match sender_of(machine.alloc(), words) {
         Ok(sender) => sender,
         Err(WordFault::Bad) => return print_reply(Err(Refusal::BadText), output),
-        Err(WordFault::Memory) => return JobEnd::Exited(tell_end(TextEnd::Memory, faults)),
+        Err(WordFault::Memory) => return report_memory(faults),
     };
     let Some(file) = machine.open_text(words.ids) else {
         return JobEnd::FileFailed;

@@ -1,12 +1,12 @@
 //! How a job ends.
 ghost use Rattle.std.specs.Prelude.{◌≡◌};
+ghost use Rattle.pid_file.specs.TextEnds.{fault_line};
 ghost use Rattle.pid_file.specs.Writing.{use_of};
-ghost use Rattle.pid_cli_jobs.specs.Lines.{ReportsLast, exit_status};
+ghost use Rattle.pid_cli_jobs.specs.Lines.{PrintsLine, Reports, ReportsLast, exit_status};
 
-use crate::replies::report_reply;
-use pid_file::tell_failed;
-use pid_ident::Output;
-use pid_moderation::Refusal;
+use pid_file::{FAILED, TextEnd, tell_end, tell_failed};
+use pid_ident::{Output, write_all};
+use pid_moderation::{Refusal, write_reply_line};
 
 /// How a job ends.
 #[derive(Clone, Copy)]
@@ -19,6 +19,23 @@ pub enum JobEnd {
     FileFailed,
 }
 
+/// Prints a line, and ends with the status if it goes out whole.
+pub fn print_line<O: Output>(line: &[u8], status: u8, output: &mut O) -> JobEnd
+    ensures { PrintsLine result (use_of O.Output output.old output.new) line.now status }
+{
+    match write_all(output, line) {
+        Ok(()) => JobEnd::Exited(status),
+        Err(_) => JobEnd::FileFailed,
+    }
+}
+
+/// Reports that memory ran out.
+pub fn report_memory<F: Output>(faults: &mut F) -> JobEnd
+    ensures { Reports (fault_line TextEnd.Memory) (use_of F.Output faults.old faults.new) result }
+{
+    JobEnd::Exited(tell_end(TextEnd::Memory, faults))
+}
+
 /// Reports what is still to be reported at an end, and returns the exit status. `is_unread` says
 /// that the reader of the output has gone away.
 pub fn report_end<F: Output>(end: JobEnd, is_unread: bool, faults: &mut F) -> u8
@@ -27,7 +44,10 @@ pub fn report_end<F: Output>(end: JobEnd, is_unread: bool, faults: &mut F) -> u8
 {
     match end {
         JobEnd::Exited(status) => status,
-        JobEnd::Refused(refusal) => report_reply(Err(refusal), faults),
+        JobEnd::Refused(refusal) => {
+            let _ = write_reply_line(faults, Err(refusal));
+            FAILED
+        }
         JobEnd::FileFailed => tell_failed(is_unread, faults),
     }
 }

@@ -4,18 +4,18 @@
 
 mod imports;
 mod job_end;
+mod lines;
 mod lookups;
 mod registries;
-mod replies;
 mod scripts;
 mod serving;
 mod unopened;
 
 pub use imports::import;
-pub use job_end::{JobEnd, report_end};
+pub use job_end::{JobEnd, print_line, report_end};
+pub use lines::report_unopened;
 pub use lookups::answer_lookup;
 pub use registries::Registries;
-pub use replies::{ends_with, report_unopened};
 pub use scripts::script;
 pub use serving::{Port, serve};
 pub use unopened::Unopened;

@@ -3,32 +3,24 @@ ghost use Rattle.std.specs.Prelude.{◌≡◌, ◌++◌, [], IfOk, OnOk};
 ghost use Rattle.pid_file.specs.Writing.{use_of};
 ghost use Rattle.pid_lookup.specs.Fields.{bytes_of};
 ghost use Rattle.pid_cli_words.specs.Jobs.{text_given};
-ghost use Rattle.pid_cli_jobs.specs.Lines.{streams};
-ghost use Rattle.pid_cli_jobs.specs.Lookups.{
+ghost use Rattle.pid_cli_jobs.specs.Jobs.{
   IsReadFrom,
   LooksUpInFile,
   LooksUpText,
   field_given,
   fields_given,
 };
+ghost use Rattle.pid_cli_jobs.specs.Lines.{streams};
 
-use crate::job_end::JobEnd;
-use crate::replies::{print_answer, print_reply};
+use crate::job_end::{JobEnd, report_memory};
+use crate::lines::{print_answer, print_reply};
 use pid_cli_machine::Machine;
 use pid_cli_words::LookupWords;
-use pid_file::{LARGEST, TextEnd, tell_end, tell_unread};
+use pid_file::{LARGEST, TextEnd, tell_unread};
 use pid_ident::{Input, Output, Plain};
 use pid_lookup::{Args, BadField, args_of, lookup_in};
 use pid_moderation::Refusal;
 use std::alloc::{AllocError, Global};
-
-/// A lookup whose values were checked.
-#[derive(Clone, Copy)]
-pub struct Lookup {
-    pub flags: u32,
-    pub args: Args,
-    pub size: u32,
-}
 
 // Adds a field if its value is given.
 fn push_given(
@@ -69,25 +61,22 @@ fn push_fields(
     Ok(())
 }
 
-// Checks the values of the arguments and returns the lookup that they ask for.
+// Checks the values of the arguments and returns the flags, the arguments and the size that they say.
 fn read_words(
     alloc: Global,
     words: &LookupWords<'_>,
-) -> Result<Result<Lookup, BadField>, AllocError>
-    ensures { IfOk result (λ read. IsReadFrom (fields_given words.now) read) }
+) -> Result<Result<(u32, Args, u32), BadField>, AllocError>
+    ensures { IfOk result (IsReadFrom (fields_given words.now)) }
 {
     let mut fields = Vec::new(alloc);
     push_fields(alloc, &mut fields, words)?;
-    match args_of(&fields) {
-        Ok((flags, args, size)) => Ok(Ok(Lookup { flags, args, size })),
-        Err(bad) => Ok(Err(bad)),
-    }
+    Ok(args_of(&fields))
 }
 
 // Answers a lookup in the text of the input, or reports the fault of the text.
 fn look_up<I: Input, O: Output, F: Output>(
     alloc: Global,
-    lookup: &Lookup,
+    lookup: &(u32, Args, u32),
     input: &mut I,
     output: &mut O,
     faults: &mut F,
@@ -95,7 +84,7 @@ fn look_up<I: Input, O: Output, F: Output>(
     ensures { LooksUpText lookup.now (I.to_come input.old) (streams
         (use_of O.Output output.old output.new) (use_of F.Output faults.old faults.new)) result }
 {
-    let Lookup { flags, args, size } = *lookup;
+    let (flags, args, size) = *lookup;
     match lookup_in(alloc, LARGEST, input, flags, &args, size) {
         Ok(found) => print_answer(found, output, faults),
         Err(end) => match tell_unread(end, faults) {
@@ -120,7 +109,7 @@ pub fn answer_lookup<M: Machine, O: Output, F: Output>(
     let lookup = match read_words(alloc, words) {
         Ok(Ok(lookup)) => lookup,
         Ok(Err(_)) => return print_reply(Err(Refusal::BadText), output),
-        Err(_) => return JobEnd::Exited(tell_end(TextEnd::Memory, faults)),
+        Err(_) => return report_memory(faults),
     };
     match machine.open_text(words.ids) {
         Some(file) => look_up(alloc, &lookup, &mut Plain::new(file), output, faults),

@@ -1,14 +1,13 @@
 //! Scripts on the registry at a path.
-ghost use Rattle.std.specs.Prelude.{◌≡◌};
 ghost use Rattle.pid_file.specs.Writing.{use_of};
 ghost use Rattle.pid_http_stream.specs.Listener.Streams.{use_of_reader};
+ghost use Rattle.pid_cli_jobs.specs.Jobs.{EndsScript, RunsLines};
 ghost use Rattle.pid_cli_jobs.specs.Lines.{streams};
-ghost use Rattle.pid_cli_jobs.specs.Scripts.{RunsLines, end_of_script};
 ghost use Rattle.pid_cli_jobs.specs.Sessions.{Works};
 
 use crate::job_end::JobEnd;
+use crate::lines::report_unopened;
 use crate::registries::Registries;
-use crate::replies::report_unopened;
 use pid_cli_machine::Databases;
 use pid_ident::{Incoming, Output};
 use pid_script::{ScriptEnd, run_script};
@@ -18,7 +17,7 @@ const TURNS: u64 = 10_000_000;
 
 // A fault of the reader or the writer is still to be reported.
 fn end_of(script: ScriptEnd) -> JobEnd
-    ensures { result ≡ end_of_script script }
+    ensures { EndsScript script result }
 {
     match script {
         ScriptEnd::ReadFault | ScriptEnd::WriteFault => JobEnd::FileFailed,
@@ -49,6 +48,6 @@ pub fn script<D: Databases, G: Registries<D>, I: Incoming<O>, O: Output, F: Outp
             registries.close(databases, registry);
             end_of(end)
         }
-        Err(why) => JobEnd::Exited(report_unopened(why, faults)),
+        Err(why) => report_unopened(why, faults),
     }
 }

@@ -1,15 +1,15 @@
 //! Serving a registry over HTTP to clients on this machine.
 ghost use Rattle.std.specs.Prelude.{◌≡◌};
-ghost use Rattle.pid_file.specs.Writing.{TriesLine, use_of};
-ghost use Rattle.pid_cli_jobs.specs.Lines.{streams};
-ghost use Rattle.pid_cli_jobs.specs.Serving.{GivesTo, Offers, ReportsServing, Serves, socket_line};
+ghost use Rattle.pid_file.specs.Writing.{use_of};
+ghost use Rattle.pid_cli_jobs.specs.Jobs.{Offers, ReportsServing, Serves, socket_line};
+ghost use Rattle.pid_cli_jobs.specs.Lines.{Reports, streams};
 ghost use Rattle.pid_cli_jobs.specs.Sessions.{IsPartOfSession, Works};
 
-use crate::job_end::JobEnd;
+use crate::job_end::{JobEnd, report_memory};
+use crate::lines::{report_unopened, write_count};
 use crate::registries::Registries;
-use crate::replies::{report_unopened, write_count};
 use pid_cli_machine::{Databases, Machine};
-use pid_file::{FAILED, TextEnd, tell_end};
+use pid_file::FAILED;
 use pid_http::{Routes, serve_with};
 use pid_http_stream::Served;
 use pid_http_stream::listener::{Serving, ServingEnd, StreamServer};
@@ -38,7 +38,7 @@ impl<D: Databases, G: Registries<D>> StreamServer for Server<'_, '_, '_, D, G> {
     ghost use Rattle.pid_http.specs.Known.{LivesOn};
     ghost use Rattle.pid_http.specs.Steps.Going.{lives_further, lives_still};
     ghost use Rattle.pid_http.specs.Steps.Handling.{same_on};
-    ghost use Rattle.pid_cli_jobs.specs.Serving.{AnswersStream};
+    ghost use Rattle.pid_cli_jobs.specs.Jobs.{AnswersStream};
 
     ghost live = { λ server. G.Registry.is_live server.registry.now };
 
@@ -70,8 +70,7 @@ impl<D: Databases, G: Registries<D>> StreamServer for Server<'_, '_, '_, D, G> {
 }
 
 fn report_socket<F: Output>(faults: &mut F) -> JobEnd
-    ensures ends { result ≡ JobEnd.Exited FAILED }
-    ensures told { TriesLine (use_of F.Output faults.old faults.new) socket_line }
+    ensures { Reports socket_line (use_of F.Output faults.old faults.new) result }
 {
     let _ = write_all(faults, b"socket: failed\n");
     JobEnd::Exited(FAILED)
@@ -101,8 +100,8 @@ fn give_streams<M: Machine, T: StreamServer, O: Output, F: Output>(
     faults: &mut F,
 ) -> JobEnd
     ensures goes { T.goes server.old server.new }
-    ensures gives { GivesTo T.live port (streams (use_of O.Output output.old output.new)
-        (use_of F.Output faults.old faults.new)) result server.old server.new }
+    ensures offers { Offers port (T.live server.old, T.live server.new) (streams
+        (use_of O.Output output.old output.new) (use_of F.Output faults.old faults.new)) result }
 {
     let number = u64::from(port.number);
     match write_count("listening on 127.0.0.1:", number, output) {
@@ -124,15 +123,16 @@ fn serve_registry<M: Machine, G: Registries<M>, O: Output, F: Output>(
     faults: &mut F,
 ) -> JobEnd
     ensures goes { IsPartOfSession G.Registry.Moderated registry.old registry.new }
-    ensures offers { Offers G.Registry.Moderated port (streams (use_of O.Output output.old output.new)
-        (use_of F.Output faults.old faults.new)) result registry.old registry.new }
+    ensures offers { Serves G.Registry.Moderated port (streams
+        (use_of O.Output output.old output.new) (use_of F.Output faults.old faults.new)) result
+        registry.old registry.new }
 {
     let alloc = machine.alloc();
     let Some(listener) = machine.listen(port.number) else {
         return report_socket(faults);
     };
     let Ok(routes) = Routes::new(alloc) else {
-        return JobEnd::Exited(tell_end(TextEnd::Memory, faults));
+        return report_memory(faults);
     };
     let mut server = Server {
         alloc,
@@ -170,6 +170,6 @@ pub fn serve<M: Machine, G: Registries<M>, O: Output, F: Output>(
             registries.close(machine, registry);
             end
         }
-        Err(why) => JobEnd::Exited(report_unopened(why, faults)),
+        Err(why) => report_unopened(why, faults),
     }
 }

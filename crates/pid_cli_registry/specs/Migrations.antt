@@ -1,15 +1,14 @@
 -- What a migration does, prints and reports. Choices of this project.
-use Rattle.std.specs.Prelude.{◌≡◌, true, false, ℕ, List, codes, Result, Ok, Err}
+use Rattle.std.specs.Prelude.{◌≡◌, false, ℕ, List, codes, Result, Ok, Err}
 use Rattle.sqlite.specs.Held.{Held, IsNew}
 use Rattle.sqlite_trees.specs.declared.store.Store.{Ghosts}
 use Rattle.pid_service.specs.Opening.{MovesAtOnce, MovesJudged, MovesShown, MovesTo}
 use Rattle.pid_tables.specs.declared.migration.Step.{Step}
 use Rattle.pid_tables.specs.declared.migration.Step.TheVariants.{Created, Moved, Already}
 use Rattle.pid_tables.specs.declared.rows.fault.TableFault.{TableFault}
-use Rattle.pid_tables.specs.declared.rows.fault.TableFault.TheVariants.{Store}
 use Rattle.pid_cli_machine.specs.declared.unconnected.Unconnected.{Unconnected as Fault}
 use Rattle.pid_cli_jobs.specs.declared.job_end.JobEnd.{JobEnd}
-use Rattle.pid_cli_jobs.specs.Lines.{IsUnreported, PrintsLine, ReportsUnopened, Streams}
+use Rattle.pid_cli_jobs.specs.Lines.{PrintsOnly, ReportsUnopened, Streams}
 use Rattle.pid_cli_registry.specs.Openings.{reason_of_tables, reason_unconnected}
 
 -- the line of what a migration did
@@ -19,31 +18,21 @@ step_line Moved = codes "moved to schema 2\n"
 step_line Already = codes "schema 2 already\n"
 
 module _ {S : Type 0} (store : Ghosts S) where
-  -- each clause of `migrate`
+  -- what `migrate` answers and leaves of a new connection, whatever is in the file
   pub record IsMigration (conn : Held S) (result : Result (Held S × Step) (TableFault × Held S))
       : Type 0 where
     pub history : MovesTo store conn result
-    pub busy : conn.in_transaction ≡ true → result ≡ Err (Store, conn)
     pub at_once : conn.in_transaction ≡ false → MovesAtOnce store conn result
     pub shown : conn.in_transaction ≡ false → MovesShown store conn result
     pub judged : conn.in_transaction ≡ false → MovesJudged store conn result
 
 module _ {S : Type 0} (store : Ghosts S) (IsAt IsClosed : Held S → Type 0) where
-  -- the tables of a new connection to this place were migrated, and it was closed
-  pub record IsMigrated (w : Streams) (end : JobEnd) : Type 0 where
-    pub conn : Held S
-    pub at : IsAt conn
-    pub fresh : IsNew conn
-    pub moved : Held S
-    pub step : Step
-    pub moves : IsMigration store conn (Ok (moved, step))
-    pub prints : PrintsLine end w.output (step_line step) 0
-    pub silent : IsUnreported w
-    pub closes : IsClosed moved
-
-  -- or it is reported why not
+  -- The tables of a new connection to this place were migrated, and it was closed; or it is reported
+  -- why not.
   pub data Migrates (w : Streams) (end : JobEnd) : Type 0 where
-    Migrated : IsMigrated w end → Migrates w end
+    Migrated : (conn moved : Held S) (step : Step) → IsAt conn → IsNew conn
+        → IsMigration store conn (Ok (moved, step)) → PrintsOnly (step_line step) 0 w end
+        → IsClosed moved → Migrates w end
     Unconnected : (fault : Fault) → ReportsUnopened (reason_unconnected fault) w end
         → Migrates w end
     Unmoved : (conn left : Held S) (fault : TableFault) → IsAt conn → IsNew conn

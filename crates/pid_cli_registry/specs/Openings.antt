@@ -1,5 +1,5 @@
 -- The registry at a place: opened on a new connection, and closed. Choices of this project.
-use Rattle.std.specs.Prelude.{◌≡◌, true, false, IsTrue, Result, Ok, Err}
+use Rattle.std.specs.Prelude.{◌≡◌, false, IsTrue, Result, Ok, Err}
 use Rattle.sqlite.specs.Held.{Held, IsNew}
 use Rattle.sqlite_trees.specs.declared.store.Store.{Ghosts}
 use Rattle.pid_service.specs.declared.registry.Registry.{Registry}
@@ -31,11 +31,10 @@ reason_of_tables tables.Damaged = Damaged
 reason_of_tables (tables.NewerSchema schema) = NewerSchema schema
 
 module _ {S : Type 0} (store : Ghosts S) where
-  -- what `open` answers and leaves, whatever is in the file: each of its clauses
+  -- what `open` answers and leaves of a new connection, whatever is in the file
   pub record IsOpening (conn : Held S) (result : Result (Registry S store)
       (TableFault × Held S)) : Type 0 where
     pub history : OpensTo store conn result
-    pub busy : conn.in_transaction ≡ true → result ≡ Err (tables.Store, conn)
     pub registry : conn.in_transaction ≡ false → OpensRegistry store conn result
     pub at_once : conn.in_transaction ≡ false
         → OpensAtOnce store conn (connection_left store result) (opening_end store result)

@@ -1,41 +1,11 @@
 //! The registry at a path, with nothing in front of it.
-ghost use Rattle.std.specs.Prelude.{IfErr, IfOk, IsTrue};
-ghost use Rattle.pid_service.specs.Registries.{connection, is_live};
-ghost use Rattle.pid_cli_registry.specs.Openings.{IsOpenedAt, IsUnopened};
-
 use crate::unopened::{of_connection, of_tables};
 use pid_cli_jobs::{Registries, Unopened};
 use pid_cli_machine::Databases;
 use pid_service::{Registry, open};
 
-/// Opens or creates the registry at a path. A connection on which `open` finds none is dropped as
+/// Registries with nothing in front of them. A connection on which `open` finds none is dropped as
 /// it is: to close it would copy its log into a file that was refused.
-pub fn open_at<D: Databases>(databases: &mut D, path: &str) -> Result<Registry<D::Kept>, Unopened>
-    ensures opened { IfOk result (IsOpenedAt D.Kept.Store (D.is_at path.now)) }
-    ensures unopened { IfErr result (IsUnopened D.Kept.Store (D.is_at path.now)) }
-{
-    match databases.open(path) {
-        Ok(conn) => match open(databases.alloc(), conn) {
-            Ok(registry) => Ok(registry),
-            Err((fault, refused)) => {
-                drop(refused);
-                Err(of_tables(fault))
-            }
-        },
-        Err(fault) => Err(of_connection(fault)),
-    }
-}
-
-/// Closes a registry, unless it has failed.
-pub fn close_at<D: Databases>(databases: &mut D, registry: Registry<D::Kept>)
-    ensures { IsTrue (is_live registry) → D.is_closed (connection registry) }
-{
-    if registry.is_live() {
-        databases.close(&mut Some(registry.close()));
-    }
-}
-
-/// Registries with nothing in front of them.
 #[derive(Clone, Copy)]
 pub struct Alone;
 
@@ -53,7 +23,16 @@ impl<D: Databases> Registries<D> for Alone {
     ghost is_closed = { λ registry. IsTrue (is_live registry) → D.is_closed (connection registry) };
 
     fn open(&mut self, databases: &mut D, path: &str) -> Result<Registry<D::Kept>, Unopened> {
-        open_at(databases, path)
+        match databases.open(path) {
+            Ok(conn) => match open(databases.alloc(), conn) {
+                Ok(registry) => Ok(registry),
+                Err((fault, refused)) => {
+                    drop(refused);
+                    Err(of_tables(fault))
+                }
+            },
+            Err(fault) => Err(of_connection(fault)),
+        }
     }
 
     fn is_live(&self, registry: &Registry<D::Kept>) -> bool {
@@ -65,6 +44,8 @@ impl<D: Databases> Registries<D> for Alone {
     }
 
     fn close(&mut self, databases: &mut D, registry: Registry<D::Kept>) {
-        close_at(databases, registry);
+        if registry.is_live() {
+            databases.close(&mut Some(registry.close()));
+        }
     }
 }

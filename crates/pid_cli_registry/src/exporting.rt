@@ -6,8 +6,8 @@ ghost use Rattle.pid_cli_jobs.specs.Lines.{streams};
 ghost use Rattle.pid_cli_registry.specs.Exports.{ExportsThrough, PrintsAll, export_end};
 ghost use Rattle.pid_cli_registry.specs.Openings.{WorksAt};
 
-use crate::alone::{close_at, open_at};
-use pid_cli_jobs::{JobEnd, report_unopened};
+use crate::alone::Alone;
+use pid_cli_jobs::{JobEnd, Registries, report_unopened};
 use pid_cli_machine::Databases;
 use pid_ident::{Output, Plain};
 use pid_service::ExportFault;
@@ -34,14 +34,15 @@ fn print_all<D: Databases, O: Output, F: Output>(
         (streams (use_of O.Output output.old output.new)
         (use_of F.Output faults.old faults.new)) result }
 {
-    match open_at(databases, path) {
+    let mut registries = Alone;
+    match registries.open(databases, path) {
         Ok(registry) => {
             let mut registry = registry;
             let printed = registry.export_rows(output);
-            close_at(databases, registry);
+            registries.close(databases, registry);
             end_of_export(printed)
         }
-        Err(why) => JobEnd::Exited(report_unopened(why, faults)),
+        Err(why) => report_unopened(why, faults),
     }
 }
 

@@ -7,7 +7,6 @@ mod exporting;
 pub mod laws;
 mod migrating;
 mod running;
-mod streams;
 mod unopened;
 
 pub use alone::Alone;

@@ -5,9 +5,9 @@ ghost use Rattle.pid_cli_jobs.specs.Lines.{PrintsLine, streams};
 ghost use Rattle.pid_cli_registry.specs.Migrations.{Migrates, step_line};
 
 use crate::unopened::{of_connection, of_tables};
-use pid_cli_jobs::{JobEnd, ends_with, report_unopened};
+use pid_cli_jobs::{JobEnd, print_line, report_unopened};
 use pid_cli_machine::Databases;
-use pid_ident::{Output, write_all};
+use pid_ident::Output;
 use pid_service::Step;
 
 fn step_text(step: Step) -> &'static str
@@ -24,8 +24,7 @@ fn step_text(step: Step) -> &'static str
 fn print_step<O: Output>(step: Step, output: &mut O) -> JobEnd
     ensures { PrintsLine result (use_of O.Output output.old output.new) (step_line step) 0 }
 {
-    let printed = write_all(output, step_text(step).as_bytes());
-    ends_with(printed, 0)
+    print_line(step_text(step).as_bytes(), 0, output)
 }
 
 /// Moves the tables at a path to the newest schema, or creates them; opens no registry. Prints what
@@ -42,7 +41,7 @@ pub fn migrate<D: Databases, O: Output, F: Output>(
 {
     let conn = match databases.open(path) {
         Ok(conn) => conn,
-        Err(fault) => return JobEnd::Exited(report_unopened(of_connection(fault), faults)),
+        Err(fault) => return report_unopened(of_connection(fault), faults),
     };
     match pid_service::migrate(databases.alloc(), conn) {
         Ok((conn, step)) => {
@@ -52,7 +51,7 @@ pub fn migrate<D: Databases, O: Output, F: Output>(
         }
         Err((fault, refused)) => {
             drop(refused);
-            JobEnd::Exited(report_unopened(of_tables(fault), faults))
+            report_unopened(of_tables(fault), faults)
         }
     }
 }

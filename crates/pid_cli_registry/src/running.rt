@@ -2,14 +2,15 @@
 use crate::alone::Alone;
 use crate::exporting::export;
 use crate::migrating::migrate;
-use crate::streams::Streams;
-use pid_cli_jobs::{JobEnd, Port, Unopened, answer_lookup, import, report_end, script, serve};
+use pid_cli_jobs::{
+    JobEnd, Port, Unopened, answer_lookup, import, report_end, report_unopened, script, serve,
+};
 use pid_cli_journal::{HostFolders, Journaling, Journals, ReportingFolder};
 use pid_cli_machine::{Databases, Host, InMemory, Machine};
 use pid_cli_terminal::{Counted, Progress};
-use pid_cli_words::{ImportWords, Job, LookupWords, job_of, tell_no_job};
+use pid_cli_words::{ImportWords, Job, job_of, tell_no_job};
 use pid_file::{TextEnd, Watched, run_check, run_tidy, tell_end};
-use pid_ident::Plain;
+use pid_ident::{Output, Plain};
 use sqlite_disk::Start;
 use std::io::{BufWriter, IsTerminal, Read, Write};
 
@@ -30,7 +31,7 @@ pub fn run_words<S: Start, I: Read + Drop, O: Write + Drop, F: Write + Drop>(
 ) -> u8 {
     match job_of(rt.alloc(), words) {
         Ok(job) => run_job(rt, &mut Host::new(rt, start), job, input, output, faults),
-        Err(fault) => tell_no_job(&fault, words, output, faults),
+        Err(error) => tell_no_job(&error, words, output, faults),
     }
 }
 
@@ -45,41 +46,43 @@ fn run_job<M: Machine, I: Read + Drop, O: Write + Drop, F: Write + Drop>(
     faults: F,
 ) -> u8 {
     let journals = &mut HostFolders(rt);
-    match job {
-        Job::Tidy => run_tidy(machine.alloc(), input, output, faults).0,
-        Job::Check => run_check(machine.alloc(), input, output, faults).0,
-        Job::Lookup(words) => run_lookup(machine, &words, output, faults),
+    let alloc = machine.alloc();
+    let mut to = Plain::new(Watched::new(output));
+    let mut errors = Plain::new(faults);
+    let end = match job {
+        Job::Tidy => return run_tidy(alloc, input, bare(to), errors.into_inner()).0,
+        Job::Check => return run_check(alloc, input, bare(to), errors.into_inner()).0,
+        Job::Export { db } => return run_export(rt, machine, db, bare(to), &mut errors),
+        Job::Lookup(words) => answer_lookup(machine, &words, &mut to, &mut errors),
         Job::Script { db, journal } => run_script(
-            machine, journals, db, journal, input, output, faults,
+            machine,
+            journals,
+            db,
+            journal,
+            input,
+            &mut to,
+            &mut errors,
         ),
-        Job::Import(words) => run_import(rt, machine, journals, &words, output, faults),
-        Job::Export { db } => run_export(rt, machine, db, output, faults),
+        Job::Import(words) => run_import(rt, machine, journals, &words, &mut to, &mut errors),
         Job::Serve {
             db,
             journal,
-            port,
+            port: number,
             connections,
         } => {
-            let number = port;
             let port = Port {
                 number,
                 connections,
             };
-            run_serve(machine, journals, db, journal, port, output, faults)
+            run_serve(machine, journals, db, journal, port, &mut to, &mut errors)
         }
-        Job::Migrate { db } => run_migrate(machine, db, output, faults),
-    }
+        Job::Migrate { db } => migrate(machine, db, &mut to, &mut errors),
+    };
+    report_end(end, to.into_inner().is_unread(), &mut errors)
 }
 
-fn run_lookup<M: Machine, O: Write + Drop, F: Write + Drop>(
-    machine: &mut M,
-    words: &LookupWords<'_>,
-    output: O,
-    faults: F,
-) -> u8 {
-    let mut to = Streams::of(output, faults);
-    let end = answer_lookup(machine, words, &mut to.output, &mut to.faults);
-    to.report(end)
+fn bare<O: Write + Drop>(output: Plain<Watched<O>>) -> O {
+    output.into_inner().into_inner()
 }
 
 // Opens the folder of the journal, if the arguments name one.
@@ -96,36 +99,37 @@ fn open_folder<J: Journals>(
     }
 }
 
-fn run_script<M: Machine, J: Journals, I: Read + Drop, O: Write + Drop, F: Write + Drop>(
+fn run_script<M: Machine, J: Journals, I: Read + Drop, O: Output, F: Output>(
     machine: &mut M,
     journals: &mut J,
     db: Option<&str>,
     journal: Option<&str>,
     input: I,
-    output: O,
-    faults: F,
-) -> u8 {
-    let mut to = Streams::of(output, faults);
+    output: &mut O,
+    faults: &mut F,
+) -> JobEnd {
     let folder = match open_folder(journals, journal) {
         Ok(folder) => folder,
-        Err(why) => return to.report_unopened(why),
+        Err(why) => return report_unopened(why, faults),
     };
-    let end = match db {
-        Some(db) => script_at(machine, db, folder, input, &mut to),
-        None => script_at(&mut InMemory(machine.alloc()), "", folder, input, &mut to),
-    };
-    to.report(end)
+    match db {
+        Some(db) => script_at(machine, db, folder, input, output, faults),
+        None => {
+            let databases = &mut InMemory(machine.alloc());
+            script_at(databases, "", folder, input, output, faults)
+        }
+    }
 }
 
-fn script_at<D: Databases, J: ReportingFolder + Drop, I: Read + Drop, O: Write + Drop, F: Write>(
+fn script_at<D: Databases, J: ReportingFolder + Drop, I: Read + Drop, O: Output, F: Output>(
     databases: &mut D,
     db: &str,
     folder: Option<J>,
     input: I,
-    to: &mut Streams<O, F>,
+    output: &mut O,
+    faults: &mut F,
 ) -> JobEnd {
     let mut input = Plain::new(input);
-    let (output, faults) = (&mut to.output, &mut to.faults);
     match folder {
         None => script(databases, &mut Alone, db, &mut input, output, faults),
         Some(folder) => {
@@ -135,84 +139,60 @@ fn script_at<D: Databases, J: ReportingFolder + Drop, I: Read + Drop, O: Write +
     }
 }
 
-fn run_import<M: Machine, J: Journals, O: Write + Drop, F: Write + Drop>(
+fn run_import<M: Machine, J: Journals, O: Output, F: Output>(
     rt: &HostRuntime,
     machine: &mut M,
     journals: &mut J,
     words: &ImportWords<'_>,
-    output: O,
-    faults: F,
-) -> u8 {
-    let mut to = Streams::of(output, faults);
-    let folder = match open_folder(journals, words.journal) {
-        Ok(folder) => folder,
-        Err(why) => return to.report_unopened(why),
-    };
+    output: &mut O,
+    faults: &mut F,
+) -> JobEnd {
     let progress = &mut Progress::new(rt, "importing", rt.stderr().is_terminal());
-    let (output, faults) = (&mut to.output, &mut to.faults);
-    let end = match folder {
-        None => import(machine, &mut Alone, progress, words, output, faults),
-        Some(folder) => {
+    match open_folder(journals, words.journal) {
+        Ok(None) => import(machine, &mut Alone, progress, words, output, faults),
+        Ok(Some(folder)) => {
             let mut registries = Journaling::new(Alone, folder);
             import(machine, &mut registries, progress, words, output, faults)
         }
-    };
-    to.report(end)
+        Err(why) => report_unopened(why, faults),
+    }
 }
 
-fn run_export<M: Machine, O: Write + Drop, F: Write + Drop>(
+fn run_export<M: Machine, O: Write + Drop, F: Output>(
     rt: &HostRuntime,
     machine: &mut M,
     db: &str,
     output: O,
-    faults: F,
+    faults: &mut F,
 ) -> u8 {
     let is_told = rt.stderr().is_terminal() && !rt.stdout().is_terminal();
     let mut progress = Progress::new(rt, "exporting", is_told);
-    let mut faults = Plain::new(faults);
     let output = Watched::new(Counted::new(output, &mut progress));
     let Ok(buffer) = BufWriter::with_capacity(machine.alloc(), BUFFER, output) else {
-        return tell_end(TextEnd::Memory, &mut faults);
+        return tell_end(TextEnd::Memory, faults);
     };
-    let (end, output) = export(machine, db, buffer, &mut faults);
+    let (end, output) = export(machine, db, buffer, faults);
     let is_unread = output.is_unread();
     drop(output);
     progress.clear();
-    report_end(end, is_unread, &mut faults)
+    report_end(end, is_unread, faults)
 }
 
-fn run_serve<M: Machine, J: Journals, O: Write + Drop, F: Write + Drop>(
+fn run_serve<M: Machine, J: Journals, O: Output, F: Output>(
     machine: &mut M,
     journals: &mut J,
     db: &str,
     journal: Option<&str>,
     port: Port,
-    output: O,
-    faults: F,
-) -> u8 {
-    let mut to = Streams::of(output, faults);
-    let folder = match open_folder(journals, journal) {
-        Ok(folder) => folder,
-        Err(why) => return to.report_unopened(why),
-    };
-    let (output, faults) = (&mut to.output, &mut to.faults);
-    let end = match folder {
-        None => serve(machine, &mut Alone, db, port, output, faults),
-        Some(folder) => {
+    output: &mut O,
+    faults: &mut F,
+) -> JobEnd {
+    match open_folder(journals, journal) {
+        Ok(None) => serve(machine, &mut Alone, db, port, output, faults),
+        Ok(Some(folder)) => {
             let mut registries = Journaling::new(Alone, folder);
             serve(machine, &mut registries, db, port, output, faults)
         }
-    };
-    to.report(end)
-}
-
-fn run_migrate<M: Machine, O: Write + Drop, F: Write + Drop>(
-    machine: &mut M,
-    db: &str,
-    output: O,
-    faults: F,
-) -> u8 {
-    let mut to = Streams::of(output, faults);
-    let end = migrate(machine, db, &mut to.output, &mut to.faults);
-    to.report(end)
+        Err(why) => report_unopened(why, faults),
+    }
 }

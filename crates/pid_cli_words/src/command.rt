@@ -1,9 +1,10 @@
 //! Commands and their arguments, as tables describe them.
-ghost use Rattle.std.specs.Prelude.{◌≡◌, false, IfOk, map};
+ghost use Rattle.std.specs.Prelude.{◌≡◌, false, IfOk};
+ghost use Rattle.std.specs.List.{fold};
 ghost use Rattle.clap.specs.Words.{app_of, rule_of};
 ghost use Rattle.clap.specs.declared.builder.command.Command.TheViews.{out-Command};
-ghost use Rattle.pid_cli_words.specs.Commands.{option, with_rules, with_subcommands as with_apps};
-ghost use Rattle.pid_cli_words.specs.Steps.Tables.{app_of_subcommand, rule_of_argument};
+ghost use Rattle.pid_cli_words.specs.Commands.{option, rule_of as parameter_rule};
+ghost use Rattle.pid_cli_words.specs.Steps.Tables.{app_of_row, parameter_of, with_argument, with_row};
 
 use clap::{Arg, Command, value_parser};
 use std::alloc::{AllocError, Global};
@@ -22,14 +23,14 @@ pub(crate) enum Argument<'a> {
     Connections,
 }
 
-/// A command below the program's own.
-pub(crate) struct Subcommand<'a> {
-    pub(crate) name: &'a str,
-    /// Where it is not the one that `clap` makes.
-    pub(crate) usage: Option<&'a str>,
-    pub(crate) help: &'a str,
-    pub(crate) arguments: &'a [Argument<'a>],
-}
+/// A command below the program's own: its name; its usage, where that is not the one that `clap`
+/// makes; its help; its arguments.
+pub(crate) struct Row<'a>(
+    pub(crate) &'a str,
+    pub(crate) Option<&'a str>,
+    pub(crate) &'a str,
+    pub(crate) &'a [Argument<'a>],
+);
 
 fn option_of<'a>(alloc: Global, name: &'a str, value: &'a str) -> Arg<'a>
     ensures rule { rule_of result ≡ option name.now }
@@ -39,7 +40,7 @@ fn option_of<'a>(alloc: Global, name: &'a str, value: &'a str) -> Arg<'a>
 }
 
 fn arg_of<'a>(alloc: Global, argument: &Argument<'a>) -> Arg<'a>
-    ensures rule { rule_of result ≡ rule_of_argument argument.now }
+    ensures rule { rule_of result ≡ parameter_rule (parameter_of argument.now) }
     ensures local { result.global ≡ false }
 {
     match *argument {
@@ -62,7 +63,7 @@ fn with_arguments<'a>(
 ) -> Result<Command<'a>, AllocError>
     requires { (out-Command command).has_globals ≡ false }
     ensures app { IfOk result (λ c. app_of c
-        ≡ with_rules (map rule_of_argument arguments.now) (app_of command.entry)) }
+        ≡ fold with_argument (app_of command.entry) arguments.now) }
     ensures local { IfOk result (λ c. (out-Command c).has_globals ≡ false) }
 {
     let mut command = command;
@@ -72,30 +73,30 @@ fn with_arguments<'a>(
     Ok(command)
 }
 
-fn command_of<'a>(alloc: Global, subcommand: &Subcommand<'a>) -> Result<Command<'a>, AllocError>
-    ensures app { IfOk result (λ c. app_of c ≡ app_of_subcommand subcommand.now) }
+fn command_of<'a>(alloc: Global, row: &Row<'a>) -> Result<Command<'a>, AllocError>
+    ensures app { IfOk result (λ c. app_of c ≡ app_of_row row.now) }
     ensures local { IfOk result (λ c. (out-Command c).has_globals ≡ false) }
 {
-    let command = Command::new(alloc, subcommand.name).override_help(subcommand.help);
-    let command = match subcommand.usage {
+    let Row(name, usage, help, arguments) = *row;
+    let command = Command::new(alloc, name).override_help(help);
+    let command = match usage {
         Some(usage) => command.override_usage(usage),
         None => command,
     };
-    with_arguments(alloc, command, subcommand.arguments)
+    with_arguments(alloc, command, arguments)
 }
 
-/// The command with these subcommands too, in this order.
-pub(crate) fn with_subcommands<'a>(
+/// The command with those of the rows below it, in this order.
+pub(crate) fn with_rows<'a>(
     alloc: Global,
     command: Command<'a>,
-    subcommands: &[Subcommand<'a>],
+    rows: &[Row<'a>],
 ) -> Result<Command<'a>, AllocError>
-    ensures { IfOk result (λ c. app_of c
-        ≡ with_apps (map app_of_subcommand subcommands.now) (app_of command.entry)) }
+    ensures { IfOk result (λ c. app_of c ≡ fold with_row (app_of command.entry) rows.now) }
 {
     let mut command = command;
-    for subcommand in subcommands {
-        let Ok(below) = command_of(alloc, subcommand) else {
+    for row in rows {
+        let Ok(below) = command_of(alloc, row) else {
             drop(command);
             return Err(AllocError);
         };

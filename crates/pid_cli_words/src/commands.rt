@@ -1,9 +1,9 @@
 //! The commands of the program. Their help is in `pid_cli_help`.
-ghost use Rattle.std.specs.Prelude.{◌≡◌, IfOk, codes};
-ghost use Rattle.clap.specs.Words.{app_of, new_app};
-ghost use Rattle.pid_cli_words.specs.Commands.{commands as the_commands, with_version};
+ghost use Rattle.std.specs.Prelude.{◌≡◌, IfOk};
+ghost use Rattle.clap.specs.Words.{app_of};
+ghost use Rattle.pid_cli_words.specs.Commands.{commands as the_commands, program as the_program};
 
-use crate::command::{Argument, Subcommand, with_subcommands};
+use crate::command::{Argument, Row, with_rows};
 use clap::Command;
 use pid_cli_help::{
     CHECK, EXPORT, HELP, IMPORT, LOOKUP, MIGRATE, SCRIPT, SERVE, TIDY, USAGE, VERSION,
@@ -14,7 +14,7 @@ const DB: Argument<'static> = Argument::Needed("db", "FILE");
 
 const JOURNAL: Argument<'static> = Argument::Spare("journal", "FOLDER");
 
-const LOOK_UP_ARGUMENTS: [Argument<'static>; 9] = [
+const OF_LOOKUP: [Argument<'static>; 9] = [
     Argument::Needed("ids", "FILE"),
     Argument::Needed("flags", "HEX"),
     Argument::Spare("size", "N"),
@@ -26,7 +26,7 @@ const LOOK_UP_ARGUMENTS: [Argument<'static>; 9] = [
     Argument::Spare("progif", "HEX"),
 ];
 
-const IMPORT_ARGUMENTS: [Argument<'static>; 5] = [
+const OF_IMPORT: [Argument<'static>; 5] = [
     DB,
     JOURNAL,
     Argument::Needed("account", "ACCOUNT"),
@@ -34,60 +34,27 @@ const IMPORT_ARGUMENTS: [Argument<'static>; 5] = [
     Argument::Operand("ids", "IDS"),
 ];
 
-const SUBCOMMANDS: [Subcommand<'static>; 8] = [
-    Subcommand {
-        name: "tidy",
-        usage: Some("pciids tidy < FILE"),
-        help: TIDY,
-        arguments: &[],
-    },
-    Subcommand {
-        name: "check",
-        usage: Some("pciids check < FILE"),
-        help: CHECK,
-        arguments: &[],
-    },
-    Subcommand {
-        name: "lookup",
-        usage: None,
-        help: LOOKUP,
-        arguments: &LOOK_UP_ARGUMENTS,
-    },
-    Subcommand {
-        name: "script",
-        usage: None,
-        help: SCRIPT,
-        arguments: &[Argument::Spare("db", "FILE"), JOURNAL],
-    },
-    Subcommand {
-        name: "import",
-        usage: None,
-        help: IMPORT,
-        arguments: &IMPORT_ARGUMENTS,
-    },
-    Subcommand {
-        name: "export",
-        usage: None,
-        help: EXPORT,
-        arguments: &[DB],
-    },
-    Subcommand {
-        name: "serve",
-        usage: None,
-        help: SERVE,
-        arguments: &[DB, JOURNAL, Argument::Port, Argument::Connections],
-    },
-    Subcommand {
-        name: "migrate",
-        usage: None,
-        help: MIGRATE,
-        arguments: &[DB],
-    },
+const OF_SERVE: [Argument<'static>; 4] = [DB, JOURNAL, Argument::Port, Argument::Connections];
+
+const COMMANDS: [Row<'static>; 8] = [
+    Row("check", Some("pciids check < FILE"), CHECK, &[]),
+    Row("lookup", None, LOOKUP, &OF_LOOKUP),
+    Row(
+        "script",
+        None,
+        SCRIPT,
+        &[Argument::Spare("db", "FILE"), JOURNAL],
+    ),
+    Row("import", None, IMPORT, &OF_IMPORT),
+    Row("export", None, EXPORT, &[DB]),
+    Row("serve", None, SERVE, &OF_SERVE),
+    Row("migrate", None, MIGRATE, &[DB]),
+    Row("tidy", Some("pciids tidy < FILE"), TIDY, &[]),
 ];
 
 // The program's own command, without those below it.
 fn program<'a>(alloc: Global) -> Command<'a>
-    ensures { app_of result ≡ with_version (new_app (codes "pciids")) }
+    ensures { app_of result ≡ the_program }
 {
     Command::new(alloc, "pciids")
         .version(VERSION)
@@ -100,5 +67,5 @@ pub fn commands<'a>(alloc: Global) -> Result<Command<'a>, AllocError>
     ensures { IfOk result (λ c. app_of c ≡ the_commands) }
 {
     let command = program(alloc).bin_name("pciids")?;
-    with_subcommands(alloc, command, &SUBCOMMANDS)
+    with_rows(alloc, command, &COMMANDS)
 }

@@ -1,11 +1,4 @@
-//! What the arguments ask the program to do, and why they name no job.
-ghost use Rattle.std.specs.Prelude.{◌≡◌, ◌≢◌, ◌⊎◌};
-ghost use Rattle.clap.specs.Words.{kind_of};
-ghost use Rattle.clap.specs.declared.error.kind.ErrorKind.TheVariants.{OutOfMemory};
-
-use clap::error::ErrorKind;
-use std::alloc::AllocError;
-use thiserror::Error;
+//! What the arguments ask the program to do.
 
 /// What the program is asked to do. Texts are as they were given. A journal is a folder.
 #[derive(Clone, Copy)]
@@ -57,40 +50,4 @@ pub struct ImportWords<'a> {
     pub account: &'a str,
     pub key: Option<&'a str>,
     pub ids: &'a str,
-}
-
-/// Why the arguments name no job.
-#[derive(Debug, Drop, Error)]
-pub enum WordsFault {
-    /// Out of memory.
-    #[error("no memory")]
-    Memory,
-    /// The arguments are invalid, or ask for help or the version.
-    #[error("{0}")]
-    Words(clap::Error),
-}
-
-impl From<clap::Error> for WordsFault {
-    ghost use Rattle.pid_cli_words.specs.declared.job.WordsFault.{WordsFault};
-
-    ghost from_gives = { λ error fault. ((kind_of error ≡ OutOfMemory)
-        × (fault ≡ WordsFault.Memory)) ⊎ ((kind_of error ≢ OutOfMemory)
-        × (fault ≡ WordsFault.Words error)) };
-
-    fn from(error: clap::Error) -> WordsFault {
-        match error.kind() {
-            ErrorKind::OutOfMemory => WordsFault::Memory,
-            _ => WordsFault::Words(error),
-        }
-    }
-}
-
-impl From<AllocError> for WordsFault {
-    ghost use Rattle.pid_cli_words.specs.declared.job.WordsFault.{WordsFault};
-
-    ghost from_gives = { λ _ fault. fault ≡ WordsFault.Memory };
-
-    fn from(_error: AllocError) -> WordsFault {
-        WordsFault::Memory
-    }
 }

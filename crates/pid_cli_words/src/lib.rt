@@ -4,9 +4,9 @@
 mod command;
 mod commands;
 mod job;
-mod process;
+mod no_job;
 mod words;
 
-pub use job::{ImportWords, Job, LookupWords, WordsFault};
-pub use process::tell_no_job;
+pub use job::{ImportWords, Job, LookupWords};
+pub use no_job::tell_no_job;
 pub use words::job_of;

@@ -1,26 +1,24 @@
 //! The job that the arguments name.
-ghost use Rattle.std.specs.Prelude.{◌≡◌, true, [], IfOk, IfErr, codes, map, string_bytes};
+ghost use Rattle.std.specs.Prelude.{◌≡◌, IfOk, codes, map, string_bytes};
 ghost use Rattle.clap.specs.Walk.{first_of, rows_of};
-ghost use Rattle.clap.specs.Words.{found_of};
+ghost use Rattle.clap.specs.Words.{FailsBy, found_of};
+ghost use Rattle.pid_cli_words.specs.Commands.{of_import, of_lookup};
 ghost use Rattle.pid_cli_words.specs.Jobs.{
-  are_taken,
+  argument_values,
   faults_of,
-  import_named,
-  import_task,
-  lookup_named,
-  lookup_task,
+  import_values,
+  lookup_values,
   needed,
   number_given,
   task_meant,
   task_named,
   task_of,
   text_given,
-  IsFaultOfWords,
 };
 
 use crate::commands::commands;
-use crate::job::{ImportWords, Job, LookupWords, WordsFault};
-use clap::ArgMatches;
+use crate::job::{ImportWords, Job, LookupWords};
+use clap::{ArgMatches, Error};
 use std::alloc::Global;
 
 // The value of a required option.
@@ -37,7 +35,7 @@ fn text<'a>(given: &ArgMatches<'a>, name: &str) -> Option<&'a str>
 }
 
 fn lookup_words<'a>(given: &ArgMatches<'a>) -> LookupWords<'a>
-    ensures { lookup_task result ≡ lookup_named (rows_of (found_of given.now)) }
+    ensures { lookup_values result ≡ argument_values of_lookup (rows_of (found_of given.now)) }
 {
     LookupWords {
         ids: needed_text(given, "ids"),
@@ -53,7 +51,7 @@ fn lookup_words<'a>(given: &ArgMatches<'a>) -> LookupWords<'a>
 }
 
 fn import_words<'a>(given: &ArgMatches<'a>) -> ImportWords<'a>
-    ensures { import_task result ≡ import_named (rows_of (found_of given.now)) }
+    ensures { import_values result ≡ argument_values of_import (rows_of (found_of given.now)) }
 {
     ImportWords {
         db: needed_text(given, "db"),
@@ -105,13 +103,10 @@ fn job_named<'a>(name: &str, given: &ArgMatches<'a>) -> Job<'a>
 }
 
 /// The job that the arguments name. The first of them is the program's name; if it is the only one,
-/// the job is `tidy`.
-pub fn job_of<'a>(alloc: Global, words: &'a [String]) -> Result<Job<'a>, WordsFault>
+/// the job is `tidy`. The error is out of memory, or of a kind that the arguments have.
+pub fn job_of<'a>(alloc: Global, words: &'a [String]) -> Result<Job<'a>, Error>
     ensures job { IfOk result (λ job. task_of job ≡ task_meant (map string_bytes words.now)) }
-    ensures taken { IfOk result (λ _. faults_of (map string_bytes words.now) ≡ []) }
-    ensures refused { IfErr result (λ fault. are_taken (map string_bytes words.now) ≡ true
-        → fault ≡ WordsFault.Memory) }
-    ensures fault { IfErr result (λ fault. IsFaultOfWords fault (map string_bytes words.now)) }
+    ensures fails { FailsBy (faults_of (map string_bytes words.now)) result }
 {
     let matches = commands(alloc)?.try_get_matches_from(words)?;
     match matches.subcommand() {

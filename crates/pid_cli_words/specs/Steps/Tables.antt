@@ -1,22 +1,25 @@
--- What the tables of commands say, in the words of `Commands`.
-use Rattle.std.specs.Prelude.{codes, map}
-use Rattle.clap.specs.Walk.{Rule}
-use Rattle.clap.specs.Words.{App}
-use Rattle.pid_cli_words.specs.Commands.{command, from_one_to, million, operand, option, required}
+-- What the tables of commands in the source say, in the words of `Commands`.
+use Rattle.std.specs.List.{fold}
+use Rattle.clap.specs.Words.{App, new_app, with_subcommand}
+use Rattle.pid_cli_words.specs.Commands.{Connections, Needed, Operand, Parameter, Port, Spare}
+use Rattle.pid_cli_words.specs.Commands.{with_parameter}
 use Rattle.pid_cli_words.specs.declared.command.Argument.{Argument}
 use Rattle.pid_cli_words.specs.declared.command.Argument.TheVariants as arguments
-use Rattle.pid_cli_words.specs.declared.command.Subcommand.{Subcommand}
+use Rattle.pid_cli_words.specs.declared.command.Row.{Row}
 
--- an argument as its entry in a table describes it
-abbrev pub rule_of_argument : Argument → Rule
-rule_of_argument (arguments.Needed name value) = required (option name.now)
-rule_of_argument (arguments.Spare name value) = option name.now
-rule_of_argument (arguments.Operand name value) = required (operand name.now)
-rule_of_argument arguments.Port = required (from_one_to 65535 (option (codes "port")))
-rule_of_argument arguments.Connections =
-    million (from_one_to 1000000 (option (codes "connections")))
+-- an argument, and a subcommand
+abbrev pub parameter_of : Argument → Parameter
+parameter_of (arguments.Needed name value) = Needed name.now
+parameter_of (arguments.Spare name value) = Spare name.now
+parameter_of (arguments.Operand name value) = Operand name.now
+parameter_of arguments.Port = Port
+parameter_of arguments.Connections = Connections
 
--- a subcommand as its entry in a table describes it
-abbrev pub app_of_subcommand : Subcommand → App
-app_of_subcommand subcommand =
-    command subcommand.name.now (map rule_of_argument subcommand.arguments.now)
+abbrev pub with_argument : App → Argument → App
+with_argument app argument = with_parameter app (parameter_of argument)
+
+abbrev pub app_of_row : Row → App
+app_of_row row = fold with_argument (new_app row.0.now) row.3.now
+
+abbrev pub with_row : App → Row → App
+with_row app row = with_subcommand app (app_of_row row).top

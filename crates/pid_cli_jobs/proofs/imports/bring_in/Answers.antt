@@ -9,22 +9,20 @@ pub returns-in-Ok : goal.returns-in-Ok
 returns-in-Ok g c =
     let new = c.import_from-result.new.self in
     let i = c.import_from-result.ensures in
-    let asked = import_of c.args.sender.0 c.args.sender.1 (file_reading i.obeyed.text) in
-    record {
-      opened = c.in-Ok.registry;
-      opens = c.in-Ok.ensures.opened;
-      ended = new;
-      goes = record {
-        calls = import_sent asked c.import_from-result.result (g.G.Registry.Moderated.is_live new) ∷ [];
-        lead = (new, i.obeyed.holds.calls, refl);
-      };
-      does = record {
-        obeyed = i.obeyed;
-        fault = i.reads.fault;
-        fault_first = i.reads.fault_first;
-      };
-      closes = c.close.ensures;
-    }
+    let asked = import_of c.args.sender.0 c.args.sender.1 (file_reading i.obeyed.text) in (
+      (i.reads.fault, i.reads.fault_first),
+      record {
+        opened = c.in-Ok.registry;
+        opens = c.in-Ok.ensures.opened;
+        ended = new;
+        goes = record {
+          calls = import_sent asked c.import_from-result.result (g.G.Registry.Moderated.is_live new) ∷ [];
+          lead = (new, i.obeyed.holds.calls, refl);
+        };
+        does = i.obeyed;
+        closes = c.close.ensures;
+      },
+    )
 
 pub returns-in-Err : goal.returns-in-Err
 returns-in-Err g c = c.in-Err.ensures.unopened

@@ -1,9 +1,9 @@
 use Rattle.std.proofs.Common.{refl, subst}
-use Rattle.pid_cli_jobs.specs.Lookups.{BadFields, InFile, IsReadFrom, fields_given}
+use Rattle.pid_cli_jobs.specs.Jobs.{BadFields, InFile, IsReadFrom, fields_given}
 use Rattle.pid_cli_jobs.proofs.lookups.answer_lookup.Goals as goal
 
 pub returns-in-Ok-Err : goal.returns-in-Ok-Err
-returns-in-Ok-Err g c = BadFields c.in-Ok-Err.field-0-0
+returns-in-Ok-Err g c = BadFields
     (subst (λ r. IsReadFrom (fields_given c.args.words.now) r) c.in-Ok-Err.field-0-is c.in-Ok-Err.ensures)
     (c.print_reply.ensures, refl)
 

@@ -1,8 +1,7 @@
-use Rattle.std.proofs.Common.{ap, refl, ◌∙◌}
+use Rattle.std.proofs.Common.{inl, inr, refl}
 use Rattle.std.proofs.lemmas.Option.{IfSome_then}
 use Rattle.pid_cli_jobs.specs.declared.job_end.JobEnd.TheVariants.{Exited}
-use Rattle.pid_cli_jobs.specs.Lookups.{Answered, Unread}
-use Rattle.pid_cli_jobs.proofs.Ends.{unread_failed, unread_told}
+use Rattle.pid_cli_jobs.specs.Jobs.{Answered, Unread}
 use Rattle.pid_cli_jobs.proofs.lookups.look_up.Goals as goal
 
 pub returns-in-Ok : goal.returns-in-Ok
@@ -13,10 +12,16 @@ pub returns-in-ReadFault : goal.returns-in-ReadFault
 returns-in-ReadFault g c = Unread c.tell_unread.result c.tell_unread.ensures.not_done
     c.tell_unread.ensures.reports
     (IfSome_then (g.I.Input.to_come c.args.input.now) c.in-Err.ensures.answer c.tell_unread.ensures.told) refl
-    (unread_failed c.tell_unread.result c.in-ReadFault.is)
+    (inl (c.in-ReadFault.is, refl))
 
 pub returns-in_default : goal.returns-in_default
 returns-in_default g c = Unread c.tell_unread.result c.tell_unread.ensures.not_done
     c.tell_unread.ensures.reports
     (IfSome_then (g.I.Input.to_come c.args.input.now) c.in-Err.ensures.answer c.tell_unread.ensures.told) refl
-    (ap Exited c.status.ensures ∙ unread_told c.tell_unread.result c.in_default.not-ReadFault c.in_default.not-WriteFault)
+    (inr (
+      λ is. elim is [
+        | inl read ↦ c.in_default.not-ReadFault read
+        | inr write ↦ c.in_default.not-WriteFault write
+      ],
+      λ k. Exited (c.status.ensures k),
+    ))

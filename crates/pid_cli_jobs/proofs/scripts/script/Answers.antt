@@ -1,5 +1,4 @@
-use Rattle.std.proofs.Common.{ap, refl}
-use Rattle.pid_cli_jobs.specs.declared.job_end.JobEnd.TheVariants.{Exited}
+use Rattle.std.proofs.Common.{refl}
 use Rattle.pid_cli_jobs.specs.Sessions.{Session, Unopened}
 use Rattle.pid_cli_jobs.proofs.scripts.script.Goals as goal
 
@@ -24,11 +23,8 @@ returns-in-Ok-clause-works g c = Session (record {
 })
 
 pub returns-in-Err-clause-works : goal.returns-in-Err-clause-works
-returns-in-Err-clause-works g c = Unopened c.in-Err.why c.in-Err.ensures.unopened (record {
-  silent = refl;
-  told = c.report_unopened.ensures.told;
-  ends = ap Exited c.report_unopened.ensures.status;
-})
+returns-in-Err-clause-works g c =
+    Unopened c.in-Err.why c.in-Err.ensures.unopened (refl, c.report_unopened.ensures)
 
 pub returns-in-Err-clause-reads : goal.returns-in-Err-clause-reads
 returns-in-Err-clause-reads g c = g.met.I.Incoming.stays _

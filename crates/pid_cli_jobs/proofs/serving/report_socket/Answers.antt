@@ -1,8 +1,12 @@
+use Rattle.std.proofs.Common.{refl}
 use Rattle.pid_file.specs.Writing.{use_of}
-use Rattle.pid_cli_jobs.specs.Serving.{socket_line}
-use Rattle.pid_cli_jobs.proofs.Lines.{tried}
+use Rattle.pid_cli_jobs.specs.Jobs.{socket_line}
+use Rattle.pid_cli_jobs.proofs.Writing.{tried}
 use Rattle.pid_cli_jobs.proofs.serving.report_socket.Goals as goal
 
-pub returns-clause-told : goal.returns-clause-told
-returns-clause-told g c = tried (use_of g.F.Output c.args.faults.now c.write_all.new.out)
-    socket_line c.write_all.result c.write_all.ensures.sent c.write_all.ensures.fault
+pub returns : goal.returns
+returns g c = (
+  tried (use_of g.F.Output c.args.faults.now c.write_all.new.out) socket_line c.write_all.result
+      c.write_all.ensures.sent c.write_all.ensures.fault,
+  refl,
+)

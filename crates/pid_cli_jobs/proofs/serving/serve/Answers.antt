@@ -1,7 +1,6 @@
 use Rattle.std.specs.Prelude.{◌∷◌}
-use Rattle.std.proofs.Common.{ap, refl}
+use Rattle.std.proofs.Common.{refl}
 use Rattle.pid_service_laws.specs.Calls.{nothing_sent}
-use Rattle.pid_cli_jobs.specs.declared.job_end.JobEnd.TheVariants.{Exited}
 use Rattle.pid_cli_jobs.specs.Sessions.{Session, Unopened}
 use Rattle.pid_cli_jobs.proofs.serving.serve.Goals as goal
 
@@ -14,17 +13,10 @@ returns-in-Ok g c = Session (record {
     calls = nothing_sent ∷ c.serve_registry-end.ensures.goes.calls;
     lead = (c.prepare.new.registry, c.prepare.ensures.calls, c.serve_registry-end.ensures.goes.lead);
   };
-  does = record {
-    prepared = c.prepare.new.registry;
-    prepares = c.prepare.ensures;
-    offers = c.serve_registry-end.ensures.offers;
-  };
+  does = rw c.prepare.ensures.lives at c.serve_registry-end.ensures.offers;
   closes = c.close.ensures;
 })
 
 pub returns-in-Err : goal.returns-in-Err
-returns-in-Err g c = Unopened c.in-Err.why c.in-Err.ensures.unopened (record {
-  silent = refl;
-  told = c.report_unopened.ensures.told;
-  ends = ap Exited c.report_unopened.ensures.status;
-})
+returns-in-Err g c =
+    Unopened c.in-Err.why c.in-Err.ensures.unopened (refl, c.report_unopened.ensures)

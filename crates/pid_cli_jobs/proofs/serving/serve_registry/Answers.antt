@@ -1,40 +1,23 @@
 use Rattle.std.specs.Prelude.{◌≡◌, Bool}
-use Rattle.std.proofs.Common.{ap, refl, rules, subst, sym, ◌∙◌}
-use Rattle.pid_service_laws.specs.declared.moderated.Moderated.{Ghosts}
-use Rattle.pid_cli_jobs.specs.declared.job_end.JobEnd.{JobEnd}
-use Rattle.pid_cli_jobs.specs.declared.job_end.JobEnd.TheVariants.{Exited}
-use Rattle.pid_cli_jobs.specs.declared.serving.Port.{Port}
+use Rattle.std.proofs.Common.{refl, rules, subst}
+use Rattle.pid_cli_jobs.specs.Jobs.{Offers, Unbound, Unrouted}
 use Rattle.pid_cli_jobs.specs.Lines.{Streams}
-use Rattle.pid_cli_jobs.specs.Serving.{Gave, GivesTo, HasServed, Offers, Served, Unbound, Unheard, Unrouted}
+use Rattle.pid_cli_jobs.specs.declared.job_end.JobEnd.{JobEnd}
+use Rattle.pid_cli_jobs.specs.declared.serving.Port.{Port}
 use Rattle.pid_cli_jobs.proofs.serving.serve_registry.Goals as goal
 
--- what was given to a server of a registry is what is served there
-served : {R T : Type 0} (registry : Ghosts R) (held : T → R) (live : T → Bool)
-    (port : Port) (w : Streams) (end : JobEnd) (first last : T) (new : R)
-    → ((a : T) → live a ≡ registry.is_live (held a)) → held last ≡ new
-    → GivesTo live port w end first last → Offers registry port w end (held first) new
-served registry held live port w end first last new alike is (Unheard fails silent ends same) =
-    Served (Unheard fails silent ends (sym is ∙ ap held same))
-served registry held live port w end first last new alike is (Gave given) =
-    subst (λ r. Offers registry port w end (held first) r) is (Served (Gave
-    (subst (λ l. HasServed port l w end) (λ i. (alike first i, alike last i)) given)))
+-- what is said of the registry that a server holds is said of the registry
+handed_back : {R : Type 0} (is_live : R → Bool) (port : Port) (was_live : Bool) (w : Streams) (end : JobEnd) (held new : R)
+    → held ≡ new → Offers port (was_live, is_live held) w end → Offers port (was_live, is_live new) w end
+handed_back is_live port was_live w end held new is offers = subst (λ r. Offers port (was_live, is_live r) w end) is offers
 
 pub returns-in_default-clause-offers : goal.returns-in_default-clause-offers
-returns-in_default-clause-offers g c = Unbound (record {
-  silent = refl;
-  told = c.report_socket.ensures.told;
-  ends = c.report_socket.ensures.ends;
-}) refl
+returns-in_default-clause-offers g c = Unbound (refl, c.report_socket.ensures)
 
 pub returns-in_default-new-clause-offers : goal.returns-in_default-new-clause-offers
-returns-in_default-new-clause-offers g c = Unrouted (record {
-  silent = refl;
-  told = c.tell_end.ensures.told;
-  ends = ap Exited c.tell_end.ensures.status;
-}) refl
+returns-in_default-new-clause-offers g c = Unrouted (refl, c.report_memory.ensures)
 
 pub returns-clause-offers : goal.returns-clause-offers
 returns-clause-offers g c =
     let name = c.give_streams.ensures.goes.0 in
-    served g.G.Registry.Moderated (λ s. s.registry.now) _ c.args.port _ _ _ _ _ (λ a. refl) (search rules)
-    c.give_streams.ensures.gives
+    handed_back g.G.Registry.Moderated.is_live c.args.port _ _ _ _ _ (search rules) c.give_streams.ensures.offers

@@ -1,12 +1,12 @@
-use Rattle.std.proofs.Common.{◌≡◌, true, ap, sym, refl, inl, inr, ◌∙◌, map, string_bytes}
+use Rattle.std.proofs.Common.{◌≡◌, ℕ, true, List, Result, Err, ap, sym, refl, subst, ◌∙◌, map, string_bytes}
 use Rattle.std.proofs.lemmas.Result.{err_from_is_err_and}
 use Rattle.std.specs.Box.{box_value}
-use Rattle.clap.specs.Words.{App, found_of, is_simple, rows_of, subcommand_of, takes, fault_of, is_simple_and_free}
+use Rattle.clap.specs.Words.{App, found_of, is_simple, rows_of, subcommand_of, fault_of, is_simple_and_free, FailsBy, HasKind}
+use Rattle.clap.specs.declared.error.Error.{Error}
 use Rattle.clap.specs.declared.parser.matches.ArgMatches.TheViews.{out-ArgMatches, out-SubCommand}
 use Rattle.pid_cli_words.specs.Commands.{commands}
-use Rattle.pid_cli_words.specs.Jobs.{are_taken, faults_of, task_given}
+use Rattle.pid_cli_words.specs.Jobs.{faults_of, task_given}
 use Rattle.pid_cli_words.proofs.Values.{no_pair, pairs}
-use Rattle.pid_cli_words.proofs.Wording.{fault_of_words}
 use Rattle.pid_cli_words.proofs.words.job_of.Goals as goal
 
 all_simple : is_simple commands ≡ true
@@ -15,24 +15,24 @@ all_simple = refl
 simple : is_simple_and_free commands ≡ true
 simple = refl
 
-pub returns-in_err-matches-clause-refused : goal.returns-in_err-matches-clause-refused
-returns-in_err-matches-clause-refused c =
+as_defined : (words : List (List ℕ)) → fault_of commands words ≡ faults_of words
+as_defined words = unfold faults_of in refl
+
+-- an error that is handed on has the kinds that it had
+handed_on : {T : Type 0} (app : App) (words : List (List ℕ)) (r : Result T Error) (e y : Error) → app ≡ commands → HasKind (fault_of app words) e → r ≡ Err y → y ≡ e → FailsBy (faults_of words) r
+handed_on app words r e y same kinds is moved =
+    rw (is, moved) (subst (λ k. HasKind k e) (ap (λ (a : App). fault_of a words) same ∙ as_defined words) kinds)
+
+pub returns-in_err-matches-clause-fails : goal.returns-in_err-matches-clause-fails
+returns-in_err-matches-clause-fails c =
     let p = err_from_is_err_and c.from_residual-in_err-matches.result c.from_residual-in_err-matches.ensures.1 in
-    rw p.1 (λ taken. elim p.2 [
-      | inl memory ↦ memory.1
-      | inr other ↦ absurd (other.0 (c.in_err-matches.ensures.passes (ap (λ a. takes a (map string_bytes c.args.words.now)) c.in_ok-commands.ensures ∙ unfold are_taken in taken)))
-    ])
+    handed_on _ _ _ _ _ c.in_ok-commands.ensures (c.in_err-matches.ensures.kinds (ap is_simple_and_free c.in_ok-commands.ensures ∙ simple)) p.1 p.2
 
-pub returns-in_err-matches-clause-fault : goal.returns-in_err-matches-clause-fault
-returns-in_err-matches-clause-fault c =
-    let p = err_from_is_err_and c.from_residual-in_err-matches.result c.from_residual-in_err-matches.ensures.1 in
-    rw p.1 (fault_of_words _ _ _ _ c.in_ok-commands.ensures (c.in_err-matches.ensures.kinds (ap is_simple_and_free c.in_ok-commands.ensures ∙ simple)) p.2)
+pub returns-in-Some-clause-fails : goal.returns-in-Some-clause-fails
+returns-in-Some-clause-fails c = unfold faults_of in ap (λ a. fault_of a (map string_bytes c.args.words.now)) (sym c.in_ok-commands.ensures) ∙ c.in_ok-matches.ensures.kinds (ap is_simple_and_free c.in_ok-commands.ensures ∙ simple)
 
-pub returns-in-Some-clause-taken : goal.returns-in-Some-clause-taken
-returns-in-Some-clause-taken c = unfold faults_of in ap (λ a. fault_of a (map string_bytes c.args.words.now)) (sym c.in_ok-commands.ensures) ∙ c.in_ok-matches.ensures.kinds (ap is_simple_and_free c.in_ok-commands.ensures ∙ simple)
-
-pub returns-clause-taken : goal.returns-clause-taken
-returns-clause-taken c = unfold faults_of in ap (λ a. fault_of a (map string_bytes c.args.words.now)) (sym c.in_ok-commands.ensures) ∙ c.in_ok-matches.ensures.kinds (ap is_simple_and_free c.in_ok-commands.ensures ∙ simple)
+pub returns-clause-fails : goal.returns-clause-fails
+returns-clause-fails c = unfold faults_of in ap (λ a. fault_of a (map string_bytes c.args.words.now)) (sym c.in_ok-commands.ensures) ∙ c.in_ok-matches.ensures.kinds (ap is_simple_and_free c.in_ok-commands.ensures ∙ simple)
 
 pub returns-in-Some-clause-job : goal.returns-in-Some-clause-job
 returns-in-Some-clause-job c =

@@ -1,25 +1,23 @@
 //! The lines that jobs print.
 ghost use Rattle.std.specs.Prelude.{◌≡◌, Some, IfErr};
 ghost use Rattle.pid_file.specs.Sending.{Sends};
-ghost use Rattle.pid_file.specs.Writing.{TriesLine, use_of};
+ghost use Rattle.pid_file.specs.Writing.{use_of};
 ghost use Rattle.pid_moderation.specs.ReplyLines.{outcome_line};
 ghost use Rattle.pid_cli_jobs.specs.Lines.{
   PrintsAnswer,
   PrintsLine,
+  Reports,
   count_line,
-  lookup_line,
-  lookup_status,
   reply_status,
   streams,
   unopened_line,
   unopened_word,
 };
-ghost use Rattle.pid_cli_jobs.specs.Steps.Lines.{EndsBy};
 
-use crate::job_end::JobEnd;
+use crate::job_end::{JobEnd, print_line, report_memory};
 use crate::unopened::Unopened;
 use itoa::Buffer;
-use pid_file::{FAILED, TextEnd, tell_end};
+use pid_file::FAILED;
 use pid_ident::{Output, WriteFault, write_all, write_parts};
 use pid_lookup::{Answer, LookupRefusal, Unanswered};
 use pid_moderation::{Refusal, Reply, write_reply_line};
@@ -50,45 +48,6 @@ pub fn print_reply<O: Output>(reply: Result<Reply, Refusal>, output: &mut O) -> 
     }
 }
 
-/// Reports the refusal of a job whose output is not a reply line, which is an export. Returns the
-/// exit status of a failure.
-pub fn report_reply<F: Output>(reply: Result<Reply, Refusal>, faults: &mut F) -> u8
-    ensures status { result ≡ FAILED }
-    ensures told { TriesLine (use_of F.Output faults.old faults.new) (outcome_line reply) }
-{
-    let _ = write_reply_line(faults, reply);
-    FAILED
-}
-
-/// Ends with the status if a line went out whole.
-pub fn ends_with(printed: Result<(), WriteFault>, status: u8) -> JobEnd
-    ensures { EndsBy printed status result }
-{
-    match printed {
-        Ok(()) => JobEnd::Exited(status),
-        Err(_) => JobEnd::FileFailed,
-    }
-}
-
-fn write_answer<O: Output>(answer: &Answer, output: &mut O) -> Result<(), WriteFault>
-    ensures sent { Sends result (O.taken output.old) (O.taken output.new) (lookup_line answer.now) }
-    ensures fault { IfErr result (λ f. O.write_fault output.new ≡ Some f) }
-{
-    match answer {
-        Answer::Text(text) => write_parts(output, &[b"text ", text.as_bytes(), b"\n"]),
-        Answer::NoAnswer => write_all(output, Unanswered::NoAnswer.line().as_bytes()),
-    }
-}
-
-fn status_of_answer(answer: &Answer) -> u8
-    ensures { result ≡ lookup_status answer.now }
-{
-    match answer {
-        Answer::Text(_) => 0,
-        Answer::NoAnswer => REFUSED,
-    }
-}
-
 /// Prints the answer to a lookup, as a script does. The exit status is 0 for a text, else 1; out of
 /// memory is reported to `faults`, with status 3.
 pub fn print_answer<O: Output, F: Output>(
@@ -100,17 +59,17 @@ pub fn print_answer<O: Output, F: Output>(
         (use_of F.Output faults.old faults.new)) result }
 {
     match found {
-        Ok(answer) => {
-            let printed = write_answer(&answer, output);
-            ends_with(printed, status_of_answer(&answer))
+        Ok(Answer::Text(text)) => {
+            match write_parts(output, &[b"text ", text.as_bytes(), b"\n"]) {
+                Ok(()) => JobEnd::Exited(0),
+                Err(_) => JobEnd::FileFailed,
+            }
         }
+        Ok(Answer::NoAnswer) => print_line(Unanswered::NoAnswer.line().as_bytes(), REFUSED, output),
         Err(LookupRefusal::BadFlags) => {
-            let printed = write_all(output, Unanswered::BadFlags.line().as_bytes());
-            ends_with(printed, REFUSED)
+            print_line(Unanswered::BadFlags.line().as_bytes(), REFUSED, output)
         }
-        Err(LookupRefusal::Memory | LookupRefusal::Names(_)) => {
-            JobEnd::Exited(tell_end(TextEnd::Memory, faults))
-        }
+        Err(LookupRefusal::Memory | LookupRefusal::Names(_)) => report_memory(faults),
     }
 }
 
@@ -141,13 +100,12 @@ fn write_unopened<F: Output>(fault: Unopened, faults: &mut F) -> Result<(), Writ
     write_parts(faults, &[reason, schema, b"\n"])
 }
 
-/// Reports why a registry was not opened, and returns the exit status.
-pub fn report_unopened<F: Output>(fault: Unopened, faults: &mut F) -> u8
-    ensures status { result ≡ FAILED }
-    ensures told { TriesLine (use_of F.Output faults.old faults.new) (unopened_line fault) }
+/// Reports why a registry was not opened.
+pub fn report_unopened<F: Output>(fault: Unopened, faults: &mut F) -> JobEnd
+    ensures { Reports (unopened_line fault) (use_of F.Output faults.old faults.new) result }
 {
     let _ = write_unopened(fault, faults);
-    FAILED
+    JobEnd::Exited(FAILED)
 }
 
 /// Prints a word and a count, as a line.

@@ -1,2 +1,0 @@
--- What serves private functions alone; no promise rests on it.
-pub mod Lines
