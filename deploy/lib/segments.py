@@ -13,14 +13,22 @@ import re
 from files import sync_folder, write_file
 
 NAME = re.compile(r"[0-9]{20}\.script(\.gz)?")
-COMMENT = re.compile(
-    rb"# time=([0-9]+)&revision=([0-9]+)&accounts=[0-9]+&items=[0-9]+&submissions=[0-9]+\n")
+COUNTS = rb"revision=([0-9]+)&accounts=[0-9]+&items=[0-9]+&submissions=[0-9]+\n"
+COMMENT = re.compile(rb"# time=([0-9]+)&" + COUNTS)
+# The mark at the end of a text.
+MARK = re.compile(rb"\n# ended&" + COUNTS + rb"\n\Z")
+LONGEST_MARK = 200
 
 
 def names_in(folder):
     """The names of all segments, in their order. Those that are packed end with .gz."""
     found = {it[:20]: it for it in sorted(os.listdir(folder), reverse=True) if NAME.fullmatch(it)}
     return [found[it] for it in sorted(found)]
+
+
+def name_of(revision):
+    """The name of the segment that begins at a revision."""
+    return f"{revision:020}.script"
 
 
 def plain(name):
@@ -40,6 +48,12 @@ def size_of_ended(text, is_last):
     end = b"\n\n" if is_last else b"\n"
     found = text.rfind(end)
     return found + len(end) if found >= 0 else 0
+
+
+def revision_at_end(text):
+    """The revision after the last command of a segment, if it has ended."""
+    found = MARK.search(text[-LONGEST_MARK:])
+    return found and int(found[1])
 
 
 def comments_of(text):

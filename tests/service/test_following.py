@@ -232,6 +232,30 @@ def test_cut(cases, folder):
     cases.equal("last: the line", got, ["1970-01-01T00:16:52Z", "revision=12"])
 
 
+def test_end(cases, folder):
+    """The last segment ends once a command was accepted in it and the last one has ended."""
+    main = Main(os.path.join(folder, "main"))
+
+    def same(name, *want):
+        status = journal("end", main.folder)
+        cases.equal(f"end: {name}", status, (0, "", ""))
+        got = sorted(os.listdir(main.folder))
+        cases.equal(f"end: what is there, {name}", got, [name_of(at) for at in want])
+
+    same("nothing was accepted", 0)
+    main.line()
+    same("one command", 0, 1)
+    same("again", 0, 1)
+    main.begin()
+    main.line()
+    main.line(is_ended=False)
+    same("one is in doubt", 0, 1)
+    main.write(b"# ended&revision=3&accounts=1&items=0&submissions=0\n\n")
+    same("two commands", 0, 1, 3)
+    os.mkdir(os.path.join(folder, "empty"))
+    cases.equal("end: no segment", journal("end", os.path.join(folder, "empty")), (0, "", ""))
+
+
 def test_packed(cases, folder):
     """Segments are packed, and those go that are old and that no copy needs."""
     main, copies = Main(os.path.join(folder, "main")), os.path.join(folder, "copies")

@@ -481,7 +481,8 @@ def answers(cases):
 
 
 def journaled(room):
-    """A journal of two segments on a disk of its own, and a copy from within the first."""
+    """A journal of two segments on a disk of its own, and a copy from within the first. That one
+    was made has ended the second."""
     os.mkdir(os.path.join(room.folder, "disk"))
     main = Main(os.path.join(room.folder, "disk", "segments"))
     for number in range(8):
@@ -505,12 +506,12 @@ def with_journal(cases):
     """With a journal a copy obeys what it lacks, up to a moment: then the later lines leave the
     journal. Where there is none the journal stays."""
     for until, is_on, line, left in (
-        ("", True, b"7", [0, 4]), ("1005", True, b"5", [0, 4]), ("1002", True, b"2", [0]),
-        ("copied", True, None, []), ("", False, None, [0, 4]),
+        ("", True, b"7", [0, 4, 8]), ("1005", True, b"5", [0, 4]), ("1002", True, b"2", [0]),
+        ("copied", True, None, []), ("", False, None, [0, 4, 8]),
     ):
         with room() as it:
             main, newest = journaled(it)
-            cases.equal("journal: what a copy needs", newest, name_of(4) + "\n")
+            cases.equal("journal: what a copy needs", newest, name_of(8) + "\n")
             before, place = texts_in(main.folder), main.folder if is_on else None
             status = it.prepare(it.kept()[0] + (f"+{until}" if until else ""), place)[0]
             got = status, it.now(), texts_in(main.folder)
@@ -551,7 +552,7 @@ def journal_swaps_stopped(cases):
             status = it.restore("settle", it.registry, journal=main.folder)[0]
             outcomes.add((it.now()[1], len(os.listdir(main.folder))))
             cases.equal(f"journal: settled after call {number}", status, 0)
-    cases.equal("journal: both or none", outcomes, {(b"two", 2), (b"2", 1)})
+    cases.equal("journal: both or none", outcomes, {(b"two", 3), (b"2", 1)})
 
 
 def epochs(cases):
