@@ -98,7 +98,9 @@ class Progress(threading.Thread):
         with self.build.changed:
             if self.build.broken and not self.build.running:
                 return
-            proved, before = self.build.proved[self.named :], self.named + 1
+            # The last one is the program, whose end is said by `end`.
+            proved = self.build.proved[self.named : len(self.build.crates) - 1]
+            before = self.named + 1
             lines = [self.line(f"{it} is proved: ", at) for at, it in enumerate(proved, before)]
             lines = lines or [self.line()]
         if self.is_terminal:
