@@ -229,12 +229,12 @@ def test_new_registry_of_a_journal(cases, folder):
     db, journal = journaled(folder, "a", 0)
     words = [program.PROGRAM, "script", "--db", db, "--journal", journal]
     said = f"pciids: {db} was not there: it was made, with the commands of {journal}\n".encode()
-    without(words, b"submit root path=PC/8086&name=Intel\n")
+    without(words, b"import root file=8086++Intel%0A\n")
     for ran, told in ((without, b""), (at_terminal, said)):
         os.remove(db)
         cases.equal("made anew", ran(words), (b"", told, 0))
-        asked = without([program.WHOLE, "script", "--db", db], b"submission num=1\n")
-        cases.equal("it has them", b"8086" in asked[0], True)
+        asked = without([program.WHOLE, "script", "--db", db], b"read path=PC/8086\n")
+        cases.equal("it has them", asked, (b"name Intel\n", b"", 0))
 
 
 def test_gap(cases, folder):

@@ -33,7 +33,7 @@ def minutes_of(process):
 def task_of(process):
     """The crate that a prover works on, and whether for its proof, its tests or an edit; None of
     another process."""
-    with open(f"/proc/{process}/cmdline", encoding="utf-8") as file:
+    with open(f"/proc/{process}/cmdline", encoding="utf-8", errors="replace") as file:
         words = file.read().split("\0")
     if os.path.basename(words[0]) != "rattle" or "--crate-name" not in words:
         return None
