@@ -98,7 +98,7 @@ def published_after_change(room):
     took = (changes_then(room, database, [asked], count) - without) / count
     export = Profile(room.folder, [room.program, "export", "--db", database])
     # All that the job does but opening the registry.
-    walk = export.within("::run_job::") - export.within("::open_at::")
+    walk = export.within("::run_job::") - export.within("::AloneRegistries::open::")
     return Figures(took, walk, "instructions")
 
 
