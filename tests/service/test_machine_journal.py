@@ -31,10 +31,11 @@ def switched_on(story):
     story.cases.equal("machine: before there is a journal", told, "ok 1")
     story.example(HEADING)
     story.is_up("the server with its journal")
-    first = "00000000000000000001.script"
+    first, second = (f"{number:020}.script" for number in (1, 2))
     story.same("a segment", f"cd {SEGMENTS}; ls *.script; ls epoch.* | wc -l", f"{first}\n1")
+    owned = "pciids:pciids-follow"
     story.same("who may read it", f"stat -c '%A %U:%G' {SEGMENTS} {SEGMENTS}/{first}",
-               "drwxr-s--- pciids:pciids-follow\n-rw-r----- pciids:pciids-follow")
+               f"drwxr-s--- {owned}\n-rw-r----- {owned}")
     told = submit(story, "Journaled")
     story.cases.equal("machine: with a journal", told, "ok 2")
     lines = f"grep -c '^submit root .*Journaled' {SEGMENTS}/{first}"
@@ -42,7 +43,9 @@ def switched_on(story):
     story.works("a backup", "systemctl start pciids-backup")
     story.is_up("the server after a backup")
     segment = "cat $(ls -d /var/backups/pciids/2*Z | tail -1)/segment"
-    story.same("the copy says which segment it needs", segment, first)
+    story.same("the copy needs the segment that it began", segment, second)
+    read = f"stat -c '%A %U:%G' {SEGMENTS}/{second}"
+    story.same("who may read that one", read, f"-rw-r----- {owned}")
 
 
 def restored(story):
