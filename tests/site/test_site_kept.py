@@ -4,7 +4,7 @@ import os
 import time
 
 from site_browser import Browser
-from test_site_once import mouse
+from test_site_once import comment_lost, mouse
 from site_world import World
 
 SHIFTS = """
@@ -111,12 +111,7 @@ def asked_in_another_tab(cases, world, browser):
 
 def refused(cases, world, browser):
     """What was refused is a draft again; and a new one may be begun beside one that is owed."""
-    number = world.submit("dora", "PC/8086/a073", "To comment on")
-    browser.go(f"/proposals/{number}")
-    browser.type("#comment", "a comment")
-    world.spoiler.set("gone")
-    browser.click("section form button.main")
-    browser.has("It isn't known yet", "#owed")
+    number = comment_lost(world, browser, "dora", "a073", "a comment")
     world.spoiler.set("pass")
     again(browser)
     browser.has("This was sent", "section form")

@@ -21,6 +21,17 @@ def count(world, digits):
     return len(world.pending(f"PC/8086/{digits}"))
 
 
+def comment_lost(world, browser, author, digits, text):
+    """Sends a remark on a new proposal, whose answer does not come. Returns the number."""
+    number = world.submit(author, f"PC/8086/{digits}", "To comment on")
+    browser.go(f"/proposals/{number}")
+    browser.type("#comment", text)
+    world.spoiler.set("gone")
+    browser.click("section form button.main")
+    browser.has("It isn't known yet", "#owed")
+    return number
+
+
 def lost(cases, world, browser):
     world.spoiler.set("lose", left=3)
     propose(browser, "a001", "Lost three times")
@@ -60,12 +71,7 @@ def reloaded(cases, world, browser):
 
 def restored(cases, world, browser):
     """A command that was meant for a number is not sent to a registry that was restored."""
-    number = world.submit("alice", "PC/8086/a007", "To comment on")
-    browser.go(f"/proposals/{number}")
-    browser.type("#comment", "Meant for this one")
-    world.spoiler.set("gone")
-    browser.click("section form button.main")
-    browser.has("It isn't known yet", "#owed")
+    number = comment_lost(world, browser, "alice", "a007", "Meant for this one")
     browser.go("/help")
     browser.has("no answer came", "#owed")
     world.spoiler.set("pass")

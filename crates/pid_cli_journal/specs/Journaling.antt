@@ -34,7 +34,7 @@ module _ {R F J : Type 0} (registry : Ghosts R) (folder : folders.Ghosts F J) (f
       pub begins : BeginsAfterGap registry folder file alone f (Ok opened)
 
 module _ {R J : Type 0} (registry : Ghosts R) (file : files.Ghosts J) where
-  -- None was opened; or the journal was refused, and the registry was closed as that left it.
+  -- None was opened; or the journal was refused, and a registry was closed: which one is not said.
   pub data IsNotJournaled (IsOpened : R → Type 0) (IsUnopened : Unopened → Type 0)
       (IsClosed : R → Type 0) (why : Unopened) : Type 0 where
     NotEvenAlone : IsUnopened why → IsNotJournaled IsOpened IsUnopened IsClosed why

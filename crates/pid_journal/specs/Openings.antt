@@ -24,8 +24,8 @@ abbrev pub IsRefused : OpenFault → Type 0
 IsRefused (Refused refusal) = Unit {0}
 IsRefused other = ⊥
 
--- Of lines in turn the first counts that are no older than a registry's are compared with those; older
--- ones stand up to the next command, and are compared at the end.
+-- The counts with which those of a registry are compared: the first ones in the lines that are no
+-- older; or the last ones, if no command comes after them.
 abbrev pub compared_on : Counts → (Option Counts → Option Counts) → (said told : Option Counts)
     → Option Counts
 compared_on now rest None told = rest told
