@@ -134,6 +134,10 @@ class History(Sampled):
         self.ask("/children", slow.children(""))
         for number in (chance.randint(1, rows + 1), "0", "01"):
             self.ask(f"/submission/{number}", told(slow.submission, str(number)))
+        for number in (1, chance.randint(1, rows + 1)):
+            after = chance.choice((0, 1, 100, chance.randint(0, MANY)))
+            asked = f"/remarks?num={number}&after={after}"
+            self.ask(asked, told(slow.remarks, str(number), after))
         for after in (0, chance.randint(0, rows)):
             self.ask(f"/pending?after={after}", slow.pending(after))
             self.ask(f"/queue?after={after}", slow.queue(after))

@@ -153,6 +153,10 @@ QUESTIONS = [
     *((f"/submission/{number}", 0) for number in range(1, 8)),
     ("/submission/8", 7),
     ("/submission/x", 3),
+    *((f"/remarks?num={number}", 0) for number in range(1, 8)),
+    ("/remarks?num=6&after=2", 0),
+    ("/remarks?num=6&after=2000000000", 0),
+    ("/remarks?num=8", 7),
     ("/pending", 0),
     ("/pending?after=3", 0),
     ("/changes", 0),
@@ -192,6 +196,15 @@ BAD_QUERIES = [
     "/submissions?author=Alice&path=PC",
     "/submissions?path=PC/8086&path=PC/8086",
     "/status?after=0",
+    "/remarks",
+    "/remarks?num=",
+    "/remarks?num=01",
+    "/remarks?num=2000000001",
+    "/remarks?num=1&num=1",
+    "/remarks?num=1&after=",
+    "/remarks?num=1&after=2000000001",
+    "/remarks?num=1&of=PC/8086",
+    "/remarks?after=1",
 ]
 
 # What these questions are answered, whoever asks.

@@ -141,6 +141,24 @@ def test_children_and_submissions(cases, folder):
         cases.equal("no submission 9", server.curl("/submission/9?format=text"), absent)
 
 
+def test_pages_of_remarks(cases, folder):
+    """A page has a hundred of them, from any place on, and the submission as it stands."""
+    path = os.path.join(folder, "remarks.db")
+    numbers = range(1, 206)
+    obeys(
+        cases, "pages of remarks", path,
+        [("submit root path=PC/8086&name=a", "ok 1"), ("submit root path=PC/8086&name=b", "ok 2"),
+         *((f"comment root num={1 + number % 2}&text={number}", "ok") for number in range(410))],
+    )
+    shown = "num 2;author root;path PC/8086;name b;note ;state pending;decider ;reason ;count 205;"
+    lines = [f"remark {number} root {2 * number - 1}\n" for number in numbers]
+    answers(cases, "pages of remarks", path, {
+        f"/remarks?num=2&format=text&after={after}":
+            shown.replace(";", "\n") + "".join(lines[after:after + 100])
+        for after in (0, 1, 99, 100, 105, 200, 204, 205, 206, 2_000_000_000)
+    })
+
+
 def listed(server, query):
     """The numbers of a page of submissions, and where the next one begins."""
     told = json.loads(server.curl(f"/submissions?{query}")[2])

@@ -2,12 +2,12 @@
 // also has what moderators ask for before they decide.
 
 import { account, maySuffice } from "../account.js";
-import { ask } from "../api.js";
 import { appear, isDead, setDead, deliberateButton } from "../deliberate_button.js";
 import { el, fill, link, several } from "../dom.js";
 import { when } from "../happened.js";
 import { tell } from "../notice.js";
 import { parentOf, rankFor, spoken, wholeNumber, withParents } from "../paths.js";
+import { standing } from "../remarks.js";
 import { compared, shown, spelled } from "../safe_text.js";
 import { faultWords } from "../sending/command.js";
 import { kindOf, stateMark, wishOf } from "../widgets.js";
@@ -261,7 +261,7 @@ export class Card {
   // It was decided elsewhere, or its author withdrew it: how is shown beside what was said.
   async showOutcome() {
     this.setDecided();
-    const { value } = await ask(`/submission/${this.it.num}`, { quiet: true });
+    const { value } = await standing(this.it.num);
     if (!value) return;
     if (hasOwnDecision(value)) fill(this.place, OWN_DECISION);
     (this.place.firstElementChild ?? this.place).append(" ", stateMark(value.state));

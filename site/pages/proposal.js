@@ -3,7 +3,7 @@
 import { account, learnRank, maySuffice } from "../account.js";
 import { ask } from "../api.js";
 import { deliberateButton } from "../deliberate_button.js";
-import { el, fill, link, several } from "../dom.js";
+import { counted, el, fill, link } from "../dom.js";
 import { restoreLink, when } from "../happened.js";
 import { changesOf, datesOf, topOf } from "../history.js";
 import { MOST_TEXT } from "../limits.js";
@@ -11,16 +11,16 @@ import { learnName } from "../names.js";
 import { tell } from "../notice.js";
 import { rankFor, spoken, wholeNumber, withParents } from "../paths.js";
 import { noteReason, readyReasons } from "../reasons.js";
+import { latestRemarks, REMARKS, remarksAfter, standing } from "../remarks.js";
 import { compared, shown } from "../safe_text.js";
 import { carryOut, faultWords } from "../sending/command.js";
 import { draftOf } from "../sending/draft.js";
 import { dropSent, SentForm } from "../sending/form.js";
 import { changedSince, changedWords } from "../stale.js";
 import { chainOf, failed, kindOf, oneParagraph, stateMark, title, wishOf } from "../widgets.js";
-import { RANKS, refusalWords, STATES } from "../words.js";
+import { answerWords, RANKS, refusalWords, STATES } from "../words.js";
 import { textFault } from "./proposing.js";
 
-const MOST_REMARKS = 200;
 /** The refusals of what isn't as it was shown: a proposal that is decided, a name that changed. */
 export const DECIDED = 8;
 export const CHANGED = 30;
@@ -29,7 +29,7 @@ const NEEDS_ACCOUNT = "Decisions are made under an account.";
 /** The page of a proposal. */
 export default async function proposal({ number, again }) {
   const [answer, dates] = await Promise.all([
-    ask(`/submission/${number}`), datesOf([Number(number)]), learnRank()]);
+    latestRemarks(number), datesOf([Number(number)]), learnRank()]);
   if (!answer.value) return failed(answer, again);
   const it = answer.value;
   const chain = withParents(it.path);
@@ -87,18 +87,35 @@ function unsent(it) {
   return el("p", { class: "aside" }, "The reason that you wrote wasn't sent: ", shown(reason));
 }
 
-// Anybody with an account may comment, as often as they like: the page bears any number.
+// Anybody with an account may comment, as often as they like: the page begins with the latest, and
+// gets earlier ones when somebody asks.
 function remarks(it) {
-  if (it.remarks.length === 0) return el("p", { class: "none" }, "None yet.");
-  const latest = it.remarks.slice(-MOST_REMARKS);
-  const left = it.remarks.length - latest.length;
-  const all = link(`/submission/${it.num}?format=text`, "all as text");
-  return [
-    left ? el("p", {}, `The latest ${MOST_REMARKS}; ${several(left, "earlier one")}: `, all) : null,
-    el("ol", { class: "remarks", start: left + 1 }, latest.map((remark) => el("li", {},
-      el("b", {}, remark.author), el("p", { class: "words" }, shown(remark.text))))),
-  ];
+  if (it.count === 0) return el("p", { class: "none" }, "None yet.");
+  const list = el("ol", { class: "remarks" });
+  const words = el("span", {});
+  const place = el("span", { class: "said" });
+  const button = el("button", { type: "button" }, "Show earlier ones");
+  const line = el("p", {}, words, button, " ", place);
+  const show = (rows) => {
+    list.prepend(...rows.map(remarkRow));
+    list.start = rows[0].place;
+    line.hidden = list.start === 1;
+    fill(words, `The latest ${counted(it.count - list.start + 1)} of ${counted(it.count)}. `);
+  };
+  button.onclick = async () => {
+    const { start } = list;
+    button.disabled = true;
+    const answer = await remarksAfter(it.num, Math.max(0, start - 1 - REMARKS));
+    button.disabled = false;
+    fill(place, answer.value ? null : answerWords(answer));
+    if (answer.value) show(answer.value.remarks.filter((remark) => remark.place < start));
+  };
+  show(it.remarks);
+  return [line, list];
 }
+
+const remarkRow = ({ author, text }) => el("li", {},
+  el("b", {}, author), el("p", { class: "words" }, shown(text)));
 
 function commentForm(it, done) {
   const place = el("div", { class: "said" });
@@ -163,7 +180,7 @@ async function conclude(it, answer, words, done) {
   const { refusal } = answer ?? {};
   if (answer?.value) done(words);
   else if (refusal && [DECIDED, CHANGED].includes(refusal.refused)) {
-    const { value } = await ask(`/submission/${it.num}`, { quiet: true });
+    const { value } = await standing(it.num);
     done(value && hasOwnDecision(value) ? OWN_DECISION : refusalWords(refusal), 0);
   }
 }

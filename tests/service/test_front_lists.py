@@ -27,8 +27,8 @@ LISTS = ("/children", "/children?of=PC/8086", "/status", "/status?format=text",
 # The same questions in other words, and what is no list of these.
 OTHERS = ("/children?of=PC%2F8086", "/children?of=PC/8086&", "/children?&of=PC/8086",
           "/children?format=text&of=PC/8086", "/%63hildren", "//children", "/status?",
-          "/submission/07", "/submission/8", "/changes?since=3", "/pending", "/queue",
-          "/submissions?path=PC/8086", "/read/PC/8086", "/account?who=alice")
+          "/submission/07", "/submission/8", "/remarks?num=7", "/changes?since=3", "/pending",
+          "/queue", "/submissions?path=PC/8086", "/read/PC/8086", "/account?who=alice")
 ALICE, LIVE = ("-u", "alice:pw-alice"), ("-H", "Cache-Control: no-cache")
 
 

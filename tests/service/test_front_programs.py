@@ -14,7 +14,8 @@ from http_server import free_port
 ALICE = ("-u", "alice:pw-alice")
 PAGE = ("-H", "Accept: text/html")
 QUESTIONS = ("/read/PC/8086", "/children", "/lookup?flags=3&vendor=8086", "/submission/1",
-             "/submissions", "/pending", "/changes", "/queue", "/status", "/account?who=root")
+             "/remarks?num=1", "/submissions", "/pending", "/changes", "/queue", "/status",
+             "/account?who=root")
 FILTER = os.path.join(program.TOP, "deploy", "fail2ban", "pciids.conf")
 
 
@@ -34,6 +35,7 @@ def heads(cases, front, recorder):
         cases.equal(f"programs: HEAD {path}", got, (200, "11"))
         came = [it.first.split()[0] for it in recorder.seen]
         cases.equal(f"programs: HEAD {path} is asked by GET", came, [b"GET"])
+        cases.equal(f"programs: {path} for a person", front.curl(path, *PAGE)[0], 200)
     recorder.seen.clear()
     told = front.curl("/read/PC/8086", "-X", "GET", "-d", "a" * 60_000, "-H", "X-Account: root")
     got = [(it.body, it.values(b"content-length"), it.values(b"x[-_]account"))

@@ -329,6 +329,24 @@ def listed(cases, world, browser):
     cases.equal("story: what was proposed before", got, [True, True])
 
 
+def discussed(cases, world, browser):
+    """A proposal shows its latest hundred comments, and earlier ones as they are asked for."""
+    number = world.submit("dora", "PC/8086/7f10", "Discussed")
+    for place in range(1, 206):
+        world.ask("/comment", {"num": number, "text": f"comment {place}"}, "mona")
+    rows = "[...document.querySelectorAll('.remarks .words')].map((it) => it.textContent)"
+    shown = f"return [document.querySelector('.remarks')?.start, {rows}]"
+    browser.go(f"/proposals/{number}")
+    for first, is_more in ((106, True), (6, True), (1, False)):
+        browser.wait(lambda it=first: browser.js(shown)[0] == it, f"comment {first}")
+        words = f"The latest {206 - first} of 205."
+        cases.equal(f"story: comments from {first} on",
+                    (browser.js(shown), words in browser.text("main section")),
+                    ([first, [f"comment {it}" for it in range(first, 206)]], is_more))
+        if is_more:
+            browser.click("main section > p button")
+
+
 # What the page asks for, and finds, where each question has so many rows and leads to the next.
 SPARSE = """
 const [rows, name, which, done] = arguments, asked = [], fetched = globalThis.fetch;
@@ -381,6 +399,7 @@ def test_site_story(cases):
             told = one.has("Approved by mona"), "(new)" in one.text()
             cases.equal("story: and from another computer", told, (True, False))
             listed(cases, world, one)
+            discussed(cases, world, one)
             sparse(cases, one)
             counts(cases, world, one)
             refusals(cases, world, three)

@@ -15,7 +15,10 @@ def discussion(told):
     lines = [f"{word} {told[word]}" for word in ("num", "author", "path")]
     lines.append("remove" if told["name"] is None else f"name {told['name']}")
     lines += [f"{word} {told[word]}" for word in ("note", "state", "decider", "reason")]
-    return lines + [f"remark {it['author']} {it['text']}" for it in told["remarks"]]
+    if "count" not in told:
+        return lines + [f"remark {it['author']} {it['text']}" for it in told["remarks"]]
+    lines.append(f"count {told['count']}")
+    return lines + [f"remark {it['place']} {it['author']} {it['text']}" for it in told["remarks"]]
 
 
 # The words of the faults of a file, from 1 on.

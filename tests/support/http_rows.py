@@ -141,6 +141,24 @@ GET /submission/2 | 200 OK json {"author":"alice","decider":"alice","name":"440F
 GET /submission/3 | 200 OK json {"author":"alice","decider":"root","name":null,"note":"","num":3,\
 "path":"PC/8086","reason":"still sold","remarks":[{"author":"root","text":"seen"},{\
 "author":"alice","text":"a \"b\"\t\\ é"}],"state":"rejected"}
+GET /remarks?num=3 | 200 OK json {"author":"alice","count":2,"decider":"root","name":null,\
+"note":"","num":3,"path":"PC/8086","reason":"still sold","remarks":[{"author":"root","place":1,\
+"text":"seen"},{"author":"alice","place":2,"text":"a \"b\"\t\\ é"}],"state":"rejected"}
+GET /remarks?num=3&after=1&format=text | 200 OK text num 3;author alice;path PC/8086;remove;note ;\
+state rejected;decider root;reason still sold;count 2;remark 2 alice a "b"→\ é;
+GET /remarks?after=2&num=3 | 200 OK json {"author":"alice","count":2,"decider":"root",\
+"name":null,"note":"","num":3,"path":"PC/8086","reason":"still sold","remarks":[],\
+"state":"rejected"}
+GET /remarks?num=2&after=0&format=text | 200 OK text num 2;author alice;path PC/8086/1237;name \
+440FX;note seen;state withdrawn;decider alice;reason ;count 0;
+GET /remarks?num=4&format=text | 404 Not Found text refused 7 NoSubmission;
+GET /remarks?num=4&after=1 | 404 Not Found json {"ok":false,"refused":7,"word":"NoSubmission"}
+GET /remarks | 400 Bad Request json {"ok":false,"refused":3,"word":"BadText"}
+GET /remarks?num=0&format=text | 400 Bad Request json {"ok":false,"refused":3,"word":"BadText"}
+GET /remarks?num=3&after=01 | 400 Bad Request json {"ok":false,"refused":3,"word":"BadText"}
+GET /remarks?num=3&before=1 | 400 Bad Request json {"ok":false,"refused":3,"word":"BadText"}
+GET /remarks/3 | 404 Not Found json {"ok":false,"refused":24,"word":"NoRoute"}
+POST /remarks root num=3 | 405 Method Not Allowed allow GET
 POST /submit bob path=PC/10ec/8139&name=RTL | 200 OK json {"num":4,"ok":true}
 POST /approve root num=4 | 409 Conflict json {"ok":false,"refused":11,"word":"ParentMissing"}
 POST /approve?format=text bob num=4 | 403 Forbidden text refused 10 OwnDecision;

@@ -241,6 +241,13 @@ class SlowRegistry:
             raise Refused(7)
         return self.submissions()[int(number) - 1]
 
+    def remarks(self, number, after):
+        """The submission with the remarks after a place, and how many there are in all."""
+        found = self.submission(number)
+        placed = [{**it, "place": place} for place, it in enumerate(found["remarks"], 1)]
+        page = [it for it in placed if it["place"] > after][:PAGE]
+        return {**found, "count": len(placed), "remarks": page}
+
     def waiting(self, after):
         """A page of what is pending."""
         found = [it for it in self.submissions() if it["state"] == "pending" and it["num"] > after]

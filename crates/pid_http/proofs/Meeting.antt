@@ -11,7 +11,7 @@ use Rattle.pid_moderation.specs.declared.command.Command.{Command}
 use Rattle.pid_moderation.specs.declared.command.Reply.{Reply as Outcome}
 use Rattle.pid_moderation.specs.declared.refusal.Refusal.{Refusal}
 use Rattle.pid_moderation.specs.declared.refusal.Refusal.TheVariants as refusals
-use Rattle.pid_service_laws.specs.Questions.{IsAnswered, ShowsWhileLive}
+use Rattle.pid_service_laws.specs.Questions.{IsAnswered, IsAnsweredIfThere, IsMissing, ShowsWhileLive}
 use Rattle.pid_service_laws.specs.Outcomes.{IsMemoryOrStore}
 use Rattle.pid_http_stream.specs.Leading.{Leads}
 use Rattle.pid_http_stream.specs.Replies.{Answer}
@@ -34,6 +34,13 @@ use Rattle.pid_http.specs.Serving.{IsErrandMet, IsMetOver, AnsweredOver, NotAske
 -- what only asks: its answer by what is found
 pub record IsQuestion {X : Type 0} (format : Format) (found : X → Answer) (Says : History → X → Type 0) (errand : Errand) : Type 0 where
   pub over : (h : History) (x : X) → Says h x → found x ≡ answer_over h errand
+  pub refused : (e : Refusal) → IsErrandRefused errand e (outcome_answer format (Err e))
+  pub no_command : command_sent errand ≡ None
+
+-- what asks for something that may not be there
+pub record IsQuestionIfThere {X Y : Type 0} (format : Format) (found : X → Answer) (there : History → Option Y) (means : X → Y) (errand : Errand) : Type 0 where
+  pub over : (h : History) (x : X) → there h ≡ Some (means x) → found x ≡ answer_over h errand
+  pub missing : (h : History) → there h ≡ None → outcome_answer format (Err refusals.NoSubmission) ≡ answer_over h errand
   pub refused : (e : Refusal) → IsErrandRefused errand e (outcome_answer format (Err e))
   pub no_command : command_sent errand ≡ None
 
@@ -228,6 +235,30 @@ module _ {R : Type 0} (registry : Ghosts R) where
       leads good (Between before behind) fails =
           (Between before behind, subst (λ r. registry.showing.fails_between r before behind) (sym (lives.rests (alive.fallen old before behind fails))) fails, (failed (alive.fallen old before behind fails), refl))
       leads good Down off = (Down, subst (λ r. registry.is_live r ≡ false) (sym (lives.rests off)) off, (failed off, refl))
+
+  over_there : {X Y : Type 0} (result : Result X Refusal) (there : History → Option Y) (means : X → Y) (format : Format) (found : X → Answer) (errand : Errand) → IsQuestionIfThere format found there means errand
+      → (h : History) → MatchResult result (λ x. there h ≡ Some (means x)) (IsMissing (there h)) → IsMetOver h errand (answer_or format found result) (nothing_sent ∷ []) (Live h)
+  over_there result there means format found errand q h told =
+      by_result result told
+    where
+      asked : AreQuestions (most_questions errand) (nothing_sent ∷ [])
+      asked = asked_once errand (q.refused refusals.Failed).0
+
+      done : (given : Answer) → given ≡ answer_over h errand → IsMetOver h errand given (nothing_sent ∷ []) (Live h)
+      done given is = AnsweredOver is (calls_over h errand (nothing_sent ∷ []) q.no_command asked) (same_history h errand q.no_command)
+
+      by_result : (result : Result _ Refusal) → MatchResult result (λ x. there h ≡ Some (means x)) (IsMissing (there h)) → IsMetOver h errand (answer_or format found result) (nothing_sent ∷ []) (Live h)
+      by_result (Ok x) is = done (found x) (q.over h x is)
+      by_result (Err e) (inl (missing, none)) = done (outcome_answer format (Err e)) (ap (λ (x : Refusal). outcome_answer format (Err x)) missing ∙ q.missing h none)
+      by_result (Err e) (inr fault) = NotDone e fault (q.refused e) (undone errand e (nothing_sent ∷ []) q.no_command asked) refl
+
+  -- a question for something that may not be there
+  pub if_there_met : Lives → {X Y : Type 0} (old new : R) (result : Result X Refusal) (there : History → Option Y) (means : X → Y) (format : Format) (found : X → Answer) (errand : Errand)
+      → IsQuestionIfThere format found there means errand → IsAnsweredIfThere registry.showing registry.is_live old new result there means → Goes registry old new (λ k calls now. IsErrandMet k errand (answer_or format found result) calls now)
+  if_there_met alive old new result there means format found errand q a =
+      from_call alive old new errand (answer_or format found result) (one_call old new nothing_sent a.calls (λ off. (a.failed off).1)) a.calls.clean
+      (λ good h shows. let t = a.told good h shows in (Live h, t.1, over_there result there means format found errand q h t.0))
+      (λ off. Refused (failed_so result format found errand q.refused (a.failed off).0) one_question)
 
   by_found : {Y : Type 0} (result : Result Y Refusal) (P Q : Y → Type 0) (M : Refusal → Type 0) → ((y : Y) → P y → Q y) → MatchResult result P M → MatchResult result Q M
   by_found (Ok y) P Q M f m = f y m

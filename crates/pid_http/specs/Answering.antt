@@ -19,6 +19,7 @@ use Rattle.pid_moderation.specs.Children.{children_of}
 use Rattle.pid_moderation.specs.PendingPages.{pending_in}
 use Rattle.pid_moderation.specs.QueuePages.{queue_in}
 use Rattle.pid_moderation.specs.RegistryStatus.{status_of_registry}
+use Rattle.pid_moderation.specs.RemarkPages.{remark_page_in}
 use Rattle.pid_service_laws.specs.Searching.{sought_page}
 use Rattle.pid_moderation.specs.declared.lists.TheConstants.{PAGE}
 use Rattle.pid_file.specs.Printing.{print}
@@ -33,6 +34,7 @@ use Rattle.pid_http.specs.Api.PendingAnswers.{pending_data, pending_line}
 use Rattle.pid_http.specs.Api.QueueAnswers.{queued_data, queued_line}
 use Rattle.pid_http.specs.Api.Replying.{list_answer}
 use Rattle.pid_http.specs.Api.RankAnswers.{rank_answer}
+use Rattle.pid_http.specs.Api.RemarkAnswers.{remarks_answer}
 use Rattle.pid_http.specs.Api.StatusAnswers.{status_answer}
 use Rattle.pid_http.specs.Api.SubmissionAnswers.{submission_answer}
 use Rattle.pid_http.specs.Api.SubmissionPageAnswers.{submissions_answer}
@@ -59,6 +61,8 @@ answer_to h (questions.Lookup l) format = lookup_answer (if is_bad l.flags
     then Err lookups.BadFlags else Ok (answer_of (tree_of h) l.flags l.args l.size))
 answer_to h (questions.Submission number) format = option_map_or (submission_answer format number)
     (discussion_in (views_of h) number) (outcome_answer format (Err NoSubmission))
+answer_to h (questions.Remarks number after) format = option_map_or (remarks_answer format)
+    (remark_page_in PAGE number after (views_of h)) (outcome_answer format (Err NoSubmission))
 answer_to h (questions.Pending number) format = list_answer pending_data pending_line format
     (pending_in PAGE number (views_of h))
 answer_to h (questions.Changes since after) format = changes_answer format

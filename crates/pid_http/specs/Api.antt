@@ -10,6 +10,7 @@ pub mod PendingAnswers
 pub mod QueueAnswers
 pub mod ChangeAnswers
 pub mod SubmissionAnswers
+pub mod RemarkAnswers
 pub mod SubmissionPageAnswers
 pub mod RankAnswers
 pub mod StatusAnswers

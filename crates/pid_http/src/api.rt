@@ -22,6 +22,7 @@ mod query;
 mod question;
 mod queue;
 mod rank;
+mod remarks;
 mod reply;
 mod request;
 mod route;

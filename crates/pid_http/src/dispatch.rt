@@ -44,6 +44,9 @@ fn ask<R: Consulted>(
         Question::Children(above) => children(alloc, registry, above, format),
         Question::Lookup(query) => lookup(alloc, registry, query),
         Question::Submission(number) => submission(alloc, registry, number, format),
+        Question::Remarks { number, after } => {
+            found_reply(alloc, format, registry.remarks(number, after))
+        }
         Question::Pending(after) => found_reply(alloc, format, registry.pending(after)),
         Question::Changes { since, after } => {
             found_reply(alloc, format, registry.changes(since, after.as_ref()))

@@ -5,7 +5,8 @@ use crate::journaled::Journaled;
 use pid_file::SkipEnd;
 use pid_ident::{Account, Input, Key, Path};
 use pid_moderation::{
-    Changes, Discussion, Item, Pending, Queued, Rank, Refusal, Reply, Status, SubmissionPage,
+    Changes, Discussion, Item, Pending, Queued, Rank, Refusal, RemarkPage, Reply, Status,
+    SubmissionPage,
 };
 use pid_service_laws::{Consulted, ImportEnd};
 
@@ -29,6 +30,13 @@ impl<R: Consulted, J: JournalFile> Consulted for Journaled<R, J> {
             return Err(Refusal::Failed);
         }
         self.registry.submission(number)
+    }
+
+    fn remarks(&mut self, number: u32, after: u32) -> Result<RemarkPage, Refusal> {
+        if self.failed {
+            return Err(Refusal::Failed);
+        }
+        self.registry.remarks(number, after)
     }
 
     fn submissions(

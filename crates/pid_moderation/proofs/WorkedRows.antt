@@ -1,6 +1,6 @@
 -- Worked rows, by computation.
 use Rattle.std.proofs.Common.{◌≡◌, ℕ, List, [], ◌∷◌, ◌++◌, Some, None, refl}
-use Rattle.std.specs.Prelude.{codes, map, Result, Ok, Err}
+use Rattle.std.specs.Prelude.{codes, map, take, Result, Ok, Err}
 use Rattle.pid_file.specs.declared.path.Path.TheVariants.{Vendor, Device}
 use Rattle.pid_file.specs.declared.fault_kind.LineKind.TheVariants.{Duplicate}
 use Rattle.pid_moderation.specs.declared.command.Expected.TheVariants.{Anything, Absent}
@@ -13,7 +13,7 @@ use Rattle.pid_moderation.specs.declared.rank.Rank.TheVariants.{Contributor, Mod
 use Rattle.pid_moderation.specs.declared.refusal.FileFault.TheVariants.{Line}
 use Rattle.pid_moderation.specs.declared.refusal.Refusal.TheVariants.{Full, NoAccount, RankTooLow, NoSubmission, NotPending, NotAuthor, OwnDecision, ParentMissing, HasChildren, NothingToDo, FileFault, Changed}
 use Rattle.pid_moderation.specs.History.{Deed, Reading, Good, Faulty, Ranks, Submits, Comments, Withdraws, Approves, Rejects, Imports, Asked, Begins, History, new_history}
-use Rattle.pid_moderation.specs.Views.{Views, views_of, items_of, revision_of, since_of}
+use Rattle.pid_moderation.specs.Views.{Remark, Views, views_of, items_of, revision_of, since_of}
 use Rattle.pid_moderation.specs.Changes.{with_pairs}
 use Rattle.pid_moderation.specs.CheckTables.{most_revision}
 use Rattle.pid_moderation.specs.Revisions.{taken_over}
@@ -21,6 +21,7 @@ use Rattle.pid_moderation.specs.Judgement.{answer, answers, after_all, judge}
 use Rattle.pid_moderation.specs.declared.facts.State.TheVariants.{Pending, Approved}
 use Rattle.pid_moderation.specs.SubmissionPages.{Search, Listing, submissions_of}
 use Rattle.pid_moderation.specs.QueuePages.{queue_in}
+use Rattle.pid_moderation.specs.RemarkPages.{DiscussionPage, placed_after, remark_page_in}
 use Rattle.pid_moderation.specs.RegistryStatus.{status_of_registry}
 
 abbrev by : List ℕ → Deed → Asked
@@ -215,6 +216,34 @@ queue = refl
 
 queue_of_a_new_registry : queue_in 2 0 (views_of new_history) ≡ []
 queue_of_a_new_registry = refl
+
+abbrev of_alice : List ℕ → Remark
+of_alice text = record { author = alice; text = text }
+
+abbrev three_remarks : List Remark
+three_remarks = of_alice (codes "a") ∷ of_alice (codes "b") ∷ of_alice (codes "c") ∷ []
+
+first_remarks : take 2 (placed_after 0 three_remarks) ≡ (1, of_alice (codes "a")) ∷ (2, of_alice (codes "b")) ∷ []
+first_remarks = refl
+
+last_remark : take 2 (placed_after 2 three_remarks) ≡ (3, of_alice (codes "c")) ∷ []
+last_remark = refl
+
+no_remark_after_the_last : take 2 (placed_after 3 three_remarks) ≡ []
+no_remark_after_the_last = refl
+
+abbrev with_remarks : List (ℕ × Remark) → DiscussionPage
+with_remarks remarks = record { number = 1; standing = record { submitted = record { author = alice; path = Vendor 32902; proposal = Name (codes "Intel"); note = [] }; state = Approved root }; count = 1; remarks = remarks }
+
+-- the submission is shown whatever place is asked for
+remarks : remark_page_in 2 1 0 listed_views ≡ Some (with_remarks ((1, record { author = root; text = codes "seen" }) ∷ []))
+remarks = refl
+
+later_remarks : remark_page_in 2 1 7 listed_views ≡ Some (with_remarks [])
+later_remarks = refl
+
+remarks_on_no_submission : remark_page_in 2 9 0 listed_views ≡ None
+remarks_on_no_submission = refl
 
 status : status_of_registry (after_all new_history listed) ≡ record { accounts = 2; items = 1; pending = 3; revision = 7; submissions = 4 }
 status = refl

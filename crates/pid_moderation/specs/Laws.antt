@@ -1,5 +1,5 @@
 -- The laws that others cite: each is the contract of a public function that does nothing.
-use Rattle.std.specs.Prelude.{◌≡◌, ◌↔◌, ℕ, ◌≤◌, T, List, length}
+use Rattle.std.specs.Prelude.{◌≡◌, ◌↔◌, ℕ, ◌+◌, ◌≤◌, T, List, ◌++◌, length, take}
 use Rattle.std.specs.FinMap.{entries}
 use Rattle.std.specs.FinMap.Entries.{is_sorted}
 use Rattle.pid_file.specs.Trees.{IsTree, TreeMap, text_cmp}
@@ -8,8 +8,9 @@ use Rattle.pid_moderation.specs.History.{Asked, Begins, History}
 use Rattle.pid_moderation.specs.Judgement.{after_all}
 use Rattle.pid_moderation.specs.Keys.{times_under}
 use Rattle.pid_moderation.specs.RegistryStatus.{RegistryStatus, IsStatusIn, status_of_registry}
+use Rattle.pid_moderation.specs.RemarkPages.{placed_after}
 use Rattle.pid_moderation.specs.Sound.{IsSound}
-use Rattle.pid_moderation.specs.Views.{items_of, revision_of, views_of}
+use Rattle.pid_moderation.specs.Views.{Remark, items_of, revision_of, views_of}
 use Rattle.pid_moderation.specs.WellMade.{AreWellMade, IsFile}
 
 -- what well made commands lead to, from any beginning, is sound
@@ -39,3 +40,9 @@ TreesAreFiles = (t : TreeMap) → IsTree t → length (entries t) ≤ most_items
 abbrev pub ViewsTellStatus : Type 0
 ViewsTellStatus = (h : History) (status : RegistryStatus)
     → IsStatusIn (views_of h) status ↔ (status ≡ status_of_registry h)
+
+-- so many remarks, and those after as many more, are all that there are
+abbrev pub RemarksGoOn : Type 0
+RemarksGoOn = (most after : ℕ) (remarks : List Remark)
+    → take most (placed_after after remarks) ++ placed_after (after + most) remarks
+    ≡ placed_after after remarks

@@ -28,6 +28,7 @@ pub mod PendingPages
 pub mod ChangePages
 pub mod SubmissionPages
 pub mod QueuePages
+pub mod RemarkPages
 pub mod RegistryStatus
 pub mod Files
 pub mod Steps

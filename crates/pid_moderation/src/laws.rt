@@ -18,6 +18,7 @@ ghost use Rattle.pid_moderation.specs.Laws.{
   HistoriesAreSound,
   KeysStandOnce,
   ItemsAreSorted,
+  RemarksGoOn,
   RevisionsAreWithin,
   TreesAreFiles,
   ViewsTellStatus,
@@ -155,6 +156,12 @@ pub fn mirrors_need_changes_alone()
 /// A page holds at most a hundred submissions or items.
 pub fn pages_hold_a_hundred()
     ensures { PAGE ≡ 100 }
+{}
+
+/// A page of remarks, and those after as many more as it has room for, are all that there are: pages
+/// one after the other have each remark once, in their order.
+pub fn remarks_go_on()
+    ensures { RemarksGoOn }
 {}
 
 /// What the parts of a command keep by their types, where its file reads to a tree of names.

@@ -29,8 +29,8 @@ pub use laws::{
     views_tell_status,
 };
 pub use lists::{
-    ChangedItem, Changes, Comment, Discussion, Item, Listed, PAGE, Pending, Queued, SEARCHED,
-    Status, Submission, SubmissionPage,
+    ChangedItem, Changes, Comment, Discussion, Item, Listed, PAGE, Pending, PlacedRemark, Queued,
+    RemarkPage, SEARCHED, Status, Submission, SubmissionPage,
 };
 pub use policy::{before_file, decide};
 pub use rank::{Rank, needed_rank};

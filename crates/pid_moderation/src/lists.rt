@@ -47,6 +47,22 @@ pub struct Discussion {
     pub remarks: Vec<Comment>,
 }
 
+/// A remark on a submission, and its place among them: 1 for the first.
+#[derive(Drop)]
+pub struct PlacedRemark {
+    pub place: u32,
+    pub remark: Comment,
+}
+
+/// A submission as it stands, its number, how many remarks it has, and some of them in their order.
+#[derive(Drop)]
+pub struct RemarkPage {
+    pub number: u32,
+    pub submission: Submission,
+    pub count: u32,
+    pub remarks: Vec<PlacedRemark>,
+}
+
 /// An item, and the number of the last change of its name.
 #[derive(Drop)]
 pub struct ChangedItem {

@@ -10,6 +10,7 @@ ghost use Rattle.pid_moderation.specs.ItemPairs.{pair_of};
 ghost use Rattle.pid_moderation.specs.PendingPages.{pending_in, told_of};
 ghost use Rattle.pid_moderation.specs.QueuePages.{queue_in, queued_of};
 ghost use Rattle.pid_moderation.specs.RegistryStatus.{registry_status_of, status_of_registry};
+ghost use Rattle.pid_moderation.specs.RemarkPages.{remark_page_in, remark_page_of};
 ghost use Rattle.pid_moderation.specs.SubmissionPages.{submission_page_of};
 ghost use Rattle.pid_moderation.specs.Submissions.{discussion_in, discussion_of};
 ghost use Rattle.pid_moderation.specs.Views.{items_of, rank_of, views_of};
@@ -31,7 +32,8 @@ use crate::registry::Registry;
 use crate::status::status_by;
 use pid_ident::{Account, Input, Key, Path};
 use pid_moderation::{
-    Changes, Discussion, Item, PAGE, Pending, Queued, Rank, Refusal, Reply, Status, SubmissionPage,
+    Changes, Discussion, Item, PAGE, Pending, Queued, Rank, Refusal, RemarkPage, Reply, Status,
+    SubmissionPage,
 };
 use pid_service_laws::{Consulted, ImportEnd};
 use pid_tables::refusal_of;
@@ -77,6 +79,22 @@ impl<S: Alter + Drop> Consulted for Registry<S> {
         laws::reached_histories_are_kept(); // proof only
         match self.tables.submission(self.alloc, number) {
             Ok(Some(found)) => Ok(found),
+            Ok(None) => Err(Refusal::NoSubmission),
+            Err(fault) => Err(refusal_of(fault)),
+        }
+    }
+
+    /// At most `PAGE` remarks. What comes before them is not read.
+    fn remarks(&mut self, number: u32, after: u32) -> Result<RemarkPage, Refusal>
+        ensures { AnswersIfThere S.Store self.old self.new result
+            (λ h. remark_page_in PAGE number after (views_of h)) remark_page_of }
+    {
+        if !self.live {
+            return Err(Refusal::Failed);
+        }
+        laws::reached_histories_are_kept(); // proof only
+        match self.tables.remark_page(self.alloc, number, after) {
+            Ok(Some(page)) => Ok(page),
             Ok(None) => Err(Refusal::NoSubmission),
             Err(fault) => Err(refusal_of(fault)),
         }

@@ -10,6 +10,7 @@ ghost use Rattle.pid_moderation.specs.ItemPairs.{pair_of};
 ghost use Rattle.pid_moderation.specs.PendingPages.{pending_in, told_of};
 ghost use Rattle.pid_moderation.specs.QueuePages.{queue_in, queued_of};
 ghost use Rattle.pid_moderation.specs.RegistryStatus.{registry_status_of, status_of_registry};
+ghost use Rattle.pid_moderation.specs.RemarkPages.{remark_page_in, remark_page_of};
 ghost use Rattle.pid_moderation.specs.SubmissionPages.{submission_page_of};
 ghost use Rattle.pid_service_laws.specs.Searching.{sought_page};
 ghost use Rattle.pid_moderation.specs.Submissions.{discussion_in, discussion_of};
@@ -22,7 +23,8 @@ use crate::faults::ImportEnd;
 use crate::moderated::Moderated;
 use pid_ident::{Account, Input, Key, Path};
 use pid_moderation::{
-    Changes, Discussion, Item, PAGE, Pending, Queued, Rank, Refusal, Reply, Status, SubmissionPage,
+    Changes, Discussion, Item, PAGE, Pending, Queued, Rank, Refusal, RemarkPage, Reply, Status,
+    SubmissionPage,
 };
 
 /// A registry under moderation, as HTTP asks it.
@@ -46,6 +48,13 @@ pub trait Consulted: Moderated {
     fn submission(&mut self, number: u32) -> Result<Discussion, Refusal>
         ensures { IsAnsweredIfThere Self.showing Self.is_live self.old self.new result
             (λ h. discussion_in (views_of h) number) discussion_of };
+
+    /// The submission with the number, how many remarks there are on it, and a page of them: those
+    /// whose places are above `after`, where the first remark has the place 1. `NoSubmission` if
+    /// there is none.
+    fn remarks(&mut self, number: u32, after: u32) -> Result<RemarkPage, Refusal>
+        ensures { IsAnsweredIfThere Self.showing Self.is_live self.old self.new result
+            (λ h. remark_page_in PAGE number after (views_of h)) remark_page_of };
 
     /// A page of the submissions for a path and of an author, where one is named, the latest first,
     /// whose numbers are below `before`, of which 0 stands for no bound.

@@ -6,6 +6,7 @@ pub mod ChangeLists
 pub mod ChangeReads
 pub mod RowLists
 pub mod RemarkLists
+pub mod RemarkPageLists
 pub mod WalkLemmas
 pub mod ItemLists
 pub mod PlainTexts

@@ -6,6 +6,7 @@ pub mod laws;
 mod paths;
 mod pending;
 mod queue;
+mod remarks;
 mod submission;
 pub(crate) mod submissions;
 mod walk;

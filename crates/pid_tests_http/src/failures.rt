@@ -23,6 +23,8 @@ GET /children?of=PC/8086&format=text | 503 Service Unavailable text refused 18 F
 GET /lookup?flags=3&vendor=8086&device=ffff | 503 Service Unavailable json {"ok":false,"refused":18,"word":"Failed"}
 GET /submission/1 | 503 Service Unavailable json {"ok":false,"refused":18,"word":"Failed"}
 GET /submission/1?format=text | 503 Service Unavailable text refused 18 Failed;
+GET /remarks?num=1 | 503 Service Unavailable json {"ok":false,"refused":18,"word":"Failed"}
+GET /remarks?num=1&after=1&format=text | 503 Service Unavailable text refused 18 Failed;
 GET /pending | 503 Service Unavailable json {"ok":false,"refused":18,"word":"Failed"}
 GET /pending?after=1&format=text | 503 Service Unavailable text refused 18 Failed;
 GET /changes | 503 Service Unavailable json {"ok":false,"refused":18,"word":"Failed"}

@@ -10,9 +10,11 @@ use Rattle.pid_moderation.specs.declared.refusal.Refusal.{Refusal}
 use Rattle.pid_moderation.specs.declared.refusal.Refusal.TheVariants.{FileFault}
 use Rattle.pid_moderation.specs.Submissions.{Standing}
 use Rattle.pid_moderation.specs.ChangePages.{ChangePage}
+use Rattle.pid_moderation.specs.RemarkPages.{DiscussionPage}
 use Rattle.pid_moderation.specs.SubmissionPages.{ListingPage}
 use Rattle.pid_http.specs.Api.ChangeAnswers.{changed_data, changes_data}
 use Rattle.pid_http.specs.Api.Outcomes.{outcome_data}
+use Rattle.pid_http.specs.Api.RemarkAnswers.{placed_data, remarks_data}
 use Rattle.pid_http.specs.Api.SubmissionPageAnswers.{listed_data, submissions_data}
 use Rattle.pid_http.specs.Api.Steps.NoFloats.{listed_has_none, proposed_has_none}
 use Rattle.pid_http.specs.Api.Steps.SubmissionParts.{standing_members}
@@ -38,3 +40,6 @@ changes_have_none page = rw (items_have_none changed_data (λ i. refl) page.item
 
 pub submissions_have_none : (page : ListingPage) → has_float (submissions_data page) ≡ false
 submissions_have_none page = rw (items_have_none listed_data listed_has_none page.submissions) refl
+
+pub remarks_have_none : (page : DiscussionPage) → has_float (remarks_data page) ≡ false
+remarks_have_none page = rw (proposed_has_none page.standing.submitted.proposal, items_have_none placed_data (λ p. refl) page.remarks) refl

@@ -60,6 +60,10 @@ abbrev pub author_said : Option (List ℕ) → Said (Option (List ℕ))
 author_said None = Ok None
 author_said (Some text) = on_said Some (account_said text)
 
+-- the number of a submission
+abbrev pub num_said : List ℕ → Said ℕ
+num_said text = ok_or (number_in text) BadQuery
+
 -- a number, or `0`, also if nothing is said
 abbrev pub or_zero : (List ℕ → Option ℕ) → Option (List ℕ) → Said ℕ
 or_zero number None = Ok 0

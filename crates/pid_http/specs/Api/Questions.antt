@@ -11,7 +11,7 @@ use Rattle.pid_moderation.specs.Fields.{Fields, value, text_at}
 use Rattle.pid_moderation.specs.Forms.{number_in}
 use Rattle.pid_moderation.specs.declared.refusal.Refusal.TheVariants.{BadText}
 use Rattle.pid_http.specs.Api.Queries.{Said, on_said, then_said, format_in}
-use Rattle.pid_http.specs.Api.Queries.{account_said, author_said, after_said}
+use Rattle.pid_http.specs.Api.Queries.{account_said, author_said, after_said, num_said}
 use Rattle.pid_http.specs.Api.Queries.{named_path, path_said, query_said, revision_said}
 use Rattle.pid_http.specs.Api.Routes.{names_of, route_at, topic_at, payload_at}
 use Rattle.pid_http.specs.declared.api.format.Format.{Format}
@@ -53,6 +53,9 @@ topic_asked topics.Lookup path fields format = on_said questions.Lookup
     (ok_or (query_said fields) BadQuery)
 topic_asked topics.Submission path fields format = on_said questions.Submission
     (ok_or (number_in (rest_after (codes "/submission/") path)) (BadValue BadText format))
+topic_asked topics.Remarks path fields format = then_said
+    (λ number. on_said (questions.Remarks number) (after_said (value (codes "after") fields)))
+    (num_said (text_at (codes "num") fields))
 topic_asked topics.Pending path fields format = on_said questions.Pending
     (after_said (value (codes "after") fields))
 topic_asked topics.Changes path fields format = then_said

@@ -49,6 +49,7 @@ names_of queries.SinceAfter = codes "format" ∷ codes "since" ∷ codes "after"
 names_of queries.PathAuthorBefore = codes "format" ∷ codes "path" ∷ codes "author"
     ∷ codes "before" ∷ []
 names_of queries.Who = codes "format" ∷ codes "who" ∷ []
+names_of queries.NumAfter = codes "format" ∷ codes "num" ∷ codes "after" ∷ []
 
 -- what is asked at a route by GET, and by which query, if it takes that
 abbrev pub topic_at : Route → Option (Topic × Query)

@@ -11,6 +11,7 @@ ghost use Rattle.pid_http.specs.Api.Queries.{
   are_of as have_names,
   account_said,
   author_said,
+  num_said,
   after_said,
   path_said,
   revision_said,
@@ -105,6 +106,13 @@ pub(crate) fn author_named(alloc: Global, value: Option<&str>) -> Result<Option<
         None => Ok(None),
         Some(text) => Ok(Some(account_named(alloc, text)?)),
     }
+}
+
+// The submission that a text names.
+pub(crate) fn submission_named(text: &str) -> Result<u32, Early>
+    ensures { result ≡ num_said text.now }
+{
+    submission_number(text).ok_or(Early::BadQuery)
 }
 
 // The number after which, or below which, a page begins: 0 if none is said.

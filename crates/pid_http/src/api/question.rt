@@ -14,7 +14,9 @@ ghost use Rattle.pid_http.specs.declared.api.question.Question.TheVariants as qu
 
 use crate::api::early::{Early, Unasked};
 use crate::api::format::Format;
-use crate::api::query::{account_named, author_named, number_named, path_named, revision_named};
+use crate::api::query::{
+    account_named, author_named, number_named, path_named, revision_named, submission_named,
+};
 use crate::api::route::Topic;
 use pid_form::{text_at, value};
 use pid_ident::{Account, Path, PathText};
@@ -44,6 +46,11 @@ pub enum Question {
     Lookup(LookupQuery),
     /// The submission with a number.
     Submission(u32),
+    /// The submission with a number, and the remarks on it whose places are above this one.
+    Remarks {
+        number: u32,
+        after: u32,
+    },
     /// The pending submissions with greater numbers than this.
     Pending(u32),
     /// The items that commands with greater numbers than this added or renamed, after a path or
@@ -140,6 +147,11 @@ pub(crate) fn ask_topic(
         Topic::Children => Ok(Question::Children(path_named(text_at(fields, "of"), format)?)),
         Topic::Lookup => Ok(lookup_of(fields)?),
         Topic::Submission => Ok(number_of(path, format)?),
+        Topic::Remarks => {
+            let number = submission_named(text_at(fields, "num"))?;
+            let after = number_named(value(fields, "after"))?;
+            Ok(Question::Remarks { number, after })
+        }
         Topic::Pending => Ok(Question::Pending(number_named(value(fields, "after"))?)),
         Topic::Changes => {
             let since = revision_named(value(fields, "since"))?;

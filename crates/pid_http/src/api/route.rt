@@ -18,6 +18,7 @@ pub enum Topic {
     Submissions,
     Status,
     Rank,
+    Remarks,
 }
 
 /// What a body is.
@@ -40,6 +41,7 @@ pub enum Query {
     SinceAfter,
     PathAuthorBefore,
     Who,
+    NumAfter,
 }
 
 /// What a path takes: what a GET asks about there, with the fields that its query may have, and
@@ -52,7 +54,7 @@ pub enum Route {
 }
 
 /// Each path, as a router reads it, and what it takes.
-pub const ROUTES: [(&str, Route); 18] = [
+pub const ROUTES: [(&str, Route); 19] = [
     ("/pci.ids", Route::Get(Topic::Export, Query::Empty)),
     ("/read/{*path}", Route::Get(Topic::Read, Query::Format)),
     ("/children", Route::Get(Topic::Children, Query::Of)),
@@ -61,6 +63,7 @@ pub const ROUTES: [(&str, Route); 18] = [
         "/submission/{num}",
         Route::Get(Topic::Submission, Query::Format),
     ),
+    ("/remarks", Route::Get(Topic::Remarks, Query::NumAfter)),
     ("/pending", Route::Get(Topic::Pending, Query::After)),
     ("/changes", Route::Get(Topic::Changes, Query::SinceAfter)),
     ("/queue", Route::Get(Topic::Queue, Query::After)),
@@ -108,6 +111,7 @@ impl Query {
             Query::SinceAfter => &["format", "since", "after"],
             Query::PathAuthorBefore => &["format", "path", "author", "before"],
             Query::Who => &["format", "who"],
+            Query::NumAfter => &["format", "num", "after"],
         }
     }
 }

@@ -9,7 +9,7 @@ ghost use Rattle.pid_moderation.specs.Submissions.{
 };
 ghost use Rattle.pid_moderation.specs.Views.{Remark};
 ghost use Rattle.serde_json.specs.Data.{object, string};
-ghost use Rattle.serde_json.specs.View.{view};
+ghost use Rattle.serde_json.specs.View.{members_view, view};
 ghost use Rattle.serde_json.specs.Written.{compact_text};
 ghost use Rattle.pid_http.specs.Api.Replying.{MakesReply, rows_data};
 ghost use Rattle.pid_http.specs.Api.SubmissionAnswers.{
@@ -21,7 +21,7 @@ ghost use Rattle.pid_http.specs.Api.SubmissionAnswers.{
   submission_answer,
   submission_data,
 };
-ghost use Rattle.pid_http.specs.Api.Steps.SubmissionParts.{standing_members};
+ghost use Rattle.pid_http.specs.Api.Steps.SubmissionParts.{standing_members as members_of};
 
 use crate::api::Format;
 use crate::api::list::{Row, push_lines, push_rows, push_value};
@@ -94,25 +94,28 @@ impl Row for Comment {
     ghost no_float = { λ _. refl };
 }
 
-// What comes before the remarks, as an object.
-fn standing_value(alloc: Global, number: u32, submission: &Submission) -> Result<Value, AllocError>
-    ensures { IfOk result (λ value. view value
-        ≡ object (standing_members number (standing_of submission.now))) }
+/// What comes before the remarks.
+pub(crate) fn standing_members(
+    alloc: Global,
+    number: u32,
+    submission: &Submission,
+) -> Result<Map<String, Value>, AllocError>
+    ensures { IfOk result (λ members. members_view members.entries
+        ≡ members_of number (standing_of submission.now)) }
 {
     let members = submission_members(alloc, number, submission)?;
     let members = with_text(members, alloc, "decider", decider(submission))?;
     let members = with_text(members, alloc, "note", submission.note.as_str())?;
-    let members = with_text(members, alloc, "reason", reason(&submission.state))?;
-    Ok(Value::Object(members))
+    with_text(members, alloc, "reason", reason(&submission.state))
 }
 
 // The same as text, except for the closing brace: more follows.
 fn standing_json(alloc: Global, number: u32, submission: &Submission) -> Result<String, AllocError>
     ensures { IfOk result (λ text. string_bytes text ++ codes "}"
-        ≡ compact_text (object (standing_members number (standing_of submission.now)))) }
+        ≡ compact_text (object (members_of number (standing_of submission.now)))) }
 {
-    let value = standing_value(alloc, number, submission)?;
-    let mut text = printed(alloc, value)?;
+    let members = standing_members(alloc, number, submission)?;
+    let mut text = printed(alloc, Value::Object(members))?;
     text.pop();
     Ok(text)
 }
@@ -161,7 +164,8 @@ fn push_proposal_line(text: &mut String, proposal: &Proposal) -> Result<(), Allo
     }
 }
 
-fn push_standing(
+/// Appends the lines of a submission that come before the remarks.
+pub(crate) fn push_standing(
     alloc: Global,
     text: &mut String,
     number: u32,

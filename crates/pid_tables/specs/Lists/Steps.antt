@@ -4,5 +4,6 @@ pub mod ChangeRows
 pub mod Children
 pub mod Clauses
 pub mod PendingRows
+pub mod RemarkRows
 pub mod SubmissionRows
 pub mod EachItem

@@ -14,8 +14,8 @@ loop-row-preserved c =
 
 pub invariant_of-result : goal.invariant_of-result
 invariant_of-result c =
-    let at_end : c.loop-row.row-index ≡ 18 = omega (arith, c.loop-row-test.false, c.loop-row.auto.row-index-end) in
-    record { whole = finish _ (reached _ _ _ 18 at_end c.loop-row.invariant.0) }
+    let at_end : c.loop-row.row-index ≡ 19 = omega (arith, c.loop-row-test.false, c.loop-row.auto.row-index-end) in
+    record { whole = finish _ (reached _ _ _ 19 at_end c.loop-row.invariant.0) }
 
 pub returns-in-Err : goal.returns-in-Err
 returns-in-Err c = lacks_memory _ _ _ _ _ c.in-Err.ensures (first_new _ _ _ _ c.loop-row-test.true c.loop-row.invariant.1)

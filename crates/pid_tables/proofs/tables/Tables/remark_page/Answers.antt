@@ -1,0 +1,74 @@
+use Rattle.std.specs.Prelude.{ℕ, List, option_map}
+use Rattle.sqlite.specs.Held.{state}
+use Rattle.pid_tables.specs.Rows.Causes.{IsCaused, IsReadable}
+use Rattle.pid_tables.proofs.OfRows.CauseLemmas.{caused_later, passed_on}
+use Rattle.pid_tables.proofs.OfRows.OnlyReading.{reads_then}
+use Rattle.pid_moderation.specs.RemarkPages.{DiscussionPage}
+use Rattle.pid_moderation.specs.Submissions.{Standing}
+use Rattle.pid_moderation.specs.Views.{Remark}
+use Rattle.pid_tables.proofs.tables.Tables.remark_page.Goals as goal
+
+abbrev page_with : (number count : ℕ) → List (ℕ × Remark) → Standing → DiscussionPage
+page_with number count remarks standing = record { number = number; standing = standing; count = count; remarks = remarks }
+
+pub returns-in_err-count : goal.returns-in_err-count
+returns-in_err-count g c =
+    let one = c.in_ok-remarks.ensures in
+    let two = c.in_err-count.ensures in
+    let old = state g.S.Store c.args.self.now.conn in
+    let mid = state g.S.Store c.remarks_after.new.conn in
+    let new = state g.S.Store c.remark_count.new.conn in
+    record {
+      rests = reads_then _ _ _ one.rests two.rests;
+      told = λ clean v rest.
+          passed_on c.from_residual-in_err-count.result _ _ (λ fault. IsReadable v → IsCaused old new fault) c.from_residual-in_err-count.ensures.1
+          (λ readable. caused_later old mid new (λ _. ⊥) c.in_err-count.field-0.0 one.rests.survives two.rests.survives.counts (two.rests.clean clean) (two.told clean v (one.rests.kept v rest) readable));
+    }
+
+pub returns-in_err-submission : goal.returns-in_err-submission
+returns-in_err-submission g c =
+    let one = c.in_ok-remarks.ensures in
+    let two = c.in_ok-count.ensures in
+    let three = c.in_err-submission.ensures in
+    let both = reads_then _ _ _ one.rests two.rests in
+    let old = state g.S.Store c.args.self.now.conn in
+    let mid = state g.S.Store c.remark_count.new.conn in
+    let new = state g.S.Store c.standing.new.conn in
+    record {
+      rests = reads_then _ _ _ both three.rests;
+      told = λ clean v rest.
+          passed_on c.from_residual-in_err-submission.result _ _ (λ fault. IsReadable v → IsCaused old new fault) c.from_residual-in_err-submission.ensures.1
+          (λ readable. caused_later old mid new (λ _. ⊥) c.in_err-submission.field-0.0 both.survives three.rests.survives.counts (three.rests.clean clean) (three.told clean v (both.kept v rest) readable));
+    }
+
+pub returns-in-Some : goal.returns-in-Some
+returns-in-Some g c =
+    let one = c.in_ok-remarks.ensures in
+    let two = c.in_ok-count.ensures in
+    let three = c.in_ok-submission.ensures in
+    let both = reads_then _ _ _ one.rests two.rests in
+    record {
+      rests = reads_then _ _ _ both three.rests;
+      told = λ clean v rest.
+          let later = three.rests.clean clean in
+          let page = one.told (two.rests.clean later) v rest in
+          let count = two.told later v (one.rests.kept v rest) in
+          let found = rw c.in-Some.is at (three.told clean v (both.kept v rest)) in
+          λ i. option_map (page_with c.args.number (count i) (page i)) (found i);
+    }
+
+pub returns-in-None : goal.returns-in-None
+returns-in-None g c =
+    let one = c.in_ok-remarks.ensures in
+    let two = c.in_ok-count.ensures in
+    let three = c.in_ok-submission.ensures in
+    let both = reads_then _ _ _ one.rests two.rests in
+    record {
+      rests = reads_then _ _ _ both three.rests;
+      told = λ clean v rest.
+          let later = three.rests.clean clean in
+          let page = one.told (two.rests.clean later) v rest in
+          let count = two.told later v (one.rests.kept v rest) in
+          let found = rw c.in-None.is at (three.told clean v (both.kept v rest)) in
+          λ i. option_map (page_with c.args.number (count i) (page i)) (found i);
+    }
