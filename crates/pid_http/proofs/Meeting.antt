@@ -287,6 +287,7 @@ module _ {R : Type 0} (registry : Ghosts R) where
     calls = a.calls;
     failed = a.failed;
     told = λ good h shows. let t = a.told good h shows in (by_found result (Tells h) (Says h) IsMemoryOrStore (f h) t.0, t.1);
+    beside = a.beside;
   }
 
   -- the same of something else that is found
@@ -295,6 +296,7 @@ module _ {R : Type 0} (registry : Ghosts R) where
     calls = a.calls;
     failed = λ off. found_is_none x refusals.Failed (a.failed off).0;
     told = λ good h shows. let t = a.told good h shows in (f h t.0, t.1);
+    beside = a.beside;
   }
 
   pub turned : (old new : R) {P Q : Known → List Call → Known → Type 0} → ((k : Known) (calls : List Call) (now : Known) → P k calls now → Q k calls now) → Goes registry old new P → Goes registry old new Q

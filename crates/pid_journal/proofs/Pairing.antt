@@ -66,6 +66,7 @@ module _ {R J : Type 0} (registry : Ghosts R) (file : files.Ghosts J) where
   asked_on p r result Says Denies asked settled = record {
     calls = looks_on p r asked.calls (λ clean h shown. (asked.told clean h shown).1) settled;
     failed = λ off. let f = asked.failed (registry_off p.failed (registry.is_live p.registry) settled off) in (f.0, ap (with_registry p) f.1);
+    beside = refl;
     told = λ clean h shows. let t = asked.told clean h shows.1.shown in (t.0, (shows.0, still_shows shows.0 h p r shows.1 t.1));
   }
 
@@ -74,5 +75,6 @@ module _ {R J : Type 0} (registry : Ghosts R) (file : files.Ghosts J) where
   asked_off p Says Denies down = record {
     calls = looks_nowhere p;
     failed = λ off. (refl, refl);
+    beside = refl;
     told = λ clean h shows. absurd (not_both p.failed down shows.1.settled);
   }

@@ -41,12 +41,14 @@ module _ {R J : Type 0} (registry : Ghosts R) (file : files.Ghosts J) where
     pub fails : ((p.failed ≡ true) × registry.showing.shows p.registry h)
         ⊎ ((doubt.gone ≡ []) × registry.showing.fails_between p.registry h next)
 
-  -- the relations by which sessions describe it, wherever its journal begins
+  -- The relations by which sessions describe it, wherever its journal begins. Questions, look-ups
+  -- and exports leave the journal as it is.
   abbrev pub pair_showing : Showing (Journaled R J)
   pair_showing = record {
     is_clean = λ p. registry.showing.is_clean p.registry;
     shows = λ p h. (start : History) × PairShows start p h;
     fails_between = λ p h next. (start : History) × PairFailsBetween start p h next;
+    beside = λ old new. new.journal ≡ old.journal;
   }
 
   -- the same, if its journal begins at a history

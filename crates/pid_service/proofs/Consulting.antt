@@ -31,6 +31,7 @@ module _ {S : Type 0} (store : Ghosts S) where
       calls = looks old new found.rests.clean (λ off. (found.failed off).1) (λ good h shows. (found.told good h shows).1);
       failed = found.failed;
       told = found.told;
+      beside = tt;
     };
     fault = found.fault;
     lives = found.lives;
@@ -44,6 +45,7 @@ module _ {S : Type 0} (store : Ghosts S) where
       calls = looks old new a.rests.clean (λ off. (a.failed off).1) (λ good h shows. (a.told good h shows).1);
       failed = a.failed;
       told = a.told;
+      beside = tt;
     };
     fault = a.fault;
     lives = a.lives;

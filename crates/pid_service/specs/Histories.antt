@@ -49,7 +49,13 @@ module _ {S : Type 0} (store : Ghosts S) where
 
   -- how sessions see a registry
   abbrev pub showing : Showing (Registry S store)
-  showing = record { is_clean = HasCleanDisk store; shows = Shows; fails_between = FailsBetween }
+  showing = record {
+    is_clean = HasCleanDisk store;
+    shows = Shows;
+    fails_between = FailsBetween;
+    -- its questions change what they keep in memory
+    beside = λ old new. Unit {0};
+  }
 
   -- how scripts and HTTP ask it
   abbrev pub as_moderated : moderated.Ghosts (Registry S store)

@@ -34,6 +34,7 @@ model = record {
   is_clean = λ r. Unit {0};
   shows = λ r h. (is_live r ≡ true) × (history_in r ≡ h);
   fails_between = λ r h next. (is_live r ≡ false) × (history_in r ≡ h) × (next_in r ≡ next);
+  beside = λ old new. Unit {0};
 }
 
 live_does : (h : History) (call : Call) (new : Registry) → CallLeaves model call new h → Does model (Live h) call new

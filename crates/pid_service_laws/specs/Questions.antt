@@ -28,6 +28,8 @@ module _ {R : Type 0} (w : Showing R) (is_live : R → Bool) where
     pub failed : is_live old ≡ false → (result ≡ Err Failed) × (new ≡ old)
     pub told : w.is_clean new → (h : History) → w.shows old h
         → MatchResult result (Says h) (Denies h) × w.shows new h
+    -- apart from the history it has what it had
+    pub beside : w.beside old new
 
   -- it is answered by the history, unless memory runs out or the store fails
   abbrev pub IsAnswered : {X : Type 0} → R → R → Result X Refusal → (History → X → Type 0) → Type 0

@@ -24,6 +24,8 @@ pub record Showing (R : Type 0) : Type 1 where
   pub shows : R → History → Type 0
   -- it has failed, and everything that a crash may leave shows the one history or the other
   pub fails_between : R → History → History → Type 0
+  -- the second one has, apart from the history, what the first one had
+  pub beside : R → R → Type 0
 
 module _ {R : Type 0} (w : Showing R) where
   -- After a command over a history: the answer is that of the judgement, and the registry shows the
@@ -44,6 +46,11 @@ module _ {R : Type 0} (w : Showing R) where
       ⊎ ((c : Asked) × (call.stopped ≡ Some c)
       × w.fails_between new (left_at_stop (after_sent h call.sent) c false)
       (left_at_stop (after_sent h call.sent) c true)))
+
+  -- a look-up or an export: what was shown still is, and all else is as it was
+  pub record GoesOnShowing (old new : R) : Type 0 where
+    pub shown : w.is_clean new → (h : History) → w.shows old h → w.shows new h
+    pub beside : w.beside old new
 
   -- what a call does, from the registry before it to the registry after it
   pub record Does (old : R) (call : Call) (new : R) : Type 0 where

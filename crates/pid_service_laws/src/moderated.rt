@@ -12,7 +12,12 @@ ghost use Rattle.pid_moderation.specs.declared.refusal.Refusal.TheVariants.{Fail
 ghost use Rattle.pid_service_laws.specs.Calls.{nothing_sent, obeyed};
 ghost use Rattle.pid_service_laws.specs.Moderating.{ExportsText, LooksUp};
 ghost use Rattle.pid_service_laws.specs.Questions.{IsAnswered};
-ghost use Rattle.pid_service_laws.specs.Registries.{CommandLeaves, Does, Showing};
+ghost use Rattle.pid_service_laws.specs.Registries.{
+  CommandLeaves,
+  Does,
+  GoesOnShowing,
+  Showing,
+};
 
 use crate::faults::ExportFault;
 use pid_ident::{Name, Output, Path};
@@ -60,8 +65,7 @@ pub trait Moderated {
     ) -> Result<Answer, LookupRefusal<Refusal>>
         ensures honest { showing.is_clean self.new → showing.is_clean self.old }
         ensures calls { Does showing self.old nothing_sent self.new }
-        ensures kept { showing.is_clean self.new → (h : History) → showing.shows self.old h
-            → showing.shows self.new h }
+        ensures kept { GoesOnShowing showing self.old self.new }
         ensures told { showing.is_clean self.new → (h : History) → showing.shows self.old h
             → LooksUp result (tree_of h) flags args.now size }
         ensures failed { is_live self.old ≡ false
@@ -71,8 +75,7 @@ pub trait Moderated {
     /// it, or nothing; if the writer failed, what was written may end within a line.
     fn export<O: Output>(&mut self, out: &mut O) -> Result<(), ExportFault>
         ensures calls { Does showing self.old nothing_sent self.new }
-        ensures kept { showing.is_clean self.new → (h : History) → showing.shows self.old h
-            → showing.shows self.new h }
+        ensures kept { GoesOnShowing showing self.old self.new }
         ensures told { showing.is_clean self.new → (h : History) → showing.shows self.old h
             → ExportsText result (O.taken out.old) (O.taken out.new) (print (tree_of h)) }
         ensures fault { (f : _) → IsErrOf result (ExportFault.Write f)

@@ -24,6 +24,7 @@ impl Moderated for Refusing {
       is_clean = λ registry. Unit {0};
       shows = λ registry h. ⊥;
       fails_between = λ registry h after. ⊥;
+      beside = λ old new. Unit {0};
     } };
 
     ghost is_live = { λ registry. true };

@@ -45,5 +45,5 @@ returns g c format =
     let e = c.lookup-found.ensures in
     replied _ _ _ _ _ _ c.lookup_reply.ensures (from_call _ g.met.R.Moderated.lives _ _ _ (lookup_answer c.lookup-found.result)
     (one_call _ _ _ nothing_sent e.calls (λ off. (e.failed off).1)) e.honest
-    (λ clean h shows. (Live h, e.kept clean h shows, over l format h c.lookup-found.result (e.told clean h shows)))
+    (λ clean h shows. (Live h, e.kept.shown clean h shows, over l format h c.lookup-found.result (e.told clean h shows)))
     (λ off. Refused (failed l format c.lookup-found.result (e.failed off).0) one_question))

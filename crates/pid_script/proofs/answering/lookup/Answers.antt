@@ -11,7 +11,7 @@ pub returns-in-Ok-Some-clause-ends : goal.returns-in-Ok-Some-clause-ends
 returns-in-Ok-Some-clause-ends g c = λ honest h stands.
     looked_for g.R.Moderated c.send_found.result c.lookup-found.result c.args.form.now (c.in-Ok-Some.flags, c.in-Ok-Some.args, c.in-Ok-Some.size) h c.args.registry.now c.lookup-found.new.self
     (out (g.O.Output.taken c.args.output.now) c.args.held.now.items) (out (g.O.Output.taken c.send_found.new.output) c.send_found.new.held.items)
-    (c.in-Ok-Some.ensures ∙ ap (option_map lookup_told) c.in-Ok-Some.field-0-is) (c.lookup-found.ensures.told honest h) (c.lookup-found.ensures.kept honest h) c.lookup-found.ensures.failed
+    (c.in-Ok-Some.ensures ∙ ap (option_map lookup_told) c.in-Ok-Some.field-0-is) (c.lookup-found.ensures.told honest h) (c.lookup-found.ensures.kept.shown honest h) c.lookup-found.ensures.failed
     c.send_found.ensures.told c.send_found.ensures.goes_on c.send_found.ensures.fits c.lookup-found.ensures.calls stands
 
 pub returns-in-Ok-None-clause-ends : goal.returns-in-Ok-None-clause-ends

@@ -1,4 +1,4 @@
-use Rattle.std.proofs.Common.{ap}
+use Rattle.std.proofs.Common.{ap, refl}
 use Rattle.pid_journal.specs.Steps.Living.{registry_off}
 use Rattle.pid_journal.proofs.Pairing.{looks_nowhere, looks_on, not_both, still_shows, with_registry}
 use Rattle.pid_journal.proofs.moderated.JournaledModerated.export.Goals as goal
@@ -10,11 +10,14 @@ pub returns-then-self-clause-told : goal.returns-then-self-clause-told
 returns-then-self-clause-told g c clean h shows = absurd (not_both c.args.self.now.failed c.if-self.true shows.1.settled)
 
 pub returns-clause-calls : goal.returns-clause-calls
-returns-clause-calls g c = looks_on g.R.Moderated g.J.JournalFile c.args.self.now c.export.new.self c.export.ensures.calls c.export.ensures.kept c.if-self.false
+returns-clause-calls g c = looks_on g.R.Moderated g.J.JournalFile c.args.self.now c.export.new.self c.export.ensures.calls c.export.ensures.kept.shown c.if-self.false
 
 pub returns-clause-kept : goal.returns-clause-kept
-returns-clause-kept g c clean h shows =
-    (shows.0, still_shows g.R.Moderated g.J.JournalFile shows.0 h c.args.self.now c.export.new.self shows.1 (c.export.ensures.kept clean h shows.1.shown))
+returns-clause-kept g c = record {
+  shown = λ clean h shows.
+      (shows.0, still_shows g.R.Moderated g.J.JournalFile shows.0 h c.args.self.now c.export.new.self shows.1 (c.export.ensures.kept.shown clean h shows.1.shown));
+  beside = refl;
+}
 
 pub returns-clause-told : goal.returns-clause-told
 returns-clause-told g c clean h shows = c.export.ensures.told clean h shows.1.shown
