@@ -6,7 +6,8 @@ promise's calls; the definitions that these reach, each file before those that i
 of the sources that the definitions name; and the names that they have from the toolchain, with the
 file of each. `tests/promise.py 7 --first | less` is the first reading of the headline, which leaves
 shut what clauses hand on to each other and what other promises speak of; `7 --then` is the second,
-of what promises 2 and 5 speak of.
+of what promises 2 and 5 speak of, without the types that the first one has. The first line says how
+much there is to read.
 """
 import os
 import re
@@ -67,6 +68,12 @@ def others(specs, keys):
         yield from (it for it in found if specs.key(*it) is None)
 
 
+def of_sources(named):
+    """Those of the names that are types of the sources of this repository."""
+    return {it for it in named if ".specs.declared." in it[0]
+            and os.path.isdir(os.path.join(CRATES, it[0].split(".")[1]))}
+
+
 def types(named):
     """The types of the sources among the names, with their places."""
     for module, name in sorted(named):
@@ -89,19 +96,20 @@ def reading(number, shut=frozenset(), later=frozenset()):
     specs, sources = Specs(), Sources()
     calls = PROMISES[number - 1][1]
     first = [it for it in cited_first(specs, sources, calls) if it[1] not in shut]
-    keys = specs.reached(first, shut)
-    shown = keys - specs.reached([it for it in first if it[1] not in later], shut | later) \
-        if later else keys
+    keys, read = specs.reached(first, shut), set()
+    if later:
+        read = specs.reached([it for it in first if it[1] not in later], shut | later)
+    shown = keys - read
     named = set(others(specs, shown))
-    declared = {it for it in named if ".specs.declared." in it[0]
-                and os.path.isdir(os.path.join(CRATES, it[0].split(".")[1]))}
+    declared = of_sources(named)
     kit = {}
     for module, name in named - declared:
         _, crate, *inner = module.split(".")
         kit.setdefault("/".join([crate, *inner]), []).append(name)
     yield from () if later else contracts(sources, calls)
     yield from definitions(specs, keys, first, shown)
-    yield from dict.fromkeys(types(declared))
+    seen = set(types(of_sources(others(specs, read))))
+    yield from (it for it in dict.fromkeys(types(declared)) if it not in seen)
     yield ("From the toolchain, below the folder `rattle` next to the page that `rt doc` prints;\n"
            "if a file is not there, `specs/Lib.antt` of its crate says where it is. A name below\n"
            "`declared` is a type: `grep -rnwE '(struct|enum|trait) NAME' */src` finds it.")
@@ -110,19 +118,28 @@ def reading(number, shut=frozenset(), later=frozenset()):
     yield f"{len(shown)} definitions, {size:,} lines"
 
 
+def show(parts, without=frozenset()):
+    """Prints the parts, below a line that says how much there is to read, and what stays shut."""
+    *parts, size = parts
+    text = "\n\n".join(parts)
+    count = sum(bool(line.strip()) for line in text.split("\n"))
+    left = "; without " + ", ".join(sorted(without)) if without else ""
+    print(f"{size}{left}.\nWith calls, types and the names of files {count:,} lines, which are "
+          f"not empty.\n\n{text}")
+
+
 def main(words):
     if words == ["7", "--first"]:
-        shut = HANDED_ON | OF_OTHERS
-        print("\n\n".join(reading(7, shut)), "without " + ", ".join(sorted(shut)), sep="; ")
+        show(reading(7, HANDED_ON | OF_OTHERS), HANDED_ON | OF_OTHERS)
         return 0
     if words == ["7", "--then"]:
-        print("\n\n".join(reading(7, HANDED_ON, OF_OTHERS)))
+        show(reading(7, HANDED_ON, OF_OTHERS))
         return 0
     if len(words) != 1 or words[0] not in map(str, range(1, len(PROMISES) + 1)):
         print(f"usage: promise.py NUMBER, from 1 to {len(PROMISES)}; or 7 --first, 7 --then",
               file=sys.stderr)
         return 2
-    print("\n\n".join(reading(int(words[0]))))
+    show(reading(int(words[0])))
     return 0
 
 
