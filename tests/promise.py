@@ -18,6 +18,8 @@ from reading_list import (
     CRATES, HANDED_ON, OF_OTHERS, PROMISES, TOP, Sources, Specs, cited_first, lines_of, order)
 
 NAMES = r"\b(\w+)\.([^\s(){}\[\].,;:]+)"
+# A variant whose fields have a line each.
+VARIANT = re.compile(r"^    \w+ \{\n(?:        \w+: .*,\n)+    \},$", re.M)
 
 
 def path_of(module):
@@ -74,6 +76,12 @@ def of_sources(named):
             and os.path.isdir(os.path.join(CRATES, it[0].split(".")[1]))}
 
 
+def in_one_line(variant):
+    """A variant in one line, if that is not too long."""
+    text = re.sub(r",\n    \}", " }", re.sub(r"\n {8}", " ", variant[0]))
+    return text if len(text) <= 100 else variant[0]
+
+
 def types(named):
     """The types of the sources among the names, with their places."""
     for module, name in sorted(named):
@@ -87,7 +95,8 @@ def types(named):
             rf"pub(\(crate\))? (struct|enum|trait|const) {inner[-1]}\b", line))
         ends = re.compile(r"}" if lines[at].startswith("pub trait") else r"}|.*;")
         end = next(i for i in range(at, len(lines)) if ends.fullmatch(lines[i]))
-        yield f"{os.path.relpath(path, TOP)}:{at + 1}\n" + "\n".join(lines[at:end + 1])
+        text = VARIANT.sub(in_one_line, "\n".join(lines[at:end + 1]))
+        yield f"{os.path.relpath(path, TOP)}:{at + 1}\n{text}"
 
 
 def reading(number, shut=frozenset(), later=frozenset()):
