@@ -38,9 +38,8 @@ from cases import Counts, last_line  # noqa: E402
 # those that have browsers. Beside what takes times or measures memory nothing is tried.
 FOLDERS = {"": len(os.sched_getaffinity(0)), "service": 99, "site": 3, "alone": 1}
 ALONE = ("front_attack", "progress", "serving", "serving_memory", "site_access")
-# Where tests of the first program are: those that have the mark `first`.
+# Where tests with the mark `first` are; and what tries no program.
 OF_FIRST = ("fault_gallery", "limits", "lspci", "real_file", "words", "worked_rows")
-# What tries no program.
 OF_SOURCES = ("apt", "building", "contracts", "documents", "harness", "style")
 
 

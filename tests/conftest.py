@@ -77,7 +77,6 @@ if program.INSTALLED is not None:
 
 @pytest.fixture(params=EITHER)
 def either(request):
-    """`program.run` runs the program by its script, and in another test the first program; or the
-    one program that PCIIDS names."""
+    """`program.run` runs the whole program, in another test the first; or the one of PCIIDS."""
     if request.param == "first":
         request.getfixturevalue("first")

@@ -3,9 +3,8 @@
 Proves every crate and its tests from nothing, runs the tests and the programs as two compilers
 build them (`rt ci`, in a copy without the must-fail edits), and tries the built program against
 real peers (tests/run). With --edits `rt ci` runs in the repository itself, and the prover has to
-refuse each edit, and for more than a name that it takes away. Before the last line it prints what
-that took: the processor minutes of the provers by crate, and the minutes by the clock of `rt ci`
-and of tests/run. The last line is 'N passed, N failed', and ', N skipped' if cases were skipped.
+refuse each edit, and for more than a name that it takes away. Before the last line it prints the
+minutes of provers, by crate, and by the clock. The last line is 'N passed, N failed[, N skipped]'.
 """
 import glob
 import os
@@ -39,9 +38,8 @@ def counted(line):
 
 
 def ran(folder, *words):
-    """Runs a command and shows what it prints, each line with the minutes until then. Returns the
-    counts of the last line, with a failure if the status says so, and each edit that was refused
-    for a name alone as failed; and the minutes that it took."""
+    """Runs a command and shows its lines, each with the minutes until then. Returns the counts of
+    the last one, where an edit refused for a name alone has failed; and the minutes it took."""
     how = {"stdin": subprocess.DEVNULL, "stdout": subprocess.PIPE, "stderr": subprocess.STDOUT}
     # What is tried was built in the folder, whatever the caller's PCIIDS names.
     environment = {name: value for name, value in os.environ.items() if name != "PCIIDS"}
@@ -71,10 +69,9 @@ def gate(folder):
             # A source that has changed since then is newer.
             os.utime(it, ns=(start, start))
         tried, took_tests = ran(folder, os.path.join(folder, "tests", "run"))
-    print(meter.table())
-    print(f"wall minutes: {took:.1f} of rt ci, {took_tests:.1f} of tests/run")
     counts = [sum(it) for it in zip(proved, tried)]
-    print(last_line(*counts))
+    wall = f"wall minutes: {took:.1f} of rt ci, {took_tests:.1f} of tests/run"
+    print(meter.table(), wall, last_line(*counts), sep="\n")
     return counts[1] != 0
 
 
@@ -83,8 +80,8 @@ def main(words):
         print(__doc__, end="")
         return 0 if words in (["--help"], ["-h"]) else 2
     if shutil.which("rt") is None:
-        print("./test: the command rt is missing; have the toolchain's folder bin in PATH")
-        print(last_line(0, 1, 0))
+        missing = "./test: the command rt is missing; have the toolchain's folder bin in PATH"
+        print(missing, last_line(0, 1, 0), sep="\n")
         return 2
     if words:
         return gate(TOP)

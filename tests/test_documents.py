@@ -430,8 +430,8 @@ def fields_left_out(quote):
 
 
 def test_headline(cases):
-    """Each definition that the page quotes is so in a file of specs; and where a quote of a record
-    is cut, the comment before it says so."""
+    """Each definition that the page quotes is so in a file of specs, to its end; and where a quote
+    of a record is cut, the comment before it says so."""
     blocks = text_of("docs/HEADLINE.md").split("```\n")[1::2]
     parts = [it for block in blocks for it in re.split(r"^(?=-- \d+\. )", block, flags=re.M) if it]
     specs = []
@@ -440,10 +440,14 @@ def test_headline(cases):
         with open(path, encoding="utf-8") as file:
             specs.append(" ".join(file.read().split()))
     cases.equal("HEADLINE.md: it quotes nine definitions", len(parts), 9)
+    whole = [" ".join(" ".join(it.lines).split())
+             for it in reading_list.Specs().definitions.values()]
     for part in parts:
         comment, quote = re.fullmatch(r"((?:--[^\n]*\n)+)(.*)", part, re.S).groups()
         words = " ".join(quote.split())
         cases.equal(f"HEADLINE.md: {words[:60]}", any(words in it for it in specs), True)
         cut = bool(fields_left_out(quote))
+        ends = cut or any(it.endswith(words) for it in whole)
+        cases.equal(f"HEADLINE.md: to its end {words[:60]}", ends, True)
         said = "more field" in comment.replace("\n-- ", " ")
         cases.equal(f"HEADLINE.md: cut {words[:60]}", said, cut)

@@ -62,9 +62,13 @@ class Calls:
             of_crate = re.match(r"(pid_\w+)(?:::(.*))?$", word)
             if of_crate and os.path.isdir(os.path.join(CRATES, of_crate[1])):
                 crate, word = of_crate[1], of_crate[2] or ""
-            for it in [crate] if self.find(crate, word) else reading_list.crates():
-                found.update(self.find(it, word))
-                types.add((it, word))
+            having = [it for it in reading_list.crates() if self.find(it, word)]
+            if crate in having:
+                having = [crate]
+            # A word that several other crates have names no call of any.
+            if len(having) == 1:
+                found.update(self.find(having[0], word))
+            types.update((it, word) for it in having or reading_list.crates())
         return found, types
 
     def reached(self, specs):
