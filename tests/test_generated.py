@@ -1,6 +1,7 @@
 """Histories that are drawn, through the program and through a slow registry: the same replies to
-all commands, and the same answers to all questions. The registry's file is opened again and again,
-by scripts, and by servers, which are killed."""
+all commands, and the same answers to all questions. The text and the lists that a registry keeps
+in memory, and remarks, are asked for after nearly each command. The registry's file is opened
+again and again, by scripts, and by servers, which are killed."""
 import json
 import os
 from urllib.parse import urlencode
@@ -20,6 +21,10 @@ from slow_registry import Refused, SlowRegistry, check_who, command_of
 STATUSES = {number: status for number, (_, status) in refusals.shown().items()}
 # Commands in a session at most, after how many everything is asked, and how many make a history.
 SESSION, EACH, HISTORY = 24, 8, 500
+# After how many of ten commands what is kept is asked for: it must follow two in a row, too.
+OFTEN = 8
+# A mirror that polls asks for the changes of so many commands at most.
+FEW = 5
 # Items, submissions and remarks of a history that begins with more than pages have.
 MANY = 130
 
@@ -47,6 +52,9 @@ class History(Sampled):
         self.count += 1
         return self.commands.one()
 
+    def is_asked(self):
+        return self.random.randrange(10) < OFTEN
+
     # Scripts.
 
     def line_and_reply(self, verb, account, key, pairs):
@@ -60,12 +68,15 @@ class History(Sampled):
         reply = told(lambda: self.slow.obey(command_of(verb, account, key, read)))
         return f"{verb} {account} {urlencode(fields)}", as_text(reply)
 
+    def export(self):
+        return "export", self.slow.text().decode()
+
     def questions_of_scripts(self):
         path = self.random.choice((*PATHS, "PC/80A6"))
         item, vendor = told(self.slow.read, path), self.slow.names().get("PC/8086")
         yield f"read path={path}", f"name {item['name']}\n" if "name" in item else as_text(item)
         yield "lookup flags=1&vendor=8086", f"text {vendor or 'Vendor 8086'}\n"
-        yield "export", self.slow.text().decode()
+        yield self.export()
 
     def run_script(self, rows):
         """Runs a script of rows: lines, each with its reply."""
@@ -82,6 +93,8 @@ class History(Sampled):
             rows.append(self.line_and_reply(*command))
             if number % EACH == 0:
                 rows += self.questions_of_scripts()
+            elif self.is_asked():
+                rows.append(self.export())
         self.run_script(rows)
 
     # HTTP.
@@ -123,11 +136,36 @@ class History(Sampled):
                 break
         self.expect(f"/submissions: {words}", (rows, before), (want, 0))
 
-    def ask_everything(self):
+    def ask_kept(self):
+        """The text, and the lists that a registry keeps and each command renews; and remarks."""
         slow, chance = self.slow, self.random
         rows, revision = len(slow.submissions()), len(slow.accepted)
         self.client.sendall(b"GET /pci.ids HTTP/1.1\r\n\r\n")
         self.expect("/pci.ids", read_reply(self.stream), (200, slow.text()))
+        self.ask("/children", slow.children(""), None)
+        since, after = chance.choice((
+            (max(revision - chance.randint(0, FEW), 0), ""),
+            (chance.randint(0, revision), chance.choice(("", *PATHS))),
+        ))
+        self.ask(f"/changes?since={since}&after={after}", slow.changes(since, after), None)
+        self.ask("/status", slow.status(), None)
+        self.ask("/pending", slow.pending(0), None)
+        path, author = chance.choice(PATHS), chance.choice(ACCOUNTS)
+        for words in {"path": path}, {"author": author}, {"path": path, "author": author}:
+            before = chance.choice((0, chance.randint(1, rows + 2)))
+            want = slow.listed(words.get("path", ""), words.get("author"), before)
+            self.ask_pages({**words, "before": before}, want)
+        self.ask_remarks(chance.choice((1, chance.randint(1, rows + 1))), None)
+
+    def ask_remarks(self, number, formats):
+        after = self.random.choice((0, 1, 100, self.random.randint(0, MANY)))
+        want = told(self.slow.remarks, str(number), after)
+        self.ask(f"/remarks?num={number}&after={after}", want, formats)
+
+    def ask_everything(self):
+        slow, chance = self.slow, self.random
+        rows, revision = len(slow.submissions()), len(slow.accepted)
+        self.ask_kept()
         for path in chance.sample((*PATHS, "PC/80A6", "PD"), 4):
             self.ask(f"/read/{path}", told(slow.read, path))
             self.ask(f"/children?of={path}", told(slow.children, path))
@@ -135,9 +173,7 @@ class History(Sampled):
         for number in (chance.randint(1, rows + 1), "0", "01"):
             self.ask(f"/submission/{number}", told(slow.submission, str(number)))
         for number in (1, chance.randint(1, rows + 1)):
-            after = chance.choice((0, 1, 100, chance.randint(0, MANY)))
-            asked = f"/remarks?num={number}&after={after}"
-            self.ask(asked, told(slow.remarks, str(number), after))
+            self.ask_remarks(number, ("json", "text"))
         for after in (0, chance.randint(0, rows)):
             self.ask(f"/pending?after={after}", slow.pending(after))
             self.ask(f"/queue?after={after}", slow.queue(after))
@@ -146,11 +182,8 @@ class History(Sampled):
         self.ask("/status", slow.status())
         for who in (*ACCOUNTS, "carol"):
             self.ask(f"/account?who={who}", told(slow.account, who))
-        for path in ("", chance.choice(PATHS)):
-            for author in (None, chance.choice(ACCOUNTS)):
-                before = chance.choice((0, chance.randint(1, rows + 2)))
-                words = {"path": path, "before": before, **({"author": author} if author else {})}
-                self.ask_pages(words, slow.listed(path, author, before))
+        before = chance.choice((0, chance.randint(1, rows + 2)))
+        self.ask_pages({"path": "", "before": before}, slow.listed("", None, before))
 
     def session_of_server(self, commands):
         with Server(self.path, program=WHOLE) as server, server.connect() as self.client:
@@ -159,6 +192,8 @@ class History(Sampled):
                 self.send(*command)
                 if number % EACH == 0:
                     self.ask_everything()
+                elif self.is_asked():
+                    self.ask_kept()
 
     def go_on(self):
         """Sessions of scripts and of servers in turn, until the history has its commands."""
