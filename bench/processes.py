@@ -62,9 +62,8 @@ def peak_memory(command, path=os.devnull):
 
 
 def thread_time(process):
-    """The processor time that the one thread of a process has used."""
-    with open(f"/proc/{process.pid}/schedstat") as file:
-        return int(file.read().split()[0]) / 1_000_000_000
+    """The processor time that a process of one thread has used (clock_getcpuclockid(3))."""
+    return time.clock_gettime(~process.pid << 3 | 2)
 
 
 class Script:
@@ -120,7 +119,7 @@ class Profile:
     """The instructions of one run of a program, as callgrind counts them: those of each function
     itself, and those within it and what it calls. What the kernel does is not in them."""
 
-    def __init__(self, folder, words, talk=lambda process: None):
+    def __init__(self, folder, words, talk=lambda process: None, status=0):
         if not shutil.which("valgrind"):
             raise Skip("valgrind is missing")
         self.path = os.path.join(folder, "profile")
@@ -130,7 +129,7 @@ class Profile:
         )
         talk(process)
         process.communicate()
-        check_status(command, process.returncode)
+        check_status(command, process.returncode, status)
         self.own = self.functions("no")
         self.total = sum(count for count, _ in self.own)
 

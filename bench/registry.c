@@ -4,6 +4,9 @@
  *   registry FILE make < LINES     a new registry; each line is a path, a tab and a name; one transaction
  *   registry FILE rows COUNT       a new registry with COUNT rows in each table
  *   registry FILE filled ITEMS SUBMISSIONS PENDING    a new registry with so many of each
+ *   registry FILE tree VENDORS DEVICES SUBSYSTEMS     a new registry with so many items of each kind
+ *   registry FILE accounts COUNT   a new registry with so many accounts more than two
+ *   registry FILE remarks COUNT    a new registry with so many remarks on one submission
  *   registry FILE old N            a registry of schema 1 with N items
  *   registry FILE changes SINCE TIMES    the first page of what changed above that number
  *   registry FILE JOB TIMES        JOB: nothing, export, open, unknown, keyed, migrate
@@ -156,6 +159,18 @@ static void fill(int count)
     run("COMMIT");
 }
 
+static void set_label(sqlite3_stmt *count, const char *name, int number)
+{
+    text(count, 1, name);
+    sqlite3_bind_int(count, 2, number);
+    rows(count);
+}
+
+static sqlite3_stmt *setting(void)
+{
+    return prepared("UPDATE meta SET value = ?2 WHERE label = ?1");
+}
+
 /* Items, 99 devices below each vendor, each the last change of one command; and submissions of a
  * hundred authors, so many of them pending and the others approved. */
 static void fill_both(int items, int submissions, int pending)
@@ -197,15 +212,71 @@ static void fill_both(int items, int submissions, int pending)
         text(submission, 7, is_pending ? "" : "root");
         rows(submission);
     }
-    sqlite3_stmt *counts = prepared("UPDATE meta SET value = ?1 WHERE label = ?2");
-    sqlite3_bind_int(counts, 1, submissions);
-    text(counts, 2, "submissions");
-    rows(counts);
-    sqlite3_bind_int(counts, 1, items);
-    text(counts, 2, "items");
-    rows(counts);
-    text(counts, 2, "revision");
-    rows(counts);
+    sqlite3_stmt *counts = setting();
+    set_label(counts, "submissions", submissions);
+    set_label(counts, "items", items);
+    set_label(counts, "revision", items);
+    run("COMMIT");
+}
+
+/* Vendors; devices, of each vendor as many as of the others; and so subsystems of the devices. */
+static void fill_tree(int vendors, int devices, int subsystems)
+{
+    char path[32], word[64];
+    run("BEGIN");
+    create();
+    sqlite3_stmt *item = prepared("INSERT INTO item VALUES (?1, ?2)");
+    sqlite3_stmt *since = prepared("INSERT INTO item_since VALUES (?1, 0)");
+    int count = vendors + devices + subsystems;
+    for (int at = 0; at < count; at++) {
+        int device = at - vendors, subsystem = device - devices;
+        if (subsystem >= 0)
+            device = subsystem % devices;
+        int length = snprintf(path, sizeof path, "PC/%04x", device < 0 ? at : device % vendors);
+        if (device >= 0)
+            length += snprintf(path + length, sizeof path - length, "/%04x", device / vendors);
+        if (subsystem >= 0)
+            snprintf(path + length, sizeof path - length, "/8086%04x", subsystem / devices);
+        snprintf(word, sizeof word, "Item number %d of a registry", at);
+        text(item, 1, path);
+        text(item, 2, word);
+        rows(item);
+        text(since, 1, path);
+        rows(since);
+    }
+    set_label(setting(), "items", count);
+    run("COMMIT");
+}
+
+static void fill_accounts(int count)
+{
+    char word[64];
+    run("BEGIN");
+    create();
+    sqlite3_stmt *account = prepared("INSERT INTO account VALUES (?1, 0)");
+    for (int at = 0; at < count; at++) {
+        snprintf(word, sizeof word, "author-%d", at);
+        text(account, 1, word);
+        rows(account);
+    }
+    run("COMMIT");
+}
+
+/* Each remark is as long as it may be. */
+static void fill_remarks(int count)
+{
+    char body[4001] = "";
+    memset(body, 'a', 4000);
+    run("BEGIN");
+    create();
+    run("INSERT INTO submission VALUES (1, 'bob', 'PC/0001', 0, 'a', '', 0, '', '')");
+    sqlite3_stmt *remark = prepared("INSERT INTO remark VALUES (1, ?1, 'root', ?2)");
+    for (int at = 0; at < count; at++) {
+        sqlite3_bind_int(remark, 1, at + 1);
+        text(remark, 2, body);
+        rows(remark);
+    }
+    set_label(setting(), "submissions", 1);
     run("COMMIT");
 }
 
@@ -262,13 +333,6 @@ static int number_of(sqlite3_stmt *label, const char *name)
     return number;
 }
 
-static void set_label(sqlite3_stmt *count, const char *name, int number)
-{
-    text(count, 1, name);
-    sqlite3_bind_int(count, 2, number);
-    rows(count);
-}
-
 /* A receipt under the key is looked for, and the reply kept there. */
 static void keep(sqlite3_stmt *receipt, const char *account, const char *key, int kind, int number)
 {
@@ -292,7 +356,7 @@ static void commands(int times)
     sqlite3_stmt *item = prepared("SELECT name FROM item WHERE path = ?1");
     sqlite3_stmt *below = prepared("SELECT path FROM item WHERE path > ?1 AND path < ?2 LIMIT 1");
     sqlite3_stmt *submit = prepared("INSERT INTO submission (num, author, path, form, name, note, state, decider, reason) VALUES (?1, ?2, ?3, ?4, ?5, ?6, 0, '', '')");
-    sqlite3_stmt *count = prepared("UPDATE meta SET value = ?2 WHERE label = ?1");
+    sqlite3_stmt *count = setting();
     sqlite3_stmt *decide = prepared("UPDATE submission SET state = ?2, decider = ?3, reason = ?4 WHERE num = ?1");
     sqlite3_stmt *add = prepared("INSERT INTO item (path, name) VALUES (?1, ?2)");
     sqlite3_stmt *rename = prepared("UPDATE item SET name = ?2 WHERE path = ?1");
@@ -435,6 +499,12 @@ int main(int count, char **words)
         fill(atoi(words[3]));
     else if (count == 6 && strcmp(words[2], "filled") == 0)
         fill_both(atoi(words[3]), atoi(words[4]), atoi(words[5]));
+    else if (count == 6 && strcmp(words[2], "tree") == 0)
+        fill_tree(atoi(words[3]), atoi(words[4]), atoi(words[5]));
+    else if (count == 4 && strcmp(words[2], "accounts") == 0)
+        fill_accounts(atoi(words[3]));
+    else if (count == 4 && strcmp(words[2], "remarks") == 0)
+        fill_remarks(atoi(words[3]));
     else if (count == 4 && strcmp(words[2], "old") == 0)
         fill_old(atoi(words[3]));
     else if (count == 5 && strcmp(words[2], "changes") == 0)

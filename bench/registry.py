@@ -38,6 +38,19 @@ def export_line(room):
     return Figures(min(times), whole - room.idle)
 
 
+def export_instructions(room):
+    """The same in instructions, without those of opening the registry."""
+    ours, theirs = room.imported("100,000 items")[:2]
+
+    def counted(words, lines=b""):
+        return Profile(room.folder, words, lambda process: process.stdin.write(lines)).total
+
+    ours = counted(room.script(ours), b"export\n") - counted(room.script(ours))
+    words = [room.sqlite, theirs]
+    theirs = counted([*words, "export", "1"]) - counted([*words, "nothing", "0"])
+    return Figures(ours, theirs, "instructions")
+
+
 def export_process(room):
     ours, theirs = room.imported("Debian's file")[:2]
     words = [room.program, "export", "--db", ours], [room.sqlite, theirs, "export", "1"]
@@ -174,6 +187,16 @@ def open_time(room):
     return Figures(*(min(column) for column in zip(*times)))
 
 
+def open_instructions(room):
+    """Of a smaller one with the same rows, since all are judged alike."""
+    ours = room.registry((10_000, 100_000, 10))
+    counted = (
+        Profile(room.folder, room.script(database), status=status).total
+        for database, status in ((ours, 0), (room.newer(ours), 3))
+    )
+    return Figures(*counted, "instructions")
+
+
 def open_memory(room):
     ours = room.registry(LARGE)
     newer = room.script(room.newer(ours))
@@ -242,7 +265,8 @@ ROWS = [
     Row("import-100k", "`import`, 100,000 items / C SQLite", KITS, imported("100,000 items")),
     Row("import-share", "`import` of an item, instructions in `pid_*` / all", OURS, import_share,
         0.1),
-    Row("export-100k", "a script's `export`, 100,000 items / C SQLite", OURS, export_line, 2),
+    Row("export-100k", "a script's `export`, 100,000 items / C SQLite", OURS, export_line),
+    Row("export-count", "the same, instructions", OURS, export_instructions, 2, 1.2),
     Row("export-debian", "`export`, Debian's file, whole process / C SQLite", KITS,
         export_process),
     Row("command-1k", "a script's command, 1,000 items / C SQLite", KITS,
@@ -264,8 +288,10 @@ ROWS = [
     Row("open-rows-ours", "100,000 rows in each table, so", OURS,
         open_beside_check(of_rows, False), 4),
     Row("open-1m-time", "opening 1,000,000 submissions, time / the kit's opening alone", OURS,
-        open_time, 1.5, 1.2),
+        open_time),
     Row("open-1m-memory", "the same, memory", OURS, open_memory, 1.15, 1.0),
+    Row("open-count", "the same of 100,000 submissions, instructions", OURS, open_instructions,
+        1.5, 1.2),
     Row("migrate", "`migrate`, 100,000 items, whole process / C SQLite", KITS, migration(True)),
     Row("migrate-ours", "the same, without opening the file", OURS, migration(False)),
     Row("memory-script", "memory, script of 1,000,000 lines / of 1,000 lines", OURS, script_memory,

@@ -170,6 +170,10 @@ class Room:
         counts = map(self.sized, size)
         return self.made(f"registry-{size[1]}-{size[2]}", "filled", *counts)
 
+    def many(self, kind, *counts):
+        """A file that has many rows of one kind."""
+        return self.made("-".join(map(str, (kind, *counts))), kind, *map(self.sized, counts))
+
     @lru_cache(maxsize=None)
     def imported(self, name):
         """The text imported into two new files, by the program and by C SQLite with the same paths

@@ -30,6 +30,20 @@ def all_pending(count):
     return lambda room: room.registry((1_000, count, count))
 
 
+def many(kind, *counts):
+    return lambda room: room.many(kind, *counts)
+
+
+def vendors(devices):
+    """As many vendors as Debian's file has with its classes, and so many devices."""
+    return many("tree", 2_400, devices, 0)
+
+
+def devices(subsystems):
+    """As many devices of one vendor as Intel has, and so many subsystems of these."""
+    return many("tree", 1, 4_234, subsystems)
+
+
 def profiled(room, database, talk, connections=1):
     """The instructions of a server that serves so many clients, each of whom talks."""
     port = free_port()
@@ -72,19 +86,26 @@ def published(registry):
     return measure
 
 
+def rename(client, number, name):
+    """Renames an item: the submission with that number, and its approval."""
+    form = f"path=PC/0001&name={name}".encode()
+    for request in (
+        posted("/submit", "bob", form),
+        posted("/approve", "root", f"num={number}".encode()),
+    ):
+        client.sendall(request)
+        whole_reply(client)
+
+
 def changes_then(room, database, asks, count):
     """All instructions of a server on which an item is renamed so many times, and something is
     asked after each."""
+    number = made_so_far(database)
 
     def talk(client):
         for at in range(count):
-            form = f"path=PC/0001&name=renamed+{at}".encode()
-            number = room.sized(MIDDLE[1]) + at + 1
-            for request in (
-                posted("/submit", "author-1", form),
-                posted("/approve", "root", f"num={number}".encode()),
-                *asks,
-            ):
+            rename(client, number + at + 1, f"renamed+{at}")
+            for request in asks:
                 client.sendall(request)
                 whole_reply(client)
 
@@ -119,47 +140,74 @@ def of_both_sizes(target, smaller=small, larger=large):
     return measure
 
 
-def first_of_both(target):
-    """The first request after a start, of a large registry and of a small one."""
-
-    def first(room, database):
-        with our_server(room, database) as server, connected(server.port) as client:
-            return server.time_of(client, get(target))
+def times_of_both(time_of, smaller=small, larger=large):
+    """The least of some times of a large registry, and of a smaller one."""
 
     def measure(room):
         return Figures(*(
-            max(min(first(room, database) for _ in range(room.rounds(3))), 0.000_001)
-            for database in (large(room), small(room))
+            max(min(time_of(room, registry(room))), 0.000_001) for registry in (larger, smaller)
         ))
 
     return measure
+
+
+def first_of_both(target, *registries):
+    """The first request after a start, of both."""
+
+    def first(room, database):
+        asked = get(target(database))
+        for _ in range(room.rounds(3)):
+            with our_server(room, database) as server, connected(server.port) as client:
+                yield server.time_of(client, asked)
+
+    return times_of_both(first, *registries)
+
+
+def next_of_both(target, *registries):
+    """The first request after an item was renamed, of both."""
+
+    def following(room, database):
+        asked, number = get(target(database)), made_so_far(database)
+        with our_server(room, room.copy(database)) as server, connected(server.port) as client:
+            for at in range(room.rounds(7)):
+                rename(client, number + at + 1, f"renamed+{at}")
+                yield server.time_of(client, asked)
+
+    return times_of_both(following, *registries)
 
 
 def same(target):
     return lambda _: target
 
 
-def nothing_new(database):
-    revision = selected(database, "SELECT value FROM meta WHERE label = 'revision'")
-    return f"/changes?since={revision}"
+def labelled(database, label):
+    return int(selected(database, f"SELECT value FROM meta WHERE label = '{label}'"))
 
 
-def changes(back):
-    """The items that changed last, so many or all, beside the selects of them."""
+def made_so_far(database):
+    """How many submissions there are."""
+    return labelled(database, "submissions")
 
-    def measure(room):
-        database = large(room)
-        since = str(room.sized(LARGE[0]) - room.sized(back))
-        with our_server(room, database) as server:
-            ours = server.ask(f"/changes?since={since}")
-        times = 1_000 if back > 100 else 20
-        theirs = min(
-            seconds([room.sqlite, room.copy(database), "changes", since, str(times)])
-            for _ in range(3)
-        )
-        return Figures(ours, (theirs - room.idle) / times)
 
-    return measure
+def changed_by(count):
+    """What the latest commands changed, so many of them."""
+    return lambda database: f"/changes?since={labelled(database, 'revision') - count}"
+
+
+def last_remarks(database):
+    last = int(selected(database, "SELECT max(seq) FROM remark"))
+    return f"/remarks?num=1&after={last - 100}"
+
+
+def changes_of_all(room):
+    """The first page of items that all were changed, beside the selects of it."""
+    database, times = large(room), 1_000
+    with our_server(room, database) as server:
+        ours = server.ask("/changes?since=0")
+    theirs = min(
+        seconds([room.sqlite, room.copy(database), "changes", "0", str(times)]) for _ in range(3)
+    )
+    return Figures(ours, (theirs - room.idle) / times)
 
 
 # -- connections
@@ -295,14 +343,14 @@ ROWS = [
         published(small), 10, 4),
     Row("pci-ids-1m", "the same, 1,000,000 submissions, 100,000 items / nginx, so", OURS,
         published(large), 10, 4),
-    Row("pci-ids-changed", "`GET /pci.ids`, first after a change / `export`'s one walk", OURS,
-        published_after_change, 1.2, 0.1),
+    Row("pci-ids-changed", "`GET /pci.ids`, first after a change / `export`'s walk", OURS,
+        published_after_change, 0.12, 0.03),
     Row("pending", "`GET /pending`, ten of 1,000,000 / ten of 1,000", OURS,
         of_both_sizes(same("/pending")), 5, 1.5),
     Row("queue", "`GET /queue`, so", OURS, of_both_sizes(same("/queue")), 5),
-    Row("queue-first", "the same, first after a start", OURS, first_of_both("/queue"), 3),
+    Row("queue-first", "the same, first after a start", OURS, first_of_both(same("/queue")), 3),
     Row("submissions-first", "`GET /submissions` for a path, so", OURS,
-        first_of_both("/submissions?path=PC/0000/0001"), 3),
+        first_of_both(same("/submissions?path=PC/0000/0001")), 3),
     Row("submissions", "`GET /submissions`, the latest of 1,000,000 / of 1,000", OURS,
         of_both_sizes(same("/submissions")), 5),
     Row("submissions-none", "the same of an author with none, 1,000,000 / 10,000 submissions", OURS,
@@ -316,11 +364,30 @@ ROWS = [
     Row("status", "`GET /status`, so", OURS, of_both_sizes(same("/status")), 5),
     Row("status-pending", "the same, 1,000,002 pending / 1,000 pending", OURS,
         of_both_sizes(same("/status"), all_pending(1_000), all_pending(1_000_002)), 3),
+    Row("status-accounts", "the same, 500,000 accounts / 500", OURS,
+        of_both_sizes(same("/status"), many("accounts", 500), many("accounts", 500_000)), 3),
+    Row("children", "`GET /children`, 2,400 vendors, 36,000 items / 2,400 items", OURS,
+        of_both_sizes(same("/children"), vendors(0), vendors(33_600)), 3),
+    Row("children-first", "the same list, first after a start", OURS,
+        first_of_both(same("/children"), vendors(0), vendors(33_600)), 3),
+    Row("children-of", "`GET /children?of=`, 4,234 devices, 10,000 subsystems / none", OURS,
+        of_both_sizes(same("/children?of=PC/0000"), devices(0), devices(10_000)), 3),
+    Row("children-of-99", "the same, 99 devices, 100,000 items / 1,000 items", OURS,
+        of_both_sizes(same("/children?of=PC/0001")), 3),
+    Row("remarks", "`GET /remarks`, the first 100 of 2,500 long ones / of 100", OURS,
+        of_both_sizes(same("/remarks?num=1&after=0"), many("remarks", 100),
+                      many("remarks", 2_500)), 3),
+    Row("remarks-last", "the last 100 of them, so", OURS,
+        of_both_sizes(last_remarks, many("remarks", 100), many("remarks", 2_500)), 3),
     Row("changes", "`GET /changes`, nothing new, 100,000 items / 1,000 items", OURS,
-        of_both_sizes(nothing_new), 5, 1.5),
+        of_both_sizes(changed_by(0)), 5, 1.5),
+    Row("changes-few", "the same, what five commands changed", OURS,
+        of_both_sizes(changed_by(5)), 3),
+    Row("changes-first", "what five commands changed, first after a start", OURS,
+        first_of_both(changed_by(5)), 3),
+    Row("changes-next", "the same, first after a change", OURS, next_of_both(changed_by(5)), 3),
     Row("changes-all", "`GET /changes`, 100,000 items, all changed / selects", KITS,
-        changes(LARGE[0])),
-    Row("changes-last", "the same, only the last changed / selects", KITS, changes(1)),
+        changes_of_all),
     Row("own-connection", "a read on a connection of its own / one of many on one", OURS,
         own_connection, 2, 1.3),
     Row("read-at-once", f"`GET {READ}`, a hundred sent at once / one at a time", OURS,

@@ -95,8 +95,7 @@ class Serving:
         with connected(self.port) as client:
             client.sendall(request)
             size = whole_reply(client)
-            # Both sides have done it once before they are measured. The time of a thread that still
-            # runs is not counted yet, so that this one may be 0.
+            # Both sides have done it once before they are measured.
             took = max(self.batch(client, request, size, at_once, at_once), 0.000_001)
             times = min(max(int(0.1 / took), 1), most) // at_once * at_once or at_once
             return min(

@@ -16,25 +16,32 @@ from registry import script, work
 
 # So many visitors, each of whom asks so often: as often as nginx lets him at once, and some more.
 VISITORS, AT_ONCE, EACH = 12, 4, 40
+# How many remarks there are on one proposal: two pages and some more.
+REMARKS = 250
 # How many questions somebody else asks beside them at most: fewer than he may ask at once.
 QUESTIONS = 200
 # For how much of the registry's time a question may wait at the median, in seconds.
 LONGEST = 0.01
-WITHOUT = {"pciids_site": (("proxy_cache $pciids_kept;", "proxy_cache off;"),)}
-# Lists that are short enough for everybody only because they are kept, and others.
-LONG = ("/children", "/children?of=PC/8086")
-LISTS = ("/changes", "/changes?since=2", "/status", "/pending", "/queue", "/submissions",
-         "/submissions?author=bob", "/submissions?path=PC/8086", "/submission/1")
+# Where nginx keeps no list, all wait for their turn, as they do in spellings that it does not know.
+WITHOUT = {"pciids_limits": (
+    ('map "$request_method $request_uri" $pciids_often', "map $request_method $pciids_often"),)}
+# Lists that are short enough for everybody because they are kept, and all.
+LONG = ("/children", "/children?of=PC/8086", "/status", "/submission/1")
+LISTS = (*LONG, "/changes", "/changes?since=2", "/pending", "/queue", "/remarks?num=1",
+         "/remarks?num=1&after=100", "/submissions", "/submissions?author=bob",
+         "/submissions?path=PC/8086", "/submissions?path=PC/8086/0001&author=bob")
 QUESTION = b"GET /read/PC/8086 HTTP/1.1\r\nHost: a\r\n\r\n"
 
 
 def filled(folder):
-    """A registry with the names of Debian's file, and with proposals of which half are decided."""
+    """A registry with the names of Debian's file, and with proposals of which half are decided, the
+    first of them with long remarks."""
     db = os.path.join(folder, "registry.db")
     lines = ["account root who=bob&rank=1"]
     for number in range(1, 1_001):
         lines.append(f"submit bob path=PC/8086/{number:04x}&name=Name+{number}")
         lines += [f"approve root num={number}"] * (number % 2)
+    lines += [f"comment bob num=1&text={'x' * 4_000}"] * REMARKS
     work(b"", "import", "--db", db, "--account", "root", REAL_FILE)
     script(db, *lines)
     return db
