@@ -107,7 +107,8 @@ def test_commands_are_followed(cases, folder):
         cases.equal(f"{search} beside sqlite3", got, selected(path, search))
 
 
-FIRST = ("/status", "/pending", "/queue", "/children", "/submissions?path=PC/1af4")
+FIRST = ("/status", "/pending", "/queue", "/children", "/submissions?path=PC/1af4",
+         "/submissions?author=bob", "/pci.ids")
 
 
 def read_by(server):
