@@ -46,7 +46,7 @@ def defined():
     for status, number, word in re.findall(said, spec("pid_http", "Api/RankAnswers")):
         found[int(number)] = (word, int(status))
     said = r"= refused_answer (\d+) (\d+) \(codes \"(\w+)\"\)"
-    for status, number, word in re.findall(said, spec("pid_http", "Api/EarlyAnswers")):
+    for status, number, word in re.findall(said, spec("pid_http", "Api/Outcomes")):
         found[int(number)] = (word, int(status))
     streams = spec("pid_http_stream", "StreamFaults")
     for status, number, word in re.findall(r'= \((\d+), (\d+), codes "(\w+)"\)', streams):

@@ -19,9 +19,10 @@ use Rattle.pid_http_stream.specs.Serving.{WritesFront}
 use Rattle.pid_http_stream.specs.declared.reply_head.ReplyHead.{ReplyHead}
 use Rattle.pid_http_stream.specs.declared.reply_head.Content.TheVariants.{Text}
 use Rattle.pid_http_stream.specs.Leading.{Leads}
-use Rattle.pid_http.specs.Errands.{Asks}
+use Rattle.pid_http.specs.Answering.{Asks}
 use Rattle.pid_http.specs.declared.api.format.Format.{Format}
-use Rattle.pid_http.specs.declared.api.question.Question.TheVariants.{Export}
+use Rattle.pid_http.specs.declared.api.question.Question.TheVariants.{Whole}
+use Rattle.pid_http.specs.declared.api.route.Whole.TheVariants.{Export}
 use Rattle.pid_http.specs.Steps.Handling.{WritesText, WritesOver}
 use Rattle.pid_http.specs.Known.{Known, Live, Between, Down, IsKnownOf, LivesOn, Told, IsToldOf}
 use Rattle.pid_http.specs.Steps.Going.{Goes, calls_join}
@@ -29,10 +30,10 @@ use Rattle.pid_http.specs.Serving.{AreQuestions, IsPromised}
 
 -- the length of the text was told
 pub length_told : {R : Type 0} (registry : Ghosts R) → ShowsWhileLive registry.showing registry.is_live → (old new : R) (n : ℕ) (format : Format) (head : ReplyHead) (lives : LivesOn registry old new) → head.status ≡ 200 → head.content ≡ Text
-    → IsAnswered registry.showing registry.is_live old new (Ok n) (λ h n. n ≡ length (print (tree_of h))) → AreQuestions 1 lives.calls → Goes registry old new (λ k calls now. IsPromised k (Asks Export format) head n calls now)
+    → IsAnswered registry.showing registry.is_live old new (Ok n) (λ h n. n ≡ length (print (tree_of h))) → AreQuestions 1 lives.calls → Goes registry old new (λ k calls now. IsPromised k (Asks (Whole Export) format) head n calls now)
 length_told registry alive old new n format head lives status content a nothing = record { lives = lives; served = record { good = a.calls.clean; leads = leads } }
   where
-    leads : registry.showing.is_clean new → (k : Known) → IsKnownOf registry old k → (now : Known) × IsKnownOf registry new now × IsPromised k (Asks Export format) head n lives.calls now
+    leads : registry.showing.is_clean new → (k : Known) → IsKnownOf registry old k → (now : Known) × IsKnownOf registry new now × IsPromised k (Asks (Whole Export) format) head n lives.calls now
     leads good (Live h) shows = let t = a.told good h shows in (Live h, t.1, ((format, refl), record { status = status; content = content; length_is = t.0 }, nothing, refl))
     leads good (Between before behind) fails = let e = (a.failed (alive.fallen old before behind fails)).0 in absurd cc
     leads good Down off = let e = (a.failed off).0 in absurd cc

@@ -16,7 +16,7 @@ use Rattle.pid_http_stream.specs.declared.reply_head.ReplyHead.{ReplyHead}
 use Rattle.pid_http.specs.Api.Questions.{Asking, question}
 use Rattle.pid_http.specs.Api.Senders.{Sending, sender}
 use Rattle.pid_http.specs.declared.api.format.Format.{Format}
-use Rattle.pid_http.specs.Errands.{Errand, errand_asked, errand_of, import_errand}
+use Rattle.pid_http.specs.Answering.{Errand, errand_asked, errand_of, import_errand}
 use Rattle.pid_http.specs.Known.{Told, ByCalls}
 use Rattle.pid_http.specs.Steps.Replying.{IsBodyMet, IsMetBehind}
 use Rattle.pid_http.specs.Serving.{AreQuestions, IsErrandMet, most_given_up, most_questions, serving}

@@ -23,7 +23,7 @@ use Rattle.pid_http.specs.declared.api.format.Format.{Format}
 use Rattle.pid_http.specs.Api.Outcomes.{outcome_answer}
 use Rattle.pid_http.specs.Api.Replying.{IsReplyOf}
 use Rattle.pid_service_laws.specs.Calls.{Call, obeyed}
-use Rattle.pid_http.specs.Errands.{Errand, Obeys}
+use Rattle.pid_http.specs.Answering.{Errand, Obeys}
 use Rattle.pid_http.specs.Known.{Known, Live, Between, Down, IsKnownOf, LivesOn}
 use Rattle.pid_http.specs.Steps.Going.{Goes}
 use Rattle.pid_http.specs.Steps.Replying.{IsCommandMet, IsMetBehind}

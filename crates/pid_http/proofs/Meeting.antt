@@ -23,9 +23,10 @@ use Rattle.pid_http.specs.Api.Senders.{Sending}
 use Rattle.pid_http.specs.declared.api.format.Format.{Format}
 use Rattle.pid_http.specs.Api.Outcomes.{outcome_answer}
 use Rattle.pid_http.specs.Api.Replying.{IsReplyOf, IsBodyOf}
-use Rattle.pid_http.specs.Answering.{answer_over, IsErrandRefused, LacksForm}
-use Rattle.pid_http.specs.Errands.{Errand, Answered, Denied, Obeys, Asks, command_sent, command_errand, import_errand, known_answer}
-use Rattle.pid_http.specs.declared.api.question.Question.TheVariants.{Children}
+use Rattle.pid_http.specs.Answering.{answer_over, IsErrandRefused, LacksForm, Errand, Answered, Denied, Obeys, Asks, command_sent, command_errand, import_errand, known_answer, answer_to, format_of}
+use Rattle.pid_http.specs.declared.api.question.Question.{Question}
+use Rattle.pid_http.specs.declared.api.question.Question.TheVariants.{Children, Whole}
+use Rattle.pid_http.specs.declared.api.route.Whole.TheVariants.{Export, Status}
 use Rattle.pid_http.specs.Known.{Known, Live, Between, Down, IsKnownOf, LivesOn, IsToldOf, ByCalls}
 use Rattle.pid_http.specs.Steps.Going.{Goes, calls_join}
 use Rattle.pid_http.specs.Steps.Replying.{IsCommandMet, IsBodyMet, IsMetBy, answer_or}
@@ -43,6 +44,29 @@ pub record IsQuestionIfThere {X Y : Type 0} (format : Format) (found : X → Ans
   pub missing : (h : History) → there h ≡ None → outcome_answer format (Err refusals.NoSubmission) ≡ answer_over h errand
   pub refused : (e : Refusal) → IsErrandRefused errand e (outcome_answer format (Err e))
   pub no_command : command_sent errand ≡ None
+
+-- what is found is seen as a view, of which the answer is made
+pub shows : {X Y : Type 0} (format : Format) (found : Y → Answer) (sees : X → Y) (view : History → Y) (question : Question) → ((h : History) → found (view h) ≡ answer_to h question format) → format_of (Asks question format) ≡ format
+    → IsQuestion format (λ (x : X). found (sees x)) (λ h (x : X). sees x ≡ view h) (Asks question format)
+unfolding answer_over
+shows format found sees view question same told = record {
+  over = λ h x e. ap found e ∙ same h;
+  refused = λ e. (refl, ap (λ (f : Format). outcome_answer f (Err e)) (sym told));
+  no_command = refl;
+}
+
+abbrev or_missing : {Y : Type 0} → Format → (Y → Answer) → Option Y → Answer
+or_missing format found there = option_map_or found there (outcome_answer format (Err refusals.NoSubmission))
+
+pub shows_there : {X Y : Type 0} (format : Format) (found : Y → Answer) (means : X → Y) (there : History → Option Y) (question : Question) → ((h : History) → or_missing format found (there h) ≡ answer_to h question format) → format_of (Asks question format) ≡ format
+    → IsQuestionIfThere format (λ (x : X). found (means x)) there means (Asks question format)
+unfolding answer_over
+shows_there format found means there question same told = record {
+  over = λ h x is. sym (ap (or_missing format found) is) ∙ same h;
+  missing = λ h none. sym (ap (or_missing format found) none) ∙ same h;
+  refused = λ e. (refl, ap (λ (f : Format). outcome_answer f (Err e)) (sym told));
+  no_command = refl;
+}
 
 -- the history after what was asked
 abbrev pub history_behind : History → Option Asked → History
@@ -70,6 +94,8 @@ takes_one : (errand : Errand) → known_answer errand ≡ None → 1 ≤ most_qu
 takes_one (Answered given) none = absurd cc
 takes_one (Denied refusal format) none = absurd cc
 takes_one (Obeys command format) none = omega arith
+takes_one (Asks (Whole Export) format) none = omega arith
+takes_one (Asks (Whole Status) format) none = omega arith
 takes_one (Asks (Children None) format) none = omega arith
 takes_one (Asks (Children (Some path)) format) none = omega arith
 takes_one (Asks question format) none = omega arith

@@ -15,7 +15,7 @@ use Rattle.pid_http_stream.specs.Conducts.{AreReplies}
 use Rattle.pid_http_stream.specs.Replies.{Answer}
 use Rattle.pid_http_stream.specs.Requests.{Request}
 use Rattle.pid_http.proofs.Meeting.{history_behind}
-use Rattle.pid_http.specs.Errands.{Errand, command_sent, errand_of}
+use Rattle.pid_http.specs.Answering.{Errand, command_sent, errand_of}
 use Rattle.pid_http.specs.Steps.Handling.{nothing_then}
 use Rattle.pid_http.specs.Known.{Known, Live, Between, Told, ByCalls}
 use Rattle.pid_http.specs.Sending.{AreSomeOf, SendsSome, commands_asked, if_any}

@@ -16,7 +16,7 @@ use Rattle.pid_http_stream.specs.declared.refusal.StreamFault.TheVariants.{BadHe
 use Rattle.pid_http_stream.specs.declared.reply_head.ReplyHead.{ReplyHead}
 use Rattle.pid_http_stream.specs.declared.stream.StreamEnd.{StreamEnd}
 use Rattle.pid_http_stream.specs.declared.stream.StreamEnd.TheVariants.{Clean, Closed, Refused, ReadFault, WriteFault, StoreFault, Memory, TurnsSpent}
-use Rattle.pid_http.specs.Errands.{Errand, command_sent, errand_of}
+use Rattle.pid_http.specs.Answering.{Errand, command_sent, errand_of}
 use Rattle.pid_http.specs.Known.{Known, Live, Between, Down, Told, ByCalls}
 use Rattle.pid_http.specs.Sending.{SendsOf, SendsSome, StandInFront, commands_asked, if_any}
 use Rattle.pid_http.specs.Serving.{IsErrandMet, IsPromised, serving}

@@ -1,4 +1,3 @@
-pub mod Errands
 pub mod Known
 pub mod Answering
 pub mod Serving

@@ -6,7 +6,7 @@ use Rattle.pid_service_laws.specs.Lives.{after_sent, commands_in}
 use Rattle.pid_moderation.specs.History.{Asked, History}
 use Rattle.pid_moderation.specs.Judgement.{after}
 use Rattle.pid_http_stream.specs.Requests.{Request, IsRequest}
-use Rattle.pid_http.specs.Errands.{command_sent, errand_of}
+use Rattle.pid_http.specs.Answering.{command_sent, errand_of}
 use Rattle.pid_http_stream.specs.Serving.{IsServed, Outside}
 use Rattle.pid_http_stream.specs.declared.stream.StreamEnd.{StreamEnd}
 use Rattle.pid_http.specs.Known.{Known, Live, Between, Told, ByCalls}

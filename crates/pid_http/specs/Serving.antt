@@ -21,12 +21,12 @@ use Rattle.pid_http_stream.specs.declared.reply_head.Content.TheVariants.{Text}
 use Rattle.pid_http_stream.specs.declared.reply_head.ReplyHead.{ReplyHead}
 use Rattle.pid_http.specs.Api.Questions.{Asking, question}
 use Rattle.pid_http.specs.Api.Senders.{Sending, sender}
-use Rattle.pid_http.specs.Answering.{answer_over, IsErrandRefused, LacksForm}
-use Rattle.pid_http.specs.Errands.{Errand, Answered, Denied, Asks, command_sent}
-use Rattle.pid_http.specs.Errands.{errand_of, known_answer}
+use Rattle.pid_http.specs.Answering.{answer_over, IsErrandRefused, LacksForm, Errand, Answered}
+use Rattle.pid_http.specs.Answering.{Denied, Asks, command_sent, errand_of, known_answer}
 use Rattle.pid_http.specs.declared.api.format.Format.{Format}
-use Rattle.pid_http.specs.declared.api.question.Question.TheVariants.{Export, Children}
-use Rattle.pid_http.specs.Known.{Known, Live, Between, Down, Told, ByCalls}
+use Rattle.pid_http.specs.declared.api.question.Question.TheVariants.{Whole, Children}
+use Rattle.pid_http.specs.declared.api.route.Whole.TheVariants.{Export}
+use Rattle.pid_http.specs.Known.{Known, Live, Between, Told, ByCalls}
 
 -- the calls send nothing, and are at most so many
 abbrev pub AreQuestions : ℕ → List Call → Type 0
@@ -37,7 +37,7 @@ AreQuestions most calls = AreNothing calls × (length calls ≤ most)
 abbrev pub most_questions : Errand → ℕ
 most_questions (Answered given) = 0
 most_questions (Denied refusal format) = 0
-most_questions (Asks Export format) = 2
+most_questions (Asks (Whole Export) format) = 2
 most_questions (Asks (Children (Some path)) format) = 2
 most_questions errand = 1
 
@@ -100,7 +100,8 @@ pub record IsTextHead (h : History) (head : ReplyHead) (told : ℕ) : Type 0 whe
 
 -- only an export is promised, and only by a registry that is live, by at most one call
 abbrev pub IsPromised : Known → Errand → ReplyHead → ℕ → List Call → Known → Type 0
-IsPromised (Live h) errand head told calls k = ((format : Format) × (errand ≡ Asks Export format))
+IsPromised (Live h) errand head told calls k =
+    ((format : Format) × (errand ≡ Asks (Whole Export) format))
     × IsTextHead h head told × AreQuestions 1 calls × (k ≡ Live h)
 IsPromised known errand head told calls k = ⊥
 

@@ -1,17 +1,25 @@
 //! What a request asks for, answered by the registry.
-ghost use Rattle.std.specs.Prelude.{◌≡◌, ℕ, List};
+ghost use Rattle.std.specs.Prelude.{◌≡◌, ℕ, List, Err};
 ghost use Rattle.httparse.specs.Grammar.{RequestHead};
 ghost use Rattle.pid_http_stream.specs.HeadParts.{IsHeadOf};
 ghost use Rattle.pid_http_stream.specs.Requests.{fields_of};
+ghost use Rattle.pid_http.specs.Api.Commands.{command_made};
 ghost use Rattle.pid_http.specs.Api.Senders.{sender as sender_in, sending_in};
-ghost use Rattle.pid_http.specs.Errands as errands;
-ghost use Rattle.pid_http.specs.Errands.{errand_for};
+ghost use Rattle.pid_http.specs.Answering as errands;
+ghost use Rattle.pid_http.specs.Answering.{errand_for, sent};
 ghost use Rattle.pid_http.specs.Steps.Replying.{Replies};
+ghost use Rattle.pid_http.specs.declared.api.question.Question.TheVariants as questions;
 
-use crate::api::{Format, Question, Request, Sender, early_reply, found_reply, sender_of};
-use crate::commanding::command;
-use crate::queries::{children, export, lookup, rank, read, submission};
-use pid_http_stream::{Head, Reply};
+use crate::api::{
+    Format, Pages, Question, Request, Sender, Whole, command_in, early_reply, found_reply,
+    item_reply, list_reply, lookup_reply, missing_reply, outcome_reply, rank_reply, refusal_reply,
+    sender_of, submission_reply,
+};
+use http::StatusCode;
+use pid_http_stream::{Content, Head, Reply, ReplyBody, ReplyHead};
+use pid_ident::{Account, Path};
+use pid_lookup::Args;
+use pid_moderation::{Refusal, Verb};
 use pid_service_laws::Consulted;
 use std::alloc::{AllocError, Global};
 
@@ -28,6 +36,145 @@ pub(crate) fn sender_for<'b>(request: &Request, head: &Head<'b>) -> Option<Sende
     }
 }
 
+// The head of the reply with the text, which `write_body` writes after it.
+fn export<R: Consulted>(
+    alloc: Global,
+    registry: &mut R,
+    format: Format,
+) -> Result<Reply, AllocError>
+    ensures { Replies R.Moderated registry.old registry.new
+        (errands.Asks (questions.Whole Whole.Export) format) result }
+{
+    match registry.export_length() {
+        Ok(length) => Ok(Reply {
+            head: ReplyHead {
+                status: StatusCode::OK,
+                content: Content::Text,
+            },
+            body: ReplyBody::Written(length),
+        }),
+        Err(refusal) => refusal_reply(alloc, format, refusal),
+    }
+}
+
+// The item at a path.
+fn read<R: Consulted>(
+    alloc: Global,
+    registry: &mut R,
+    path: Path,
+    format: Format,
+) -> Result<Reply, AllocError>
+    ensures { Replies R.Moderated registry.old registry.new (errands.Asks (questions.Read path) format)
+        result }
+{
+    match registry.read(&path) {
+        Ok(Some(name)) => item_reply(alloc, format, &path, &name),
+        Ok(None) => missing_reply(alloc, format),
+        Err(refusal) => refusal_reply(alloc, format, refusal),
+    }
+}
+
+// The items below a path, or at the top.
+fn children<R: Consulted>(
+    alloc: Global,
+    registry: &mut R,
+    above: Option<Path>,
+    format: Format,
+) -> Result<Reply, AllocError>
+    ensures { Replies R.Moderated registry.old registry.new (errands.Asks (questions.Children above) format)
+        result }
+{
+    match above {
+        None => {}
+        Some(path) => match registry.read(&path) {
+            Ok(Some(_name)) => {}
+            Ok(None) => return missing_reply(alloc, format),
+            Err(refusal) => return refusal_reply(alloc, format, refusal),
+        },
+    }
+    list_reply(alloc, format, registry.children(above))
+}
+
+// A look-up, which has no format.
+fn lookup<R: Consulted>(
+    alloc: Global,
+    registry: &mut R,
+    flags: u32,
+    args: Args,
+    size: u32,
+) -> Result<Reply, AllocError>
+    ensures { (format : _) → Replies R.Moderated registry.old registry.new
+        (errands.Asks (questions.Lookup flags args size) format) result }
+{
+    let found = registry.lookup(flags, &args, size);
+    lookup_reply(alloc, found)
+}
+
+// The submission with a number.
+fn submission<R: Consulted>(
+    alloc: Global,
+    registry: &mut R,
+    number: u32,
+    format: Format,
+) -> Result<Reply, AllocError>
+    ensures { Replies R.Moderated registry.old registry.new
+        (errands.Asks (questions.Submission number) format) result }
+{
+    match registry.submission(number) {
+        Ok(discussion) => submission_reply(alloc, format, number, &discussion),
+        Err(refusal) => refusal_reply(alloc, format, refusal),
+    }
+}
+
+// The rank of an account.
+fn rank<R: Consulted>(
+    alloc: Global,
+    registry: &mut R,
+    who: &Account,
+    format: Format,
+) -> Result<Reply, AllocError>
+    ensures { Replies R.Moderated registry.old registry.new (errands.Asks (questions.Rank who.now) format)
+        result }
+{
+    match registry.rank(who) {
+        Ok(rank) => rank_reply(alloc, format, who, rank),
+        Err(refusal) => refusal_reply(alloc, format, refusal),
+    }
+}
+
+// What is asked of the whole registry.
+fn whole<R: Consulted>(
+    alloc: Global,
+    registry: &mut R,
+    of: Whole,
+    format: Format,
+) -> Result<Reply, AllocError>
+    ensures { Replies R.Moderated registry.old registry.new
+        (errands.Asks (questions.Whole of) format) result }
+{
+    match of {
+        Whole::Export => export(alloc, registry, format),
+        Whole::Status => found_reply(alloc, format, registry.status()),
+    }
+}
+
+// A page of submissions: those with greater numbers than `after`.
+fn page<R: Consulted>(
+    alloc: Global,
+    registry: &mut R,
+    pages: Pages,
+    after: u32,
+    format: Format,
+) -> Result<Reply, AllocError>
+    ensures { Replies R.Moderated registry.old registry.new
+        (errands.Asks (questions.Pages pages after) format) result }
+{
+    match pages {
+        Pages::Pending => list_reply(alloc, format, registry.pending(after)),
+        Pages::Queue => list_reply(alloc, format, registry.queue(after)),
+    }
+}
+
 // Answers a question.
 fn ask<R: Consulted>(
     alloc: Global,
@@ -39,19 +186,18 @@ fn ask<R: Consulted>(
         result }
 {
     match *question {
-        Question::Export => export(alloc, registry, format),
+        Question::Whole(of) => whole(alloc, registry, of, format),
         Question::Read(path) => read(alloc, registry, path, format),
         Question::Children(above) => children(alloc, registry, above, format),
-        Question::Lookup(query) => lookup(alloc, registry, query),
+        Question::Lookup { flags, args, size } => lookup(alloc, registry, flags, args, size),
         Question::Submission(number) => submission(alloc, registry, number, format),
         Question::Remarks { number, after } => {
             found_reply(alloc, format, registry.remarks(number, after))
         }
-        Question::Pending(after) => found_reply(alloc, format, registry.pending(after)),
+        Question::Pages(pages, after) => page(alloc, registry, pages, after, format),
         Question::Changes { since, after } => {
             found_reply(alloc, format, registry.changes(since, after.as_ref()))
         }
-        Question::Queue(after) => found_reply(alloc, format, registry.queue(after)),
         Question::Submissions {
             path,
             ref author,
@@ -60,8 +206,31 @@ fn ask<R: Consulted>(
             let page = registry.submissions(path.as_ref(), author.as_ref(), before);
             found_reply(alloc, format, page)
         }
-        Question::Status => found_reply(alloc, format, registry.status()),
         Question::Rank(ref who) => rank(alloc, registry, who, format),
+    }
+}
+
+// Has the command obeyed that a sender's form makes. The sender is judged before the form.
+fn command<R: Consulted>(
+    alloc: Global,
+    registry: &mut R,
+    verb: Verb,
+    format: Format,
+    sender: Option<Sender<'_>>,
+    body: &[u8],
+) -> Result<Reply, AllocError>
+    ensures { Replies R.Moderated registry.old registry.new
+        (sent format (λ s. command_made verb s body.now) (sending_in sender.entry)) result }
+{
+    match sender {
+        None => refusal_reply(alloc, format, Refusal::BadText),
+        Some(sender) => match command_in(alloc, verb, sender, body) {
+            Err(refusal) => refusal_reply(alloc, format, refusal),
+            Ok(command) => {
+                let outcome = registry.obey(command);
+                outcome_reply(alloc, format, outcome)
+            }
+        },
     }
 }
 

@@ -6,8 +6,8 @@ ghost use Rattle.pid_moderation.specs.BeforeFile.{import_of};
 ghost use Rattle.pid_http.specs.Api.Outcomes.{outcome_answer};
 ghost use Rattle.pid_http.specs.Api.Replying.{MakesReply};
 ghost use Rattle.pid_http.specs.Api.Senders.{sending_in};
-ghost use Rattle.pid_http.specs.Errands as errands;
-ghost use Rattle.pid_http.specs.Errands.{import_errand};
+ghost use Rattle.pid_http.specs.Answering as errands;
+ghost use Rattle.pid_http.specs.Answering.{import_errand};
 ghost use Rattle.pid_http.specs.Steps.Replying.{RepliesToFile};
 
 use crate::api::{Format, Sender, outcome_reply};

@@ -3,12 +3,10 @@
 #![tactic(auto)]
 
 pub mod api;
-mod commanding;
 mod dispatch;
 mod handling;
 mod importing;
 pub mod laws;
-mod queries;
 mod stream;
 
 pub use crate::api::Routes;

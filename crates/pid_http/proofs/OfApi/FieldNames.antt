@@ -7,7 +7,7 @@ use Rattle.std.specs.Str.{bytes_eq}
 use Rattle.std.proofs.lemmas.List.Folds.{list_all-map}
 use Rattle.pid_form.specs.Fields.{is_twice}
 use Rattle.pid_form.specs.FormFields.{bytes_of}
-use Rattle.pid_http.specs.Api.Queries.{are_of}
+use Rattle.pid_http.specs.Api.Questions.{are_of}
 
 -- a name among others
 among : (text : List ℕ) (names : List (Bor (List ℕ))) → list_any (λ other. bytes_eq text other.now) names ≡ list_any (λ name. bytes_eq text name) (map (λ name. name.now) names)

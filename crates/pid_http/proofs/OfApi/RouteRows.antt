@@ -8,8 +8,7 @@ use Rattle.matchit.specs.Router.{RouteOf, InsertsRead, nearest}
 use Rattle.matchit.specs.declared.error.InsertError.{InsertError}
 use Rattle.matchit.specs.declared.error.InsertError.TheVariants.{Conflict, InvalidParam, InvalidParamSegment, InvalidCatchAll, OutOfMemory}
 use Rattle.matchit.proofs.OnLiterals.{matchit_on_literals}
-use Rattle.pid_http.specs.Api.Routes.{Given, all_routes, with_all, with_read}
-use Rattle.pid_http.specs.declared.api.route.Route.{Route}
+use Rattle.pid_http.specs.Api.Routes.{all_routes, Given, Route, with_all, with_read}
 use Rattle.std.specs.Borrow.{Bor}
 
 -- a path and its route, as the table has them, and by its text

@@ -11,8 +11,7 @@ use Rattle.matchit.specs.Rows.{RowsOf}
 use Rattle.matchit.specs.Router.{RouteOf, map_key}
 use Rattle.matchit.specs.Seek.{first}
 use Rattle.pid_http.specs.Api.Questions.{rest_after}
-use Rattle.pid_http.specs.Api.Routes.{all_routes, route_at, with_all}
-use Rattle.pid_http.specs.declared.api.route.Route.{Route}
+use Rattle.pid_http.specs.Api.Routes.{all_routes, Route, route_at, with_all}
 
 -- the route of a path, by what a router answers
 pub route_found : (path : List ℕ) (routes : RowsOf (RouteOf Route)) → routes ≡ with_all all_routes [] → (found : Option (RouteOf Route)) → first routes path ≡ found → map_key (λ found. found.value) found ≡ route_at path

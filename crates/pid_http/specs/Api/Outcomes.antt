@@ -1,10 +1,10 @@
 -- The answers to commands: a status (RFC 9110, section 15), and the outcome as JSON or as the reply
--- line of scripts. Choices of this project.
-use Rattle.std.specs.Prelude.{ℕ, true, false, List, codes, Result, Ok, Err}
+-- line of scripts; and those to requests that come to no call, where a method that is not allowed is
+-- answered with those that are (section 15.5.6). Choices of this project.
+use Rattle.std.specs.Prelude.{ℕ, true, false, List, codes, Result, Ok, Err, []}
 use Rattle.serde_json.specs.Written.{compact_text}
-use Rattle.serde_json.specs.Data.{Data, number, unsigned, string, boolean}
-use Rattle.serde_json.specs.Data.{object, member, no_members}
-use Rattle.pid_ident.specs.LineKinds as line_kinds
+use Rattle.serde_json.specs.Data.{Data, number, unsigned, string, boolean, object, member}
+use Rattle.serde_json.specs.Data.{no_members}
 use Rattle.pid_lookup.specs.Unanswered.{unanswered_number, unanswered_word, unanswered_line}
 use Rattle.pid_lookup.specs.declared.unanswered.Unanswered.{Unanswered}
 use Rattle.pid_lookup.specs.declared.unanswered.Unanswered.TheVariants.{NoItem}
@@ -14,12 +14,17 @@ use Rattle.pid_moderation.specs.declared.command.Reply.{Reply}
 use Rattle.pid_moderation.specs.declared.command.Reply.TheVariants.{Done, Numbered, Counts}
 use Rattle.pid_moderation.specs.declared.refusal.FileFault.TheVariants.{Line, TooMany}
 use Rattle.pid_moderation.specs.declared.refusal.Refusal.{Refusal}
-use Rattle.pid_moderation.specs.declared.refusal.Refusal.TheVariants as refusals
 use Rattle.pid_http_stream.specs.Replies.{Answer, answer_with}
 use Rattle.pid_http_stream.specs.StreamFaults.{refusal_data}
-use Rattle.pid_http_stream.specs.declared.reply_head.Content.TheVariants.{Json}
+use Rattle.pid_http_stream.specs.declared.reply_head.Content.TheVariants.{Json, AllowGet, AllowPost}
+use Rattle.pid_http_stream.specs.declared.reply_head.Content.TheVariants.{AllowBoth}
 use Rattle.pid_http.specs.Api.Replying.{answer_in}
 use Rattle.pid_http.specs.declared.api.format.Format.{Format}
+use Rattle.pid_http.specs.declared.api.early.Early.{Early}
+use Rattle.pid_ident.specs.LineKinds as line_kinds
+use Rattle.pid_http.specs.declared.api.format.Format.TheVariants as formats
+use Rattle.pid_moderation.specs.declared.refusal.Refusal.TheVariants as refusals
+use Rattle.pid_http.specs.declared.api.early.Early.TheVariants as early
 
 -- ill-formed; not allowed to this account; not there; against how things stand; a faulty file;
 -- full, or failed
@@ -94,3 +99,13 @@ unanswered_answer status why = refused_answer status (unanswered_number why) (un
 -- the answer if no item is at a path
 abbrev pub missing_answer : Format → Answer
 missing_answer format = answer_in format 404 (unanswered_data NoItem) (unanswered_line NoItem)
+
+-- the methods of the route; or the refusal
+abbrev pub early_answer : Early → Answer
+early_answer early.AnotherMethod = answer_with 405 AllowBoth []
+early_answer early.WantsGet = answer_with 405 AllowGet []
+early_answer early.WantsPost = answer_with 405 AllowPost []
+early_answer early.BadTarget = refused_answer 400 28 (codes "BadTarget")
+early_answer early.NoRoute = refused_answer 404 24 (codes "NoRoute")
+early_answer early.BadQuery = outcome_answer formats.Json (Err refusals.BadText)
+early_answer (early.BadValue refusal format) = outcome_answer format (Err refusal)

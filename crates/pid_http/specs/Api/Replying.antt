@@ -19,6 +19,10 @@ abbrev pub answer_in : Format → ℕ → Data → List ℕ → Answer
 answer_in Json status value text = answer_with status contents.Json (compact_text value)
 answer_in Text status value text = answer_with status contents.Text text
 
+-- the answer with what is shown, which has a value and lines of text
+abbrev pub shown_answer : {X : Type 0} → (X → Data) → (X → List ℕ) → Format → X → Answer
+shown_answer json lines format x = answer_in format 200 (json x) (lines x)
+
 -- a line of a word and what it says
 abbrev pub word_line : List ℕ → List ℕ → List ℕ
 word_line word value = word ++ codes " " ++ value ++ codes "\n"
@@ -29,7 +33,7 @@ rows_data json rows = array (items_of (map json rows))
 
 -- the answer with a list of rows; a line of text for each
 abbrev pub list_answer : {X : Type 0} → (X → Data) → (X → List ℕ) → Format → List X → Answer
-list_answer json line format rows = answer_in format 200 (rows_data json rows) (flat_map line rows)
+list_answer json line format rows = shown_answer (rows_data json) (flat_map line) format rows
 
 -- the body is there, and after this head it is the answer
 abbrev pub IsBodyOf : ReplyHead → ReplyBody → Answer → Type 0

@@ -1,18 +1,20 @@
 -- The routes, and what each of them takes: the rows of `ROUTES`, choices of this project.
-use Rattle.std.specs.Prelude.{ℕ, List, [], ◌∷◌, map, codes, Option, Some, None, Result, Ok, Err}
+use Rattle.std.specs.Prelude.{ℕ, List, [], ◌∷◌, map, codes, Option, Result, Ok, Err}
 use Rattle.matchit.specs.Order.{placed}
 use Rattle.matchit.specs.Route.{Scan, parse_route}
 use Rattle.matchit.specs.Router.{RouteOf, map_key, route_from}
 use Rattle.matchit.specs.Rows.{RowsOf}
 use Rattle.matchit.specs.Seek.{first}
 use Rattle.matchit.specs.declared.error.InsertError.{InsertError}
-use Rattle.pid_http.specs.declared.api.route.Route.{Route}
-use Rattle.pid_http.specs.declared.api.route.Route.TheVariants.{Get, Post, Both}
 use Rattle.pid_http.specs.declared.api.route.Payload.{Payload}
 use Rattle.pid_http.specs.declared.api.route.Query.{Query}
 use Rattle.pid_http.specs.declared.api.route.Query.TheVariants as queries
 use Rattle.pid_http.specs.declared.api.route.Topic.{Topic}
 use Rattle.pid_http.specs.declared.api.route.TheConstants.{ROUTES}
+
+-- what a GET asks about at a path, and by which query; and what a POST sends
+abbrev pub Route : Type 0
+Route = Option (Topic × Query) × Option Payload
 
 -- the path of a route, and what it takes
 abbrev pub Given : Type 0
@@ -50,15 +52,3 @@ names_of queries.PathAuthorBefore = codes "format" ∷ codes "path" ∷ codes "a
     ∷ codes "before" ∷ []
 names_of queries.Who = codes "format" ∷ codes "who" ∷ []
 names_of queries.NumAfter = codes "format" ∷ codes "num" ∷ codes "after" ∷ []
-
--- what is asked at a route by GET, and by which query, if it takes that
-abbrev pub topic_at : Route → Option (Topic × Query)
-topic_at (Get topic query) = Some (topic, query)
-topic_at (Post payload) = None
-topic_at (Both topic query payload) = Some (topic, query)
-
--- the payload of a route by POST, if it takes that
-abbrev pub payload_at : Route → Option Payload
-payload_at (Get topic query) = None
-payload_at (Post payload) = Some payload
-payload_at (Both topic query payload) = Some payload

@@ -2,9 +2,7 @@
 use Rattle.std.specs.Prelude.{ℕ, List, ◌++◌, codes, decimal}
 use Rattle.serde_json.specs.Data.{Data, number, unsigned, object, member, no_members}
 use Rattle.pid_moderation.specs.RegistryStatus.{RegistryStatus}
-use Rattle.pid_http_stream.specs.Replies.{Answer}
-use Rattle.pid_http.specs.Api.Replying.{answer_in, word_line}
-use Rattle.pid_http.specs.declared.api.format.Format.{Format}
+use Rattle.pid_http.specs.Api.Replying.{word_line}
 
 -- {"accounts":2,"items":35598,"pending":44,"revision":72,"submissions":52}
 abbrev pub status_data : RegistryStatus → Data
@@ -23,7 +21,3 @@ status_text s =
     ++ word_line (codes "pending") (decimal s.pending)
     ++ word_line (codes "revision") (decimal s.revision)
     ++ word_line (codes "submissions") (decimal s.submissions)
-
--- how much a registry holds
-abbrev pub status_answer : Format → RegistryStatus → Answer
-status_answer format s = answer_in format 200 (status_data s) (status_text s)

@@ -1,4 +1,3 @@
 -- What serves private functions alone; no promise rests on it.
-pub mod SubmissionParts
 pub mod NoFloats
 pub mod Making

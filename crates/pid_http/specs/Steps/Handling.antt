@@ -10,8 +10,7 @@ use Rattle.pid_http_stream.specs.Replies.{answer_after, answer_with}
 use Rattle.pid_http_stream.specs.Requests.{Request}
 use Rattle.pid_http_stream.specs.declared.reply_head.Content.TheVariants.{Text}
 use Rattle.pid_http_stream.specs.declared.reply_head.ReplyHead.{ReplyHead}
-use Rattle.pid_http.specs.Answering.{answer_over}
-use Rattle.pid_http.specs.Errands.{Errand, errand_of}
+use Rattle.pid_http.specs.Answering.{answer_over, Errand, errand_of}
 use Rattle.pid_http.specs.Known.{Known, Live, Between, Down, Told, ByCalls}
 use Rattle.pid_http.specs.Serving.{AreQuestions, IsErrandMet, AnsweredOver, IsPromised}
 use Rattle.pid_http.specs.Serving.{IsTextHead, serving}

@@ -20,7 +20,7 @@ use Rattle.pid_http_stream.specs.declared.handler.ReplyBody.TheVariants.{Bytes, 
 use Rattle.pid_http_stream.specs.declared.reply_head.ReplyHead.{ReplyHead}
 use Rattle.pid_http.specs.declared.api.format.Format.{Format}
 use Rattle.pid_http.specs.Api.Outcomes.{outcome_answer}
-use Rattle.pid_http.specs.Errands.{Errand}
+use Rattle.pid_http.specs.Answering.{Errand}
 use Rattle.pid_http.specs.Known.{Known, Live, Between, Down}
 use Rattle.pid_http.specs.Steps.Going.{Goes}
 use Rattle.pid_http.specs.Serving.{AreQuestions, IsErrandMet, IsPromised, most_questions}

@@ -1,20 +1,11 @@
 //! The command that a request makes.
-ghost use Rattle.std.specs.Prelude.{
-  ◌≡◌,
-  ◌≢◌,
-  nat_lt,
-  length,
-  IfOk,
-  IfErr,
-  Ok,
-  Err,
-};
+ghost use Rattle.std.specs.Prelude.{◌≡◌, ◌≢◌, nat_lt, length, IfOk, IfErr, Ok, Err};
 ghost use Rattle.form_urlencoded.specs.Form.{raw_pairs as pairs_in};
 ghost use Rattle.pid_http.specs.Api.Commands.{command_made};
 ghost use Rattle.pid_http.specs.Api.Senders.{sending_of};
 
 use crate::api::sender::Sender;
-use crate::api::utf8::text_of;
+use crate::api::text::text_of;
 use form_urlencoded::raw_pairs;
 use pid_form::fields_of;
 use pid_moderation::{Command, Refusal, Verb, command_of};

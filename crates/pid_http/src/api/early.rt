@@ -1,7 +1,7 @@
 //! Replies to requests that come to no call.
 ghost use Rattle.std.specs.Prelude.{◌≡◌, []};
 ghost use Rattle.pid_http_stream.specs.Replies.{answer_with};
-ghost use Rattle.pid_http.specs.Api.EarlyAnswers.{early_answer};
+ghost use Rattle.pid_http.specs.Api.Outcomes.{early_answer};
 ghost use Rattle.pid_http.specs.Api.Replying.{IsReplyOf, MakesReply};
 
 use crate::api::Format;

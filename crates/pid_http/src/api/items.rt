@@ -3,17 +3,13 @@ ghost use Rattle.std.specs.Prelude.{◌≡◌, ℕ, List, refl, IfOk};
 ghost use Rattle.pid_ident.specs.PathTexts.{path_text};
 ghost use Rattle.pid_moderation.specs.ItemPairs.{pair_of};
 ghost use Rattle.serde_json.specs.View.{view};
-ghost use Rattle.pid_http.specs.Api.ItemAnswers.{
-  item_answer,
-  item_data,
-  child_line,
-};
+ghost use Rattle.pid_http.specs.Api.ItemAnswers.{item_answer, item_data, child_line};
 ghost use Rattle.pid_http.specs.Api.Replying.{MakesReply};
 
 use crate::api::Format;
-use crate::api::list::Row;
 use crate::api::members::{with_path, with_text};
 use crate::api::reply::{json_reply, text_reply};
+use crate::api::shown::Shown;
 use crate::api::text::push_line;
 use http::StatusCode;
 use pid_http_stream::Reply;
@@ -53,20 +49,20 @@ pub fn item_reply(
 }
 
 // The line has its path, a space and its name.
-impl Row for Item {
+impl Shown for Item {
     ghost Seen = { List ℕ × List ℕ };
 
     ghost seen = { pair_of };
 
     ghost json = { item_data };
 
-    ghost line = { child_line };
+    ghost lines = { child_line };
 
     fn value(&self, alloc: Global) -> Result<Value, AllocError> {
         item_value(alloc, &self.path, &self.name)
     }
 
-    fn push_line(&self, alloc: Global, text: &mut String) -> Result<(), AllocError> {
+    fn push_text(&self, alloc: Global, text: &mut String) -> Result<(), AllocError> {
         let path = self.path.path_text(alloc)?;
         push_line(text, path.as_str(), self.name.as_str())
     }

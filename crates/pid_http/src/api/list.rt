@@ -5,45 +5,20 @@ ghost use Rattle.serde_json.specs.Data.{Data};
 ghost use Rattle.serde_json.specs.View.{view};
 ghost use Rattle.serde_json.specs.Written.{comma_if, compact_text, has_float};
 ghost use Rattle.pid_http.specs.Api.Replying.{MakesReply, list_answer, rows_data};
+ghost use Rattle.pid_http.specs.Steps.Replying.{answer_or};
 
 use crate::api::Format;
+use crate::api::outcome::refusal_reply;
 use crate::api::reply::{json_text_reply, printed, text_reply};
+use crate::api::shown::Shown;
 use http::StatusCode;
 use pid_http_stream::Reply;
+use pid_moderation::Refusal;
 use serde_json::Value;
 use std::alloc::{AllocError, Global};
 
-/// A row of a list.
-pub(crate) trait Row {
-    ghost use Rattle.std.specs.Prelude.{ℕ, List};
-
-    /// What definitions say of it.
-    ghost Seen: { Type 0 };
-
-    /// How definitions see it.
-    ghost seen: { Self → Seen };
-
-    /// Its value in JSON.
-    ghost json: { Seen → Data };
-
-    /// Its line of text.
-    ghost line: { Seen → List ℕ };
-
-    /// Its value.
-    fn value(&self, alloc: Global) -> Result<Value, AllocError>
-        ensures { IfOk result (λ value. view value ≡ json (seen self.now)) };
-
-    /// Appends its line.
-    fn push_line(&self, alloc: Global, text: &mut String) -> Result<(), AllocError>
-        ensures { OnOk result (string_bytes text.new
-            ≡ string_bytes text.old ++ line (seen self.now)) };
-
-    /// No value has a float.
-    ghost no_float: { (row : Seen) → has_float (json row) ≡ false };
-}
-
 /// The rows as an array.
-pub(crate) fn rows_value<R: Row>(alloc: Global, rows: &[R]) -> Result<Value, AllocError>
+pub(crate) fn rows_value<R: Shown>(alloc: Global, rows: &[R]) -> Result<Value, AllocError>
     ensures { IfOk result (λ value. view value ≡ rows_data R.json (map R.seen rows.now)) }
 {
     let mut values = Vec::new(alloc);
@@ -64,7 +39,7 @@ pub(crate) fn push_value(alloc: Global, text: &mut String, value: Value) -> Resu
 }
 
 // Appends a row, after a comma if `later` says that there is one before it.
-fn push_row<R: Row>(
+fn push_row<R: Shown>(
     alloc: Global,
     text: &mut String,
     later: bool,
@@ -81,7 +56,7 @@ fn push_row<R: Row>(
 }
 
 /// Appends the rows as an array, row by row.
-pub(crate) fn push_rows<R: Row>(
+pub(crate) fn push_rows<R: Shown>(
     alloc: Global,
     text: &mut String,
     rows: &[R],
@@ -99,28 +74,24 @@ pub(crate) fn push_rows<R: Row>(
     Ok(())
 }
 
-/// Appends the line of each row.
-pub(crate) fn push_lines<R: Row>(
+/// Appends the text of each row.
+pub(crate) fn push_lines<R: Shown>(
     alloc: Global,
     text: &mut String,
     rows: &[R],
 ) -> Result<(), AllocError>
     ensures { OnOk result (string_bytes text.new
-        ≡ string_bytes text.old ++ flat_map R.line (map R.seen rows.now)) }
+        ≡ string_bytes text.old ++ flat_map R.lines (map R.seen rows.now)) }
 {
     for row in rows {
-        row.push_line(alloc, text)?;
+        row.push_text(alloc, text)?;
     }
     Ok(())
 }
 
-/// The reply with the rows, in their order.
-pub(crate) fn list_reply<R: Row>(
-    alloc: Global,
-    format: Format,
-    rows: &[R],
-) -> Result<Reply, AllocError>
-    ensures { MakesReply result (list_answer R.json R.line format (map R.seen rows.now)) }
+// The reply with the rows, in their order.
+fn rows_reply<R: Shown>(alloc: Global, format: Format, rows: &[R]) -> Result<Reply, AllocError>
+    ensures { MakesReply result (list_answer R.json R.lines format (map R.seen rows.now)) }
 {
     let mut text = String::new(alloc);
     match format {
@@ -132,5 +103,20 @@ pub(crate) fn list_reply<R: Row>(
             push_lines(alloc, &mut text, rows)?;
             Ok(text_reply(StatusCode::OK, text))
         }
+    }
+}
+
+/// The reply with the rows that were found, or with the refusal.
+pub(crate) fn list_reply<R: Shown + Drop>(
+    alloc: Global,
+    format: Format,
+    found: Result<Vec<R>, Refusal>,
+) -> Result<Reply, AllocError>
+    ensures { MakesReply result (answer_or format
+        (λ rows. list_answer R.json R.lines format (map R.seen rows.items)) found) }
+{
+    match found {
+        Ok(rows) => rows_reply(alloc, format, &rows),
+        Err(refusal) => refusal_reply(alloc, format, refusal),
     }
 }

@@ -1,16 +1,10 @@
 //! Replies to commands.
 ghost use Rattle.std.specs.Prelude.{◌≡◌, Ok, IfOk, IsTrue};
 ghost use Rattle.serde_json.specs.View.{view};
-ghost use Rattle.pid_http.specs.Api.Outcomes.{
-  fault_data,
-  missing_answer,
-  outcome_answer,
-  outcome_data,
-  refused_answer,
-  status_of_outcome,
-  unanswered_answer,
-};
-ghost use Rattle.pid_http.specs.Api.Replying.{MakesReply};
+ghost use Rattle.pid_http.specs.Api.Outcomes.{fault_data, missing_answer, outcome_answer};
+ghost use Rattle.pid_http.specs.Api.Outcomes.{outcome_data, refused_answer, status_of_outcome};
+ghost use Rattle.pid_http.specs.Api.Outcomes.{unanswered_answer};
+ghost use Rattle.pid_http.specs.Api.Replying.{MakesReply, answer_in};
 ghost use Rattle.pid_http_stream.specs.StreamFaults.{refusal_data};
 ghost use Rattle.pid_http_stream.specs.HttpStatuses.{allows_body};
 
@@ -177,15 +171,30 @@ pub(crate) fn unanswered_reply(
     refused_reply(alloc, status, why.number(), why.word())
 }
 
+/// The reply with a refusal that is none of a command, in a format: what was asked for is not there.
+/// `line` says the same as text.
+pub(crate) fn absent_reply(
+    alloc: Global,
+    format: Format,
+    number: u8,
+    word: &str,
+    line: &str,
+) -> Result<HttpReply, AllocError>
+    ensures { MakesReply result (answer_in format 404 (refusal_data number word.now) line.now) }
+{
+    match format {
+        Format::Json => refused_reply(alloc, StatusCode::NOT_FOUND, number, word),
+        Format::Text => {
+            let line = String::from_str(alloc, line)?;
+            Ok(text_reply(StatusCode::NOT_FOUND, line))
+        }
+    }
+}
+
 /// The reply if no item is at a path.
 pub fn missing_reply(alloc: Global, format: Format) -> Result<HttpReply, AllocError>
     ensures { MakesReply result (missing_answer format) }
 {
-    match format {
-        Format::Json => unanswered_reply(alloc, StatusCode::NOT_FOUND, Unanswered::NoItem),
-        Format::Text => {
-            let line = String::from_str(alloc, Unanswered::NoItem.line())?;
-            Ok(text_reply(StatusCode::NOT_FOUND, line))
-        }
-    }
+    let why = Unanswered::NoItem;
+    absent_reply(alloc, format, why.number(), why.word(), why.line())
 }

@@ -1,24 +1,21 @@
-//! Rows of pending submissions.
+//! Pending submissions in answers, and those of the queue of a moderator.
 ghost use Rattle.std.specs.Prelude.{◌≡◌, ◌++◌, ℕ, codes, map, string_bytes, IfOk, OnOk};
 ghost use Rattle.pid_moderation.specs.PendingPages.{told_of};
+ghost use Rattle.pid_moderation.specs.QueuePages.{QueueEntry, queued_of};
 ghost use Rattle.pid_moderation.specs.Submissions.{Standing, standing_of};
 ghost use Rattle.serde_json.specs.Data.{put as with_member};
 ghost use Rattle.serde_json.specs.View.{members_view};
-ghost use Rattle.pid_http.specs.Api.PendingAnswers.{
-  pending_data,
-  pending_line,
-  proposal_words,
-  proposed_data,
-};
-ghost use Rattle.pid_http.specs.Api.Steps.SubmissionParts.{pending_members};
-ghost use Rattle.pid_http.specs.Api.Steps.NoFloats.{pending_has_none};
+ghost use Rattle.pid_http.specs.Api.SubmissionAnswers.{now_data, pending_data, pending_line};
+ghost use Rattle.pid_http.specs.Api.SubmissionAnswers.{pending_members, proposal_words};
+ghost use Rattle.pid_http.specs.Api.SubmissionAnswers.{proposed_data, queued_data, queued_line};
+ghost use Rattle.pid_http.specs.Api.Steps.NoFloats.{pending_has_none, queued_has_none};
 
-use crate::api::list::Row;
 use crate::api::members::{with_path, with_text, with_value};
+use crate::api::shown::Shown;
 use crate::api::text::{push_line, push_word};
 use itoa::Buffer;
-use pid_ident::PathText;
-use pid_moderation::{Pending, Proposal, Submission};
+use pid_ident::{Name, PathText};
+use pid_moderation::{Pending, Proposal, Queued, Submission};
 use serde_json::{Map, Value};
 use std::alloc::{AllocError, Global};
 
@@ -90,23 +87,63 @@ pub(crate) fn push_submission(
 
 // The line has its number, its author, what is proposed (`name` or `remove`), its path, and after
 // `name` the name.
-impl Row for Pending {
+impl Shown for Pending {
     ghost Seen = { ℕ × Standing };
 
     ghost seen = { told_of };
 
     ghost json = { pending_data };
 
-    ghost line = { pending_line };
+    ghost lines = { pending_line };
 
     fn value(&self, alloc: Global) -> Result<Value, AllocError> {
         let members = submission_members(alloc, self.number, &self.submission)?;
         Ok(Value::Object(members))
     }
 
-    fn push_line(&self, alloc: Global, text: &mut String) -> Result<(), AllocError> {
+    fn push_text(&self, alloc: Global, text: &mut String) -> Result<(), AllocError> {
         push_submission(alloc, text, self.number, &self.submission)
     }
 
     ghost no_float = { pending_has_none };
+}
+
+// The members, and the name of today, or null if there is none.
+fn with_now(
+    members: Map<String, Value>,
+    alloc: Global,
+    today: &Option<Name>,
+) -> Result<Map<String, Value>, AllocError>
+    ensures { IfOk result (λ after. members_view after.entries
+        ≡ with_member (codes "now") (now_data today.now) (members_view members.entries)) }
+{
+    match today {
+        Some(name) => with_text(members, alloc, "now", name.as_str()),
+        None => with_value(members, alloc, "now", Value::Null),
+    }
+}
+
+// The line is that of a pending submission.
+impl Shown for Queued {
+    ghost Seen = { QueueEntry };
+
+    ghost seen = { queued_of };
+
+    ghost json = { queued_data };
+
+    ghost lines = { queued_line };
+
+    fn value(&self, alloc: Global) -> Result<Value, AllocError> {
+        let members = submission_members(alloc, self.number, &self.submission)?;
+        let members = with_text(members, alloc, "note", self.submission.note.as_str())?;
+        let members = with_now(members, alloc, &self.now)?;
+        let members = with_value(members, alloc, "remarks", Value::from(self.remarks))?;
+        Ok(Value::Object(members))
+    }
+
+    fn push_text(&self, alloc: Global, text: &mut String) -> Result<(), AllocError> {
+        push_submission(alloc, text, self.number, &self.submission)
+    }
+
+    ghost no_float = { queued_has_none };
 }

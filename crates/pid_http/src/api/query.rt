@@ -5,17 +5,9 @@ ghost use Rattle.std.specs.Option.{option_copied};
 ghost use Rattle.std.specs.Str.{bytes_eq};
 ghost use Rattle.pid_form.specs.Fields.{is_twice as is_twice_in};
 ghost use Rattle.pid_moderation.specs.Fields.{texts_of};
-ghost use Rattle.pid_http.specs.Api.Queries.{
-  format_said,
-  format_in,
-  are_of as have_names,
-  account_said,
-  author_said,
-  num_said,
-  after_said,
-  path_said,
-  revision_said,
-};
+ghost use Rattle.pid_http.specs.Api.Questions.{format_said, format_in, are_of as have_names};
+ghost use Rattle.pid_http.specs.Api.Questions.{account_said, author_said, num_said, after_said};
+ghost use Rattle.pid_http.specs.Api.Questions.{path_said, revision_said};
 ghost use Rattle.pid_http.specs.Api.Steps.Making.{MakesSaid};
 
 use crate::api::early::{Early, Unasked};

@@ -3,12 +3,10 @@ ghost use Rattle.std.specs.Prelude.{◌≡◌, codes};
 ghost use Rattle.std.specs.Option.{ok_or};
 ghost use Rattle.pid_moderation.specs.Fields.{texts_of};
 ghost use Rattle.pid_moderation.specs.Forms.{number_in};
-ghost use Rattle.pid_http.specs.Api.Queries.{named_path, on_said, query_said};
-ghost use Rattle.pid_http.specs.Api.Questions.{
-  rest_after as rest_of,
-  submissions_asked,
-  topic_asked,
-};
+ghost use Rattle.pid_lookup.specs.Fields.{lookup_from};
+ghost use Rattle.pid_http.specs.Api.Questions.{lookup_asked, named_path, on_said};
+ghost use Rattle.pid_http.specs.Api.Questions.{rest_after as rest_of, submissions_asked};
+ghost use Rattle.pid_http.specs.Api.Questions.{topic_asked};
 ghost use Rattle.pid_http.specs.Api.Steps.Making.{MakesSaid};
 ghost use Rattle.pid_http.specs.declared.api.question.Question.TheVariants as questions;
 
@@ -17,33 +15,28 @@ use crate::api::format::Format;
 use crate::api::query::{
     account_named, author_named, number_named, path_named, revision_named, submission_named,
 };
-use crate::api::route::Topic;
+use crate::api::route::{Pages, Topic, Whole};
 use pid_form::{text_at, value};
 use pid_ident::{Account, Path, PathText};
 use pid_lookup::{Args, args_of};
 use pid_moderation::{Refusal, submission_number};
 use std::alloc::Global;
 
-/// A look-up: its flags, what is looked up, and the size of the buffer that its answer is cut to,
-/// in bytes.
-#[derive(Clone, Copy)]
-pub struct LookupQuery {
-    pub flags: u32,
-    pub args: Args,
-    pub size: u32,
-}
-
 /// What a request asks the registry.
 #[derive(Drop)]
 pub enum Question {
-    /// The canonical text of all items.
-    Export,
+    /// What needs no value.
+    Whole(Whole),
     /// The item at a path.
     Read(Path),
     /// The items right below a path, or those at the top.
     Children(Option<Path>),
-    /// A look-up.
-    Lookup(LookupQuery),
+    /// A look-up, whose answer is cut to a buffer of `size` bytes.
+    Lookup {
+        flags: u32,
+        args: Args,
+        size: u32,
+    },
     /// The submission with a number.
     Submission(u32),
     /// The submission with a number, and the remarks on it whose places are above this one.
@@ -51,16 +44,14 @@ pub enum Question {
         number: u32,
         after: u32,
     },
-    /// The pending submissions with greater numbers than this.
-    Pending(u32),
+    /// A page of submissions: those with greater numbers than this.
+    Pages(Pages, u32),
     /// The items that commands with greater numbers than this added or renamed, after a path or
     /// from the first one on.
     Changes {
         since: u64,
         after: Option<Path>,
     },
-    /// The queue of a moderator: its pending submissions with greater numbers than this.
-    Queue(u32),
     /// The submissions for a path and of an author, where one is named, with numbers below this
     /// one, of which 0 stands for no bound.
     Submissions {
@@ -68,8 +59,6 @@ pub enum Question {
         author: Option<Account>,
         before: u32,
     },
-    /// How much the registry holds.
-    Status,
     /// The rank of an account.
     Rank(Account),
 }
@@ -103,11 +92,11 @@ fn number_of(path: &str, format: Format) -> Result<Question, Early>
 }
 
 fn lookup_of(fields: &[(String, String)]) -> Result<Question, Early>
-    ensures { result ≡ on_said questions.Lookup
-        (ok_or (query_said (texts_of fields.now)) Early.BadQuery) }
+    ensures { result ≡ on_said lookup_asked
+        (ok_or (lookup_from (texts_of fields.now)) Early.BadQuery) }
 {
     match args_of(fields) {
-        Ok((flags, args, size)) => Ok(Question::Lookup(LookupQuery { flags, args, size })),
+        Ok((flags, args, size)) => Ok(Question::Lookup { flags, args, size }),
         Err(_) => Err(Early::BadQuery),
     }
 }
@@ -142,7 +131,7 @@ pub(crate) fn ask_topic(
     ensures { MakesSaid result (topic_asked topic path.now (texts_of fields.now) format) }
 {
     match topic {
-        Topic::Export => Ok(Question::Export),
+        Topic::Whole(whole) => Ok(Question::Whole(whole)),
         Topic::Read => Ok(item_of(path, format)?),
         Topic::Children => Ok(Question::Children(path_named(text_at(fields, "of"), format)?)),
         Topic::Lookup => Ok(lookup_of(fields)?),
@@ -152,15 +141,13 @@ pub(crate) fn ask_topic(
             let after = number_named(value(fields, "after"))?;
             Ok(Question::Remarks { number, after })
         }
-        Topic::Pending => Ok(Question::Pending(number_named(value(fields, "after"))?)),
+        Topic::Pages(pages) => Ok(Question::Pages(pages, number_named(value(fields, "after"))?)),
         Topic::Changes => {
             let since = revision_named(value(fields, "since"))?;
             let after = path_named(text_at(fields, "after"), format)?;
             Ok(Question::Changes { since, after })
         }
-        Topic::Queue => Ok(Question::Queue(number_named(value(fields, "after"))?)),
         Topic::Submissions => submissions_of(alloc, fields, format),
-        Topic::Status => Ok(Question::Status),
         Topic::Rank => Ok(Question::Rank(account_named(alloc, text_at(fields, "who"))?)),
     }
 }

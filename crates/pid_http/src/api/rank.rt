@@ -1,12 +1,12 @@
 //! The reply with the rank of an account.
-ghost use Rattle.std.specs.Prelude.{◌≡◌, [], None, Some, IfOk};
+ghost use Rattle.std.specs.Prelude.{◌≡◌, IfOk};
 ghost use Rattle.serde_json.specs.View.{view};
 ghost use Rattle.pid_http.specs.Api.RankAnswers.{rank_answer, rank_data};
 ghost use Rattle.pid_http.specs.Api.Replying.{MakesReply};
 
 use crate::api::Format;
 use crate::api::members::{with_text, with_value};
-use crate::api::outcome::refusal_value;
+use crate::api::outcome::absent_reply;
 use crate::api::reply::{json_reply, text_reply};
 use crate::api::text::push_line;
 use http::StatusCode;
@@ -25,14 +25,20 @@ fn rank_value(alloc: Global, who: &Account, rank: Rank) -> Result<Value, AllocEr
     Ok(Value::Object(members))
 }
 
-fn ranked_reply(
+/// The reply with the rank of an account, or that there is no such account. The text is a line of
+/// the account and its rank.
+pub fn rank_reply(
     alloc: Global,
     format: Format,
     who: &Account,
-    rank: Rank,
+    rank: Option<Rank>,
 ) -> Result<Reply, AllocError>
-    ensures { MakesReply result (rank_answer format who.now (Some rank)) }
+    ensures { MakesReply result (rank_answer format who.now rank) }
 {
+    let Some(rank) = rank else {
+        let line = "refused 29 NoSuchAccount\n";
+        return absent_reply(alloc, format, 29, "NoSuchAccount", line);
+    };
     match format {
         Format::Json => {
             let value = rank_value(alloc, who, rank)?;
@@ -44,36 +50,5 @@ fn ranked_reply(
             push_line(&mut text, who.as_str(), digits.format(rank.number()))?;
             Ok(text_reply(StatusCode::OK, text))
         }
-    }
-}
-
-fn no_account_reply(alloc: Global, format: Format) -> Result<Reply, AllocError>
-    ensures { MakesReply result (rank_answer format [] None) }
-{
-    match format {
-        Format::Json => {
-            let value = refusal_value(alloc, 29, "NoSuchAccount")?;
-            json_reply(alloc, StatusCode::NOT_FOUND, value)
-        }
-        Format::Text => {
-            let line = String::from_str(alloc, "refused 29 NoSuchAccount\n")?;
-            Ok(text_reply(StatusCode::NOT_FOUND, line))
-        }
-    }
-}
-
-/// The reply with the rank of an account, or that there is no such account. The text is a line of
-/// the account and its rank.
-pub fn rank_reply(
-    alloc: Global,
-    format: Format,
-    who: &Account,
-    rank: Option<Rank>,
-) -> Result<Reply, AllocError>
-    ensures { MakesReply result (rank_answer format who.now rank) }
-{
-    match rank {
-        Some(rank) => ranked_reply(alloc, format, who, rank),
-        None => no_account_reply(alloc, format),
     }
 }

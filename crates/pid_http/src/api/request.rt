@@ -1,15 +1,8 @@
 //! What a method and a target ask for.
 ghost use Rattle.std.specs.Prelude.{◌≡◌, true, false, IfOk, MatchOption};
 ghost use Rattle.form_urlencoded.specs.Form.{split_once as split_bytes};
-ghost use Rattle.pid_http.specs.Api.Questions.{
-  asked_by,
-  get_asked,
-  is_target,
-  post_asked,
-  question,
-  target_asked,
-};
-ghost use Rattle.pid_http.specs.Api.Routes.{payload_at, topic_at};
+ghost use Rattle.pid_http.specs.Api.Questions.{asked_by, get_asked, is_target, post_asked};
+ghost use Rattle.pid_http.specs.Api.Questions.{question, target_asked};
 ghost use Rattle.pid_http.specs.Api.Steps.Making.{MakesSaid};
 
 use crate::api::early::{Early, Unasked};
@@ -18,7 +11,7 @@ use crate::api::query::format_of;
 use crate::api::question::{Question, ask_topic};
 use crate::api::route::{Payload, Route};
 use crate::api::routes::Routes;
-use crate::api::utf8::text_of;
+use crate::api::text::text_of;
 use pid_form::fields_of;
 use pid_http_stream::Wanted;
 use pid_moderation::Verb;
@@ -60,9 +53,9 @@ fn text_of_target(target: &[u8]) -> Option<&str>
 
 // What a GET asks for at a route, by its path and its query.
 fn get(alloc: Global, route: Route, path: &str, query: &str) -> Result<Request, Unasked>
-    ensures { MakesSaid result (get_asked (topic_at route) path.now query.now) }
+    ensures { MakesSaid result (get_asked route.0 path.now query.now) }
 {
-    let Some((topic, allowed)) = route.topic() else {
+    let Some((topic, allowed)) = route.0 else {
         return Err(Unasked::Early(Early::WantsPost));
     };
     let fields = fields_of(alloc, query)?;
@@ -73,9 +66,9 @@ fn get(alloc: Global, route: Route, path: &str, query: &str) -> Result<Request, 
 
 // What a POST asks for at a route, by its query.
 fn post(alloc: Global, route: Route, query: &str) -> Result<Wanted<Request, Format>, Unasked>
-    ensures { MakesSaid result (post_asked (payload_at route) query.now) }
+    ensures { MakesSaid result (post_asked route.1 query.now) }
 {
-    let Some(payload) = route.payload() else {
+    let Some(payload) = route.1 else {
         return Err(Unasked::Early(Early::WantsGet));
     };
     let fields = fields_of(alloc, query)?;

@@ -1,24 +1,40 @@
 //! The table of routes: a path, the methods that it takes, and what each of them asks for.
 ghost use Rattle.std.specs.Prelude.{◌≡◌, map};
-ghost use Rattle.pid_http.specs.Api.Routes.{names_of, topic_at, payload_at};
+ghost use Rattle.pid_http.specs.Api.Routes.{names_of};
 
 use pid_moderation::Verb;
 
 /// What a question is about.
 #[derive(Clone, Copy)]
 pub enum Topic {
-    Export,
+    Whole(Whole),
     Read,
     Children,
     Lookup,
     Submission,
-    Pending,
+    Pages(Pages),
     Changes,
-    Queue,
     Submissions,
-    Status,
     Rank,
     Remarks,
+}
+
+/// What is asked of a whole registry, without any value.
+#[derive(Clone, Copy)]
+pub enum Whole {
+    /// The canonical text of all items.
+    Export,
+    /// How much it holds.
+    Status,
+}
+
+/// Submissions by pages, each after a number.
+#[derive(Clone, Copy)]
+pub enum Pages {
+    /// Those that are pending.
+    Pending,
+    /// The same as a moderator sees them.
+    Queue,
 }
 
 /// What a body is.
@@ -44,45 +60,58 @@ pub enum Query {
     NumAfter,
 }
 
-/// What a path takes: what a GET asks about there, with the fields that its query may have, and
-/// what a POST sends. The query of a POST may have a format alone.
-#[derive(Clone, Copy)]
-pub enum Route {
-    Get(Topic, Query),
-    Post(Payload),
-    Both(Topic, Query, Payload),
-}
+/// What a path takes: what a GET asks about there, with the fields that its query may have; and what
+/// a POST sends, whose query may have a format alone.
+pub type Route = (Option<(Topic, Query)>, Option<Payload>);
 
 /// Each path, as a router reads it, and what it takes.
 pub const ROUTES: [(&str, Route); 19] = [
-    ("/pci.ids", Route::Get(Topic::Export, Query::Empty)),
-    ("/read/{*path}", Route::Get(Topic::Read, Query::Format)),
-    ("/children", Route::Get(Topic::Children, Query::Of)),
-    ("/lookup", Route::Get(Topic::Lookup, Query::Lookup)),
+    (
+        "/pci.ids",
+        (Some((Topic::Whole(Whole::Export), Query::Empty)), None),
+    ),
+    ("/read/{*path}", (Some((Topic::Read, Query::Format)), None)),
+    ("/children", (Some((Topic::Children, Query::Of)), None)),
+    ("/lookup", (Some((Topic::Lookup, Query::Lookup)), None)),
     (
         "/submission/{num}",
-        Route::Get(Topic::Submission, Query::Format),
+        (Some((Topic::Submission, Query::Format)), None),
     ),
-    ("/remarks", Route::Get(Topic::Remarks, Query::NumAfter)),
-    ("/pending", Route::Get(Topic::Pending, Query::After)),
-    ("/changes", Route::Get(Topic::Changes, Query::SinceAfter)),
-    ("/queue", Route::Get(Topic::Queue, Query::After)),
+    ("/remarks", (Some((Topic::Remarks, Query::NumAfter)), None)),
+    (
+        "/pending",
+        (Some((Topic::Pages(Pages::Pending), Query::After)), None),
+    ),
+    (
+        "/changes",
+        (Some((Topic::Changes, Query::SinceAfter)), None),
+    ),
+    (
+        "/queue",
+        (Some((Topic::Pages(Pages::Queue), Query::After)), None),
+    ),
     (
         "/submissions",
-        Route::Get(Topic::Submissions, Query::PathAuthorBefore),
+        (Some((Topic::Submissions, Query::PathAuthorBefore)), None),
     ),
-    ("/status", Route::Get(Topic::Status, Query::Format)),
+    (
+        "/status",
+        (Some((Topic::Whole(Whole::Status), Query::Format)), None),
+    ),
     (
         "/account",
-        Route::Both(Topic::Rank, Query::Who, Payload::Command(Verb::Account)),
+        (
+            Some((Topic::Rank, Query::Who)),
+            Some(Payload::Command(Verb::Account)),
+        ),
     ),
-    ("/submit", Route::Post(Payload::Command(Verb::Submit))),
-    ("/comment", Route::Post(Payload::Command(Verb::Comment))),
-    ("/withdraw", Route::Post(Payload::Command(Verb::Withdraw))),
-    ("/approve", Route::Post(Payload::Command(Verb::Approve))),
-    ("/confirm", Route::Post(Payload::Command(Verb::Confirm))),
-    ("/reject", Route::Post(Payload::Command(Verb::Reject))),
-    ("/import", Route::Post(Payload::Import)),
+    ("/submit", (None, Some(Payload::Command(Verb::Submit)))),
+    ("/comment", (None, Some(Payload::Command(Verb::Comment)))),
+    ("/withdraw", (None, Some(Payload::Command(Verb::Withdraw)))),
+    ("/approve", (None, Some(Payload::Command(Verb::Approve)))),
+    ("/confirm", (None, Some(Payload::Command(Verb::Confirm)))),
+    ("/reject", (None, Some(Payload::Command(Verb::Reject)))),
+    ("/import", (None, Some(Payload::Import))),
 ];
 
 // The fields of a look-up.
@@ -112,28 +141,6 @@ impl Query {
             Query::PathAuthorBefore => &["format", "path", "author", "before"],
             Query::Who => &["format", "who"],
             Query::NumAfter => &["format", "num", "after"],
-        }
-    }
-}
-
-impl Route {
-    // What a GET asks about, and the fields of its query, if the path takes one.
-    pub(crate) fn topic(self) -> Option<(Topic, Query)>
-        ensures { result ≡ topic_at self }
-    {
-        match self {
-            Route::Get(topic, query) | Route::Both(topic, query, _) => Some((topic, query)),
-            Route::Post(_) => None,
-        }
-    }
-
-    // What a POST sends, if the path takes one.
-    pub(crate) fn payload(self) -> Option<Payload>
-        ensures { result ≡ payload_at self }
-    {
-        match self {
-            Route::Post(payload) | Route::Both(_, _, payload) => Some(payload),
-            Route::Get(_, _) => None,
         }
     }
 }

@@ -1,33 +1,23 @@
 //! The reply with a submission.
 ghost use Rattle.std.specs.Prelude.{◌≡◌, ◌++◌, codes, map, refl, string_bytes, IfOk, OnOk};
-ghost use Rattle.pid_moderation.specs.Submissions.{
-  decider_of,
-  reason_of,
-  remark_of,
-  discussion_of,
-  standing_of,
-};
+ghost use Rattle.pid_moderation.specs.Submissions.{decider_of, reason_of, remark_of, discussion_of};
+ghost use Rattle.pid_moderation.specs.Submissions.{standing_of};
 ghost use Rattle.pid_moderation.specs.Views.{Remark};
-ghost use Rattle.serde_json.specs.Data.{object, string};
+ghost use Rattle.serde_json.specs.Data.{no_members, object, string};
 ghost use Rattle.serde_json.specs.View.{members_view, view};
 ghost use Rattle.serde_json.specs.Written.{compact_text};
 ghost use Rattle.pid_http.specs.Api.Replying.{MakesReply, rows_data};
-ghost use Rattle.pid_http.specs.Api.SubmissionAnswers.{
-  proposal_line,
-  remark_data,
-  remark_line,
-  standing_text,
-  state_word,
-  submission_answer,
-  submission_data,
-};
-ghost use Rattle.pid_http.specs.Api.Steps.SubmissionParts.{standing_members as members_of};
+ghost use Rattle.pid_http.specs.Api.SubmissionAnswers.{proposal_line, remark_data, remark_line};
+ghost use Rattle.pid_http.specs.Api.SubmissionAnswers.{standing_members as members_of};
+ghost use Rattle.pid_http.specs.Api.SubmissionAnswers.{standing_text, state_word};
+ghost use Rattle.pid_http.specs.Api.SubmissionAnswers.{submission_answer, submission_data};
 
 use crate::api::Format;
-use crate::api::list::{Row, push_lines, push_rows, push_value};
+use crate::api::list::{push_lines, push_rows, push_value};
 use crate::api::members::with_text;
 use crate::api::pending::submission_members;
 use crate::api::reply::{json_text_reply, printed, text_reply};
+use crate::api::shown::Shown;
 use crate::api::text::{push_line, push_word};
 use http::StatusCode;
 use itoa::Buffer;
@@ -71,14 +61,14 @@ pub(crate) fn reason(state: &State) -> &str
     }
 }
 
-impl Row for Comment {
+impl Shown for Comment {
     ghost Seen = { Remark };
 
     ghost seen = { remark_of };
 
     ghost json = { remark_data };
 
-    ghost line = { remark_line };
+    ghost lines = { remark_line };
 
     fn value(&self, alloc: Global) -> Result<Value, AllocError> {
         let members = with_text(Map::new(alloc), alloc, "author", self.author.as_str())?;
@@ -86,7 +76,7 @@ impl Row for Comment {
         Ok(Value::Object(members))
     }
 
-    fn push_line(&self, _alloc: Global, text: &mut String) -> Result<(), AllocError> {
+    fn push_text(&self, _alloc: Global, text: &mut String) -> Result<(), AllocError> {
         push_word(text, "remark")?;
         push_line(text, self.author.as_str(), self.text.as_str())
     }
@@ -101,7 +91,7 @@ pub(crate) fn standing_members(
     submission: &Submission,
 ) -> Result<Map<String, Value>, AllocError>
     ensures { IfOk result (λ members. members_view members.entries
-        ≡ members_of number (standing_of submission.now)) }
+        ≡ members_of number (standing_of submission.now) no_members) }
 {
     let members = submission_members(alloc, number, submission)?;
     let members = with_text(members, alloc, "decider", decider(submission))?;
@@ -112,7 +102,7 @@ pub(crate) fn standing_members(
 // The same as text, except for the closing brace: more follows.
 fn standing_json(alloc: Global, number: u32, submission: &Submission) -> Result<String, AllocError>
     ensures { IfOk result (λ text. string_bytes text ++ codes "}"
-        ≡ compact_text (object (members_of number (standing_of submission.now)))) }
+        ≡ compact_text (object (members_of number (standing_of submission.now) no_members))) }
 {
     let members = standing_members(alloc, number, submission)?;
     let mut text = printed(alloc, Value::Object(members))?;

@@ -1,8 +1,17 @@
-//! Lines of text.
-ghost use Rattle.std.specs.Prelude.{◌≡◌, ◌++◌, codes, string_bytes, OnOk};
+//! Text, and its lines.
+ghost use Rattle.std.specs.Prelude.{◌≡◌, ◌++◌, true, false, codes, string_bytes, MatchOption, OnOk};
+ghost use Rattle.std.specs.Str.{is_utf8};
 ghost use Rattle.pid_http.specs.Api.Replying.{word_line};
 
 use std::alloc::AllocError;
+
+// The text, if the bytes are UTF-8.
+pub(crate) fn text_of(bytes: &[u8]) -> Option<&str>
+    ensures { MatchOption result (is_utf8 bytes.now ≡ false)
+        (λ text. (text.now ≡ bytes.now) × (is_utf8 bytes.now ≡ true)) }
+{
+    str::from_utf8(bytes).ok()
+}
 
 /// Appends a word and a space.
 pub(crate) fn push_word(text: &mut String, word: &str) -> Result<(), AllocError>

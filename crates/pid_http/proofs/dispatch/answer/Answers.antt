@@ -1,5 +1,5 @@
-use Rattle.pid_http.specs.Api.EarlyAnswers.{early_answer}
-use Rattle.pid_http.specs.Errands.{Answered}
+use Rattle.pid_http.specs.Api.Outcomes.{early_answer}
+use Rattle.pid_http.specs.Answering.{Answered}
 use Rattle.pid_http.proofs.Meeting.{answered, no_call, replied}
 use Rattle.pid_http.proofs.dispatch.answer.Goals as goal
 

@@ -1,5 +1,5 @@
 use Rattle.std.proofs.Common.{refl, sym, ap}
-use Rattle.pid_http.specs.Errands.{errand_for}
+use Rattle.pid_http.specs.Answering.{errand_for}
 use Rattle.pid_http.proofs.dispatch.sender_for.Goals as goal
 
 pub returns-in-Refused : goal.returns-in-Refused

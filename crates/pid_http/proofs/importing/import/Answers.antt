@@ -1,6 +1,6 @@
 use Rattle.std.specs.Prelude.{Some}
 use Rattle.pid_moderation.specs.declared.refusal.Refusal.TheVariants.{BadText}
-use Rattle.pid_http.specs.Errands.{Denied, import_errand}
+use Rattle.pid_http.specs.Answering.{Denied, import_errand}
 use Rattle.pid_http.specs.Api.Senders.{sending_of}
 use Rattle.pid_http.proofs.Imports.{denied_behind, of_owner}
 use Rattle.pid_http.proofs.Meeting.{denied, short_sender}

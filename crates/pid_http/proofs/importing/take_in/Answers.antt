@@ -1,7 +1,7 @@
 use Rattle.std.proofs.Common.{arith}
 use Rattle.pid_moderation.specs.Files.{file_reading}
 use Rattle.pid_moderation.specs.BeforeFile.{import_of}
-use Rattle.pid_http.specs.Errands.{Obeys}
+use Rattle.pid_http.specs.Answering.{Obeys}
 use Rattle.pid_http.proofs.Imports.{accepted, refused, gave_up}
 use Rattle.pid_http.proofs.importing.take_in.Goals as goal
 

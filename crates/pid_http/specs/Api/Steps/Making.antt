@@ -1,6 +1,6 @@
 -- What the functions that read a query say of what they make.
 use Rattle.std.specs.Prelude.{◌≡◌, Result, Ok, Err}
-use Rattle.pid_http.specs.Api.Queries.{Said}
+use Rattle.pid_http.specs.Api.Questions.{Said}
 use Rattle.pid_http.specs.declared.api.early.Unasked.{Unasked}
 use Rattle.pid_http.specs.declared.api.early.Unasked.TheVariants as unasked
 

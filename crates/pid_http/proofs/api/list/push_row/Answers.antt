@@ -8,4 +8,4 @@ returns g c =
       | goal.then-later+in_ok-push_str w ↦ ap string_bytes w.text-is ∙ (w.in_ok-push_str.ensures.bytes ∙ ap (λ b. string_bytes c.args.text.now ++ comma_if b) (sym w.if-later.true))
       | goal.else-later w ↦ ap string_bytes w.text-is ∙ (sym (append-nil _) ∙ ap (λ b. string_bytes c.args.text.now ++ comma_if b) (sym w.if-later.false))
     ] in
-    rw (← begun) (c.push_value.ensures _ c.in_ok-value.ensures (g.met.R.Row.no_float _))
+    rw (← begun) (c.push_value.ensures _ c.in_ok-value.ensures (g.met.R.Shown.no_float _))

@@ -1,5 +1,0 @@
-use Rattle.pid_http.proofs.OfApi.Senders.{no_account}
-use Rattle.pid_http.proofs.api.sender.account_of.Goals as goal
-
-pub returns-in_err-text : goal.returns-in_err-text
-returns-in_err-text c = rw c.from_residual.ensures (no_account _ c.in_err-text.ensures)
