@@ -136,12 +136,15 @@ class History(Sampled):
                 break
         self.expect(f"/submissions: {words}", (rows, before), (want, 0))
 
+    def ask_text(self):
+        self.client.sendall(b"GET /pci.ids HTTP/1.1\r\n\r\n")
+        self.expect("/pci.ids", read_reply(self.stream), (200, self.slow.text()))
+
     def ask_kept(self):
         """The text, and the lists that a registry keeps and each command renews; and remarks."""
         slow, chance = self.slow, self.random
         rows, revision = len(slow.submissions()), len(slow.accepted)
-        self.client.sendall(b"GET /pci.ids HTTP/1.1\r\n\r\n")
-        self.expect("/pci.ids", read_reply(self.stream), (200, slow.text()))
+        self.ask_text()
         self.ask("/children", slow.children(""), None)
         since, after = chance.choice((
             (max(revision - chance.randint(0, FEW), 0), ""),
@@ -190,6 +193,8 @@ class History(Sampled):
             self.stream = self.client.makefile("rb")
             for number, command in enumerate(commands):
                 self.send(*command)
+                if command[0] in ("approve", "confirm"):
+                    self.ask_text()
                 if number % EACH == 0:
                     self.ask_everything()
                 elif self.is_asked():
@@ -226,6 +231,51 @@ def test_many(cases, room):
     history = History(cases, os.path.join(room, "many.db"), SAMPLE)
     history.session_of_script(many(history))
     history.go_on()
+
+
+# Paths that stand side by side, and the first and the last of each kind.
+BESIDE = (
+    "PC/0000", "PC/0000/0000", "PC/0000/0000/00000000", "PC/8086", "PC/8086/1237", "PC/8086/1238",
+    "PC/8086/1237/1af41100", "PC/8086/1237/1af41101", "PC/ffff", "PC/ffff/ffff",
+    "PC/ffff/ffff/ffffffff", "PD/00", "PD/00/00", "PD/00/00/00", "PD/01", "PD/01/01", "PD/01/01/80",
+    "PD/ff", "PD/ff/ff", "PD/ff/ff/ff", "PS/0000/0000", "PS/0000/0001", "PS/8086/1100",
+    "PS/8086/1101", "PS/8086/1102", "PS/ffff/ffff",
+)
+
+
+def each_write(registry, chance, count):
+    """Commands that add items one by one, and then rename and remove some and add them again. In
+    the end all of them are removed."""
+    for number in range(count):
+        names, path = registry.names(), chance.choice(BESIDE)
+        while parent(path) not in (None, *names):
+            path = parent(path)
+        has_more = any(parent(it) == path for it in names)
+        removes = number % 100 > 50 and path in names and not has_more
+        change = ("remove", "yes") if removes else ("name", chance.choice(NAMES))
+        yield from approved(registry, path, change)
+    while registry.names():
+        names = registry.names()
+        path = chance.choice([it for it in names if it not in map(parent, names)])
+        yield from approved(registry, path, ("remove", "yes"))
+
+
+def approved(registry, path, change):
+    yield "submit", "root", None, [("path", path), change]
+    yield "approve", "root", None, [("num", str(len(registry.submissions())))]
+
+
+def test_renewed(cases, room):
+    """The text after each item that was written, while it is kept and read anew."""
+    history = History(cases, os.path.join(room, "renewed.db"), SAMPLE)
+    rows = [("export", history.slow.text().decode())]
+    for command in each_write(history.slow, history.random, 300):
+        rows.append(history.line_and_reply(*command))
+        rows.append(("export", history.slow.text().decode()))
+        if len(rows) > 200:
+            history.run_script(rows)
+            rows = [("export", history.slow.text().decode())]
+    history.run_script(rows)
 
 
 # Paths of items with others below and without, and of others with a parent and without; and the

@@ -18,31 +18,47 @@ use Rattle.pid_file.specs.Labels.{label}
 use Rattle.pid_file.specs.Printing.{block_line, ended, header, item_line, label_of, opens_block}
 use Rattle.pid_file.specs.Steps.Printing.{text_or_none}
 use Rattle.pid_service.proofs.Labelled.{label_of_text}
-use Rattle.pid_service.specs.ItemTexts.{text_of_items}
+use Rattle.pid_service.specs.ItemTexts.{extents_behind, text_behind, text_of_items}
+use Rattle.pid_service.specs.Steps.ItemTexts.{Extents}
+use Rattle.pid_service.specs.KeptViews.{HoldsText, extent_in}
 use Rattle.pid_ident.specs.PathTexts.{path_text}
-use Rattle.pid_service.specs.Steps.TextSinks.{Lengthens, block_behind, text_in}
-use Rattle.pid_service.specs.Steps.TextSinks.{TakesItem, lines_of_entry}
-use Rattle.pid_service.specs.declared.items_text.TextBuffer.{TextBuffer}
+use Rattle.pid_service.specs.Steps.TextSinks.{HasLines, Lengthens, TakesItem, block_behind}
+use Rattle.pid_service.specs.declared.items_text.GrowingText.{GrowingText}
 use Rattle.pid_service.specs.declared.items_text.TextSink.{TextSink}
-use Rattle.pid_service.proofs.ItemLines.{last_joined, last_path, text_behind, text_first, text_joined}
+use Rattle.pid_service.specs.declared.kept_text.Extent.{Extent}
+use Rattle.pid_service.specs.declared.kept_text.KeptText.{KeptText}
+use Rattle.pid_service.proofs.ItemLines.{extents_joined, last_joined, last_path, text_first, text_joined}
 use Rattle.pid_service.proofs.WalkEnds.{placed_items}
 
 -- these items are counted
 pub record HasCounted (s : TextSink) (items : Items) (t : TextSink) : Type 0 where
   pub last : text_or_none t.before ≡ last_path (text_or_none s.before) items
   pub counted : s.bytes + length (text_behind (text_or_none s.before) items) < 2 ^ 64 → t.bytes ≡ s.bytes + length (text_behind (text_or_none s.before) items)
-  pub text : Lengthens s.text t.text (text_behind (text_or_none s.before) items)
+  pub text : Lengthens s.text t.text (text_or_none s.before) items
 
 -- what is kept is the same
-none_more : (text : Option TextBuffer) → Lengthens text text []
-none_more text now is = (now, is, sym (append-nil now))
+none_more : (text : Option GrowingText) (before : List ℕ) → Lengthens text text before []
+none_more None before = tt
+none_more (Some text) before = (text, refl, λ bytes extents has. record { bytes_are = has.bytes_are ∙ sym (append-nil bytes); extents_are = has.extents_are ∙ sym (append-nil extents) })
 
--- some bytes, and then others
-then_more : (old between new : Option TextBuffer) (first more : List ℕ) → Lengthens old between first → Lengthens between new more → Lengthens old new (first ++ more)
-then_more old between new first more one other now is =
-    let (mid, there, parts) = other now is in
-    let (was, start, front) = one mid there in
-    (was, start, parts ∙ ap (λ (l : List ℕ). l ++ more) front ∙ append_assoc was first more)
+-- the lines of some items, and then those of others
+then_more : (old between new : Option GrowingText) (before : List ℕ) (xs ys : Items) → Lengthens old between before xs → Lengthens between new (last_path before xs) ys → Lengthens old new before (xs ++ ys)
+then_more old between None before xs ys one other = tt
+then_more old between (Some now) before xs ys one other =
+    let (mid, there, more) = other in
+    let (was, start, first) = subst (λ (b : Option GrowingText). Lengthens old b before xs) there one in (
+      was,
+      start,
+      λ bytes extents has.
+          let all = more _ _ (first bytes extents has) in
+          record {
+            bytes_are = all.bytes_are ∙ append_assoc bytes (text_behind before xs) (text_behind (last_path before xs) ys) ∙ ap (λ (l : List ℕ). bytes ++ l) (sym (text_joined before xs ys));
+            extents_are = all.extents_are ∙ append_assoc extents (extents_behind before xs) (extents_behind (last_path before xs) ys) ∙ ap (λ (l : Extents). extents ++ l) (sym (extents_joined before xs ys));
+          },
+    )
+
+abbrev lines_of_entry : TextSink → Numbered → List ℕ
+lines_of_entry s entry = text_behind (text_or_none s.before) (item_in entry ∷ [])
 
 one_more : (old between new : TextSink) (items : Items) (entry : Numbered) → HasCounted old items between → TakesItem between entry new → HasCounted old (items ++ item_in entry ∷ []) new
 one_more old between new items entry h step =
@@ -58,14 +74,12 @@ one_more old between new items entry h step =
           let so_far : between.bytes ≡ old.bytes + length (text_behind before items) = h.counted (omega (arith, whole, fits)) in
           let more : new.bytes ≡ between.bytes + length (lines_of_entry between entry) = step.counted (omega (arith, whole, here, so_far, fits)) in
           omega (arith, whole, here, so_far, more);
-      text = subst (Lengthens old.text new.text) (sym (text_joined before items line))
-          (then_more old.text between.text new.text (text_behind before items) (text_behind (last_path before items) line) h.text
-          (subst (Lengthens between.text new.text) lines step.text));
+      text = then_more old.text between.text new.text before items line h.text (subst (λ (b : List ℕ). Lengthens between.text new.text b line) h.last step.text);
     }
 
 -- the last entry is the first here
 took_counted : (old new : TextSink) (es : List Numbered) → Took TakesItem old es new → HasCounted old (map item_in (reverse es)) new
-took_counted old new [] took = subst (HasCounted old []) (sym took) (record { last = refl; counted = λ fits. omega arith; text = none_more old.text })
+took_counted old new [] took = subst (HasCounted old []) (sym took) (record { last = refl; counted = λ fits. omega arith; text = none_more old.text (text_or_none old.before) })
 took_counted old new (e ∷ es) (between, took, step) =
     let back : map item_in (reverse (e ∷ es)) ≡ map item_in (reverse es) ++ item_in e ∷ [] = ap (map item_in) (reverse-append (e ∷ []) es) ∙ map-append item_in (reverse es) (e ∷ []) in
     subst (λ (items : Items). HasCounted old items new) (sym back) (one_more old between new (map item_in (reverse es)) e (took_counted old between es took) step)
@@ -152,11 +166,6 @@ fits start first text items is same short few = omega arith
 summed : (bytes start first text whole : ℕ) → start ≡ 18 → first ≡ text → bytes ≡ start + first → whole ≡ 18 + text → bytes ≡ whole
 summed bytes start first text whole is same sum all = omega arith
 
--- what is kept begins with the header
-head_kept : (text : Option TextBuffer) (was : List ℕ) → IfSome text (λ t. t.taken.items ≡ ended (header ∷ [])) → text_in text ≡ Some was → was ≡ ended (header ∷ [])
-head_kept None was start there = absurd (let no : ⊥ = cc in no)
-head_kept (Some text) was start there = let same : text.taken.items ≡ was = cc in sym same ∙ start
-
 -- a walk over all items
 all_taken : (old new : TextSink) (items : Items) → Took TakesItem old (reverse (placed_from 1 items)) new → HasCounted old items new
 all_taken old new items took =
@@ -171,10 +180,14 @@ all_counted old new items first start took all few =
     summed _ _ _ _ _ start text ((all_taken old new items took).counted (fits _ _ _ _ start text (text_length [] items all) few)) (headed header (text_behind [] items) refl)
 
 -- and what it keeps is their text, if the header was kept before
-pub all_kept : (old new : TextSink) (items : Items) (text : Option (Vec ℕ Global)) → old.before ≡ None → IfSome old.text (λ t. t.taken.items ≡ ended (header ∷ [])) → Took TakesItem old (reverse (placed_from 1 items)) new
-    → IfSome text (λ bytes. text_in new.text ≡ Some bytes.items) → IfSome text (λ bytes. bytes.items ≡ text_of_items items)
+pub all_kept : (old new : TextSink) (items : Items) (text : Option KeptText) → old.before ≡ None → IfSome old.text (λ t. HasLines t (ended (header ∷ [])) []) → Took TakesItem old (reverse (placed_from 1 items)) new
+    → IfSome text (λ kept. (grown : GrowingText) × (new.text ≡ Some grown) × (kept.bytes ≡ grown.buffer.taken) × (kept.extents ≡ grown.extents)) → HoldsText text items
 all_kept old new items None first start took same = tt
-all_kept old new items (Some bytes) first start took same =
-    let (was, there, parts) = (all_taken old new items took).text bytes.items same in
-    let begun : was ≡ ended (header ∷ []) = head_kept old.text was start there in
-    parts ∙ ap (λ (l : List ℕ). l ++ text_behind (text_or_none old.before) items) begun ∙ ap (λ (b : Option Path). ended (header ∷ []) ++ text_behind (text_or_none b) items) first
+all_kept old new items (Some kept) first start took (grown, is, bytes, extents) =
+    let (was, there, more) = subst (λ (t : Option GrowingText). Lengthens old.text t (text_or_none old.before) items) is (all_taken old new items took).text in
+    let begun = subst (λ (t : Option GrowingText). IfSome t (λ t. HasLines t (ended (header ∷ [])) [])) there start in
+    let all = more (ended (header ∷ [])) [] begun in
+    record {
+      text = ap (λ (v : Vec ℕ Global). v.items) bytes ∙ all.bytes_are ∙ ap (λ (b : Option Path). ended (header ∷ []) ++ text_behind (text_or_none b) items) first;
+      extents = ap (λ (v : Vec Extent Global). map extent_in v.items) extents ∙ all.extents_are ∙ ap (λ (b : Option Path). extents_behind (text_or_none b) items) first;
+    }

@@ -1,5 +1,5 @@
 -- What a registry exports, by what its tables did.
-use Rattle.std.proofs.Common.{◌≡◌, ℕ, Bool, true, List, Option, Some, IfSome, Result, Ok, Err, sym, ap, subst, ◌∙◌}
+use Rattle.std.proofs.Common.{◌≡◌, ℕ, Bool, true, List, Option, Some, Result, Ok, Err, sym, ap, subst, ◌∙◌}
 use Rattle.std.specs.Io.KnownBytes.{Appends}
 use Rattle.std.specs.Prelude.{Vec}
 use Rattle.std.specs.declared.alloc.Global.{Global}
@@ -24,9 +24,10 @@ use Rattle.pid_service.specs.Steps.Exports.{ExportsTree, WritesItems}
 use Rattle.pid_service.specs.Histories.{IsMemoryOrStore, Shows}
 use Rattle.pid_moderation.specs.declared.lists.Item.{Item}
 use Rattle.pid_service.specs.declared.changes.KeptChanges.{KeptChanges}
+use Rattle.pid_service.specs.declared.kept_text.KeptText.{KeptText}
 use Rattle.pid_tables.specs.Searches.KeptNumbers.{HoldsNumbers}
 use Rattle.pid_tables.specs.declared.searches.numbers.Searches.{Searches}
-use Rattle.pid_service.specs.KeptViews.{HoldsAccounts, HoldsChanges, HoldsTop, HoldsWaiting, kept_by, kept_views}
+use Rattle.pid_service.specs.KeptViews.{HoldsAccounts, HoldsChanges, HoldsText, HoldsTop, HoldsWaiting, kept_by, kept_views}
 use Rattle.pid_service.specs.Registries.{HasCleanDisk, OnlyReads, is_live}
 use Rattle.pid_lookup.specs.CacheAgreement.{Agrees}
 use Rattle.pid_lookup.specs.CacheEntries.{Entries}
@@ -78,12 +79,12 @@ told_by r told e is asked = let same = sym is ∙ asked in cc
 
 module _ {S : Type 0} (store : Ghosts S) where
   -- a text that is kept is that of the tree
-  pub text_told : (r : Registry S store) (h : History) (text : Vec ℕ Global) → (kept_by r).text ≡ Some text → HasCleanDisk store r → Shows store r h → text_of_items (items_of h) ≡ print (tree_of h) → text.items ≡ print (tree_of h)
-  text_told r h text is clean shows same = subst (λ (t : Option (Vec ℕ Global)). IfSome t (λ bytes. bytes.items ≡ text_of_items (items_of h))) is (shows.kept clean).text ∙ same
+  pub text_told : (r : Registry S store) (h : History) (text : KeptText) → (kept_by r).text ≡ Some text → HasCleanDisk store r → Shows store r h → text_of_items (items_of h) ≡ print (tree_of h) → text.bytes.items ≡ print (tree_of h)
+  text_told r h text is clean shows same = (subst (λ (t : Option KeptText). HoldsText t (items_of h)) is (shows.kept clean).text).text ∙ same
 
   -- a registry that has read keeps a text that is right, and shows what it did
   pub text_kept : (old new : Registry S store) (h : History) → Shows store old h → is_live new ≡ is_live old → (kept_by new).names ≡ (kept_by old).names → (kept_views new).top ≡ (kept_views old).top → (kept_views new).changes ≡ (kept_views old).changes → (kept_views new).pending ≡ (kept_views old).pending → (kept_views new).numbers ≡ (kept_views old).numbers → (kept_views new).accounts ≡ (kept_views old).accounts → OnlyReads store old new
-      → IfSome (kept_by new).text (λ bytes. bytes.items ≡ text_of_items (items_of h)) → Shows store new h
+      → HoldsText (kept_by new).text (items_of h) → Shows store new h
   text_kept old new h shows same names tops changes waiting numbers many reads text = record {
     lives = same ∙ shows.lives;
     history = shows.history;

@@ -1,5 +1,5 @@
 -- What a sink that prints has written of items.
-use Rattle.std.proofs.Common.{◌≡◌, ℕ, List, [], ◌∷◌, ◌++◌, map, Option, reverse, refl, sym, ap, subst, ◌∙◌, append_assoc}
+use Rattle.std.proofs.Common.{◌≡◌, ℕ, List, [], ◌∷◌, ◌++◌, length, map, Option, reverse, refl, sym, ap, subst, ◌∙◌, append_assoc}
 use Rattle.std.proofs.lemmas.List.{map-append, reverse-append}
 use Rattle.std.specs.Io.KnownBytes.{Appends}
 use Rattle.pid_file.proofs.SendingLemmas.{Appends-nil, Appends-then}
@@ -9,12 +9,10 @@ use Rattle.pid_reader.specs.Sinks.{Took}
 use Rattle.pid_file.specs.Printing.{ended, lines_behind}
 use Rattle.pid_file.specs.Steps.Printing.{text_or_none}
 use Rattle.pid_file.proofs.Written.{ended-append, lines-first}
+use Rattle.pid_service.specs.ItemTexts.{extents_behind, text_behind}
+use Rattle.pid_service.specs.Steps.ItemTexts.{Extents}
 use Rattle.pid_service.specs.Steps.ExportSinks.{PrintsItem}
 use Rattle.pid_service.specs.declared.export_sink.ExportSink.{ExportSink}
-
--- the lines of items as a text
-abbrev pub text_behind : List ℕ → Items → List ℕ
-text_behind before items = ended (lines_behind before items)
 
 -- the text of the last path, which is the one before where there are no items
 abbrev pub last_path : List ℕ → Items → List ℕ
@@ -32,6 +30,11 @@ text_joined before (x ∷ xs) ys =
     let one = text_behind before (x ∷ []) in
     text_first before x (xs ++ ys) ∙ ap (λ (l : List ℕ). one ++ l) (text_joined x.0 xs ys) ∙ sym (append_assoc one (text_behind x.0 xs) (text_behind (last_path x.0 xs) ys))
     ∙ ap (λ (l : List ℕ). l ++ text_behind (last_path x.0 xs) ys) (sym (text_first before x xs))
+
+-- the extents of some items, and then those behind them
+pub extents_joined : (before : List ℕ) (xs ys : Items) → extents_behind before (xs ++ ys) ≡ extents_behind before xs ++ extents_behind (last_path before xs) ys
+extents_joined before [] ys = refl
+extents_joined before (x ∷ xs) ys = ap (λ (l : Extents). (x.0, length (text_behind before (x ∷ []))) ∷ l) (extents_joined x.0 xs ys)
 
 pub last_joined : (before : List ℕ) (xs : Items) (y : List ℕ × List ℕ) → last_path before (xs ++ y ∷ []) ≡ y.0
 last_joined before [] y = refl

@@ -1,15 +1,14 @@
 -- What is kept in memory, beside the views that it is right about.
-use Rattle.std.proofs.Common.{◌≡◌, ℕ, Bool, true, false, Option, None, IfSome, Result, Ok, Err, rules, refl, sym, subst, ◌∙◌}
+use Rattle.std.proofs.Common.{◌≡◌, ℕ, Bool, true, false, Option, None, Result, Ok, Err, rules, refl, sym, subst, ◌∙◌}
 use Rattle.std.specs.Prelude.{Vec, not}
 use Rattle.std.specs.declared.alloc.Global.{Global}
 use Rattle.pid_lookup.specs.CacheAgreement.{Agrees}
 use Rattle.pid_moderation.specs.Items.{Items, name_at}
 use Rattle.pid_moderation.specs.Views.{Views}
-use Rattle.pid_service.specs.ItemTexts.{text_of_items}
 use Rattle.pid_moderation.specs.declared.lists.Item.{Item}
 use Rattle.pid_tables.specs.Searches.KeptNumbers.{HoldsNumbers}
 use Rattle.pid_tables.specs.declared.searches.numbers.Searches.{Searches}
-use Rattle.pid_service.specs.KeptViews.{HoldsAccounts, HoldsChanges, HoldsTop, HoldsWaiting, IsRightFor, KeepsNothing, nothing}
+use Rattle.pid_service.specs.KeptViews.{HoldsAccounts, HoldsChanges, HoldsText, HoldsTop, HoldsWaiting, IsRightFor, KeepsNothing, nothing}
 use Rattle.pid_service.specs.declared.changes.KeptChanges.{KeptChanges}
 use Rattle.pid_service.specs.declared.kept_views.KeptItems.{KeptItems}
 use Rattle.pid_service.specs.declared.kept_views.KeptViews.{KeptViews}
@@ -31,7 +30,7 @@ not_false false on = absurd (let bad : ⊥ = cc in bad)
 
 -- what is kept of the items is right about them
 abbrev pub ItemsRight : KeptItems → Items → Type 0
-ItemsRight k items = Agrees k.names (λ path. name_at path items) × IfSome k.text (λ bytes. bytes.items ≡ text_of_items items)
+ItemsRight k items = Agrees k.names (λ path. name_at path items) × HoldsText k.text items
 
 -- nothing is right about any items
 pub no_items : (k : KeptItems) (items : Items) → k ≡ nothing → ItemsRight k items

@@ -16,6 +16,9 @@ pub mod Consulting
 pub mod RunLives
 pub mod Questions
 pub mod ItemLines
+pub mod RenewedTexts
+pub mod Renewed
+pub mod Places
 pub mod WalkEnds
 pub mod Labelled
 pub mod CountedLines

@@ -1,8 +1,8 @@
 -- What a registry exports and answers to look-ups, as one under moderation.
 use Rattle.std.proofs.Common.{◌≡◌, ◌↔◌, ℕ, Bool, true, false, List, [], ◌∷◌, ◌++◌, Option, Result, Ok, Err, IfOk, refl, sym, ap, subst, ◌∙◌, append_assoc}
 use Rattle.std.specs.Prelude.{IsErrOf}
-use Rattle.pid_service.proofs.ItemLines.{last_path, text_behind, text_joined}
-use Rattle.pid_service.specs.ItemTexts.{text_of_items}
+use Rattle.pid_service.proofs.ItemLines.{last_path, text_joined}
+use Rattle.pid_service.specs.ItemTexts.{text_behind, text_of_items}
 use Rattle.pid_ident.specs.Trees.{TreeMap}
 use Rattle.pid_lookup.specs.declared.answer.Answer.{Answer}
 use Rattle.pid_lookup.specs.declared.answering.LookupRefusal.{LookupRefusal}

@@ -17,9 +17,9 @@ use Rattle.pid_file.specs.Printing.{ended, header}
 use Rattle.pid_file.specs.Steps.Printing.{text_or_none}
 use Rattle.pid_service.specs.Steps.Exports.{WritesItems}
 use Rattle.pid_service.specs.Steps.ExportSinks.{PrintsItem, StopsWithin, lines_of_entry}
-use Rattle.pid_service.specs.ItemTexts.{text_of_items}
+use Rattle.pid_service.specs.ItemTexts.{text_behind, text_of_items}
 use Rattle.pid_service.specs.declared.export_sink.ExportSink.{ExportSink}
-use Rattle.pid_service.proofs.ItemLines.{HasPrinted, last_path, text_behind, text_first, text_joined, took_printed}
+use Rattle.pid_service.proofs.ItemLines.{HasPrinted, last_path, text_first, text_joined, took_printed}
 
 pub placed_items : (place : ℕ) (items : Items) → map item_in (placed_from place items) ≡ items
 placed_items place [] = refl

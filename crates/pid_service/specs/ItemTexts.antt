@@ -1,7 +1,7 @@
 -- The canonical text of items, which are in the bytewise order of their paths' texts: a choice of
 -- this project, as that of a tree. laws.rt says that the text of a history's items is that of its
 -- tree.
-use Rattle.std.specs.Prelude.{ℕ, List, [], ◌∷◌}
+use Rattle.std.specs.Prelude.{ℕ, List, [], ◌∷◌, length}
 use Rattle.pid_moderation.specs.Items.{Items}
 use Rattle.pid_file.specs.Printing.{ended, header, lines_behind}
 
@@ -9,3 +9,13 @@ use Rattle.pid_file.specs.Printing.{ended, header, lines_behind}
 -- vendor
 abbrev pub text_of_items : Items → List ℕ
 text_of_items items = ended (header ∷ lines_behind [] items)
+
+-- the lines of items as a text, after an item whose path has this text
+abbrev pub text_behind : List ℕ → Items → List ℕ
+text_behind before items = ended (lines_behind before items)
+
+-- the texts of paths, and how long the lines of each of these items are, in bytes
+abbrev pub extents_behind : List ℕ → Items → List (List ℕ × ℕ)
+extents_behind before [] = []
+extents_behind before (item ∷ items) = (item.0, length (text_behind before (item ∷ [])))
+    ∷ extents_behind item.0 items

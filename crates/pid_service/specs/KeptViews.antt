@@ -15,11 +15,14 @@ use Rattle.pid_moderation.specs.declared.lists.TheConstants.{PAGE}
 use Rattle.pid_lookup.specs.CacheAgreement.{Agrees}
 use Rattle.pid_tables.specs.Rows.Accounts.{HasAccounts}
 use Rattle.pid_service.specs.declared.changes.KeptChanges.{KeptChanges}
+use Rattle.pid_service.specs.declared.kept_text.Extent.{Extent}
+use Rattle.pid_service.specs.declared.kept_text.KeptText.{KeptText}
 use Rattle.pid_service.specs.declared.kept_views.KeptItems.{KeptItems}
 use Rattle.pid_service.specs.declared.kept_views.KeptViews.{KeptViews}
 use Rattle.pid_service.specs.declared.registry.Registry.{Registry}
 use Rattle.pid_tables.specs.declared.searches.numbers.Searches.TheVariants.{Unread}
-use Rattle.pid_service.specs.ItemTexts.{text_of_items}
+use Rattle.pid_service.specs.ItemTexts.{extents_behind, text_of_items}
+use Rattle.pid_file.specs.PathTexts.{path_text}
 use Rattle.pid_tables.specs.Searches.KeptNumbers.{HoldsNumbers}
 use Rattle.pid_service.specs.Registries.{HasCleanDisk}
 
@@ -34,6 +37,19 @@ kept_by r = r.kept.items
 -- no name and no text
 abbrev pub nothing : KeptItems
 nothing = record { names = []; text = None }
+
+-- the text of a path with the length of its lines
+abbrev pub extent_in : Extent → List ℕ × ℕ
+extent_in extent = (path_text extent.path, extent.length)
+
+-- this is the canonical text of the items, with the place of each
+pub record IsKeptText (kept : KeptText) (items : Items) : Type 0 where
+  pub text : kept.bytes.items ≡ text_of_items items
+  pub extents : map extent_in kept.extents.items ≡ extents_behind [] items
+
+-- it is, if one is kept
+abbrev pub HoldsText : Option KeptText → Items → Type 0
+HoldsText text items = IfSome text (λ kept. IsKeptText kept items)
 
 -- nothing is kept
 pub record KeepsNothing (k : KeptViews) : Type 0 where
@@ -77,8 +93,8 @@ HoldsAccounts accounts v = IfSome accounts (λ n. HasAccounts v n)
 pub record IsRightFor (k : KeptViews) (v : Views) : Type 0 where
   -- the paths that were asked for last, each with its name or the absence of one
   pub names : Agrees k.items.names (λ path. name_at path v.items)
-  -- the canonical text, if it is kept
-  pub text : IfSome k.items.text (λ bytes. bytes.items ≡ text_of_items v.items)
+  -- the canonical text of the items, if it is kept
+  pub text : HoldsText k.items.text v.items
   -- the vendors and the classes with their names, if they are kept
   pub top : HoldsTop k.top v
   -- the items that were changed last, if they are kept

@@ -8,6 +8,7 @@ pub mod ItemTexts
 pub mod Judging
 pub mod TextSinks
 pub mod Obeying
+pub mod Renewing
 pub mod Opening
 pub mod Running
 pub mod Waiting

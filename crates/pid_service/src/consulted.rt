@@ -233,7 +233,7 @@ impl<S: Alter + Drop> Consulted for Registry<S> {
         laws::reached_histories_are_kept(); // proof only
         laws::items_print_as_their_tree(); // proof only
         if let Some(text) = &self.kept.items.text {
-            return Ok(text.len() as u64);
+            return Ok(text.bytes.len() as u64);
         }
         match items_text(&mut self.tables, self.alloc) {
             Ok(ItemsText { bytes, text }) => {

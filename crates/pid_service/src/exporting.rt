@@ -32,7 +32,7 @@ impl<S: Alter + Drop> Registry<S> {
         laws::reached_histories_are_kept(); // proof only
         laws::items_print_as_their_tree(); // proof only
         if let Some(text) = &self.kept.items.text {
-            return match write_all(output, text.as_slice()) {
+            return match write_all(output, text.bytes.as_slice()) {
                 Ok(()) => Ok(()),
                 Err(fault) => Err(ExportFault::Write(fault)),
             };

@@ -1,7 +1,21 @@
 //! The canonical text of all items in memory, if it is short enough, and how many bytes it has.
-ghost use Rattle.std.specs.Prelude.{◌≡◌, ◌∷◌, [], false, length, Err, IfSome, Some};
-ghost use Rattle.pid_service.specs.Steps.TextSinks.{Lengthens, block_behind, text_in};
-ghost use Rattle.pid_service.specs.Steps.ItemTexts.{IsKeptText};
+ghost use Rattle.std.specs.Prelude.{
+  ◌≡◌,
+  ◌∷◌,
+  ◌++◌,
+  [],
+  ℕ,
+  List,
+  false,
+  true,
+  length,
+  Err,
+  IfSome,
+  Some,
+};
+ghost use Rattle.pid_service.specs.ItemTexts.{extents_behind, text_behind};
+ghost use Rattle.pid_service.specs.Steps.TextSinks.{HasLines, Lengthens, block_behind};
+ghost use Rattle.pid_service.specs.Steps.ItemTexts.{Extents, IsCountedText};
 ghost use Rattle.pid_ident.specs.PathTexts.{path_text};
 ghost use Rattle.pid_tables.specs.Rows.Causes.{IsReadable};
 ghost use Rattle.pid_tables.specs.Rows.Clauses.{Reads};
@@ -9,18 +23,13 @@ ghost use Rattle.pid_tables.specs.declared.lists.walk.EachEnd.TheVariants as wal
 ghost use Rattle.pid_file.specs.Printing.{ended, header, label_of, lines_behind};
 ghost use Rattle.pid_file.specs.Steps.Printing.{text_or_none};
 
+use crate::kept_text::{Extent, FIRST, KeptText, MOST, extent_of};
 use pid_file::{opened_block, write_behind, write_header};
 use pid_ident::{Output, Path, WriteFault};
 use pid_reader::{Entry, Never, Sink};
 use pid_tables::{EachEnd, TableFault, Tables};
 use sqlite::Alter;
 use std::alloc::Global;
-
-// The longest text that is kept in memory, in bytes.
-const MOST: usize = 16_777_216;
-
-// The length of `# PCI ID registry` and its LF.
-const HEADER: u64 = 18;
 
 // The length of `S 1af4` and its LF.
 const BLOCK: u64 = 7;
@@ -58,7 +67,7 @@ fn lines_length(before: Option<Path>, path: Path, name: &str) -> u64
 /// A writer into memory that takes at most `MOST` bytes.
 #[derive(Drop)]
 pub(crate) struct TextBuffer {
-    taken: Vec<u8>,
+    pub(crate) taken: Vec<u8>,
     fault: Option<WriteFault>,
 }
 
@@ -82,15 +91,51 @@ impl Output for TextBuffer {
     }
 }
 
+/// A text in memory to which the lines of one item after the other are added.
+#[derive(Drop)]
+pub(crate) struct GrowingText {
+    pub(crate) buffer: TextBuffer,
+    pub(crate) extents: Vec<Extent>,
+}
+
+impl GrowingText {
+    /// It is empty.
+    pub(crate) fn new(alloc: Global) -> GrowingText
+        ensures { HasLines result [] [] }
+    {
+        GrowingText {
+            buffer: TextBuffer {
+                taken: Vec::new(alloc),
+                fault: None,
+            },
+            extents: Vec::new(alloc),
+        }
+    }
+
+    /// Adds the lines of an item that follows another or is the first, if there is room for them.
+    pub(crate) fn add_lines(&mut self, before: Option<Path>, path: &Path, name: &str) -> bool
+        ensures { result ≡ true → (bytes : List ℕ) (extents : Extents)
+            → HasLines self.old bytes extents → HasLines self.new
+            (bytes ++ text_behind (text_or_none before) ((path_text path.now, name.now) ∷ []))
+            (extents ++ extents_behind (text_or_none before)
+            ((path_text path.now, name.now) ∷ [])) }
+    {
+        match extent_of(*path, lines_length(before, *path, name)) {
+            Some(extent) => {
+                write_behind(before, path, name, &mut self.buffer).is_ok()
+                    && self.extents.push(extent).is_ok()
+            }
+            None => false,
+        }
+    }
+}
+
 // The header in memory, if there is some.
-fn first_line(alloc: Global) -> Option<TextBuffer>
-    ensures { IfSome result (λ text. text.taken.items ≡ ended (header ∷ [])) }
+fn first_line(alloc: Global) -> Option<GrowingText>
+    ensures { IfSome result (λ text. HasLines text (ended (header ∷ [])) []) }
 {
-    let mut text = TextBuffer {
-        taken: Vec::new(alloc),
-        fault: None,
-    };
-    match write_header(&mut text) {
+    let mut text = GrowingText::new(alloc);
+    match write_header(&mut text.buffer) {
         Ok(()) => Some(text),
         Err(_) => None,
     }
@@ -98,18 +143,18 @@ fn first_line(alloc: Global) -> Option<TextBuffer>
 
 // A text and the lines of an item after it, or none if there is no room for them.
 fn with_lines(
-    text: Option<TextBuffer>,
+    text: Option<GrowingText>,
     before: Option<Path>,
     path: &Path,
     name: &str,
-) -> Option<TextBuffer>
-    ensures { Lengthens text result
-        (ended (lines_behind (text_or_none before) ((path_text path.now, name.now) ∷ []))) }
+) -> Option<GrowingText>
+    ensures { Lengthens text result (text_or_none before) ((path_text path.now, name.now) ∷ []) }
 {
     let mut text = text?;
-    match write_behind(before, path, name, &mut text) {
-        Ok(()) => Some(text),
-        Err(_) => None,
+    if text.add_lines(before, path, name) {
+        Some(text)
+    } else {
+        None
     }
 }
 
@@ -119,7 +164,7 @@ fn with_lines(
 struct TextSink {
     bytes: u64,
     before: Option<Path>,
-    text: Option<TextBuffer>,
+    text: Option<GrowingText>,
 }
 
 impl Sink for TextSink {
@@ -149,12 +194,21 @@ fn end_of(end: EachEnd<Never>) -> TableFault
     }
 }
 
-// The bytes of a text.
-fn taken_of(text: Option<TextBuffer>) -> Option<Vec<u8>>
-    ensures { IfSome result (λ bytes. text_in text ≡ Some bytes.items) }
+// A text as it is kept.
+fn kept_of(text: Option<GrowingText>) -> Option<KeptText>
+    ensures { IfSome result (λ kept. (grown : GrowingText) × (text ≡ Some grown)
+        × (kept.bytes ≡ grown.buffer.taken) × (kept.extents ≡ grown.extents)) }
 {
     match text {
-        Some(TextBuffer { taken, .. }) => Some(taken),
+        Some(
+            GrowingText {
+                buffer: TextBuffer { taken, .. },
+                extents,
+            },
+        ) => Some(KeptText {
+            bytes: taken,
+            extents,
+        }),
         None => None,
     }
 }
@@ -163,29 +217,29 @@ fn taken_of(text: Option<TextBuffer>) -> Option<Vec<u8>>
 #[derive(Drop)]
 pub(crate) struct ItemsText {
     pub(crate) bytes: u64,
-    pub(crate) text: Option<Vec<u8>>,
+    pub(crate) text: Option<KeptText>,
 }
 
 // What `export_items` writes, by one walk over the items, of which each is lent by the connection.
 // It is kept after its first line, if that is there.
 fn text_after<S: Alter + Drop>(
     tables: &mut Tables<S>,
-    first: Option<TextBuffer>,
+    first: Option<GrowingText>,
 ) -> Result<ItemsText, TableFault>
     requires settled { tables.old.conn.in_transaction ≡ false }
-    requires first { IfSome first (λ text. text.taken.items ≡ ended (header ∷ [])) }
+    requires first { IfSome first (λ text. HasLines text (ended (header ∷ [])) []) }
     ensures { Reads S.Store tables.old.conn tables.new.conn result
-        (λ v found. IsReadable v → IsKeptText found.bytes found.text v.items) }
+        (λ v found. IsReadable v → IsCountedText found.bytes found.text v.items) }
 {
     let mut sink = TextSink {
-        bytes: HEADER,
+        bytes: FIRST as u64,
         before: None,
         text: first,
     };
     match tables.each_item(&mut sink) {
         Ok(()) => Ok(ItemsText {
             bytes: sink.bytes,
-            text: taken_of(sink.text),
+            text: kept_of(sink.text),
         }),
         Err(end) => Err(end_of(end)),
     }
@@ -199,7 +253,7 @@ pub(crate) fn items_text<S: Alter + Drop>(
 ) -> Result<ItemsText, TableFault>
     requires { tables.old.conn.in_transaction ≡ false }
     ensures { Reads S.Store tables.old.conn tables.new.conn result
-        (λ v found. IsReadable v → IsKeptText found.bytes found.text v.items) }
+        (λ v found. IsReadable v → IsCountedText found.bytes found.text v.items) }
 {
     match text_after(tables, first_line(alloc)) {
         Ok(found) => Ok(found),

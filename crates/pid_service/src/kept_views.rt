@@ -8,6 +8,8 @@ ghost use Rattle.pid_service.specs.Steps.KeptItems.{LeavesTheRest};
 
 use crate::accounts::accounts_after;
 use crate::changes::KeptChanges;
+use crate::kept_text::KeptText;
+use crate::renewing::text_after;
 use crate::top::top_after;
 use crate::waiting::add_number;
 use pid_lookup::NameCache;
@@ -21,7 +23,7 @@ use std::mem::replace;
 #[derive(Drop)]
 pub struct KeptItems {
     pub(crate) names: NameCache,
-    pub(crate) text: Option<Vec<u8>>,
+    pub(crate) text: Option<KeptText>,
 }
 
 /// Views of the history that the tables show, or nothing: those of the items, the vendors and the
@@ -135,9 +137,10 @@ impl KeptViews {
         self.changes = None;
     }
 
-    /// Follows a change: what is kept of the items and the changed items are dropped if it writes
-    /// one, and the vendors and the classes if it writes one of them; the number of a submission is
-    /// added when it is made, and taken away when it is decided; a new account is counted.
+    /// Follows a change: if it writes an item, the names and the changed items are dropped, and the
+    /// text is written anew where that item is; the vendors and the classes are dropped if it writes
+    /// one of them; the number of a submission is added when it is made, and taken away when it is
+    /// decided; a new account is counted.
     pub(crate) fn follow(&mut self, alloc: Global, change: &Change)
         ensures { (v : Views) → AreViews v → FitsViews change.now v → IsRightFor self.old v
             → IsRightFor self.new (changed change.now v) }
@@ -152,7 +155,9 @@ impl KeptViews {
         if !writes_items(&change.effect) {
             return;
         }
-        self.items.clear();
+        self.items.names.clear();
+        let text = self.items.text.take();
+        self.items.text = text_after(alloc, text, &change.effect);
         self.changes = None;
     }
 }

@@ -9,6 +9,6 @@ returns-in-Ok g c = record {
       let took = c.in-Ok.ensures.told clean v rest in
       record {
         counted = all_counted _ c.each_item.new.sink v.items refl refl took readable.items readable.item_count;
-        kept = all_kept _ c.each_item.new.sink v.items c.taken_of.result refl c.requires.first took c.taken_of.ensures;
+        kept = all_kept _ c.each_item.new.sink v.items c.kept_of.result refl c.requires.first took c.kept_of.ensures;
       };
 }

@@ -26,7 +26,7 @@ returns-in-Some g c =
       lives = refl;
       rests = nothing_read (state g.S.Store c.args.self.now.tables.conn) c.args.self.now.settled;
       told = λ clean h shows.
-          let many : c.len.result ≡ length c.in-Some.text.items = search rules in
+          let many : c.len.result ≡ length c.in-Some.text.bytes.items = search rules in
           (many ∙ ap length (text_told g.S.Store c.args.self.now h c.in-Some.text c.in-Some.is clean shows (c.items_print_as_their_tree.ensures h)), shows);
       caused = λ clean h shows. tt;
     })

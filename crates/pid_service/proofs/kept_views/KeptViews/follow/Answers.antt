@@ -1,15 +1,18 @@
 use Rattle.std.proofs.Common.{◌≡◌, ℕ, false, Option, Some, None, refl, rules, sym, subst, ◌∙◌}
 use Rattle.std.specs.Prelude.{Vec}
 use Rattle.std.specs.declared.alloc.Global.{Global}
+use Rattle.pid_moderation.specs.declared.change.Change.{Change}
 use Rattle.pid_moderation.specs.declared.change.Receipt.{Receipt}
 use Rattle.pid_moderation.specs.Changes.{affected, changed, keeping}
+use Rattle.pid_moderation.specs.Items.{Items, name_at}
 use Rattle.pid_moderation.specs.Views.{Views}
 use Rattle.pid_moderation.specs.declared.lists.Item.{Item}
 use Rattle.pid_tables.specs.Searches.KeptNumbers.{HoldsNumbers}
-use Rattle.pid_service.specs.KeptViews.{HoldsTop, HoldsWaiting}
+use Rattle.pid_service.specs.KeptViews.{HoldsText, HoldsTop, HoldsWaiting}
 use Rattle.pid_tables.specs.declared.searches.numbers.Searches.{Searches}
 use Rattle.pid_service.proofs.AccountCounts.{still_accounts}
-use Rattle.pid_service.proofs.Keeping.{no_items, same_items}
+use Rattle.pid_service.specs.declared.kept_text.KeptText.{KeptText}
+use Rattle.pid_service.proofs.Keeping.{same_items}
 use Rattle.pid_service.proofs.PendingNumbers.{still_waiting}
 use Rattle.pid_service.proofs.ChangedLists.{kept_since, same_changes}
 use Rattle.pid_tables.proofs.OfSearches.NumberLists.{still_numbers}
@@ -19,6 +22,9 @@ use Rattle.pid_service.proofs.kept_views.KeptViews.follow.Goals as goal
 kept_items : (r : Option Receipt) (v : Views) → (keeping r v).items ≡ v.items
 kept_items None v = refl
 kept_items (Some r) v = refl
+
+still_text : (change : Change) (v : Views) (text : Option KeptText) → HoldsText text (affected change.revision change.effect v).items → HoldsText text (changed change v).items
+still_text change v text holds = subst (λ (items : Items). HoldsText text items) (sym (kept_items change.receipt (affected change.revision change.effect v))) holds
 
 pub returns-then-not-writes_items : goal.returns-then-not-writes_items
 returns-then-not-writes_items c v views fits right =
@@ -46,10 +52,10 @@ returns c v views fits right =
     let taken : c.take-numbers.result ≡ c.args.self.now.pending = search rules in
     let held : c.take-top.result ≡ c.args.self.now.top = search rules in
     let numbers : c.replace-kept.result ≡ c.args.self.now.numbers = search rules in
-    let items = no_items _ (changed change v).items c.clear.ensures in
+    let text : c.take-text.result ≡ c.args.self.now.items.text = search rules in
     record {
-      names = items.0;
-      text = items.1;
+      names = c.clear.ensures.agrees (λ path. name_at path (changed change v).items);
+      text = still_text change v _ (c.text_after.ensures change.revision v views (subst (λ (o : Option KeptText). HoldsText o v.items) (sym text) right.text));
       top = still_top change v _ (c.top_after.ensures change.revision v (subst (λ (o : Option (Vec Item Global)). HoldsTop o v) (sym held) right.top));
       changes = tt;
       pending = still_waiting change v _ (c.waiting_after.ensures change.revision v views fits.0 (subst (λ (o : Option (Vec ℕ Global)). HoldsWaiting o v) (sym taken) right.pending));
