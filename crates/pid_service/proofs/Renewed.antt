@@ -17,7 +17,7 @@ use Rattle.pid_service.proofs.RenewedTexts.{drop_extents, edited_parts, extents_
 use Rattle.pid_service.specs.ItemTexts.{extents_behind, text_behind, text_of_items}
 use Rattle.pid_service.specs.Steps.ItemTexts.{Extents}
 use Rattle.pid_service.specs.KeptViews.{IsKeptText, extent_in}
-use Rattle.pid_service.specs.Steps.Renewing.{IsPlace, OpensTheSame, PutsLines, edited_item, has_lines, last_extent, last_of, new_items}
+use Rattle.pid_service.specs.Steps.Renewing.{IsPlace, OpensTheSame, PutsLines, edited_item, has_lines, last_extent, path_before, new_items}
 use Rattle.pid_service.specs.Steps.TextSinks.{HasLines}
 use Rattle.pid_service.specs.declared.items_text.GrowingText.{GrowingText}
 use Rattle.pid_service.specs.declared.kept_text.Extent.{Extent}
@@ -80,10 +80,10 @@ module _ (old new : KeptText) (place : Place) (write : Write) (lines : GrowingTe
   place_before : text_or_none place.before ≡ before
   place_before = here.before ∙ ap (last_extent []) (take_extents [] place.index items) ∙ last_behind [] front
 
-  was : text_or_none (last_of place write.path place.there) ≡ behind
+  was : text_or_none (path_before place write.path place.there) ≡ behind
   was = last_was place.there write.path place.before ∙ ap (λ (l : List ℕ). if place.there then key else l) place_before ∙ sym (last_there place.there place.index place.after key items here.after here.stands)
 
-  now : text_or_none (last_of place write.path (has_lines lines.extents.items)) ≡ last_path before put_items
+  now : text_or_none (path_before place write.path (has_lines lines.extents.items)) ≡ last_path before put_items
   now = last_now write.path write.edit place.before lines.extents.items has.extents_are ∙ ap (λ (l : List ℕ). last_path l put_items) place_before
 
   extents_rest : map extent_in (drop place.after old.extents.items) ≡ extents_behind behind rest
@@ -92,7 +92,7 @@ module _ (old new : KeptText) (place : Place) (write : Write) (lines : GrowingTe
   opens : OpensTheSame behind (last_path before put_items) (extents_behind behind rest)
   opens = subst (λ (l : Extents). OpensTheSame behind (last_path before put_items) l) extents_rest
       (subst (λ (l : List ℕ). OpensTheSame l (last_path before put_items) (map extent_in (drop place.after old.extents.items))) was
-      (subst (λ (l : List ℕ). OpensTheSame (text_or_none (last_of place write.path place.there)) l (map extent_in (drop place.after old.extents.items))) now puts.opens))
+      (subst (λ (l : List ℕ). OpensTheSame (text_or_none (path_before place write.path place.there)) l (map extent_in (drop place.after old.extents.items))) now puts.opens))
 
   bytes_front : take place.start old.bytes.items ≡ text_of_items front
   bytes_front = ap (take place.start) kept.text ∙ text_before items place.index place.start here.start

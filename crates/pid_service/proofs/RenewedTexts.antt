@@ -19,7 +19,7 @@ use Rattle.pid_moderation.specs.declared.change.Edit.TheVariants.{Add, Rename, R
 use Rattle.pid_service.proofs.ItemLines.{last_path, text_first, text_joined}
 use Rattle.pid_service.specs.ItemTexts.{extents_behind, text_behind, text_of_items}
 use Rattle.pid_service.specs.Steps.ItemTexts.{Extents}
-use Rattle.pid_service.specs.Steps.Renewing.{OpensTheSame, StandsAt, bytes_in, edited_item, last_extent}
+use Rattle.pid_service.specs.Steps.Renewing.{OpensTheSame, BeginsAtPath, bytes_in, edited_item, last_extent}
 
 -- ---- extents
 
@@ -123,14 +123,14 @@ edited_behind key (Rename name) before (e ∷ front) rest all = ap (λ o. by_ord
 edited_behind key Remove before (e ∷ front) rest all = ap (λ o. cond (not (is_eq o)) (e ∷ without key (front ++ rest)) (without key (front ++ rest))) all.0 ∙ ap (λ (l : Items). e ∷ l) (edited_behind key Remove e.0 front rest all.1)
 
 -- at its place the path has what the edit leaves
-put_there : (key name before : List ℕ) (there : Bool) (items : Items) → StandsAt key there (extents_behind before items) → put text_cmp key name items ≡ (key, name) ∷ drop (cond there 1 0) items
+put_there : (key name before : List ℕ) (there : Bool) (items : Items) → BeginsAtPath key there (extents_behind before items) → put text_cmp key name items ≡ (key, name) ∷ drop (cond there 1 0) items
 put_there key name before true [] stands = absurd stands
 put_there key name before true (e ∷ items) stands =
     ap (λ o. by_order o ((key, name) ∷ e ∷ items) ((e.0, name) ∷ items) (e ∷ put text_cmp key name items)) stands ∙ ap (λ (k : List ℕ). (k, name) ∷ items) (sym (same_texts key e.0 stands))
 put_there key name before false [] stands = refl
 put_there key name before false (e ∷ items) stands = ap (λ o. by_order o ((key, name) ∷ e ∷ items) ((e.0, name) ∷ items) (e ∷ put text_cmp key name items)) stands
 
-left_there : (key before : List ℕ) (there : Bool) (items : Items) → StandsAt key there (extents_behind before items) → is_sorted text_cmp items ≡ true → without key items ≡ drop (cond there 1 0) items
+left_there : (key before : List ℕ) (there : Bool) (items : Items) → BeginsAtPath key there (extents_behind before items) → is_sorted text_cmp items ≡ true → without key items ≡ drop (cond there 1 0) items
 left_there key before true [] stands sorted = absurd stands
 left_there key before true (e ∷ items) stands sorted =
     let above = (and_parts (below_all text_cmp e.0 items) (is_sorted text_cmp items) sorted).0 in
@@ -141,7 +141,7 @@ left_there key before false (e ∷ items) stands sorted =
     let above = (and_parts (below_all text_cmp e.0 items) (is_sorted text_cmp items) sorted).0 in
     none_left_out key (e ∷ items) (both _ _ (ap is_lt stands) (below_less key e.0 items stands above))
 
-edited_there : (key : List ℕ) (edit : Edit) (before : List ℕ) (there : Bool) (items : Items) → StandsAt key there (extents_behind before items) → is_sorted text_cmp items ≡ true → edited key edit items ≡ edited_item key edit ++ drop (cond there 1 0) items
+edited_there : (key : List ℕ) (edit : Edit) (before : List ℕ) (there : Bool) (items : Items) → BeginsAtPath key there (extents_behind before items) → is_sorted text_cmp items ≡ true → edited key edit items ≡ edited_item key edit ++ drop (cond there 1 0) items
 edited_there key (Add name) before there items stands sorted = put_there key name before there items stands
 edited_there key (Rename name) before there items stands sorted = put_there key name before there items stands
 edited_there key Remove before there items stands sorted = left_there key before there items stands sorted
@@ -168,16 +168,16 @@ behind_it false n after items is = ap (λ k. drop k items) (sym is)
 
 -- an edit in parts: what comes before the place, what the edit leaves, and what comes behind
 pub edited_parts : (key : List ℕ) (edit : Edit) (there : Bool) (n after : ℕ) (items : Items) → is_sorted text_cmp items ≡ true → after ≡ (if there then n + 1 else n)
-    → AllByRecursion (λ (e : List ℕ × ℕ). text_cmp key e.0 ≡ Greater) (take n (extents_behind [] items)) → StandsAt key there (drop n (extents_behind [] items))
+    → AllByRecursion (λ (e : List ℕ × ℕ). text_cmp key e.0 ≡ Greater) (take n (extents_behind [] items)) → BeginsAtPath key there (drop n (extents_behind [] items))
     → edited key edit items ≡ take n items ++ (edited_item key edit ++ drop after items)
 edited_parts key edit there n after items sorted is below stands =
     let front = subst (λ (l : Extents). AllByRecursion (λ (e : List ℕ × ℕ). text_cmp key e.0 ≡ Greater) l) (take_extents [] n items) below in
-    let here = subst (λ (l : Extents). StandsAt key there l) (drop_extents [] n items) stands in
+    let here = subst (λ (l : Extents). BeginsAtPath key there l) (drop_extents [] n items) stands in
     ap (edited key edit) (sym (take-append-drop n items)) ∙ edited_behind key edit [] (take n items) (drop n items) front
     ∙ ap (λ (l : Items). take n items ++ l) (edited_there key edit (last_path [] (take n items)) there (drop n items) here (sorted_drop n items sorted) ∙ ap (λ (l : Items). edited_item key edit ++ l) (behind_it there n after items is))
 
 -- the path of the last item with lines: that of the place, or the one before it
-last_more : (before : List ℕ) (n : ℕ) (key : List ℕ) (items : Items) → StandsAt key true (drop n (extents_behind before items)) → last_path before (take (n + 1) items) ≡ key
+last_more : (before : List ℕ) (n : ℕ) (key : List ℕ) (items : Items) → BeginsAtPath key true (drop n (extents_behind before items)) → last_path before (take (n + 1) items) ≡ key
 last_more before zero key [] stands = absurd stands
 last_more before zero key (e ∷ items) stands = sym (same_texts key e.0 stands)
 last_more before (suc n) key [] stands = absurd stands
@@ -185,6 +185,6 @@ last_more before (suc n) key (e ∷ items) stands =
     let more : suc n + 1 ≡ suc (n + 1) = omega arith in
     ap (λ k. last_path before (take k (e ∷ items))) more ∙ last_more e.0 n key items stands
 
-pub last_there : (there : Bool) (n after : ℕ) (key : List ℕ) (items : Items) → after ≡ (if there then n + 1 else n) → StandsAt key there (drop n (extents_behind [] items)) → last_path [] (take after items) ≡ (if there then key else last_path [] (take n items))
+pub last_there : (there : Bool) (n after : ℕ) (key : List ℕ) (items : Items) → after ≡ (if there then n + 1 else n) → BeginsAtPath key there (drop n (extents_behind [] items)) → last_path [] (take after items) ≡ (if there then key else last_path [] (take n items))
 last_there true n after key items is stands = ap (λ k. last_path [] (take k items)) is ∙ last_more [] n key items stands
 last_there false n after key items is stands = ap (λ k. last_path [] (take k items)) is

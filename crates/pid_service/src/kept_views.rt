@@ -138,8 +138,8 @@ impl KeptViews {
     }
 
     /// Follows a change: if it writes an item, the names and the changed items are dropped, and the
-    /// text is written anew where that item is; the vendors and the classes are dropped if it writes
-    /// one of them; the number of a submission is added when it is made, and taken away when it is
+    /// text is renewed where that item is; the vendors and the classes are dropped if it writes one
+    /// of them; the number of a submission is added when it is made, and taken away when it is
     /// decided; a new account is counted.
     pub(crate) fn follow(&mut self, alloc: Global, change: &Change)
         ensures { (v : Views) → AreViews v → FitsViews change.now v → IsRightFor self.old v

@@ -158,7 +158,7 @@ fn put<T: Copy + Drop>(
     }
 }
 
-// The path after which the items behind a place come, if it has lines.
+// The path before the items that come after a place, which has lines or not.
 fn last_of(place: &Place, path: Path, has_lines: bool) -> Option<Path>
     ensures { result ≡ (if has_lines then Some path else place.now.before) }
 {
@@ -166,7 +166,7 @@ fn last_of(place: &Place, path: Path, has_lines: bool) -> Option<Path>
 }
 
 // Puts new lines in their place. False if memory runs out, if the text gets too long, or if the
-// item behind them begins a block that it did not begin, or begins it no more.
+// item after them begins a block that it did not begin, or begins it no more.
 fn put_lines(
     alloc: Global,
     text: &mut KeptText,

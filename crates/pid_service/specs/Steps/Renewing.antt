@@ -1,4 +1,4 @@
--- Steps of a text that is written anew where one item is.
+-- Steps of a text that is written again where one item is.
 use Rattle.std.specs.Prelude.{◌≡◌, ℕ, ◌+◌, ◌≤◌, Bool, true, false, List, [], ◌∷◌, ◌++◌, drop, length, map}
 use Rattle.std.specs.Prelude.{take, Option, Some, if◌then◌else◌}
 use Rattle.std.specs.List.{AllByRecursion}
@@ -39,11 +39,11 @@ last_extent before [] = before
 last_extent before (e ∷ extents) = last_extent e.0 extents
 
 -- this is the path itself, or what comes after it comes first
-abbrev pub StandsAt : List ℕ → Bool → Extents → Type 0
-StandsAt path true [] = ⊥
-StandsAt path true (e ∷ extents) = text_cmp path e.0 ≡ Equal
-StandsAt path false [] = Unit {0}
-StandsAt path false (e ∷ extents) = text_cmp path e.0 ≡ Less
+abbrev pub BeginsAtPath : List ℕ → Bool → Extents → Type 0
+BeginsAtPath path true [] = ⊥
+BeginsAtPath path true (e ∷ extents) = text_cmp path e.0 ≡ Equal
+BeginsAtPath path false [] = Unit {0}
+BeginsAtPath path false (e ∷ extents) = text_cmp path e.0 ≡ Less
 
 -- the first of them opens a block after the one path as it does after the other
 abbrev pub OpensTheSame : (before now : List ℕ) → Extents → Type 0
@@ -59,11 +59,11 @@ pub record IsPlace (place : Place) (extents : Extents) (path : List ℕ) : Type 
   pub before : text_or_none place.before ≡ last_extent [] (take place.index extents)
   pub below : AllByRecursion (λ (e : List ℕ × ℕ). text_cmp path e.0 ≡ Greater)
       (take place.index extents)
-  pub stands : StandsAt path place.there (drop place.index extents)
+  pub stands : BeginsAtPath path place.there (drop place.index extents)
 
--- the path after which what is behind a place comes, if there are lines at the place
-abbrev pub last_of : Place → Path → Bool → Option Path
-last_of place path has_lines = if has_lines then Some path else place.before
+-- the path before what comes after a place, if there are lines at the place or not
+abbrev pub path_before : Place → Path → Bool → Option Path
+path_before place path has_lines = if has_lines then Some path else place.before
 
 abbrev pub has_lines : List Extent → Bool
 has_lines [] = false
@@ -76,6 +76,6 @@ pub record PutsLines (old new : KeptText) (place : Place) (path : Path)
       ++ (lines.buffer.taken.items ++ drop place.end old.bytes.items)
   pub extents : new.extents.items ≡ take place.index old.extents.items
       ++ (lines.extents.items ++ drop place.after old.extents.items)
-  pub opens : OpensTheSame (text_or_none (last_of place path place.there))
-      (text_or_none (last_of place path (has_lines lines.extents.items)))
+  pub opens : OpensTheSame (text_or_none (path_before place path place.there))
+      (text_or_none (path_before place path (has_lines lines.extents.items)))
       (map extent_in (drop place.after old.extents.items))
