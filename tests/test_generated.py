@@ -16,6 +16,7 @@ from old_registry import canonical
 from program import WHOLE
 from registry import asked, work
 from shims import SAMPLE
+from slow_file import parent
 from slow_registry import Refused, SlowRegistry, check_who, command_of
 
 STATUSES = {number: status for number, (_, status) in refusals.shown().items()}
@@ -246,6 +247,7 @@ BESIDE = (
 def each_write(registry, chance, count):
     """Commands that add items one by one, and then rename and remove some and add them again. In
     the end all of them are removed."""
+    yield "account", "root", None, [("who", "mona"), ("rank", "2")]
     for number in range(count):
         names, path = registry.names(), chance.choice(BESIDE)
         while parent(path) not in (None, *names):
@@ -261,7 +263,7 @@ def each_write(registry, chance, count):
 
 
 def approved(registry, path, change):
-    yield "submit", "root", None, [("path", path), change]
+    yield "submit", "mona", None, [("path", path), change]
     yield "approve", "root", None, [("num", str(len(registry.submissions())))]
 
 
