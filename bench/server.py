@@ -140,6 +140,27 @@ def of_both_sizes(target, smaller=small, larger=large):
     return measure
 
 
+def instructions_of_both(target, smaller, larger):
+    """The same in instructions: those of three such requests without those of one."""
+
+    def asked(count):
+        def talk(client):
+            for _ in range(count):
+                client.sendall(get(target))
+                whole_reply(client)
+
+        return talk
+
+    def measure(room):
+        return Figures(*(
+            (profiled(room, database, asked(3)).total
+             - profiled(room, database, asked(1)).total) / 2
+            for database in (larger(room), smaller(room))
+        ), "instructions")
+
+    return measure
+
+
 def times_of_both(time_of, smaller=small, larger=large):
     """The least of some times of a large registry, and of a smaller one."""
 
@@ -371,8 +392,10 @@ ROWS = [
     Row("children-first", "the same list, first after a start", OURS,
         first_of_both(same("/children"), vendors(0), vendors(33_600)), 3),
     Row("children-of", "`GET /children?of=`, 4,234 devices, 10,000 subsystems / none", OURS,
-        of_both_sizes(same("/children?of=PC/0000"), devices(0), devices(10_000)), 3),
-    Row("children-of-99", "the same, 99 devices, 100,000 items / 1,000 items", OURS,
+        of_both_sizes(same("/children?of=PC/0000"), devices(0), devices(10_000))),
+    Row("children-of-count", "the same devices, instructions", OURS,
+        instructions_of_both("/children?of=PC/0000", devices(0), devices(10_000)), 3, 1.5),
+    Row("children-of-99", "the same of 99 devices, 100,000 items / 1,000 items", OURS,
         of_both_sizes(same("/children?of=PC/0001")), 3),
     Row("remarks", "`GET /remarks`, the first 100 of 2,500 long ones / of 100", OURS,
         of_both_sizes(same("/remarks?num=1&after=0"), many("remarks", 100),
