@@ -1,4 +1,5 @@
-"""Libraries that refuse the program under test a request for memory, or a call of its disk."""
+"""Libraries that refuse the program under test a request for memory, or a call of its disk, or note
+its calls."""
 import os
 import subprocess
 import time
@@ -7,6 +8,9 @@ from program import SUPPORT, WHOLE, Skip
 
 # In memory where that can be had, so that no run waits for a disk.
 ROOM = "/dev/shm" if os.access("/dev/shm", os.W_OK) else None
+
+# The libraries, each from its source in C.
+NAMES = ("refuse_disk", "refuse_malloc", "note_calls")
 
 # Where a sample begins: at another call in each run, so that runs in turn try all of them. A test
 # prints it, and PCIIDS_SAMPLE repeats it.
@@ -20,7 +24,7 @@ def first_of(step):
 
 def build_shims(folder):
     """The paths of the libraries by their names, built in a folder."""
-    shims = {name: os.path.join(folder, f"{name}.so") for name in ("refuse_disk", "refuse_malloc")}
+    shims = {name: os.path.join(folder, f"{name}.so") for name in NAMES}
     for name, shim in shims.items():
         source = os.path.join(SUPPORT, f"{name}.c")
         words = ["gcc", "-O1", "-shared", "-fPIC", source, "-o", shim, "-ldl"]
