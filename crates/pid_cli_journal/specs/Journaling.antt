@@ -1,5 +1,5 @@
 -- A registry that is opened with the journal of a folder in front of it. Choices of this project.
-use Rattle.std.specs.Prelude.{◌≡◌, Bool, Result, Ok, Err}
+use Rattle.std.specs.Prelude.{◌≡◌, Result, Ok, Err}
 use Rattle.pid_moderation.specs.declared.refusal.Refusal.TheVariants as refusals
 use Rattle.pid_service_laws.specs.declared.moderated.Moderated.{Ghosts}
 use Rattle.pid_journal.specs.declared.file.JournalFile as files
@@ -30,13 +30,25 @@ module _ {R F J : Type 0} (registry : Ghosts R) (folder : folders.Ghosts F J) (f
       pub opened : Opened R J
       pub is : opened.registry ≡ pair
       pub honest : StaysHonest registry folder file alone (Ok opened)
-      pub resumed : Resumes registry folder file alone f (Ok opened)
-      pub begins : BeginsAfterGap registry folder file alone f (Ok opened)
+      -- and this is the folder then
+      pub after : F
+      pub resumed : Resumes registry folder file alone f after (Ok opened)
+      pub begins : BeginsAfterGap registry folder file alone f after (Ok opened)
 
-module _ {R J : Type 0} (registry : Ghosts R) (file : files.Ghosts J) where
-  -- None was opened; or the journal was refused, and a registry was closed: which one is not said.
-  pub data IsNotJournaled (IsOpened : R → Type 0) (IsUnopened : Unopened → Type 0)
-      (IsClosed : R → Type 0) (why : Unopened) : Type 0 where
-    NotEvenAlone : IsUnopened why → IsNotJournaled IsOpened IsUnopened IsClosed why
-    Refused : (alone back : R) (fault : OpenFault) → IsOpened alone → IsClosed back
-        → why ≡ reason_of_fault fault → IsNotJournaled IsOpened IsUnopened IsClosed why
+    -- The journal was refused, or there was a fault, and the registry was closed as that left it.
+    pub record IsRefusedWith (f : F) (IsOpened IsClosed : R → Type 0) (fault : OpenFault) : Type 0 where
+      pub alone : R
+      pub opens : IsOpened alone
+      pub back : R
+      pub after : F
+      pub honest : StaysHonest registry folder file alone (Err (back, fault))
+      pub resumed : Resumes registry folder file alone f after (Err (back, fault))
+      pub others : RefusesOthers registry folder file alone f after (Err (back, fault))
+      pub closed : IsClosed back
+
+    -- none was opened alone, or not with its journal
+    pub data IsNotJournaled (f : F) (IsOpened : R → Type 0) (IsUnopened : Unopened → Type 0)
+        (IsClosed : R → Type 0) (why : Unopened) : Type 0 where
+      NotEvenAlone : IsUnopened why → IsNotJournaled f IsOpened IsUnopened IsClosed why
+      Refused : (fault : OpenFault) → IsRefusedWith f IsOpened IsClosed fault
+          → why ≡ reason_of_fault fault → IsNotJournaled f IsOpened IsUnopened IsClosed why

@@ -15,6 +15,8 @@ use std::{fs, io};
 pub struct HostFolder<'r> {
     rt: &'r HostRuntime,
     path: String,
+    // How many segments were opened to be written, or made, or should have been.
+    opened: u64,
     _lock: Lock,
 }
 
@@ -77,6 +79,7 @@ impl<'r> HostFolder<'r> {
         Some(HostFolder {
             rt,
             path: String::from_str(rt.alloc(), path).ok()?,
+            opened: 0,
             _lock: take_lock(rt, path)?,
         })
     }
@@ -118,6 +121,8 @@ impl<'r> JournalFolder for HostFolder<'r> {
 
     ghost text_in = { λ _ _. [] };
 
+    ghost openings = { λ folder. folder.opened };
+
     fn begins(&mut self, alloc: Global) -> Result<Vec<u64>, Refusal> {
         match numbers_in(self.rt, alloc, self.path.as_str()) {
             Ok(numbers) => {
@@ -137,6 +142,7 @@ impl<'r> JournalFolder for HostFolder<'r> {
     }
 
     fn segment(&mut self, begin: u64) -> Result<HostSegment<'r>, Refusal> {
+        self.opened = self.opened.saturating_add(1);
         match self.open_file(begin, false) {
             Ok(file) => HostSegment::of(self.rt, file).ok_or(Refusal::Store),
             Err(error) => Err(refusal_of(error)),
@@ -144,6 +150,7 @@ impl<'r> JournalFolder for HostFolder<'r> {
     }
 
     fn new_segment(&mut self, begin: u64) -> Result<HostSegment<'r>, Refusal> {
+        self.opened = self.opened.saturating_add(1);
         match self.make_file(begin) {
             Ok(file) => HostSegment::of(self.rt, file).ok_or(Refusal::Store),
             Err(error) => Err(refusal_of(error)),

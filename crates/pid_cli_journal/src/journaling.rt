@@ -47,7 +47,7 @@ impl<D: Databases, G: Registries<D>, F: ReportingFolder> Registries<D> for Journ
         F.Segment.JournalFile self.folder (G.is_opened self.registries path) pair };
 
     ghost is_unopened = { λ self path why. IsNotJournaled G.Registry.Moderated
-        F.Segment.JournalFile (G.is_opened self.registries path)
+        F.JournalFolder F.Segment.JournalFile self.folder (G.is_opened self.registries path)
         (G.is_unopened self.registries path) G.is_closed why };
 
     ghost is_closed = { λ pair. G.is_closed pair.registry };

@@ -1,5 +1,5 @@
 -- An entry more in a journal.
-use Rattle.std.proofs.Common.{◌≡◌, inl, inr, ℕ, Bool, true, false, cond, List, [], ◌∷◌, ◌++◌, map, Option, Some, None, refl, sym, ap, subst, ◌∙◌, append_assoc}
+use Rattle.std.proofs.Common.{◌≡◌, inl, inr, ℕ, Bool, true, false, cond, List, [], ◌∷◌, ◌++◌, map, Option, Some, None, refl, sym, ap, subst, ◌∙◌, append_assoc, append-nil}
 use Rattle.std.specs.Prelude.{IfSome, is_some, ◌||◌}
 use Rattle.pid_file.proofs.Cuts.{ended_more, map_append, open_more}
 use Rattle.pid_file.specs.Lines.{drop_cr}
@@ -22,6 +22,12 @@ pub commands_both : (xs ys : List (List ℕ)) → commands_of_lines (xs ++ ys) �
 commands_both [] ys = refl
 commands_both (x ∷ xs) ys =
     ap (λ (l : List Asked). command_of (ask_of x) ++ l) (commands_both xs ys) ∙ sym (append_assoc (command_of (ask_of x)) (commands_of_lines xs) (commands_of_lines ys))
+
+pub history_both : (h : History) (xs ys : List (List ℕ)) → history_after h (xs ++ ys) ≡ history_after (history_after h xs) ys
+history_both h xs ys = ap (after_all h) (commands_both xs ys) ∙ after_both h (commands_of_lines xs) (commands_of_lines ys)
+
+pub line_alone : (h : History) (line : List ℕ) → history_after h (line ∷ []) ≡ after_line h line
+line_alone h line = ap (after_all h) (append-nil (command_of (ask_of line)))
 
 pub whole_both : (text more : List ℕ) → open_part text ≡ [] → whole_lines (text ++ more) ≡ whole_lines text ++ whole_lines more
 whole_both text more whole =

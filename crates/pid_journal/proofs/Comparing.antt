@@ -1,5 +1,5 @@
 -- The counts that a journal says are compared with those of a registry.
-use Rattle.std.proofs.Common.{◌≡◌, ◌⊎◌, inl, inr, ℕ, ◌<◌, ◌≤◌, Bool, true, false, cond, List, [], ◌∷◌, ◌++◌, Option, Some, None, Result, Ok, Err, refl, sym, ap, subst, ◌∙◌, arith, append_assoc, append-nil}
+use Rattle.std.proofs.Common.{◌≡◌, ◌⊎◌, inl, inr, ℕ, ◌<◌, ◌≤◌, Bool, true, false, cond, List, [], ◌∷◌, ◌++◌, Option, Some, None, Ok, Err, refl, sym, ap, subst, ◌∙◌, arith, append_assoc}
 use Rattle.std.specs.Prelude.{nat_lt, IfSome}
 use Rattle.std.proofs.lemmas.Bool.Decides.{nat_tests}
 use Rattle.pid_file.specs.WholeLines.{ended_pieces, whole_lines}
@@ -116,7 +116,7 @@ early a b d is le lt = omega arith
 pub not_missing : (h : History) (now : Counts) (name : ℕ) (lines : List (List ℕ)) → counts_held h ≡ now → name ≤ revision_of h → now.revision < name → FaultsAt Missing (counts_held h) lines
 not_missing h now name lines is begun lt = absurd (early (revision_of h) now.revision name (revision_counted h now is) begun lt)
 
-last_same : (xs ys : List ℕ) (x y : ℕ) → xs ++ x ∷ [] ≡ ys ++ y ∷ [] → x ≡ y
+pub last_same : (xs ys : List ℕ) (x y : ℕ) → xs ++ x ∷ [] ≡ ys ++ y ∷ [] → x ≡ y
 last_same [] [] x y is = cc
 last_same [] (b ∷ []) x y is = let no : ⊥ = cc in absurd no
 last_same [] (b ∷ d ∷ ys) x y is = let no : ⊥ = cc in absurd no

@@ -12,13 +12,16 @@ use Rattle.pid_service_laws.specs.declared.moderated.Moderated.{Ghosts}
 use Rattle.pid_journal.specs.declared.file.JournalFile as files
 use Rattle.pid_journal.specs.declared.folder.JournalFolder as folders
 use Rattle.pid_journal.specs.declared.open_fault.OpenFault.{OpenFault}
+use Rattle.pid_journal.specs.declared.open_fault.OpenFault.TheVariants.{Newer}
 use Rattle.pid_journal.specs.Journals.{JournalLeads}
-use Rattle.pid_journal.specs.Steps.Ways.{IsOnWay}
-use Rattle.pid_journal.specs.Openings.{HasBegun, IsRefused}
+use Rattle.pid_journal.specs.Steps.Ways.{IsAlong, IsOnWay}
+use Rattle.pid_journal.specs.Openings.{HasBegun, IsRefused, NamesNew, StopsAtOne}
 use Rattle.pid_journal.specs.Segments.{IsOnSegments, lines_in}
 use Rattle.pid_journal.specs.Steps.Opening.{ShowsAll}
-use Rattle.pid_journal.specs.Steps.Segments.{BeginsIn, EndsIn, EndsLast, FollowsAll, FollowsSegment, IsSameFolder, KeepsShown, LinesMayBeObeyed, PassesSegment, ShowsWithin, StaysQuiet, TellsRevision}
-use Rattle.pid_journal.proofs.LinesObeyed.{history_both}
+use Rattle.pid_journal.specs.Steps.Segments.{BeginsIn, EndsIn, EndsLast, FaultsAlong, FindsGap, HasComeTo, HasComeToLast, FollowsAll, FollowsSegment, IsSameFolder, KeepsShown, LinesMayBeObeyed, PassesSegment, ShowsWithin, StaysQuiet, TellsRevision}
+use Rattle.pid_journal.proofs.Along.{along_all, segments_along, stops_as, stops_behind}
+use Rattle.pid_journal.proofs.Appending.{history_both}
+use Rattle.pid_journal.proofs.Comparing.{last_same}
 use Rattle.pid_journal.proofs.Places.{no_lines_left, same_by_revision}
 
 -- TWO PARTS OF A LIST, TWICE
@@ -164,6 +167,15 @@ module _ {R F J : Type 0} (w : Showing R) (folder : folders.Ghosts F J) where
         (turn.turn (honest clean) known start marked shows);
   }
 
+-- a fault that is not that the registry has more commands is not given as that
+pub not_newer : (moved : Bool) (fault given : OpenFault) → given ≡ Newer → (moved ≡ true → LinesMayBeObeyed given) → (moved ≡ false → given ≡ fault) → (fault ≡ Newer → ⊥) → ⊥
+not_newer true fault given newer moved same never = subst LinesMayBeObeyed newer (moved refl)
+not_newer false fault given newer moved same never = never (sym (same refl) ∙ newer)
+
+pub quiet_newer : {Q : Type 0} → LinesMayBeObeyed Newer ⊎ Q → Q
+quiet_newer (inl may) = absurd may
+quiet_newer (inr quiet) = quiet
+
 -- WHAT CALLS DO
 
 le_along : (a b d : ℕ) → a ≤ b → b ≡ d → a ≤ d
@@ -181,7 +193,7 @@ pub read_names : (o : Option (List ℕ)) (names items : List ℕ) → o ≡ Some
 read_names None names items known said = absurd (let no : ⊥ = cc in no)
 read_names (Some all) names items known said = let same : all ≡ names = cc in said ∙ same
 
-empty_leads : (h : History) → JournalLeads h [] h
+pub empty_leads : (h : History) → JournalLeads h [] h
 empty_leads h = record { whole = refl; told = tt; leads = refl }
 
 module _ {R J : Type 0} (registry : Ghosts R) (file : files.Ghosts J) where
@@ -198,10 +210,10 @@ module _ {R J : Type 0} (registry : Ghosts R) (file : files.Ghosts J) where
       ∙ ap (λ (ls : List (List ℕ)). ls ++ more) (ap (λ (ls : List (List ℕ)). lines_in text front ++ ls) (sym (append-nil (whole_lines (text name)))) ∙ sym (lines_both text front (name ∷ [])) ∙ ap (λ (ns : List ℕ). lines_in text ns) (sym last))
 
   -- the journal goes on in the last one
-  pub ends_in : (text : ℕ → List ℕ) (start : History) (names : List ℕ) (mid new : R) (k : J) → EndsLast registry file text start names mid (Some k) → registry.showing.shows new (history_after start (lines_in text names)) → EndsIn registry file text start names new k
-  ends_in text start names mid new k ends shown = record {
+  pub ends_in : (text : ℕ → List ℕ) (start : History) (names : List ℕ) (after : Option (List ℕ)) (mid new : R) (k : J) → EndsLast registry file text start names mid (Some k) → registry.showing.shows new (history_after start (lines_in text names)) → after ≡ Some names → EndsIn registry file text start names after new k
+  ends_in text start names after mid new k ends shown same = record {
     front = ends.0;
-    last = inr (ends.1, ends.2);
+    last = inr (ends.1, ends.2, same);
     shown = shown;
     kept = ends.3.front;
     safe = ends.3.safe;
@@ -212,9 +224,9 @@ module _ {R J : Type 0} (registry : Ghosts R) (file : files.Ghosts J) where
   }
 
   -- or in a new one
-  pub begins_in : (text : ℕ → List ℕ) (start : History) (names : List ℕ) (new : R) (k : J) → file.safe k ≡ Some [] → registry.showing.shows new (history_after start (lines_in text names)) → EndsIn registry file text start names new k
-  begins_in text start names new k safe shown =
-      record { front = names; last = inl refl; shown = shown; kept = []; safe = safe; leads = empty_leads (history_after start (lines_in text names)); more = []; grows = refl }
+  pub begins_in : (text : ℕ → List ℕ) (start : History) (names : List ℕ) (after : Option (List ℕ)) (new : R) (k : J) → file.safe k ≡ Some [] → registry.showing.shows new (history_after start (lines_in text names)) → NamesNew after names (history_after start (lines_in text names)) → EndsIn registry file text start names after new k
+  begins_in text start names after new k safe shown named =
+      record { front = names; last = inl (refl, named); shown = shown; kept = []; safe = safe; leads = empty_leads (history_after start (lines_in text names)); more = []; grows = refl }
 
   module _ {F : Type 0} (folder : folders.Ghosts F J) where
     pub skip_passes : (old new : R) (f : F) (name next n : ℕ) (x : Bool) → KeepsShown registry.showing old new → TellsRevision registry.showing old new (Ok n) → next ≤ n → PassesSegment registry file folder old new f name next (Ok x)
@@ -237,7 +249,20 @@ module _ {R J : Type 0} (registry : Ghosts R) (file : files.Ghosts J) where
     pub fault_passes : (old mid new : R) (f : F) (name next n : ℕ) (fault given : OpenFault) → (registry.showing.is_clean new → registry.showing.is_clean mid) → KeepsShown registry.showing old mid → TellsRevision registry.showing old mid (Ok n) → n < next
         → FollowsSegment registry file folder mid new f name (Err fault) → (IsRefused fault → IsRefused given) → PassesSegment registry file folder old new f name next (Err given)
     fault_passes old mid new f name next n fault given honest kept told early follows says clean names later known h marked shows =
-        says (follows clean names known h shows.shown marked shows.way.told.0 (kept (honest clean) shows.shown shows.shows) (way_of old mid f name next n later h (honest clean) kept told early shows))
+        let lines = whole_lines (folder.text_in f name) in
+        let faults = follows clean names known h shows.shown marked shows.way.told.0 (kept (honest clean) shows.shown shows.shows) (way_of old mid f name next n later h (honest clean) kept told early shows) in
+        (says faults.0, stops_as registry.showing new _ _ (λ g along. along_all h h g (lines_in (folder.text_in f) (name ∷ next ∷ later)) [] lines (lines_in (folder.text_in f) (next ∷ later)) refl refl along) faults.1)
+
+    -- a fault before any line
+    pub none_passes : (old new : R) (f : F) (name next : ℕ) (fault : OpenFault) → IsRefused fault → KeepsShown registry.showing old new → PassesSegment registry file folder old new f name next (Err fault)
+    none_passes old new f name next fault is kept clean names later known h marked shows =
+        (is, inl (shows.shown, kept clean shows.shown shows.shows, segments_along (folder.text_in f) h shows.shown (name ∷ next ∷ later) shows.way))
+
+    -- what holds of the segments from one on holds of all
+    from_turn : (text : ℕ → List ℕ) (start g : History) (names front : List ℕ) (name : ℕ) (rest : List ℕ) → names ≡ front ++ name ∷ rest → IsAlong (history_after start (lines_in text front)) (lines_in text (name ∷ rest)) g → IsAlong start (lines_in text names) g
+    from_turn text start g names front name rest is along =
+        along_all start (history_after start (lines_in text front)) g (lines_in text names) (lines_in text front) (lines_in text (name ∷ rest)) []
+        (ap (lines_in text) is ∙ lines_both text front (name ∷ rest) ∙ ap (λ (ls : List (List ℕ)). lines_in text front ++ ls) (sym (append-nil (lines_in text (name ∷ rest))))) refl along
 
     -- at the last segment
     abbrev AtLast : (mid : R) (f g : F) (names : List ℕ) (name : ℕ) (start : History) → Type 0
@@ -270,7 +295,13 @@ module _ {R J : Type 0} (registry : Ghosts R) (file : files.Ghosts J) where
         → FollowsSegment registry file folder mid new g name (Err fault) → (IsRefused fault → IsRefused given) → FollowsAll registry file folder old new f names (Err given)
     err_last old mid new f g names name rest moved fault given turn none honest follows says clean known start marked shows =
         let a = at_last old mid f g names name rest moved turn none (honest clean) known start marked shows in
-        says (follows clean names (turn.same.0 ∙ known) (history_after start (lines_in (folder.text_in f) a.0)) a.4.0 a.2 a.3 a.4.1 a.4.2)
+        let h = history_after start (lines_in (folder.text_in f) a.0) in
+        let faults = follows clean names (turn.same.0 ∙ known) h a.4.0 a.2 a.3 a.4.1 a.4.2 in
+        let there = subst (λ (text : ℕ → List ℕ). StopsAtOne registry.showing (IsAlong h (whole_lines (text name))) new) turn.same.1 faults.1 in (
+          says faults.0,
+          stops_as registry.showing new _ _
+              (λ g along. from_turn (folder.text_in f) start g names a.0 name [] a.1 (subst (λ (ls : List (List ℕ)). IsAlong h ls g) (sym (append-nil (whole_lines (folder.text_in f name)))) along)) there,
+        )
 
     -- a fault at a segment before the last
     pub err_between : (old mid new : R) (f g : F) (names : List ℕ) (name next : ℕ) (rest later : List ℕ) (moved : Bool) (fault given : OpenFault) → IsInTurn registry.showing folder old mid f g names name rest moved → rest ≡ next ∷ later
@@ -279,7 +310,10 @@ module _ {R J : Type 0} (registry : Ghosts R) (file : files.Ghosts J) where
         let t = turn.turn (honest clean) known start marked shows in
         let h = history_after start (lines_in (folder.text_in f) t.front) in
         let at = subst (λ (ns : List ℕ). ShowsWithin registry.showing (folder.text_in f) h (name ∷ ns) mid) is t.shows in
-        says (passes clean names later (turn.same.0 ∙ known) h (lines_marked start (lines_in (folder.text_in f) t.front) marked) (subst (λ (text : ℕ → List ℕ). ShowsWithin registry.showing text h (name ∷ next ∷ later) mid) (sym turn.same.1) at))
+        let faults = passes clean names later (turn.same.0 ∙ known) h (lines_marked start (lines_in (folder.text_in f) t.front) marked) (subst (λ (text : ℕ → List ℕ). ShowsWithin registry.showing text h (name ∷ next ∷ later) mid) (sym turn.same.1) at) in
+        let there = subst (λ (text : ℕ → List ℕ). StopsAtOne registry.showing (IsAlong h (lines_in text (name ∷ next ∷ later))) new) turn.same.1 faults.1 in
+        let parts = t.parts ∙ ap (λ (ns : List ℕ). t.front ++ name ∷ ns) is in
+        (says faults.0, stops_as registry.showing new _ _ (λ g along. from_turn (folder.text_in f) start g names t.front name (next ∷ later) parts along) there)
 
     -- what a fault says of the lines that were obeyed
     pub stays_through : (old mid new : R) (f g k : F) (moved : Bool) (fault given : OpenFault) → (moved ≡ false → StaysQuiet registry.showing folder old mid f g) → (registry.showing.is_clean new → registry.showing.is_clean mid)
@@ -288,6 +322,15 @@ module _ {R J : Type 0} (registry : Ghosts R) (file : files.Ghosts J) where
     stays_through old mid new f g k false fault given kept honest stays moved (inl says) = inl says
     stays_through old mid new f g k false fault given kept honest (inl says) moved (inr same) = inl (subst LinesMayBeObeyed (sym same) says)
     stays_through old mid new f g k false fault given kept honest (inr still) moved (inr same) = inr (both_quiet registry.showing folder old mid new f g k honest (kept refl) still)
+
+    -- the last segment has begun, where the registry has more commands than it
+    pub came : (old mid new : R) (f g : F) (names : List ℕ) (name : ℕ) (rest : List ℕ) (moved : Bool) (fault given : OpenFault) → IsInTurn registry.showing folder old mid f g names name rest moved → rest ≡ [] → (registry.showing.is_clean new → registry.showing.is_clean mid)
+        → given ≡ Newer → (moved ≡ true → LinesMayBeObeyed given) → (moved ≡ false → given ≡ fault) → LinesMayBeObeyed fault ⊎ HasComeTo registry.showing mid new name → HasComeToLast registry file folder old new names
+    came old mid new f g names name rest true fault given turn none honest newer moved same come front last is clean h shown = absurd (subst LinesMayBeObeyed newer (moved refl))
+    came old mid new f g names name rest false fault given turn none honest newer moved same (inl may) front last is clean h shown = absurd (subst LinesMayBeObeyed (sym (same refl) ∙ newer) may)
+    came old mid new f g names name rest false fault given turn none honest newer moved same (inr come) front last is clean h shown =
+        let one : name ≡ last = last_same turn.at.0 front name last (sym (turn.at.1 ∙ ap (λ (ns : List ℕ). turn.at.0 ++ name ∷ ns) none) ∙ is) in
+        subst (λ (n : ℕ). n ≤ revision_of h) one (come clean h ((turn.kept refl).0 (honest clean) h shown))
 
     -- there is no segment
     pub none_follows : (r : R) (f : F) (names : List ℕ) → names ≡ [] → FollowsAll registry file folder r r f names (Ok None)
@@ -300,18 +343,35 @@ module _ {R J : Type 0} (registry : Ghosts R) (file : files.Ghosts J) where
     at_folder old mid f g names begins result same is follows clean known start marked shows =
         let there = subst (λ (text : ℕ → List ℕ). ShowsWithin registry.showing text start begins old) (sym same.1) (subst (λ (ns : List ℕ). ShowsWithin registry.showing (folder.text_in f) start ns old) (sym is) shows) in
         let said = follows clean (same.0 ∙ known ∙ ap (λ (ns : List ℕ). Some ns) (sym is)) start marked there in
-        subst (λ (text : ℕ → List ℕ). MatchResult result (EndsLast registry file text start names mid) IsRefused) same.1
-        (subst (λ (ns : List ℕ). MatchResult result (EndsLast registry file (folder.text_in g) start ns mid) IsRefused) is said)
+        subst (λ (text : ℕ → List ℕ). MatchResult result (EndsLast registry file text start names mid) (FaultsAlong registry file start (lines_in text names) mid)) same.1
+        (subst (λ (ns : List ℕ). MatchResult result (EndsLast registry file (folder.text_in g) start ns mid) (FaultsAlong registry file start (lines_in (folder.text_in g) ns) mid)) is said)
+
+    -- a fault after the last segment
+    pub fault_found : (old mid new : R) (f : F) (names : List ℕ) (last : Option J) (fault : OpenFault) → IsRefused fault → (registry.showing.is_clean new → registry.showing.is_clean mid) → KeepsShown registry.showing mid new → FollowsAll registry file folder old mid f names (Ok last)
+        → registry.showing.is_clean new → folder.names f ≡ Some names → (start : History) → IsMarked start → ShowsWithin registry.showing (folder.text_in f) start names old → FaultsAlong registry file start (lines_in (folder.text_in f) names) new fault
+    fault_found old mid new f names last fault is honest kept follows clean known start marked shows =
+        let ends = follows (honest clean) known start marked shows in
+        (is, stops_behind registry.showing new start (lines_in (folder.text_in f) names) (kept clean _ (ends_shown (folder.text_in f) start names mid last ends)))
 
     -- a journal that goes on after the last segment
-    pub found : (old mid new : R) (f g : F) (names : List ℕ) (last : Option J) (k : J) → (registry.showing.is_clean new → registry.showing.is_clean mid) → FollowsAll registry file folder old mid f names (Ok last) → KeepsShown registry.showing mid new
-        → folder.names g ≡ folder.names f → (last ≡ Some k) ⊎ BeginsIn registry file folder mid new g k
-        → registry.showing.is_clean new → folder.names f ≡ Some names → (start : History) → IsMarked start → ShowsWithin registry.showing (folder.text_in f) start names old → EndsIn registry file (folder.text_in f) start names new k
-    found old mid new f g names last k honest follows kept same (inl is) clean known start marked shows =
+    pub found : (old mid new : R) (f g z : F) (names : List ℕ) (last : Option J) (k : J) → (registry.showing.is_clean new → registry.showing.is_clean mid) → FollowsAll registry file folder old mid f names (Ok last) → KeepsShown registry.showing mid new
+        → folder.names g ≡ folder.names f → ((last ≡ Some k) × (folder.names z ≡ folder.names g)) ⊎ BeginsIn registry file folder mid new g z k
+        → registry.showing.is_clean new → folder.names f ≡ Some names → (start : History) → IsMarked start → ShowsWithin registry.showing (folder.text_in f) start names old → EndsIn registry file (folder.text_in f) start names (folder.names z) new k
+    found old mid new f g z names last k honest follows kept same (inl (is, stays)) clean known start marked shows =
         let ends = follows (honest clean) known start marked shows in
         let shown = kept clean (history_after start (lines_in (folder.text_in f) names)) (ends_shown (folder.text_in f) start names mid last ends) in
-        ends_in (folder.text_in f) start names mid new k (subst (λ (l : Option J). EndsLast registry file (folder.text_in f) start names mid l) is ends) shown
-    found old mid new f g names last k honest follows kept same (inr begins) clean known start marked shows =
+        ends_in (folder.text_in f) start names (folder.names z) mid new k (subst (λ (l : Option J). EndsLast registry file (folder.text_in f) start names mid l) is ends) shown (stays ∙ same ∙ known)
+    found old mid new f g z names last k honest follows kept same (inr begins) clean known start marked shows =
         let ends = follows (honest clean) known start marked shows in
-        let shown = kept clean (history_after start (lines_in (folder.text_in f) names)) (ends_shown (folder.text_in f) start names mid last ends) in
-        begins_in (folder.text_in f) start names new k (begins names (same ∙ known)).0 shown
+        let there = ends_shown (folder.text_in f) start names mid last ends in
+        let shown = kept clean (history_after start (lines_in (folder.text_in f) names)) there in
+        let b = begins names (same ∙ known) in
+        begins_in (folder.text_in f) start names (folder.names z) new k b.0 shown (b.2 clean (history_after start (lines_in (folder.text_in f) names)) there)
+
+    -- a gap before a new segment
+    pub gap_found : (old mid new : R) (f g z : F) (names : List ℕ) (k : J) → StaysQuiet registry.showing folder old mid f g → (registry.showing.is_clean new → registry.showing.is_clean mid) → folder.names g ≡ folder.names f → BeginsIn registry file folder mid new g z k
+        → ((all : List ℕ) → folder.names f ≡ Some all → names ≡ all) → HasComeToLast registry file folder old mid names → FindsGap registry file folder old new f z k
+    gap_found old mid new f g z names k quiet honest same begins read come = (
+      λ all known. let b = begins all (same ∙ known) in (b.0, (λ clean h shown. b.1 clean h (quiet.0 (honest clean) h shown)), (λ clean h shown. b.2 clean h (quiet.0 (honest clean) h shown))),
+      λ all known front name is clean h shown. come front name (read all known ∙ is) (honest clean) h shown,
+    )

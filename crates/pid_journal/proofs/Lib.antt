@@ -8,6 +8,7 @@ pub mod Scripts
 pub mod Places
 pub mod Comparing
 pub mod LinesObeyed
+pub mod Along
 pub mod Resuming
 pub mod Imported
 pub mod InTurn

@@ -9,21 +9,15 @@ use Rattle.pid_moderation.specs.declared.refusal.Refusal.{Refusal}
 use Rattle.pid_moderation.specs.declared.refusal.Refusal.TheVariants.{Memory}
 use Rattle.pid_moderation.specs.History.{Asked, History}
 use Rattle.pid_moderation.specs.Judgement.{after_all}
-use Rattle.pid_script.specs.Replies.{command_of, commands_of_lines, history_after}
+use Rattle.pid_script.specs.Replies.{command_of, history_after}
 use Rattle.pid_script.specs.ScriptLines.{ask_of}
 use Rattle.pid_service_laws.specs.Outcomes.{IsMemoryOrStore}
 use Rattle.pid_service_laws.specs.Registries.{CommandLeaves, Showing}
 use Rattle.pid_journal.specs.Journals.{after_line}
 use Rattle.pid_journal.specs.Steps.Following.{FaultsAtLine, FaultsWithin}
 use Rattle.pid_journal.specs.Steps.Places.{IsEndOf}
-use Rattle.pid_journal.proofs.Appending.{after_both, commands_both}
+use Rattle.pid_journal.proofs.Appending.{history_both, line_alone}
 use Rattle.pid_journal.proofs.Places.{end_more, line_first, none_left}
-
-pub history_both : (h : History) (xs ys : List (List ℕ)) → history_after h (xs ++ ys) ≡ history_after (history_after h xs) ys
-history_both h xs ys = ap (after_all h) (commands_both xs ys) ∙ after_both h (commands_of_lines xs) (commands_of_lines ys)
-
-line_alone : (h : History) (line : List ℕ) → history_after h (line ∷ []) ≡ after_line h line
-line_alone h line = ap (after_all h) (append-nil (command_of (ask_of line)))
 
 module _ {R : Type 0} (w : Showing R) where
   -- ONE LINE

@@ -1,5 +1,5 @@
 -- Marks, and what may be cut off.
-use Rattle.std.proofs.Common.{◌≡◌, ◌⊎◌, inl, inr, ℕ, suc, ◌+◌, ◌≤◌, List, [], ◌∷◌, ◌++◌, length, map, Option, Some, None, Result, Ok, Err, refl, sym, ap, subst, ◌∙◌, arith, append_assoc, append-nil, length-append}
+use Rattle.std.proofs.Common.{◌≡◌, inl, inr, ℕ, suc, ◌+◌, ◌≤◌, List, [], ◌∷◌, ◌++◌, length, map, Option, Some, None, Result, Ok, Err, refl, sym, ap, subst, ◌∙◌, arith, append_assoc, append-nil, length-append}
 use Rattle.std.specs.Prelude.{IfSome, IsErr, IsErrAnd}
 use Rattle.pid_file.proofs.Cuts.{ended_line, ended_more, map_append, open_no_lf}
 use Rattle.pid_file.specs.Lines.{drop_cr}
@@ -13,7 +13,7 @@ use Rattle.pid_script.specs.ScriptLines.{ask_of}
 use Rattle.pid_service_laws.specs.Outcomes.{IsMemoryOrStore}
 use Rattle.pid_service_laws.specs.Registries.{Showing}
 use Rattle.pid_journal.specs.declared.counts.Counts.{Counts}
-use Rattle.pid_journal.specs.Comments.{counts_held, counts_in, counts_said}
+use Rattle.pid_journal.specs.Comments.{counts_in, counts_said}
 use Rattle.pid_journal.specs.Files.{LeavesPart, MarksAreWithin, MayBeAdded}
 use Rattle.pid_journal.specs.Journals.{IsEntry, IsMark}
 use Rattle.pid_journal.specs.Steps.Opening.{IsWholeUpTo}

@@ -1,5 +1,5 @@
 -- A command whose entry was written: what its end leaves.
-use Rattle.std.proofs.Common.{◌≡◌, ◌⊎◌, inl, inr, ℕ, true, false, List, [], ◌∷◌, ◌++◌, length, Option, Some, None, Result, Ok, Err, refl, sym, ap, subst, ◌∙◌, append_assoc, append-nil}
+use Rattle.std.proofs.Common.{◌≡◌, ◌⊎◌, inl, inr, ℕ, true, false, List, [], ◌++◌, length, Option, Some, None, Result, Ok, Err, refl, sym, ap, subst, ◌∙◌, append_assoc, append-nil}
 use Rattle.std.specs.Prelude.{IfSome, IsErrAnd}
 use Rattle.pid_moderation.specs.declared.command.Reply.{Reply}
 use Rattle.pid_moderation.specs.declared.refusal.Refusal.{Refusal}

@@ -20,8 +20,8 @@ use Rattle.pid_journal.specs.declared.placing.Place.{Place}
 use Rattle.pid_journal.specs.Comments.{counts_held, counts_said}
 use Rattle.pid_journal.specs.Journals.{AreTrue, after_line, noted_after}
 use Rattle.pid_journal.specs.Steps.Ways.{IsOnWay}
-use Rattle.pid_journal.specs.Steps.Places.{IsEndOf, IsPlaced}
-use Rattle.pid_journal.proofs.Appending.{after_first}
+use Rattle.pid_journal.specs.Steps.Places.{IsAt, IsEndOf, IsPlaced}
+use Rattle.pid_journal.proofs.Appending.{after_first, history_both, line_alone}
 use Rattle.pid_journal.proofs.Reading.{idle_says_none, said_is_idle}
 
 -- ONE REVISION, ONE HISTORY
@@ -216,7 +216,7 @@ at_end h g noted lines none way = no_lines_left h g way.before way.later (sym no
 pub record IsReached (start shown : History) (text rest : List ℕ) (place : Place) : Type 0 where
   pub here : History
   pub placed : IsPlaced shown here place (whole_lines rest)
-  pub same : history_after here (whole_lines rest) ≡ history_after start (whole_lines text)
+  pub at : IsAt start here text rest
 
 pub record IsFinding (text rest : List ℕ) (now : Counts) (begin : ℕ) (place : Place) : Type 0 where
   pub end : IsEndOf text rest
@@ -233,7 +233,7 @@ found_first text now begin = record {
       most = no_later (revision_of start) begin begins;
       older = λ noted. absurd (let no : ⊥ = cc in no);
     };
-    same = refl;
+    at = record { far = []; parts = refl; so_far = refl };
   };
 }
   where
@@ -263,18 +263,27 @@ found_on text rest line behind now begin place next finding parts one steps = re
       record {
         here = after_line r.here (drop_cr line);
         placed = steps shown r.here is (placed_at shown r.here place rest line behind parts one r.placed);
-        same = sym (after_first r.here (drop_cr line) (whole_lines behind)) ∙ ap (history_after r.here) (sym (line_first rest line behind parts one)) ∙ r.same;
+        at = record {
+          far = r.at.far ++ drop_cr line ∷ [];
+          parts = r.at.parts ∙ ap (λ (ls : List (List ℕ)). r.at.far ++ ls) (line_first rest line behind parts one) ∙ sym (append_assoc r.at.far (drop_cr line ∷ []) (whole_lines behind));
+          so_far = history_both start r.at.far (drop_cr line ∷ []) ∙ ap (λ (g : History). history_after g (drop_cr line ∷ [])) r.at.so_far ∙ line_alone r.here (drop_cr line);
+        };
       };
 }
 
 -- the registry stands here
-pub found_here : (start shown : History) (text rest : List ℕ) (place : Place) (r : IsReached start shown text rest place) → r.here ≡ shown → history_after shown (whole_lines rest) ≡ history_after start (whole_lines text)
-found_here start shown text rest place r is = ap (λ (g : History). history_after g (whole_lines rest)) (sym is) ∙ r.same
+pub found_here : (start shown : History) (text rest : List ℕ) (place : Place) (r : IsReached start shown text rest place) → r.here ≡ shown → IsAt start shown text rest
+found_here start shown text rest place r is = record { far = r.at.far; parts = r.at.parts; so_far = r.at.so_far ∙ is }
+
+-- the lines of the rest lead on from the history shown to where all lines lead
+pub leads_on : (start shown : History) (text rest : List ℕ) → IsAt start shown text rest → history_after shown (whole_lines rest) ≡ history_after start (whole_lines text)
+leads_on start shown text rest at =
+    ap (λ (g : History). history_after g (whole_lines rest)) (sym at.so_far) ∙ sym (history_both start at.far (whole_lines rest)) ∙ ap (history_after start) (sym at.parts)
 
 pub none_left : (rest : List ℕ) → ended_pieces rest ≡ [] → whole_lines rest ≡ []
 none_left rest none = ap (map drop_cr) none
 
-pub found_last : (start shown : History) (text rest : List ℕ) (place : Place) → IsReached start shown text rest place → ended_pieces rest ≡ [] → history_after shown (whole_lines rest) ≡ history_after start (whole_lines text)
+pub found_last : (start shown : History) (text rest : List ℕ) (place : Place) → IsReached start shown text rest place → ended_pieces rest ≡ [] → IsAt start shown text rest
 found_last start shown text rest place r none = found_here start shown text rest place r (at_end r.here shown place.noted (whole_lines rest) (none_left rest none) r.placed.way)
 
 pub found_newer : (start shown : History) (text rest : List ℕ) (now : Counts) (place : Place) → counts_held shown ≡ now → IsReached start shown text rest place → ended_pieces rest ≡ [] → place.most < now.revision → ⊥

@@ -1,7 +1,6 @@
 -- A registry that has obeyed the lines of its journal.
-use Rattle.std.proofs.Common.{◌≡◌, ◌⊎◌, inl, inr, ℕ, ◌+◌, ◌-◌, ◌<◌, ◌≤◌, false, List, [], ◌∷◌, ◌++◌, length, Option, Some, None, Result, Ok, Err, refl, sym, ap, subst, ◌∙◌, arith, append_assoc, append-nil, length-append}
+use Rattle.std.proofs.Common.{◌≡◌, ◌⊎◌, inl, inr, ℕ, ◌+◌, ◌-◌, ◌<◌, ◌≤◌, false, List, [], ◌++◌, length, Option, Some, None, Result, Ok, Err, refl, sym, ap, subst, ◌∙◌, arith, append_assoc, append-nil, length-append}
 use Rattle.std.specs.Prelude.{IfErr, IfOk, IfSome, MatchOption, MatchResult}
-use Rattle.std.proofs.lemmas.List.{nil_from_length}
 use Rattle.pid_file.proofs.Cuts.{open_more, whole_same}
 use Rattle.pid_file.specs.WholeLines.{open_part, whole_lines}
 use Rattle.pid_moderation.specs.History.{Asked, History}
@@ -151,3 +150,9 @@ before_begin start shown now begin lines begins is way early =
   where
     apart : (a b d e : ℕ) → a ≡ e → b ≡ d → a ≤ b → d < e → ⊥
     apart a b d e p q le lt = omega arith
+
+pub come_to : (h : History) (now : Counts) (begin : ℕ) → counts_held h ≡ now → begin ≤ now.revision → begin ≤ revision_of h
+come_to h now begin is le = through (revision_of h) now.revision begin (revision_counted h now is) le
+  where
+    through : (a b d : ℕ) → a ≡ b → d ≤ b → d ≤ a
+    through a b d p le = omega arith

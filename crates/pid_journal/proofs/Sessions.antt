@@ -9,7 +9,7 @@ use Rattle.pid_journal.specs.Laws.{StopsLeaveTheWay}
 use Rattle.pid_journal.specs.Segments.{AreSegments, IsOnSegments, lines_in}
 use Rattle.pid_journal.specs.Steps.Ways.{IsOnWay}
 use Rattle.pid_journal.proofs.InTurn.{lines_both}
-use Rattle.pid_journal.proofs.LinesObeyed.{history_both}
+use Rattle.pid_journal.proofs.Appending.{history_both}
 use Rattle.pid_journal.proofs.Scripts.{doubts}
 
 -- one segment more

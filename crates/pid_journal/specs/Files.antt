@@ -1,6 +1,6 @@
 -- What an append, a mark and a cut leave in a file: what is safe there, as far as it is known. Choices of
 -- this project.
-use Rattle.std.specs.Prelude.{◌≡◌, ◌⊎◌, ◌+◌, ◌≤◌, ℕ, List, [], ◌∷◌, ◌++◌, length, Option, Some, Result, MatchResult}
+use Rattle.std.specs.Prelude.{◌≡◌, ◌⊎◌, ◌+◌, ◌≤◌, ℕ, List, ◌∷◌, ◌++◌, length, Option, Some, Result, MatchResult}
 
 -- after the leading bytes a prefix of the others is left, maybe all of them, maybe none
 pub record LeavesPart (now : Option (List ℕ)) (front behind : List ℕ) : Type 0 where

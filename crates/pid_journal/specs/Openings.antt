@@ -7,6 +7,7 @@ use Rattle.pid_moderation.specs.Revisions.{IsMarked}
 use Rattle.pid_moderation.specs.Views.{revision_of}
 use Rattle.pid_script.specs.Replies.{history_after}
 use Rattle.pid_script.specs.ScriptLines.{is_idle_line}
+use Rattle.pid_service_laws.specs.Registries.{Showing}
 use Rattle.pid_service_laws.specs.declared.moderated.Moderated.{Ghosts}
 use Rattle.pid_journal.specs.declared.counts.Counts.{Counts}
 use Rattle.pid_journal.specs.declared.file.JournalFile as files
@@ -24,6 +25,11 @@ abbrev pub IsRefused : OpenFault → Type 0
 IsRefused (Refused refusal) = Unit {0}
 IsRefused other = ⊥
 
+-- after a fault: the registry shows such a history, or has failed between two of them
+abbrev pub StopsAtOne : {R : Type 0} → Showing R → (History → Type 0) → R → Type 0
+StopsAtOne w Is r = ((h : History) × w.shows r h × Is h)
+    ⊎ ((h : History) × (next : History) × w.fails_between r h next × Is h × Is next)
+
 -- The counts with which those of a registry are compared: the first ones in the lines that are no
 -- older; or the last ones, if no command comes after them.
 abbrev pub compared_on : Counts → (Option Counts → Option Counts) → (said told : Option Counts)
@@ -35,6 +41,10 @@ abbrev pub compared : Counts → Option Counts → List (List ℕ) → Option Co
 compared now told [] = told
 compared now told (line ∷ lines) = compared_on now (λ next. compared now next lines)
     (counts_said line) (if is_idle_line line then told else None)
+
+-- A new segment comes after the others, named by the revision at which it begins.
+abbrev pub NamesNew : Option (List ℕ) → List ℕ → History → Type 0
+NamesNew after names h = after ≡ Some (names ++ revision_of h ∷ [])
 
 -- the segments begin at no later revisions
 abbrev pub HasBegun : History → List ℕ → Type 0
@@ -54,9 +64,11 @@ module _ {R F J : Type 0} (registry : Ghosts R) (folder : folders.Ghosts F J) (f
 
   -- The registry shows the history of all lines, and the journal goes on in the last segment, or in
   -- a new one after it, with all lines that it had, and maybe a mark.
-  pub record GoesOn (start : History) (names : List ℕ) (f : F) (p : Journaled R J) : Type 0 where
+  pub record GoesOn (start : History) (names : List ℕ) (f g : F) (p : Journaled R J) : Type 0 where
     pub front : List ℕ
-    pub last : (names ≡ front) ⊎ ((name : ℕ) × (names ≡ front ++ name ∷ []))
+    pub last : ((names ≡ front)
+        × NamesNew (folder.names g) names (history_after start (lines_in (folder.text_in f) names)))
+        ⊎ ((name : ℕ) × (names ≡ front ++ name ∷ []) × (folder.names g ≡ Some names))
     pub shows : PairShows registry file (history_after start (lines_in (folder.text_in f) front)) p
         (history_after start (lines_in (folder.text_in f) names))
     pub more : List (List ℕ)
@@ -69,19 +81,24 @@ module _ {R F J : Type 0} (registry : Ghosts R) (folder : folders.Ghosts F J) (f
       (λ o. registry.showing.is_clean o.registry.registry → registry.showing.is_clean r)
       (λ back. registry.showing.is_clean back.0 → registry.showing.is_clean r)
 
-  -- a journal that belongs to the registry is obeyed to its end, unless there is a fault
-  abbrev pub Resumes : R → F → Result (Opened R J) (R × OpenFault) → Type 0
-  Resumes r f result = (start : History) (names : List ℕ) → BelongsTo start names r f
+  -- A journal that belongs to the registry is obeyed to its end. Or there is a fault: then it still
+  -- belongs to the registry, which another opening finds on the way.
+  abbrev pub Resumes : R → (f g : F) → Result (Opened R J) (R × OpenFault) → Type 0
+  Resumes r f g result = (start : History) (names : List ℕ) → BelongsTo start names r f
       → MatchResult result
       (λ o. registry.showing.is_clean o.registry.registry
-      → (o.gap ≡ false) × GoesOn start names f o.registry)
-      (λ back. registry.showing.is_clean back.0 → IsRefused back.1)
+      → (o.gap ≡ false) × GoesOn start names f g o.registry)
+      (λ back. registry.showing.is_clean back.0 → IsRefused back.1
+      × StopsAtOne registry.showing (IsOnSegments (folder.text_in f) start names) back.0)
 
-  -- after a gap the journal begins at the history that the registry shows
-  abbrev pub BeginsAfterGap : R → F → Result (Opened R J) (R × OpenFault) → Type 0
-  BeginsAfterGap r f result = IfOk result (λ o. o.gap ≡ true → (names : List ℕ)
+  -- After a gap the journal begins at the history that the registry shows, in a new segment. The last
+  -- one before the gap has begun.
+  abbrev pub BeginsAfterGap : R → (f g : F) → Result (Opened R J) (R × OpenFault) → Type 0
+  BeginsAfterGap r f g result = IfOk result (λ o. o.gap ≡ true → (names : List ℕ)
       → folder.names f ≡ Some names → registry.showing.is_clean o.registry.registry → (h : History)
-      → registry.showing.shows r h → PairShows registry file h o.registry h)
+      → registry.showing.shows r h → PairShows registry file h o.registry h
+      × NamesNew (folder.names g) names h
+      × ((front : List ℕ) (name : ℕ) → names ≡ front ++ name ∷ [] → name ≤ revision_of h))
 
   -- Of a registry that has come to the beginning of each segment the counts are compared: the same are
   -- no gap, older ones are one, and any others are another registry's.

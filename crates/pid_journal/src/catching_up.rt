@@ -1,15 +1,22 @@
 //! One segment of a journal, obeyed by a registry that does not have all of it yet.
-ghost use Rattle.std.specs.Prelude.{◌≡◌, IfErr, IfOk, IfSome};
+ghost use Rattle.std.specs.Prelude.{◌≡◌, ◌⊎◌, IfErr, IfOk, IfSome};
 ghost use Rattle.pid_service_laws.specs.CallLaws.{StaysClean};
 ghost use Rattle.pid_journal.specs.Openings.{IsRefused};
 ghost use Rattle.pid_journal.specs.Steps.Comparing.{ComparesSegment};
-ghost use Rattle.pid_journal.specs.Steps.Opening.{EndsFile, IsWholeUpTo, ObeysRest};
+ghost use Rattle.pid_journal.specs.Steps.Opening.{
+  EndsFile,
+  IsWholeUpTo,
+  ObeysRest,
+  StopsAlong,
+};
 ghost use Rattle.pid_journal.specs.Steps.Parts.{MayBeMarked};
 ghost use Rattle.pid_journal.specs.Steps.Places.{IsEndOf};
 ghost use Rattle.pid_journal.specs.Steps.Segments.{
   FollowsSegment,
+  HasComeTo,
   IsSameFolder,
   KeepsShown,
+  LinesMayBeObeyed,
   StaysOrMoved,
 };
 
@@ -75,7 +82,8 @@ fn obey_rest<R: Consulted, J: JournalFile>(
     ensures honest { StaysClean R.showing registry.old registry.new }
     ensures obeyed { IfOk result (λ x. ObeysRest R.showing registry.old registry.new
         (J.safe journal.old) (J.safe journal.new) text.now rest.now) }
-    ensures fault { IfErr result IsRefused }
+    ensures fault { IfErr result (λ fault. IsRefused fault
+        × StopsAlong R.showing registry.old registry.new rest.now) }
 {
     let torn = match follow(alloc, registry, journal, rest) {
         Ok(torn) => torn,
@@ -92,7 +100,7 @@ fn obey_rest<R: Consulted, J: JournalFile>(
 
 /// Opens the segment that begins at a revision, and brings a registry up to its end. What is no
 /// whole line there is cut off, and the end is marked.
-pub fn follow_segment<R: Consulted, F: JournalFolder>(
+pub(crate) fn follow_segment<R: Consulted, F: JournalFolder>(
     alloc: Global,
     registry: &mut R,
     folder: &mut F,
@@ -106,6 +114,8 @@ pub fn follow_segment<R: Consulted, F: JournalFolder>(
         folder.new result }
     ensures compared { ComparesSegment R.showing F.JournalFolder registry.old registry.new folder.old
         begin result }
+    ensures come { IfErr result (λ fault. LinesMayBeObeyed fault
+        ⊎ HasComeTo R.showing registry.old registry.new begin) }
 {
     let status = match registry.status() {
         Ok(status) => status,

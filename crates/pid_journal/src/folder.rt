@@ -1,5 +1,6 @@
 //! The folder of a journal.
-ghost use Rattle.std.specs.Prelude.{◌≡◌, [], ℕ, List, Option, IfOk, IfSome, MatchOption};
+ghost use Rattle.std.specs.Prelude.{◌≡◌, [], ◌∷◌, ◌++◌, ℕ, List, Option, IfOk, IfSome, IsSorted, MatchOption};
+ghost use Rattle.std.specs.Ordering.{nat_cmp};
 
 use crate::file::JournalFile;
 use pid_moderation::Refusal;
@@ -23,6 +24,7 @@ pub trait JournalFolder {
     /// The revisions at which its segments begin, in ascending order. `Memory` or `Store` if they
     /// cannot be read.
     fn begins(&mut self, alloc: Global) -> Result<Vec<u64>, Refusal>
+        ensures ascending { IfOk result (λ begins. IsSorted nat_cmp begins.items) }
         ensures same { (names self.new ≡ names self.old) × (text_in self.new ≡ text_in self.old) }
         ensures unopened { openings self.new ≡ openings self.old }
         ensures read { IfOk result
@@ -46,5 +48,5 @@ pub trait JournalFolder {
     /// Makes an empty segment that begins at a revision, where none does yet. Its name is synced.
     fn new_segment(&mut self, begin: u64) -> Result<Self::Segment, Refusal>
         ensures { IfOk result (λ file. IfSome (names self.old)
-            (λ all. Self.Segment.safe file ≡ Some [])) };
+            (λ all. (Self.Segment.safe file ≡ Some []) × (names self.new ≡ Some (all ++ begin ∷ [])))) };
 }

@@ -12,6 +12,7 @@ ghost use Rattle.pid_journal.specs.Openings.{
 ghost use Rattle.pid_journal.specs.Steps.Comparing.{ComparesGap};
 ghost use Rattle.pid_journal.specs.Steps.Segments.{
   BeginsIn,
+  FindsGap,
   FindsJournal,
   KeepsShown,
   LinesMayBeObeyed,
@@ -34,7 +35,7 @@ fn begin_segment<R: Consulted, F: JournalFolder>(
 ) -> Result<F::Segment, OpenFault>
     ensures honest { StaysClean R.showing registry.old registry.new }
     ensures begun { IfOk result (BeginsIn R.Moderated F.Segment.JournalFile F.JournalFolder
-        registry.old registry.new folder.old) }
+        registry.old registry.new folder.old folder.new) }
     ensures kept { KeepsShown R.showing registry.old registry.new }
     ensures fault { IfErr result (λ fault. IsRefused fault × LinesMayBeObeyed fault) }
 {
@@ -79,9 +80,10 @@ fn segment_after<R: Consulted, F: JournalFolder>(
 ) -> Result<F::Segment, OpenFault>
     ensures honest { StaysClean R.showing registry.old registry.new }
     ensures kept { KeepsShown R.showing registry.old registry.new }
-    ensures goes { IfOk result (λ segment. (last ≡ Some segment)
+    ensures goes { IfOk result (λ segment.
+        ((last ≡ Some segment) × (F.names folder.new ≡ F.names folder.old))
         ⊎ BeginsIn R.Moderated F.Segment.JournalFile F.JournalFolder registry.old registry.new
-        folder.old segment) }
+        folder.old folder.new segment) }
     ensures fault { IfErr result (λ fault. IsRefused fault × LinesMayBeObeyed fault) }
 {
     let Some(segment) = last else {
@@ -104,9 +106,9 @@ fn find_segment<R: Consulted, F: JournalFolder>(
 ) -> Result<(F::Segment, bool), OpenFault>
     ensures honest { StaysClean R.showing registry.old registry.new }
     ensures found { FindsJournal R.Moderated F.Segment.JournalFile F.JournalFolder registry.old
-        registry.new folder.old result }
-    ensures gap { IfOk result (λ found. found.1 ≡ true → BeginsIn R.Moderated
-        F.Segment.JournalFile F.JournalFolder registry.old registry.new folder.old found.0) }
+        registry.new folder.old folder.new result }
+    ensures gap { IfOk result (λ found. found.1 ≡ true → FindsGap R.Moderated
+        F.Segment.JournalFile F.JournalFolder registry.old registry.new folder.old folder.new found.0) }
     ensures stays { StaysOrMoved R.showing F.JournalFolder registry.old registry.new folder.old
         folder.new result }
     ensures compared { ComparesGap R.showing F.JournalFolder registry.old registry.new folder.old
@@ -154,9 +156,9 @@ pub fn open_journal<R: Consulted, F: JournalFolder>(
     ensures honest { StaysHonest R.Moderated F.JournalFolder F.Segment.JournalFile registry result }
     // It shows the history of all whole lines.
     ensures resumed { Resumes R.Moderated F.JournalFolder F.Segment.JournalFile registry folder.old
-        result }
+        folder.new result }
     ensures gap { BeginsAfterGap R.Moderated F.JournalFolder F.Segment.JournalFile registry
-        folder.old result }
+        folder.old folder.new result }
     ensures others { RefusesOthers R.Moderated F.JournalFolder F.Segment.JournalFile registry
         folder.old folder.new result }
     ensures compared { ComparesCounts R.Moderated F.JournalFolder F.Segment.JournalFile registry

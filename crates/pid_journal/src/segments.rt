@@ -1,10 +1,11 @@
 //! The segments of a journal, obeyed in turn by a registry that does not have them yet.
-ghost use Rattle.std.specs.Prelude.{◌≡◌, ◌⊎◌, [], ◌∷◌, true, false, IfErr, MatchOption};
+ghost use Rattle.std.specs.Prelude.{◌≡◌, ◌≢◌, ◌⊎◌, [], ◌∷◌, true, false, IfErr, MatchOption};
 ghost use Rattle.pid_service_laws.specs.CallLaws.{StaysClean};
 ghost use Rattle.pid_journal.specs.Openings.{IsRefused};
 ghost use Rattle.pid_journal.specs.Steps.Comparing.{ComparesAll, SkipsLate};
 ghost use Rattle.pid_journal.specs.Steps.Segments.{
   FollowsAll,
+  HasComeToLast,
   IsSameFolder,
   KeepsShown,
   LinesMayBeObeyed,
@@ -60,6 +61,7 @@ fn fault_after(moved: bool, fault: OpenFault) -> OpenFault
 fn fault_between(fault: OpenFault) -> OpenFault
     ensures refused { IsRefused fault → IsRefused result }
     ensures stays { LinesMayBeObeyed result ⊎ (result ≡ fault) }
+    ensures never { result ≢ OpenFault.Newer }
 {
     match fault {
         OpenFault::Refused(_) | OpenFault::Another | OpenFault::Missing => fault,
@@ -83,6 +85,7 @@ fn pass_segment<R: Consulted, F: JournalFolder>(
     ensures stays { StaysOrPassed R.showing F.JournalFolder registry.old registry.new folder.old
         folder.new result }
     ensures late { SkipsLate R.showing registry.old registry.new next result }
+    ensures never { IfErr result (λ fault. fault ≢ OpenFault.Newer) }
 {
     match revision_of(registry) {
         Ok(revision) => {
@@ -100,7 +103,7 @@ fn pass_segment<R: Consulted, F: JournalFolder>(
 
 /// Brings a registry up to the end of the segments that begin at these revisions. Answers the last
 /// one, if there is one.
-pub fn follow_all<R: Consulted, F: JournalFolder>(
+pub(crate) fn follow_all<R: Consulted, F: JournalFolder>(
     alloc: Global,
     registry: &mut R,
     folder: &mut F,
@@ -114,6 +117,8 @@ pub fn follow_all<R: Consulted, F: JournalFolder>(
         folder.new result }
     ensures compared { ComparesAll R.showing F.JournalFolder registry.old registry.new folder.old
         begins.now result }
+    ensures come { IfErr result (λ fault. fault ≡ OpenFault.Newer → HasComeToLast R.Moderated
+        F.Segment.JournalFile F.JournalFolder registry.old registry.new begins.now) }
 {
     let Some((mut begin, mut rest)) = first_of(begins) else {
         return Ok(None);

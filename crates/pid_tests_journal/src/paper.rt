@@ -110,6 +110,7 @@ impl JournalFolder for PaperFolder {
                 return Err(Refusal::Memory);
             }
         }
+        begins.sort_unstable();
         Ok(begins)
     }
 

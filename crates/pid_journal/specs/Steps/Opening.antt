@@ -1,5 +1,5 @@
 -- What a registry makes of the text of its journal.
-use Rattle.std.specs.Prelude.{◌≡◌, ◌⊎◌, ℕ, List, [], ◌∷◌, ◌++◌, length, Option, Some, Result, MatchResult}
+use Rattle.std.specs.Prelude.{◌≡◌, ◌⊎◌, ℕ, List, [], ◌++◌, length, Option, Some, Result, MatchResult}
 use Rattle.pid_file.specs.WholeLines.{ended_pieces, open_part, whole_lines}
 use Rattle.pid_moderation.specs.History.{History}
 use Rattle.pid_script.specs.Replies.{history_after}
@@ -9,7 +9,8 @@ use Rattle.pid_journal.specs.declared.file.JournalFile as files
 use Rattle.pid_journal.specs.declared.open_fault.OpenFault.{OpenFault}
 use Rattle.pid_journal.specs.Comments.{counts_held}
 use Rattle.pid_journal.specs.Journals.{IsMark, JournalLeads}
-use Rattle.pid_journal.specs.Openings.{IsRefused}
+use Rattle.pid_journal.specs.Openings.{IsRefused, StopsAtOne}
+use Rattle.pid_journal.specs.Steps.Ways.{IsAlong}
 
 -- so many bytes of the text are whole lines
 pub record IsWholeUpTo (text : List ℕ) (count : ℕ) : Type 0 where
@@ -38,6 +39,11 @@ abbrev pub ObeysRest : {R : Type 0} → Showing R → (old new : R) → (safe no
 ObeysRest w old new safe now text rest = w.is_clean new → (h : History) → w.shows old h
     → w.shows new (history_after h (whole_lines rest))
     × IsEnded (history_after h (whole_lines rest)) text safe now
+
+-- at a fault some of them were
+abbrev pub StopsAlong : {R : Type 0} → Showing R → (old new : R) → (rest : List ℕ) → Type 0
+StopsAlong w old new rest = w.is_clean new → (h : History) → w.shows old h
+    → StopsAtOne w (IsAlong h (whole_lines rest)) new
 
 -- the registry shows the history of all lines, and these are what is left of the text
 pub record ShowsAll {R J : Type 0} (registry : Ghosts R) (file : files.Ghosts J) (start : History)

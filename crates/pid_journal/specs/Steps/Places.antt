@@ -53,11 +53,15 @@ IsNextPlace said now place step = (shown h : History) (line : List ℕ) (lines :
     → counts_held shown ≡ now → IsSaid line said → IsPlaced shown h place (line ∷ lines)
     → LeadsToPlace step shown h line lines
 
--- The lines of the rest lead on from the history shown to where all lines lead.
+-- Some first lines of the text lead to the history shown, and the others are those of the rest.
+pub record IsAt (start shown : History) (text rest : List ℕ) : Type 0 where
+  pub far : List (List ℕ)
+  pub parts : whole_lines text ≡ far ++ whole_lines rest
+  pub so_far : history_after start far ≡ shown
+
 abbrev pub FindsPlace : {X : Type 0} → List ℕ → Counts → ℕ → Result X OpenFault → (X → List ℕ)
     → Type 0
 FindsPlace text now begin result rest_of = (start shown : History) → IsMarked start
     → revision_of start ≡ begin → counts_held shown ≡ now
     → IsOnWay start false (whole_lines text) shown
-    → MatchResult result (λ x. history_after shown (whole_lines (rest_of x))
-    ≡ history_after start (whole_lines text)) IsRefused
+    → MatchResult result (λ x. IsAt start shown text (rest_of x)) IsRefused

@@ -1,5 +1,5 @@
 -- The segments of a journal, obeyed in turn.
-use Rattle.std.specs.Prelude.{◌≡◌, ◌⊎◌, ℕ, Bool, false, List, [], ◌∷◌, ◌++◌, Option, Some, None}
+use Rattle.std.specs.Prelude.{◌≡◌, ◌⊎◌, ◌≤◌, ℕ, Bool, false, List, [], ◌∷◌, ◌++◌, Option, Some, None}
 use Rattle.std.specs.Prelude.{Result, MatchResult, IfErr, IfOk}
 use Rattle.pid_file.specs.WholeLines.{whole_lines}
 use Rattle.pid_moderation.specs.History.{History}
@@ -13,8 +13,8 @@ use Rattle.pid_journal.specs.declared.folder.JournalFolder as folders
 use Rattle.pid_journal.specs.declared.open_fault.OpenFault.{OpenFault}
 use Rattle.pid_journal.specs.declared.open_fault.OpenFault.TheVariants.{Another, Newer}
 use Rattle.pid_journal.specs.Journals.{JournalLeads}
-use Rattle.pid_journal.specs.Steps.Ways.{IsOnWay}
-use Rattle.pid_journal.specs.Openings.{IsRefused}
+use Rattle.pid_journal.specs.Steps.Ways.{IsAlong, IsOnWay}
+use Rattle.pid_journal.specs.Openings.{IsRefused, NamesNew, StopsAtOne}
 use Rattle.pid_journal.specs.Segments.{IsOnSegments, lines_in}
 use Rattle.pid_journal.specs.Steps.Opening.{ShowsAll}
 
@@ -27,6 +27,10 @@ LinesMayBeObeyed other = Unit {0}
 -- what was shown still is
 abbrev pub KeepsShown : {R : Type 0} → Showing R → R → R → Type 0
 KeepsShown w old new = w.is_clean new → (h : History) → w.shows old h → w.shows new h
+
+-- the registry had come to where a segment begins
+abbrev pub HasComeTo : {R : Type 0} → Showing R → R → R → ℕ → Type 0
+HasComeTo w old new begin = w.is_clean new → (h : History) → w.shows old h → begin ≤ revision_of h
 
 -- how a registry is described, and the folder of its journal
 module _ {R F J : Type 0} (w : Showing R) (folder : folders.Ghosts F J) where
@@ -57,6 +61,11 @@ pub record ShowsWithin {R : Type 0} (w : Showing R) (text : ℕ → List ℕ) (h
   pub way : IsOnSegments text h names shown
 
 module _ {R J : Type 0} (registry : Ghosts R) (file : files.Ghosts J) where
+  -- at a fault the registry has obeyed some of the first lines
+  abbrev pub FaultsAlong : History → List (List ℕ) → R → OpenFault → Type 0
+  FaultsAlong h lines new fault = IsRefused fault
+      × StopsAtOne registry.showing (IsAlong h lines) new
+
   -- the registry has obeyed all, and this is the file of the last segment, if there is one
   abbrev pub EndsLast : (ℕ → List ℕ) → History → List ℕ → R → Option J → Type 0
   EndsLast text start names new None = (names ≡ []) × registry.showing.shows new start
@@ -65,9 +74,11 @@ module _ {R J : Type 0} (registry : Ghosts R) (file : files.Ghosts J) where
       × ShowsAll registry file (history_after start (lines_in text front)) (text name) new k
 
   -- the journal goes on in this file
-  pub record EndsIn (text : ℕ → List ℕ) (start : History) (names : List ℕ) (new : R) (k : J) : Type 0 where
+  pub record EndsIn (text : ℕ → List ℕ) (start : History) (names : List ℕ) (after : Option (List ℕ))
+      (new : R) (k : J) : Type 0 where
     pub front : List ℕ
-    pub last : (names ≡ front) ⊎ ((name : ℕ) × (names ≡ front ++ name ∷ []))
+    pub last : ((names ≡ front) × NamesNew after names (history_after start (lines_in text names)))
+        ⊎ ((name : ℕ) × (names ≡ front ++ name ∷ []) × (after ≡ Some names))
     pub shown : registry.showing.shows new (history_after start (lines_in text names))
     pub kept : List ℕ
     pub safe : file.safe k ≡ Some kept
@@ -83,32 +94,47 @@ module _ {R J : Type 0} (registry : Ghosts R) (file : files.Ghosts J) where
         → folder.names f ≡ Some names → (h shown : History) → IsMarked h → revision_of h ≡ name
         → registry.showing.shows old shown
         → IsOnWay h false (whole_lines (folder.text_in f name)) shown
-        → MatchResult result (ShowsAll registry file h (folder.text_in f name) new) IsRefused
+        → MatchResult result (ShowsAll registry file h (folder.text_in f name) new)
+        (FaultsAlong h (whole_lines (folder.text_in f name)) new)
 
     abbrev pub PassesSegment : R → R → F → (name next : ℕ) → Result Bool OpenFault → Type 0
     PassesSegment old new f name next result = registry.showing.is_clean new
         → (names later : List ℕ) → folder.names f ≡ Some names → (h : History) → IsMarked h
         → ShowsWithin registry.showing (folder.text_in f) h (name ∷ next ∷ later) old
         → MatchResult result (λ x. ShowsWithin registry.showing (folder.text_in f)
-        (history_after h (whole_lines (folder.text_in f name))) (next ∷ later) new) IsRefused
+        (history_after h (whole_lines (folder.text_in f name))) (next ∷ later) new)
+        (FaultsAlong h (lines_in (folder.text_in f) (name ∷ next ∷ later)) new)
 
     abbrev pub FollowsAll : R → R → F → List ℕ → Result (Option J) OpenFault → Type 0
     FollowsAll old new f names result = registry.showing.is_clean new → folder.names f ≡ Some names
         → (start : History) → IsMarked start
         → ShowsWithin registry.showing (folder.text_in f) start names old
-        → MatchResult result (EndsLast (folder.text_in f) start names new) IsRefused
+        → MatchResult result (EndsLast (folder.text_in f) start names new)
+        (FaultsAlong start (lines_in (folder.text_in f) names) new)
 
     -- an empty file in front of a registry that has stayed
-    abbrev pub BeginsIn : R → R → F → J → Type 0
-    BeginsIn old new f k = (names : List ℕ) → folder.names f ≡ Some names
+    abbrev pub BeginsIn : R → R → (f g : F) → J → Type 0
+    BeginsIn old new f g k = (names : List ℕ) → folder.names f ≡ Some names
         → (file.safe k ≡ Some []) × KeepsShown registry.showing old new
+        × (registry.showing.is_clean new → (h : History) → registry.showing.shows old h
+        → NamesNew (folder.names g) names h)
 
-    abbrev pub FindsJournal : R → R → F → Result (J × Bool) OpenFault → Type 0
-    FindsJournal old new f result = registry.showing.is_clean new → (names : List ℕ)
+    -- the last one of these has begun
+    abbrev pub HasComeToLast : R → R → List ℕ → Type 0
+    HasComeToLast old new names = (front : List ℕ) (name : ℕ) → names ≡ front ++ name ∷ []
+        → HasComeTo registry.showing old new name
+
+    abbrev pub FindsGap : R → R → (f g : F) → J → Type 0
+    FindsGap old new f g k = BeginsIn old new f g k
+        × ((names : List ℕ) → folder.names f ≡ Some names → HasComeToLast old new names)
+
+    abbrev pub FindsJournal : R → R → (f g : F) → Result (J × Bool) OpenFault → Type 0
+    FindsJournal old new f g result = registry.showing.is_clean new → (names : List ℕ)
         → folder.names f ≡ Some names → (start : History) → IsMarked start
         → ShowsWithin registry.showing (folder.text_in f) start names old
         → MatchResult result (λ found. (found.1 ≡ false)
-        × EndsIn (folder.text_in f) start names new found.0) IsRefused
+        × EndsIn (folder.text_in f) start names (folder.names g) new found.0)
+        (FaultsAlong start (lines_in (folder.text_in f) names) new)
 
 -- the folder stays
 abbrev pub IsSameFolder : {F J : Type 0} → folders.Ghosts F J → F → F → Type 0

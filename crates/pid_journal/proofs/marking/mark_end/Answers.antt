@@ -1,4 +1,3 @@
-use Rattle.std.proofs.Common.{inl}
 use Rattle.pid_journal.proofs.Marks.{marked_end}
 use Rattle.pid_journal.proofs.marking.mark_end.Goals as goal
 

@@ -1,6 +1,7 @@
-use Rattle.std.proofs.Common.{Ok, refl, ◌∙◌}
-use Rattle.pid_journal.proofs.Comparing.{finds_fault, finds_newer, finds_refused, finds_same}
-use Rattle.pid_journal.proofs.InTurn.{at_folder, found, read_names}
+use Rattle.std.proofs.Common.{Ok, inl, refl, ◌∙◌}
+use Rattle.pid_journal.proofs.Comparing.{finds_newer, finds_refused, finds_same}
+use Rattle.pid_journal.proofs.Along.{segments_along}
+use Rattle.pid_journal.proofs.InTurn.{at_folder, both_quiet, fault_found, found, gap_found, quiet_newer, read_names}
 use Rattle.pid_journal.proofs.opening.find_segment.Goals as goal
 use Rattle.pid_journal.proofs.opening.find_segment.Goals.{in-Ok-begin_segment, in-Err-begin_segment}
 
@@ -9,9 +10,35 @@ returns-in-Ok-segment_after-clause-found g c clean names known start marked show
     let is = c.as_slice.ensures.value ∙ read_names (g.F.JournalFolder.names c.args.folder.now) names c.in-Ok.begins.items known c.in-Ok.ensures.read in
     let follows = at_folder g.R.Moderated g.F.Segment.JournalFile g.F.JournalFolder c.args.registry.now c.follow_all.new.registry c.args.folder.now c.begins.new.self names c.as_slice.result.now (Ok c.in-Ok-follow_all.last) c.begins.ensures.same is c.in-Ok-follow_all.ensures.followed in (
       refl,
-      found g.R.Moderated g.F.Segment.JournalFile g.F.JournalFolder c.args.registry.now c.follow_all.new.registry c.segment_after.new.registry c.args.folder.now c.follow_all.new.folder names c.in-Ok-follow_all.last c.in-Ok-segment_after.segment
+      found g.R.Moderated g.F.Segment.JournalFile g.F.JournalFolder c.args.registry.now c.follow_all.new.registry c.segment_after.new.registry c.args.folder.now c.follow_all.new.folder c.segment_after.new.folder names c.in-Ok-follow_all.last c.in-Ok-segment_after.segment
           c.segment_after.ensures.honest follows c.segment_after.ensures.kept (c.follow_all.ensures.same.0 ∙ c.begins.ensures.same.0) c.in-Ok-segment_after.ensures.goes clean known start marked shows,
     )
+
+-- A GAP
+
+pub returns-in-Err-Newer-clause-gap : goal.returns-in-Err-Newer-clause-gap
+returns-in-Err-Newer-clause-gap g c =
+    elim c.match-begin_segment.branch [
+      | in-Ok-begin_segment w ↦
+          rw w.result-is (λ gap. gap_found g.R.Moderated g.F.Segment.JournalFile g.F.JournalFolder c.args.registry.now c.follow_all.new.registry c.begin_segment.new.registry c.args.folder.now c.follow_all.new.folder c.begin_segment.new.folder c.as_slice.result.now w.in-Ok-begin_segment.segment
+          (let stays = rw c.in-Err-Newer.field-0-is at c.in-Err-Newer.ensures.stays in both_quiet g.R.Moderated.showing g.F.JournalFolder c.args.registry.now c.args.registry.now c.follow_all.new.registry c.args.folder.now c.begins.new.self c.follow_all.new.folder c.follow_all.ensures.honest ((λ clean h shown. shown), c.begins.ensures.unopened) (quiet_newer stays))
+          c.begin_segment.ensures.honest (c.follow_all.ensures.same.0 ∙ c.begins.ensures.same.0) w.in-Ok-begin_segment.ensures.begun
+          (λ names known. c.as_slice.ensures.value ∙ read_names (g.F.JournalFolder.names c.args.folder.now) names c.in-Ok.begins.items known c.in-Ok.ensures.read)
+          ((rw c.in-Err-Newer.field-0-is at c.in-Err-Newer.ensures.come) refl))
+      | in-Err-begin_segment w ↦ rw w.result-is tt
+    ]
+
+-- WHAT A FAULT LEAVES
+
+pub returns-in-Err-clause-found : goal.returns-in-Err-clause-found
+returns-in-Err-clause-found g c clean names known start marked shows = (tt, inl (shows.shown, shows.shows, segments_along (g.F.JournalFolder.text_in c.args.folder.now) start shows.shown names shows.way))
+
+pub returns-clause-found : goal.returns-clause-found
+returns-clause-found g c clean names known start marked shows =
+    let is = c.as_slice.ensures.value ∙ read_names (g.F.JournalFolder.names c.args.folder.now) names c.in-Ok.begins.items known c.in-Ok.ensures.read in
+    let follows = at_folder g.R.Moderated g.F.Segment.JournalFile g.F.JournalFolder c.args.registry.now c.follow_all.new.registry c.args.folder.now c.begins.new.self names c.as_slice.result.now (Ok c.in-Ok-follow_all.last) c.begins.ensures.same is c.in-Ok-follow_all.ensures.followed in
+    fault_found g.R.Moderated g.F.Segment.JournalFile g.F.JournalFolder c.args.registry.now c.follow_all.new.registry c.segment_after.new.registry c.args.folder.now names c.in-Ok-follow_all.last c.in-Err-segment_after.fault
+    c.in-Err-segment_after.ensures.fault.0 c.segment_after.ensures.honest c.segment_after.ensures.kept follows clean known start marked shows
 
 -- WHAT IS COMPARED
 

@@ -2,7 +2,7 @@ use Rattle.std.proofs.Common.{ℕ, List, subst}
 use Rattle.pid_file.specs.Lines.{drop_cr}
 use Rattle.pid_file.specs.WholeLines.{whole_lines}
 use Rattle.pid_journal.specs.Steps.Places.{IsSaid}
-use Rattle.pid_journal.proofs.Comparing.{compares_end, compares_first, compares_here, compares_newer, compares_on, compares_other, compares_refused}
+use Rattle.pid_journal.proofs.Comparing.{compares_end, compares_first, compares_here, compares_newer, compares_on, compares_other}
 use Rattle.pid_journal.proofs.Places.{found_first, found_here, found_last, found_newer, found_on, line_first, placed_at}
 use Rattle.pid_journal.proofs.placing.find_place.Goals as goal
 

@@ -1,7 +1,7 @@
 use Rattle.std.proofs.Common.{◌≡◌, true}
 use Rattle.pid_journal.specs.Steps.Comparing.{Fits}
 use Rattle.pid_journal.proofs.Comparing.{fault_all, last_all, none_all, refused_all}
-use Rattle.pid_journal.proofs.InTurn.{err_between, err_last, none_follows, ok_last, turns}
+use Rattle.pid_journal.proofs.InTurn.{came, err_between, err_last, none_follows, not_newer, ok_last, turns}
 use Rattle.pid_journal.proofs.segments.follow_all.Goals as goal
 
 pub returns-in_default-clause-followed : goal.returns-in_default-clause-followed
@@ -56,3 +56,15 @@ returns-in-Err-follow_segment-clause-compared g c =
     let turn = c.loop-next.invariant in
     fault_all g.R.Moderated.showing g.F.JournalFolder c.args.registry.now c.loop-next.registry c.follow_segment.new.registry c.args.folder.now c.loop-next.folder c.args.begins.now turn.at.0 c.loop-next.begin c.loop-next.rest.now c.loop-next.moved c.in-Err-follow_segment.fault c.fault_after-in-Err-follow_segment.result turn.at.1
     c.in_default-first_of.ensures turn.same c.follow_segment.ensures.honest turn.past c.fault_after-in-Err-follow_segment.ensures.same c.in-Err-follow_segment.ensures.compared
+
+-- THE LAST ONE HAS BEGUN
+
+pub returns-in-Err-clause-come : goal.returns-in-Err-clause-come
+returns-in-Err-clause-come g c newer = absurd (not_newer c.loop-next.moved c.in-Err.fault c.fault_after.result newer c.fault_after.ensures.moved c.fault_after.ensures.same c.in-Err.ensures.never)
+
+pub returns-in-Err-follow_segment-clause-come : goal.returns-in-Err-follow_segment-clause-come
+returns-in-Err-follow_segment-clause-come g c newer =
+    let turn = c.loop-next.invariant in
+    let gives = c.fault_after-in-Err-follow_segment.ensures in
+    came g.R.Moderated g.F.Segment.JournalFile g.F.JournalFolder c.args.registry.now c.loop-next.registry c.follow_segment.new.registry c.args.folder.now c.loop-next.folder c.args.begins.now c.loop-next.begin c.loop-next.rest.now c.loop-next.moved c.in-Err-follow_segment.fault c.fault_after-in-Err-follow_segment.result
+    turn c.in_default-first_of.ensures c.follow_segment.ensures.honest newer gives.moved gives.same c.in-Err-follow_segment.ensures.come

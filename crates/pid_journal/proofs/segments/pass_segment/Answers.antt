@@ -1,6 +1,6 @@
 use Rattle.std.proofs.Common.{false, true, refl}
 use Rattle.pid_journal.proofs.Comparing.{not_late}
-use Rattle.pid_journal.proofs.InTurn.{fault_passes, follow_passes, skip_passes}
+use Rattle.pid_journal.proofs.InTurn.{fault_passes, follow_passes, none_passes, skip_passes}
 use Rattle.pid_journal.proofs.segments.pass_segment.Goals as goal
 
 pub returns-then-next-revision-clause-passed : goal.returns-then-next-revision-clause-passed
@@ -16,6 +16,9 @@ pub returns-in-Err-follow_segment-clause-passed : goal.returns-in-Err-follow_seg
 returns-in-Err-follow_segment-clause-passed g c =
     fault_passes g.R.Moderated g.F.Segment.JournalFile g.F.JournalFolder c.args.registry.now c.revision_of.new.registry c.follow_segment.new.registry c.args.folder.now c.args.begin c.args.next c.in-Ok.revision c.in-Err-follow_segment.fault c.fault_between.result
     c.follow_segment.ensures.honest c.in-Ok.ensures.kept c.in-Ok.ensures.told c.if-next-revision.false c.in-Err-follow_segment.ensures.followed c.fault_between.ensures.refused
+
+pub returns-in-Err-clause-passed : goal.returns-in-Err-clause-passed
+returns-in-Err-clause-passed g c = none_passes g.R.Moderated g.F.Segment.JournalFile g.F.JournalFolder c.args.registry.now c.revision_of.new.registry c.args.folder.now c.args.begin c.args.next c.in-Err.fault c.in-Err.ensures.fault.0 c.revision_of.ensures.kept
 
 -- a registry that has come to the next one
 pub returns-then-next-revision-clause-late : goal.returns-then-next-revision-clause-late
