@@ -142,39 +142,6 @@ fn rank<R: Consulted>(
     }
 }
 
-// What is asked of the whole registry.
-fn whole<R: Consulted>(
-    alloc: Global,
-    registry: &mut R,
-    of: Whole,
-    format: Format,
-) -> Result<Reply, AllocError>
-    ensures { Replies R.Moderated registry.old registry.new
-        (errands.Asks (questions.Whole of) format) result }
-{
-    match of {
-        Whole::Export => export(alloc, registry, format),
-        Whole::Status => found_reply(alloc, format, registry.status()),
-    }
-}
-
-// A page of submissions: those with greater numbers than `after`.
-fn page<R: Consulted>(
-    alloc: Global,
-    registry: &mut R,
-    pages: Pages,
-    after: u32,
-    format: Format,
-) -> Result<Reply, AllocError>
-    ensures { Replies R.Moderated registry.old registry.new
-        (errands.Asks (questions.Pages pages after) format) result }
-{
-    match pages {
-        Pages::Pending => list_reply(alloc, format, registry.pending(after)),
-        Pages::Queue => list_reply(alloc, format, registry.queue(after)),
-    }
-}
-
 // Answers a question.
 fn ask<R: Consulted>(
     alloc: Global,
@@ -186,7 +153,8 @@ fn ask<R: Consulted>(
         result }
 {
     match *question {
-        Question::Whole(of) => whole(alloc, registry, of, format),
+        Question::Whole(Whole::Export) => export(alloc, registry, format),
+        Question::Whole(Whole::Status) => found_reply(alloc, format, registry.status()),
         Question::Read(path) => read(alloc, registry, path, format),
         Question::Children(above) => children(alloc, registry, above, format),
         Question::Lookup { flags, args, size } => lookup(alloc, registry, flags, args, size),
@@ -194,7 +162,10 @@ fn ask<R: Consulted>(
         Question::Remarks { number, after } => {
             found_reply(alloc, format, registry.remarks(number, after))
         }
-        Question::Pages(pages, after) => page(alloc, registry, pages, after, format),
+        Question::Pages(Pages::Pending, after) => {
+            list_reply(alloc, format, registry.pending(after))
+        }
+        Question::Pages(Pages::Queue, after) => list_reply(alloc, format, registry.queue(after)),
         Question::Changes { since, after } => {
             found_reply(alloc, format, registry.changes(since, after.as_ref()))
         }
