@@ -1,6 +1,6 @@
 """Rows of a registry in a file."""
 from processes import Profile, Script, in_turn, memory_of, peak_memory, seconds
-from room import LARGE, SMALL, closed, ran, selected
+from room import LARGE, MIDDLE, SMALL, closed, ran, selected
 from rows import KITS, OURS, Figures, Row
 
 COMMANDS = 1_000
@@ -39,14 +39,14 @@ def export_line(room):
 
 
 def export_instructions(room):
-    """The same in instructions, without those of opening the registry."""
-    ours, theirs = room.imported("100,000 items")[:2]
+    """The same of fewer items, in instructions, without those of opening the registry."""
+    database = room.registry(MIDDLE)
 
     def counted(words, lines=b""):
         return Profile(room.folder, words, lambda process: process.stdin.write(lines)).total
 
-    ours = counted(room.script(ours), b"export\n") - counted(room.script(ours))
-    words = [room.sqlite, theirs]
+    ours = counted(room.script(database), b"export\n") - counted(room.script(database))
+    words = [room.sqlite, database]
     theirs = counted([*words, "export", "1"]) - counted([*words, "nothing", "0"])
     return Figures(ours, theirs, "instructions")
 
@@ -266,7 +266,8 @@ ROWS = [
     Row("import-share", "`import` of an item, instructions in `pid_*` / all", OURS, import_share,
         0.1),
     Row("export-100k", "a script's `export`, 100,000 items / C SQLite", OURS, export_line),
-    Row("export-count", "the same, instructions", OURS, export_instructions, 2, 1.2),
+    Row("export-count", "the same of 10,000 items, instructions", OURS, export_instructions, 2,
+        1.2),
     Row("export-debian", "`export`, Debian's file, whole process / C SQLite", KITS,
         export_process),
     Row("command-1k", "a script's command, 1,000 items / C SQLite", KITS,
