@@ -2,6 +2,7 @@
 deploy/nginx, with the lists that it keeps and without; and for how long another question waits."""
 import os
 import re
+import signal
 import statistics
 import subprocess
 import tempfile
@@ -14,12 +15,15 @@ from http_server import Server, read_reply
 from program import REAL_FILE, WHOLE
 from registry import script, work
 
-# So many visitors, each of whom asks so often: as often as nginx lets him at once, and some more.
-VISITORS, AT_ONCE, EACH = 12, 4, 40
-# How many remarks there are on one proposal: two pages and some more.
+# So many visitors, each of whom asks so often: far more often than nginx lets him.
+VISITORS, AT_ONCE, EACH = 12, 4, 1_000
+# How many remarks of 4,000 bytes there are on one proposal: two pages and some more.
 REMARKS = 250
-# How many questions somebody else asks beside them at most: fewer than he may ask at once.
-QUESTIONS = 200
+# How many questions somebody else asks beside them at most, and how long he pauses after each, in
+# seconds: a visitor may ask so often, and the attack has to be at its height for most of them.
+QUESTIONS, PAUSE = 150, 0.02
+# After how many seconds those who were refused would be answered again.
+REFILLED = 4
 # For how much of the registry's time a question may wait at the median, in seconds.
 LONGEST = 0.01
 # Where nginx keeps no list, all wait for their turn, as they do in spellings that it does not know.
@@ -28,8 +32,7 @@ WITHOUT = {"pciids_limits": (
 # Lists that are short enough for everybody because they are kept, and all.
 LONG = ("/children", "/children?of=PC/8086", "/status", "/submission/1")
 LISTS = (*LONG, "/changes", "/changes?since=2", "/pending", "/queue", "/remarks?num=1",
-         "/remarks?num=1&after=100", "/submissions", "/submissions?author=bob",
-         "/submissions?path=PC/8086", "/submissions?path=PC/8086/0001&author=bob")
+         "/submissions", "/submissions?author=bob", "/submissions?path=PC/8086/0001")
 QUESTION = b"GET /read/PC/8086 HTTP/1.1\r\nHost: a\r\n\r\n"
 
 
@@ -71,11 +74,13 @@ def waits_beside(front, server, visitors, address):
             status = read_reply(stream)[0]
             took = time.monotonic() - start
             waits.append((status, used_by(server.process) - used, took))
+            time.sleep(PAUSE)
     return waits
 
 
 def answered(visitor):
-    """How many of a visitor's questions were answered, and how many refused."""
+    """How many of a visitor's questions were answered so far, and how many refused."""
+    visitor.send_signal(signal.SIGINT)
     told = visitor.communicate()[0]
     counts = dict(re.findall(r"^(Complete requests|Non-2xx responses): +(\d+)$", told, re.M))
     refused = int(counts.get("Non-2xx responses", 0))
@@ -95,6 +100,8 @@ def attacked(cases, front, server, at, path):
     good, bad = map(sum, zip(*counts))
     print(f"front_attack: {path}: {told} ({len(waits)} times); {good} answered, {bad} refused")
     cases.equal(f"attack: answers beside {path}", {*statuses}, {200})
+    if bad:
+        time.sleep(REFILLED)
     return told, own
 
 
