@@ -19,6 +19,7 @@ pub mod ItemLines
 pub mod RenewedTexts
 pub mod Renewed
 pub mod Places
+pub mod KeptNames
 pub mod WalkEnds
 pub mod Labelled
 pub mod CountedLines

@@ -11,7 +11,7 @@ use Rattle.pid_file.specs.Trees.{text_cmp}
 use Rattle.pid_file.specs.declared.path.Path.{Path}
 use Rattle.pid_service.specs.Steps.ItemTexts.{Extents}
 use Rattle.pid_service.specs.KeptViews.{extent_in}
-use Rattle.pid_service.specs.Steps.Renewing.{IsPlace, BeginsAtPath, bytes_in, last_extent}
+use Rattle.pid_service.specs.Steps.Renewing.{IsPlace, BeginsAt, bytes_in, last_extent}
 use Rattle.pid_service.specs.declared.kept_text.Extent.{Extent}
 
 bytes_more : (xs : Extents) (e : List ℕ × ℕ) → bytes_in (xs ++ e ∷ []) ≡ bytes_in xs + e.1
@@ -69,7 +69,7 @@ module _ (extents : List Extent) (i : ℕ) (d : Extent) (low : i < length extent
       end = start_more start more is same;
       before = last;
       below = below;
-      stands = subst (λ (l : Extents). BeginsAtPath (path_text path) true l) (sym left) (sym equal);
+      stands = subst (λ (l : Extents). BeginsAt (path_text path) true l) (sym left) (sym equal);
     }
 
     -- or the path would come before this one
@@ -81,5 +81,5 @@ module _ (extents : List Extent) (i : ℕ) (d : Extent) (low : i < length extent
       end = is;
       before = last;
       below = below;
-      stands = subst (λ (l : Extents). BeginsAtPath (path_text path) false l) (sym left) (sym less);
+      stands = subst (λ (l : Extents). BeginsAt (path_text path) false l) (sym left) (sym less);
     }

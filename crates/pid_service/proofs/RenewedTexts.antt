@@ -19,7 +19,7 @@ use Rattle.pid_moderation.specs.declared.change.Edit.TheVariants.{Add, Rename, R
 use Rattle.pid_service.proofs.ItemLines.{last_path, text_first, text_joined}
 use Rattle.pid_service.specs.ItemTexts.{extents_behind, text_behind, text_of_items}
 use Rattle.pid_service.specs.Steps.ItemTexts.{Extents}
-use Rattle.pid_service.specs.Steps.Renewing.{OpensTheSame, BeginsAtPath, bytes_in, edited_item, last_extent}
+use Rattle.pid_service.specs.Steps.Renewing.{OpensTheSame, BeginsAt, bytes_in, edited_item, last_extent}
 
 -- ---- extents
 
@@ -46,11 +46,11 @@ drop_extents before (suc n) (x ∷ items) = drop_extents x.0 n items
 
 -- ---- where the text is cut
 
-take_front : (front rest : List ℕ) (n : ℕ) → n ≡ length front → take n (front ++ rest) ≡ front
+pub take_front : (front rest : List ℕ) (n : ℕ) → n ≡ length front → take n (front ++ rest) ≡ front
 take_front [] rest n is = ap (λ k. take k rest) is
 take_front (x ∷ front) rest n is = ap (λ k. take k (x ∷ front ++ rest)) is ∙ ap (λ (l : List ℕ). x ∷ l) (take_front front rest (length front) refl)
 
-drop_front : (front rest : List ℕ) (n : ℕ) → n ≡ length front → drop n (front ++ rest) ≡ rest
+pub drop_front : (front rest : List ℕ) (n : ℕ) → n ≡ length front → drop n (front ++ rest) ≡ rest
 drop_front [] rest n is = ap (λ k. drop k rest) is
 drop_front (x ∷ front) rest n is = ap (λ k. drop k (x ∷ front ++ rest)) is ∙ drop_front front rest (length front) refl
 
@@ -61,17 +61,17 @@ pub text_parts : (xs ys : Items) → text_of_items (xs ++ ys) ≡ text_of_items 
 text_parts xs ys = ap (λ (l : List ℕ). header ++ 10 ∷ l) (text_joined [] xs ys) ∙ sym (append_assoc header (10 ∷ text_behind [] xs) (text_behind (last_path [] xs) ys))
 
 module _ (items : Items) (n at : ℕ) (is : at ≡ 18 + bytes_in (take n (extents_behind [] items))) where
-  there : at ≡ length (text_of_items (take n items))
-  there = is ∙ ap (λ (l : Extents). 18 + bytes_in l) (take_extents [] n items) ∙ ap (λ k. 18 + k) (bytes_behind [] (take n items)) ∙ sym (headed header (text_behind [] (take n items)) refl)
+  pub cut_there : at ≡ length (text_of_items (take n items))
+  cut_there = is ∙ ap (λ (l : Extents). 18 + bytes_in l) (take_extents [] n items) ∙ ap (λ k. 18 + k) (bytes_behind [] (take n items)) ∙ sym (headed header (text_behind [] (take n items)) refl)
 
-  whole : text_of_items items ≡ text_of_items (take n items) ++ text_behind (last_path [] (take n items)) (drop n items)
-  whole = ap text_of_items (sym (take-append-drop n items)) ∙ text_parts (take n items) (drop n items)
+  pub cut_whole : text_of_items items ≡ text_of_items (take n items) ++ text_behind (last_path [] (take n items)) (drop n items)
+  cut_whole = ap text_of_items (sym (take-append-drop n items)) ∙ text_parts (take n items) (drop n items)
 
   pub text_before : take at (text_of_items items) ≡ text_of_items (take n items)
-  text_before = ap (take at) whole ∙ take_front (text_of_items (take n items)) (text_behind (last_path [] (take n items)) (drop n items)) at there
+  text_before = ap (take at) cut_whole ∙ take_front (text_of_items (take n items)) (text_behind (last_path [] (take n items)) (drop n items)) at cut_there
 
   pub text_after : drop at (text_of_items items) ≡ text_behind (last_path [] (take n items)) (drop n items)
-  text_after = ap (drop at) whole ∙ drop_front (text_of_items (take n items)) (text_behind (last_path [] (take n items)) (drop n items)) at there
+  text_after = ap (drop at) cut_whole ∙ drop_front (text_of_items (take n items)) (text_behind (last_path [] (take n items)) (drop n items)) at cut_there
 
 -- ---- what comes behind another item
 
@@ -123,14 +123,14 @@ edited_behind key (Rename name) before (e ∷ front) rest all = ap (λ o. by_ord
 edited_behind key Remove before (e ∷ front) rest all = ap (λ o. cond (not (is_eq o)) (e ∷ without key (front ++ rest)) (without key (front ++ rest))) all.0 ∙ ap (λ (l : Items). e ∷ l) (edited_behind key Remove e.0 front rest all.1)
 
 -- at its place the path has what the edit leaves
-put_there : (key name before : List ℕ) (there : Bool) (items : Items) → BeginsAtPath key there (extents_behind before items) → put text_cmp key name items ≡ (key, name) ∷ drop (cond there 1 0) items
+put_there : (key name before : List ℕ) (there : Bool) (items : Items) → BeginsAt key there (extents_behind before items) → put text_cmp key name items ≡ (key, name) ∷ drop (cond there 1 0) items
 put_there key name before true [] stands = absurd stands
 put_there key name before true (e ∷ items) stands =
     ap (λ o. by_order o ((key, name) ∷ e ∷ items) ((e.0, name) ∷ items) (e ∷ put text_cmp key name items)) stands ∙ ap (λ (k : List ℕ). (k, name) ∷ items) (sym (same_texts key e.0 stands))
 put_there key name before false [] stands = refl
 put_there key name before false (e ∷ items) stands = ap (λ o. by_order o ((key, name) ∷ e ∷ items) ((e.0, name) ∷ items) (e ∷ put text_cmp key name items)) stands
 
-left_there : (key before : List ℕ) (there : Bool) (items : Items) → BeginsAtPath key there (extents_behind before items) → is_sorted text_cmp items ≡ true → without key items ≡ drop (cond there 1 0) items
+left_there : (key before : List ℕ) (there : Bool) (items : Items) → BeginsAt key there (extents_behind before items) → is_sorted text_cmp items ≡ true → without key items ≡ drop (cond there 1 0) items
 left_there key before true [] stands sorted = absurd stands
 left_there key before true (e ∷ items) stands sorted =
     let above = (and_parts (below_all text_cmp e.0 items) (is_sorted text_cmp items) sorted).0 in
@@ -141,7 +141,7 @@ left_there key before false (e ∷ items) stands sorted =
     let above = (and_parts (below_all text_cmp e.0 items) (is_sorted text_cmp items) sorted).0 in
     none_left_out key (e ∷ items) (both _ _ (ap is_lt stands) (below_less key e.0 items stands above))
 
-edited_there : (key : List ℕ) (edit : Edit) (before : List ℕ) (there : Bool) (items : Items) → BeginsAtPath key there (extents_behind before items) → is_sorted text_cmp items ≡ true → edited key edit items ≡ edited_item key edit ++ drop (cond there 1 0) items
+edited_there : (key : List ℕ) (edit : Edit) (before : List ℕ) (there : Bool) (items : Items) → BeginsAt key there (extents_behind before items) → is_sorted text_cmp items ≡ true → edited key edit items ≡ edited_item key edit ++ drop (cond there 1 0) items
 edited_there key (Add name) before there items stands sorted = put_there key name before there items stands
 edited_there key (Rename name) before there items stands sorted = put_there key name before there items stands
 edited_there key Remove before there items stands sorted = left_there key before there items stands sorted
@@ -168,16 +168,16 @@ behind_it false n after items is = ap (λ k. drop k items) (sym is)
 
 -- an edit in parts: what comes before the place, what the edit leaves, and what comes behind
 pub edited_parts : (key : List ℕ) (edit : Edit) (there : Bool) (n after : ℕ) (items : Items) → is_sorted text_cmp items ≡ true → after ≡ (if there then n + 1 else n)
-    → AllByRecursion (λ (e : List ℕ × ℕ). text_cmp key e.0 ≡ Greater) (take n (extents_behind [] items)) → BeginsAtPath key there (drop n (extents_behind [] items))
+    → AllByRecursion (λ (e : List ℕ × ℕ). text_cmp key e.0 ≡ Greater) (take n (extents_behind [] items)) → BeginsAt key there (drop n (extents_behind [] items))
     → edited key edit items ≡ take n items ++ (edited_item key edit ++ drop after items)
 edited_parts key edit there n after items sorted is below stands =
     let front = subst (λ (l : Extents). AllByRecursion (λ (e : List ℕ × ℕ). text_cmp key e.0 ≡ Greater) l) (take_extents [] n items) below in
-    let here = subst (λ (l : Extents). BeginsAtPath key there l) (drop_extents [] n items) stands in
+    let here = subst (λ (l : Extents). BeginsAt key there l) (drop_extents [] n items) stands in
     ap (edited key edit) (sym (take-append-drop n items)) ∙ edited_behind key edit [] (take n items) (drop n items) front
     ∙ ap (λ (l : Items). take n items ++ l) (edited_there key edit (last_path [] (take n items)) there (drop n items) here (sorted_drop n items sorted) ∙ ap (λ (l : Items). edited_item key edit ++ l) (behind_it there n after items is))
 
 -- the path of the last item with lines: that of the place, or the one before it
-last_more : (before : List ℕ) (n : ℕ) (key : List ℕ) (items : Items) → BeginsAtPath key true (drop n (extents_behind before items)) → last_path before (take (n + 1) items) ≡ key
+last_more : (before : List ℕ) (n : ℕ) (key : List ℕ) (items : Items) → BeginsAt key true (drop n (extents_behind before items)) → last_path before (take (n + 1) items) ≡ key
 last_more before zero key [] stands = absurd stands
 last_more before zero key (e ∷ items) stands = sym (same_texts key e.0 stands)
 last_more before (suc n) key [] stands = absurd stands
@@ -185,6 +185,6 @@ last_more before (suc n) key (e ∷ items) stands =
     let more : suc n + 1 ≡ suc (n + 1) = omega arith in
     ap (λ k. last_path before (take k (e ∷ items))) more ∙ last_more e.0 n key items stands
 
-pub last_there : (there : Bool) (n after : ℕ) (key : List ℕ) (items : Items) → after ≡ (if there then n + 1 else n) → BeginsAtPath key there (drop n (extents_behind [] items)) → last_path [] (take after items) ≡ (if there then key else last_path [] (take n items))
+pub last_there : (there : Bool) (n after : ℕ) (key : List ℕ) (items : Items) → after ≡ (if there then n + 1 else n) → BeginsAt key there (drop n (extents_behind [] items)) → last_path [] (take after items) ≡ (if there then key else last_path [] (take n items))
 last_there true n after key items is stands = ap (λ k. last_path [] (take k items)) is ∙ last_more [] n key items stands
 last_there false n after key items is stands = ap (λ k. last_path [] (take k items)) is

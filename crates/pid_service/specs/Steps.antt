@@ -14,3 +14,4 @@ pub mod Running
 pub mod Waiting
 pub mod KeptChanges
 pub mod KeptItems
+pub mod KeptChildren

@@ -52,8 +52,8 @@ impl<S: Alter + Drop> Consulted for Registry<S> {
     }
 
     /// The canonical order puts the generic subsystems of a vendor after its devices. The vendors
-    /// and the classes are kept in memory until one of them is written. Below a path that has no
-    /// item there is none.
+    /// and the classes are kept in memory until one of them is written. The others are read from
+    /// the text of all items, if that is kept. Below a path that has no item there is none.
     fn children(&mut self, above: Option<Path>) -> Result<Vec<Item>, Refusal>
         ensures { Answers S.Store self.old self.new result
             (λ h items. map pair_of items.items
@@ -65,7 +65,7 @@ impl<S: Alter + Drop> Consulted for Registry<S> {
         laws::reached_histories_are_kept(); // proof only
         match above {
             None => self.top(),
-            Some(_) => or_refusal(self.tables.children(self.alloc, above)),
+            Some(_) => self.children_below(above),
         }
     }
 

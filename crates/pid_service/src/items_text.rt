@@ -34,8 +34,8 @@ use std::alloc::Global;
 // The length of `S 1af4` and its LF.
 const BLOCK: u64 = 7;
 
-// The length of what comes before the spaces and the name in the line of an item.
-fn label_length(path: Path) -> u64
+/// The length of what comes before the spaces and the name in the line of an item.
+pub(crate) fn label_length(path: Path) -> u64
     ensures { result ≡ length (label_of (path_text path)) }
 {
     match path {
@@ -46,8 +46,8 @@ fn label_length(path: Path) -> u64
     }
 }
 
-// The length of the line before an item, if it opens a block after this path or as the first.
-fn block_length(before: Option<Path>, path: Path) -> u64
+/// The length of the line before an item, if it opens a block after this path or as the first.
+pub(crate) fn block_length(before: Option<Path>, path: Path) -> u64
     ensures { result ≡ length (ended (block_behind (text_or_none before) (path_text path))) }
 {
     match opened_block(before, path) {

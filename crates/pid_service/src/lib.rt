@@ -11,6 +11,7 @@ mod importing;
 mod item_text;
 mod items_text;
 mod judging;
+mod kept_children;
 mod kept_text;
 mod kept_views;
 pub mod laws;

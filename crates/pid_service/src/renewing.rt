@@ -23,7 +23,6 @@ ghost use Rattle.pid_tables.specs.Rows.Shows.{AreViews};
 ghost use Rattle.pid_service.specs.ItemTexts.{extents_behind, text_behind};
 ghost use Rattle.pid_service.specs.KeptViews.{HoldsText, IsKeptText, extent_in};
 ghost use Rattle.pid_service.specs.Steps.Renewing.{IsPlace, OpensTheSame, PutsLines, new_items};
-ghost use Rattle.pid_service.specs.Steps.Renewing as steps;
 ghost use Rattle.pid_service.specs.Steps.TextSinks.{HasLines};
 
 use crate::items_text::GrowingText;
@@ -158,8 +157,8 @@ fn put<T: Copy + Drop>(
     }
 }
 
-// The path before the items that come after a place, which has lines or not.
-fn last_of(place: &Place, path: Path, has_lines: bool) -> Option<Path>
+// The path before what follows a place: that of the place, if it has lines.
+fn path_before(place: &Place, path: Path, has_lines: bool) -> Option<Path>
     ensures { result ≡ (if has_lines then Some path else place.now.before) }
 {
     if has_lines { Some(path) } else { place.before }
@@ -179,8 +178,8 @@ fn put_lines(
     if text.extents.len() < place.after {
         return false;
     }
-    let before = last_of(place, path, place.there);
-    let now = last_of(place, path, !new.extents.is_empty());
+    let before = path_before(place, path, place.there);
+    let now = path_before(place, path, !new.extents.is_empty());
     opens_the_same(before, now, &text.extents.as_slice()[place.after..])
         && put(
             alloc,

@@ -7,10 +7,8 @@ ghost use Rattle.pid_service.specs.KeptViews.{HoldsTop, top_of};
 ghost use Rattle.pid_service.specs.Steps.Asking.{Finds};
 ghost use Rattle.pid_tables.specs.Lists.Steps.Adding.{Adds};
 
-use crate::laws;
 use crate::registry::Registry;
 use pid_moderation::{Effect, Item, Refusal};
-use pid_tables::refusal_of;
 use sqlite::Alter;
 use std::alloc::Global;
 
@@ -66,26 +64,25 @@ fn copied(alloc: Global, items: &[Item]) -> Option<Vec<Item>>
 }
 
 impl<S: Alter + Drop> Registry<S> {
-    /// The vendors and the classes of a live registry. If they are not kept in memory all items are
-    /// read, and they are kept from then on, if memory is there for them.
+    /// The vendors and the classes of a live registry. If they are not kept in memory they are read,
+    /// and they are kept from then on, if memory is there for them.
     pub(crate) fn top(&mut self) -> Result<Vec<Item>, Refusal>
         requires { self.old.live ≡ true }
         ensures { Finds S.Store self.old self.new result
             (λ h items. map pair_of items.items ≡ top_of (views_of h)) }
     {
-        laws::reached_histories_are_kept(); // proof only
         if let Some(top) = &self.kept.top {
             return match copied(self.alloc, top.as_slice()) {
                 Some(items) => Ok(items),
                 None => Err(Refusal::Memory),
             };
         }
-        match self.tables.children(self.alloc, None) {
+        match self.children_below(None) {
             Ok(items) => {
                 self.kept.top = copied(self.alloc, items.as_slice());
                 Ok(items)
             }
-            Err(fault) => Err(refusal_of(fault)),
+            Err(refusal) => Err(refusal),
         }
     }
 }

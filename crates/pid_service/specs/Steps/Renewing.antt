@@ -1,4 +1,4 @@
--- Steps of a text that is written again where one item is.
+-- Steps of a text that is renewed where one item is written.
 use Rattle.std.specs.Prelude.{◌≡◌, ℕ, ◌+◌, ◌≤◌, Bool, true, false, List, [], ◌∷◌, ◌++◌, drop, length, map}
 use Rattle.std.specs.Prelude.{take, Option, Some, if◌then◌else◌}
 use Rattle.std.specs.List.{AllByRecursion}
@@ -39,11 +39,11 @@ last_extent before [] = before
 last_extent before (e ∷ extents) = last_extent e.0 extents
 
 -- this is the path itself, or what comes after it comes first
-abbrev pub BeginsAtPath : List ℕ → Bool → Extents → Type 0
-BeginsAtPath path true [] = ⊥
-BeginsAtPath path true (e ∷ extents) = text_cmp path e.0 ≡ Equal
-BeginsAtPath path false [] = Unit {0}
-BeginsAtPath path false (e ∷ extents) = text_cmp path e.0 ≡ Less
+abbrev pub BeginsAt : List ℕ → Bool → Extents → Type 0
+BeginsAt path true [] = ⊥
+BeginsAt path true (e ∷ extents) = text_cmp path e.0 ≡ Equal
+BeginsAt path false [] = Unit {0}
+BeginsAt path false (e ∷ extents) = text_cmp path e.0 ≡ Less
 
 -- the first of them opens a block after the one path as it does after the other
 abbrev pub OpensTheSame : (before now : List ℕ) → Extents → Type 0
@@ -59,9 +59,9 @@ pub record IsPlace (place : Place) (extents : Extents) (path : List ℕ) : Type 
   pub before : text_or_none place.before ≡ last_extent [] (take place.index extents)
   pub below : AllByRecursion (λ (e : List ℕ × ℕ). text_cmp path e.0 ≡ Greater)
       (take place.index extents)
-  pub stands : BeginsAtPath path place.there (drop place.index extents)
+  pub stands : BeginsAt path place.there (drop place.index extents)
 
--- the path before what comes after a place, if there are lines at the place or not
+-- the path before what follows a place: that of the place, if there are lines at it
 abbrev pub path_before : Place → Path → Bool → Option Path
 path_before place path has_lines = if has_lines then Some path else place.before
 

@@ -1,6 +1,5 @@
-use Rattle.std.proofs.Common.{refl}
 use Rattle.pid_service.proofs.Consulting.{promised}
-use Rattle.pid_service.proofs.Questions.{answers_read, failed_here}
+use Rattle.pid_service.proofs.Questions.{failed_here}
 use Rattle.pid_service.proofs.consulted.RegistryConsulted.children.Goals as goal
 
 pub returns-then-not-self : goal.returns-then-not-self
@@ -16,4 +15,4 @@ returns-in-None g c =
 pub returns-in-Some : goal.returns-in-Some
 returns-in-Some g c =
     promised g.S.Store c.args.self.now _ _ _
-    (answers_read g.S.Store c.args.self.now _ c.children.result c.or_refusal.result _ _ c.if-not-self.false refl refl c.children.ensures c.or_refusal.ensures c.reached_histories_are_kept.ensures.readable (λ h items shows clean told. told (c.reached_histories_are_kept.ensures.items h shows.history).0))
+    c.children_below.ensures

@@ -1,11 +1,11 @@
-use Rattle.std.proofs.Common.{Option, refl, subst, ◌∙◌}
+use Rattle.std.proofs.Common.{Option, subst, ◌∙◌}
 use Rattle.std.specs.Prelude.{Vec}
 use Rattle.std.specs.declared.alloc.Global.{Global}
 use Rattle.pid_moderation.specs.declared.lists.Item.{Item}
 use Rattle.pid_moderation.specs.Views.{views_of}
 use Rattle.pid_service.specs.KeptViews.{HoldsTop}
 use Rattle.pid_service.proofs.Keeping.{true_not}
-use Rattle.pid_service.proofs.Questions.{answered_here, answers_fault, short_here}
+use Rattle.pid_service.proofs.Questions.{answered_here, short_here}
 use Rattle.pid_service.proofs.TopItems.{copied_holds}
 use Rattle.pid_service.proofs.registry.Registry.top.Goals as goal
 
@@ -19,24 +19,30 @@ returns-in-Some-copied g c =
 pub returns-in-None : goal.returns-in-None
 returns-in-None g c = short_here g.S.Store c.args.self.now _ c.requires c.args.self.now.settled
 
--- ---- the items are read
+-- ---- they are read
 
 pub returns-in-Ok : goal.returns-in-Ok
 returns-in-Ok g c =
-    let rests = c.children.ensures.rests in
+    let found = c.in-Ok.ensures in
     record {
       failed = true_not c.args.self.now.live c.requires;
       fault = tt;
-      lives = refl;
-      rests = rests;
+      lives = found.lives;
+      rests = found.rests;
       told = λ clean h shows.
-          let kept = shows.kept (rests.clean clean) in
-          let told = c.in-Ok.ensures.told clean (views_of h) shows.tables (c.reached_histories_are_kept.ensures.items h shows.history).0 in
-          (told, record { lives = shows.lives; history = shows.history; tables = rests.kept (views_of h) shows.tables; kept = λ still. record { names = kept.names; text = kept.text; top = copied_holds _ _ (views_of h) told (rw c.as_slice-in-Ok.ensures.value at c.copied-in-Ok.ensures); changes = kept.changes; pending = kept.pending; numbers = kept.numbers; accounts = kept.accounts } });
+          let (told, shown) = found.told clean h shows in (
+            told,
+            record {
+              lives = shown.lives;
+              history = shown.history;
+              tables = shown.tables;
+              kept = λ still.
+                  let kept = shown.kept still in
+                  record { names = kept.names; text = kept.text; top = copied_holds _ _ (views_of h) told (rw c.as_slice-in-Ok.ensures.value at c.copied-in-Ok.ensures); changes = kept.changes; pending = kept.pending; numbers = kept.numbers; accounts = kept.accounts };
+            },
+          );
       caused = λ clean h shows. tt;
     }
 
 pub returns-in-Err : goal.returns-in-Err
-returns-in-Err g c =
-    answers_fault g.S.Store c.args.self.now _ c.in-Err.fault c.refusal_of.result _ c.requires refl refl c.children.ensures.rests c.refusal_of.ensures.same c.refusal_of.ensures.fault
-    (λ clean h shows. c.in-Err.ensures.told clean (views_of h) shows.tables (c.reached_histories_are_kept.ensures.readable h shows.history))
+returns-in-Err g c = c.in-Err.ensures

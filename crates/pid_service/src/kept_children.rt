@@ -1,0 +1,135 @@
+//! The items directly below a path, read from the text that is kept.
+ghost use Rattle.std.specs.Prelude.{
+  ◌≡◌,
+  ◌≤◌,
+  ◌∷◌,
+  ◌-◌,
+  [],
+  drop,
+  length,
+  map,
+  option_map,
+  take,
+  true,
+  IfSome,
+};
+ghost use Rattle.pid_file.specs.PathTexts.{path_text};
+ghost use Rattle.pid_file.specs.Steps.Printing.{text_or_none};
+ghost use Rattle.pid_moderation.specs.Children.{children_of, stands_below};
+ghost use Rattle.pid_moderation.specs.ItemPairs.{pair_of};
+ghost use Rattle.pid_moderation.specs.Items.{Items};
+ghost use Rattle.pid_moderation.specs.Views.{items_of};
+ghost use Rattle.pid_service.specs.KeptViews.{IsKeptText};
+ghost use Rattle.pid_service.specs.Steps.Asking.{Finds};
+ghost use Rattle.pid_service.specs.Steps.KeptChildren.{before_name};
+ghost use Rattle.pid_tables.specs.Lists.Steps.Adding.{Adds};
+
+use crate::items_text::{block_length, label_length};
+use crate::kept_text::{FIRST, KeptText, MOST};
+use crate::laws;
+use crate::reading::or_refusal;
+use crate::registry::Registry;
+use pid_ident::{Name, Path};
+use pid_moderation::{Item, Refusal};
+use sqlite::Alter;
+use std::alloc::Global;
+
+// How many bytes come before the name in the lines of an item.
+fn before_name_length(before: Option<Path>, path: Path) -> usize
+    ensures exact { result ≡ length (before_name (text_or_none before) (path_text path)) }
+    ensures few { result ≤ 20 }
+{
+    (block_length(before, path) + label_length(path)) as usize + 2
+}
+
+// Whether a path is directly below another one, or at the top.
+fn is_below(path: Path, above: Option<Path>) -> bool
+    ensures { result ≡ stands_below (option_map path_text above) (path_text path) }
+{
+    match path.parent() {
+        Some(parent) => match above {
+            Some(above) => above == parent,
+            None => false,
+        },
+        None => above.is_none(),
+    }
+}
+
+// The name that these bytes are, if memory is there for it.
+fn name_in(alloc: Global, bytes: &[u8]) -> Option<Name>
+    ensures { IfSome result (λ name. name ≡ bytes.now) }
+{
+    match str::from_utf8(bytes) {
+        Ok(text) => match Name::of(alloc, text) {
+            Ok(name) => Some(name),
+            Err(_) => None,
+        },
+        Err(_) => None,
+    }
+}
+
+// Adds the item whose name begins in the text at one place, and whose line ends at another.
+fn add_child(
+    alloc: Global,
+    found: &mut Vec<Item>,
+    bytes: &[u8],
+    path: Path,
+    first: usize,
+    end: usize,
+) -> bool
+    ensures { result ≡ true → Adds pair_of found.old.items found.new.items
+        ((path_text path, take (end - 1 - first) (drop first bytes.now)) ∷ []) }
+{
+    if end <= first || bytes.len() < end {
+        return false;
+    }
+    match name_in(alloc, &bytes[first..end - 1]) {
+        Some(name) => found.push(Item { path, name }).is_ok(),
+        None => false,
+    }
+}
+
+/// The items directly below a path, or at the top. None if memory runs out.
+pub(crate) fn children_in(alloc: Global, text: &KeptText, above: Option<Path>) -> Option<Vec<Item>>
+    ensures { (items : Items) → IsKeptText text.now items → IfSome result (λ found.
+        map pair_of found.items ≡ children_of (option_map path_text above) items) }
+{
+    let bytes = text.bytes.as_slice();
+    let extents = text.extents.as_slice();
+    let mut found = Vec::new(alloc);
+    let mut start = FIRST;
+    let mut before = None;
+    for extent in extents {
+        let end = start + usize::from(extent.length);
+        if MOST < end {
+            return None;
+        }
+        if is_below(extent.path, above) {
+            let first = start + before_name_length(before, extent.path);
+            if !add_child(alloc, &mut found, bytes, extent.path, first, end) {
+                return None;
+            }
+        }
+        start = end;
+        before = Some(extent.path);
+    }
+    Some(found)
+}
+
+impl<S: Alter + Drop> Registry<S> {
+    /// The items directly below a path, or at the top, of a live registry: from the text, if it is
+    /// kept, or from the rows of items.
+    pub(crate) fn children_below(&mut self, above: Option<Path>) -> Result<Vec<Item>, Refusal>
+        requires { self.old.live ≡ true }
+        ensures { Finds S.Store self.old self.new result (λ h items.
+            map pair_of items.items ≡ children_of (option_map path_text above) (items_of h)) }
+    {
+        laws::reached_histories_are_kept(); // proof only
+        if let Some(text) = &self.kept.items.text {
+            if let Some(items) = children_in(self.alloc, text, above) {
+                return Ok(items);
+            }
+        }
+        or_refusal(self.tables.children(self.alloc, above))
+    }
+}
