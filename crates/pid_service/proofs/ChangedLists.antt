@@ -72,7 +72,7 @@ both_true : (a b : Bool) → (a && b) ≡ true → (a ≡ true) × (b ≡ true)
 both_true true b is = (refl, is)
 both_true false b is = absurd (let bad : false ≡ true = is in let no : ⊥ = cc in no)
 
-both : (a b : Bool) → a ≡ true → b ≡ true → (a && b) ≡ true
+pub both : (a b : Bool) → a ≡ true → b ≡ true → (a && b) ≡ true
 both true true one two = refl
 both true false one two = two
 both false b one two = one
@@ -86,7 +86,7 @@ later_too low since after v item less is =
 -- ---- a page of what is kept
 
 -- of those that are later than a number those that are later than a greater one
-later_among : (low since : ℕ) (after : List ℕ) (v : Views) (items : Items) → low ≤ since → filter (comes_behind since after) (map (numbered_in v) (filter (is_later low [] v) items)) ≡ map (numbered_in v) (filter (is_later since after v) items)
+pub later_among : (low since : ℕ) (after : List ℕ) (v : Views) (items : Items) → low ≤ since → filter (comes_behind since after) (map (numbered_in v) (filter (is_later low [] v) items)) ≡ map (numbered_in v) (filter (is_later since after v) items)
 later_among low since after v [] less = refl
 later_among low since after v (item ∷ items) less = by_tests (is_later low [] v item) (is_later since after v item) refl refl (later_among low since after v items less)
   where

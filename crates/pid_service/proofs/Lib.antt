@@ -29,5 +29,6 @@ pub mod ImportCauses
 pub mod Moderating
 pub mod TopItems
 pub mod ChangedLists
+pub mod RenewedChanges
 pub mod AccountCounts
 pub mod ForgottenItems

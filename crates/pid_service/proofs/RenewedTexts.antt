@@ -85,11 +85,11 @@ extents_follow before now (item ∷ items) same = ap (λ b. (item.0, length (end
 
 -- ---- what an edit of a path does to items
 
-and_parts : (a b : Bool) → (a && b) ≡ true → (a ≡ true) × (b ≡ true)
+pub and_parts : (a b : Bool) → (a && b) ≡ true → (a ≡ true) × (b ≡ true)
 and_parts true b is = (refl, is)
 and_parts false b is = absurd (let bad : false ≡ true = is in let no : ⊥ = cc in no)
 
-both : (a b : Bool) → a ≡ true → b ≡ true → (a && b) ≡ true
+pub both : (a b : Bool) → a ≡ true → b ≡ true → (a && b) ≡ true
 both true b one two = two
 both false b one two = one
 
@@ -99,7 +99,7 @@ less_is Equal is = absurd (let bad : false ≡ true = is in let no : ⊥ = cc in
 less_is Greater is = absurd (let bad : false ≡ true = is in let no : ⊥ = cc in no)
 
 -- what comes after a later path comes after this one
-below_less : (x y : List ℕ) (items : Items) → text_cmp x y ≡ Less → below_all text_cmp y items ≡ true → below_all text_cmp x items ≡ true
+pub below_less : (x y : List ℕ) (items : Items) → text_cmp x y ≡ Less → below_all text_cmp y items ≡ true → below_all text_cmp x items ≡ true
 below_less x y [] less all = refl
 below_less x y (e ∷ items) less all =
     let parts = and_parts (is_lt (text_cmp y e.0)) (below_all text_cmp y items) all in
@@ -116,7 +116,7 @@ none_left_out key (e ∷ items) all =
     ap (λ o. cond (not (is_eq o)) (e ∷ without key items) (without key items)) (less_is _ parts.0) ∙ ap (λ (l : Items). e ∷ l) (none_left_out key items parts.1)
 
 -- what comes before the path stays
-edited_behind : (key : List ℕ) (edit : Edit) (before : List ℕ) (front rest : Items) → AllByRecursion (λ (e : List ℕ × ℕ). text_cmp key e.0 ≡ Greater) (extents_behind before front) → edited key edit (front ++ rest) ≡ front ++ edited key edit rest
+pub edited_behind : (key : List ℕ) (edit : Edit) (before : List ℕ) (front rest : Items) → AllByRecursion (λ (e : List ℕ × ℕ). text_cmp key e.0 ≡ Greater) (extents_behind before front) → edited key edit (front ++ rest) ≡ front ++ edited key edit rest
 edited_behind key edit before [] rest all = refl
 edited_behind key (Add name) before (e ∷ front) rest all = ap (λ o. by_order o ((key, name) ∷ e ∷ front ++ rest) ((e.0, name) ∷ front ++ rest) (e ∷ put text_cmp key name (front ++ rest))) all.0 ∙ ap (λ (l : Items). e ∷ l) (edited_behind key (Add name) e.0 front rest all.1)
 edited_behind key (Rename name) before (e ∷ front) rest all = ap (λ o. by_order o ((key, name) ∷ e ∷ front ++ rest) ((e.0, name) ∷ front ++ rest) (e ∷ put text_cmp key name (front ++ rest))) all.0 ∙ ap (λ (l : Items). e ∷ l) (edited_behind key (Rename name) e.0 front rest all.1)
@@ -141,7 +141,7 @@ left_there key before false (e ∷ items) stands sorted =
     let above = (and_parts (below_all text_cmp e.0 items) (is_sorted text_cmp items) sorted).0 in
     none_left_out key (e ∷ items) (both _ _ (ap is_lt stands) (below_less key e.0 items stands above))
 
-edited_there : (key : List ℕ) (edit : Edit) (before : List ℕ) (there : Bool) (items : Items) → BeginsAt key there (extents_behind before items) → is_sorted text_cmp items ≡ true → edited key edit items ≡ edited_item key edit ++ drop (cond there 1 0) items
+pub edited_there : (key : List ℕ) (edit : Edit) (before : List ℕ) (there : Bool) (items : Items) → BeginsAt key there (extents_behind before items) → is_sorted text_cmp items ≡ true → edited key edit items ≡ edited_item key edit ++ drop (cond there 1 0) items
 edited_there key (Add name) before there items stands sorted = put_there key name before there items stands
 edited_there key (Rename name) before there items stands sorted = put_there key name before there items stands
 edited_there key Remove before there items stands sorted = left_there key before there items stands sorted

@@ -7,7 +7,7 @@ ghost use Rattle.pid_service.specs.KeptViews.{HoldsWaiting, IsRightFor, KeepsNot
 ghost use Rattle.pid_service.specs.Steps.KeptItems.{LeavesTheRest};
 
 use crate::accounts::accounts_after;
-use crate::changes::KeptChanges;
+use crate::changes::{KeptChanges, changes_after};
 use crate::kept_text::KeptText;
 use crate::renewing::text_after;
 use crate::top::top_after;
@@ -137,9 +137,9 @@ impl KeptViews {
         self.changes = None;
     }
 
-    /// Follows a change: if it writes an item, the names and the changed items are dropped, and the
-    /// text is renewed where that item is; the vendors and the classes are dropped if it writes one
-    /// of them; the number of a submission is added when it is made, and taken away when it is
+    /// Follows a change: if it writes an item, the names are dropped, and the text and the changed
+    /// items are renewed where that item is; the vendors and the classes are dropped if it writes
+    /// one of them; the number of a submission is added when it is made, and taken away when it is
     /// decided; a new account is counted.
     pub(crate) fn follow(&mut self, alloc: Global, change: &Change)
         ensures { (v : Views) → AreViews v → FitsViews change.now v → IsRightFor self.old v
@@ -158,6 +158,7 @@ impl KeptViews {
         self.items.names.clear();
         let text = self.items.text.take();
         self.items.text = text_after(alloc, text, &change.effect);
-        self.changes = None;
+        let changes = self.changes.take();
+        self.changes = changes_after(alloc, changes, change.revision, &change.effect);
     }
 }

@@ -1,10 +1,13 @@
 -- Steps of the items that were changed last.
-use Rattle.std.specs.Prelude.{◌≡◌, ℕ, Bool, ◌&&◌, nat_lt, List, Option, filter, map, take}
-use Rattle.std.specs.Ordering.{is_lt}
+use Rattle.std.specs.Prelude.{◌≡◌, ℕ, Bool, true, false, ◌&&◌, nat_lt, List, [], ◌∷◌, ◌++◌}
+use Rattle.std.specs.Prelude.{Option, filter, map, take, if◌then◌else◌}
+use Rattle.std.specs.Ordering.{is_gt, is_lt}
 use Rattle.pid_file.specs.Trees.{text_cmp}
 use Rattle.pid_file.specs.declared.path.Path.{Path}
 use Rattle.pid_moderation.specs.ChangePages.{Changed, changed_behind, changed_of, start_text}
 use Rattle.pid_moderation.specs.Views.{Views}
+use Rattle.pid_moderation.specs.declared.change.Edit.{Edit}
+use Rattle.pid_moderation.specs.declared.change.Edit.TheVariants.{Add, Rename, Remove}
 use Rattle.pid_moderation.specs.declared.lists.ChangedItem.{ChangedItem}
 use Rattle.pid_moderation.specs.declared.lists.TheConstants.{PAGE}
 
@@ -20,3 +23,22 @@ later_in since after items = filter (comes_behind since (start_text after)) (map
 abbrev pub IsPage : ℕ → Option Path → Views → List ChangedItem → Type 0
 IsPage since after v page = map changed_of page
     ≡ take PAGE (changed_behind since (start_text after) v)
+
+-- a text comes before this one, or else after it
+abbrev pub is_on : Bool → List ℕ → List ℕ → Bool
+is_on before path text = if before then is_gt (text_cmp path text) else is_lt (text_cmp path text)
+
+-- those that come before a path, or else after it
+abbrev pub on_side : Bool → List ℕ → List Changed → List Changed
+on_side before path = filter (λ c. is_on before path c.path)
+
+-- the item that an edit with this number leaves at its path
+abbrev pub changed_item : ℕ → List ℕ → Edit → List Changed
+changed_item n path (Add name) = record { path = path; name = name; since = n } ∷ []
+changed_item n path (Rename name) = record { path = path; name = name; since = n } ∷ []
+changed_item n path Remove = []
+
+-- those that come before a path, what an edit leaves there, and those that come after it
+abbrev pub with_edit : ℕ → List ℕ → Edit → List Changed → List Changed
+with_edit n path edit items = on_side true path items
+    ++ (changed_item n path edit ++ on_side false path items)

@@ -8,12 +8,14 @@ use Rattle.pid_moderation.specs.Items.{Items, name_at}
 use Rattle.pid_moderation.specs.Views.{Views}
 use Rattle.pid_moderation.specs.declared.lists.Item.{Item}
 use Rattle.pid_tables.specs.Searches.KeptNumbers.{HoldsNumbers}
-use Rattle.pid_service.specs.KeptViews.{HoldsText, HoldsTop, HoldsWaiting}
+use Rattle.pid_service.specs.KeptViews.{HoldsChanges, HoldsText, HoldsTop, HoldsWaiting}
 use Rattle.pid_tables.specs.declared.searches.numbers.Searches.{Searches}
 use Rattle.pid_service.proofs.AccountCounts.{still_accounts}
+use Rattle.pid_service.specs.declared.changes.KeptChanges.{KeptChanges}
 use Rattle.pid_service.specs.declared.kept_text.KeptText.{KeptText}
 use Rattle.pid_service.proofs.Keeping.{same_items}
 use Rattle.pid_service.proofs.PendingNumbers.{still_waiting}
+use Rattle.pid_service.proofs.RenewedChanges.{still_changes}
 use Rattle.pid_service.proofs.ChangedLists.{kept_since, same_changes}
 use Rattle.pid_tables.proofs.OfSearches.NumberLists.{still_numbers}
 use Rattle.pid_service.proofs.TopItems.{still_top}
@@ -53,11 +55,12 @@ returns c v views fits right =
     let held : c.take-top.result ≡ c.args.self.now.top = search rules in
     let numbers : c.replace-kept.result ≡ c.args.self.now.numbers = search rules in
     let text : c.take-text.result ≡ c.args.self.now.items.text = search rules in
+    let changes : c.take-changes.result ≡ c.args.self.now.changes = search rules in
     record {
       names = c.clear.ensures.agrees (λ path. name_at path (changed change v).items);
       text = still_text change v _ (c.text_after.ensures change.revision v views (subst (λ (o : Option KeptText). HoldsText o v.items) (sym text) right.text));
       top = still_top change v _ (c.top_after.ensures change.revision v (subst (λ (o : Option (Vec Item Global)). HoldsTop o v) (sym held) right.top));
-      changes = tt;
+      changes = still_changes change v _ (c.changes_after.ensures v views fits.0 (subst (λ (o : Option KeptChanges). HoldsChanges o v) (sym changes) right.changes));
       pending = still_waiting change v _ (c.waiting_after.ensures change.revision v views fits.0 (subst (λ (o : Option (Vec ℕ Global)). HoldsWaiting o v) (sym taken) right.pending));
       numbers = still_numbers change v _ (c.numbers_after.ensures change.revision v fits.0 (subst (λ (n : Searches). HoldsNumbers n v) (sym numbers) right.numbers));
       accounts = still_accounts change v _ (c.accounts_after-self.ensures change.revision v fits.0 right.accounts);
