@@ -8,14 +8,12 @@ ghost use Rattle.pid_moderation.specs.Changes.{
   FitsEdit,
   FitsEffect,
   affected,
-  edited,
-  with_items,
 };
 ghost use Rattle.pid_moderation.specs.Items.{name_at};
 ghost use Rattle.pid_moderation.specs.Views.{Views};
 ghost use Rattle.pid_service.specs.KeptViews.{AreChanged, HoldsChanges};
 ghost use Rattle.pid_service.specs.Steps.KeptChanges.{IsPage, changed_item, comes_behind, later_in};
-ghost use Rattle.pid_service.specs.Steps.KeptChanges.{on_side, with_edit};
+ghost use Rattle.pid_service.specs.Steps.KeptChanges.{after_write, on_side, with_edit};
 ghost use Rattle.pid_service.specs.Steps.KeptChanges as steps;
 ghost use Rattle.pid_tables.specs.Lists.Steps.Adding.{Adds};
 ghost use Rattle.pid_tables.specs.Rows.Shows.{AreViews};
@@ -256,8 +254,7 @@ fn without_first(alloc: Global, since: u64, items: &[ChangedItem]) -> Option<Kep
 fn renewed(alloc: Global, kept: &KeptChanges, number: u64, write: &Write) -> Option<KeptChanges>
     ensures { (v : Views) → AreViews v
         → FitsEdit write.now.edit (name_at (path_text write.now.path) v.items)
-        → AreChanged kept.now v → HoldsChanges result
-        (with_items number (edited (path_text write.now.path) write.now.edit v.items) v) }
+        → AreChanged kept.now v → HoldsChanges result (after_write number write.now v) }
 {
     let since = kept.since;
     if number <= since {

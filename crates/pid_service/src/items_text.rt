@@ -2,10 +2,7 @@
 ghost use Rattle.std.specs.Prelude.{
   ◌≡◌,
   ◌∷◌,
-  ◌++◌,
   [],
-  ℕ,
-  List,
   false,
   true,
   length,
@@ -13,9 +10,8 @@ ghost use Rattle.std.specs.Prelude.{
   IfSome,
   Some,
 };
-ghost use Rattle.pid_service.specs.ItemTexts.{extents_behind, text_behind};
-ghost use Rattle.pid_service.specs.Steps.TextSinks.{HasLines, Lengthens, block_behind};
-ghost use Rattle.pid_service.specs.Steps.ItemTexts.{Extents, IsCountedText};
+ghost use Rattle.pid_service.specs.Steps.TextSinks.{AddsLines, HasLines, Lengthens, block_behind};
+ghost use Rattle.pid_service.specs.Steps.ItemTexts.{IsCountedText};
 ghost use Rattle.pid_ident.specs.PathTexts.{path_text};
 ghost use Rattle.pid_tables.specs.Rows.Causes.{IsReadable};
 ghost use Rattle.pid_tables.specs.Rows.Clauses.{Reads};
@@ -114,11 +110,8 @@ impl GrowingText {
 
     /// Adds the lines of an item that follows another or is the first, if there is room for them.
     pub(crate) fn add_lines(&mut self, before: Option<Path>, path: &Path, name: &str) -> bool
-        ensures { result ≡ true → (bytes : List ℕ) (extents : Extents)
-            → HasLines self.old bytes extents → HasLines self.new
-            (bytes ++ text_behind (text_or_none before) ((path_text path.now, name.now) ∷ []))
-            (extents ++ extents_behind (text_or_none before)
-            ((path_text path.now, name.now) ∷ [])) }
+        ensures { result ≡ true → AddsLines self.old self.new (text_or_none before)
+            ((path_text path.now, name.now) ∷ []) }
     {
         match extent_of(*path, lines_length(before, *path, name)) {
             Some(extent) => {

@@ -20,10 +20,9 @@ ghost use Rattle.pid_moderation.specs.Changes.{affected, edited};
 ghost use Rattle.pid_moderation.specs.Items.{Items};
 ghost use Rattle.pid_moderation.specs.Views.{Views};
 ghost use Rattle.pid_tables.specs.Rows.Shows.{AreViews};
-ghost use Rattle.pid_service.specs.ItemTexts.{extents_behind, text_behind};
 ghost use Rattle.pid_service.specs.KeptViews.{HoldsText, IsKeptText, extent_in};
 ghost use Rattle.pid_service.specs.Steps.Renewing.{IsPlace, OpensTheSame, PutsLines, new_items};
-ghost use Rattle.pid_service.specs.Steps.TextSinks.{HasLines};
+ghost use Rattle.pid_service.specs.Steps.TextSinks.{HasItems};
 
 use crate::items_text::GrowingText;
 use crate::kept_text::{Extent, FIRST, KeptText, MOST};
@@ -99,9 +98,8 @@ fn place_of(extents: &[Extent], path: Path) -> Option<Place>
 
 // The lines of a path after an edit, if memory is there for them: none if its item is removed.
 fn new_lines(alloc: Global, before: Option<Path>, write: &Write) -> Option<GrowingText>
-    ensures { IfSome result (λ text. HasLines text
-        (text_behind (text_or_none before) (new_items write.now))
-        (extents_behind (text_or_none before) (new_items write.now))) }
+    ensures { IfSome result
+        (λ text. HasItems text (text_or_none before) (new_items write.now)) }
 {
     let mut text = GrowingText::new(alloc);
     match &write.edit {

@@ -2,12 +2,15 @@
 use Rattle.std.specs.Prelude.{◌≡◌, ℕ, Bool, true, false, ◌&&◌, nat_lt, List, [], ◌∷◌, ◌++◌}
 use Rattle.std.specs.Prelude.{Option, filter, map, take, if◌then◌else◌}
 use Rattle.std.specs.Ordering.{is_gt, is_lt}
+use Rattle.pid_file.specs.PathTexts.{path_text}
 use Rattle.pid_file.specs.Trees.{text_cmp}
 use Rattle.pid_file.specs.declared.path.Path.{Path}
 use Rattle.pid_moderation.specs.ChangePages.{Changed, changed_behind, changed_of, start_text}
+use Rattle.pid_moderation.specs.Changes.{edited, with_items}
 use Rattle.pid_moderation.specs.Views.{Views}
 use Rattle.pid_moderation.specs.declared.change.Edit.{Edit}
 use Rattle.pid_moderation.specs.declared.change.Edit.TheVariants.{Add, Rename, Remove}
+use Rattle.pid_moderation.specs.declared.change.Write.{Write}
 use Rattle.pid_moderation.specs.declared.lists.ChangedItem.{ChangedItem}
 use Rattle.pid_moderation.specs.declared.lists.TheConstants.{PAGE}
 
@@ -23,6 +26,10 @@ later_in since after items = filter (comes_behind since (start_text after)) (map
 abbrev pub IsPage : ℕ → Option Path → Views → List ChangedItem → Type 0
 IsPage since after v page = map changed_of page
     ≡ take PAGE (changed_behind since (start_text after) v)
+
+-- the views after a write with this number
+abbrev pub after_write : ℕ → Write → Views → Views
+after_write n w v = with_items n (edited (path_text w.path) w.edit v.items) v
 
 -- a text comes before this one, or else after it
 abbrev pub is_on : Bool → List ℕ → List ℕ → Bool

@@ -20,11 +20,19 @@ pub record HasLines (text : GrowingText) (bytes : List ℕ) (extents : Extents) 
   pub bytes_are : text.buffer.taken.items ≡ bytes
   pub extents_are : map extent_in text.extents.items ≡ extents
 
+-- they are those of these items, which come after a path
+abbrev pub HasItems : GrowingText → List ℕ → Items → Type 0
+HasItems text before items = HasLines text (text_behind before items) (extents_behind before items)
+
+-- the lines of these items were added
+abbrev pub AddsLines : (old new : GrowingText) → List ℕ → Items → Type 0
+AddsLines old new before items = (bytes : List ℕ) (extents : Extents) → HasLines old bytes extents
+    → HasLines new (bytes ++ text_behind before items) (extents ++ extents_behind before items)
+
 -- what is kept now was kept before, with the lines of these items after it
 abbrev pub Lengthens : Option GrowingText → Option GrowingText → List ℕ → Items → Type 0
 Lengthens old new before items = IfSome new (λ now. (was : GrowingText) × (old ≡ Some was)
-    × ((bytes : List ℕ) (extents : Extents) → HasLines was bytes extents
-    → HasLines now (bytes ++ text_behind before items) (extents ++ extents_behind before items)))
+    × AddsLines was now before items)
 
 -- one entry is counted, if the sum fits, and is now the one before; its lines are kept after
 -- those that were, or no text is kept any more
