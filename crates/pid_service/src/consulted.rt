@@ -167,8 +167,8 @@ impl<S: Alter + Drop> Consulted for Registry<S> {
     /// read; if `since` is not below it, the items are not looked at.
     ///
     /// A first page that is not full is kept in memory until an import, if memory is there for it:
-    /// then no later question with the same number or a greater one reads the items. It follows each
-    /// command that writes an item; if it gets full, what was changed first is dropped from it.
+    /// then no later question with the same number or a greater one reads the items. An item that a
+    /// command writes has its place there. If the page gets full, what changed first is dropped.
     fn changes(&mut self, since: u64, after: Option<&Path>) -> Result<Changes, Refusal>
         ensures { Answers S.Store self.old self.new result
             (λ h changes. page_of changes
