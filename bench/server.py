@@ -285,11 +285,11 @@ def submit_time(room):
 FORMS = [f"path=PC/{at:04x}&name=renamed" for at in range(200)]
 
 
-def beside_obey(profile, call, idle=0):
-    """Submissions, beside what of them is in the registry's call that obeys them. `idle` is what
-    the call takes without any."""
-    within = profile.within(call) - idle, profile.within("::RegistryModerated::obey::")
-    return Figures(*(it / len(FORMS) for it in within), "instructions")
+def beside_obey(profile, count):
+    """The instructions of submissions, beside what of them is in the registry's call that obeys
+    them."""
+    within = profile.within("::RegistryModerated::obey::")
+    return Figures(count / len(FORMS), within / len(FORMS), "instructions")
 
 
 def submit_instructions(room):
@@ -298,16 +298,16 @@ def submit_instructions(room):
             client.sendall(posted("/submit", "root", form.encode()))
             whole_reply(client)
 
-    call = "::serving::serve::"
-    idle = profiled(room, room.copy(small(room)), lambda client: None).within(call)
-    return beside_obey(profiled(room, room.copy(small(room)), talk), call, idle)
+    idle = profiled(room, room.copy(small(room)), lambda client: None)
+    profile = profiled(room, room.copy(small(room)), talk)
+    return beside_obey(profile, profile.total - idle.total)
 
 
 def line_instructions(room):
     lines = "".join(f"submit root {form}\n" for form in FORMS).encode()
     words = room.script(room.copy(small(room)))
     profile = Profile(room.folder, words, lambda process: process.stdin.write(lines))
-    return beside_obey(profile, "::answer_line::")
+    return beside_obey(profile, profile.within("::answer_line::"))
 
 
 def import_time(room):

@@ -1,10 +1,10 @@
 """usage: tests/run [--no-install] first
        tests/run [--no-install] [PART..] [ARGUMENT OF PYTEST..]
 
-Tries the built program against files and real peers: all parts, or those that are named. Programs
-that they try are built before that if they are missing or older than a source, and Debian's
-packages that they need are installed; with --no-install the tests that need one that is missing are
-skipped. `first` builds nothing but the first program, and tries that: tidy, check and help.
+Tries the built program against files and real peers: all parts, or those that are named. First it
+builds the programs that they try, if they are missing or older than a source, and installs Debian's
+packages that they need; with --no-install tests that need a missing one are skipped. `first` builds
+and tries the first program alone: tidy, check and help.
 
   tests/run words::test_tidy              one test of a part
   tests/run -k refused -x                 tests by a part of their names, up to the first failure
@@ -14,9 +14,9 @@ skipped. `first` builds nothing but the first program, and tries that: tidy, che
   PCIIDS=/usr/bin/pciids tests/run        an installed program; nothing is built
   PCIIDS_SAMPLE=123 tests/run migrate     the calls that a run with that sample refused
 
-PCIIDS has to name the program itself, and not a script that calls it, since some parts refuse it
-memory or stop its disk. Where they refuse some of many calls, these are others in each run. The
-last line is 'N passed, N failed', followed by ', N skipped' if cases were skipped.
+PCIIDS has to name the program itself, not a script that calls it, since some parts refuse it memory
+or stop its disk. Where they refuse some of many calls, these are others in each run. The last line
+is 'N passed, N failed', followed by ', N skipped' if cases were skipped.
 """
 import glob
 import os
@@ -59,24 +59,14 @@ def help_text():
     return f"{__doc__}\nThe parts are:\n{textwrap.indent(parts, '  ')}"
 
 
-def is_current(build, name):
-    """Whether no source is newer than a program, nor a folder from which one was removed."""
-    path = os.path.join(build.folder(name), "out", name)
-    crates = [*build.below(build.read_uses(), name), name]
-    places = [os.path.join(build.folder(it), part) for it in crates for part in build.SOURCES]
-    words = ["find", *filter(os.path.isdir, places), os.path.join(program.TOP, "crates.txt")]
-    words += ["-newer", path, "-print", "-quit"]
-    return os.access(path, os.X_OK) and not subprocess.check_output(words)
-
-
 def fault_of_building(names):
     """Builds what isn't current of these programs. Returns why they can't be tried, or None."""
     sys.path.append(os.path.join(program.TOP, "tools"))
     import build
-    for name in (it for it in names if not is_current(build, it)):
+    for name in (it for it in names if not build.is_current(it)):
         print(f"{name}: missing, or older than a source: proving and building it")
         words = [sys.executable, "-B", build.__file__, name]
-        if subprocess.call(words, stdin=subprocess.DEVNULL) or not is_current(build, name):
+        if subprocess.call(words, stdin=subprocess.DEVNULL) or not build.is_current(name):
             return f"{name} was not built, or a source changed meanwhile"
     return None
 
@@ -100,8 +90,7 @@ def run_pytest(tests, words, counts):
 
 def main(words, counts):
     """Tries what is asked for. Returns why that can't be tried, or None."""
-    prepares, installs = "--prepare" in words, "--no-install" not in words
-    words = [it for it in words if it not in ("--prepare", "--no-install")]
+    installs, words = "--no-install" not in words, [it for it in words if it != "--no-install"]
     files, names = files_of_parts(), list(takewhile(lambda it: it[0] != "-", words))
     words, is_first = words[len(names):], names == ["first"]
     if is_first:
@@ -112,9 +101,9 @@ def main(words, counts):
     if unknown:
         return f"tests/run: unknown part: {', '.join(unknown)}\n{help_text()}"
     fault = program.fault_of_installed()
-    if prepares and not fault:
+    if not fault:
         apt.make_ready([files[part] for part, *_ in parts], installs)
-    if prepares and program.INSTALLED is None and {it for it, *_ in parts} - {*OF_SOURCES}:
+    if program.INSTALLED is None and {it for it, *_ in parts} - {*OF_SOURCES}:
         fault = fault_of_building(["pid_cli_first", "pid_cli"][:1 if is_first else 2])
     if fault or not all(map(find_spec, ("pytest", "pytest_timeout", "xdist"))):
         return fault or f"tests/run: needs Debian's packages {', '.join(sorted(apt.PYTEST))}"

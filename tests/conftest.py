@@ -62,21 +62,13 @@ def shims():
         yield build_shims(path)
 
 
-@pytest.fixture
-def first(monkeypatch):
-    """`program.run` runs the first program."""
-    monkeypatch.setattr(program, "PROGRAM", program.FIRST)
-    if program.FIRST is None:
-        pytest.skip("the first program belongs to the source tree, and PCIIDS names another one")
-
-
 EITHER = ["script", pytest.param("first", marks=pytest.mark.first)]
 if program.INSTALLED is not None:
     EITHER = [pytest.param("installed", marks=pytest.mark.first)]
 
 
 @pytest.fixture(params=EITHER)
-def either(request):
+def either(request, monkeypatch):
     """`program.run` runs the whole program, in another test the first; or the one of PCIIDS."""
     if request.param == "first":
-        request.getfixturevalue("first")
+        monkeypatch.setattr(program, "PROGRAM", program.FIRST)

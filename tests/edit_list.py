@@ -46,20 +46,22 @@ def turned(crate, path):
     return (before[-1:] + after[:1] + [os.path.basename(file)])[0]
 
 
-def applied(crate, path):
-    """The sources that an edit changes, by their files, as the prover tries it. Raises ValueError
-    unless each text that it replaces stands there once."""
-    found, file, old = {}, "", ""
-    for kind, text in re.findall(r"^(file|old|new): ?(.*)$", read(path), re.M):
-        if kind == "file":
-            file = text.strip()
-            found.setdefault(file, read(os.path.join(TOP, "crates", crate, file)))
-        elif kind == "old":
-            old = text
-        elif not old or found[file].count(old) != 1:
-            raise ValueError(f"{os.path.basename(path)}: {found[file].count(old)} times: {old}")
-        else:
-            found[file], old = found[file].replace(old, text), ""
+def applied(crate, *paths):
+    """The sources that edits change, one after the other, by their files, as the prover tries them.
+    Raises ValueError unless each text that they replace stands there once."""
+    found = {}
+    for path in paths:
+        file = old = ""
+        for kind, text in re.findall(r"^(file|old|new): ?(.*)$", read(path), re.M):
+            if kind == "file":
+                file = text.strip()
+                found.setdefault(file, read(os.path.join(TOP, "crates", crate, file)))
+            elif kind == "old":
+                old = text
+            elif not old or found[file].count(old) != 1:
+                raise ValueError(f"{os.path.basename(path)}: {found[file].count(old)} times: {old}")
+            else:
+                found[file], old = found[file].replace(old, text), ""
     return found
 
 

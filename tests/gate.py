@@ -3,8 +3,8 @@
 Proves every crate and its tests from nothing, runs the tests and the programs as two compilers
 build them (`rt ci`, in a copy without the must-fail edits), and tries the built program against
 real peers (tests/run). With --edits `rt ci` runs in the repository itself, and the prover has to
-refuse each edit, and for more than a name that it takes away. Before the last line it prints the
-minutes of provers, by crate, and by the clock. The last line is 'N passed, N failed[, N skipped]'.
+refuse each edit, for more than a name that it takes away. At the end it prints minutes: of provers,
+by crate, and by the clock. The last line is 'N passed, N failed[, N skipped]'.
 """
 import glob
 import os

@@ -17,11 +17,11 @@ LONGEST = ("pid_file::read_nested", "pid_http_stream::fill",
            "pid_http_stream::read_head")
 # What a clause of these crates has on average, in characters.
 CHARACTERS = 91
-ABOVE = ("pid_service", "pid_http", "pid_http_stream", "pid_script", "pid_cli", "pid_cli_jobs",
-         "pid_cli_registry", "pid_cli_words")
+ABOVE = ("pid_service", "pid_http", "pid_http_stream", "pid_script", "pid_cli_registry",
+         "pid_cli_jobs", "pid_cli_words")
 # Of each crate so many definitions, but those in Steps, are reached by no call that the lists of
 # PROMISES.md name: those of a double of tests. None is to be added.
-UNNAMED = {"pid_tests_http": 2}
+UNNAMED = {"pid_tests_registry": 2}
 # One notion, of a connection as of a registry over it, and of a fault as of its refusal.
 SHARED = ["HasCleanDisk", "IsMemoryOrStore", "OnlyReads", "Shows"]
 # Different ones, of a file and of tables.

@@ -439,7 +439,8 @@ def test_headline(cases):
                           recursive=True):
         with open(path, encoding="utf-8") as file:
             specs.append(" ".join(file.read().split()))
-    cases.equal("HEADLINE.md: it quotes nine definitions", len(parts), 9)
+    cases.equal("HEADLINE.md: it quotes ten definitions", len(parts), 10)
+    cases.equal("HEADLINE.md: two sides", text_of("docs/HEADLINE.md").count("\n") <= 120, True)
     whole = [" ".join(" ".join(it.lines).split())
              for it in reading_list.Specs().definitions.values()]
     for part in parts:

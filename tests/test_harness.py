@@ -129,7 +129,9 @@ def tried(folder, *words, **environment):
         for name, value in os.environ.items()
         if name != "PCIIDS" and not name.startswith("PYTEST")
     }
-    words = [sys.executable, "-B", os.path.join(folder, "all.py"), *words]
+    # A program that is tried as it is: nothing is built, and nothing installed.
+    outer["PCIIDS"] = sys.executable
+    words = [sys.executable, "-B", os.path.join(folder, "all.py"), "--no-install", *words]
     ran = subprocess.run(words, capture_output=True, env={**outer, **environment}, timeout=300)
     return ran.stdout.decode().splitlines(), ran.returncode
 

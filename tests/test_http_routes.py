@@ -408,6 +408,24 @@ def test_rows(cases, folder, name):
             cases.equal(line[:90], server.raw(request), answer)
 
 
+@pytest.mark.parametrize("size", (1_000_000, 7, 1))
+def test_ends(cases, folder, size):
+    """How streams end, and what is refused of them, in chunks of any size; nothing comes of it."""
+    pause = 0.0005 if size < 100 else 0
+    with Server(os.path.join(folder, "ends")) as server:
+        server.post("/account", "root", "who=alice&rank=0")
+        for line, request, answer in http_rows.pairs_of("\n".join(http_rows.ENDS)):
+            # A long one is sent in longer pieces.
+            step = max(size, len(request) // 200)
+            pieces = [request[at : at + step] for at in range(0, len(request), step)]
+            cases.equal(line[:90], server.raw(*pieces, pause=pause), answer)
+        for silent in (b"", b"\r\n", b"\n\r\n\r"):
+            cases.equal(f"no request: {silent}", server.raw(silent), b"")
+        told = server.curl("/status?format=text")[2]
+        wanted = b"accounts 2\nitems 0\npending 0\nrevision 2\nsubmissions 0\n"
+        cases.equal("nothing came of them", told, wanted)
+
+
 @pytest.mark.parametrize("size", (1_000_000, 4_096, 7))
 def test_rows_in_one_stream(cases, folder, size):
     """All requests in one connection, at once and in many pieces."""

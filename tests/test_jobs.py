@@ -213,6 +213,16 @@ def test_scripts(cases, folder):
         work(b"#" * 16_777_217 + b"\nexport\n", "script"),
         (b"refused 3 BadText\n", b"", 1),
     )
+    longest, path = 16_777_216, os.path.join(folder, "long")
+    with open(path, "w+b") as file:
+        file.write(b"#" * longest + b"\r\nread path=PC/8086\n")
+        file.write(b"#" * (longest + 1) + b"\nexport\n" + b"\n" * 1_000_000)
+        file.seek(0)
+        ran = subprocess.run([WHOLE, "script"], stdin=file, stdout=subprocess.PIPE, timeout=60)
+        read = os.lseek(file.fileno(), 0, os.SEEK_CUR) - 2 * longest
+    told = (b"refused 25 NoItem\nrefused 3 BadText\n", 1)
+    cases.equal("the longest line, and one more", (ran.stdout, ran.returncode), told)
+    cases.equal(f"no more is read than it: {read}", read < 100_000, True)
     with open("/dev/full", "wb") as full:
         ran = subprocess.run(
             [WHOLE, "script"], input=b"export\n", stdout=full, stderr=subprocess.PIPE, timeout=60

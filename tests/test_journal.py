@@ -34,6 +34,25 @@ COMMANDS = [
 ]
 TEXT = "".join(line + "\n" for line, _ in COMMANDS).encode()
 REPLIES = "".join(reply + "\n" for _, reply in COMMANDS).encode()
+# Lines as the URL Standard writes forms (section 5.2), in which a slash is %2F: a command of each
+# kind, one that is repeated under its key, and one that is refused.
+FORMS = """\
+account root who=bob&rank=1
+import root file=8086++Intel%0A%091237++440FX%0A&key=one
+import root file=8086++Intel%0A%091237++440FX%0A&key=one
+submit bob path=PC%2F8086&name=Intel+Corp.&note=caf%C3%A9+%26+tea
+submit bob path=PC%2F8086%2F1237&remove=yes&note=
+comment bob num=1&text=a%25b
+withdraw bob num=2
+approve root num=1
+submit bob path=PC%2F8086%2F7000&name=A+bridge&note=
+confirm root num=3&was=
+submit bob path=PC%2F8086%2F7000&name=Another&note=
+confirm root num=4&was=A+bridge
+submit bob path=PC%2F8086%2F7000&name=No&note=
+reject root num=5&reason=no
+approve root num=5
+"""
 COUNTS = r"revision=(\d+)&accounts=(\d+)&items=(\d+)&submissions=(\d+)"
 NOTE = re.compile(r"# time=(\d+)&" + COUNTS)
 ENDED = re.compile(r"# ended&" + COUNTS)
@@ -83,6 +102,15 @@ def test_lines(cases, folder):
     cases.equal("the counts of marks", marks, [it.groups()[1:] for it in notes[1:]] + [marks[-1]])
 
 
+def test_forms(cases, folder):
+    """Each line has its fields in one order and one form, whichever they came in."""
+    db, journal = os.path.join(folder, "r.db"), os.path.join(folder, "journal")
+    text = FORMS.replace("%2F", "/").replace("&note=\n", "\n").encode()
+    told, _, status = journaled(text, db, journal)
+    cases.equal("the last one is refused", (told[-21:], status), (b"refused 8 NotPending\n", 0))
+    cases.equal("the lines", lines_of(journal), FORMS.splitlines())
+
+
 def test_as_a_script(cases, folder):
     """The text of a journal is a script that makes the same registry, row by row."""
     db, journal, copy = (os.path.join(folder, it) for it in ("r.db", "journal", "copy.db"))
@@ -121,23 +149,121 @@ def test_no_lines(cases, folder):
     cases.equal("its line", meant(lines_of(journal)[-1]), want)
 
 
-def test_restored(cases, folder):
-    """A registry that is lost, or restored from any older copy, has every command again."""
-    db, journal = os.path.join(folder, "r.db"), os.path.join(folder, "journal")
-    copies = []
+def copies_of(cases, db, journal):
+    """Gives the commands one by one, and copies the registry before the first and after each."""
+    copies = [None]
     for number, (line, reply) in enumerate(COMMANDS):
         told = journaled(line.encode() + b"\n", db, journal)
         cases.equal(f"line {number}", told, (reply.encode() + b"\n", b"", 0))
-        copies.append(os.path.join(folder, f"copy{number}"))
+        copies.append(f"{db}.copy{number}")
         shutil.copy(db, copies[-1])
+    return copies
+
+
+def opened_on(copy, db, journal):
+    """What a registry that is a copy, or gone, shows once it was opened with the journal."""
+    lose(db)
+    if copy:
+        shutil.copy(copy, db)
+    told = journaled(b"", db, journal)
+    return rows(db) if told == (b"", b"", 0) else told
+
+
+def test_restored(cases, folder):
+    """A registry that is lost, or restored from any older copy, has every command again."""
+    db, journal = os.path.join(folder, "r.db"), os.path.join(folder, "journal")
+    copies = copies_of(cases, db, journal)
     want, text = rows(db), text_of(journal)
-    for number, copy in enumerate([None, *copies]):
-        lose(db)
-        if copy:
-            shutil.copy(copy, db)
-        cases.equal(f"opened on copy {number}", journaled(b"", db, journal), (b"", b"", 0))
-        cases.equal(f"the rows from copy {number}", rows(db), want)
+    for copy in copies:
+        cases.equal(f"the rows from {copy}", opened_on(copy, db, journal), want)
     cases.equal("the journal", text_of(journal), text)
+    mark = text[text.rindex(b"# ended") :]
+    (path,) = (os.path.join(journal, it) for it in names_in(journal))
+    for less in (2, 20, len(mark)):
+        os.truncate(path, len(text) - less)
+        cases.equal(f"a mark without {less} bytes", opened_on(copies[-1], db, journal), want)
+        cases.equal("is written again", text_of(journal), text)
+
+
+def segments(journal, *parts):
+    """A journal of these parts of a text, each a list of entries, and its path."""
+    os.mkdir(journal)
+    for part in parts:
+        begin = int(NOTE.match(part[0].decode()).group(2))
+        with open(os.path.join(journal, f"{begin:020}.script"), "wb") as file:
+            file.write(b"".join(part))
+    return journal
+
+
+def test_segments(cases, folder):
+    """Segments are obeyed in turn, from the one in which the registry stands; those before it may
+    be gone, and none between them."""
+    db, whole = os.path.join(folder, "r.db"), os.path.join(folder, "journal")
+    copies = copies_of(cases, db, whole)
+    want, text = rows(db), text_of(whole)
+    entries = [it + b"\n\n" for it in text.split(b"\n\n")[:-1]]
+    for cut in range(1, len(entries)):
+        there = segments(os.path.join(folder, f"at {cut}"), entries[:cut], entries[cut:])
+        for copy in (copies[0], copies[1], copies[cut], copies[-1]):
+            found = opened_on(copy, db, there), text_of(there)
+            cases.equal(f"two segments, cut at {cut}, {copy}", found, (want, text))
+        os.remove(os.path.join(there, names_in(there)[0]))
+        cases.equal(f"the first of them gone, {cut}", opened_on(copies[cut], db, there), want)
+    hole = segments(os.path.join(folder, "hole"), entries[:1], entries[4:])
+    missing = (b"", b"journal: Missing\n", 3)
+    cases.equal("a hole", opened_on(None, db, hole), missing)
+    cases.equal("two segments still", len(names_in(hole)), 2)
+
+
+def bring_in(db, journal, account, text):
+    ids = db + ".ids"
+    with open(ids, "wb") as file:
+        file.write(text)
+    return work(b"", "import", "--db", db, "--account", account, ids, "--journal", journal)
+
+
+def test_new_segments(cases, folder):
+    """A journal begins where its registry stands. A new segment begins after one that is longer
+    than 1 MiB, unless no command was accepted in it."""
+    db, journal, other = (os.path.join(folder, it) for it in ("r.db", "journal", "other"))
+    names = [f"account root who=u{number}&rank=0" for number in range(6)]
+    cases.equal("without a journal", script(db, *names[:3])[2], 0)
+    cases.equal("a new one", journaled(b"", db, journal), (b"", b"", 0))
+    cases.equal("begins there", names_in(journal), [f"{3:020}.script"])
+    cases.equal("without it", script(db, *names[3:])[2], 0)
+    cases.equal("a gap after none", journaled(b"", db, journal), (b"", b"journal: gap\n", 0))
+    cases.equal("its segment", names_in(journal)[1:], [f"{6:020}.script"])
+    long = b"#" * 400_000
+    refused = (b"refused 4 NoAccount\n", b"", 1)
+    cases.equal("refused", bring_in(db, other, "nobody", long), refused)
+    cases.equal("longer than 1 MiB", len(text_of(other)) > 1_048_576, True)
+    cases.equal("opened", journaled(b"", db, other), (b"", b"", 0))
+    cases.equal("no new segment", names_in(other), [f"{6:020}.script"])
+    added = (b"ok added=0 renamed=0 same=0\n", b"", 0)
+    cases.equal("accepted", bring_in(db, other, "root", long), added)
+    cases.equal("opened again", journaled(b"", db, other), (b"", b"", 0))
+    cases.equal("a new segment", names_in(other)[1:], [f"{7:020}.script"])
+
+
+def test_long_lines(cases, folder):
+    """A line that is longer than one read of its segment is obeyed; what is longer than any line of
+    a script is not cut off."""
+    db, journal = os.path.join(folder, "r.db"), os.path.join(folder, "journal")
+    lines = b"".join(b"account root who=u%d&rank=0\n" % number for number in range(1_000))
+    cases.equal("short ones", journaled(lines, db, journal), (b"ok\n" * 1_000, b"", 0))
+    text = b"".join(b"%04x  %s\n" % (number, b"a" * 900) for number in range(300))
+    added = (b"ok added=300 renamed=0 same=0\n", b"", 0)
+    cases.equal("a long one", bring_in(db, journal, "root", text), added)
+    cases.equal("short again", journaled(b"submit u1 path=PC/ffff&name=A\n", db, journal)[2], 0)
+    want, size = rows(db), len(text_of(journal))
+    cases.equal("obeyed again", opened_on(None, db, journal), want)
+    (path,) = (os.path.join(journal, it) for it in names_in(journal))
+    os.truncate(path, size + 16_777_218)
+    cases.equal("too long", journaled(b"", db, journal), (b"", b"journal: failed\n", 3))
+    cases.equal("it stays", os.path.getsize(path), size + 16_777_218)
+    os.truncate(path, size + 16_777_217)
+    cases.equal("not too long", opened_on(None, db, journal), want)
+    cases.equal("it is cut off", os.path.getsize(path), size)
 
 
 def test_in_doubt(cases, folder):
@@ -146,6 +272,7 @@ def test_in_doubt(cases, folder):
     cases.equal("begun", journaled(b"account root who=bob&rank=1\n", db, journal)[2], 0)
     before = text_of(journal)
     note = b"# time=1&revision=1&accounts=2&items=0&submissions=0\n"
+    mark = b"# ended&revision=1&accounts=2&items=0&submissions=0\n\n"
     line = b"submit bob path=PC/8086&name=Intel&note=\n"
     path = os.path.join(folder, "journal", names_in(journal)[0])
     for length in (1, len(note), len(note) + 5, len(note) + len(line) - 1):
@@ -153,8 +280,9 @@ def test_in_doubt(cases, folder):
             file.write((note + line)[:length])
         cases.equal(f"{length} bytes of it", journaled(b"", db, journal), (b"", b"", 0))
         cases.equal("nothing was obeyed", asked(db, "SELECT count(*) FROM submission"), "0\n")
-        if length < len(note):
-            cases.equal("they are cut off", text_of(journal), before)
+        # A comment that is whole stays, with its mark.
+        kept = before + (note + mark if length >= len(note) else b"")
+        cases.equal("they are cut off", text_of(journal), kept)
         with open(path, "wb") as file:
             file.write(before)
     with open(path, "ab") as file:
@@ -176,6 +304,14 @@ def test_journals_that_do_not_fit(cases, folder):
     told = journaled("".join(it + "\n" for it in words).encode(), other, journal)
     cases.equal("another registry's", told, (b"", b"journal: Another\n", 3))
     cases.equal("as they were", (text_of(journal), rows(other)), (text, found))
+    last = os.path.join(folder, "last")
+    words = b"account root who=bob&rank=1\nsubmit bob path=PC/8086&name=Intel\n"
+    told = journaled(words, os.path.join(folder, "two.db"), last)
+    cases.equal("two commands", told, (b"ok\nok 1\n", b"", 0))
+    two, twin = ["account root who=bob&rank=1", "account root who=eve&rank=1"], f"{other}.twin"
+    cases.equal("another registry of two", script(twin, *two)[2], 0)
+    told = journaled(b"", twin, last)
+    cases.equal("its last mark is another's", told, (b"", b"journal: Another\n", 3))
     words = [f"account root who={name}&rank=0" for name in ("eve", "frank")]
     cases.equal("without it", script(db, *words), (b"ok\nok\n", b"", 0))
     told = journaled(b"account root who=mallory&rank=0\n", db, journal)

@@ -16,6 +16,7 @@ def test_limits(cases):
     cases.printed("100,000 entries", most, HEADER + most)
     cases.refused("one entry more", vendors_and_devices(34465), b"too many entries")
     cases.refused("one entry more is a repeat", most + b"\t0000  a\n", b"line 100001: 7 Duplicate")
+    cases.printed("a block is no entry", most + b"S 0001\n", HEADER + most)
     cases.refused("a fault behind the last entry", most + b"\txyz\n", b"line 100001: 4 BadId")
     cases.printed("4,194,304 bytes", b"#" * 4194304, HEADER)
     cases.refused("one byte more", b"#" * 4194304 + b"x", b"too large")

@@ -1,9 +1,13 @@
 """Scripts on the built program: the example of docs/SCRIPT.md line for line, each request for
 memory refused in turn, and the memory that a line of many fields takes."""
+import fcntl
 import os
 import re
+import struct
 import subprocess
 import tempfile
+import termios
+import time
 
 import pytest
 
@@ -74,6 +78,28 @@ def test_script(cases, name):
     script, replies = SCRIPTS.get(name) or texts_of(ROWS[name])
     ran = run_program(script, "script")
     cases.equal(f"script: {name}", (ran.out, ran.err, ran.status), (replies, b"", 0))
+
+
+def by_bytes(text):
+    """What a script is answered that comes byte by byte, each once the one before was read."""
+    pipes = {"stdin": subprocess.PIPE, "stdout": subprocess.PIPE, "bufsize": 0}
+    with subprocess.Popen([WHOLE, "script"], **pipes) as running:
+        for byte in text:
+            running.stdin.write(bytes([byte]))
+            while struct.unpack("i", fcntl.ioctl(running.stdin, termios.FIONREAD, bytes(4)))[0]:
+                time.sleep(0.0002)
+        running.stdin.close()
+        return running.stdout.read(), running.wait(60)
+
+
+def test_lines(cases):
+    """Lines end in LF or CR LF, the last one perhaps in neither; each is UTF-8, comments too."""
+    script = b"submit root path=PC/8086&name=I\r\n\xff\n#\xff\n\r\n#\r\n"
+    script += b"read path=PC/8086\r\r\nread path=PC/8086"
+    told = b"ok 1\nrefused 3 BadText\nrefused 3 BadText\nrefused 1 BadPath\nrefused 25 NoItem\n"
+    ran = run_program(script, "script")
+    cases.equal("script: ends of lines", (ran.out, ran.err, ran.status), (told, b"", 0))
+    cases.equal("script: ends of lines, byte by byte", by_bytes(script), (told, 0))
 
 
 def test_forms(cases):

@@ -12,23 +12,13 @@ import urllib.parse
 
 import pytest
 
+import http_rows
 from http_examples import try_examples
 from http_server import BYTES, JSON, OK, TEXT, Server, posted, read_reply, refusal, reply, to_end
 from program import HEADER, PROGRAM, REAL_FILE, WHOLE, entries_of, tidy
 from registry import asked, script, work
 
 pytestmark = pytest.mark.needs("curl")
-
-THREE = (
-    b"POST /account HTTP/1.1\r\nX-Account: root\r\nContent-Length: 16\r\n\r\nwho=alice&rank=0",
-    b"GET /pci.ids HTTP/1.1\r\n\r\n",
-    b"POST /submit HTTP/1.1\r\nX-Account: alice\r\nContent-Length: 35\r\n\r\npath=PC/8086",
-)
-THREE_REPLIES = (
-    reply("200 OK", JSON, OK)
-    + reply("200 OK", TEXT, HEADER)
-    + reply("400 Bad Request", JSON, refusal(23, "BodyShort"), close=True)
-)
 
 # On a registry with one vendor and one submission, approved: the question, and its status, type and
 # body.
@@ -161,15 +151,15 @@ AT_ONCE = (
 
 def test_streams(cases, folder):
     """Requests one after the other, whole, byte by byte and in bad form."""
-    stream = b"".join(THREE)
+    _, requests, replies = zip(*http_rows.pairs_of("\n".join(http_rows.THREE)))
+    stream, replies = b"".join(requests), b"".join(replies)
     for name, pieces, pause in (
         ("at once", [stream], 0),
         ("byte by byte", [stream[at : at + 1] for at in range(len(stream))], 0.0005),
     ):
         with Server(os.path.join(folder, f"stream {name}"), 1) as server:
-            cases.equal(
-                f"http: three requests {name}", server.raw(*pieces, pause=pause), THREE_REPLIES
-            )
+            told = server.raw(*pieces, pause=pause)
+            cases.equal(f"http: three requests {name}", told, replies)
             cases.equal(
                 f"http: three requests {name}: the end", server.ended(), (b"served 1\n", b"", 0)
             )

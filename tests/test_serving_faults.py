@@ -12,6 +12,7 @@ from typing import NamedTuple
 
 import pytest
 
+import http_rows
 from http_server import JSON, OK, TEXT, Server, posted, refusal, reply
 from program import HEADER, WHOLE
 from registry import work
@@ -284,18 +285,8 @@ def test_refused_in_turn(cases, shims, turn):
     cases.equal(f"{name}: calls were refused", refusals >= turn.least, True)
 
 
-# A command, the text of all items, and a command whose body is short, with their replies. Each of
-# the first two may be refused instead; so may the third, whose body is then not looked at.
-THREE = (
-    b"POST /account HTTP/1.1\r\nX-Account: root\r\nContent-Length: 16\r\n\r\nwho=alice&rank=0"
-    b"GET /pci.ids HTTP/1.1\r\n\r\n"
-    b"POST /submit HTTP/1.1\r\nX-Account: alice\r\nContent-Length: 35\r\n\r\npath=PC/8086"
-)
-THREE_REPLIES = (
-    reply("200 OK", JSON, OK),
-    reply("200 OK", TEXT, HEADER),
-    reply("400 Bad Request", JSON, refusal(23, "BodyShort"), close=True),
-)
+# Each of the first two may be refused instead; so may the third, whose body is then not looked at.
+_, THREE, THREE_REPLIES = zip(*http_rows.pairs_of("\n".join(http_rows.THREE)))
 REFUSALS = [
     reply("503 Service Unavailable", JSON, refusal(number, WORDS[number]), close=close)
     for number in (16, 18)
@@ -334,7 +325,7 @@ def streamed(shim, at, database):
     os.close(telling)
     try:
         with server.connect() as client:
-            client.sendall(THREE)
+            client.sendall(b"".join(THREE))
             client.shutdown(socket.SHUT_WR)
             taken = taken_of(client)
         ended = server.ended()
@@ -365,8 +356,9 @@ def test_three_requests(cases, shims):
 
 
 def test_last_connection(cases, folder):
-    """The registry fails at a command of the third connection, where no file may grow any more: the
-    server ends with that connection, and counts it as the last one."""
+    """The registry fails at a command of the third connection, where no file may grow any more:
+    each route says so from then on, but for what is known without it. The server ends with that
+    connection, and counts it as the last one."""
     question = b"GET /pending HTTP/1.1\r\n\r\n"
     command = posted("/account", "root", b"who=alice&rank=0")
     # A write past the limit fails then, and no signal ends the program (setrlimit(2)).
@@ -375,10 +367,12 @@ def test_last_connection(cases, folder):
         for _ in range(2):
             server.raw(question)
         resource.prlimit(server.process.pid, resource.RLIMIT_FSIZE, (0, 0))
-        told = server.raw(command + question)
-        cases.equal(
-            "serve: no file may grow", told, b"".join(refused_as("POST", it) for it in (17, 18))
-        )
+        with server.connect() as client:
+            client.sendall(command)
+            cases.equal("serve: no file may grow", one_reply(client), refused_as("POST", 17))
+            for line, request, answer in http_rows.pairs_of(http_rows.FAILED):
+                client.sendall(request)
+                cases.equal(f"serve: it has failed: {line}", one_reply(client), answer)
         cases.equal("serve: the last connection", server.ended(), (b"served 3\n", b"", 3))
 
 

@@ -1,21 +1,22 @@
-"""A script over a file with its disk stopped at each call in turn, and with every seventh request
-for memory refused, others in each run: the file holds what some of the commands came to, the first
-ones, and at least those that were answered. With a journal on the same disk, and on another one,
-so does a registry that is opened anew, and one whose file is gone by then."""
+"""A script over a file with its disk stopped at each call in turn, which keeps what was written or
+only what was synced, and with every seventh request for memory refused, others in each run: the
+file holds what some of the commands came to, the first ones, and at least those that were answered.
+With a journal on the same disk, and on another one, so does a registry that is opened anew, and one
+whose file is gone by then."""
 import os
 import tempfile
 
 import pytest
 
 from journal_room import lose
-from registry import asked, copied, script, work
+from registry import asked, copied, work
 from shims import ROOM, SAMPLE, first_of, run_refusing
 
 LINES = [
-    "account root who=bob&rank=1",
-    "import root file=8086++Intel",
-    "submit bob path=PC/0000&name=renamed",
-    "approve root num=1",
+    "account root who=bob&rank=1&key=a1",
+    "import root file=8086++Intel&key=i1",
+    "submit bob path=PC/0000&name=renamed&key=s1",
+    "approve root num=1&key=a2",
 ]
 REPLIES = [b"ok\n", b"ok added=1 renamed=0 same=0\n", b"ok 1\n", b"ok\n"]
 TEXT = "".join(line + "\n" for line in LINES).encode()
@@ -50,14 +51,14 @@ def is_allowed(replies, status, found):
     return status == 3 and kept == REPLIES[: len(kept)] and found in states
 
 
-def refuse_in_turn(cases, shim, name, step):
+def refuse_in_turn(cases, shim, name, step, within):
     """Refuses every step-th call of a run, each in a new file, and answers how many there were."""
     refusals = 0
     for at in range(first_of(step), 100_000, step):
         with tempfile.TemporaryDirectory(dir=ROOM) as folder:
             path = os.path.join(folder, "r.db")
             words = ("script", "--db", path)
-            (out, _, status), was_refused = run_refusing(shim, at, TEXT, *words)
+            (out, _, status), was_refused = run_refusing(shim, at, TEXT, *words, within=within)
             replies = out.splitlines(True)
             found = state(path)
             if not is_allowed(replies, status, found):
@@ -70,18 +71,30 @@ def refuse_in_turn(cases, shim, name, step):
                 return refusals
             refusals += 1
             # Also a file in which sqlite3 finds no table, or no database yet, is one that the
-            # program goes on with.
-            if refusals % 5 == 0 or found == "nothing":
-                again = script(path)
-                if again != (b"", b"", 0) or asked(path, "PRAGMA integrity_check") != "ok\n":
-                    cases.equal(f"{name} {at}: opened again", again, (b"", b"", 0))
-                    return refusals
+            # program goes on with. The same lines under the same keys are answered as at first.
+            again = *work(TEXT, *words), state(path), asked(path, "PRAGMA integrity_check")
+            want = b"".join(REPLIES), b"", 0, STATES[-1], "ok\n"
+            if again != want:
+                cases.equal(f"{name} {at}: sent again", again, want)
+                return refusals
 
 
 @pytest.mark.needs("gcc", "libc6-dev", "sqlite3")
-@pytest.mark.parametrize("name, step, least", [("refuse_disk", 1, 40), ("refuse_malloc", 7, 100)])
-def test_stops(cases, shims, name, step, least):
-    refusals = refuse_in_turn(cases, shims[name], name, step)
+@pytest.mark.parametrize(
+    "name, step, least, within, forgets",
+    [
+        ("refuse_disk", 1, 40, None, False),
+        ("refuse_disk", 1, 40, None, True),
+        # The log and the database on two disks, of which one stops.
+        ("refuse_disk", 1, 20, "=-wal", True),
+        ("refuse_disk", 1, 4, "=.db", True),
+        ("refuse_malloc", 7, 100, None, False),
+    ],
+)
+def test_stops(cases, shims, monkeypatch, name, step, least, within, forgets):
+    if forgets:
+        monkeypatch.setenv("REFUSE_FORGET", "1")
+    refusals = refuse_in_turn(cases, shims[name], name, step, within)
     print(f"{name}: {refusals} calls refused, one in each run; sample {SAMPLE}")
     cases.equal(f"{name}: calls were refused", refusals >= least, True)
 
@@ -105,9 +118,12 @@ def stopped_at(shim, at, within):
 
 
 @pytest.mark.needs("gcc", "libc6-dev", "sqlite3")
+@pytest.mark.parametrize("forgets", [False, True])
 @pytest.mark.parametrize("within", [None, "/r.db", "/journal"])
-def test_with_journal(cases, shims, within):
+def test_with_journal(cases, shims, monkeypatch, within, forgets):
     """The disk of both, that of the registry, and that of the journal."""
+    if forgets:
+        monkeypatch.setenv("REFUSE_FORGET", "1")
     for at in range(1, 100_000):
         replies, status, found, was_refused = stopped_at(shims["refuse_disk"], at, within)
         is_good = [is_allowed(replies, status, it) for it in found] + [found[1] == found[2]]

@@ -205,8 +205,10 @@ def test_wrong_arguments_of_a_registry(cases):
 
 
 @pytest.mark.first
-def test_left_to_the_whole_program(cases, first):
+def test_left_to_the_whole_program(cases):
     """The first program leaves what needs the whole one to it, and prints nothing."""
+    if program.FIRST is None:
+        raise program.Skip("there is no first program")
     for words in (
         *REGISTRY_WORDS,
         *WRONG_WORDS,
@@ -214,10 +216,8 @@ def test_left_to_the_whole_program(cases, first):
         ["help", "help"],
         ["help", "nosuch"],
     ):
-        ran = program.run(TEXT, *words)
-        cases.equal(
-            f"{words}: left to the whole program", (ran.out, ran.err, ran.status), (b"", b"", 4)
-        )
+        left = ran_of(program.FIRST, words)
+        cases.equal(f"{words}: left to the whole program", left, (b"", b"", 4))
 
 
 COMMANDS = ("tidy", "check", "lookup", "script", "import", "export", "serve", "migrate")

@@ -6,9 +6,10 @@
 Each crate is proved from nothing. Of a library, `rattle build --statements` then writes what the
 crates above it can cite, without the proofs, so that they have less to load than of a library that
 `rt lib` builds. As many crates as there are processors are built side by side; those for which the
-longest chain of crates waits begin first, and the others give way to them. Each has one job, since
-a prover with N jobs makes a copy of itself for each module. A library that is built alone has half
-of the processors; the largest crate of a program of two libraries has all of them.
+longest chain of crates waits begin first, and the others give way to them. A library of that chain,
+or one that is built alone, has half of the processors. Each other crate has one job, since a prover
+with N jobs makes a copy of itself for each module, and a program has few functions of its own. The
+largest crate of a program of two libraries has all of them.
 Says on standard error how far it is, and if a crate is not proved, what `rattle` said of it.
 """
 
@@ -56,6 +57,15 @@ def below(uses, crate):
 
 def folder(crate):
     return os.path.join(TOP, "crates", crate)
+
+
+def is_current(program):
+    """Returns whether no source is newer than a program, nor a folder that has lost one."""
+    path, crates = os.path.join(folder(program), "out", program), below(read_uses(), program)
+    places = [os.path.join(folder(it), part) for it in [*crates, program] for part in SOURCES]
+    words = ["find", *filter(os.path.isdir, places), os.path.join(TOP, "crates.txt")]
+    words += ["-newer", path, "-print", "-quit"]
+    return os.access(path, os.X_OK) and not subprocess.check_output(words)
 
 
 def size(crate):
@@ -207,10 +217,9 @@ class Build:
         if self.is_small:
             is_largest = all(self.chain(it) <= self.chain(crate) for it in others)
             return self.processors if is_largest else 1
-        is_alone = not others
-        if is_alone and not self.toolchain.is_program(crate):
-            return max(1, self.processors // 2)
-        return 1
+        if self.toolchain.is_program(crate) or others and not self.leads(crate):
+            return 1
+        return max(1, self.processors // 2)
 
     def build(self, crate, jobs):
         """Builds one crate, and lets those above it begin."""

@@ -119,7 +119,6 @@ def removed(cases, world, browser):
                 browser.has("It was called Back again and was removed 14 days ago."), True)
     browser.click("main .buttons a.button")
     browser.wait(lambda: browser.one("#name").get_property("value") == "Back again", "its name")
-    cases.passed()
 
 
 def answers(cases, world, browser):
@@ -179,7 +178,6 @@ def followed(cases, world, browser):
         browser.go(path)
         want = ["/feeds/changes.atom", *([f"/feeds/{named}.atom"] if named else [])]
         browser.wait(lambda want=want: browser.js(feeds) == want or None, f"{want} in {path}")
-        cases.passed()
 
 
 LOADED = "import('/site/names.js').then((it) => it.load()).then(() => arguments[0]())"

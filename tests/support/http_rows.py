@@ -2,8 +2,9 @@
 
 A request is `GET` and a target; `POST`, a target, who sends it and the body, where an account comes
 after its key and a slash, if there is one; or `RAW` and the bytes themselves. A reply is its
-status, the kind of its content and its body. `~` stands for CRLF, `;` for LF and `→` for a tab. A
-row is a request, ` | ` and its reply. A line that ends with a backslash goes on in the next.
+status, ` close` if the stream ends with it, the kind of its content and its body. `~` stands for
+CRLF, `;` for LF and `→` for a tab. A row is a request, ` | ` and its reply. A line that ends with a
+backslash goes on in the next.
 """
 import re
 
@@ -258,6 +259,94 @@ GET /submission/2?format=text | 200 OK text num 2;author alice;path PC/8086;remo
 withdrawn;decider alice;reason ;remark alice seen;remark root so be it;
 """
 
+BAD_HEAD = '400 Bad Request close json {"ok":false,"refused":20,"word":"BadHead"}'
+SHORT = '400 Bad Request close json {"ok":false,"refused":23,"word":"BodyShort"}'
+TOO_LONG = '413 Payload Too Large close json {"ok":false,"refused":21,"word":"BodyTooLong"}'
+NO_ROUTE = 'json {"ok":false,"refused":24,"word":"NoRoute"}'
+# How a stream goes on, or ends, after a request, each in a connection of its own: of these the
+# first request alone is answered. `alice` has an account.
+ENDS = [
+    f"RAW POST / HTTP/1.1~Content-Length: 1~Content-Length: 1~~a | {BAD_HEAD}",
+    f"RAW POST / HTTP/1.1~Content-Length: x~~ | {BAD_HEAD}",
+    f"RAW POST / HTTP/1.1~Content-Length: +1~~a | {BAD_HEAD}",
+    f"RAW GET~ | {BAD_HEAD}",
+    f"RAW \r~ | {BAD_HEAD}",
+    f"RAW GET /none HTTP/1.1~A: {'a' * 16_357}~~ | 404 Not Found {NO_ROUTE}",
+    f"RAW GET /none HTTP/1.1~A: {'a' * 16_358}~~ | {BAD_HEAD}",
+    f"RAW GET /none HTTP/1.1~A: {'a' * 16_362} | {BAD_HEAD}",
+    f"RAW GET /none HTTP/1.1~{'A: b~' * 32}~ | 404 Not Found {NO_ROUTE}",
+    f"RAW GET /none HTTP/1.1~{'A: b~' * 33}~ | {BAD_HEAD}",
+    "RAW GET / HTTP/1.1~Content-Length: x~transfer-encoding: gzip~~ | "
+    '501 Not Implemented close json {"ok":false,"refused":22,"word":"Encoding"}',
+    f"RAW GET /nope HTTP/1.1~Content-Length: {'9' * 30}~~ | {TOO_LONG}",
+    f"RAW POST /import HTTP/1.1~X-Account: alice~Content-Length: 20~~8086  Int | {SHORT}",
+    f"RAW POST /import HTTP/1.1~Content-Length: 20~~8086  Int;x;y | {SHORT}",
+    f"RAW POST /submit HTTP/1.1~X-Account: alice~Content-Length: 20~~path=PC/8086 | {SHORT}",
+    f"RAW PUT /nope HTTP/1.0~Content-Length: 1~~ | {SHORT}",
+    f"RAW GET /none HTTP/1.0~Connection: keep-alive~~GET /none HTTP/1.1~~ | "
+    f"404 Not Found close {NO_ROUTE}",
+    "RAW HEAD /pci.ids HTTP/1.0~~ | 405 Method Not Allowed close allow GET, POST",
+    "RAW GET /pending HTTP/1.1~Connection: close~~GET /pending HTTP/1.1~~ | 200 OK close json []",
+    "RAW GET /pending HTTP/1.1~Connection: keep-alive, Close~~more | 200 OK close json []",
+    "RAW GET /pending HTTP/1.1~Content-Length: 00~Connection: keep-alive,→ Close ~~GET | "
+    "200 OK close json []",
+    "RAW POST /import HTTP/1.1~X-Account: root~connection: close~Content-Length: 1~~#GET | "
+    '200 OK close json {"added":0,"ok":true,"renamed":0,"same":0}',
+    "RAW GET /pending HTTP/1.1~Connection: keep-alive, closed~~ | 200 OK json []",
+    "RAW ~~GET /pending HTTP/1.1~~~ | 200 OK json []",
+    "RAW ;GET /pending HTTP/1.1~~ | 200 OK json []",
+    "RAW POST /account HTTP/1.1~X-Account: root~content-LENGTH:  16 ~~who=alice&rank=0 | "
+    '409 Conflict json {"ok":false,"refused":13,"word":"NothingToDo"}',
+]
+
+# A command, the text of all items, and a command whose body is short, in one stream.
+THREE = [
+    'POST /account root who=alice&rank=0 | 200 OK json {"ok":true}',
+    "GET /pci.ids | 200 OK text # PCI ID registry;",
+    f"RAW POST /submit HTTP/1.1~X-Account: alice~Content-Length: 35~~path=PC/8086 | {SHORT}",
+]
+
+FAILED_JSON = '503 Service Unavailable json {"ok":false,"refused":18,"word":"Failed"}'
+FAILED_TEXT = "503 Service Unavailable text refused 18 Failed;"
+# Each route in a format, as a registry is asked that has failed; then what is known without it.
+FAILED = f"""\
+GET /pci.ids | {FAILED_JSON}
+GET /read/PC/8086 | {FAILED_JSON}
+GET /read/PC/8086?format=text | {FAILED_TEXT}
+GET /children | {FAILED_JSON}
+GET /children?of=PC/8086&format=text | {FAILED_TEXT}
+GET /lookup?flags=3&vendor=8086&device=ffff | {FAILED_JSON}
+GET /lookup?flags=30000 | {FAILED_JSON}
+GET /submission/1 | {FAILED_JSON}
+GET /submission/1?format=text | {FAILED_TEXT}
+GET /remarks?num=1 | {FAILED_JSON}
+GET /remarks?num=1&after=1&format=text | {FAILED_TEXT}
+GET /pending | {FAILED_JSON}
+GET /pending?after=1&format=text | {FAILED_TEXT}
+GET /changes | {FAILED_JSON}
+GET /queue | {FAILED_JSON}
+GET /submissions?author=root&format=text | {FAILED_TEXT}
+GET /status | {FAILED_JSON}
+GET /account?who=root&format=text | {FAILED_TEXT}
+POST /account root who=alice&rank=0 | {FAILED_JSON}
+POST /submit?format=text root path=PC/8086&name=Intel | {FAILED_TEXT}
+POST /comment root num=1&text=seen | {FAILED_JSON}
+POST /withdraw root num=1 | {FAILED_JSON}
+POST /approve?format=text root num=1 | {FAILED_TEXT}
+POST /confirm root num=1&was= | {FAILED_JSON}
+POST /reject root num=1&reason=no | {FAILED_JSON}
+POST /import root 8086  Intel; | {FAILED_JSON}
+POST /import?format=text k1/root 8086  I;8086  J; | {FAILED_TEXT}
+GET /read/PC/80A6 | 400 Bad Request json {{"ok":false,"refused":1,"word":"BadPath"}}
+GET /submission/01 | 400 Bad Request json {{"ok":false,"refused":3,"word":"BadText"}}
+GET /nope | 404 Not Found {NO_ROUTE}
+GET /submit | 405 Method Not Allowed allow POST
+POST /submit Root path=PC/8086&name=Intel | 400 Bad Request json {{"ok":false,"refused":3,\
+"word":"BadText"}}
+POST /submit root path=PC/80A6&name=Intel | 400 Bad Request json {{"ok":false,"refused":1,\
+"word":"BadPath"}}
+"""
+
 ROWS = {"each route": EACH_ROUTE, "changes": CHANGES, "removals": REMOVALS}
 FIELDS = {
     "json": "Content-Type: application/json~",
@@ -284,17 +373,19 @@ def request_of(line):
 
 
 def reply_of(line):
-    status, kind, body = re.fullmatch(r"(.*?) (json|text|bytes|allow) ?(.*)", line).groups()
+    form = r"(.*?)( close)? (json|text|bytes|allow) ?(.*)"
+    status, closes, kind, body = re.fullmatch(form, line).groups()
+    close = "Connection: close~" if closes else ""
     if kind == "allow":
-        return bytes_of(f"HTTP/1.1 {status}~Content-Length: 0~Allow: {body}~~")
+        return bytes_of(f"HTTP/1.1 {status}~Content-Length: 0~Allow: {body}~{close}~")
     content = bytes_of(body)
     # A semicolon of a field is itself.
-    head = f"HTTP/1.1 {status}~{FIELDS[kind]}Content-Length: {len(content)}~~"
+    head = f"HTTP/1.1 {status}~{FIELDS[kind]}Content-Length: {len(content)}~{close}~"
     return head.replace("~", "\r\n").encode() + content
 
 
 def pairs_of(text):
     """Each row's line, with the bytes of the request and those of the reply."""
-    for row in text.replace("\\\n", "").splitlines():
+    for row in text.replace("\\\n", "").strip("\n").split("\n"):
         asked, replied = row.split(" | ", 1)
         yield asked, request_of(asked), reply_of(replied)

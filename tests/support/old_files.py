@@ -1,12 +1,14 @@
 """Files of schema 1, written by the real sqlite3."""
+import os
+import re
+
+from program import TOP
 from registry import asked, texts_of_schema
 
-ROWS = """
-INSERT INTO meta VALUES ('schema', 1), ('items', 1), ('submissions', 1);
-INSERT INTO account VALUES ('alice', 0), ('root', 3);
-INSERT INTO item VALUES ('PC/8086', 'Intel Corporation');
-INSERT INTO submission VALUES (1, 'alice', 'PC/8086', 0, 'Intel Corporation', '', 1, 'root', '');
-"""
+# A vendor that alice submitted and root approved.
+ROWS_FILE = os.path.join(TOP, "crates/pid_tests_registry/src/service/rows.rt")
+with open(ROWS_FILE, encoding="utf-8") as source:
+    ROWS = "".join(re.findall(r"^INSERT .*;\n", source.read(), re.M))
 
 TABLES = ["meta", "account", "item", "submission", "remark", "receipt", "item_since"]
 

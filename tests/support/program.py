@@ -61,8 +61,6 @@ class Ran:
 
 def run(text, *words):
     """Runs the program with these arguments and this text on its standard input."""
-    if PROGRAM is None:
-        raise Skip("the first program belongs to the source tree, and PCIIDS names another one")
     words = [PROGRAM, *words]
     return Ran(subprocess.run(words, input=text, capture_output=True, timeout=60))
 

@@ -348,6 +348,19 @@ ROWS = {
         ("read path=PS/1af4/1100", "name Qemu\n"),
         ("read path=PS/1af4/0002", "name Blk\n"),
     ],
+    # The URL Standard, section 5.1.
+    "fields of a form": [
+        ("account root who=bob&rank=2", "ok\n"),
+        ("submit root &&p%61th=PC/8086&&name=a=b+%2b%2B&", "ok 1\n"),
+        ("approve bob num=1", "ok\n"),
+        ("read path=PC/8086", "name a=b ++\n"),
+        ("submit root path=PC/10ec&name=%ff", "ok 2\n"),
+        ("approve bob num=2", "ok\n"),
+        ("read path=PC/10ec", "name \ufffd\n"),
+        ("submit root path=PC/8086&name", "refused 2 BadName\n"),
+        ("submit root path=PC/8086&name=x&=", "refused 3 BadText\n"),
+        ("submit root path=PC/8086&name=x&n%61me=x", "refused 3 BadText\n"),
+    ],
     "lines that are not clear": [
         ("# a comment", ""),
         ("", ""),

@@ -2,8 +2,9 @@
 #![tactic(auto)]
 
 use pid_cli_help::Met;
-use pid_cli_registry::run_words;
-use pid_cli_terminal::Session;
+use pid_cli_registry::run_on_host;
+use pid_cli_words::terminal::Session;
+use pid_cli_words::{job_of, tell_no_job};
 use pid_file::tell_no_words;
 use sqlite_disk::Unknown;
 use std::process::ExitCode;
@@ -20,17 +21,23 @@ fn words_given(rt: &HostRuntime) -> io::Result<Vec<String>> {
     Ok(env::args(rt)?.collect(rt.alloc())?)
 }
 
-// Runs the words, and says more where a person reads standard error.
+// Does the job of the words, and says more where a person reads standard error.
 fn run(rt: &HostRuntime, words: &[String]) -> u8 {
-    let session = Session::begin(rt, words);
+    let job = match job_of(rt.alloc(), words) {
+        Ok(job) => job,
+        Err(error) => {
+            return tell_no_job(&error, words, &mut rt.stdout(), &mut rt.stderr());
+        }
+    };
+    let session = Session::begin(rt, job);
     let (mut read, mut written) = (Met::new(), Met::new());
-    let status = run_words(
+    let status = run_on_host(
         rt,
         Unknown,
-        words,
-        session.input(&mut read),
-        session.output(&mut written),
-        session.faults(),
+        job,
+        &mut session.input(&mut read),
+        &mut session.output(&mut written),
+        &mut session.faults(),
     );
     session.end(status, &read, &written);
     status

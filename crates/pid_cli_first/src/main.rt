@@ -2,27 +2,23 @@
 //!
 //! The script `pciids` builds it in minutes and runs it until the whole program, `pid_cli`, is
 //! built. It answers with the whole program's texts, byte for byte, and leaves all else to it. What
-//! it does is in `pid_file`.
+//! it does is in `pid_file`, what it says in `pid_cli_help`.
 #![tactic(auto)]
 
 use pid_cli_help::{
-    COMMANDS, HELP, Met, Noted, USAGE_PAGE, VERSION_PAGE, explain_streams, is_for_a_person,
-    tell_input, usage_after,
+    FirstJob, Met, Noted, USAGE_PAGE, explain_streams, first_job_of, is_for_a_person, tell_input,
+    usage_after,
 };
-use pid_file::{FirstJob, Pages, first_job_of, run_job, tell_no_words};
+use pid_file::{refuse, run_check, run_tidy, show, tell_no_words};
 use std::process::ExitCode;
 use std::{env, io};
 
-const PAGES: Pages<'static> = Pages {
-    version: VERSION_PAGE,
-    usage: USAGE_PAGE,
-    help: HELP,
-    commands: &COMMANDS,
-};
+// The exit status if only the whole program can do the job. Nothing was read or written.
+const OTHER_JOB: u8 = 4;
 
 fn main(rt: HostRuntime) -> ExitCode {
     ExitCode::from(match words_given(&rt) {
-        Ok(words) => run(&rt, first_job_of(words.as_slice(), &PAGES)),
+        Ok(words) => run(&rt, first_job_of(words.as_slice())),
         Err(error) => tell_no_words(error.kind(), rt.stderr()),
     })
 }
@@ -37,25 +33,67 @@ fn run(rt: &HostRuntime, job: FirstJob<'_>) -> u8 {
     if is_told && matches!(job, FirstJob::Tidy | FirstJob::Check) {
         tell_input(rt, "a pci.ids file");
     }
-    let tip = match job {
-        FirstJob::NoCommand(word) => usage_after(rt.alloc(), word).ok(),
-        _ => None,
-    };
-    let usage = match &tip {
-        Some(text) => text.as_str(),
-        None => USAGE_PAGE,
-    };
     let (mut read, mut written) = (Met::new(), Met::new());
-    let status = run_job(
-        job,
-        usage,
-        rt.alloc(),
-        Noted::new(rt.stdin(), &mut read),
-        Noted::new(rt.stdout(), &mut written),
-        rt.stderr(),
-    );
+    let status = do_job(rt, job, &mut read, &mut written);
     if is_told {
         explain_streams(rt, status, &read, &written);
     }
     status
+}
+
+fn do_job(rt: &HostRuntime, job: FirstJob<'_>, read: &mut Met, written: &mut Met) -> u8 {
+    let alloc = rt.alloc();
+    let faults = rt.stderr();
+    match job {
+        FirstJob::Tidy => {
+            let input = Noted::new(rt.stdin(), read);
+            run_tidy(alloc, input, Noted::new(rt.stdout(), written), faults).0
+        }
+        FirstJob::Check => {
+            let input = Noted::new(rt.stdin(), read);
+            run_check(alloc, input, Noted::new(rt.stdout(), written), faults).0
+        }
+        FirstJob::Show(page) => show(page, Noted::new(rt.stdout(), written), faults),
+        FirstJob::NoCommand(word) => refuse_command(rt, word),
+        FirstJob::NoArgument { command, word } => refuse(
+            &[
+                b"error: unexpected argument '",
+                word.as_bytes(),
+                b"' found\n\nUsage: pciids ",
+                command.as_bytes(),
+                b" < FILE\n\nFor more information, try '--help'.\n",
+                b"To read a file, redirect standard input: pciids ",
+                command.as_bytes(),
+                b" < FILE\n",
+            ],
+            faults,
+        ),
+        FirstJob::Other => OTHER_JOB,
+    }
+}
+
+// Reports that a word is no command, with a tip if there is memory for it.
+fn refuse_command(rt: &HostRuntime, word: &str) -> u8 {
+    let tip = usage_after(rt.alloc(), word).ok();
+    refuse_word(
+        rt,
+        word,
+        match &tip {
+            Some(text) => text.as_str(),
+            None => USAGE_PAGE,
+        },
+    )
+}
+
+fn refuse_word(rt: &HostRuntime, word: &str, usage: &str) -> u8 {
+    refuse(
+        &[
+            b"error: unrecognized subcommand '",
+            word.as_bytes(),
+            b"'\n\n",
+            usage.as_bytes(),
+            b"To read a file, redirect standard input: pciids < FILE\n",
+        ],
+        rt.stderr(),
+    )
 }

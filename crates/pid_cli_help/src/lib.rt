@@ -3,15 +3,17 @@
 
 mod explaining;
 mod file_looks;
+mod first_job;
 mod met;
 mod pages;
 mod similar;
 
 pub use explaining::{explain_streams, is_for_a_person, reason_of, tell_input};
 pub use file_looks::looks_of;
+pub use first_job::{FirstJob, first_job_of};
 pub use met::{Met, Noted};
 pub use pages::{
-    CHECK, COMMANDS, EXPORT, HELP, IMPORT, LOOKUP, MIGRATE, SCRIPT, SERVE, TIDY, USAGE, USAGE_PAGE,
-    VERSION, VERSION_PAGE,
+    CHECK, EXPORT, HELP, IMPORT, LOOKUP, MIGRATE, SCRIPT, SERVE, TIDY, USAGE, USAGE_PAGE, VERSION,
+    VERSION_PAGE,
 };
 pub use similar::usage_after;

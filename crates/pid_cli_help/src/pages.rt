@@ -54,17 +54,25 @@ Exit status:
 Run 'pciids help <COMMAND>' for details and an example.
 ";
 
-/// The commands in the order of the help, each with its own.
-pub const COMMANDS: [(&str, &str); 8] = [
-    ("tidy", TIDY),
-    ("check", CHECK),
-    ("lookup", LOOKUP),
-    ("script", SCRIPT),
-    ("import", IMPORT),
-    ("export", EXPORT),
-    ("serve", SERVE),
-    ("migrate", MIGRATE),
+/// The commands in the order of the help, which is one of them.
+pub const COMMANDS: [&str; 9] = [
+    "tidy", "check", "lookup", "script", "import", "export", "serve", "migrate", "help",
 ];
+
+/// The help of a command; none of `help`, or of a word that is no command.
+pub fn page_of(command: &str) -> Option<&'static str> {
+    match command {
+        "tidy" => Some(TIDY),
+        "check" => Some(CHECK),
+        "lookup" => Some(LOOKUP),
+        "script" => Some(SCRIPT),
+        "import" => Some(IMPORT),
+        "export" => Some(EXPORT),
+        "serve" => Some(SERVE),
+        "migrate" => Some(MIGRATE),
+        _ => None,
+    }
+}
 
 pub const TIDY: &str = "\
 Prints the canonical form of a pci.ids file (the default)

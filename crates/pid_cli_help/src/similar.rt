@@ -1,4 +1,6 @@
 //! The commands that an unknown one may stand for, as `clap` finds them for the whole program.
+ghost use Rattle.std.specs.Prelude.{◌≤◌, length};
+
 use crate::pages::{COMMANDS, USAGE_PAGE};
 use std::alloc::{AllocError, Global};
 use strsim::jaro;
@@ -38,10 +40,10 @@ fn add_similar(
     similar: &mut Vec<(f64, &'static str)>,
     word: &str,
 ) -> Result<(), AllocError> {
-    for (command, _) in &COMMANDS {
+    for command in &COMMANDS {
         add_if_like(alloc, similar, word, command)?;
     }
-    add_if_like(alloc, similar, word, "help")
+    Ok(())
 }
 
 fn add_if_like(
@@ -53,17 +55,17 @@ fn add_if_like(
     let likeness = jaro(alloc, word, command)?;
     if likeness > ALIKE {
         let place = place_of(similar.as_slice(), likeness);
-        if place <= similar.len() {
-            similar.insert(place, (likeness, command))?;
-        }
+        similar.insert(place, (likeness, command))?;
     }
     Ok(())
 }
 
 // After those that are not more alike.
-fn place_of(similar: &[(f64, &'static str)], likeness: f64) -> usize {
-    for (place, (other, _)) in similar.iter().enumerate() {
-        if *other > likeness {
+fn place_of(similar: &[(f64, &'static str)], likeness: f64) -> usize
+    ensures { result ≤ length similar.now }
+{
+    for place in 0..similar.len() {
+        if similar[place].0 > likeness {
             return place;
         }
     }

@@ -229,27 +229,35 @@ pub record AnswersStream {R : Type 0} (registry : Ghosts R) (old new : R) (x : E
     turns = x.turns;
   })
 
--- Streams of at most so many connections were served, after the line of where it listens, and it is
--- reported how many. The server was live before them and is live after them, unless the serving
--- ended because it is not.
-pub record HasServed (port : Port) (live : Bool × Bool) (w : Streams) (end : JobEnd) : Type 0 where
-  -- what the output had taken before the first of them
-  pub between : Option (List ℕ)
-  pub listens : Appends w.output.before between (listening_line port.number)
-  pub serving : Serving
-  pub counted : CountsStreams serving.end port.connections serving.streams
-  pub lasts : IsLiveAt serving.end serving.streams live
-  pub reports : ReportsServing serving.end serving.streams
-      (record w { output = record w.output { before = between } }) end
+-- `port_of` is the port that a listener is for; IsServing says that streams came from it, once the
+-- output had taken this
+module _ {L : Type 0} (port_of : L → ℕ) (IsServing : L → Option (List ℕ) → Serving → Type 0) where
+  -- Streams of at most so many connections to the port were served, after the line of where it
+  -- listens, and it is reported how many. The server was live before them and is live after them,
+  -- unless the serving ended because it is not.
+  pub record HasServed (port : Port) (live : Bool × Bool) (w : Streams) (end : JobEnd)
+      : Type 0 where
+    pub listener : L
+    pub at_port : port_of listener ≡ port.number
+    -- what the output had taken before the first of them
+    pub between : Option (List ℕ)
+    pub listens : Appends w.output.before between (listening_line port.number)
+    pub serving : Serving
+    pub serves : IsServing listener between serving
+    pub counted : CountsStreams serving.end port.connections serving.streams
+    pub lasts : IsLiveAt serving.end serving.streams live
+    pub reports : ReportsServing serving.end serving.streams
+        (record w { output = record w.output { before = between } }) end
 
--- A server was given streams. Or none was: the port could not be had, memory for the table of
--- routes could not, or the line of where it listens did not go out whole.
-pub data Offers (port : Port) (live : Bool × Bool) (w : Streams) (end : JobEnd) : Type 0 where
-  Unbound : ReportsOnly socket_line w end → Offers port live w end
-  Unrouted : ReportsMemory w end → Offers port live w end
-  Unheard : FailsWithin w.output (listening_line port.number) → IsUnreported w → end ≡ FileFailed
-      → Offers port live w end
-  Served : HasServed port live w end → Offers port live w end
+  -- A server was given streams. Or none was: the port could not be had, memory for the table of
+  -- routes could not, or the line of where it listens did not go out whole.
+  pub data Offers (port : Port) (live : Bool × Bool) (w : Streams) (end : JobEnd) : Type 0 where
+    Unbound : ReportsOnly socket_line w end → Offers port live w end
+    Unrouted : ReportsMemory w end → Offers port live w end
+    Unheard : FailsWithin w.output (listening_line port.number) → IsUnreported w → end ≡ FileFailed
+        → Offers port live w end
+    Served : HasServed port live w end → Offers port live w end
 
-abbrev pub Serves : {R : Type 0} → Ghosts R → Port → Streams → JobEnd → R → R → Type 0
-Serves registry port w end old new = Offers port (registry.is_live old, registry.is_live new) w end
+  abbrev pub Serves : {R : Type 0} → Ghosts R → Port → Streams → JobEnd → R → R → Type 0
+  Serves registry port w end old new =
+      Offers port (registry.is_live old, registry.is_live new) w end

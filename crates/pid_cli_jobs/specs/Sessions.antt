@@ -1,12 +1,20 @@
 -- Sessions of a registry under moderation, each from its opening to the end. Choices of this
 -- project.
-use Rattle.std.specs.Prelude.{◌≡◌, List}
+use Rattle.std.specs.Prelude.{◌≡◌, List, ⊤}
 use Rattle.pid_service_laws.specs.Calls.{Call, nothing_sent}
 use Rattle.pid_service_laws.specs.Registries.{CallsLead, Does}
 use Rattle.pid_service_laws.specs.declared.moderated.Moderated.{Ghosts}
 use Rattle.pid_cli_jobs.specs.declared.job_end.JobEnd.{JobEnd}
 use Rattle.pid_cli_jobs.specs.declared.unopened.Unopened.{Unopened as Reason}
+use Rattle.pid_cli_jobs.specs.declared.unopened.Unopened.TheVariants.{Memory, Store, Damaged}
 use Rattle.pid_cli_jobs.specs.Lines.{ReportsUnopened, Streams}
+
+-- why there was no connection
+abbrev pub IsOfDatabase : Reason → Type 0
+IsOfDatabase Memory = ⊤
+IsOfDatabase Store = ⊤
+IsOfDatabase Damaged = ⊤
+IsOfDatabase why = ⊥
 
 module _ {R : Type 0} (registry : Ghosts R) where
   -- calls in turn lead from the one registry to the other, and each does what its contract says

@@ -7,11 +7,11 @@ ghost use Rattle.pid_cli_jobs.specs.Lines.{streams};
 
 use crate::job_end::{JobEnd, report_memory};
 use crate::lines::{print_reply, report_unopened};
+use crate::machine::{Databases, Machine};
 use crate::registries::Registries;
 use crate::unopened::Unopened;
-use pid_cli_machine::{Databases, Machine};
-use pid_cli_terminal::{Counted, Progress};
 use pid_cli_words::ImportWords;
+use pid_cli_words::terminal::{Counted, Progress, Seen};
 use pid_ident::{Account, Input, Key, Output, Plain, WordFault};
 use pid_moderation::{Refusal, Reply};
 use pid_service_laws::{Consulted, ImportEnd};
@@ -92,7 +92,7 @@ pub fn import<M: Machine, G: Registries<M>, O: Output, F: Output>(
     let Some(file) = machine.open_text(words.ids) else {
         return JobEnd::FileFailed;
     };
-    let mut input = Plain::new(Counted::new(file, progress));
+    let mut input = Plain::new(Seen::new(file, Counted(&mut *progress)));
     let found = bring_in(machine, registries, words.db, sender, &mut input);
     drop(input);
     progress.clear();

@@ -1,21 +1,38 @@
 //! The jobs of the program, over any machine, any registry under moderation, any input and any
-//! output: sessions from opening to end, and the lines and the statuses with which they end.
+//! output: sessions from opening to end, and the lines and the statuses with which they end. What a
+//! job can ask of a machine, and the machine of the process; a registry with its journal in front.
 #![tactic(auto)]
 
+mod folder;
+mod host;
+mod host_names;
 mod imports;
 mod job_end;
+mod journaling;
+mod journals;
 mod lines;
+mod lock;
 mod lookups;
+mod machine;
+mod named_file;
 mod registries;
 mod scripts;
+mod segment;
 mod serving;
 mod unopened;
 
+pub use folder::{HostFolder, HostFolders};
+pub use host::Host;
 pub use imports::import;
 pub use job_end::{JobEnd, print_line, report_end};
+pub use journaling::Journaling;
+pub use journals::{Journals, ReportingFolder};
 pub use lines::report_unopened;
 pub use lookups::answer_lookup;
+pub use machine::{Databases, InMemory, Machine};
+pub use named_file::{FileNames, NamedFile};
 pub use registries::Registries;
 pub use scripts::script;
+pub use segment::HostSegment;
 pub use serving::{Port, serve};
 pub use unopened::Unopened;

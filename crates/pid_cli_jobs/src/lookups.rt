@@ -14,7 +14,7 @@ ghost use Rattle.pid_cli_jobs.specs.Lines.{streams};
 
 use crate::job_end::{JobEnd, report_memory};
 use crate::lines::{print_answer, print_reply};
-use pid_cli_machine::Machine;
+use crate::machine::Machine;
 use pid_cli_words::LookupWords;
 use pid_file::{LARGEST, TextEnd, tell_unread};
 use pid_ident::{Input, Output, Plain};

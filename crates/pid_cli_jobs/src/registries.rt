@@ -1,6 +1,6 @@
 //! Where registries are opened.
+use crate::machine::Databases;
 use crate::unopened::Unopened;
-use pid_cli_machine::Databases;
 use pid_service_laws::Consulted;
 
 /// How a registry is opened at a path of a machine, and closed: alone, or with a journal in front of

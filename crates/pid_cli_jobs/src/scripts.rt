@@ -7,8 +7,8 @@ ghost use Rattle.pid_cli_jobs.specs.Sessions.{Works};
 
 use crate::job_end::JobEnd;
 use crate::lines::report_unopened;
+use crate::machine::Databases;
 use crate::registries::Registries;
-use pid_cli_machine::Databases;
 use pid_ident::{Incoming, Output};
 use pid_script::{ScriptEnd, run_script};
 

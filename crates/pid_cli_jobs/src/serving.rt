@@ -7,8 +7,8 @@ ghost use Rattle.pid_cli_jobs.specs.Sessions.{IsPartOfSession, Works};
 
 use crate::job_end::{JobEnd, report_memory};
 use crate::lines::{report_unopened, write_count};
+use crate::machine::{Databases, Machine};
 use crate::registries::Registries;
-use pid_cli_machine::{Databases, Machine};
 use pid_file::FAILED;
 use pid_http::{Routes, serve_with};
 use pid_http_stream::Served;
@@ -99,14 +99,16 @@ fn give_streams<M: Machine, T: StreamServer, O: Output, F: Output>(
     output: &mut O,
     faults: &mut F,
 ) -> JobEnd
+    requires { M.port_of listener.now ≡ port.number }
     ensures goes { T.goes server.old server.new }
-    ensures offers { Offers port (T.live server.old, T.live server.new) (streams
-        (use_of O.Output output.old output.new) (use_of F.Output faults.old faults.new)) result }
+    ensures offers { Offers M.port_of M.is_serving port (T.live server.old, T.live server.new)
+        (streams (use_of O.Output output.old output.new)
+        (use_of F.Output faults.old faults.new)) result }
 {
     let number = u64::from(port.number);
     match write_count("listening on 127.0.0.1:", number, output) {
         Ok(()) => {
-            let serving = machine.serve(listener, server, port.connections);
+            let serving = machine.serve(listener, output, server, port.connections);
             report(serving, output, faults)
         }
         Err(_) => JobEnd::FileFailed,
@@ -123,7 +125,7 @@ fn serve_registry<M: Machine, G: Registries<M>, O: Output, F: Output>(
     faults: &mut F,
 ) -> JobEnd
     ensures goes { IsPartOfSession G.Registry.Moderated registry.old registry.new }
-    ensures offers { Serves G.Registry.Moderated port (streams
+    ensures offers { Serves M.port_of M.is_serving G.Registry.Moderated port (streams
         (use_of O.Output output.old output.new) (use_of F.Output faults.old faults.new)) result
         registry.old registry.new }
 {
@@ -158,7 +160,8 @@ pub fn serve<M: Machine, G: Registries<M>, O: Output, F: Output>(
     faults: &mut F,
 ) -> JobEnd
     ensures { Works G.Registry.Moderated (G.is_opened registries.old path.now)
-        (G.is_unopened registries.old path.now) G.is_closed (Serves G.Registry.Moderated port)
+        (G.is_unopened registries.old path.now) G.is_closed
+        (Serves M.port_of M.is_serving G.Registry.Moderated port)
         (streams (use_of O.Output output.old output.new)
         (use_of F.Output faults.old faults.new)) result }
 {

@@ -1,23 +1,19 @@
 //! Why no registry was opened.
-use thiserror::Error;
 
 /// Why no registry was opened.
-#[derive(Clone, Copy, Debug, Error)]
+#[derive(Clone, Copy)]
 pub enum Unopened {
-    #[error("no memory")]
     Memory,
-    #[error("the store failed or refused")]
+    /// There is no such file, it is not one for this program, or the disk failed.
     Store,
-    #[error("the file or its tables do not keep their conditions")]
+    /// The file begins as a database, and it or its tables do not keep their conditions.
     Damaged,
     /// The tables are of a later schema, of this number.
-    #[error("the tables are of schema {0}")]
     NewerSchema(u64),
-    #[error("the journal is that of another registry")]
+    /// The journal is that of another registry.
     AnotherJournal,
-    #[error("the journal lacks segments that the registry needs")]
+    /// The journal lacks segments that the registry needs.
     SegmentsMissing,
-    /// The folder of the journal, or a file in it.
-    #[error("the journal failed")]
+    /// The folder of the journal failed, or a file in it.
     JournalFailed,
 }

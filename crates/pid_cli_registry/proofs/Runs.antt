@@ -30,7 +30,7 @@ use Rattle.pid_service.specs.Lives.{IsAfterStop, showing}
 use Rattle.pid_service.specs.Registries.{HasCleanDisk, connection}
 use Rattle.sqlite.specs.Start.{FindsIn}
 use Rattle.sqlite_wal.specs.Recovery.{Image}
-use Rattle.pid_cli_machine.specs.Files.{Closed, IsLeftIn, IsNextRun, Stopped, Unclosed}
+use Rattle.pid_cli_jobs.specs.Files.{Closed, IsLeftIn, IsNextRun, Stopped, Unclosed}
 
 -- trees that show the one or the other are a database
 pub either_sound : (db : Trees) (first second : Views)

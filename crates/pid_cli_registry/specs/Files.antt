@@ -20,7 +20,7 @@ use Rattle.pid_service.specs.Headline.{TellsPrefixes}
 use Rattle.pid_service.specs.Lives.{IsAfterSession, IsAfterStop, ShowsPrefixes, showing}
 use Rattle.pid_service.specs.Opening.{OpensTo}
 use Rattle.pid_service.specs.Registries.{HasCleanDisk, connection}
-use Rattle.pid_cli_machine.specs.Files.{IsNextRun}
+use Rattle.pid_cli_jobs.specs.Files.{IsNextRun}
 
 -- The connection of the next run was opened after a stop of the earlier one, on what that left.
 abbrev pub FilesShowWhatWasLeft : {D E : Type 0} → disk.Ghosts D → disk.Ghosts E → Type 0

@@ -6,10 +6,11 @@ use Rattle.pid_service.specs.Opening.{MovesAtOnce, MovesJudged, MovesShown, Move
 use Rattle.pid_tables.specs.declared.migration.Step.{Step}
 use Rattle.pid_tables.specs.declared.migration.Step.TheVariants.{Created, Moved, Already}
 use Rattle.pid_tables.specs.declared.rows.fault.TableFault.{TableFault}
-use Rattle.pid_cli_machine.specs.declared.unconnected.Unconnected.{Unconnected as Fault}
 use Rattle.pid_cli_jobs.specs.declared.job_end.JobEnd.{JobEnd}
+use Rattle.pid_cli_jobs.specs.declared.unopened.Unopened.{Unopened as Reason}
 use Rattle.pid_cli_jobs.specs.Lines.{PrintsOnly, ReportsUnopened, Streams}
-use Rattle.pid_cli_registry.specs.Openings.{reason_of_tables, reason_unconnected}
+use Rattle.pid_cli_jobs.specs.Sessions.{IsOfDatabase}
+use Rattle.pid_cli_registry.specs.Openings.{reason_of_tables}
 
 -- the line of what a migration did
 abbrev pub step_line : Step → List ℕ
@@ -33,7 +34,7 @@ module _ {S : Type 0} (store : Ghosts S) (IsAt IsClosed : Held S → Type 0) whe
     Migrated : (conn moved : Held S) (step : Step) → IsAt conn → IsNew conn
         → IsMigration store conn (Ok (moved, step)) → PrintsOnly (step_line step) 0 w end
         → IsClosed moved → Migrates w end
-    Unconnected : (fault : Fault) → ReportsUnopened (reason_unconnected fault) w end
+    Unconnected : (why : Reason) → IsOfDatabase why → ReportsUnopened why w end
         → Migrates w end
     Unmoved : (conn left : Held S) (fault : TableFault) → IsAt conn → IsNew conn
         → IsMigration store conn (Err (fault, left)) → ReportsUnopened (reason_of_tables fault) w end

@@ -9,21 +9,14 @@ use Rattle.pid_service.specs.Opening.{connection_left, opening_end}
 use Rattle.pid_service.specs.Registries.{connection, is_live}
 use Rattle.pid_tables.specs.declared.rows.fault.TableFault.{TableFault}
 use Rattle.pid_tables.specs.declared.rows.fault.TableFault.TheVariants as tables
-use Rattle.pid_cli_machine.specs.declared.unconnected.Unconnected.{Unconnected as Fault}
-use Rattle.pid_cli_machine.specs.declared.unconnected.Unconnected.TheVariants as machine
 use Rattle.pid_cli_jobs.specs.declared.job_end.JobEnd.{JobEnd}
 use Rattle.pid_cli_jobs.specs.declared.unopened.Unopened.{Unopened as Reason}
 use Rattle.pid_cli_jobs.specs.declared.unopened.Unopened.TheVariants.{Memory, Store, Damaged}
 use Rattle.pid_cli_jobs.specs.declared.unopened.Unopened.TheVariants.{NewerSchema}
 use Rattle.pid_cli_jobs.specs.Lines.{Streams}
-use Rattle.pid_cli_jobs.specs.Sessions.{Works}
+use Rattle.pid_cli_jobs.specs.Sessions.{IsOfDatabase, Works}
 
--- why none was opened: without a connection, and by its tables
-abbrev pub reason_unconnected : Fault → Reason
-reason_unconnected machine.Memory = Memory
-reason_unconnected machine.Store = Store
-reason_unconnected machine.Damaged = Damaged
-
+-- why none was opened, by its tables
 abbrev pub reason_of_tables : TableFault → Reason
 reason_of_tables tables.Memory = Memory
 reason_of_tables tables.Store = Store
@@ -51,7 +44,7 @@ module _ {S : Type 0} (store : Ghosts S) (IsAt : Held S → Type 0) where
 
   -- none was: there was no connection, or `open` left the connection so
   pub data IsUnopened (why : Reason) : Type 0 where
-    Unconnected : (fault : Fault) → why ≡ reason_unconnected fault → IsUnopened why
+    Unconnected : IsOfDatabase why → IsUnopened why
     Refused : (conn left : Held S) (fault : TableFault) → IsAt conn → IsNew conn
         → IsOpening store conn (Err (fault, left)) → why ≡ reason_of_tables fault → IsUnopened why
 

@@ -1,7 +1,6 @@
 //! The registry at a path, with nothing in front of it.
-use crate::unopened::{of_connection, of_tables};
-use pid_cli_jobs::{Registries, Unopened};
-use pid_cli_machine::Databases;
+use crate::unopened::of_tables;
+use pid_cli_jobs::{Databases, Registries, Unopened};
 use pid_service::{Registry, open};
 
 /// Registries with nothing in front of them. A connection on which `open` finds none is dropped as
@@ -31,7 +30,7 @@ impl<D: Databases> Registries<D> for Alone {
                     Err(of_tables(fault))
                 }
             },
-            Err(fault) => Err(of_connection(fault)),
+            Err(why) => Err(why),
         }
     }
 

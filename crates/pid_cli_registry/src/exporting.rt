@@ -7,8 +7,7 @@ ghost use Rattle.pid_cli_registry.specs.Exports.{ExportsThrough, PrintsAll, expo
 ghost use Rattle.pid_cli_registry.specs.Openings.{WorksAt};
 
 use crate::alone::Alone;
-use pid_cli_jobs::{JobEnd, Registries, report_unopened};
-use pid_cli_machine::Databases;
+use pid_cli_jobs::{Databases, JobEnd, Registries, report_unopened};
 use pid_ident::{Output, Plain};
 use pid_service::ExportFault;
 use std::io::{BufWriter, Write};

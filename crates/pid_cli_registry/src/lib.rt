@@ -1,5 +1,5 @@
-//! The jobs on the registry of this program: how it is opened and closed, its export, its
-//! migration, and the job that the arguments name.
+//! The jobs on the registry of this program: how that is opened and closed, its export and its
+//! migration, and the choice of a job. The other jobs are in `pid_cli_jobs`.
 #![tactic(auto)]
 
 mod alone;
@@ -9,7 +9,4 @@ mod migrating;
 mod running;
 mod unopened;
 
-pub use alone::Alone;
-pub use exporting::export;
-pub use migrating::migrate;
-pub use running::run_words;
+pub use running::run_on_host;

@@ -4,9 +4,8 @@ ghost use Rattle.pid_file.specs.Writing.{use_of};
 ghost use Rattle.pid_cli_jobs.specs.Lines.{PrintsLine, streams};
 ghost use Rattle.pid_cli_registry.specs.Migrations.{Migrates, step_line};
 
-use crate::unopened::{of_connection, of_tables};
-use pid_cli_jobs::{JobEnd, print_line, report_unopened};
-use pid_cli_machine::Databases;
+use crate::unopened::of_tables;
+use pid_cli_jobs::{Databases, JobEnd, print_line, report_unopened};
 use pid_ident::Output;
 use pid_service::Step;
 
@@ -41,7 +40,7 @@ pub fn migrate<D: Databases, O: Output, F: Output>(
 {
     let conn = match databases.open(path) {
         Ok(conn) => conn,
-        Err(fault) => return report_unopened(of_connection(fault), faults),
+        Err(why) => return report_unopened(why, faults),
     };
     match pid_service::migrate(databases.alloc(), conn) {
         Ok((conn, step)) => {

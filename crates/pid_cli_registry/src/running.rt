@@ -1,14 +1,13 @@
-//! The job that the arguments name, on the streams of the process.
+//! The job that the arguments name.
 use crate::alone::Alone;
 use crate::exporting::export;
 use crate::migrating::migrate;
 use pid_cli_jobs::{
-    JobEnd, Port, Unopened, answer_lookup, import, report_end, report_unopened, script, serve,
+    Databases, Host, HostFolders, InMemory, JobEnd, Journaling, Journals, Machine, Port, Unopened,
+    answer_lookup, import, report_end, report_unopened, script, serve,
 };
-use pid_cli_journal::{HostFolders, Journaling, Journals, ReportingFolder};
-use pid_cli_machine::{Databases, Host, InMemory, Machine};
-use pid_cli_terminal::{Counted, Progress};
-use pid_cli_words::{ImportWords, Job, job_of, tell_no_job};
+use pid_cli_words::terminal::{Counted, Progress, Seen};
+use pid_cli_words::{ImportWords, Job};
 use pid_file::{TextEnd, Watched, run_check, run_tidy, tell_end};
 use pid_ident::{Output, Plain};
 use sqlite_disk::Start;
@@ -16,34 +15,31 @@ use std::io::{BufWriter, IsTerminal, Read, Write};
 
 const BUFFER: usize = 65_536;
 
-/// Does what the arguments ask for, and returns the exit status. `start` is as for `Host::new`.
+/// Does a job on the machine of the process, and returns the exit status. `start` is as for
+/// `Host::new`.
 ///
-/// Faults are found in this order: the arguments; the folder of the journal; the account, the key
-/// and the values of a lookup; the opening of the pci.ids file; the database; the journal; the port;
-/// the rest.
-pub fn run_words<S: Start, I: Read + Drop, O: Write + Drop, F: Write + Drop>(
+/// Faults are found in this order: the folder of the journal; the account, the key and the values of
+/// a lookup; the opening of the pci.ids file; the database; the journal; the port; the rest.
+pub fn run_on_host<S: Start, I: Read, O: Write, F: Write>(
     rt: &HostRuntime,
     start: S,
-    words: &[String],
-    input: I,
-    output: O,
-    faults: F,
+    job: Job<'_>,
+    input: &mut I,
+    output: &mut O,
+    faults: &mut F,
 ) -> u8 {
-    match job_of(rt.alloc(), words) {
-        Ok(job) => run_job(rt, &mut Host::new(rt, start), job, input, output, faults),
-        Err(error) => tell_no_job(&error, words, output, faults),
-    }
+    run_job(rt, &mut Host::new(rt, start), job, input, output, faults)
 }
 
 // Does a job on any machine. The runtime shows the progress and has the folders of journals, and is
 // asked for nothing else.
-fn run_job<M: Machine, I: Read + Drop, O: Write + Drop, F: Write + Drop>(
+fn run_job<M: Machine, I: Read, O: Write, F: Write>(
     rt: &HostRuntime,
     machine: &mut M,
     job: Job<'_>,
-    input: I,
-    output: O,
-    faults: F,
+    input: &mut I,
+    output: &mut O,
+    faults: &mut F,
 ) -> u8 {
     let journals = &mut HostFolders(rt);
     let alloc = machine.alloc();
@@ -54,15 +50,13 @@ fn run_job<M: Machine, I: Read + Drop, O: Write + Drop, F: Write + Drop>(
         Job::Check => return run_check(alloc, input, bare(to), errors.into_inner()).0,
         Job::Export { db } => return run_export(rt, machine, db, bare(to), &mut errors),
         Job::Lookup(words) => answer_lookup(machine, &words, &mut to, &mut errors),
-        Job::Script { db, journal } => run_script(
-            machine,
-            journals,
-            db,
-            journal,
-            input,
-            &mut to,
-            &mut errors,
-        ),
+        Job::Script { db, journal } => match db {
+            Some(db) => run_script(machine, journals, db, journal, input, &mut to, &mut errors),
+            None => {
+                let memory = &mut InMemory(alloc);
+                run_script(memory, journals, "", journal, input, &mut to, &mut errors)
+            }
+        },
         Job::Import(words) => run_import(rt, machine, journals, &words, &mut to, &mut errors),
         Job::Serve {
             db,
@@ -99,43 +93,23 @@ fn open_folder<J: Journals>(
     }
 }
 
-fn run_script<M: Machine, J: Journals, I: Read + Drop, O: Output, F: Output>(
-    machine: &mut M,
-    journals: &mut J,
-    db: Option<&str>,
-    journal: Option<&str>,
-    input: I,
-    output: &mut O,
-    faults: &mut F,
-) -> JobEnd {
-    let folder = match open_folder(journals, journal) {
-        Ok(folder) => folder,
-        Err(why) => return report_unopened(why, faults),
-    };
-    match db {
-        Some(db) => script_at(machine, db, folder, input, output, faults),
-        None => {
-            let databases = &mut InMemory(machine.alloc());
-            script_at(databases, "", folder, input, output, faults)
-        }
-    }
-}
-
-fn script_at<D: Databases, J: ReportingFolder + Drop, I: Read + Drop, O: Output, F: Output>(
+fn run_script<D: Databases, J: Journals, I: Read, O: Output, F: Output>(
     databases: &mut D,
+    journals: &mut J,
     db: &str,
-    folder: Option<J>,
-    input: I,
+    journal: Option<&str>,
+    input: &mut I,
     output: &mut O,
     faults: &mut F,
 ) -> JobEnd {
     let mut input = Plain::new(input);
-    match folder {
-        None => script(databases, &mut Alone, db, &mut input, output, faults),
-        Some(folder) => {
+    match open_folder(journals, journal) {
+        Ok(None) => script(databases, &mut Alone, db, &mut input, output, faults),
+        Ok(Some(folder)) => {
             let mut registries = Journaling::new(Alone, folder);
             script(databases, &mut registries, db, &mut input, output, faults)
         }
+        Err(why) => report_unopened(why, faults),
     }
 }
 
@@ -158,16 +132,16 @@ fn run_import<M: Machine, J: Journals, O: Output, F: Output>(
     }
 }
 
-fn run_export<M: Machine, O: Write + Drop, F: Output>(
+fn run_export<M: Machine, O: Write, F: Output>(
     rt: &HostRuntime,
     machine: &mut M,
     db: &str,
-    output: O,
+    output: &mut O,
     faults: &mut F,
 ) -> u8 {
     let is_told = rt.stderr().is_terminal() && !rt.stdout().is_terminal();
     let mut progress = Progress::new(rt, "exporting", is_told);
-    let output = Watched::new(Counted::new(output, &mut progress));
+    let output = Watched::new(Seen::new(output, Counted(&mut progress)));
     let Ok(buffer) = BufWriter::with_capacity(machine.alloc(), BUFFER, output) else {
         return tell_end(TextEnd::Memory, faults);
     };

@@ -1,21 +1,9 @@
 //! Why no registry was opened, by what failed.
 ghost use Rattle.std.specs.Prelude.{◌≡◌};
-ghost use Rattle.pid_cli_registry.specs.Openings.{reason_of_tables, reason_unconnected};
+ghost use Rattle.pid_cli_registry.specs.Openings.{reason_of_tables};
 
 use pid_cli_jobs::Unopened;
-use pid_cli_machine::Unconnected;
 use pid_service::TableFault;
-
-/// There was no connection.
-pub fn of_connection(fault: Unconnected) -> Unopened
-    ensures { result ≡ reason_unconnected fault }
-{
-    match fault {
-        Unconnected::Memory => Unopened::Memory,
-        Unconnected::Store => Unopened::Store,
-        Unconnected::Damaged => Unopened::Damaged,
-    }
-}
 
 /// The tables were refused.
 pub fn of_tables(fault: TableFault) -> Unopened

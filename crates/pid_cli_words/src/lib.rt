@@ -1,10 +1,11 @@
-//! The command line of the program.
+//! The command line of the program, and what a person at a terminal reads.
 #![tactic(auto)]
 
 mod command;
 mod commands;
 mod job;
 mod no_job;
+pub mod terminal;
 mod words;
 
 pub use job::{ImportWords, Job, LookupWords};

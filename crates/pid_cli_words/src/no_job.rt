@@ -10,23 +10,18 @@ use pid_file::{Plain, TextEnd, tell_end, tell_failed};
 use std::io;
 use std::io::Write;
 
-// Commands after which no file was meant.
-const OTHERS: [&str; 6] = ["lookup", "script", "import", "export", "serve", "migrate"];
-
 /// Prints why the arguments name no job, and returns the exit status: help and the version, if
 /// asked for, on `output`, and anything else on `faults`.
-pub fn tell_no_job<O: Write + Drop, F: Write + Drop>(
+pub fn tell_no_job<O: Write, F: Write>(
     error: &Error,
     words: &[String],
-    output: O,
-    faults: F,
+    output: &mut O,
+    faults: &mut F,
 ) -> u8
     ensures memory { kind_of error.now ≡ OutOfMemory → result ≡ 3 }
     ensures words { kind_of error.now ≢ OutOfMemory → kind_of error.now ≢ DisplayHelp
         → kind_of error.now ≢ DisplayVersion → result ≡ 2 }
 {
-    let mut output = output;
-    let mut faults = faults;
     if matches!(error.kind(), ErrorKind::OutOfMemory) {
         return tell_end(TextEnd::Memory, &mut Plain::new(faults));
     }
@@ -36,10 +31,10 @@ pub fn tell_no_job<O: Write + Drop, F: Write + Drop>(
     }
     match write!(output, "{error}") {
         Ok(()) => 0,
-        Err(fault) => tell_failed(
-            fault.kind() == io::ErrorKind::BrokenPipe,
-            &mut Plain::new(faults),
-        ),
+        Err(fault) => {
+            let is_unread = fault.kind() == io::ErrorKind::BrokenPipe;
+            tell_failed(is_unread, &mut Plain::new(faults))
+        }
     }
 }
 
@@ -49,12 +44,12 @@ fn hint(words: &[String]) -> &'static str {
         Some(word) => word.as_str(),
         None => "",
     };
-    if OTHERS.contains(&word) || matches!(word.as_bytes(), [b'-', ..]) {
-        return "";
-    }
     match word {
+        // No file was meant.
+        "lookup" | "script" | "import" | "export" | "serve" | "migrate" => "",
         "check" => "To read a file, redirect standard input: pciids check < FILE\n",
         "tidy" => "To read a file, redirect standard input: pciids tidy < FILE\n",
+        _ if word.starts_with('-') => "",
         _ => "To read a file, redirect standard input: pciids < FILE\n",
     }
 }

@@ -1,12 +1,12 @@
 -- What an output holds once the buffer before it is flushed.
-use Rattle.std.proofs.Common.{◌≡◌, ◌≢◌, ℕ, List, [], ◌∷◌, ◌++◌, Option, Some, None, IfSome, refl, sym, ap, subst, ◌∙◌}
+use Rattle.std.proofs.Common.{◌≡◌, ◌≢◌, ℕ, List, [], ◌∷◌, ◌++◌, Option, Some, None, IfSome, inr, refl, sym, ap, subst, ◌∙◌}
 use Rattle.std.specs.Io.KnownBytes.{Appends, Keeps, append_known}
 use Rattle.std.specs.declared.io.buffered.BufWriter.{BufWriter}
 use Rattle.pid_file.specs.declared.text_end.TextEnd.{TextEnd}
 use Rattle.pid_file.specs.declared.text_end.TextEnd.TheVariants.{Done, Line, TooManyEntries, TooLarge, Memory, ReadFault, WriteFault}
 use Rattle.pid_file.specs.declared.watched.Watched.{Watched}
 use Rattle.pid_file.specs.Printing.{print}
-use Rattle.pid_file.specs.Statuses.{GotTidied}
+use Rattle.pid_file.specs.Statuses.{GotTidied, IsStatusFor}
 use Rattle.pid_file.specs.TextEnds.{fault_line, status_of}
 use Rattle.pid_file.specs.Tidied.{IsTidied, Writers}
 use Rattle.pid_file.specs.Told.{TellsFault}
@@ -24,6 +24,10 @@ all_out (Some xs) (Some ys) (Some zs) bs p q = sym (nothing_more zs) ∙ q ∙ p
 pub map_some : {X : Type 0} {P Q : X → Type 0} (o : Option X) → ((x : X) → P x → Q x) → IfSome o P → IfSome o Q
 map_some None f h = tt
 map_some (Some x) f h = f x h
+
+pub all_some : {X : Type 0} {Q : X → Type 0} (o : Option X) → ((x : X) → Q x) → IfSome o Q
+all_some None f = tt
+all_some (Some x) f = f x
 
 -- what a writer got, once the buffer before it is flushed and empty
 pub through : {W A : Type 0} (contents : W → Option (List ℕ)) (out new : W) (first last : Watched W) (b0 b b1 c1 b2 : BufWriter (Watched W) A)
@@ -79,6 +83,9 @@ refused_got end text k w one kept tells sent told = record {
 }
 
 -- by any end with status 3
+pub failed_status : (text : List ℕ) (status : ℕ) → status ≡ 3 → IsStatusFor text status
+failed_status text status three = record { of_three = inr (inr three); good = λ h. absurd cc; refused = λ h. absurd cc }
+
 pub got_nothing : (text : List ℕ) (status : ℕ) (w : Writers) → status ≡ 3 → GotTidied text status w
 got_nothing text status w three = record { good = λ h. absurd cc; refused = λ h. absurd cc }
 

@@ -15,10 +15,12 @@ use Rattle.pid_file.specs.Reading.{or_else, refused_from, refusal_of, read_from}
 use Rattle.pid_file.specs.Steps.LineEnds.{refusal_at}
 use Rattle.pid_file.specs.Sinks.{Took, TookSome, FaultedAt, Ends}
 use Rattle.pid_file.specs.WholeLines.{whole_lines, ended_pieces, open_part}
+use Rattle.pid_file.specs.declared.whole_input.InputEnd.{InputEnd}
+use Rattle.pid_file.specs.declared.whole_input.InputEnd.TheVariants as inputs
 use Rattle.pid_file.specs.declared.whole_input.SkipEnd.{SkipEnd}
 use Rattle.pid_file.specs.declared.whole_input.SkipEnd.TheVariants.{ReadFault, TooLong}
-use Rattle.pid_file.specs.WholeInputs.{TookOrFaulted, CutsInput, SkipsInput}
-use Rattle.pid_file.specs.Steps.WholeInputs.{FailsPiece, as_input_end}
+use Rattle.pid_file.specs.WholeInputs.{IsWhole, TookOrFaulted, CutsInput, SkipsInput}
+use Rattle.pid_file.specs.Steps.WholeInputs.{IsNoPiece, FailsPiece, as_input_end}
 use Rattle.pid_file.proofs.Cuts.{ended_more, map_append, lines_more, lines_split}
 use Rattle.pid_file.proofs.Feeding.{read-good}
 
@@ -150,3 +152,31 @@ ends_read old mid new limit room front ReadFault read kept =
 pub cuts_by : {S F : Type 0} (takes : S → Numbered → S → Type 0) (faults : S → Numbered → F → S → Type 0) (limit : ℕ) (end : SkipEnd) (rest : Option (List ℕ)) (text : List ℕ) (start sink : S) → SkipsInput {X = Unit {0}} limit (Err end) rest text → TookOrFaulted takes faults start (lines_of text) sink → CutsInput {X = Unit {0}} takes faults limit (Err (as_input_end end)) rest text start sink
 cuts_by takes faults limit ReadFault rest text start sink skips took = (skips, took)
 cuts_by takes faults limit TooLong rest text start sink skips took = (skips, took)
+
+-- all was read
+pub record EndsWhole (old new : Option (List ℕ)) (limit : ℕ) (front : List ℕ) : Type 0 where
+  pub consumed : Consumes old new front
+  pub whole : IsWhole limit new front
+  pub short : length front ≤ limit + 1
+
+pub whole_read : (old mid new : Option (List ℕ)) (limit room : ℕ) (front : List ℕ) → HasRead old mid limit room front → IsNoPiece mid new → EndsWhole old new limit front
+whole_read old mid new limit room front read none = record {
+  consumed = subst (λ (l : List ℕ). Consumes old new l) (append-nil front) (Consumes-then old mid new front [] read.consumed none.consumed);
+  whole = record { at_end = none.at_end; short = omega (arith, read.counted) };
+  short = omega (arith, read.counted);
+}
+
+-- whether the end is a fault of the reader
+pub same_end : {Y : Type 0} (r : Result Y SkipEnd) (end : SkipEnd) → r ≡ Err end → r ≡ Err ReadFault → end ≡ ReadFault
+same_end r ReadFault is h = refl
+same_end r TooLong is h = absurd (let no : ⊥ = cc in no)
+
+pub fault_cause : {X F : Type 0} (r : Result X (InputEnd F)) (end : SkipEnd) → r ≡ Err (as_input_end end) → r ≡ Err inputs.ReadFault → end ≡ ReadFault
+fault_cause r ReadFault is h = refl
+fault_cause r TooLong is h = absurd (let no : ⊥ = cc in no)
+
+pub cause_fault : {X F : Type 0} (r : Result X (InputEnd F)) (end : SkipEnd) → r ≡ Err (as_input_end end) → end ≡ ReadFault → r ≡ Err inputs.ReadFault
+cause_fault r end is e = is ∙ ap (λ (s : SkipEnd). Err (as_input_end s)) e
+
+pub cut_no_fault : {X F : Type 0} (r : Result X (InputEnd F)) (end : CutEnd F) → r ≡ Err (inputs.Cut end) → r ≡ Err inputs.ReadFault → ⊥
+cut_no_fault r end is h = cc

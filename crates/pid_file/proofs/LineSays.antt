@@ -1,12 +1,12 @@
 -- What one more line says below open levels.
 use Rattle.std.proofs.Common.{◌≡◌, ℕ, suc, Bool, true, false, cond, not, ◌&&◌, ◌||◌, eqb, leb, List, [], ◌∷◌, ◌++◌, length, take, map, Option, Some, None, Ok, Err, refl, sym, ap, subst, ◌∙◌, arith}
 use mathlib.Core.Bool.{true≢false}
-use Rattle.std.specs.Prelude.{is_none, codes, unwrap_or}
+use Rattle.std.specs.Prelude.{is_none, codes, unwrap_or, nat_lt}
 use Rattle.std.specs.Str.{is_utf8}
 use Rattle.std.specs.Char.{to_ascii_lowercase}
 use Rattle.std.proofs.lemmas.Bool.Decides.{nat_tests}
 use Rattle.pid_file.specs.declared.fault_kind.LineKind.{LineKind}
-use Rattle.pid_file.specs.declared.fault_kind.LineKind.TheVariants.{TooDeep, NoParent}
+use Rattle.pid_file.specs.declared.fault_kind.LineKind.TheVariants.{TooDeep, NoParent, BadId}
 use Rattle.pid_file.specs.declared.path.Path.{Path}
 use Rattle.pid_file.specs.declared.path.Path.TheVariants as paths
 use Rattle.pid_file.specs.Identifiers.{hex4, hex2}
@@ -20,7 +20,7 @@ use Rattle.pid_file.specs.declared.open_levels.OpenLevels.{OpenLevels}
 use Rattle.pid_file.specs.declared.open_levels.OpenLevels.TheVariants as opens
 use Rattle.pid_file.specs.declared.open_levels.Said.TheVariants as said
 use Rattle.pid_file.specs.Marks.{is_idle, depth, body, mark, is_unknown, inside}
-use Rattle.pid_file.specs.Levels.{levels, widths}
+use Rattle.pid_file.specs.Levels.{levels, front, widths}
 use Rattle.pid_file.specs.Columns.{begins_with_ids, is_id, digits_in, name_in}
 use Rattle.pid_file.specs.LookingBack.{is_above, above, mark_at, parent_line, is_block, is_entry, widths_at, digits_at, head_path, path_at, entry_of}
 use Rattle.pid_file.specs.Faults.{line_fault_of}
@@ -300,3 +300,98 @@ entry_read open_is place earlier line bytes n text active p is path name good =
 
 pub fault_read : (place : Place) (earlier : List (List ℕ)) (line bytes : List ℕ) (k : LineKind) → is_utf8 line ≡ true → is_idle line ≡ false → IsPlace place earlier line → bytes ≡ inside line → columns_fault (widths_of place) bytes ≡ Some k → line_fault_of earlier line ≡ Some k
 fault_read place earlier line bytes k text active p is fault = place_fault place earlier line text active p ∙ ap (λ (l : List ℕ). columns_fault (widths_of place) l) (sym is) ∙ fault
+
+-- the line of a block of generic subsystems, with good digits or not, and that of an unknown block
+pub block_says : (open_is : OpenLevels) (earlier : List (List ℕ)) (line bytes : List ℕ) (v : ℕ) → is_utf8 line ≡ true → is_idle line ≡ false → depth line ≡ 0 → mark line ≡ marks.Generics → bytes ≡ inside line → is_id 4 bytes ≡ true → map to_ascii_lowercase (take 4 bytes) ≡ hex4 v → Says open_is earlier line (said.Block v)
+block_says open_is earlier line bytes v text active flat marked is id digits =
+    let no_entry : is_entry earlier line ≡ false = rw (active, flat, marked) refl in
+    let block : is_block line ≡ true = rw (active, flat, marked) refl in
+    let own : digits_in (4 ∷ []) (inside line) ≡ hex4 v = block_digits (inside line) v (ap (λ (l : List ℕ). map to_ascii_lowercase (take 4 l)) (sym is) ∙ digits) in
+    record {
+      good = block_good earlier line text no_entry block (ap (is_id 4) (sym is) ∙ id);
+      entry = rw no_entry refl;
+      block = (block, own);
+      behind = head_open earlier line (codes "PS/" ++ hex4 v) marks.Generics active flat marked (ap (λ (m : Mark). front m ++ digits_in (widths m 0) (inside line)) marked ∙ ap (λ (l : List ℕ). codes "PS/" ++ l) own);
+    }
+
+pub block_fault : (earlier : List (List ℕ)) (line bytes : List ℕ) → is_utf8 line ≡ true → is_idle line ≡ false → depth line ≡ 0 → mark line ≡ marks.Generics → bytes ≡ inside line → is_id 4 bytes ≡ false → line_fault_of earlier line ≡ Some BadId
+block_fault earlier line bytes text active flat marked is id =
+    let no_entry : is_entry earlier line ≡ false = rw (active, flat, marked) refl in
+    let block : is_block line ≡ true = rw (active, flat, marked) refl in
+    let bad : is_id 4 (inside line) ≡ false = ap (is_id 4) (sym is) ∙ id in
+    rw (text, no_entry, block, bad) refl
+
+pub unknown_says : (open_is : OpenLevels) (earlier : List (List ℕ)) (line : List ℕ) → is_utf8 line ≡ true → is_idle line ≡ false → depth line ≡ 0 → mark line ≡ marks.Unknown → Says open_is earlier line said.Unknown
+unknown_says open_is earlier line text active flat marked =
+    let no_entry : is_entry earlier line ≡ false = rw (active, flat, marked) refl in
+    let no_block : is_block line ≡ false = rw (active, flat, marked) refl in
+    record {
+      good = rw (text, no_entry, no_block) refl;
+      entry = rw no_entry refl;
+      block = no_block;
+      behind = record { head = line; is_head = rw (active, flat) refl; marked = marked };
+    }
+
+-- a line that is skipped, since it stands in an unknown block
+skips_one : (open_is : OpenLevels) → first_below open_is ≡ Ok None → open_is ≡ opens.Unknown
+skips_one opens.Unknown h = refl
+skips_one opens.Nothing h = absurd cc
+skips_one (opens.Vendor v) h = absurd cc
+skips_one (opens.Device v d) h = absurd cc
+skips_one (opens.Class c) h = absurd cc
+skips_one (opens.Subclass c s) h = absurd cc
+skips_one (opens.Generics v) h = absurd cc
+
+skips_two : (open_is : OpenLevels) → second_below open_is ≡ Ok None → open_is ≡ opens.Unknown
+skips_two opens.Unknown h = refl
+skips_two opens.Nothing h = absurd cc
+skips_two (opens.Vendor v) h = absurd cc
+skips_two (opens.Device v d) h = absurd cc
+skips_two (opens.Class c) h = absurd cc
+skips_two (opens.Subclass c s) h = absurd cc
+skips_two (opens.Generics v) h = absurd cc
+
+skips_deep : (open_is : OpenLevels) → deeper_below open_is ≡ Ok None → open_is ≡ opens.Unknown
+skips_deep opens.Unknown h = refl
+skips_deep opens.Nothing h = absurd cc
+skips_deep (opens.Vendor v) h = absurd cc
+skips_deep (opens.Device v d) h = absurd cc
+skips_deep (opens.Class c) h = absurd cc
+skips_deep (opens.Subclass c s) h = absurd cc
+skips_deep (opens.Generics v) h = absurd cc
+
+skips : (open_is : OpenLevels) (d : ℕ) → below open_is d ≡ Ok None → open_is ≡ opens.Unknown
+skips open_is d h =
+    elim (eqb d 1) as (λ b. cond b (first_below open_is) (cond (eqb d 2) (second_below open_is) (deeper_below open_is)) ≡ Ok None → open_is ≡ opens.Unknown) [
+      | true ↦ skips_one open_is
+      | false ↦ elim (eqb d 2) as (λ b. cond b (second_below open_is) (deeper_below open_is) ≡ Ok None → open_is ≡ opens.Unknown) [
+        | true ↦ skips_two open_is
+        | false ↦ skips_deep open_is
+      ]
+    ] h
+
+below_head : (line : List ℕ) → eqb (depth line) 0 ≡ false → is_above 1 line ≡ false
+below_head line h = elim (is_above 1 line) as (λ b. is_above 1 line ≡ b → b ≡ false) [
+  | true ↦ λ e. absurd (true≢false (sym (at_head (is_idle line) (depth line) e) ∙ h))
+  | false ↦ λ _. refl
+] refl
+  where
+    at_head : (idle : Bool) (d : ℕ) → (not idle && nat_lt d 1) ≡ true → eqb d 0 ≡ true
+    at_head true d e = absurd (true≢false (sym e))
+    at_head false d e = grind (arith, nat_tests)
+
+unknown_skips : (earlier : List (List ℕ)) (line : List ℕ) → is_utf8 line ≡ true → is_idle line ≡ false → eqb (depth line) 0 ≡ false → IsOpenAt opens.Unknown earlier → Says opens.Unknown earlier line said.Nothing
+unknown_skips earlier line text active nested o =
+    let no_entry : is_entry earlier line ≡ false = rw (active, nested, o.is_head, o.marked) refl in
+    let no_block : is_block line ≡ false = rw (active, nested) refl in
+    record {
+      good = rw (text, no_entry, no_block) refl;
+      entry = rw no_entry refl;
+      block = no_block;
+      behind = record { head = o.head; is_head = past 1 earlier line (below_head line nested) ∙ o.is_head; marked = o.marked };
+    }
+
+pub skipped_says : (open_is : OpenLevels) (d : ℕ) (earlier : List (List ℕ)) (line : List ℕ) → is_utf8 line ≡ true → is_idle line ≡ false → eqb d 0 ≡ false → depth line ≡ d → IsOpenAt open_is earlier → below open_is d ≡ Ok None → Says open_is earlier line said.Nothing
+skipped_says open_is d earlier line text active nested at o h =
+    let is = skips open_is d h in
+    subst (λ (q : OpenLevels). Says q earlier line said.Nothing) (sym is) (unknown_skips earlier line text active (subst (λ n. eqb n 0 ≡ false) (sym at) nested) (subst (λ (q : OpenLevels). IsOpenAt q earlier) is o))

@@ -1,6 +1,6 @@
 -- The loop that writes the items.
 use Rattle.std.proofs.Common.{◌≡◌, ℕ, true, false, List, [], ◌∷◌, ◌++◌, map, Option, Result, refl, sym, ap, subst, ◌∙◌, append_assoc}
-use Rattle.std.specs.Prelude.{if◌then◌else◌}
+use Rattle.std.specs.Prelude.{codes, if◌then◌else◌}
 use Rattle.std.proofs.lemmas.List.{append-nil}
 use Rattle.std.specs.Io.KnownBytes.{Appends}
 use Rattle.pid_file.specs.Sending.{Sends, SendsFront}
@@ -8,7 +8,7 @@ use Rattle.pid_file.specs.declared.path.Path.{Path}
 use Rattle.pid_file.specs.PathTexts.{path_text}
 use Rattle.pid_file.proofs.SendingLemmas.{Appends-nil, Appends-then, Sends-then, stopped}
 use Rattle.pid_file.specs.Items.{item_of}
-use Rattle.pid_file.specs.Printing.{block_line, ended, item_line, lines_behind, opens_block}
+use Rattle.pid_file.specs.Printing.{block_line, ended, item_line, label_of, lines_behind, opens_block}
 
 abbrev pub Items : Type 0
 Items = List (Path × List ℕ)
@@ -71,3 +71,7 @@ block_stopped a c before item block opens same now =
 -- the item's line alone
 pub item_alone : {E : Type 0} (r : Result (Unit {0}) E) (a c : Option (List ℕ)) (before : List ℕ) (item : List ℕ × List ℕ) → opens_block before item.0 ≡ false → Sends r a c (ended (item_line item ∷ [])) → Sends r a c (ended (lines_behind before (item ∷ [])))
 item_alone r a c before item closed now = subst (Sends r a c) (sym (lines_bare before item closed)) now
+
+-- the parts of an item's line
+pub item_parts : (front text : List ℕ) (item : List ℕ × List ℕ) → front ≡ label_of item.0 ++ codes "  " → text ≡ item.1 → front ++ (text ++ 10 ∷ []) ≡ item_line item ++ 10 ∷ []
+item_parts front text item is same = (λ i. is i ++ (same i ++ 10 ∷ [])) ∙ sym (append_assoc (label_of item.0 ++ codes "  ") item.1 (10 ∷ []))

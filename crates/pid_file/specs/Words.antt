@@ -3,11 +3,12 @@ use Rattle.std.specs.Prelude.{ℕ, Bool, not, ◌&&◌, ◌||◌, List, length, 
 use Rattle.std.specs.List.{list_all}
 use Rattle.std.specs.Str.{is_utf8}
 use Rattle.pid_file.specs.Bytes.{is_printed, is_empty, begins_blank}
+use Rattle.pid_file.specs.declared.name.TheConstants.{LONGEST_NAME}
 
--- a name of an item: UTF-8 of 1 to 1,000 bytes without control bytes but tabs, and with no leading
--- blank
+-- a name of an item: UTF-8 of 1 byte to `LONGEST_NAME`, which is 1,000, without control bytes but
+-- tabs, and with no leading blank
 abbrev pub is_name : List ℕ → Bool
-is_name bytes = is_utf8 bytes && not (is_empty bytes) && nat_le (length bytes) 1000 && not
+is_name bytes = is_utf8 bytes && not (is_empty bytes) && nat_le (length bytes) LONGEST_NAME && not
     (begins_blank bytes) && list_all is_printed bytes
 
 -- a note, comment or reason: UTF-8 of at most 4,000 bytes without control bytes but tabs

@@ -1,6 +1,16 @@
 //! The columns of a line: its identifiers and its name.
-ghost use Rattle.std.specs.Prelude.{◌≡◌, ◌<◌, ◌^◌, true, false, None, Some, map, take, drop};
-ghost use Rattle.std.specs.Prelude.{MatchOption, MatchResult, IfOk, IfErr, IfSome, IsTrue};
+ghost use Rattle.std.specs.Prelude.{
+  ◌≡◌,
+  ◌<◌,
+  true,
+  false,
+  None,
+  Some,
+  map,
+  take,
+  drop,
+};
+ghost use Rattle.std.specs.Prelude.{MatchOption, MatchResult, IfOk, IfErr, IsTrue};
 ghost use Rattle.std.specs.Char.{to_ascii_lowercase, digit_char};
 ghost use Rattle.pid_file.specs.Identifiers.{hex4, hex2};
 ghost use Rattle.pid_file.specs.Words.{is_name as name_test};
@@ -13,12 +23,14 @@ ghost use Rattle.pid_file.specs.Columns.{
   is_id,
   name_in,
 };
-ghost use Rattle.pid_file.specs.Steps.Columns.{are_digits};
+ghost use Rattle.pid_file.specs.Steps.Columns.{are_digits, SaysNumber, IsId};
 ghost use Rattle.pid_file.specs.Steps.EntryLines.{name_fault, columns_fault, widths_of, IsPathAt};
+ghost use Rattle.pid_file.specs.Steps.EntryLines.{bound_of, digits_of, AreIds};
 
+use crate::bytes::is_empty;
 use crate::fault_kind::LineKind;
 use crate::identifier::{Id8, Id16};
-use crate::line::{is_blank, trim_blanks};
+use crate::line::trim_blanks;
 use crate::name::is_name;
 use crate::path::Path;
 
@@ -54,69 +66,67 @@ fn hex_value(digit: u8) -> Option<u16>
     }
 }
 
-// The number of four digits, and what follows them.
-fn four_at(bytes: &[u8]) -> Option<(Id16, &[u8])>
-    ensures none { result ≡ None → are_digits 4 bytes.now ≡ false }
-    ensures some { IfSome result (λ x. are_digits 4 bytes.now ≡ true) }
-    ensures value { IfSome result (λ x. (x.0 < 2 ^ 16)
-        × (map to_ascii_lowercase (take 4 bytes.now) ≡ hex4 x.0)) }
-    ensures rest { IfSome result (λ x. x.1.now ≡ drop 4 bytes.now) }
+// The number of the two digits that the bytes begin with, and what follows them.
+fn pair_at(bytes: &[u8]) -> Option<(u16, &[u8])>
+    ensures { MatchOption result (are_digits 2 bytes.now ≡ false)
+        (λ x. SaysNumber 2 256 hex2 bytes.now x.0 x.1.now) }
 {
-    let [a, b, c, d, behind @ ..] = bytes else {
+    let [high, low, behind @ ..] = bytes else {
         return None;
     };
-    let high = hex_value(*a)? * 16 + hex_value(*b)?;
-    let low = hex_value(*c)? * 16 + hex_value(*d)?;
+    let high = hex_value(*high)?;
+    let low = hex_value(*low)?;
+    Some((high * 16 + low, behind))
+}
+
+// The number of the four digits that the bytes begin with, and what follows them.
+fn four_at(bytes: &[u8]) -> Option<(Id16, &[u8])>
+    ensures { MatchOption result (are_digits 4 bytes.now ≡ false)
+        (λ x. SaysNumber 4 65536 hex4 bytes.now x.0 x.1.now) }
+{
+    let (high, behind) = pair_at(bytes)?;
+    let (low, behind) = pair_at(behind)?;
     Some((high * 256 + low, behind))
 }
 
-// The number of four digits before a blank, and what follows that blank.
-#[tactic(auto, using(crate::proofs::LineLemmas::no_digits_no_id, crate::proofs::LineLemmas::digits_id))]
-fn id4_at(bytes: &[u8]) -> Option<(Id16, &[u8])>
-    ensures none { result ≡ None → begins_with_id 4 bytes.now ≡ false }
-    ensures some { IfSome result (λ x. begins_with_id 4 bytes.now ≡ true) }
-    ensures value { IfSome result (λ x. (x.0 < 2 ^ 16)
-        × (map to_ascii_lowercase (take 4 bytes.now) ≡ hex4 x.0)) }
-    ensures rest { IfSome result (λ x. x.1.now ≡ drop 5 bytes.now) }
+// What follows the blank that the bytes begin with.
+fn behind_blank(bytes: &[u8]) -> Option<&[u8]>
+    ensures { MatchOption result (begins_with_id 0 bytes.now ≡ false)
+        (λ rest. (begins_with_id 0 bytes.now ≡ true) × (rest.now ≡ drop 1 bytes.now)) }
 {
-    let (number, rest) = four_at(bytes)?;
-    let [blank, behind @ ..] = rest else {
-        return None;
-    };
-    if !is_blank(*blank) {
-        return None;
+    match bytes {
+        [b' ' | b'\t', behind @ ..] => Some(behind),
+        _ => None,
     }
+}
+
+// The number of four digits before a blank, and what follows that blank.
+fn id4_at(bytes: &[u8]) -> Option<(Id16, &[u8])>
+    ensures { MatchOption result (begins_with_id 4 bytes.now ≡ false)
+        (λ x. IsId 4 65536 hex4 bytes.now x.0 x.1.now) }
+{
+    let (number, behind) = four_at(bytes)?;
+    let behind = behind_blank(behind)?;
     Some((number, behind))
 }
 
 // The number of two digits before a blank, and what follows that blank.
-fn id2_at(bytes: &[u8]) -> Option<(Id8, &[u8])>
-    ensures none { result ≡ None → begins_with_id 2 bytes.now ≡ false }
-    ensures some { IfSome result (λ x. begins_with_id 2 bytes.now ≡ true) }
-    ensures value { IfSome result (λ x. (x.0 < 2 ^ 8)
-        × (map to_ascii_lowercase (take 2 bytes.now) ≡ hex2 x.0)) }
-    ensures rest { IfSome result (λ x. x.1.now ≡ drop 3 bytes.now) }
+fn id2_at(bytes: &[u8]) -> Option<(Id16, &[u8])>
+    ensures { MatchOption result (begins_with_id 2 bytes.now ≡ false)
+        (λ x. IsId 2 256 hex2 bytes.now x.0 x.1.now) }
 {
-    let [a, b, blank, behind @ ..] = bytes else {
-        return None;
-    };
-    let number = hex_value(*a)? * 16 + hex_value(*b)?;
-    if !is_blank(*blank) {
-        return None;
-    }
-    Some((number as u8, behind))
+    let (number, behind) = pair_at(bytes)?;
+    let behind = behind_blank(behind)?;
+    Some((number, behind))
 }
 
 /// The number of four digits before blanks alone.
-#[tactic(auto, using(crate::proofs::LineLemmas::no_digits_no_block, crate::proofs::LineLemmas::digits_block))]
 pub fn vendor_of_block(bytes: &[u8]) -> Option<Id16>
-    ensures none { result ≡ None → is_id 4 bytes.now ≡ false }
-    ensures some { IfSome result (λ v. is_id 4 bytes.now ≡ true) }
-    ensures value { IfSome result (λ v. (v < 2 ^ 16)
+    ensures { MatchOption result (is_id 4 bytes.now ≡ false) (λ v. (is_id 4 bytes.now ≡ true)
         × (map to_ascii_lowercase (take 4 bytes.now) ≡ hex4 v)) }
 {
     let (vendor, behind) = four_at(bytes)?;
-    if !trim_blanks(behind).is_empty() {
+    if !is_empty(trim_blanks(behind)) {
         return None;
     }
     Some(vendor)
@@ -143,54 +153,60 @@ fn name_at(bytes: &[u8]) -> Result<&str, LineKind>
     }
 }
 
-// The path with the digits that the bytes begin with, and what follows them.
-fn path_at(place: Place, bytes: &[u8]) -> Option<(Path, &[u8])>
-    ensures none { result ≡ None → begins_with_ids (widths_of place) bytes.now ≡ false }
-    ensures some { IfSome result (λ x. begins_with_ids (widths_of place) bytes.now ≡ true) }
-    ensures path { IfSome result (λ x. IsPathAt place x.0 (digits_in (widths_of place) bytes.now)) }
-    ensures rest { IfSome result (λ x. name_in (widths_of place) bytes.now ≡ trimmed x.1.now) }
+// The numbers of a place's own digits, with which the bytes begin, and what follows them. The second
+// is 0 unless there are two.
+fn ids_at(place: Place, bytes: &[u8]) -> Option<(Id16, Id16, &[u8])>
+    ensures { MatchOption result (begins_with_ids (widths_of place) bytes.now ≡ false)
+        (λ x. AreIds place bytes.now x.0 x.1 x.2.now) }
 {
     match place {
-        Place::Vendor => {
-            let (vendor, behind) = id4_at(bytes)?;
-            Some((Path::Vendor { vendor }, behind))
+        Place::Class | Place::Subclass { .. } | Place::ProgIf { .. } => {
+            let (id, behind) = id2_at(bytes)?;
+            Some((id, 0, behind))
         }
-        Place::Device { vendor } => {
-            let (device, behind) = id4_at(bytes)?;
-            Some((Path::Device { vendor, device }, behind))
-        }
-        Place::Subsystem { vendor, device } => {
+        Place::Subsystem { .. } => {
             let (subvendor, behind) = id4_at(bytes)?;
             let (subdevice, behind) = id4_at(behind)?;
-            let path = Path::Subsystem {
-                vendor,
-                device,
-                subvendor,
-                subdevice,
-            };
-            Some((path, behind))
+            Some((subvendor, subdevice, behind))
         }
-        Place::Class => {
-            let (class, behind) = id2_at(bytes)?;
-            Some((Path::Class { class }, behind))
+        Place::Vendor | Place::Device { .. } | Place::Generic { .. } => {
+            let (id, behind) = id4_at(bytes)?;
+            Some((id, 0, behind))
         }
-        Place::Subclass { class } => {
-            let (subclass, behind) = id2_at(bytes)?;
-            Some((Path::Subclass { class, subclass }, behind))
-        }
-        Place::ProgIf { class, subclass } => {
-            let (progif, behind) = id2_at(bytes)?;
-            let path = Path::ProgIf {
-                class,
-                subclass,
-                progif,
-            };
-            Some((path, behind))
-        }
-        Place::Generic { vendor } => {
-            let (device, behind) = id4_at(bytes)?;
-            Some((Path::Generic { vendor, device }, behind))
-        }
+    }
+}
+
+// The path of a place with its own numbers.
+fn path_of(place: Place, first: Id16, second: Id16) -> Path
+    requires { first < bound_of place }
+    ensures { IsPathAt place result (digits_of place first second) }
+{
+    match place {
+        Place::Vendor => Path::Vendor { vendor: first },
+        Place::Device { vendor } => Path::Device {
+            vendor,
+            device: first,
+        },
+        Place::Subsystem { vendor, device } => Path::Subsystem {
+            vendor,
+            device,
+            subvendor: first,
+            subdevice: second,
+        },
+        Place::Class => Path::Class { class: first as u8 },
+        Place::Subclass { class } => Path::Subclass {
+            class,
+            subclass: first as u8,
+        },
+        Place::ProgIf { class, subclass } => Path::ProgIf {
+            class,
+            subclass,
+            progif: first as u8,
+        },
+        Place::Generic { vendor } => Path::Generic {
+            vendor,
+            device: first,
+        },
     }
 }
 
@@ -203,9 +219,10 @@ pub fn read_columns(place: Place, bytes: &[u8]) -> Result<Named<'_>, LineKind>
     ensures good { IfOk result (λ _. columns_fault (widths_of place) bytes.now ≡ None) }
     ensures fault { IfErr result (λ kind. columns_fault (widths_of place) bytes.now ≡ Some kind) }
 {
-    let Some((path, behind)) = path_at(place, bytes) else {
+    let Some((first, second, behind)) = ids_at(place, bytes) else {
         return Err(LineKind::BadId);
     };
     let name = name_at(behind)?;
+    let path = path_of(place, first, second);
     Ok(Named { path, name })
 }

@@ -24,7 +24,7 @@ pub fn show<O: Write + Drop, F: Write + Drop>(page: &str, output: O, faults: F) 
 
 /// Reports why the arguments name no job, and returns the exit status.
 pub fn refuse<F: Write + Drop>(reason: &[&[u8]], faults: F) -> u8
-    ensures { result ≡ UNKNOWN_WORDS }
+    ensures { result ≡ 2 }
 {
     let _ = write_parts(&mut Plain::new(faults), reason);
     UNKNOWN_WORDS

@@ -24,21 +24,19 @@ ghost use Rattle.std.specs.List.{flat_map};
 ghost use Rattle.std.specs.Io.KnownBytes.{ReadConsumes, WriteAppends, Appends, Keeps};
 ghost use Rattle.pid_file.specs.Sending.{Sends};
 
-use thiserror::Error;
-
 /// A read failed.
-#[derive(Clone, Copy, Debug, PartialEq, Eq, Error)]
+#[derive(Clone, Copy)]
 pub enum ReadFault {
-    #[error("the reader failed")]
+    /// The reader failed.
     Device,
 }
 
 /// A write failed, or took no byte.
-#[derive(Clone, Copy, Debug, PartialEq, Eq, Error)]
+#[derive(Clone, Copy, Debug)]
 pub enum WriteFault {
-    #[error("the writer failed")]
+    /// The writer failed.
     Device,
-    #[error("the writer took no byte")]
+    /// The writer took no byte.
     Zero,
 }
 

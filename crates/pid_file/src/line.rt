@@ -93,10 +93,13 @@ pub fn split_mark(line: &[u8]) -> (Mark, &[u8])
     ensures mark { result.0 ≡ mark line.now }
     ensures inside { result.1.now ≡ behind_mark (mark line.now) line.now }
 {
-    match line {
-        [b'C', b' ', behind @ ..] => (Mark::Classes, behind),
-        [b'S', b' ', behind @ ..] => (Mark::Generics, behind),
-        [b'A'..=b'Z', b' ', behind @ ..] => (Mark::Unknown, behind),
+    let [letter, b' ', behind @ ..] = line else {
+        return (Mark::Devices, line);
+    };
+    match *letter {
+        b'C' => (Mark::Classes, behind),
+        b'S' => (Mark::Generics, behind),
+        b'A'..=b'Z' => (Mark::Unknown, behind),
         _ => (Mark::Devices, line),
     }
 }

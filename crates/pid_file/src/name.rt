@@ -1,17 +1,20 @@
 //! Names of items.
-ghost use Rattle.std.specs.Prelude.{◌≡◌, ◌↔◌, false, IsTrue, IfOk, IsErrOf};
+ghost use Rattle.std.specs.Prelude.{◌≡◌, IsTrue, IfOk};
 ghost use Rattle.pid_file.specs.Words.{is_name as name_test};
 
 use crate::bytes::{are_printed, begins_blank, is_empty};
-use crate::word_fault::WordFault;
 use std::alloc::{AllocError, Global};
 use std::marker::Model;
 
-/// A name of an item: text of 1 to 1,000 bytes that begins with no blank and holds no control byte
+/// The bytes that a name has at most.
+pub const LONGEST_NAME: usize = 1000;
+
+/// A name of an item: text of 1 to `LONGEST_NAME` bytes that begins with no blank and holds no control byte
 /// but tabs. Blanks at its end belong to it.
 #[derive(Drop)]
 pub struct Name {
-    text: String,
+    /// The text. Whoever writes it proves that it keeps the rule.
+    pub text: String,
 }
 
 impl Model for Name {
@@ -26,19 +29,6 @@ impl Model for Name {
 }
 
 impl Name {
-    /// The text as a name, kept byte for byte; `Bad` exactly when it breaks the rule.
-    pub fn of(alloc: Global, text: &str) -> Result<Name, WordFault>
-        ensures ok { IfOk result (λ word. word ≡ text.now) }
-        ensures bad { IsErrOf result WordFault.Bad ↔ (name_test text.now ≡ false) }
-    {
-        if !is_name(text) {
-            return Err(WordFault::Bad);
-        }
-        Ok(Name {
-            text: String::from_str(alloc, text)?,
-        })
-    }
-
     /// The text as a name, if it is known to keep the rule.
     pub fn of_checked(alloc: Global, text: &str) -> Result<Name, AllocError>
         requires { IsTrue (name_test text.now) }
@@ -55,15 +45,6 @@ impl Name {
         ensures checked { IsTrue (name_test self.now) }
     {
         self.text.as_str()
-    }
-
-    /// The same name once more.
-    pub fn copy(&self) -> Result<Name, AllocError>
-        ensures { IfOk result (λ word. word ≡ self.now) }
-    {
-        Ok(Name {
-            text: self.text.clone()?,
-        })
     }
 }
 
@@ -92,7 +73,7 @@ pub fn is_name(text: &str) -> bool
     ensures { result ≡ name_test text.now }
 {
     let bytes = text.as_bytes();
-    if is_empty(bytes) || bytes.len() > 1000 || begins_blank(bytes) {
+    if is_empty(bytes) || bytes.len() > LONGEST_NAME || begins_blank(bytes) {
         return false;
     }
     are_printed(bytes)

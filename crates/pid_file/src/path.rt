@@ -1,7 +1,6 @@
-//! Paths of items: their parents, their kinds and their order.
+//! Paths of items: their parents and their order.
 ghost use Rattle.std.specs.Prelude.{◌≡◌};
 ghost use Rattle.pid_file.specs.PathTexts.{IsPath, parent_of};
-ghost use Rattle.pid_file.specs.Steps.Paths.{kind_of};
 
 mod order;
 
@@ -52,18 +51,6 @@ pub enum Path {
     },
 }
 
-/// What an item is.
-#[derive(Clone, Copy)]
-pub enum PathKind {
-    Vendor,
-    Device,
-    Subsystem,
-    Class,
-    Subclass,
-    ProgIf,
-    Generic,
-}
-
 impl Path {
     /// The path of the item that this one belongs to: its text without the last part.
     /// A generic subsystem belongs to its vendor; a vendor and a class belong to none.
@@ -83,21 +70,6 @@ impl Path {
                 subclass,
                 ..
             } => Some(Path::Subclass { class, subclass }),
-        }
-    }
-
-    /// What the item at the path is.
-    pub fn kind(&self) -> PathKind
-        ensures { result ≡ kind_of self.now }
-    {
-        match *self {
-            Path::Vendor { .. } => PathKind::Vendor,
-            Path::Device { .. } => PathKind::Device,
-            Path::Subsystem { .. } => PathKind::Subsystem,
-            Path::Class { .. } => PathKind::Class,
-            Path::Subclass { .. } => PathKind::Subclass,
-            Path::ProgIf { .. } => PathKind::ProgIf,
-            Path::Generic { .. } => PathKind::Generic,
         }
     }
 }

@@ -1,3 +1,4 @@
 pub mod FieldTexts
+mod FirstField
 pub mod Numerals
 pub mod PlainNumbers

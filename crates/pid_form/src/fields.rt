@@ -1,5 +1,5 @@
 //! Fields by their names.
-ghost use Rattle.std.specs.Prelude.{◌≡◌, find, count_by, string_bytes};
+ghost use Rattle.std.specs.Prelude.{◌≡◌, count_by, string_bytes};
 ghost use Rattle.std.specs.Option.{option_copied};
 ghost use Rattle.std.specs.Str.{bytes_eq};
 ghost use Rattle.pid_form.specs.FormFields.{bytes_of};
@@ -15,10 +15,13 @@ ghost use Rattle.pid_form.specs.Fields.{
 fn times_by_name(fields: &[(String, String)], name: &str) -> usize
     ensures { result ≡ count_by (λ f. bytes_eq (string_bytes f.0) name.now) fields.now }
 {
-    fields
-        .iter()
-        .filter(|field| field.0.as_str() == name)
-        .count()
+    let mut count = 0;
+    for field in fields {
+        if field.0.as_str() == name {
+            count += 1;
+        }
+    }
+    count
 }
 
 /// How often a field is there.
@@ -51,20 +54,17 @@ pub fn is_one_of(fields: &[(String, String)], name: &str, other: &str) -> bool
     (names == 1 && others == 0) || (names == 0 && others == 1)
 }
 
-fn first<'a>(fields: &'a [(String, String)], name: &str) -> Option<&'a (String, String)>
-    ensures { option_copied result ≡ find (λ f. bytes_eq (string_bytes f.0) name.now) fields.now }
-{
-    fields.iter().find(|field| field.0.as_str() == name)
-}
-
 /// The value of the first field of this name.
+#[tactic(auto, using(crate::proofs::FirstField::skips, crate::proofs::FirstField::stops))]
 pub fn value<'a>(fields: &'a [(String, String)], name: &str) -> Option<&'a str>
     ensures { option_copied result ≡ value_in name.now (bytes_of fields.now) }
 {
-    match first(fields, name) {
-        Some(field) => Some(field.1.as_str()),
-        None => None,
+    for field in fields {
+        if field.0.as_str() == name {
+            return Some(field.1.as_str());
+        }
     }
+    None
 }
 
 /// The value of a field, and the empty text if it is missing.

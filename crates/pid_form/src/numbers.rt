@@ -11,7 +11,11 @@ ghost use Rattle.pid_form.specs.Numbers.{
 fn are_decimal(bytes: &[u8]) -> bool
     ensures { result ≡ list_all is_ascii_digit bytes.now }
 {
-    bytes.iter().all(|b| b.is_ascii_digit())
+    let mut all = true;
+    for byte in bytes {
+        all &= byte.is_ascii_digit();
+    }
+    all
 }
 
 fn begins_zero(bytes: &[u8]) -> bool
@@ -51,7 +55,11 @@ fn are_digits(bytes: &[u8], radix: u32) -> bool
     requires letters { radix ≤ 36 }
     ensures { result ≡ list_all (λ c. is_digit c radix) bytes.now }
 {
-    bytes.iter().all(|b| char::from(*b).is_digit(radix))
+    let mut all = true;
+    for byte in bytes {
+        all &= char::from(*byte).is_digit(radix);
+    }
+    all
 }
 
 /// The number that a text of `least` to `most` digits of a radix writes; letters may be in either

@@ -152,6 +152,10 @@ pub some_of : (n : ℕ) → ¬ (n ≡ 0) → 0 < n
 some_of zero e = absurd (e refl)
 some_of (suc n) e = omega arith
 
+pub one_less : (n : ℕ) → ¬ (n ≡ 0) → n - 1 + 1 ≡ n
+one_less zero e = absurd (e refl)
+one_less (suc n) e = omega arith
+
 -- where no read is idle, so many may be
 pub idle_turns : (n : ℕ) (a b : Turns) → SpendsTurns 0 a b → SpendsTurns n a b
 idle_turns n a b p = record { made = p.made; spent = p.spent; reads = with_idle p.made n a.reader b.reader p.reads }
@@ -209,7 +213,7 @@ told_failed still kept fault (inr e) = inr (ap Some e)
 
 -- no byte was given, and this is the fault now
 pub broke_off : (f : Option BodyFault) (a b : Turns) (u : Option (List ℕ)) (wanted : ℕ) (held : List ℕ) (fault : BodyFault) → f ≡ None → Consumes a.reader.come b.reader.come [] → SpendsTurns (idle_at (Some fault)) a b
-    → 0 < wanted → held ≡ [] → AllSince (IsMoment a.reader.come u) a.reader.moments b.reader.moments → IsCauseOf fault (record { held = held; wanted = wanted; fault = Some fault; turns = b; taken = u })
+    → 0 < wanted → held ≡ [] → AllSince (IsMoment a.reader.come u) a.reader.moments b.reader.moments → IsCauseOf fault b
     → (b.reader.fault ≡ a.reader.fault) ⊎ (fault ≡ TheReadFault)
     → HasReadBody (record { held = held; wanted = wanted; fault = f; turns = a; taken = u }) (record { held = held; wanted = wanted; fault = Some fault; turns = b; taken = u })
 broke_off f a b u wanted held fault none c spent wants none_held noted cause failed = record {

@@ -1,16 +1,19 @@
 -- What comes in up to the end of a head.
-use Rattle.std.proofs.Common.{◌≡◌, ◌≢◌, ℕ, List, [], ◌++◌, Option, Some, None, ◌≤◌, length, take, drop, sym, ap, subst, ◌∙◌, append_assoc, length-append, arith, inl}
-use Rattle.std.specs.Prelude.{IfSome, Result, Ok}
+use Rattle.std.proofs.Common.{◌≡◌, ◌≢◌, ℕ, ◌+◌, List, [], ◌++◌, Option, Some, None, ◌≤◌, length, take, drop, sym, ap, subst, ◌∙◌, append_assoc, length-append, arith, inl, inr}
+use Rattle.std.specs.Prelude.{IfSome, ◌⊎◌, Result, Ok}
 use Rattle.std.specs.Io.KnownBytes.{Consumes, IsAtEnd}
 use Rattle.std.proofs.KnownBytes.{Consumes-nil, Consumes-trans}
-use Rattle.std.proofs.lemmas.List.{append-nil, take-append-drop}
+use Rattle.std.proofs.lemmas.List.{append-nil, length-take-le, take-append-drop}
 use Rattle.std.proofs.lemmas.List.Elements.{All-nil, All-append}
 use Rattle.httparse.specs.Ascii.{line_feed}
 use Rattle.httparse.specs.Grammar.{HasNoRequest as HasNoRequestHead, MayBecomeRequest as MayBecomeHead}
 use Rattle.pid_http_stream.specs.Endings.{HasFault}
-use Rattle.pid_file.specs.declared.io.ReadFault.{ReadFault}
-use Rattle.pid_http_stream.specs.Steps.Intakes.{ComesIn, HeadStops, IsHeadJudged, IsMoment, StandsAt, StopsFor, WaitsForRequest}
+use Rattle.pid_file.specs.declared.io.ReadFault.{ReadFault as ReaderFault}
+use Rattle.pid_http_stream.specs.Steps.Bodies.{Turns, SpendsTurns, IsCauseOf, idle_at}
+use Rattle.pid_http_stream.specs.Steps.Intakes.{ComesIn, FillStops, HeadStops, IsHeadJudged, IsMoment, StandsAt, StaysBut, StopsFor, WaitsForRequest, filled_by, idle_filled}
 use Rattle.httparse.specs.declared.spans.HeaderSpan.{HeaderSpan}
+use Rattle.pid_http_stream.specs.declared.body_input.BodyFault.{BodyFault}
+use Rattle.pid_http_stream.specs.declared.body_input.BodyFault.TheVariants.{Short, ReadFault, TurnsSpent}
 use Rattle.pid_http_stream.specs.declared.judging.FoundHead.{FoundHead}
 use Rattle.pid_http_stream.specs.declared.intake.Filled.TheVariants as filled
 use Rattle.pid_http_stream.specs.declared.intake.HeadRead.{HeadRead}
@@ -85,15 +88,42 @@ still_fits held after came n x y e c len = let l = ap length (e ∙ c.kept) ∙ 
 pub stopped_is_none : {P : Type 0} (stop : Stop) → filled.Stopped stop ≡ filled.Piece → P
 stopped_is_none stop e = cc
 
-pub end_is_none : {P : Type 0} → filled.End ≡ filled.Piece → P
-end_is_none e = cc
+pub no_piece : {P : Type 0} (fault : BodyFault) → filled_by fault ≡ filled.Piece → P
+no_piece Short e = cc
+no_piece ReadFault e = cc
+no_piece TurnsSpent e = cc
+
+-- what a fault of one read leaves
+pub filled_stays : (fault : BodyFault) (held after : List ℕ) (t : Turns) → IsCauseOf fault t → after ≡ held → StaysBut held after t.reader.come (filled_by fault)
+filled_stays Short held after t cause e = (e, cause)
+filled_stays ReadFault held after t cause e = e
+filled_stays TurnsSpent held after t cause e = e
+
+pub filled_turns : (fault : BodyFault) (a b : Turns) → SpendsTurns (idle_at (Some fault)) a b → SpendsTurns (idle_filled (filled_by fault)) a b
+filled_turns Short a b p = p
+filled_turns ReadFault a b p = p
+filled_turns TurnsSpent a b p = p
+
+pub filled_stops : (fault : BodyFault) (before : Option ReaderFault) (t : Turns) → IsCauseOf fault t → (t.reader.fault ≡ before) ⊎ (fault ≡ ReadFault) → FillStops (filled_by fault) before t.reader.fault t.left
+filled_stops Short before t cause (inl e) = e
+filled_stops Short before t cause (inr e) = cc
+filled_stops ReadFault before t cause same = cause
+filled_stops TurnsSpent before t cause (inl e) = (cause, e)
+filled_stops TurnsSpent before t cause (inr e) = cc
+
+-- a piece is no longer than the buffer
+pub piece_fits : (held room after buffer : List ℕ) (n most : ℕ) → room ≡ held → after ≡ room ++ take n buffer → n ≤ length buffer → length buffer ≡ most → length after ≤ length held + most
+piece_fits held room after buffer n most same kept fits sized =
+    let whole = ap length kept ∙ length-append room (take n buffer) in
+    let piece = length-take-le n buffer fits in
+    let before = ap length same in omega (arith, whole, piece, before, fits, sized)
 
 -- the reader had not failed before
-pub stops_since : (stop : Stop) (first before now : Option ReadFault) (left : ℕ) → before ≡ first → StopsFor stop before now left → StopsFor stop first now left
-stops_since stop first before now left e x = subst (λ (f : Option ReadFault). StopsFor stop f now left) e x
+pub stops_since : (stop : Stop) (first before now : Option ReaderFault) (left : ℕ) → before ≡ first → StopsFor stop before now left → StopsFor stop first now left
+stops_since stop first before now left e x = subst (λ (f : Option ReaderFault). StopsFor stop f now left) e x
 
-pub stops_never : (head : HeadRead) (first before now : Option ReadFault) (left : ℕ) → ((fault : Option ReadFault) (n : ℕ) → HeadStops head fault fault n) → now ≡ before → before ≡ first → HeadStops head first now left
-stops_never head first before now left f d e = subst (λ (f : Option ReadFault). HeadStops head f now left) (d ∙ e) (f now left)
+pub stops_never : (head : HeadRead) (first before now : Option ReaderFault) (left : ℕ) → ((fault : Option ReaderFault) (n : ℕ) → HeadStops head fault fault n) → now ≡ before → before ≡ first → HeadStops head first now left
+stops_never head first before now left f d e = subst (λ (f : Option ReaderFault). HeadStops head f now left) (d ∙ e) (f now left)
 
 -- the reader was read once more, while what had come was a request that was not whole
 pub waits_on : (held now : List ℕ) (x y taken : Option (List ℕ)) (a b c : Option (List Moment)) → ComesIn held now x y → IsUnfinished now

@@ -14,3 +14,4 @@ pub mod Looping
 pub mod Noting
 pub mod Uniqueness
 pub mod OneRead
+pub mod Counting

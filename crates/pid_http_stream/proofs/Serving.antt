@@ -4,13 +4,13 @@ use Rattle.std.specs.Prelude.{IfSome, Ok, Err}
 use Rattle.std.specs.Io.KnownBytes.{Appends, Consumes, IsAtEnd}
 use Rattle.std.proofs.lemmas.List.{append-nil}
 use Rattle.std.proofs.KnownBytes.{Appends-nil, Appends-trans, Consumes-trans}
-use Rattle.pid_http_stream.specs.Conducts.{Conduct, StandsOver, AreReplies}
+use Rattle.pid_http_stream.specs.Conducts.{Conduct, AreReplies}
 use Rattle.pid_http_stream.specs.Endings.{HasFault}
 use Rattle.pid_http_stream.specs.Steps.Intakes.{ComesIn}
 use Rattle.pid_http_stream.specs.Leftovers.{IsLeftover}
 use Rattle.pid_http_stream.specs.Replies.{Answer, reply_bytes}
 use Rattle.pid_http_stream.specs.Requests.{Request, IsRequest}
-use Rattle.pid_http_stream.specs.Serving.{saturated, Outside, WritesFront, RestsBehind, AnswersAll, AnswersFront, AnswersThen, ReadsThen, RefusalNext, IsCutInReply, IsCutNext, RunsOut, WaitsOver, IsServed}
+use Rattle.pid_http_stream.specs.Serving.{saturated, Outside, RestsBehind, AnswersAll, AnswersFront, AnswersThen, ReadsThen, RefusalNext, IsCutInReply, IsCutNext, RunsOut, WaitsOver, IsServed}
 use Rattle.pid_http_stream.specs.Steps.Loop.{count_with, IsReplied, WritesRefusal, EndsWithin, Steps, stop_end}
 use Rattle.pid_http_stream.specs.Streams.{closes, Ending, clean, closed, faulty, EndsStream, Fronts, Splits}
 use Rattle.pid_http_stream.specs.Unfinished.{IsUnfinished}

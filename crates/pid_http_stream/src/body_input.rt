@@ -1,6 +1,7 @@
 //! The body of a request as a reader of its own.
-ghost use Rattle.std.specs.Prelude.{◌≡◌, ◌≤◌, length};
+ghost use Rattle.std.specs.Prelude.{◌≡◌, ◌≤◌, ◌++◌, length, min, take};
 
+use crate::turn::read_turn;
 use pid_ident::{Incoming, Input, Output, ReadFault};
 
 /// Why a body was not read to its end.
@@ -33,6 +34,17 @@ pub(crate) struct BodyInput<'h, 'i, 'o, I: Incoming<W>, W: Output> {
     /// The fault that is kept.
     pub(crate) fault: Option<BodyFault>,
     ghost fits: { length held.now ≤ wanted },
+}
+
+// Gives the first of the bytes held: how many, and those after them.
+fn give_front<'h>(held: &'h [u8], buffer: &mut [u8]) -> (usize, &'h [u8])
+    ensures count { result.0 ≡ min (length buffer.new) (length held.now) }
+    ensures given { held.now ≡ take result.0 buffer.new ++ result.1.now }
+{
+    let count = buffer.len().min(held.len());
+    let (front, behind) = held.split_at(count);
+    buffer[..count].copy_from_slice(front);
+    (count, behind)
 }
 
 impl<I: Incoming<W>, W: Output> Input for BodyInput<'_, '_, '_, I, W> {
@@ -84,30 +96,19 @@ impl<I: Incoming<W>, W: Output> Input for BodyInput<'_, '_, '_, I, W> {
             return Ok(0);
         }
         if !self.held.is_empty() {
-            let count = room.min(self.held.len());
-            let (front, behind) = self.held.split_at(count);
-            buffer[..count].copy_from_slice(front);
+            let (count, behind) = give_front(self.held, &mut buffer[..room]);
             self.held = behind;
             self.wanted -= count;
             return Ok(count);
         }
-        if self.left == 0 {
-            self.fault = Some(BodyFault::TurnsSpent);
-            return Err(ReadFault::Device);
-        }
-        self.left -= 1;
-        match self.input.read_behind(self.output, &mut buffer[..room]) {
-            Err(_) => {
-                self.fault = Some(BodyFault::ReadFault);
-                Err(ReadFault::Device)
-            }
+        match read_turn(self.input, self.output, &mut self.left, &mut buffer[..room]) {
             Ok(count) => {
-                if count == 0 {
-                    self.fault = Some(BodyFault::Short);
-                    return Err(ReadFault::Device);
-                }
                 self.wanted -= count;
                 Ok(count)
+            }
+            Err(fault) => {
+                self.fault = Some(fault);
+                Err(ReadFault::Device)
             }
         }
     }

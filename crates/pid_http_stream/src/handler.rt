@@ -12,7 +12,6 @@ ghost use Rattle.pid_http_stream.specs.Requests.{Request};
 use crate::head::Head;
 use crate::reply_head::ReplyHead;
 use pid_ident::{Input, Output};
-use thiserror::Error;
 
 /// What a head asks for, as a handler understands it, by how it wants the body after the head.
 #[derive(Drop)]
@@ -40,16 +39,15 @@ pub struct Reply {
 }
 
 /// No reply was made: memory was refused, or the body of the request did not come whole.
-#[derive(Clone, Copy, Debug, Error)]
-#[error("no reply was made")]
+#[derive(Clone, Copy)]
 pub struct NoReply;
 
 /// Why a handler did not write a body whole.
-#[derive(Clone, Copy, Debug, Error)]
+#[derive(Clone, Copy)]
 pub enum BodyStop {
-    #[error("the writer failed")]
+    /// The writer failed.
     Writer,
-    #[error("the body could not be gone on with")]
+    /// The body could not be gone on with.
     Store,
 }
 

@@ -28,15 +28,18 @@ ghost use Rattle.pid_http_stream.specs.Steps.Intakes.{
   IsMoment,
   WaitsForRequest,
   StaysBut,
+  filled_by as filled_so,
   idle_filled,
   idle_head,
 };
 ghost use Rattle.pid_http_stream.specs.Moments.{AllSince};
 ghost use Rattle.pid_http_stream.specs.Unfinished.{IsHeadUnfinished, IsUnfinished};
 
+use crate::body_input::BodyFault;
 use crate::judging::{FoundHead, are_line_ends, judge, judge_unended};
 use crate::limits::{LONGEST_HEAD, MOST_FIELDS, READ_SIZE};
 use crate::refusal::StreamFault;
+use crate::turn::read_turn;
 use httparse::spans::HeaderSpan;
 use pid_ident::{Incoming, Output};
 
@@ -78,6 +81,17 @@ fn keep(held: &mut Vec<u8>, piece: &[u8]) -> Filled
     }
 }
 
+// What a fault of a read is.
+fn filled_by(fault: BodyFault) -> Filled
+    ensures { result ≡ filled_so fault }
+{
+    match fault {
+        BodyFault::Short => Filled::End,
+        BodyFault::ReadFault => Filled::Stopped(Stop::ReadFault),
+        BodyFault::TurnsSpent => Filled::Stopped(Stop::TurnsSpent),
+    }
+}
+
 // Reads once, and keeps what came. Room is made first, so that nothing is read that can't be kept;
 // and nothing is read while a whole request is held, or what is refused.
 fn fill<I: Incoming<W>, W: Output>(
@@ -101,18 +115,13 @@ fn fill<I: Incoming<W>, W: Output>(
         turns_left.new }
     ensures goes { I.goes input.old input.new }
 {
-    if *turns_left == 0 {
-        return Filled::Stopped(Stop::TurnsSpent);
-    }
     if held.reserve(READ_SIZE).is_err() {
         return Filled::Stopped(Stop::Memory);
     }
-    *turns_left -= 1;
     let mut buffer = [0u8; READ_SIZE];
-    match input.read_behind(output, &mut buffer) {
-        Err(_) => Filled::Stopped(Stop::ReadFault),
-        Ok(0) => Filled::End,
+    match read_turn(input, output, turns_left, &mut buffer) {
         Ok(count) => keep(held, &buffer[..count]),
+        Err(fault) => filled_by(fault),
     }
 }
 

@@ -27,6 +27,7 @@ mod reply;
 mod reply_head;
 mod sending;
 mod stream;
+mod turn;
 
 pub use fields::{count_named, first_named};
 pub use handler::{BodyStop, Handler, NoReply, Reply, ReplyBody, Wanted};

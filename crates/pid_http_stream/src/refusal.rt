@@ -2,20 +2,18 @@
 ghost use Rattle.std.specs.Prelude.{◌≡◌, IsTrue};
 
 use http::StatusCode;
-use thiserror::Error;
 
 /// Why a stream is refused. Its reply has the number and the word of the fault.
-#[derive(Clone, Copy, Debug, PartialEq, Eq, Error)]
+#[derive(Clone, Copy, PartialEq, Eq)]
 pub enum StreamFault {
     /// The bytes begin with no head, or with one that has too many fields or is too long, or whose
     /// Content-Length is no length.
-    #[error("no head of a request, or one that is too long or says no length")]
     BadHead,
-    #[error("the body is longer than a body may be")]
+    /// The body is longer than a body may be.
     BodyTooLong,
-    #[error("the body is sent in a transfer encoding")]
+    /// The body is sent in a transfer encoding.
     Encoding,
-    #[error("the stream ends within the body")]
+    /// The stream ends within the body.
     BodyShort,
 }
 

@@ -1,3 +1,2 @@
-pub mod Parsing
 pub mod PathReadingLemmas
-mod Digits
+mod Shapes

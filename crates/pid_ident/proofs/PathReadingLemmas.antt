@@ -18,7 +18,7 @@ hex_value-digit_char x h = chosen (nat_lt x 10) refl
     chosen true e = grind (arith, nat_tests)
     chosen false e = grind (arith, nat_tests)
 
-hex_value-below : (b : ℕ) → hex_value b < 16
+pub hex_value-below : (b : ℕ) → hex_value b < 16
 hex_value-below b = omega arith
 
 pair_value : (n : ℕ) → n < 2 ^ 8 → 16 * hex_value (digit_char (n / 16 % 16)) + hex_value (digit_char (n % 16)) ≡ n
@@ -42,10 +42,10 @@ candidate_of (Generic v d) h = rw (quad_value v h.0, quad_value d h.1) refl
 pub path_of_text : (text : List ℕ) (p : Path) → IsTextOf text p → path_of text ≡ Some p
 path_of_text text p h = subst (λ (t : List ℕ). path_of t ≡ Some p) (sym h.same) (ap (if_its_text (path_text p)) (candidate_of p h.in_range) ∙ ap (λ b. cond b (Some p) None) (same_text (path_text p)))
 
-two-below : (i : ℕ) (t : List ℕ) → two_at i t < 2 ^ 8
+pub two-below : (i : ℕ) (t : List ℕ) → two_at i t < 2 ^ 8
 two-below i t = omega arith
 
-four-below : (i : ℕ) (t : List ℕ) → four_at i t < 2 ^ 16
+pub four-below : (i : ℕ) (t : List ℕ) → four_at i t < 2 ^ 16
 four-below i t = omega arith
 
 abbrev IfPath : Option Path → Type 0
@@ -87,6 +87,14 @@ read_path text None found none = nothing (path_of text) refl
     nothing : (o : Option Path) → path_of text ≡ o → None ≡ o
     nothing None e = refl
     nothing (Some p) e = absurd (none p (text_of_path text p e))
+
+pub found_is : (text : List ℕ) (o : Option Path) → o ≡ path_of text → IfSome o (λ p. IsTextOf text p)
+found_is text None e = tt
+found_is text (Some p) e = text_of_path text p (sym e)
+
+pub none_is : (text : List ℕ) (o : Option Path) → o ≡ path_of text → IfNone o ((p : Path) → IsTextOf text p → ⊥)
+none_is text (Some p) e = tt
+none_is text None e = λ p h. absurd (let no : None ≡ Some p = e ∙ path_of_text text p h in cc)
 
 pub text_of_parent : (path : Path) → parent_text (path_text path) ≡ option_map path_text (parent_of path)
 text_of_parent (Vendor v) = refl

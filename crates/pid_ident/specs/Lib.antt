@@ -7,7 +7,6 @@ pub use Rattle.pid_file.specs.Words
 pub use Rattle.pid_file.specs.Trees
 pub use Rattle.pid_file.specs.LineKinds
 pub use Rattle.pid_file.specs.Sending
-pub mod Doubles
 pub mod Moments
 pub mod Reads
 pub mod Steps

@@ -3,7 +3,8 @@ ghost use Rattle.std.specs.Prelude.{◌≡◌, ◌↔◌, false, IsTrue, IfOk, I
 ghost use Rattle.std.specs.List.{list_all};
 ghost use Rattle.pid_file.specs.Words.{is_account as account_test, is_account_byte as account_byte};
 
-use pid_file::{WordFault, is_empty};
+use crate::word_fault::WordFault;
+use pid_file::is_empty;
 use std::alloc::{AllocError, Global};
 use std::marker::Model;
 
@@ -91,7 +92,11 @@ pub fn is_account(text: &str) -> bool
 fn are_account_bytes(bytes: &[u8]) -> bool
     ensures { result ≡ list_all account_byte bytes.now }
 {
-    bytes.iter().all(|b| is_account_byte(*b))
+    let mut all = true;
+    for byte in bytes {
+        all &= is_account_byte(*byte);
+    }
+    all
 }
 
 fn is_account_byte(byte: u8) -> bool

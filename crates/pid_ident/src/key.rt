@@ -3,7 +3,8 @@ ghost use Rattle.std.specs.Prelude.{◌≡◌, ◌↔◌, false, IsTrue, IfOk, I
 ghost use Rattle.std.specs.List.{list_all};
 ghost use Rattle.pid_file.specs.Words.{is_key as key_test, is_key_byte as key_byte};
 
-use pid_file::{WordFault, is_empty};
+use crate::word_fault::WordFault;
+use pid_file::is_empty;
 use std::alloc::{AllocError, Global};
 use std::marker::Model;
 
@@ -91,5 +92,9 @@ pub fn is_key(text: &str) -> bool
 fn are_key_bytes(bytes: &[u8]) -> bool
     ensures { result ≡ list_all key_byte bytes.now }
 {
-    bytes.iter().all(|b| *b >= b'!' && *b <= b'~')
+    let mut all = true;
+    for byte in bytes {
+        all &= *byte >= b'!' && *byte <= b'~';
+    }
+    all
 }

@@ -2,7 +2,8 @@
 ghost use Rattle.std.specs.Prelude.{◌≡◌, ◌↔◌, false, IsTrue, IfOk, IsErrOf};
 ghost use Rattle.pid_file.specs.Words.{is_text as text_test};
 
-use pid_file::{WordFault, are_printed};
+use crate::word_fault::WordFault;
+use pid_file::are_printed;
 use std::alloc::{AllocError, Global};
 use std::marker::Model;
 

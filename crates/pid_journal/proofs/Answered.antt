@@ -14,9 +14,9 @@ use Rattle.pid_moderation.specs.Views.{views_of}
 use Rattle.pid_script.specs.Asking.{command_in_form}
 use Rattle.pid_script.specs.Replies.{command_of, history_after, line_reply, outcome_of, replies, those_sent}
 use Rattle.pid_script.specs.ScriptLines.{Ask, AsksNothing, AsksCommand, AsksExport, AsksName, AsksLookup, Unclear, TooLong, ask_of}
-use Rattle.pid_journal.specs.Comments.{counts_held}
-use Rattle.pid_journal.specs.Journals.{IsEntry, IsNote, JournalLeads, after_line}
+use Rattle.pid_journal.specs.Journals.{counts_held, IsEntry, IsNote, JournalLeads}
 use Rattle.pid_journal.specs.Laws.{EntriesAreAnswered}
+use Rattle.pid_journal.specs.Steps.Notes.{after_line}
 use Rattle.pid_journal.proofs.Appending.{after_first, whole_both}
 use Rattle.pid_journal.proofs.Reading.{short_idle}
 
@@ -67,10 +67,10 @@ empty_asks : ask_of [] ≡ AsksNothing
 empty_asks = short_idle [] (is_utf8-from_IsUtf8 [] IsUtf8-nil) refl (omega arith)
 
 pub answered : EntriesAreAnswered
-answered start h text leads = (
-  (λ entry c is. more_answered start h text entry leads is.note.whole ∙ ap (λ (l : List ℕ). replies start (lines_of text) ++ l) (entry_answered h entry c is)),
-  λ mark is.
-      more_answered start h text mark leads is.whole
-      ∙ ap (λ (l : List ℕ). replies start (lines_of text) ++ l) (noted_answered h mark [] is ∙ ap (λ (a : Ask). line_reply a h) empty_asks)
+answered start h text more leads = (
+  (λ c is. more_answered start h text more leads is.note.whole ∙ ap (λ (l : List ℕ). replies start (lines_of text) ++ l) (entry_answered h more c is)),
+  λ is.
+      more_answered start h text more leads is.whole
+      ∙ ap (λ (l : List ℕ). replies start (lines_of text) ++ l) (noted_answered h more [] is ∙ ap (λ (a : Ask). line_reply a h) empty_asks)
       ∙ append-nil (replies start (lines_of text)),
 )

@@ -9,9 +9,8 @@ use Rattle.pid_moderation.specs.Judgement.{after, after_all}
 use Rattle.pid_script.specs.Replies.{command_of, commands_of_lines, history_after}
 use Rattle.pid_script.specs.ScriptLines.{ask_of, is_idle_line}
 use Rattle.pid_journal.specs.declared.counts.Counts.{Counts}
-use Rattle.pid_journal.specs.Comments.{counts_held, counts_said}
-use Rattle.pid_journal.specs.Doubts.{EntryLeads}
-use Rattle.pid_journal.specs.Journals.{AreTrue, IsEntry, IsMark, IsNote, JournalLeads, after_line, noted_after}
+use Rattle.pid_journal.specs.Journals.{counts_held, counts_said, AreTrue, IsEntry, IsNote, JournalLeads}
+use Rattle.pid_journal.specs.Steps.Notes.{EntryLeads, IsMark, after_line, noted_after}
 use Rattle.pid_journal.proofs.Reading.{idle_says_none, said_is_idle}
 
 pub after_both : (h : History) (xs ys : List Asked) → after_all h (xs ++ ys) ≡ after_all (after_all h xs) ys

@@ -1,6 +1,7 @@
 -- The counts that a journal says are compared with those of a registry.
-use Rattle.std.proofs.Common.{◌≡◌, ◌⊎◌, inl, inr, ℕ, ◌<◌, ◌≤◌, Bool, true, false, cond, List, [], ◌∷◌, ◌++◌, Option, Some, None, Ok, Err, refl, sym, ap, subst, ◌∙◌, arith, append_assoc}
-use Rattle.std.specs.Prelude.{nat_lt, IfSome}
+use Rattle.std.proofs.Common.{◌≡◌, ◌⊎◌, inl, inr, ℕ, ◌<◌, ◌≤◌, Bool, true, false, cond, List, [], ◌∷◌, ◌++◌, Option, Some, None, Result, Ok, Err, refl, sym, ap, subst, ◌∙◌, arith, append_assoc}
+use Rattle.std.specs.Prelude.{nat_le, IfSome, MatchResult, option_map, unwrap_or}
+use Rattle.std.specs.Option.{option_or}
 use Rattle.std.proofs.lemmas.Bool.Decides.{nat_tests}
 use Rattle.pid_file.specs.WholeLines.{ended_pieces, whole_lines}
 use Rattle.pid_moderation.specs.History.{History}
@@ -12,41 +13,50 @@ use Rattle.pid_journal.specs.declared.folder.JournalFolder as folders
 use Rattle.pid_journal.specs.declared.open_fault.OpenFault.{OpenFault}
 use Rattle.pid_journal.specs.declared.open_fault.OpenFault.TheVariants.{Refused, Another, Newer, Missing}
 use Rattle.pid_journal.specs.declared.placing.Place.{Place}
-use Rattle.pid_journal.specs.Comments.{counts_held, counts_said}
-use Rattle.pid_journal.specs.Openings.{HasBegun, IsRefused, compared, compared_on}
-use Rattle.pid_journal.specs.Steps.Comparing.{FaultsAt, Fits, FitsGap, IsFaultAt, IsOlderAt, OfLast, OfSegment, RefusesOther, SkipsLate}
-use Rattle.pid_journal.specs.Steps.Segments.{IsSameFolder, TellsRevision}
+use Rattle.pid_journal.specs.Journals.{counts_held, counts_said}
+use Rattle.pid_journal.specs.Openings.{IsRefused, compared}
+use Rattle.pid_journal.specs.Steps.Comparing.{Compares, FaultsAt, Fits, FitsGap, IsFaultAt, IsOlderAt, OfLast, OfSegment, RefusesOther, SkipsLate}
+use Rattle.pid_journal.specs.Steps.Segments.{HasBegun, IsSameFolder, TellsRevision}
 use Rattle.pid_journal.proofs.Places.{none_left, revision_counted}
 use Rattle.pid_journal.proofs.Reading.{said_is_idle}
 
 -- ONE LINE
 
-is_older : (a b : ℕ) → a < b → nat_lt a b ≡ true
-is_older a b lt = grind (arith, nat_tests)
+abbrev is_no_older : Counts → Option Counts → Bool
+is_no_older now told = unwrap_or (option_map (λ (k : Counts). nat_le now.revision k.revision) told) false
 
-no_older : (a b : ℕ) → b ≤ a → nat_lt a b ≡ false
-no_older a b le = grind (arith, nat_tests)
+not_so : (a b : ℕ) → a < b → nat_le b a ≡ false
+not_so a b lt = grind (arith, nat_tests)
 
-pub told_older : (now k : Counts) (told : Option Counts) (line : List ℕ) (lines : List (List ℕ)) → counts_said line ≡ Some k → k.revision < now.revision → compared now told (line ∷ lines) ≡ compared now (Some k) lines
-told_older now k told line lines says older =
-    (λ i. compared_on now (λ next. compared now next lines) (says i) (cond (is_idle_line line) told None)) ∙ (λ i. cond (is_older k.revision now.revision older i) (compared now (Some k) lines) (Some k))
+is_so : (a b : ℕ) → b ≤ a → nat_le b a ≡ true
+is_so a b le = grind (arith, nat_tests)
 
-pub told_here : (now k : Counts) (told : Option Counts) (line : List ℕ) (lines : List (List ℕ)) → counts_said line ≡ Some k → now.revision ≤ k.revision → compared now told (line ∷ lines) ≡ Some k
-told_here now k told line lines says newer =
-    (λ i. compared_on now (λ next. compared now next lines) (says i) (cond (is_idle_line line) told None)) ∙ (λ i. cond (no_older k.revision now.revision newer i) (compared now (Some k) lines) (Some k))
+still_older : (now : Counts) (told : Option Counts) (place : Place) → IsOlderAt told now place → is_no_older now told ≡ false
+still_older now None place is = refl
+still_older now (Some k) place is = not_so k.revision now.revision is.1
 
-pub told_still : (now : Counts) (told : Option Counts) (line : List ℕ) (lines : List (List ℕ)) → counts_said line ≡ None → is_idle_line line ≡ true → compared now told (line ∷ lines) ≡ compared now told lines
-told_still now told line lines none idle = λ i. compared_on now (λ next. compared now next lines) (none i) (cond (idle i) told None)
+-- the next line is compared on, where the counts so far are older
+goes_on : (now : Counts) (told next : Option Counts) (place : Place) (line : List ℕ) (lines : List (List ℕ)) → IsOlderAt told now place → cond (is_idle_line line) (option_or (counts_said line) told) None ≡ next → compared now told (line ∷ lines) ≡ compared now next lines
+goes_on now told next place line lines older is = λ i. cond (still_older now told place older i) told (compared now (is i) lines)
 
-no_counts : (o : Option Counts) → ((k : Counts) → o ≡ Some k → ⊥) → o ≡ None
-no_counts None never = refl
-no_counts (Some k) never = absurd (never k refl)
+ends_at : (now k : Counts) (lines : List (List ℕ)) → now.revision ≤ k.revision → compared now (Some k) lines ≡ Some k
+ends_at now k [] newer = refl
+ends_at now k (line ∷ lines) newer = λ i. cond (is_so k.revision now.revision newer i) (Some k) (compared now (cond (is_idle_line line) (option_or (counts_said line) (Some k)) None) lines)
 
-not_idle_says : (line : List ℕ) → is_idle_line line ≡ false → counts_said line ≡ None
-not_idle_says line off = no_counts (counts_said line) (λ k says. let on : is_idle_line line ≡ true = said_is_idle line k says in let no : ⊥ = cc in no)
+says_next : (k : Counts) (told : Option Counts) (line : List ℕ) → counts_said line ≡ Some k → cond (is_idle_line line) (option_or (counts_said line) told) None ≡ Some k
+says_next k told line says = λ i. cond (said_is_idle line k says i) (option_or (says i) told) None
 
-pub told_no_more : (now : Counts) (told : Option Counts) (line : List ℕ) (lines : List (List ℕ)) → is_idle_line line ≡ false → compared now told (line ∷ lines) ≡ compared now None lines
-told_no_more now told line lines off = λ i. compared_on now (λ next. compared now next lines) (not_idle_says line off i) (cond (off i) told None)
+pub told_older : (now k : Counts) (told : Option Counts) (place : Place) (line : List ℕ) (lines : List (List ℕ)) → IsOlderAt told now place → counts_said line ≡ Some k → compared now told (line ∷ lines) ≡ compared now (Some k) lines
+told_older now k told place line lines older says = goes_on now told (Some k) place line lines older (says_next k told line says)
+
+pub told_here : (now k : Counts) (told : Option Counts) (place : Place) (line : List ℕ) (lines : List (List ℕ)) → IsOlderAt told now place → counts_said line ≡ Some k → now.revision ≤ k.revision → compared now told (line ∷ lines) ≡ Some k
+told_here now k told place line lines older says newer = told_older now k told place line lines older says ∙ ends_at now k lines newer
+
+pub told_still : (now : Counts) (told : Option Counts) (place : Place) (line : List ℕ) (lines : List (List ℕ)) → IsOlderAt told now place → counts_said line ≡ None → is_idle_line line ≡ true → compared now told (line ∷ lines) ≡ compared now told lines
+told_still now told place line lines older none idle = goes_on now told told place line lines older (λ i. cond (idle i) (option_or (none i) told) None)
+
+pub told_no_more : (now : Counts) (told : Option Counts) (place : Place) (line : List ℕ) (lines : List (List ℕ)) → IsOlderAt told now place → is_idle_line line ≡ false → compared now told (line ∷ lines) ≡ compared now None lines
+told_no_more now told place line lines older off = goes_on now told None place line lines older (λ i. cond (off i) (option_or (counts_said line) told) None)
 
 -- ALL LINES
 
@@ -101,6 +111,11 @@ newer_told (Some k) now place is = is.1
 
 pub compares_newer : (text rest : List ℕ) (now : Counts) (place : Place) → IsComparing text rest now place → ended_pieces rest ≡ [] → FaultsAt Newer now (whole_lines text)
 compares_newer text rest now place at none = if_counts (compared now None (whole_lines text)) at.told (λ k. k.revision < now.revision) (compares_last text rest now place at none) (newer_told at.told now place at.is)
+
+pub compares_all : {X : Type 0} (result : Result X OpenFault) (text rest : List ℕ) (now : Counts) (place : Place) → IsComparing text rest now place → ended_pieces rest ≡ [] → MatchResult result (λ x. now.revision ≤ place.most) (λ fault. (fault ≡ Newer) × (place.most < now.revision))
+    → Compares now (whole_lines text) result
+compares_all (Ok x) text rest now place at none says = compares_end text rest now place at none says
+compares_all (Err fault) text rest now place at none says = subst (λ (e : OpenFault). FaultsAt e now (whole_lines text)) (sym says.0) (compares_newer text rest now place at none)
 
 -- SEGMENTS
 

@@ -23,8 +23,8 @@ use Rattle.pid_service_laws.specs.Registries.{CommandLeaves}
 use Rattle.pid_service_laws.specs.declared.moderated.Moderated.{Ghosts}
 use Rattle.pid_journal.specs.declared.file.JournalFile as files
 use Rattle.pid_journal.specs.declared.journaled.Journaled.{Journaled}
-use Rattle.pid_journal.specs.Pairs.{PairShows, pair_is_live, pair_showing, pair_showing_from}
-use Rattle.pid_journal.specs.Steps.Parts.{RefusesNothing}
+use Rattle.pid_journal.specs.Pairs.{PairShows, pair_is_live, pair_showing}
+use Rattle.pid_journal.specs.Steps.Parts.{RefusesNothing, pair_showing_from}
 use Rattle.pid_journal.proofs.Forms.{broken_stays, tells_any}
 use Rattle.pid_journal.proofs.Noted.{anywhere}
 use Rattle.pid_journal.proofs.Pairing.{looks_nowhere, pair_obeys}

@@ -1,6 +1,9 @@
 -- Segments in turn.
-use Rattle.std.proofs.Common.{◌≡◌, ◌⊎◌, inl, inr, ℕ, ◌<◌, ◌≤◌, Bool, true, false, List, [], ◌∷◌, ◌++◌, Option, Some, None, Result, Ok, Err, refl, sym, ap, subst, ◌∙◌, arith, append_assoc, append-nil}
-use Rattle.std.specs.Prelude.{IfSome, MatchResult}
+use Rattle.std.proofs.Common.{◌≡◌, ◌⊎◌, inl, inr, ℕ, suc, ◌+◌, ◌<◌, ◌≤◌, Bool, true, false, List, [], ◌∷◌, ◌++◌, length, Option, Some, None, Result, Ok, Err, refl, sym, ap, subst, ◌∙◌, arith, append_assoc, append-nil}
+use Rattle.std.specs.Prelude.{IfSome, IsSorted, MatchResult, ◌==◌, nat_lt, cond}
+use Rattle.std.specs.Ordering.{is_lt, nat_cmp}
+use Rattle.std.specs.declared.cmp.Ordering.TheVariants.{Less, Equal, Greater}
+use Rattle.std.proofs.lemmas.Bool.Decides.{nat_tests}
 use Rattle.pid_file.specs.WholeLines.{whole_lines}
 use Rattle.pid_moderation.proofs.RevisionLemmas.{grows, marked_stays}
 use Rattle.pid_moderation.specs.History.{History}
@@ -13,13 +16,12 @@ use Rattle.pid_journal.specs.declared.file.JournalFile as files
 use Rattle.pid_journal.specs.declared.folder.JournalFolder as folders
 use Rattle.pid_journal.specs.declared.open_fault.OpenFault.{OpenFault}
 use Rattle.pid_journal.specs.declared.open_fault.OpenFault.TheVariants.{Newer}
-use Rattle.pid_journal.specs.Journals.{JournalLeads}
-use Rattle.pid_journal.specs.Steps.Ways.{IsAlong, IsOnWay}
-use Rattle.pid_journal.specs.Openings.{HasBegun, IsRefused, NamesNew, StopsAtOne}
-use Rattle.pid_journal.specs.Segments.{IsOnSegments, lines_in}
+use Rattle.pid_journal.specs.Journals.{JournalLeads, lines_in}
+use Rattle.pid_journal.specs.Steps.Ways.{IsAlong, IsInSegments, IsOnWay}
+use Rattle.pid_journal.specs.Openings.{IsRefused, StopsAtOne}
 use Rattle.pid_journal.specs.Steps.Opening.{ShowsAll}
-use Rattle.pid_journal.specs.Steps.Segments.{BeginsIn, EndsIn, EndsLast, FaultsAlong, FindsGap, HasComeTo, HasComeToLast, FollowsAll, FollowsSegment, IsSameFolder, KeepsShown, LinesMayBeObeyed, PassesSegment, ShowsWithin, StaysQuiet, TellsRevision}
-use Rattle.pid_journal.proofs.Along.{along_all, segments_along, stops_as, stops_behind}
+use Rattle.pid_journal.specs.Steps.Segments.{BeginsIn, EndsIn, EndsLast, FaultsAlong, FindsGap, FollowsAll, FollowsSegment, HasBegun, HasComeTo, HasComeToFirst, HasComeToLast, IsSameFolder, KeepsShown, LinesMayBeObeyed, NamesNew, PassesSegment, ShowsWithin, StaysQuiet, TellsRevision}
+use Rattle.pid_journal.proofs.Along.{along_all, segments_along, stops_as, stops_at, stops_behind}
 use Rattle.pid_journal.proofs.Appending.{history_both}
 use Rattle.pid_journal.proofs.Comparing.{last_same}
 use Rattle.pid_journal.proofs.Places.{no_lines_left, same_by_revision}
@@ -53,8 +55,8 @@ squeezed : (a b n : ℕ) → a ≤ b → b ≡ n → n ≤ a → b ≡ a
 squeezed a b n le is ge = omega arith
 
 -- The registry is where the next segment begins, or later.
-pub skipped : (text : ℕ → List ℕ) (h shown : History) (name next : ℕ) (names : List ℕ) → IsMarked h → IsOnSegments text h (name ∷ next ∷ names) shown → next ≤ revision_of shown
-    → IsOnSegments text (history_after h (whole_lines (text name))) (next ∷ names) shown
+pub skipped : (text : ℕ → List ℕ) (h shown : History) (name next : ℕ) (names : List ℕ) → IsMarked h → IsInSegments text h (name ∷ next ∷ names) shown → next ≤ revision_of shown
+    → IsInSegments text (history_after h (whole_lines (text name))) (next ∷ names) shown
 skipped text h shown name next names marked way late =
     let lines = whole_lines (text name) in
     let rest = lines_in text (next ∷ names) in
@@ -73,7 +75,7 @@ beyond : (a b n : ℕ) → a ≡ n → a ≤ b → b < n → ⊥
 beyond a b n is le lt = omega arith
 
 -- The registry is before the next segment, so within this one.
-pub within : (text : ℕ → List ℕ) (h shown : History) (name next : ℕ) (names : List ℕ) → IsOnSegments text h (name ∷ next ∷ names) shown → revision_of shown < next → IsOnWay h false (whole_lines (text name)) shown
+pub within : (text : ℕ → List ℕ) (h shown : History) (name next : ℕ) (names : List ℕ) → IsInSegments text h (name ∷ next ∷ names) shown → revision_of shown < next → IsOnWay h false (whole_lines (text name)) shown
 within text h shown name next names way early =
     let lines = whole_lines (text name) in
     let end = history_after h lines in
@@ -85,11 +87,11 @@ within text h shown name next names way early =
     ]
 
 -- There is no next segment.
-pub within_last : (text : ℕ → List ℕ) (h shown : History) (name : ℕ) → IsOnSegments text h (name ∷ []) shown → IsOnWay h false (whole_lines (text name)) shown
+pub within_last : (text : ℕ → List ℕ) (h shown : History) (name : ℕ) → IsInSegments text h (name ∷ []) shown → IsOnWay h false (whole_lines (text name)) shown
 within_last text h shown name way = record { told = way.told.1; before = way.before; later = way.later; parts = sym (append-nil (whole_lines (text name))) ∙ way.parts; so_far = way.so_far }
 
 -- the next segments, from where this one ends
-pub at_next : (text : ℕ → List ℕ) (h shown : History) (name : ℕ) (names : List ℕ) → IsOnSegments text h (name ∷ names) shown → IsOnSegments text (history_after h (whole_lines (text name))) names (history_after h (whole_lines (text name)))
+pub at_next : (text : ℕ → List ℕ) (h shown : History) (name : ℕ) (names : List ℕ) → IsInSegments text h (name ∷ names) shown → IsInSegments text (history_after h (whole_lines (text name))) names (history_after h (whole_lines (text name)))
 at_next text h shown name names way = record { told = way.told.2; before = []; later = lines_in text names; parts = refl; so_far = refl }
 
 -- SEGMENTS IN TURN
@@ -116,10 +118,38 @@ pub record IsInTurn {R F J : Type 0} (w : Showing R) (folder : folders.Ghosts F 
   pub kept : moved ≡ false → StaysQuiet w folder old now f g
   pub at : (front : List ℕ) × (names ≡ front ++ name ∷ rest)
   pub past : w.is_clean now → (h : History) → w.shows old h → HasBegun h names → (moved ≡ false) × w.shows now h
+  pub begun : IsSorted nat_cmp names → ((at.0 ≡ []) × (moved ≡ false)) ⊎ HasComeToFirst w old now names
   pub turn : w.is_clean now → folder.names f ≡ Some names → (start : History) → IsMarked start → ShowsWithin w (folder.text_in f) start names old → HasTurn w (folder.text_in f) start names name rest now
 
 next_at : (front names : List ℕ) (name next : ℕ) (rest later : List ℕ) → names ≡ front ++ name ∷ rest → rest ≡ next ∷ later → names ≡ (front ++ name ∷ []) ++ next ∷ later
 next_at front names name next rest later parts is = parts ∙ ap (λ (ns : List ℕ). front ++ name ∷ ns) is ∙ sym (append_assoc front (name ∷ []) (next ∷ later))
+
+-- THE FIRST ONE
+
+first_alone : (x y : ℕ) (xs ys front : List ℕ) → front ≡ [] → x ∷ xs ≡ front ++ y ∷ ys → x ≡ y
+first_alone x y xs ys front none same = let is : x ∷ xs ≡ y ∷ ys = same ∙ ap (λ (ns : List ℕ). ns ++ y ∷ ys) none in cc
+
+not_lt : (t e : Bool) → is_lt (cond t Less (cond e Equal Greater)) ≡ false → t ≡ false
+not_lt true e is = is
+not_lt false e is = refl
+
+le_from : (a b : ℕ) → nat_lt a b ≡ false → b ≤ a
+le_from a b is = grind (arith, nat_tests, is)
+
+first_two : (a b : ℕ) (ns : List ℕ) → IsSorted nat_cmp (a ∷ b ∷ ns) → a ≤ b
+first_two a b ns sorted = le_from b a (not_lt (nat_lt b a) (b == a) (sorted 0 0 (omega arith) (two (length ns))))
+  where
+    two : (n : ℕ) → 0 + 1 < suc (suc n)
+    two n = omega arith
+
+pub skip_begun : {R : Type 0} (w : Showing R) (old new : R) (name next n : ℕ) → TellsRevision w old new (Ok n) → name ≤ next → next ≤ n → HasComeTo w old new name
+skip_begun w old new name next n told le late clean h shown = through name next n (revision_of h) le late (told clean h shown)
+  where
+    through : (a b d e : ℕ) → a ≤ b → b ≤ d → d ≡ e → a ≤ e
+    through a b d e p q is = omega arith
+
+pub come_later : {R : Type 0} (w : Showing R) (old mid new : R) (name : ℕ) → (w.is_clean new → w.is_clean mid) → KeepsShown w old mid → HasComeTo w mid new name → HasComeTo w old new name
+come_later w old mid new name honest kept come clean h shown = come clean h (kept (honest clean) h shown)
 
 module _ {R F J : Type 0} (w : Showing R) (folder : folders.Ghosts F J) where
   pub first_turn : (r : R) (f : F) (names : List ℕ) (name : ℕ) (rest : List ℕ) → names ≡ name ∷ rest → IsInTurn w folder r r f f names name rest false
@@ -129,6 +159,7 @@ module _ {R F J : Type 0} (w : Showing R) (folder : folders.Ghosts F J) where
     kept = λ off. ((λ clean h shown. shown), refl);
     at = ([], is);
     past = λ clean h shown begun. (refl, shown);
+    begun = λ sorted. inl (refl, refl);
     turn = λ clean known start marked shows. record { front = []; parts = is; shows = subst (λ (ns : List ℕ). ShowsWithin w (folder.text_in f) start ns r) is shows };
   }
 
@@ -145,14 +176,26 @@ module _ {R F J : Type 0} (w : Showing R) (folder : folders.Ghosts F J) where
         (steps (history_after start (lines_in text turn.front)) (lines_marked start (lines_in text turn.front) marked) (subst (λ (ns : List ℕ). ShowsWithin w text (history_after start (lines_in text turn.front)) (name ∷ ns) now) is turn.shows));
   }
 
+  -- one more segment was passed
+  first_begun : (old now new : R) (f g : F) (names : List ℕ) (name next : ℕ) (rest later : List ℕ) (moved : Bool) → IsInTurn w folder old now f g names name rest moved → rest ≡ next ∷ later → (w.is_clean new → w.is_clean now) → (name ≤ next → HasComeTo w now new name) → IsSorted nat_cmp names → HasComeToFirst w old new names
+  first_begun old now new f g names name next rest later moved turn is honest come sorted first others split clean h shown = elim (turn.begun sorted) [
+    | inl (none, off) ↦
+        let one : first ≡ name = first_alone first name others rest turn.at.0 none (sym split ∙ turn.at.1) in
+        let both : names ≡ name ∷ next ∷ later = turn.at.1 ∙ (λ i. none i ++ name ∷ is i) in
+        let le : name ≤ next = first_two name next later (subst (λ (ns : List ℕ). IsSorted nat_cmp ns) both sorted) in
+        subst (λ (n : ℕ). n ≤ revision_of h) (sym one) (come le clean h ((turn.kept off).0 (honest clean) h shown))
+    | inr has ↦ has first others split (honest clean) h shown
+  ]
+
   pub both_quiet : (old now new : R) (f g k : F) → (w.is_clean new → w.is_clean now) → StaysQuiet w folder old now f g → StaysQuiet w folder now new g k → StaysQuiet w folder old new f k
   both_quiet old now new f g k honest one two = ((λ clean h shown. two.0 clean h (one.0 (honest clean) h shown)), two.1 ∙ one.1)
 
   pub turns : (old now new : R) (f g k : F) (names : List ℕ) (name next : ℕ) (rest later : List ℕ) (moved obeyed next_moved : Bool) → IsInTurn w folder old now f g names name rest moved → rest ≡ next ∷ later
       → IsSameFolder folder g k → (w.is_clean new → w.is_clean now) → (obeyed ≡ false → StaysQuiet w folder now new g k) → (next_moved ≡ false → (moved ≡ false) × (obeyed ≡ false)) → (moved ≡ false → obeyed ≡ false → next_moved ≡ false) → (w.is_clean new → (h : History) → w.shows now h → next ≤ revision_of h → (obeyed ≡ false) × w.shows new h)
+      → (name ≤ next → HasComeTo w now new name)
       → (w.is_clean new → (all : List ℕ) → folder.names g ≡ Some all → Steps now new (folder.text_in g) name next later)
       → IsInTurn w folder old new f k names next later next_moved
-  turns old now new f g k names name next rest later moved obeyed next_moved turn is same honest kept both neither late steps = record {
+  turns old now new f g k names name next rest later moved obeyed next_moved turn is same honest kept both neither late come steps = record {
     same = (same.0 ∙ turn.same.0, same.1 ∙ turn.same.1);
     clean = λ clean. turn.clean (honest clean);
     kept = λ off. let offs = both off in both_quiet old now new f g k honest (turn.kept offs.0) (kept offs.1);
@@ -161,16 +204,36 @@ module _ {R F J : Type 0} (w : Showing R) (folder : folders.Ghosts F J) where
         let past = turn.past (honest clean) h shown begun in
         let passed = late clean h past.1 (begun (turn.at.0 ++ name ∷ []) later next (next_at turn.at.0 names name next rest later turn.at.1 is)) in
         (neither past.0 passed.0, passed.1);
+    begun = λ sorted. inr (first_begun old now new f g names name next rest later moved turn is honest come sorted);
     turn = λ clean known start marked shows.
         next_turn (folder.text_in f) start names name next rest later now new marked is
         (subst (λ (text : ℕ → List ℕ). Steps now new text name next later) turn.same.1 (steps clean names (turn.same.0 ∙ known)))
         (turn.turn (honest clean) known start marked shows);
   }
 
+  -- at the end the first one has begun, where the last one has
+  pub first_at_end : (old now new : R) (f g : F) (names : List ℕ) (name : ℕ) (rest : List ℕ) (moved : Bool) → IsInTurn w folder old now f g names name rest moved → (w.is_clean new → w.is_clean now) → (moved ≡ false → HasComeTo w now new name) → IsSorted nat_cmp names → HasComeToFirst w old new names
+  first_at_end old now new f g names name rest moved turn honest come sorted first others split clean h shown = elim (turn.begun sorted) [
+    | inl (none, off) ↦
+        let one : first ≡ name = first_alone first name others rest turn.at.0 none (sym split ∙ turn.at.1) in
+        subst (λ (n : ℕ). n ≤ revision_of h) (sym one) (come off clean h ((turn.kept off).0 (honest clean) h shown))
+    | inr has ↦ has first others split (honest clean) h shown
+  ]
+
 -- a fault that is not that the registry has more commands is not given as that
 pub not_newer : (moved : Bool) (fault given : OpenFault) → given ≡ Newer → (moved ≡ true → LinesMayBeObeyed given) → (moved ≡ false → given ≡ fault) → (fault ≡ Newer → ⊥) → ⊥
 not_newer true fault given newer moved same never = subst LinesMayBeObeyed newer (moved refl)
 not_newer false fault given newer moved same never = never (sym (same refl) ∙ newer)
+
+pub first_newer : {Q : Type 0} (fault given : OpenFault) → given ≡ Newer → given ≡ fault → LinesMayBeObeyed fault ⊎ Q → Q
+first_newer fault given newer same (inl may) = absurd (subst LinesMayBeObeyed (sym same ∙ newer) may)
+first_newer fault given newer same (inr says) = says
+
+pub first_found : {R : Type 0} (w : Showing R) (old mid new : R) (names begins : List ℕ) → begins ≡ names → (w.is_clean new → w.is_clean mid) → HasComeToFirst w old mid begins → HasComeToFirst w old new names
+first_found w old mid new names begins is honest has name later split clean h shown = has name later (is ∙ split) (honest clean) h shown
+
+pub none_first : {R : Type 0} (w : Showing R) (r : R) (names : List ℕ) → names ≡ [] → HasComeToFirst w r r names
+none_first w r names none name later is = let no : ⊥ = cc in absurd no
 
 pub quiet_newer : {Q : Type 0} → LinesMayBeObeyed Newer ⊎ Q → Q
 quiet_newer (inl may) = absurd may
@@ -256,7 +319,7 @@ module _ {R J : Type 0} (registry : Ghosts R) (file : files.Ghosts J) where
     -- a fault before any line
     pub none_passes : (old new : R) (f : F) (name next : ℕ) (fault : OpenFault) → IsRefused fault → KeepsShown registry.showing old new → PassesSegment registry file folder old new f name next (Err fault)
     none_passes old new f name next fault is kept clean names later known h marked shows =
-        (is, inl (shows.shown, kept clean shows.shown shows.shows, segments_along (folder.text_in f) h shows.shown (name ∷ next ∷ later) shows.way))
+        (is, stops_at registry.showing new _ shows.shown (kept clean shows.shown shows.shows) (segments_along (folder.text_in f) h shows.shown (name ∷ next ∷ later) shows.way))
 
     -- what holds of the segments from one on holds of all
     from_turn : (text : ℕ → List ℕ) (start g : History) (names front : List ℕ) (name : ℕ) (rest : List ℕ) → names ≡ front ++ name ∷ rest → IsAlong (history_after start (lines_in text front)) (lines_in text (name ∷ rest)) g → IsAlong start (lines_in text names) g
@@ -275,7 +338,7 @@ module _ {R J : Type 0} (registry : Ghosts R) (file : files.Ghosts J) where
     at_last old mid f g names name rest moved turn none clean known start marked shows =
         let t = turn.turn clean known start marked shows in
         let h = history_after start (lines_in (folder.text_in f) t.front) in
-        let way = subst (λ (ns : List ℕ). IsOnSegments (folder.text_in f) h (name ∷ ns) t.shows.shown) none t.shows.way in (
+        let way = subst (λ (ns : List ℕ). IsInSegments (folder.text_in f) h (name ∷ ns) t.shows.shown) none t.shows.way in (
           t.front,
           t.parts ∙ ap (λ (ns : List ℕ). t.front ++ name ∷ ns) none,
           lines_marked start (lines_in (folder.text_in f) t.front) marked,
@@ -335,7 +398,7 @@ module _ {R J : Type 0} (registry : Ghosts R) (file : files.Ghosts J) where
     -- there is no segment
     pub none_follows : (r : R) (f : F) (names : List ℕ) → names ≡ [] → FollowsAll registry file folder r r f names (Ok None)
     none_follows r f names none clean known start marked shows =
-        let way = subst (λ (ns : List ℕ). IsOnSegments (folder.text_in f) start ns shows.shown) none shows.way in
+        let way = subst (λ (ns : List ℕ). IsInSegments (folder.text_in f) start ns shows.shown) none shows.way in
         (none, subst (λ (h : History). registry.showing.shows r h) (sym (no_lines_left start shows.shown way.before way.later way.parts way.so_far)) shows.shows)
 
     -- the same of the folder as it was, and of the names as they were read

@@ -10,6 +10,8 @@ pub mod Comparing
 pub mod LinesObeyed
 pub mod Along
 pub mod Resuming
+pub mod Ending
+pub mod SegmentLines
 pub mod Imported
 pub mod InTurn
 pub mod Unread

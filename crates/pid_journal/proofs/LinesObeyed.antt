@@ -13,9 +13,12 @@ use Rattle.pid_script.specs.Replies.{command_of, history_after}
 use Rattle.pid_script.specs.ScriptLines.{ask_of}
 use Rattle.pid_service_laws.specs.Outcomes.{IsMemoryOrStore}
 use Rattle.pid_service_laws.specs.Registries.{CommandLeaves, Showing}
-use Rattle.pid_journal.specs.Journals.{after_line}
-use Rattle.pid_journal.specs.Steps.Following.{FaultsAtLine, FaultsWithin}
+use Rattle.pid_journal.specs.Steps.Following.{FaultsAtLine}
 use Rattle.pid_journal.specs.Steps.Places.{IsEndOf}
+use Rattle.pid_journal.specs.Steps.Notes.{after_line}
+use Rattle.pid_journal.specs.Openings.{StopsAtOne}
+use Rattle.pid_journal.specs.Steps.Ways.{IsAlong}
+use Rattle.pid_journal.proofs.Along.{FaultsWithin, stops_at, stops_within}
 use Rattle.pid_journal.proofs.Appending.{history_both, line_alone}
 use Rattle.pid_journal.proofs.Places.{end_more, line_first, none_left}
 
@@ -53,13 +56,11 @@ module _ {R : Type 0} (w : Showing R) where
 
   pub record IsFollowing (old now : R) (text rest : List ℕ) : Type 0 where
     pub end : IsEndOf text rest
-    pub clean : w.is_clean now → w.is_clean old
     pub shows : w.is_clean now → (h : History) → w.shows old h → ShowsSoFar now h text rest
 
   pub follows_first : (r : R) (text : List ℕ) → IsFollowing r r text text
   follows_first r text = record {
     end = record { front = []; parts = refl; whole = refl };
-    clean = λ clean. clean;
     shows = λ clean h shown. record { before = []; parts = refl; shown = shown };
   }
 
@@ -75,23 +76,29 @@ module _ {R : Type 0} (w : Showing R) where
       → IsFollowing old new text behind
   follows_on old mid new text rest line behind far parts one honest obeyed = record {
     end = end_more text rest line behind far.end parts one;
-    clean = λ clean. far.clean (honest clean);
     shows = λ clean h shown. let so_far = far.shows (honest clean) h shown in
         one_line_more h mid new text rest line behind parts one so_far (obeyed clean (history_after h so_far.before) so_far.shown);
   }
 
   pub follows_stopped : (old mid new : R) (text rest line behind : List ℕ) (h : History) → IsFollowing old mid text rest → rest ≡ line ++ 10 ∷ behind → ended_pieces line ≡ [] → (w.is_clean new → w.is_clean mid)
       → (w.is_clean new → (g : History) → w.shows mid g → FaultsAtLine w new g (drop_cr line))
-      → w.is_clean new → w.shows old h → FaultsWithin w new h (whole_lines text)
+      → w.is_clean new → w.shows old h → StopsAtOne w (IsAlong h (whole_lines text)) new
   follows_stopped old mid new text rest line behind h far parts one honest stops clean shown =
       let so_far = far.shows (honest clean) h shown in
-      record {
+      let within : FaultsWithin w new h (whole_lines text) = record {
         before = so_far.before;
         line = drop_cr line;
         later = whole_lines behind;
         parts = so_far.parts ∙ ap (λ (ls : List (List ℕ)). so_far.before ++ ls) (line_first rest line behind parts one);
         stops = stops clean (history_after h so_far.before) so_far.shown;
-      }
+      } in
+      stops_within w new h (whole_lines text) within
+
+  -- no more could be read
+  pub follows_unread : (old now : R) (text rest : List ℕ) (h : History) → IsFollowing old now text rest → w.is_clean now → w.shows old h → StopsAtOne w (IsAlong h (whole_lines text)) now
+  follows_unread old now text rest h far clean shown =
+      let so_far = far.shows clean h shown in
+      stops_at w now (IsAlong h (whole_lines text)) (history_after h so_far.before) so_far.shown (record { before = so_far.before; later = whole_lines rest; parts = so_far.parts; so_far = refl })
 
   pub follows_all : (old now : R) (text rest : List ℕ) (h : History) → IsFollowing old now text rest → ended_pieces rest ≡ [] → w.is_clean now → w.shows old h → w.shows now (history_after h (whole_lines text))
   follows_all old now text rest h far none clean shown =

@@ -1,5 +1,5 @@
 -- Marks, and what may be cut off.
-use Rattle.std.proofs.Common.{◌≡◌, inl, inr, ℕ, suc, ◌+◌, ◌≤◌, List, [], ◌∷◌, ◌++◌, length, map, Option, Some, None, Result, Ok, Err, refl, sym, ap, subst, ◌∙◌, arith, append_assoc, append-nil, length-append}
+use Rattle.std.proofs.Common.{◌≡◌, inl, inr, ℕ, suc, ◌+◌, ◌-◌, ◌≤◌, List, [], ◌∷◌, ◌++◌, length, map, Option, Some, None, Result, Ok, Err, refl, sym, ap, subst, ◌∙◌, arith, append_assoc, append-nil, length-append}
 use Rattle.std.specs.Prelude.{IfSome, IsErr, IsErrAnd}
 use Rattle.pid_file.proofs.Cuts.{ended_line, ended_more, map_append, open_no_lf}
 use Rattle.pid_file.specs.Lines.{drop_cr}
@@ -13,12 +13,12 @@ use Rattle.pid_script.specs.ScriptLines.{ask_of}
 use Rattle.pid_service_laws.specs.Outcomes.{IsMemoryOrStore}
 use Rattle.pid_service_laws.specs.Registries.{Showing}
 use Rattle.pid_journal.specs.declared.counts.Counts.{Counts}
-use Rattle.pid_journal.specs.Comments.{counts_in, counts_said}
-use Rattle.pid_journal.specs.Files.{LeavesPart, MarksAreWithin, MayBeAdded}
-use Rattle.pid_journal.specs.Journals.{IsEntry, IsMark}
+use Rattle.pid_journal.specs.Journals.{counts_said, IsEntry}
 use Rattle.pid_journal.specs.Steps.Opening.{IsWholeUpTo}
-use Rattle.pid_journal.specs.Pairs.{AddsEntry, IsAdded}
+use Rattle.pid_journal.specs.Pairs.{AddsEntry}
 use Rattle.pid_journal.specs.Steps.Parts.{CutsAfter, IsUnmarked, MayBeMarked}
+use Rattle.pid_journal.specs.Steps.Notes.{IsMark, MayBeAdded, counts_in}
+use Rattle.pid_journal.specs.Doubts.{LeavesPart, MarksAreWithin}
 use Rattle.pid_journal.proofs.Appending.{empty_says_none}
 use Rattle.pid_journal.proofs.InTurn.{in_parts}
 use Rattle.pid_journal.proofs.Noted.{counted}
@@ -60,9 +60,10 @@ torn_within text count up above rest is =
       | inr (l, longer, parts) ↦ absurd (has_lf l (10 ∷ rest) (sym (ap ended_pieces parts) ∙ up.torn))
     ]
 
-pub read_within : (safe : Option (List ℕ)) (text : List ℕ) (count : ℕ) → IfSome safe (λ bytes. bytes ≡ text) → IsWholeUpTo text count → IfSome safe (λ bytes. MarksAreWithin bytes count)
-read_within None text count read up = tt
-read_within (Some bytes) text count read up = subst (λ (l : List ℕ). MarksAreWithin l count) (sym read) (torn_within text count up)
+-- so many bytes are left before what is torn
+pub counted_within : (safe : Option (List ℕ)) (all torn count : ℕ) → IfSome safe (λ text. all ≡ length text) → IfSome safe (λ bytes. IsWholeUpTo bytes (length bytes - torn)) → count ≡ all - torn → IfSome safe (λ bytes. MarksAreWithin bytes count)
+counted_within None all torn count counted up is = tt
+counted_within (Some bytes) all torn count counted up is = subst (λ (n : ℕ). MarksAreWithin bytes n) (sym (is ∙ ap (λ (n : ℕ). n - torn) counted)) (torn_within bytes (length bytes - torn) up)
 
 -- AN ENTRY
 
@@ -117,26 +118,19 @@ left_within (Some text) mid entry count un counts unknown leaves =
     subst (λ (o : Option (List ℕ)). IfSome o (λ t. MarksAreWithin t count)) (sym left.left) (part_within text left.part left.gone entry count un left.parts (sym counts))
 
 pub stays : (safe : Option (List ℕ)) (c : Asked) (result : Result Reply Refusal) → AddsEntry safe safe c result
-stays safe c result text is = ([], is ∙ ap (λ (l : List ℕ). Some l) (sym (append-nil text)), inl refl)
-
-of_part : (entry part gone : List ℕ) (k : Counts) (c : Asked) (result : Result Reply Refusal) → IsEntry entry k c → IsErr result → entry ≡ part ++ gone → IsAdded part c result
-of_part entry part gone k c result is fault parts = record { entry = entry; counts = k; is = is; ends = inr (inr (gone, parts, fault)) }
+stays safe c result text is = inl is
 
 -- an entry came to it whole
 pub added : (old now : Option (List ℕ)) (entry : List ℕ) (k : Counts) (c : Asked) (result : Result Reply Refusal) → IsEntry entry k c → ((front : List ℕ) → old ≡ Some front → now ≡ Some (front ++ entry)) → AddsEntry old now c result
-added old now entry k c result is appends text known = (entry, appends text known, inr (record { entry = entry; counts = k; is = is; ends = inl refl }))
+added old now entry k c result is appends text known = inr (entry, k, is, inl (appends text known))
 
 -- and maybe a mark
 pub added_marked : {R : Type 0} (w : Showing R) (r s : R) (old mid now : Option (List ℕ)) (entry : List ℕ) (k : Counts) (c : Asked) (result : Result Reply Refusal) → IsEntry entry k c → ((front : List ℕ) → old ≡ Some front → mid ≡ Some (front ++ entry)) → MayBeMarked w r s mid now
     → AddsEntry old now c result
 added_marked w r s old mid now entry k c result is appends marks text known =
     elim (marks (text ++ entry) (appends text known)) [
-      | inl same ↦ (entry, same, inr (record { entry = entry; counts = k; is = is; ends = inl refl }))
-      | inr (mark, held, marked, more, told) ↦ (
-        entry ++ mark,
-        more ∙ ap (λ (l : List ℕ). Some l) (append_assoc text entry mark),
-        inr (record { entry = entry; counts = k; is = is; ends = inr (inl (mark, held, marked, refl)) }),
-      )
+      | inl same ↦ inr (entry, k, is, inl same)
+      | inr (mark, held, marked, more, told) ↦ inr (entry, k, is, inr (inl (mark, held, marked, more)))
     ]
 
 -- a part of an entry came to it at a fault, and what came to it may be cut off again
@@ -144,11 +138,14 @@ pub added_back : (old mid now : Option (List ℕ)) (entry : List ℕ) (count : �
     → CutsAfter mid now count → AddsEntry old now c result
 added_back old mid now entry count k c result is fault counts leaves after text known =
     let left = leaves text known in
-    let cut = after text left.part left.left (counted old text count known counts) in (
-      cut.part,
-      cut.left,
-      inr (of_part entry cut.part (cut.gone ++ left.gone) k c result is fault (left.parts ∙ ap (λ (l : List ℕ). l ++ left.gone) cut.parts ∙ append_assoc cut.part cut.gone left.gone)),
-    )
+    let cut = after text left.part left.left (counted old text count known counts) in
+    let part : LeavesPart now text entry = record {
+      part = cut.part;
+      gone = cut.gone ++ left.gone;
+      parts = left.parts ∙ ap (λ (l : List ℕ). l ++ left.gone) cut.parts ∙ append_assoc cut.part cut.gone left.gone;
+      left = cut.left;
+    } in
+    inr (entry, k, is, inr (inr (fault, part)))
 
 pub cut_off : (now : Option (List ℕ)) (front behind : List ℕ) → now ≡ Some front → LeavesPart now front behind
 cut_off now front behind is = record { part = []; gone = behind; parts = refl; left = is ∙ ap (λ (l : List ℕ). Some l) (sym (append-nil front)) }

@@ -11,23 +11,22 @@ use Rattle.pid_service_laws.specs.Registries.{CommandLeaves}
 use Rattle.pid_service_laws.specs.declared.moderated.Moderated.{Ghosts}
 use Rattle.pid_journal.specs.declared.file.JournalFile as files
 use Rattle.pid_journal.specs.declared.journaled.Journaled.{Journaled}
-use Rattle.pid_journal.specs.Comments.{counts_held}
+use Rattle.pid_journal.specs.Journals.{counts_held, IsEntry, JournalLeads}
 use Rattle.pid_journal.specs.Doubts.{IsInDoubt}
-use Rattle.pid_journal.specs.Journals.{IsEntry, IsMark, JournalLeads}
-use Rattle.pid_journal.specs.Pairs.{PairFailsBetween, PairShows, pair_showing, pair_showing_from}
-use Rattle.pid_journal.specs.Steps.Parts.{IsCutBack, MayBeMarked}
+use Rattle.pid_journal.specs.Pairs.{PairFailsBetween, PairShows, pair_showing}
+use Rattle.pid_journal.specs.Steps.Parts.{IsCutBack, MayBeMarked, pair_showing_from}
 use Rattle.pid_journal.specs.Steps.Segments.{KeepsShown}
+use Rattle.pid_journal.specs.Steps.Notes.{IsMark}
 use Rattle.pid_journal.proofs.Appending.{appended, marked}
 
 -- a part of an entry after the text of a journal
-in_doubt : (start h : History) (text entry part gone : List ℕ) (c : Asked) → JournalLeads start text h → IsEntry entry (counts_held h) c → entry ≡ part ++ gone → IsInDoubt start (text ++ part) h (after h c)
-in_doubt start h text entry part gone c leads is parts = record {
-  before = text;
-  part = part;
-  gone = gone;
-  parts = refl;
+in_doubt : (start h : History) (safe : Option (List ℕ)) (text entry part gone : List ℕ) (c : Asked) → JournalLeads start text h → IsEntry entry (counts_held h) c → entry ≡ part ++ gone → safe ≡ Some (text ++ part) → IsInDoubt start safe h (after h c)
+in_doubt start h safe text entry part gone c leads is parts left = record {
+  text = text;
   leads = leads;
-  entry = inl (c, subst (λ (l : List ℕ). IsEntry l (counts_held h) c) parts is, refl);
+  more = entry;
+  last = inl (c, is, refl);
+  left = record { part = part; gone = gone; parts = parts; left = left };
 }
 
 -- a judgement is no fault
@@ -68,9 +67,7 @@ module _ {R J : Type 0} (registry : Ghosts R) (file : files.Ghosts J) where
       elim (back text part safe refl settled) [
         | inl cut ↦ inl (record { shown = shown; settled = cut.0; text = text; safe = cut.1; leads = leads })
         | inr left ↦ inr (record {
-          text = text ++ left.1.part;
-          safe = left.1.left;
-          doubt = in_doubt start h text entry left.1.part (left.1.gone ++ gone) c leads is (parts ∙ ap (λ (l : List ℕ). l ++ gone) left.1.parts ∙ append_assoc left.1.part left.1.gone gone);
+          doubt = in_doubt start h (file.safe new.journal) text entry left.1.part (left.1.gone ++ gone) c leads is (parts ∙ ap (λ (l : List ℕ). l ++ gone) left.1.parts ∙ append_assoc left.1.part left.1.gone gone) left.1.left;
           fails = inl (left.0, shown);
         })
       ]
@@ -99,13 +96,14 @@ module _ {R J : Type 0} (registry : Ghosts R) (file : files.Ghosts J) where
       → PairFailsBetween registry file start new h (after h c)
   unfolding in_doubt
   fallen start h new text entry c leads is fails safe =
-      record { text = text ++ entry; safe = safe; doubt = in_doubt start h text entry entry [] c leads is (sym (append-nil entry)); fails = inr (refl, fails) }
+      record { doubt = in_doubt start h (file.safe new.journal) text entry entry [] c leads is (sym (append-nil entry)) safe; fails = inr (refl, fails) }
 
   -- the registry has failed at a command that changes nothing, and has no entry
   pub fallen_unnoted : (start h next : History) (new : Journaled R J) (text : List ℕ) → JournalLeads start text h → next ≡ h → registry.showing.fails_between new.registry h next → file.safe new.journal ≡ Some text
       → PairFailsBetween registry file start new h next
   fallen_unnoted start h next new text leads same fails safe =
-      record { text = text; safe = safe; doubt = record { before = text; part = []; gone = []; parts = sym (append-nil text); leads = leads; entry = inr (inl refl, same) }; fails = inr (refl, fails) }
+      let none : file.safe new.journal ≡ Some (text ++ []) = safe ∙ ap (λ (l : List ℕ). Some l) (sym (append-nil text)) in
+      record { doubt = record { text = text; leads = leads; more = []; last = inr (inl refl, same); left = record { part = []; gone = []; parts = refl; left = none } }; fails = inr (refl, fails) }
 
   -- a command that changes nothing was obeyed without an entry
   pub unnoted : (start h : History) (p : Journaled R J) (r : R) (result : Result Reply Refusal) (c : Asked) → PairShows registry file start p h → after h c ≡ h → CommandLeaves registry.showing result r h c

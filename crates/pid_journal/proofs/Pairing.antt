@@ -11,8 +11,9 @@ use Rattle.pid_service_laws.specs.declared.moderated.Moderated.{Ghosts}
 use Rattle.pid_service_laws.proofs.Calling.{looked_does, obeyed_does}
 use Rattle.pid_journal.specs.declared.file.JournalFile as files
 use Rattle.pid_journal.specs.declared.journaled.Journaled.{Journaled}
-use Rattle.pid_journal.specs.Pairs.{PairFailsBetween, PairShows, pair_is_live, pair_showing, pair_showing_from}
+use Rattle.pid_journal.specs.Pairs.{PairFailsBetween, PairShows, pair_is_live, pair_showing}
 use Rattle.pid_journal.specs.Steps.Living.{pair_lives, registry_off}
+use Rattle.pid_journal.specs.Steps.Parts.{pair_showing_from}
 use Rattle.pid_journal.proofs.Noted.{anywhere}
 
 pub not_both : (b : Bool) → b ≡ true → b ≡ false → ⊥
@@ -41,11 +42,11 @@ module _ {R J : Type 0} (registry : Ghosts R) (file : files.Ghosts J) where
   pub still_shows : (start h : History) (p : Journaled R J) (r : R) → PairShows registry file start p h → registry.showing.shows r h → PairShows registry file start (with_registry p r) h
   still_shows start h p r shows shown = record { shown = shown; settled = shows.settled; text = shows.text; safe = shows.safe; leads = shows.leads }
 
-  still_fails : (start h next : History) (p : Journaled R J) (r : R) (fails : PairFailsBetween registry file start p h next) → fails.doubt.gone ≡ [] → registry.showing.fails_between r h next → PairFailsBetween registry file start (with_registry p r) h next
-  still_fails start h next p r fails none down = record { text = fails.text; safe = fails.safe; doubt = fails.doubt; fails = inr (none, down) }
+  still_fails : (start h next : History) (p : Journaled R J) (r : R) (fails : PairFailsBetween registry file start p h next) → fails.doubt.left.gone ≡ [] → registry.showing.fails_between r h next → PairFailsBetween registry file start (with_registry p r) h next
+  still_fails start h next p r fails none down = record { doubt = fails.doubt; fails = inr (none, down) }
 
   -- what failed between two and has no entry left
-  registry_fails : (start h next : History) (p : Journaled R J) (fails : PairFailsBetween registry file start p h next) → p.failed ≡ false → (fails.doubt.gone ≡ []) × registry.showing.fails_between p.registry h next
+  registry_fails : (start h next : History) (p : Journaled R J) (fails : PairFailsBetween registry file start p h next) → p.failed ≡ false → (fails.doubt.left.gone ≡ []) × registry.showing.fails_between p.registry h next
   registry_fails start h next p fails settled = elim fails.fails [ inl left ↦ absurd (not_both p.failed left.0 settled) | inr down ↦ down ]
 
   -- the registry was asked

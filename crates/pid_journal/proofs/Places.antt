@@ -1,6 +1,6 @@
 -- Where in a journal a registry stands: the revision says it.
 use Rattle.std.proofs.Common.{◌≡◌, ◌⊎◌, inl, inr, ℕ, ◌+◌, ◌<◌, ◌≤◌, Bool, true, false, cond, List, [], ◌∷◌, ◌++◌, map, Option, Some, None, Result, Ok, Err, refl, sym, ap, subst, ◌∙◌, arith, append_assoc}
-use Rattle.std.specs.Prelude.{IfSome, is_some, ◌||◌}
+use Rattle.std.specs.Prelude.{IfSome, MatchResult, is_some, ◌||◌}
 use Rattle.pid_file.proofs.Cuts.{ended_line, open_behind}
 use Rattle.pid_file.specs.Lines.{drop_cr}
 use Rattle.pid_file.specs.WholeLines.{ended_pieces, whole_lines}
@@ -16,11 +16,14 @@ use Rattle.pid_script.specs.Asking.{command_in_form}
 use Rattle.pid_script.specs.Replies.{command_of, commands_of_lines, history_after, those_sent}
 use Rattle.pid_script.specs.ScriptLines.{Ask, AsksNothing, AsksCommand, AsksExport, AsksName, AsksLookup, Unclear, TooLong, ask_of, is_idle_line}
 use Rattle.pid_journal.specs.declared.counts.Counts.{Counts}
+use Rattle.pid_journal.specs.declared.open_fault.OpenFault.{OpenFault}
+use Rattle.pid_journal.specs.declared.open_fault.OpenFault.TheVariants.{Newer}
 use Rattle.pid_journal.specs.declared.placing.Place.{Place}
-use Rattle.pid_journal.specs.Comments.{counts_held, counts_said}
-use Rattle.pid_journal.specs.Journals.{AreTrue, after_line, noted_after}
+use Rattle.pid_journal.specs.Journals.{counts_held, counts_said, AreTrue}
+use Rattle.pid_journal.specs.Openings.{IsRefused}
 use Rattle.pid_journal.specs.Steps.Ways.{IsOnWay}
 use Rattle.pid_journal.specs.Steps.Places.{IsAt, IsEndOf, IsPlaced}
+use Rattle.pid_journal.specs.Steps.Notes.{after_line, noted_after}
 use Rattle.pid_journal.proofs.Appending.{after_first, history_both, line_alone}
 use Rattle.pid_journal.proofs.Reading.{idle_says_none, said_is_idle}
 
@@ -145,10 +148,11 @@ holds_older g h place line lines now k is says placed older =
     }
 
 -- a comment that says what the registry holds
-pub holds_here : (g h : History) (place : Place) (line : List ℕ) (lines : List (List ℕ)) (now k : Counts) → counts_held g ≡ now → counts_said line ≡ Some k → IsPlaced g h place (line ∷ lines) → k ≡ now → h ≡ g
+pub holds_here : (g h : History) (place : Place) (line : List ℕ) (lines : List (List ℕ)) (now k : Counts) → counts_held g ≡ now → counts_said line ≡ Some k → IsPlaced g h place (line ∷ lines) → k ≡ now → after_line h line ≡ g
 holds_here g h place line lines now k is says placed same =
     let held : counts_held h ≡ now = says_held h g place.noted line lines k placed.way says ∙ same in
-    same_place h g place.noted (line ∷ lines) placed.marked placed.way (revision_counted g now is ∙ sym (revision_counted h now held))
+    idle_stays h line (said_is_idle line k says)
+    ∙ same_place h g place.noted (line ∷ lines) placed.marked placed.way (revision_counted g now is ∙ sym (revision_counted h now held))
 
 both_ways : (a b d e : ℕ) → a ≡ b → d ≡ e → b ≤ d → e ≤ a → d ≡ b
 both_ways a b d e p q le ge = omega arith
@@ -254,6 +258,13 @@ end_more text rest line behind end parts one = record {
 pub placed_at : (shown h : History) (place : Place) (rest line behind : List ℕ) → rest ≡ line ++ 10 ∷ behind → ended_pieces line ≡ [] → IsPlaced shown h place (whole_lines rest) → IsPlaced shown h place (drop_cr line ∷ whole_lines behind)
 placed_at shown h place rest line behind parts one placed = subst (λ (ls : List (List ℕ)). IsPlaced shown h place ls) (line_first rest line behind parts one) placed
 
+at_more : (start here : History) (text rest line behind : List ℕ) → IsAt start here text rest → rest ≡ line ++ 10 ∷ behind → ended_pieces line ≡ [] → IsAt start (after_line here (drop_cr line)) text behind
+at_more start here text rest line behind at parts one = record {
+  far = at.far ++ drop_cr line ∷ [];
+  parts = at.parts ∙ ap (λ (ls : List (List ℕ)). at.far ++ ls) (line_first rest line behind parts one) ∙ sym (append_assoc at.far (drop_cr line ∷ []) (whole_lines behind));
+  so_far = history_both start at.far (drop_cr line ∷ []) ∙ ap (λ (g : History). history_after g (drop_cr line ∷ [])) at.so_far ∙ line_alone here (drop_cr line);
+}
+
 pub found_on : (text rest line behind : List ℕ) (now : Counts) (begin : ℕ) (place next : Place) → IsFinding text rest now begin place → rest ≡ line ++ 10 ∷ behind → ended_pieces line ≡ []
     → ((shown h : History) → counts_held shown ≡ now → IsPlaced shown h place (drop_cr line ∷ whole_lines behind) → IsPlaced shown (after_line h (drop_cr line)) next (whole_lines behind))
     → IsFinding text behind now begin next
@@ -263,17 +274,19 @@ found_on text rest line behind now begin place next finding parts one steps = re
       record {
         here = after_line r.here (drop_cr line);
         placed = steps shown r.here is (placed_at shown r.here place rest line behind parts one r.placed);
-        at = record {
-          far = r.at.far ++ drop_cr line ∷ [];
-          parts = r.at.parts ∙ ap (λ (ls : List (List ℕ)). r.at.far ++ ls) (line_first rest line behind parts one) ∙ sym (append_assoc r.at.far (drop_cr line ∷ []) (whole_lines behind));
-          so_far = history_both start r.at.far (drop_cr line ∷ []) ∙ ap (λ (g : History). history_after g (drop_cr line ∷ [])) r.at.so_far ∙ line_alone r.here (drop_cr line);
-        };
+        at = at_more start r.here text rest line behind r.at parts one;
       };
 }
 
 -- the registry stands here
 pub found_here : (start shown : History) (text rest : List ℕ) (place : Place) (r : IsReached start shown text rest place) → r.here ≡ shown → IsAt start shown text rest
 found_here start shown text rest place r is = record { far = r.at.far; parts = r.at.parts; so_far = r.at.so_far ∙ is }
+
+-- it stands behind this line
+pub found_behind : (start shown : History) (text rest line behind : List ℕ) (place : Place) (r : IsReached start shown text rest place) → rest ≡ line ++ 10 ∷ behind → ended_pieces line ≡ [] → after_line r.here (drop_cr line) ≡ shown → IsAt start shown text behind
+found_behind start shown text rest line behind place r parts one is =
+    let at = at_more start r.here text rest line behind r.at parts one in
+    record { far = at.far; parts = at.parts; so_far = at.so_far ∙ is }
 
 -- the lines of the rest lead on from the history shown to where all lines lead
 pub leads_on : (start shown : History) (text rest : List ℕ) → IsAt start shown text rest → history_after shown (whole_lines rest) ≡ history_after start (whole_lines text)
@@ -292,3 +305,9 @@ found_newer start shown text rest now place is r none newer =
   where
     beyond : (a b d e : ℕ) → a ≡ b → b ≡ d → a ≤ e → e < d → ⊥
     beyond a b d e p q le lt = omega arith
+
+-- behind all lines it stands, or nowhere
+pub found_end : {X : Type 0} (result : Result X OpenFault) (start shown : History) (text rest left : List ℕ) (now : Counts) (place : Place) → counts_held shown ≡ now → IsReached start shown text rest place → ended_pieces rest ≡ [] → left ≡ rest
+    → MatchResult result (λ x. now.revision ≤ place.most) (λ fault. (fault ≡ Newer) × (place.most < now.revision)) → MatchResult result (λ x. IsAt start shown text left) IsRefused
+found_end (Ok x) start shown text rest left now place is r none same says = subst (λ (l : List ℕ). IsAt start shown text l) (sym same) (found_last start shown text rest place r none)
+found_end (Err fault) start shown text rest left now place is r none same says = absurd (found_newer start shown text rest now place is r none says.1)

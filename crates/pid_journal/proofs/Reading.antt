@@ -16,8 +16,7 @@ use Rattle.pid_moderation.specs.History.{Asked}
 use Rattle.pid_script.specs.Replies.{command_of}
 use Rattle.pid_script.specs.ScriptLines.{LONGEST, Ask, AsksNothing, TooLong, Unclear, ask_of, is_idle_line}
 use Rattle.pid_journal.specs.declared.counts.Counts.{Counts}
-use Rattle.pid_journal.specs.Comments.{counts_in_fields, counts_said}
-use Rattle.pid_journal.specs.Journals.{IsEntry, IsNote}
+use Rattle.pid_journal.specs.Journals.{IsEntry, IsNote, counts_in_fields, counts_said}
 
 says_none : (long fits idle : Bool) (other : Ask) → idle ≡ true → command_of (cond long TooLong (cond (not fits) Unclear (cond idle AsksNothing other))) ≡ []
 says_none true fits idle other h = refl

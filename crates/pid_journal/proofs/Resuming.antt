@@ -1,6 +1,6 @@
 -- A registry that has obeyed the lines of its journal.
 use Rattle.std.proofs.Common.{◌≡◌, ◌⊎◌, inl, inr, ℕ, ◌+◌, ◌-◌, ◌<◌, ◌≤◌, false, List, [], ◌++◌, length, Option, Some, None, Result, Ok, Err, refl, sym, ap, subst, ◌∙◌, arith, append_assoc, append-nil, length-append}
-use Rattle.std.specs.Prelude.{IfErr, IfOk, IfSome, MatchOption, MatchResult}
+use Rattle.std.specs.Prelude.{IfOk, MatchOption}
 use Rattle.pid_file.proofs.Cuts.{open_more, whole_same}
 use Rattle.pid_file.specs.WholeLines.{open_part, whole_lines}
 use Rattle.pid_moderation.specs.History.{Asked, History}
@@ -13,14 +13,14 @@ use Rattle.pid_journal.specs.declared.counts.Counts.{Counts}
 use Rattle.pid_journal.specs.declared.file.JournalFile as files
 use Rattle.pid_journal.specs.declared.open_fault.OpenFault.{OpenFault}
 use Rattle.pid_journal.specs.declared.open_fault.OpenFault.TheVariants.{Refused, Another, Newer, Missing}
-use Rattle.pid_journal.specs.Comments.{counts_in, counts_held}
-use Rattle.pid_journal.specs.Journals.{AreTrue, IsEntry, IsMark, JournalLeads}
+use Rattle.pid_journal.specs.Journals.{counts_held, AreTrue, IsEntry, JournalLeads}
 use Rattle.pid_journal.specs.Steps.Ways.{IsOnWay}
 use Rattle.pid_journal.specs.Openings.{IsRefused}
 use Rattle.pid_journal.specs.Steps.Opening.{IsEnded, IsWholeUpTo, ShowsAll}
 use Rattle.pid_journal.specs.Steps.Parts.{MayBeMarked}
 use Rattle.pid_journal.specs.Steps.Places.{IsEndOf, IsOpenEnd}
 use Rattle.pid_journal.specs.Steps.Segments.{LinesMayBeObeyed}
+use Rattle.pid_journal.specs.Steps.Notes.{IsMark, counts_in}
 use Rattle.pid_journal.proofs.Appending.{marked, whole_both}
 use Rattle.pid_journal.proofs.Places.{revision_counted, way_grows}
 
@@ -42,13 +42,6 @@ whole_up_to text rest torn one two =
       whole = open_joined one.front two.end.front one.whole two.end.whole;
       torn = two.torn;
     }
-
-pub torn_fits : (text rest torn : List ℕ) → IsEndOf text rest → IsOpenEnd rest torn → length torn ≤ length text
-torn_fits text rest torn one two =
-    fits (length text) (length one.front) (length rest) (length two.end.front) (length torn) (ap length one.parts ∙ length-append one.front rest) (ap length two.end.parts ∙ length-append two.end.front torn)
-  where
-    fits : (a b d e f : ℕ) → a ≡ b + d → d ≡ e + f → f ≤ a
-    fits a b d e f p q = omega arith
 
 pub counted_status : (s : RegistryStatus) (h : History) → s ≡ status_of_registry h → counts_held h ≡ counts_in s
 unfolding counts_held
@@ -94,12 +87,10 @@ module _ {R J : Type 0} (registry : Ghosts R) (file : files.Ghosts J) where
     kept = whole_both up_to.front mark up_to.whole ∙ ap (λ (ls : List (List ℕ)). ls ++ whole_lines mark) (sym (lines_kept text count up_to));
   }
 
-  -- the bytes that were read are the text of the segment
-  pub segment_ended : (start h : History) (text bytes : List ℕ) (new : R) (old k : J) → bytes ≡ text → file.safe old ≡ Some text → registry.showing.shows new (history_after start (whole_lines bytes)) → IsOnWay start false (whole_lines bytes) h
-      → IsEnded (history_after start (whole_lines bytes)) bytes (file.safe old) (file.safe k) → ShowsAll registry file start text new k
-  segment_ended start h text bytes new old k is safe shown way ends =
-      let e = ends (safe ∙ ap (λ (l : List ℕ). Some l) (sym is)) in
-      subst (λ (l : List ℕ). ShowsAll registry file start l new k) is (ended start h bytes new k e.0 e.1 shown way e.2)
+  -- the file of a segment
+  pub segment_ended : (start h : History) (text : List ℕ) (new : R) (old k : J) → file.safe old ≡ Some text → registry.showing.shows new (history_after start (whole_lines text)) → IsOnWay start false (whole_lines text) h
+      → IsEnded (history_after start (whole_lines text)) text (file.safe old) (file.safe k) → ShowsAll registry file start text new k
+  segment_ended start h text new old k safe shown way ends = let e = ends safe in ended start h text new k e.0 e.1 shown way e.2
 
 -- how the file of a text ends
 pub ends_text : {R : Type 0} (w : Showing R) (r s : R) (h : History) (old mid cut now : Option (List ℕ)) (text : List ℕ) (count : ℕ) (up_to : IsWholeUpTo text count) → mid ≡ old → (mid ≡ Some text → (up_to : IsWholeUpTo text count) → cut ≡ Some up_to.front) → MayBeMarked w r s cut now
@@ -110,22 +101,9 @@ ends_text w r s h old mid cut now text count up_to same cuts marks clean shown i
       | inr (mark, held, says, more, told) ↦ (count, up_to, inr (mark, subst (IsMark mark) (told clean h shown) says, more))
     ]
 
-pub ends_refused : {X : Type 0} (result : Result X OpenFault) (P : X → Type 0) → MatchResult result P IsRefused → IfErr result IsRefused
-ends_refused (Ok x) P says = tt
-ends_refused (Err fault) P says = says
-
 pub if_ok : {X : Type 0} (result : Result X OpenFault) (P : Type 0) → P → IfOk result (λ x. P)
 if_ok (Ok x) P says = says
 if_ok (Err fault) P says = tt
-
--- what was opened is what was read
-pub opened_text : (o p safe : Option (List ℕ)) (text there here : List ℕ) → p ≡ o → MatchOption p (safe ≡ None) (λ all. safe ≡ Some there) → IfSome o (λ all. text ≡ here) → there ≡ here → IfSome safe (λ bytes. bytes ≡ text)
-opened_text None p safe text there here same opened read is =
-    let none : safe ≡ None = subst (λ (q : Option (List ℕ)). MatchOption q (safe ≡ None) (λ all. safe ≡ Some there)) same opened in
-    subst (λ (s : Option (List ℕ)). IfSome s (λ bytes. bytes ≡ text)) (sym none) tt
-opened_text (Some all) p safe text there here same opened read is =
-    let some : safe ≡ Some there = subst (λ (q : Option (List ℕ)). MatchOption q (safe ≡ None) (λ all. safe ≡ Some there)) same opened in
-    subst (λ (s : Option (List ℕ)). IfSome s (λ bytes. bytes ≡ text)) (sym some) (is ∙ sym read)
 
 pub if_opened : (o : Option (List ℕ)) (names : List ℕ) (P Q : Type 0) → o ≡ Some names → MatchOption o Q (λ all. P) → P
 if_opened None names P Q known said = absurd (let no : ⊥ = cc in no)

@@ -1,16 +1,16 @@
 -- What the text of a journal says as a script.
-use Rattle.std.proofs.Common.{◌≡◌, ◌⊎◌, inl, inr, ℕ, Bool, false, List, [], ◌∷◌, ◌++◌, map, refl, sym, ap, subst, ◌∙◌, append-nil}
+use Rattle.std.proofs.Common.{◌≡◌, ◌⊎◌, inl, inr, ℕ, Bool, false, List, [], ◌∷◌, ◌++◌, map, Some, refl, sym, ap, subst, ◌∙◌, append-nil}
 use Rattle.pid_file.proofs.Cuts.{ended_more, lines_split, map_append}
 use Rattle.pid_file.specs.Lines.{drop_cr, lines_of}
 use Rattle.pid_file.specs.WholeLines.{ended_pieces, open_part, whole_lines}
 use Rattle.pid_moderation.specs.History.{Asked, History}
 use Rattle.pid_moderation.specs.Judgement.{after, after_all}
 use Rattle.pid_script.specs.Replies.{commands_of_lines, history_after}
-use Rattle.pid_journal.specs.Comments.{counts_held}
-use Rattle.pid_journal.specs.Doubts.{EntryLeads, IsInDoubt}
-use Rattle.pid_journal.specs.Journals.{AreTrue, JournalLeads, after_line, noted_after}
+use Rattle.pid_journal.specs.Journals.{counts_held, AreTrue, JournalLeads}
+use Rattle.pid_journal.specs.Doubts.{IsInDoubt}
 use Rattle.pid_journal.specs.Steps.Ways.{IsOnWay}
 use Rattle.pid_journal.specs.Laws.{DoubtsLeaveEither, JournalsAreScripts}
+use Rattle.pid_journal.specs.Steps.Notes.{EntryLeads, after_line, noted_after}
 use Rattle.pid_journal.proofs.Appending.{after_both, commands_both, entry_asks, mark_asks, on_leads, on_true, true_both, whole_both}
 
 pub scripts : JournalsAreScripts
@@ -57,10 +57,21 @@ part_leads h next part gone (inr (inl none, same)) = inl (ap (λ (l : List ℕ).
 part_leads h next part gone (inr (inr mark, same)) =
     inl (ap (after_all h) (no_part (commands_of_lines (whole_lines part)) (commands_of_lines (map drop_cr (ended_pieces (open_part part ++ gone)))) (part_asks part gone [] (mark_asks (part ++ gone) (counts_held h) mark))))
 
+-- THE TEXT THAT IS SAFE
+
+same_some : (a b : List ℕ) → Some a ≡ Some b → a ≡ b
+same_some a b is = cc
+
+doubt_parts : (start h next : History) (text : List ℕ) (doubt : IsInDoubt start (Some text) h next) → text ≡ doubt.text ++ doubt.left.part
+doubt_parts start h next text doubt = same_some text (doubt.text ++ doubt.left.part) doubt.left.left
+
+doubt_leads : (start h next : History) (text : List ℕ) (doubt : IsInDoubt start (Some text) h next) → EntryLeads (doubt.left.part ++ doubt.left.gone) h next
+doubt_leads start h next text doubt = subst (λ (l : List ℕ). EntryLeads l h next) doubt.left.parts doubt.last
+
 pub either : DoubtsLeaveEither
 either start h next text doubt =
-    let joined = joined_history start h text doubt.before doubt.part doubt.parts doubt.leads in
-    elim (part_leads h next doubt.part doubt.gone doubt.entry) [
+    let joined = joined_history start h text doubt.text doubt.left.part (doubt_parts start h next text doubt) doubt.leads in
+    elim (part_leads h next doubt.left.part doubt.left.gone (doubt_leads start h next text doubt)) [
       | inl same ↦ inl (joined ∙ same)
       | inr one ↦ inr (joined ∙ one)
     ]
@@ -72,27 +83,28 @@ true_front [] ys h noted all = tt
 true_front (x ∷ xs) ys h noted all = (all.0, all.1, true_front xs ys (after_line h x) (noted_after noted x) all.2)
 
 -- the comments of a journal and of a part of an entry
-part_true : (start h next : History) (text : List ℕ) (doubt : IsInDoubt start text h next) → AreTrue start false (whole_lines doubt.before ++ whole_lines doubt.part)
+part_true : (start h next : History) (text : List ℕ) (doubt : IsInDoubt start (Some text) h next) → AreTrue start false (whole_lines doubt.text ++ whole_lines doubt.left.part)
 part_true start h next text doubt =
-    let rest = map drop_cr (ended_pieces (open_part doubt.part ++ doubt.gone)) in
-    true_both (whole_lines doubt.before) (whole_lines doubt.part) start false doubt.leads.told (λ m. subst (λ (g : History). AreTrue g m (whole_lines doubt.part)) (sym doubt.leads.leads)
-    (true_front (whole_lines doubt.part) rest h m (subst (λ (ls : List (List ℕ)). AreTrue h m ls) (sym (part_lines doubt.part doubt.gone)) (on_true h next m (doubt.part ++ doubt.gone) doubt.entry))))
+    let part = doubt.left.part in
+    let rest = map drop_cr (ended_pieces (open_part part ++ doubt.left.gone)) in
+    true_both (whole_lines doubt.text) (whole_lines part) start false doubt.leads.told (λ m. subst (λ (g : History). AreTrue g m (whole_lines part)) (sym doubt.leads.leads)
+    (true_front (whole_lines part) rest h m (subst (λ (ls : List (List ℕ)). AreTrue h m ls) (sym (part_lines part doubt.left.gone)) (on_true h next m (part ++ doubt.left.gone) (doubt_leads start h next text doubt)))))
 
-doubt_lines : (start h next : History) (text : List ℕ) (doubt : IsInDoubt start text h next) → whole_lines text ≡ whole_lines doubt.before ++ whole_lines doubt.part
-doubt_lines start h next text doubt = ap whole_lines doubt.parts ∙ whole_both doubt.before doubt.part doubt.leads.whole
+doubt_lines : (start h next : History) (text : List ℕ) (doubt : IsInDoubt start (Some text) h next) → whole_lines text ≡ whole_lines doubt.text ++ whole_lines doubt.left.part
+doubt_lines start h next text doubt = ap whole_lines (doubt_parts start h next text doubt) ∙ whole_both doubt.text doubt.left.part doubt.leads.whole
 
-pub doubts : (start h next : History) (text : List ℕ) (doubt : IsInDoubt start text h next) → IsOnWay start false (whole_lines text) h × (doubt.gone ≡ [] → IsOnWay start false (whole_lines text) next)
+pub doubts : (start h next : History) (text : List ℕ) (doubt : IsInDoubt start (Some text) h next) → IsOnWay start false (whole_lines text) h × (doubt.left.gone ≡ [] → IsOnWay start false (whole_lines text) next)
 doubts start h next text doubt =
     let lines = doubt_lines start h next text doubt in
     let told = subst (λ (ls : List (List ℕ)). AreTrue start false ls) (sym lines) (part_true start h next text doubt) in (
-      record { told = told; before = whole_lines doubt.before; later = whole_lines doubt.part; parts = lines; so_far = doubt.leads.leads },
+      record { told = told; before = whole_lines doubt.text; later = whole_lines doubt.left.part; parts = lines; so_far = doubt.leads.leads },
       λ none. record {
         told = told;
         before = whole_lines text;
         later = [];
         parts = sym (append-nil (whole_lines text));
         so_far =
-            joined_history start h text doubt.before doubt.part doubt.parts doubt.leads
-            ∙ on_leads h next doubt.part (subst (λ (l : List ℕ). EntryLeads l h next) (ap (λ (l : List ℕ). doubt.part ++ l) none ∙ append-nil doubt.part) doubt.entry);
+            joined_history start h text doubt.text doubt.left.part (doubt_parts start h next text doubt) doubt.leads
+            ∙ on_leads h next doubt.left.part (subst (λ (l : List ℕ). EntryLeads l h next) (ap (λ (l : List ℕ). doubt.left.part ++ l) none ∙ append-nil doubt.left.part) (doubt_leads start h next text doubt));
       },
     )

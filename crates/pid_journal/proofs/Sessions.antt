@@ -1,13 +1,13 @@
 -- What a stop leaves of a journal of segments.
-use Rattle.std.proofs.Common.{◌≡◌, ℕ, false, List, [], ◌∷◌, ◌++◌, sym, ap, subst, ◌∙◌, append_assoc, append-nil}
+use Rattle.std.proofs.Common.{◌≡◌, inl, inr, ℕ, false, List, [], ◌∷◌, ◌++◌, sym, ap, subst, ◌∙◌, append_assoc, append-nil}
 use Rattle.pid_file.specs.WholeLines.{whole_lines}
 use Rattle.pid_moderation.specs.History.{History}
 use Rattle.pid_moderation.specs.Views.{revision_of}
 use Rattle.pid_script.specs.Replies.{history_after}
-use Rattle.pid_journal.specs.Journals.{AreTrue}
+use Rattle.pid_journal.specs.Journals.{AreTrue, AreSegments, IsOnSegments, lines_in}
 use Rattle.pid_journal.specs.Laws.{StopsLeaveTheWay}
-use Rattle.pid_journal.specs.Segments.{AreSegments, IsOnSegments, lines_in}
-use Rattle.pid_journal.specs.Steps.Ways.{IsOnWay}
+use Rattle.pid_journal.specs.Steps.Ways.{IsAlong, IsInSegments, IsOnWay}
+use Rattle.pid_journal.proofs.Along.{along_segments, in_segments, on_segments}
 use Rattle.pid_journal.proofs.InTurn.{lines_both}
 use Rattle.pid_journal.proofs.Appending.{history_both}
 use Rattle.pid_journal.proofs.Scripts.{doubts}
@@ -23,7 +23,7 @@ pub all_lines : (text : ℕ → List ℕ) (front : List ℕ) (name : ℕ) → li
 all_lines text front name = lines_both text front (name ∷ []) ∙ ap (λ (ls : List (List ℕ)). lines_in text front ++ ls) (append-nil (whole_lines (text name)))
 
 -- what is on the way of the last segment
-on_last : (start g : History) (text : ℕ → List ℕ) (front : List ℕ) (name : ℕ) → AreSegments text start (front ++ name ∷ []) → IsOnWay (history_after start (lines_in text front)) false (whole_lines (text name)) g → IsOnSegments text start (front ++ name ∷ []) g
+on_last : (start g : History) (text : ℕ → List ℕ) (front : List ℕ) (name : ℕ) → AreSegments text start (front ++ name ∷ []) → IsOnWay (history_after start (lines_in text front)) false (whole_lines (text name)) g → IsInSegments text start (front ++ name ∷ []) g
 on_last start g text front name told way = record {
   told = told;
   before = lines_in text front ++ way.before;
@@ -32,17 +32,24 @@ on_last start g text front name told way = record {
   so_far = history_both start (lines_in text front) way.before ∙ way.so_far;
 }
 
+-- what was on the way of the first lines
+on_more : (old text : ℕ → List ℕ) (start g : History) (names all : List ℕ) (more : List (List ℕ)) → AreSegments text start all → IsOnSegments old start names g → lines_in text all ≡ lines_in old names ++ more → IsOnSegments text start all g
+on_more old text start g names all more told on grows =
+    let way = in_segments old start g names on in
+    let along : IsAlong start (lines_in text all) g = record {
+      before = way.before;
+      later = way.later ++ more;
+      parts = grows ∙ ap (λ (ls : List (List ℕ)). ls ++ more) way.parts ∙ append_assoc way.before way.later more;
+      so_far = way.so_far;
+    } in
+    along_segments text start g all told along
+
 pub stops : StopsLeaveTheWay
-stops start h next text front name told is doubt =
+stops start h next g text front name told is doubt on =
     let ways = doubts (history_after start (lines_in text front)) h next (text name) doubt in
-    let all = segments_more text start front name told is ways.0.told in (
-      on_last start h text front name all ways.0,
-      (λ none. on_last start next text front name all (ways.1 none)),
-      λ old names more g way grows. record {
-        told = all;
-        before = way.before;
-        later = way.later ++ more;
-        parts = grows ∙ ap (λ (ls : List (List ℕ)). ls ++ more) way.parts ∙ append_assoc way.before way.later more;
-        so_far = way.so_far;
-      },
-    )
+    let all = segments_more text start front name told is ways.0.told in
+    elim on [
+      | inl same ↦ subst (IsOnSegments text start (front ++ name ∷ [])) (sym same) (on_segments text start h (front ++ name ∷ []) (on_last start h text front name all ways.0))
+      | inr (inl (none, same)) ↦ subst (IsOnSegments text start (front ++ name ∷ [])) (sym same) (on_segments text start next (front ++ name ∷ []) (on_last start next text front name all (ways.1 none)))
+      | inr (inr (old, names, more, way, grows)) ↦ on_more old text start g names (front ++ name ∷ []) more all way grows
+    ]

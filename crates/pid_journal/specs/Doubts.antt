@@ -1,22 +1,26 @@
--- What a fault or a stop leaves of what was written last: a choice of this project.
-use Rattle.std.specs.Prelude.{◌≡◌, ◌⊎◌, ℕ, List, [], ◌++◌}
+-- What a fault or a stop leaves of what was written last: choices of this project.
+use Rattle.std.specs.Prelude.{◌≡◌, ◌⊎◌, ◌+◌, ◌≤◌, ℕ, List, [], ◌∷◌, ◌++◌, length, Option, Some}
 use Rattle.pid_moderation.specs.History.{Asked, History}
 use Rattle.pid_moderation.specs.Judgement.{after}
-use Rattle.pid_journal.specs.Comments.{counts_held}
-use Rattle.pid_journal.specs.Journals.{IsEntry, IsMark, JournalLeads}
+use Rattle.pid_journal.specs.Journals.{counts_held, IsEntry, IsNote, JournalLeads}
 
--- The text is an entry whose command leads from the one history to the other. Or they are the same,
--- and it is a mark, or there is none.
-abbrev pub EntryLeads : List ℕ → (h next : History) → Type 0
-EntryLeads text h next = ((c : Asked) × IsEntry text (counts_held h) c × (next ≡ after h c))
-    ⊎ (((text ≡ []) ⊎ IsMark text (counts_held h)) × (next ≡ h))
-
--- The text is that of a journal that leads to the one history, and a prefix of an entry more, or of
--- a mark, maybe all of it. A command that changes nothing may have none.
-pub record IsInDoubt (start : History) (text : List ℕ) (h next : History) : Type 0 where
-  pub before : List ℕ
+-- after the leading bytes a prefix of the others is left, maybe all of them, maybe none
+pub record LeavesPart (now : Option (List ℕ)) (front behind : List ℕ) : Type 0 where
   pub part : List ℕ
   pub gone : List ℕ
-  pub parts : text ≡ before ++ part
-  pub leads : JournalLeads start before h
-  pub entry : EntryLeads (part ++ gone) h next
+  pub parts : behind ≡ part ++ gone
+  pub left : now ≡ Some (front ++ part)
+
+-- What is safe is a journal that leads to the one history, and of more a prefix is left: of an entry, whose
+-- command leads to the other history; or of a mark, or of nothing, if they are the same.
+pub record IsInDoubt (start : History) (safe : Option (List ℕ)) (h next : History) : Type 0 where
+  pub text : List ℕ
+  pub leads : JournalLeads start text h
+  pub more : List ℕ
+  pub last : ((c : Asked) × IsEntry more (counts_held h) c × (next ≡ after h c))
+      ⊎ (((more ≡ []) ⊎ IsNote more (counts_held h) []) × (next ≡ h))
+  pub left : LeavesPart safe text more
+
+-- A mark ends with an LF (10) after an LF. Those of the text are among its first bytes, so many.
+abbrev pub MarksAreWithin : List ℕ → ℕ → Type 0
+MarksAreWithin text count = (above rest : List ℕ) → text ≡ above ++ 10 ∷ 10 ∷ rest → length above + 2 ≤ count

@@ -1,30 +1,51 @@
 -- What a journal says: it is a script, in which a comment above each command says what the registry
 -- held before it, and a mark below it what the registry held then. Choices of this project.
-use Rattle.std.specs.Prelude.{◌≡◌, ℕ, Bool, false, true, ◌||◌, if◌then◌else◌, List, [], ◌∷◌}
-use Rattle.std.specs.Prelude.{Some, IfSome, is_some}
+use Rattle.std.specs.Prelude.{◌≡◌, ℕ, Bool, false, true, ◌||◌, ◌&&◌, ◌==◌, if◌then◌else◌, List, [], ◌∷◌, codes, take}
+use Rattle.std.specs.Prelude.{flat_map, slice_index, Option, Some, None, IfSome, is_some, option_and_then, option_map}
+use Rattle.std.specs.Str.{bytes_eq, is_utf8}
 use Rattle.pid_file.specs.WholeLines.{whole_lines, open_part}
+use Rattle.pid_form.specs.Fields.{Fields, value}
+use Rattle.pid_form.specs.FormFields.{fields_in}
+use Rattle.pid_form.specs.Numbers.{number_up_to}
 use Rattle.pid_moderation.specs.History.{Asked, History}
 use Rattle.pid_moderation.specs.Judgement.{after_all}
+use Rattle.pid_moderation.specs.RegistryStatus.{status_of_registry}
+use Rattle.pid_moderation.specs.Views.{revision_of}
 use Rattle.pid_script.specs.Replies.{command_of, history_after}
 use Rattle.pid_script.specs.ScriptLines.{AsksNothing, ask_of, is_idle_line}
 use Rattle.pid_journal.specs.declared.counts.Counts.{Counts}
-use Rattle.pid_journal.specs.Comments.{counts_held, counts_said}
 
--- the history after a line
-abbrev pub after_line : History → List ℕ → History
-after_line h line = after_all h (command_of (ask_of line))
+-- COMMENTS
 
--- A command may stand where a comment above it says counts, with no other command in between.
-abbrev pub noted_after : Bool → List ℕ → Bool
-noted_after noted line = if is_idle_line line then is_some (counts_said line) || noted else false
+-- the counts of a history
+unfoldable pub counts_held : History → Counts
+counts_held h = let s = status_of_registry h in
+    record { revision = s.revision; accounts = s.accounts; items = s.items; submissions = s.submissions }
 
--- Of lines in turn, each comment that says counts says those of the history so far, and what is no
--- comment comes below one.
+-- the number of 64 bits in a field, in at most 20 digits
+abbrev pub count_at : List ℕ → Fields → Option ℕ
+count_at name fields = option_and_then (λ text. if bytes_eq text (codes "0") then Some 0
+    else number_up_to 18446744073709551615 20 text) (value name fields)
+
+abbrev pub counts_in_fields : Fields → Option Counts
+counts_in_fields fields = option_and_then (λ r. option_and_then (λ a. option_and_then (λ i. option_map (λ s.
+    record { revision = r; accounts = a; items = i; submissions = s })
+    (count_at (codes "submissions") fields)) (count_at (codes "items") fields))
+    (count_at (codes "accounts") fields)) (count_at (codes "revision") fields)
+
+-- what a line says, if it is a comment (35 is #), in whose form all four are
+unfoldable pub counts_said : List ℕ → Option Counts
+counts_said line = if slice_index line 0 == 35 && is_utf8 line then counts_in_fields (fields_in line) else None
+
+-- LINES
+
+-- Of lines in turn, each comment that says counts says those of the history so far. What is no comment
+-- comes below one (`noted`), with no other command in between.
 abbrev pub AreTrue : History → Bool → List (List ℕ) → Type 0
 AreTrue h noted [] = Unit {0}
 AreTrue h noted (line ∷ lines) = IfSome (counts_said line) (λ counts. counts ≡ counts_held h)
-    × (is_idle_line line ≡ false → noted ≡ true)
-    × AreTrue (after_line h line) (noted_after noted line) lines
+    × (is_idle_line line ≡ false → noted ≡ true) × AreTrue (after_all h (command_of (ask_of line)))
+    (if is_idle_line line then is_some (counts_said line) || noted else false) lines
 
 -- The text is whole lines, their comments are true, and as a script they lead from the one history
 -- to the other.
@@ -33,7 +54,7 @@ pub record JournalLeads (start : History) (text : List ℕ) (h : History) : Type
   pub told : AreTrue start false (whole_lines text)
   pub leads : history_after start (whole_lines text) ≡ h
 
--- The text is a comment that says these counts, and a line below it.
+-- The text is a comment that says these counts, and a line below it: of a mark it is empty.
 pub record IsNote (text : List ℕ) (counts : Counts) (line : List ℕ) : Type 0 where
   pub whole : open_part text ≡ []
   pub comment : List ℕ
@@ -41,11 +62,26 @@ pub record IsNote (text : List ℕ) (counts : Counts) (line : List ℕ) : Type 0
   pub says : counts_said comment ≡ Some counts
   pub idle : ask_of comment ≡ AsksNothing
 
--- An entry has the line of a command there, and a mark an empty one.
+-- An entry has the line of a command there.
 pub record IsEntry (text : List ℕ) (counts : Counts) (c : Asked) : Type 0 where
   pub line : List ℕ
   pub note : IsNote text counts line
   pub asks : command_of (ask_of line) ≡ c ∷ []
 
-abbrev pub IsMark : List ℕ → Counts → Type 0
-IsMark text counts = IsNote text counts []
+-- SEGMENTS
+
+-- the lines of segments in turn, whose texts go by their names
+abbrev pub lines_in : (ℕ → List ℕ) → List ℕ → List (List ℕ)
+lines_in text names = flat_map (λ name. whole_lines (text name)) names
+
+-- Each segment begins at the revision that is its name, and its comments are true; the next one
+-- goes on where it ends.
+abbrev pub AreSegments : (ℕ → List ℕ) → History → List ℕ → Type 0
+AreSegments text h [] = Unit {0}
+AreSegments text h (name ∷ names) = (revision_of h ≡ name) × AreTrue h false (whole_lines (text name))
+    × AreSegments text (history_after h (whole_lines (text name))) names
+
+-- The history is one on the way along which the segments lead: the one after some of the first lines.
+abbrev pub IsOnSegments : (ℕ → List ℕ) → History → List ℕ → History → Type 0
+IsOnSegments text start names h = AreSegments text start names
+    × ((n : ℕ) × (history_after start (take n (lines_in text names)) ≡ h))

@@ -1,6 +1,6 @@
 -- What a journal says at each exit of each call, and after a stop: cited by `laws`. A choice of this
 -- project.
-use Rattle.std.specs.Prelude.{◌≡◌, ◌⊎◌, ℕ, List, [], ◌∷◌, ◌++◌}
+use Rattle.std.specs.Prelude.{◌≡◌, ◌⊎◌, ℕ, List, [], ◌∷◌, ◌++◌, Some}
 use Rattle.pid_file.specs.Lines.{lines_of}
 use Rattle.pid_file.specs.WholeLines.{whole_lines}
 use Rattle.pid_moderation.specs.History.{Asked, History}
@@ -8,41 +8,32 @@ use Rattle.pid_moderation.specs.Judgement.{answer, judge}
 use Rattle.pid_moderation.specs.ReplyLines.{outcome_line}
 use Rattle.pid_moderation.specs.Views.{revision_of, views_of}
 use Rattle.pid_script.specs.Replies.{history_after, replies}
-use Rattle.pid_journal.specs.Comments.{counts_held}
+use Rattle.pid_journal.specs.Journals.{counts_held, IsEntry, IsNote, JournalLeads, AreSegments, IsOnSegments, lines_in}
 use Rattle.pid_journal.specs.Doubts.{IsInDoubt}
-use Rattle.pid_journal.specs.Journals.{IsEntry, IsMark, JournalLeads}
-use Rattle.pid_journal.specs.Segments.{AreSegments, IsOnSegments, lines_in}
 
 -- as a script, the text of a journal leads from the one history to the other
 abbrev pub JournalsAreScripts : Type 0
-JournalsAreScripts = (start h : History) (text : List ℕ) → JournalLeads start text h
-    → history_after start (lines_of text) ≡ h
+JournalsAreScripts = (start h : History) (t : List ℕ) → JournalLeads start t h → history_after start (lines_of t) ≡ h
 
--- An entry more is answered as its command is over the history so far, and a mark is answered
--- nothing.
+-- An entry more is answered as its command is over the history so far, and a mark is answered nothing.
 abbrev pub EntriesAreAnswered : Type 0
-EntriesAreAnswered = (start h : History) (text : List ℕ) → JournalLeads start text h
-    → ((entry : List ℕ) (c : Asked) → IsEntry entry (counts_held h) c
-    → replies start (lines_of (text ++ entry))
+EntriesAreAnswered = (start h : History) (text more : List ℕ) → JournalLeads start text h
+    → ((c : Asked) → IsEntry more (counts_held h) c → replies start (lines_of (text ++ more))
     ≡ replies start (lines_of text) ++ outcome_line (answer (judge (views_of h) c)))
-    × ((mark : List ℕ) → IsMark mark (counts_held h)
-    → replies start (lines_of (text ++ mark)) ≡ replies start (lines_of text))
+    × (IsNote more (counts_held h) [] → replies start (lines_of (text ++ more)) ≡ replies start (lines_of text))
 
 -- its whole lines lead to one of the two histories between which a registry has failed
 abbrev pub DoubtsLeaveEither : Type 0
-DoubtsLeaveEither = (start h next : History) (text : List ℕ) → IsInDoubt start text h next
+DoubtsLeaveEither = (start h next : History) (text : List ℕ) → IsInDoubt start (Some text) h next
     → (history_after start (whole_lines text) ≡ h) ⊎ (history_after start (whole_lines text) ≡ next)
 
 -- Where a journal goes on in its last segment, or in a new one, and stops at an entry, maybe within
 -- it, what registries show is on its way: the history before that entry; if it is whole the one after
 -- it; and what was on the way of the lines that the journal had before.
 abbrev pub StopsLeaveTheWay : Type 0
-StopsLeaveTheWay = (start h next : History) (text : ℕ → List ℕ) (front : List ℕ) (name : ℕ)
+StopsLeaveTheWay = (start h next g : History) (text : ℕ → List ℕ) (front : List ℕ) (name : ℕ)
     → AreSegments text start front → revision_of (history_after start (lines_in text front)) ≡ name
-    → (doubt : IsInDoubt (history_after start (lines_in text front)) (text name) h next)
-    → IsOnSegments text start (front ++ name ∷ []) h
-    × (doubt.gone ≡ [] → IsOnSegments text start (front ++ name ∷ []) next)
-    × ((old : ℕ → List ℕ) (names : List ℕ) (more : List (List ℕ)) (g : History)
-    → IsOnSegments old start names g
-    → lines_in text (front ++ name ∷ []) ≡ lines_in old names ++ more
-    → IsOnSegments text start (front ++ name ∷ []) g)
+    → (doubt : IsInDoubt (history_after start (lines_in text front)) (Some (text name)) h next)
+    → (g ≡ h) ⊎ (((doubt.left.gone ≡ []) × (g ≡ next)) ⊎ ((old : ℕ → List ℕ) × (names : List ℕ) × (more : List (List ℕ))
+    × IsOnSegments old start names g × (lines_in text (front ++ name ∷ []) ≡ lines_in old names ++ more)))
+    → IsOnSegments text start (front ++ name ∷ []) g

@@ -1,9 +1,6 @@
-pub mod Files
-pub mod Comments
 pub mod Journals
 pub mod Doubts
 pub mod Pairs
-pub mod Segments
 pub mod Openings
 pub mod Laws
 pub mod Steps

@@ -1,4 +1,5 @@
 -- What serves private functions alone; no promise rests on it.
+pub mod Notes
 pub mod Parts
 pub mod Ways
 pub mod Living
@@ -8,3 +9,4 @@ pub mod Comparing
 pub mod Following
 pub mod Opening
 pub mod Segments
+pub mod Reads

@@ -1,5 +1,17 @@
 //! One segment of a journal, obeyed by a registry that does not have all of it yet.
-ghost use Rattle.std.specs.Prelude.{◌≡◌, ◌⊎◌, IfErr, IfOk, IfSome};
+ghost use Rattle.std.specs.Prelude.{
+  ◌≡◌,
+  ◌⊎◌,
+  ◌-◌,
+  ℕ,
+  List,
+  Some,
+  IfErr,
+  IfOk,
+  IfSome,
+  MatchResult,
+  length,
+};
 ghost use Rattle.pid_service_laws.specs.CallLaws.{StaysClean};
 ghost use Rattle.pid_journal.specs.Openings.{IsRefused};
 ghost use Rattle.pid_journal.specs.Steps.Comparing.{ComparesSegment};
@@ -11,6 +23,7 @@ ghost use Rattle.pid_journal.specs.Steps.Opening.{
 };
 ghost use Rattle.pid_journal.specs.Steps.Parts.{MayBeMarked};
 ghost use Rattle.pid_journal.specs.Steps.Places.{IsEndOf};
+ghost use Rattle.pid_journal.specs.Steps.Reads.{OfText, OnlyReads, left_in};
 ghost use Rattle.pid_journal.specs.Steps.Segments.{
   FollowsSegment,
   HasComeTo,
@@ -26,24 +39,21 @@ use crate::following::follow;
 use crate::marking::mark_end;
 use crate::open_fault::OpenFault;
 use crate::placing::find_place;
+use crate::segment_text::SegmentText;
 use crate::status_counts::counts_of;
 use pid_moderation::Refusal;
 use pid_service_laws::Consulted;
 use std::alloc::Global;
 
-// Whether the last line of a text is marked, or there is none.
-fn is_marked(text: &[u8]) -> bool {
-    matches!(text, [] | [.., b'\n', b'\n'])
-}
-
-// Cuts off what comes after so many bytes of the text that is in a file.
-fn cut_torn<J: JournalFile>(journal: &mut J, text: &[u8], count: usize) -> Result<(), OpenFault>
-    requires read { IfSome (J.safe journal.old) (λ bytes. bytes ≡ text.now) }
-    requires whole { IsWholeUpTo text.now count }
-    ensures { EndsFile J.JournalFile journal.old journal.new text.now count result }
+// Cuts off so many bytes at the end of a file, which are no whole line.
+fn cut_torn<J: JournalFile>(journal: &mut J, torn: usize) -> Result<(), OpenFault>
+    requires { IfSome (J.safe journal.old) (λ bytes. IsWholeUpTo bytes (length bytes - torn)) }
+    ensures { (bytes : List ℕ)
+        → EndsFile J.JournalFile journal.old journal.new bytes (length bytes - torn) result }
 {
-    if count < text.len() {
-        match journal.cut(count as u64) {
+    if torn != 0 {
+        let count = journal.count().saturating_sub(torn as u64);
+        match journal.cut(count) {
             Ok(()) => {}
             Err(_) => return Err(OpenFault::Refused(Refusal::Store)),
         }
@@ -51,50 +61,53 @@ fn cut_torn<J: JournalFile>(journal: &mut J, text: &[u8], count: usize) -> Resul
     Ok(())
 }
 
-// Marks the last line of a file with this text, if it is not marked yet.
+// Marks the last line of a file, if it is not marked yet.
 fn mark_last<R: Consulted, J: JournalFile>(
     alloc: Global,
     registry: &mut R,
     journal: &mut J,
-    text: &[u8],
+    is_marked: bool,
 )
     ensures honest { StaysClean R.showing registry.old registry.new }
     ensures kept { KeepsShown R.showing registry.old registry.new }
     ensures marked { MayBeMarked R.showing registry.old registry.new (J.safe journal.old)
         (J.safe journal.new) }
 {
-    if !is_marked(text) {
+    if !is_marked {
         mark_end(alloc, registry, journal);
     }
 }
 
-// A registry obeys the lines at the end of a text that is in a file. What is no whole line there is
-// cut off, and the end is marked.
-fn obey_rest<R: Consulted, J: JournalFile>(
+// A registry obeys the lines that are left of a segment. What is no whole line there is cut off, and
+// the end is marked.
+fn obey_rest<R: Consulted, F: JournalFolder>(
     alloc: Global,
     registry: &mut R,
-    journal: &mut J,
-    text: &[u8],
-    rest: &[u8],
+    folder: &mut F,
+    journal: &mut F::Segment,
+    text: &mut SegmentText,
 ) -> Result<(), OpenFault>
-    requires read { IfSome (J.safe journal.old) (λ bytes. bytes ≡ text.now) }
-    requires end { IsEndOf text.now rest.now }
+    requires known { IfSome (F.Segment.JournalFile.safe journal.old) (λ bytes. (names : List ℕ)
+        × (F.names folder.old ≡ Some names) × (F.text_in folder.old text.old.begin ≡ bytes)) }
+    requires end { OfText F.JournalFolder folder.old text.old (λ all. IsEndOf all (left_in text.old all)) }
+    ensures reads { OnlyReads F.JournalFolder folder.old folder.new text.old text.new }
     ensures honest { StaysClean R.showing registry.old registry.new }
-    ensures obeyed { IfOk result (λ x. ObeysRest R.showing registry.old registry.new
-        (J.safe journal.old) (J.safe journal.new) text.now rest.now) }
+    ensures obeyed { IfOk result (λ x. OfText F.JournalFolder folder.old text.old (λ all.
+        ObeysRest R.showing registry.old registry.new (F.Segment.JournalFile.safe journal.old)
+        (F.Segment.JournalFile.safe journal.new) all (left_in text.old all))) }
     ensures fault { IfErr result (λ fault. IsRefused fault
-        × StopsAlong R.showing registry.old registry.new rest.now) }
+        × OfText F.JournalFolder folder.old text.old (λ all.
+        StopsAlong R.showing registry.old registry.new (left_in text.old all))) }
 {
-    let torn = match follow(alloc, registry, journal, rest) {
-        Ok(torn) => torn,
+    match follow(alloc, registry, folder, journal, text) {
+        Ok(()) => {}
         Err(refusal) => return Err(OpenFault::Refused(refusal)),
-    };
-    let count = text.len() - torn.len();
-    match cut_torn(journal, text, count) {
+    }
+    match cut_torn(journal, text.left()) {
         Ok(()) => {}
         Err(fault) => return Err(fault),
     }
-    mark_last(alloc, registry, journal, text.get(..count).unwrap_or(text));
+    mark_last(alloc, registry, journal, text.is_marked());
     Ok(())
 }
 
@@ -114,8 +127,8 @@ pub(crate) fn follow_segment<R: Consulted, F: JournalFolder>(
         folder.new result }
     ensures compared { ComparesSegment R.showing F.JournalFolder registry.old registry.new folder.old
         begin result }
-    ensures come { IfErr result (λ fault. LinesMayBeObeyed fault
-        ⊎ HasComeTo R.showing registry.old registry.new begin) }
+    ensures come { MatchResult result (λ x. HasComeTo R.showing registry.old registry.new begin)
+        (λ fault. LinesMayBeObeyed fault ⊎ HasComeTo R.showing registry.old registry.new begin) }
 {
     let status = match registry.status() {
         Ok(status) => status,
@@ -125,20 +138,16 @@ pub(crate) fn follow_segment<R: Consulted, F: JournalFolder>(
     if now.revision < begin {
         return Err(OpenFault::Missing);
     }
-    let text = match folder.text(alloc, begin) {
-        Ok(text) => text,
-        Err(refusal) => return Err(OpenFault::Refused(refusal)),
-    };
-    let bytes = text.as_slice();
-    let rest = match find_place(alloc, bytes, now, begin) {
-        Ok(rest) => rest,
+    let mut text = SegmentText::new(alloc, begin);
+    match find_place(alloc, folder, &mut text, now, begin) {
+        Ok(()) => {}
         Err(fault) => return Err(fault),
-    };
+    }
     let mut segment = match folder.segment(begin) {
         Ok(segment) => segment,
         Err(refusal) => return Err(OpenFault::Refused(refusal)),
     };
-    match obey_rest(alloc, registry, &mut segment, bytes, rest) {
+    match obey_rest(alloc, registry, folder, &mut segment, &mut text) {
         Ok(()) => Ok(segment),
         Err(fault) => Err(fault),
     }

@@ -2,9 +2,8 @@
 ghost use Rattle.std.specs.Prelude.{◌≡◌, ◌==◌, IfOk, MatchOption, false, slice_index, true};
 ghost use Rattle.std.specs.Str.{is_utf8};
 ghost use Rattle.pid_form.specs.FormFields.{bytes_of};
-ghost use Rattle.pid_journal.specs.Comments.{
+ghost use Rattle.pid_journal.specs.Journals.{
   count_at as count_in,
-  count_said,
   counts_in_fields as counts_by,
   counts_said as said_in,
 };
@@ -21,21 +20,15 @@ pub struct Counts {
     pub submissions: u64,
 }
 
-fn count_of(text: &str) -> Option<u64>
-    ensures { result ≡ count_said text.now }
+fn count_at(fields: &[(String, String)], name: &str) -> Option<u64>
+    ensures { result ≡ count_in name.now (bytes_of fields.now) }
 {
+    let text = value(fields, name)?;
     if text == "0" {
         Some(0)
     } else {
         number_up_to(text, u64::MAX, 20)
     }
-}
-
-fn count_at(fields: &[(String, String)], name: &str) -> Option<u64>
-    ensures { result ≡ count_in name.now (bytes_of fields.now) }
-{
-    let text = value(fields, name)?;
-    count_of(text)
 }
 
 fn counts_in_fields(fields: &[(String, String)]) -> Option<Counts>

@@ -3,8 +3,8 @@ ghost use Rattle.std.specs.Prelude.{◌≡◌, IfOk, IfErr, IfSome, string_bytes
 ghost use Rattle.pid_moderation.specs.Faults.{IsMemoryOrStore};
 ghost use Rattle.pid_moderation.specs.Files.{asks};
 ghost use Rattle.pid_moderation.specs.RegistryStatus.{registry_status_of};
-ghost use Rattle.pid_journal.specs.Comments.{counts_in};
-ghost use Rattle.pid_journal.specs.Journals.{IsEntry, IsMark, IsNote};
+ghost use Rattle.pid_journal.specs.Journals.{IsEntry, IsNote};
+ghost use Rattle.pid_journal.specs.Steps.Notes.{IsMark, counts_in};
 
 use crate::composing::{compose, compose_mark};
 use crate::counts::{Counts, counts_said};

@@ -1,6 +1,18 @@
 //! The file of a segment of a journal.
-ghost use Rattle.std.specs.Prelude.{◌≡◌, ℕ, List, Option, Some, None, IfSome, length};
-ghost use Rattle.pid_journal.specs.Files.{IsAppended, IsCut, MarksAreWithin, MayBeAdded};
+ghost use Rattle.std.specs.Prelude.{
+  ◌≡◌,
+  ◌⊎◌,
+  ◌++◌,
+  ℕ,
+  List,
+  Option,
+  Some,
+  None,
+  IfSome,
+  MatchResult,
+  length,
+};
+ghost use Rattle.pid_journal.specs.Doubts.{LeavesPart, MarksAreWithin};
 
 use pid_ident::WriteFault;
 
@@ -23,18 +35,22 @@ pub trait JournalFile {
     /// Writes bytes to the end of the file and syncs it. After a fault any prefix of them may be
     /// there.
     fn append(&mut self, bytes: &[u8]) -> Result<(), WriteFault>
-        ensures appended { IsAppended result (safe self.old) (safe self.new) bytes.now }
+        ensures appended { (front : List ℕ) → safe self.old ≡ Some front → MatchResult result
+            (λ _. safe self.new ≡ Some (front ++ bytes.now)) (λ _. LeavesPart (safe self.new) front bytes.now) }
         ensures unknown { safe self.old ≡ None → safe self.new ≡ None };
 
     /// Writes bytes to the end of the file, all of them or none that stay. They are not synced before
     /// the next append, so that a stop may leave any prefix of them.
     fn mark(&mut self, bytes: &[u8])
-        ensures { MayBeAdded (safe self.old) (safe self.new) bytes.now };
+        ensures { (front : List ℕ) → safe self.old ≡ Some front
+            → (safe self.new ≡ Some front) ⊎ (safe self.new ≡ Some (front ++ bytes.now)) };
 
     /// Cuts off what comes after so many bytes, among which are all marks, and syncs the file. So
     /// what a reader has seen above a mark stays. After a fault any prefix of what is cut off may
     /// still be there.
     fn cut(&mut self, count: u64) -> Result<(), WriteFault>
         requires { IfSome (safe self.old) (λ text. MarksAreWithin text count) }
-        ensures { IsCut result (safe self.old) (safe self.new) count };
+        ensures { (front behind : List ℕ) → safe self.old ≡ Some (front ++ behind) → length front ≡ count
+            → MatchResult result (λ _. safe self.new ≡ Some front)
+            (λ _. LeavesPart (safe self.new) front behind) };
 }

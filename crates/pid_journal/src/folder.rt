@@ -1,5 +1,23 @@
 //! The folder of a journal.
-ghost use Rattle.std.specs.Prelude.{◌≡◌, [], ◌∷◌, ◌++◌, ℕ, List, Option, IfOk, IfSome, IsSorted, MatchOption};
+ghost use Rattle.std.specs.Prelude.{
+  ◌≡◌,
+  ◌+◌,
+  ◌<◌,
+  ◌≤◌,
+  [],
+  ◌∷◌,
+  ◌++◌,
+  ℕ,
+  List,
+  Option,
+  IfOk,
+  IfSome,
+  IsSorted,
+  MatchOption,
+  drop,
+  length,
+  take,
+};
 ghost use Rattle.std.specs.Ordering.{nat_cmp};
 
 use crate::file::JournalFile;
@@ -30,13 +48,16 @@ pub trait JournalFolder {
         ensures read { IfOk result
             (λ begins. IfSome (names self.old) (λ all. begins.items ≡ all)) };
 
-    /// The bytes that are safe in the segment that begins at a revision. `Memory` or `Store` if they
-    /// cannot be read.
-    fn text(&mut self, alloc: Global, begin: u64) -> Result<Vec<u8>, Refusal>
+    /// Reads bytes that are safe in the segment that begins at a revision: those that come after so
+    /// many. None into a buffer with room is the end. `Memory` or `Store` if they cannot be read.
+    fn read(&mut self, begin: u64, after: u64, buffer: &mut [u8]) -> Result<usize, Refusal>
         ensures same { (names self.new ≡ names self.old) × (text_in self.new ≡ text_in self.old) }
         ensures unopened { openings self.new ≡ openings self.old }
-        ensures read { IfOk result (λ text. IfSome (names self.old)
-            (λ all. text.items ≡ text_in self.old begin)) };
+        ensures room { IfOk result (λ n. n ≤ length buffer.new) }
+        ensures read { IfOk result (λ n. IfSome (names self.old) (λ all. drop after (text_in self.old begin)
+            ≡ take n buffer.new ++ drop (after + n) (text_in self.old begin))) }
+        ensures end { IfOk result (λ n. n ≡ 0 → 0 < length buffer.new
+            → IfSome (names self.old) (λ all. drop after (text_in self.old begin) ≡ [])) };
 
     /// Opens the segment that begins at a revision, to be written.
     fn segment(&mut self, begin: u64) -> Result<Self::Segment, Refusal>

@@ -1,13 +1,16 @@
 //! The lines of a journal, obeyed by a registry that does not have them yet.
-ghost use Rattle.std.specs.Prelude.{◌≡◌, ◌≢◌, ◌⊎◌, IfOk, IsErr, IsOkAnd};
+ghost use Rattle.std.specs.Prelude.{◌≡◌, ◌≢◌, ◌⊎◌, [], IfOk, IsErr, IsOkAnd, drop};
 ghost use Rattle.pid_moderation.specs.Faults.{IsMemoryOrStore};
 ghost use Rattle.pid_service_laws.specs.CallLaws.{StaysClean};
 ghost use Rattle.pid_journal.specs.Steps.Following.{FollowsLine, FollowsLines};
 ghost use Rattle.pid_journal.specs.Steps.Places.{IsOpenEnd};
+ghost use Rattle.pid_journal.specs.Steps.Reads.{OfText, OnlyReads, left_in};
 
 use crate::file::JournalFile;
+use crate::folder::JournalFolder;
+use crate::segment_text::SegmentText;
 use pid_moderation::Refusal;
-use pid_reader::{split_line, without_cr};
+use pid_reader::without_cr;
 use pid_script::command_in_line;
 use pid_service_laws::Moderated;
 use std::alloc::Global;
@@ -47,26 +50,36 @@ fn follow_line<R: Moderated>(alloc: Global, registry: &mut R, line: &[u8]) -> Re
     }
 }
 
-/// Obeys the commands of the whole lines of a text, and hands back what comes after them. The file
-/// of the journal hears of each.
-pub fn follow<'a, R: Moderated, J: JournalFile>(
+/// Obeys the commands of the whole lines that are left of a segment. The file of the journal hears
+/// of each.
+pub fn follow<R: Moderated, F: JournalFolder>(
     alloc: Global,
     registry: &mut R,
-    journal: &mut J,
-    text: &'a [u8],
-) -> Result<&'a [u8], Refusal>
-    ensures same { J.safe journal.new ≡ J.safe journal.old }
+    folder: &mut F,
+    journal: &mut F::Segment,
+    text: &mut SegmentText,
+) -> Result<(), Refusal>
+    ensures same { F.Segment.JournalFile.safe journal.new ≡ F.Segment.JournalFile.safe journal.old }
     ensures honest { StaysClean R.showing registry.old registry.new }
-    ensures ended { IfOk result (λ rest. IsOpenEnd text.now rest.now) }
-    ensures obeyed { FollowsLines R.showing registry.old registry.new text.now result }
+    ensures reads { OnlyReads F.JournalFolder folder.old folder.new text.old text.new }
+    ensures ended { IfOk result (λ x. OfText F.JournalFolder folder.old text.old (λ all.
+        IsOpenEnd (left_in text.old all) (left_in text.new all) × (drop text.new.read all ≡ []))) }
+    ensures obeyed { OfText F.JournalFolder folder.old text.old (λ all.
+        FollowsLines R.showing registry.old registry.new (left_in text.old all) result) }
 {
-    let mut rest = text;
-    while let Some((line, behind)) = split_line(rest) {
-        if let Err(refusal) = follow_line(alloc, registry, without_cr(line)) {
+    let mut line = Vec::new(alloc);
+    for _turn in 0..u64::MAX {
+        let whole = match text.take_line(folder, &mut line) {
+            Ok(whole) => whole,
+            Err(refusal) => return Err(refusal),
+        };
+        if !whole {
+            return Ok(());
+        }
+        if let Err(refusal) = follow_line(alloc, registry, without_cr(&line)) {
             return Err(refusal);
         }
         journal.replayed();
-        rest = behind;
     }
-    Ok(rest)
+    Err(Refusal::Store)
 }

@@ -20,7 +20,6 @@ ghost use Rattle.pid_moderation.specs.BeforeFile.{import_of};
 ghost use Rattle.pid_moderation.specs.Files.{file_reading};
 ghost use Rattle.pid_journal.specs.Pairs.{
   ObeysAnywhere,
-  StaysFailed,
   pair_is_live,
   pair_showing,
 };
@@ -95,7 +94,8 @@ impl<R: Consulted, J: JournalFile> Journaled<R, J> {
         ensures honest { StaysClean (pair_showing R.Moderated J.JournalFile) self.old self.new }
         ensures obeyed { ObeysAnywhere R.Moderated J.JournalFile self.old
             (import_of account key (file_reading bytes.items)) result self.new }
-        ensures failed { StaysFailed R.Moderated J.JournalFile self.old result self.new }
+        ensures failed { pair_is_live R.Moderated J.JournalFile self.old ≡ false
+            → (result ≡ Err Refusal.Failed) × (self.new ≡ self.old) }
     {
         let file = File::new(bytes);
         let act = Act::Import { file };

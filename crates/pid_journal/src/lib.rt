@@ -34,6 +34,7 @@ mod opened;
 mod opening;
 mod placing;
 mod sameness;
+mod segment_text;
 mod segments;
 mod status_counts;
 mod unaccepted;

@@ -1,23 +1,27 @@
 //! One command: its entry is safe before it is judged.
-ghost use Rattle.std.specs.Prelude.{◌≡◌, ◌≢◌, true, false, IfSome, IsErrAnd};
+ghost use Rattle.std.specs.Prelude.{◌≡◌, ◌≢◌, true, false, Err, IfSome, IsErrAnd};
 ghost use Rattle.pid_moderation.specs.Faults.{IsMemoryOrStore};
 ghost use Rattle.pid_moderation.specs.Files.{asks};
 ghost use Rattle.pid_moderation.specs.History.{History};
 ghost use Rattle.pid_service_laws.specs.CallLaws.{StaysClean};
 ghost use Rattle.pid_service_laws.specs.Registries.{CommandLeaves};
 ghost use Rattle.pid_journal.specs.declared.counts.Counts.{Counts};
-ghost use Rattle.pid_journal.specs.Comments.{counts_held};
-ghost use Rattle.pid_journal.specs.Files.{MarksAreWithin};
-ghost use Rattle.pid_journal.specs.Journals.{IsEntry};
+ghost use Rattle.pid_journal.specs.Journals.{counts_held, IsEntry};
+ghost use Rattle.pid_journal.specs.Doubts.{MarksAreWithin};
 ghost use Rattle.pid_journal.specs.Pairs.{
   AddsEntry,
   ObeysAnywhere,
   PairShows,
-  StaysFailed,
+  pair_is_live,
   pair_showing,
+};
+ghost use Rattle.pid_journal.specs.Steps.Parts.{
+  CutsAfter,
+  IsProbed,
+  IsCutBack,
+  IsUnmarked,
   pair_showing_from,
 };
-ghost use Rattle.pid_journal.specs.Steps.Parts.{CutsAfter, IsProbed, IsCutBack, IsUnmarked};
 
 use crate::entry::entry_of;
 use crate::file::JournalFile;
@@ -117,7 +121,8 @@ impl<R: Consulted, J: JournalFile> Journaled<R, J> {
         ensures honest { StaysClean (pair_showing R.Moderated J.JournalFile) self.old self.new }
         // It shows the history to which its journal leads.
         ensures obeyed { ObeysAnywhere R.Moderated J.JournalFile self.old (asks command) result self.new }
-        ensures failed { StaysFailed R.Moderated J.JournalFile self.old result self.new }
+        ensures failed { pair_is_live R.Moderated J.JournalFile self.old ≡ false
+            → (result ≡ Err Refusal.Failed) × (self.new ≡ self.old) }
         // What its journal has stays, and the entry of the command comes to it.
         ensures added { AddsEntry (J.safe self.old.journal) (J.safe self.new.journal) (asks command) result }
     {

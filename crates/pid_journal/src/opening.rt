@@ -1,19 +1,13 @@
 //! The journal of a folder, put in front of its registry.
-ghost use Rattle.std.specs.Prelude.{◌≡◌, ◌⊎◌, Some, true, IfErr, IfOk};
+ghost use Rattle.std.specs.Prelude.{◌≡◌, ◌⊎◌, ℕ, List, Some, true, IfErr, IfOk};
 ghost use Rattle.pid_service_laws.specs.CallLaws.{StaysClean};
-ghost use Rattle.pid_journal.specs.Openings.{
-  BeginsAfterGap,
-  ComparesCounts,
-  IsRefused,
-  RefusesOthers,
-  Resumes,
-  StaysHonest,
-};
+ghost use Rattle.pid_journal.specs.Openings.{IsRefused, OpensJournal};
 ghost use Rattle.pid_journal.specs.Steps.Comparing.{ComparesGap};
 ghost use Rattle.pid_journal.specs.Steps.Segments.{
   BeginsIn,
   FindsGap,
   FindsJournal,
+  HasComeToFirst,
   KeepsShown,
   LinesMayBeObeyed,
   StaysOrMoved,
@@ -113,6 +107,8 @@ fn find_segment<R: Consulted, F: JournalFolder>(
         folder.new result }
     ensures compared { ComparesGap R.showing F.JournalFolder registry.old registry.new folder.old
         result }
+    ensures begun { IfOk result (λ found. (names : List ℕ) → F.names folder.old ≡ Some names
+        → HasComeToFirst R.showing registry.old registry.new names) }
 {
     let begins = match folder.begins(alloc) {
         Ok(begins) => begins,
@@ -153,16 +149,7 @@ pub fn open_journal<R: Consulted, F: JournalFolder>(
     folder: &mut F,
     longest: u64,
 ) -> Result<Opened<R, F::Segment>, (R, OpenFault)>
-    ensures honest { StaysHonest R.Moderated F.JournalFolder F.Segment.JournalFile registry result }
-    // It shows the history of all whole lines.
-    ensures resumed { Resumes R.Moderated F.JournalFolder F.Segment.JournalFile registry folder.old
-        folder.new result }
-    ensures gap { BeginsAfterGap R.Moderated F.JournalFolder F.Segment.JournalFile registry
-        folder.old folder.new result }
-    ensures others { RefusesOthers R.Moderated F.JournalFolder F.Segment.JournalFile registry
-        folder.old folder.new result }
-    ensures compared { ComparesCounts R.Moderated F.JournalFolder F.Segment.JournalFile registry
-        folder.old result }
+    ensures { OpensJournal R.Moderated F.JournalFolder F.Segment.JournalFile registry folder.old folder.new result }
 {
     match find_segment(alloc, &mut registry, folder, longest) {
         Ok((journal, gap)) => {

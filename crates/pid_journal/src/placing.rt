@@ -1,14 +1,17 @@
 //! Where in a journal a registry stands.
-ghost use Rattle.std.specs.Prelude.{◌≡◌, IfOk};
+ghost use Rattle.std.specs.Prelude.{◌≡◌, ◌<◌, ◌≤◌, IfOk, MatchResult};
 ghost use Rattle.pid_file.specs.WholeLines.{whole_lines};
 ghost use Rattle.pid_script.specs.ScriptLines.{is_idle_line};
 ghost use Rattle.pid_journal.specs.Steps.Comparing.{Compares, ComparesLine};
 ghost use Rattle.pid_journal.specs.Steps.Places.{FindsPlace, IsEndOf, IsSaid, IsNextPlace};
+ghost use Rattle.pid_journal.specs.Steps.Reads.{OfText, OnlyReads, left_in};
 
 use crate::counts::{Counts, counts_said};
+use crate::folder::JournalFolder;
 use crate::open_fault::OpenFault;
+use crate::segment_text::SegmentText;
 use pid_moderation::Refusal;
-use pid_reader::{split_line, without_cr};
+use pid_reader::without_cr;
 use std::alloc::{AllocError, Global};
 
 /// What a line says of what was held.
@@ -30,7 +33,7 @@ pub struct Place {
     pub most: u64,
 }
 
-/// The place of a registry: before a line, or after it; or it has none in this journal.
+/// The place of a registry: at a comment, or after a line; or it has none in this journal.
 #[derive(Clone, Copy)]
 pub enum Step {
     Here,
@@ -88,31 +91,55 @@ fn judge_line(said: Said, now: Counts, place: Place) -> Step
     }
 }
 
-/// The lines of a journal, which begins at a revision, that come after the place where a registry
-/// with these counts stands.
-pub fn find_place(alloc: Global, text: &[u8], now: Counts, begin: u64) -> Result<&[u8], OpenFault>
-    ensures parts { IfOk result (λ rest. IsEndOf text.now rest.now) }
-    ensures found { FindsPlace text.now now begin result (λ rest. rest.now) }
-    ensures compared { Compares now (whole_lines text.now) result }
+// The end of all lines as the place of a registry with these counts.
+fn end_place(place: Place, now: Counts) -> Result<(), OpenFault>
+    ensures { MatchResult result (λ x. now.revision ≤ place.most)
+        (λ fault. (fault ≡ OpenFault.Newer) × (place.most < now.revision)) }
 {
-    let mut rest = text;
+    if place.most < now.revision {
+        return Err(OpenFault::Newer);
+    }
+    Ok(())
+}
+
+/// Takes the lines of a segment, which begins at a revision, up to the place where a registry with
+/// these counts stands: that of a comment, or the end of them all.
+pub fn find_place<F: JournalFolder>(
+    alloc: Global,
+    folder: &mut F,
+    text: &mut SegmentText,
+    now: Counts,
+    begin: u64,
+) -> Result<(), OpenFault>
+    ensures reads { OnlyReads F.JournalFolder folder.old folder.new text.old text.new }
+    ensures parts { IfOk result (λ x. OfText F.JournalFolder folder.old text.old (λ all.
+        IsEndOf (left_in text.old all) (left_in text.new all))) }
+    ensures found { OfText F.JournalFolder folder.old text.old (λ all.
+        FindsPlace (left_in text.old all) now begin result (λ x. left_in text.new all)) }
+    ensures compared { OfText F.JournalFolder folder.old text.old (λ all.
+        Compares now (whole_lines (left_in text.old all)) result) }
+{
+    let mut line = Vec::new(alloc);
     let mut place = Place {
         noted: false,
         most: begin,
     };
-    while let Some((line, behind)) = split_line(rest) {
-        let Ok(said) = said_by(alloc, without_cr(line)) else {
+    for _turn in 0..u64::MAX {
+        let whole = match text.take_line(folder, &mut line) {
+            Ok(whole) => whole,
+            Err(refusal) => return Err(OpenFault::Refused(refusal)),
+        };
+        if !whole {
+            return end_place(place, now);
+        }
+        let Ok(said) = said_by(alloc, without_cr(&line)) else {
             return Err(OpenFault::Refused(Refusal::Memory));
         };
         match judge_line(said, now, place) {
-            Step::Here => return Ok(rest),
+            Step::Here => return Ok(()),
             Step::Behind(next) => place = next,
             Step::Nowhere => return Err(OpenFault::Another),
         }
-        rest = behind;
     }
-    if place.most < now.revision {
-        return Err(OpenFault::Newer);
-    }
-    Ok(rest)
+    Err(OpenFault::Refused(Refusal::Store))
 }

@@ -1,10 +1,27 @@
 //! The segments of a journal, obeyed in turn by a registry that does not have them yet.
-ghost use Rattle.std.specs.Prelude.{◌≡◌, ◌≢◌, ◌⊎◌, [], ◌∷◌, true, false, IfErr, MatchOption};
+ghost use Rattle.std.specs.Prelude.{
+  ◌≡◌,
+  ◌≢◌,
+  ◌⊎◌,
+  ◌≤◌,
+  [],
+  ◌∷◌,
+  true,
+  false,
+  IfErr,
+  IfOk,
+  IsSorted,
+  MatchOption,
+  MatchResult,
+};
+ghost use Rattle.std.specs.Ordering.{nat_cmp};
 ghost use Rattle.pid_service_laws.specs.CallLaws.{StaysClean};
 ghost use Rattle.pid_journal.specs.Openings.{IsRefused};
 ghost use Rattle.pid_journal.specs.Steps.Comparing.{ComparesAll, SkipsLate};
 ghost use Rattle.pid_journal.specs.Steps.Segments.{
   FollowsAll,
+  HasComeTo,
+  HasComeToFirst,
   HasComeToLast,
   IsSameFolder,
   KeepsShown,
@@ -86,6 +103,7 @@ fn pass_segment<R: Consulted, F: JournalFolder>(
         folder.new result }
     ensures late { SkipsLate R.showing registry.old registry.new next result }
     ensures never { IfErr result (λ fault. fault ≢ OpenFault.Newer) }
+    ensures begun { IfOk result (λ x. begin ≤ next → HasComeTo R.showing registry.old registry.new begin) }
 {
     match revision_of(registry) {
         Ok(revision) => {
@@ -119,6 +137,9 @@ pub(crate) fn follow_all<R: Consulted, F: JournalFolder>(
         begins.now result }
     ensures come { IfErr result (λ fault. fault ≡ OpenFault.Newer → HasComeToLast R.Moderated
         F.Segment.JournalFile F.JournalFolder registry.old registry.new begins.now) }
+    ensures begun { IsSorted nat_cmp begins.now → MatchResult result
+        (λ x. HasComeToFirst R.showing registry.old registry.new begins.now)
+        (λ fault. fault ≡ OpenFault.Newer → HasComeToFirst R.showing registry.old registry.new begins.now) }
 {
     let Some((mut begin, mut rest)) = first_of(begins) else {
         return Ok(None);

@@ -1,7 +1,7 @@
 //! The counts of a status.
 ghost use Rattle.std.specs.Prelude.{◌≡◌};
 ghost use Rattle.pid_moderation.specs.RegistryStatus.{registry_status_of};
-ghost use Rattle.pid_journal.specs.Comments.{counts_in};
+ghost use Rattle.pid_journal.specs.Steps.Notes.{counts_in};
 
 use crate::counts::Counts;
 use pid_moderation::Status;

@@ -10,7 +10,7 @@ ghost use Rattle.pid_lookup.specs.Steps.Kept.{kept_map};
 use crate::args::Args;
 use crate::asked::asked_paths;
 use crate::names::Names;
-use pid_ident::{Name, Path};
+use pid_ident::{Name, NameText, Path};
 use pid_reader::{Entry, Sink};
 use std::alloc::{AllocError, Global};
 use std::collections::BTreeMap;

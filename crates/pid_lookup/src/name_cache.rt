@@ -19,7 +19,7 @@ ghost use Rattle.pid_lookup.specs.CacheAgreement.{Agrees};
 
 use crate::cache_key::PathKey;
 use lru::LruCache;
-use pid_ident::{Name, Path};
+use pid_ident::{Name, NameText, Path};
 use std::alloc::{AllocError, Global};
 use std::marker::Model;
 use std::num::NonZeroUsize;

@@ -7,7 +7,7 @@ ghost use Rattle.pid_lookup.specs.TreeNames.{tree_shown};
 
 use crate::names::Names;
 use pid_file::Tree;
-use pid_ident::{Name, Path};
+use pid_ident::{Name, NameText, Path};
 use std::alloc::AllocError;
 
 /// The names of a tree that is lent. Its fault is that there is no memory for a copy.

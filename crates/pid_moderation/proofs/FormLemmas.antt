@@ -60,8 +60,3 @@ said_so {X = X} cs said result e is h = subst (λ (r : Result X Refusal). SaysBy
 
 pub follows_so : {X : Type 0} (cs : Checks) (x : X) (result : Result X Refusal) (e : Refusal) → result ≡ Err e → (e ≢ Memory → first_failing cs ≡ Some e) → FollowsChecks cs x result
 follows_so {X = X} cs x result e is h = subst (λ (r : Result X Refusal). FollowsChecks cs x r) (sym is) h
-
--- checks that pass leave the answer to those that come after them
-pub follows_later : {X : Type 0} (xs ys : Checks) (x : X) (result : Result X Refusal) → first_failing xs ≡ None → FollowsChecks ys x result → FollowsChecks (xs ++ ys) x result
-follows_later xs ys x (Ok y) pass later = (fails_later xs ys pass ∙ later.0, later.1)
-follows_later xs ys x (Err e) pass later = λ m. fails_later xs ys pass ∙ later m

@@ -2,6 +2,7 @@ pub mod WorkedRows
 pub mod Changing
 pub mod Deciding
 pub mod Passing
+pub mod FirstFailing
 pub mod FormLemmas
 pub mod ItemLemmas
 pub mod WriteLemmas

@@ -1,5 +1,5 @@
 //! The tests that commands are checked by.
-ghost use Rattle.std.specs.Prelude.{◌≡◌, true, find};
+ghost use Rattle.std.specs.Prelude.{◌≡◌, true};
 ghost use Rattle.pid_file.specs.Bytes.{is_empty as no_bytes};
 ghost use Rattle.pid_moderation.specs.CheckTables.{
   is_pending as stands_pending,
@@ -10,13 +10,13 @@ ghost use Rattle.pid_moderation.specs.CheckTables.{
   is_ill_formed as ill_formed,
   is_broken as broken_act,
   TellsLength,
+  first_failing,
 };
 ghost use Rattle.pid_moderation.specs.Ranks.{has_rank as rank_reaches, is_rank as rank_equals};
 ghost use Rattle.pid_moderation.specs.History.{Reading, asked, deed_of};
 ghost use Rattle.pid_moderation.specs.Judgement.{judge, Refused};
 ghost use Rattle.pid_moderation.specs.Views.{Views};
 ghost use Rattle.pid_moderation.specs.Items.{has_name as names_so};
-ghost use Rattle.pid_moderation.specs.Steps.Following.{FollowsChecks};
 
 use crate::command::{Act, Command, Expected, Proposal};
 use crate::facts::{Facts, State};
@@ -39,20 +39,17 @@ pub const REVISIONS: u64 = 9_000_000_000_000_000_000;
 /// Bytes that a file to be imported has at most.
 pub const FILE_BYTES: usize = 4_194_304;
 
-fn failing(checks: &[(bool, Refusal)]) -> Option<(bool, Refusal)>
-    ensures { result ≡ find (λ c. c.0) checks.now }
+/// The refusal of the first check that fails.
+#[tactic(auto, using(crate::proofs::FirstFailing::skips, crate::proofs::FirstFailing::stops))]
+pub fn failing(checks: &[(bool, Refusal)]) -> Option<Refusal>
+    ensures { result ≡ first_failing checks.now }
 {
-    checks.iter().copied().find(|check| check.0)
-}
-
-/// Passes if no check fails; else the refusal of the first that does.
-pub fn pass(checks: &[(bool, Refusal)]) -> Result<(), Refusal>
-    ensures { FollowsChecks checks.now tt result }
-{
-    match failing(checks) {
-        Some((_, refusal)) => Err(refusal),
-        None => Ok(()),
+    for check in checks {
+        if check.0 {
+            return Some(check.1);
+        }
     }
+    None
 }
 
 /// Whether the rank is this one or a higher one.

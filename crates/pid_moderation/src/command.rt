@@ -2,7 +2,7 @@
 ghost use Rattle.std.specs.Prelude.{◌≡◌, IfOk};
 
 use crate::rank::Rank;
-use pid_ident::{Account, Key, Name, Path, Text};
+use pid_ident::{Account, Key, Name, NameText, Path, Text};
 use std::alloc::AllocError;
 use std::marker::Model;
 

@@ -22,7 +22,7 @@ use crate::command::{Expected, File};
 use crate::rank::Rank;
 use crate::refusal::Refusal;
 use pid_form::number_up_to;
-use pid_ident::{Account, Key, Name, Text, WordFault};
+use pid_ident::{Account, Key, Name, NameText, Text, WordFault};
 use std::alloc::Global;
 
 /// The rank with the number `0` to `3`.

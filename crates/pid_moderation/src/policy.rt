@@ -66,14 +66,14 @@ ghost use Rattle.pid_moderation.specs.Revisions.{IsMarked};
 
 use crate::change::{Change, Edit, Effect, Receipt, Write};
 use crate::checks::{
-    ITEMS, REMARKS, REVISIONS, SUBMISSIONS, has_rank, is_changed, is_ill_formed, is_named_so,
-    is_pending, is_rank, is_removal, pass,
+    ITEMS, REMARKS, REVISIONS, SUBMISSIONS, failing, has_rank, is_changed, is_ill_formed,
+    is_named_so, is_pending, is_rank, is_removal,
 };
 use crate::command::{Act, Command, Expected, Proposal, Reply};
 use crate::facts::{Facts, Named, State, Verdict};
 use crate::rank::{Rank, needed_rank};
 use crate::refusal::Refusal;
-use pid_ident::{Account, Name, Path, Text};
+use pid_ident::{Account, Name, NameText, Path, Text};
 use std::alloc::AllocError;
 
 // What is refused if no submission has the number.
@@ -105,7 +105,7 @@ fn set_rank(
 ) -> Result<(Effect, Reply), Refusal>
     ensures { Settles facts.now account.now (Ranks who.now rank) result }
 {
-    pass(&[
+    let refused = failing(&[
         (facts.rank.is_none(), Refusal::NoAccount),
         (
             !has_rank(Rank::Administrator, facts.rank),
@@ -113,7 +113,10 @@ fn set_rank(
         ),
         (account == who, Refusal::OwnDecision),
         (is_rank(rank, facts.who), Refusal::NothingToDo),
-    ])?;
+    ]);
+    if let Some(refusal) = refused {
+        return Err(refusal);
+    }
     let who = who.copy()?;
     let is_new = facts.who.is_none();
     Ok((Effect::Ranked { who, rank, is_new }, Reply::Done))
@@ -128,10 +131,13 @@ fn submit(
 ) -> Result<(Effect, Reply), Refusal>
     ensures { Settles facts.now account.now (Submits path.now proposal.now note.now) result }
 {
-    pass(&[
+    let refused = failing(&[
         (facts.rank.is_none(), Refusal::NoAccount),
         (SUBMISSIONS <= facts.submissions, Refusal::Full),
-    ])?;
+    ]);
+    if let Some(refusal) = refused {
+        return Err(refusal);
+    }
     let number = facts.submissions + 1;
     let proposal = proposal.copy()?;
     let (author, note) = signed(account, note)?;
@@ -156,10 +162,13 @@ fn comment(
     if facts.named.is_none() {
         return Err(absent(facts));
     }
-    pass(&[
+    let refused = failing(&[
         (facts.rank.is_none(), Refusal::NoAccount),
         (REMARKS <= facts.remarks, Refusal::Full),
-    ])?;
+    ]);
+    if let Some(refusal) = refused {
+        return Err(refusal);
+    }
     let (author, text) = signed(account, text)?;
     let effect = Effect::Remarked {
         number,
@@ -176,11 +185,14 @@ fn withdraw(facts: &Facts, account: &Account, number: u32) -> Result<(Effect, Re
     let Some(named) = &facts.named else {
         return Err(absent(facts));
     };
-    pass(&[
+    let refused = failing(&[
         (facts.rank.is_none(), Refusal::NoAccount),
         (*account != named.author, Refusal::NotAuthor),
         (!is_pending(&named.state), Refusal::NotPending),
-    ])?;
+    ]);
+    if let Some(refusal) = refused {
+        return Err(refusal);
+    }
     let effect = Effect::Decided {
         number,
         state: State::Withdrawn,
@@ -189,13 +201,13 @@ fn withdraw(facts: &Facts, account: &Account, number: u32) -> Result<(Effect, Re
     Ok((effect, Reply::Done))
 }
 
-// The checks of a decision on a submission that is there.
-fn may_decide(facts: &Facts, account: &Account, named: &Named) -> Result<(), Refusal>
-    ensures { FollowsChecks ((is_none facts.now.rank, Refusal.NoAccount) ∷
-        decision_checks account.now facts.now.rank named.now) tt result }
+// What a decision on a submission that is there is refused for.
+fn decision_refusal(facts: &Facts, account: &Account, named: &Named) -> Option<Refusal>
+    ensures { result ≡ first_that_fails ((is_none facts.now.rank, Refusal.NoAccount) ∷
+        decision_checks account.now facts.now.rank named.now) }
 {
     let needed = needed_rank(&named.path, is_removal(&named.proposal));
-    pass(&[
+    failing(&[
         (facts.rank.is_none(), Refusal::NoAccount),
         (!is_pending(&named.state), Refusal::NotPending),
         (!has_rank(needed, facts.rank), Refusal::RankTooLow),
@@ -203,13 +215,14 @@ fn may_decide(facts: &Facts, account: &Account, named: &Named) -> Result<(), Ref
     ])
 }
 
-// The item is as the approval expects, and what it writes is new and keeps the tree.
-fn may_write(facts: &Facts, expected: &Expected, named: &Named) -> Result<(), Refusal>
-    ensures { FollowsChecks (item_checks facts.now expected.now named.now) tt result }
+// What an approval is refused for: the item is not as it expects, or what it writes is not new or
+// breaks the tree.
+fn write_refusal(facts: &Facts, expected: &Expected, named: &Named) -> Option<Refusal>
+    ensures { result ≡ first_that_fails (item_checks facts.now expected.now named.now) }
 {
     let changed = (is_changed(expected, &facts.present), Refusal::Changed);
     match &named.proposal {
-        Proposal::Name(name) => pass(&[
+        Proposal::Name(name) => failing(&[
             changed,
             (is_named_so(name, &facts.present), Refusal::NothingToDo),
             (!facts.has_parent, Refusal::ParentMissing),
@@ -218,25 +231,12 @@ fn may_write(facts: &Facts, expected: &Expected, named: &Named) -> Result<(), Re
                 Refusal::Full,
             ),
         ]),
-        Proposal::Removal => pass(&[
+        Proposal::Removal => failing(&[
             changed,
             (facts.present.is_none(), Refusal::NothingToDo),
             (facts.has_children, Refusal::HasChildren),
         ]),
     }
-}
-
-fn may_approve(
-    facts: &Facts,
-    account: &Account,
-    expected: &Expected,
-    named: &Named,
-) -> Result<(), Refusal>
-    ensures { FollowsChecks ((is_none facts.now.rank, Refusal.NoAccount) ∷
-        approval_checks account.now facts.now expected.now named.now) tt result }
-{
-    may_decide(facts, account, named)?;
-    may_write(facts, expected, named)
 }
 
 fn write(facts: &Facts, named: &Named) -> Result<Write, AllocError>
@@ -273,7 +273,10 @@ fn approve(
     let Some(named) = &facts.named else {
         return Err(absent(facts));
     };
-    may_approve(facts, account, expected, named)?;
+    let refused = decision_refusal(facts, account, named).or(write_refusal(facts, expected, named));
+    if let Some(refusal) = refused {
+        return Err(refusal);
+    }
     let decider = account.copy()?;
     let write = Some(write(facts, named)?);
     Ok((
@@ -297,7 +300,9 @@ fn reject(
     let Some(named) = &facts.named else {
         return Err(absent(facts));
     };
-    may_decide(facts, account, named)?;
+    if let Some(refusal) = decision_refusal(facts, account, named) {
+        return Err(refusal);
+    }
     let (decider, reason) = signed(account, reason)?;
     let effect = Effect::Decided {
         number,

@@ -8,13 +8,11 @@ use std::fmt::{self, Display, Formatter, Write};
 use thiserror::Error;
 
 /// Why a file is not imported.
-#[derive(Clone, Copy, Debug, Error)]
+#[derive(Clone, Copy, Debug)]
 pub enum FileFault {
     /// The first faulty line, counted from 1, and what is wrong with it.
-    #[error("line {line}: {} {}", .kind.number(), .kind.word())]
     Line { line: u64, kind: LineKind },
     /// The file has more entries than a registry holds.
-    #[error("too many entries")]
     TooMany,
 }
 

@@ -1,11 +1,9 @@
 //! The answer to a line.
 ghost use Rattle.std.specs.Prelude.{◌≡◌, IsSome, Err};
-ghost use Rattle.pid_moderation.specs.History.{History};
 ghost use Rattle.pid_script.specs.ScriptLines as asks;
 ghost use Rattle.pid_script.specs.ScriptLines.{ask_of};
 ghost use Rattle.pid_script.specs.Calling.{CallsGo};
-ghost use Rattle.pid_script.specs.Steps.Output.{out, AnswersLine};
-ghost use Rattle.pid_script.specs.RegistryStates.{OverStanding};
+ghost use Rattle.pid_script.specs.Steps.Output.{out, AnswersOver};
 
 use crate::fields::{read_command, read_path};
 use crate::line::{LineAsk, line_asks};
@@ -31,10 +29,9 @@ fn obey<R: Moderated, O: Output>(
     form: &str,
 ) -> Result<(), LineEnd>
     ensures calls { CallsGo R.showing registry.old registry.new }
-    ensures ends { OverStanding R.Moderated registry.old registry.new (λ h.
-        AnswersLine R.Moderated result (asks.AsksCommand verb account.now form.now) h registry.old
+    ensures ends { AnswersOver R.Moderated result (asks.AsksCommand verb account.now form.now) registry.old
         (out (O.taken output.old) held.old.items) registry.new
-        (out (O.taken output.new) held.new.items)) }
+        (out (O.taken output.new) held.new.items) }
     ensures fault { result ≡ Err LineEnd.WriteFault → IsSome (O.write_fault output.new) }
 {
     match read_command(alloc, verb, account, form) {
@@ -55,10 +52,9 @@ fn read<R: Moderated, O: Output>(
     form: &str,
 ) -> Result<(), LineEnd>
     ensures calls { CallsGo R.showing registry.old registry.new }
-    ensures ends { OverStanding R.Moderated registry.old registry.new (λ h.
-        AnswersLine R.Moderated result (asks.AsksName form.now) h registry.old
+    ensures ends { AnswersOver R.Moderated result (asks.AsksName form.now) registry.old
         (out (O.taken output.old) held.old.items) registry.new
-        (out (O.taken output.new) held.new.items)) }
+        (out (O.taken output.new) held.new.items) }
     ensures fault { result ≡ Err LineEnd.WriteFault → IsSome (O.write_fault output.new) }
 {
     match read_path(alloc, form) {
@@ -79,10 +75,9 @@ fn lookup<R: Moderated, O: Output>(
     form: &str,
 ) -> Result<(), LineEnd>
     ensures calls { CallsGo R.showing registry.old registry.new }
-    ensures ends { OverStanding R.Moderated registry.old registry.new (λ h.
-        AnswersLine R.Moderated result (asks.AsksLookup form.now) h registry.old
+    ensures ends { AnswersOver R.Moderated result (asks.AsksLookup form.now) registry.old
         (out (O.taken output.old) held.old.items) registry.new
-        (out (O.taken output.new) held.new.items)) }
+        (out (O.taken output.new) held.new.items) }
     ensures fault { result ≡ Err LineEnd.WriteFault → IsSome (O.write_fault output.new) }
 {
     match read_lookup(alloc, form) {
@@ -102,10 +97,9 @@ fn export<R: Moderated, O: Output>(
     held: &mut Vec<u8>,
 ) -> Result<(), LineEnd>
     ensures calls { CallsGo R.showing registry.old registry.new }
-    ensures ends { OverStanding R.Moderated registry.old registry.new (λ h.
-        AnswersLine R.Moderated result asks.AsksExport h registry.old
+    ensures ends { AnswersOver R.Moderated result asks.AsksExport registry.old
         (out (O.taken output.old) held.old.items) registry.new
-        (out (O.taken output.new) held.new.items)) }
+        (out (O.taken output.new) held.new.items) }
     ensures fault { result ≡ Err LineEnd.WriteFault → IsSome (O.write_fault output.new) }
 {
     if let Err(end) = flush(output, held) {
@@ -127,10 +121,9 @@ pub fn answer_line<R: Moderated, O: Output>(
     line: &[u8],
 ) -> Result<(), LineEnd>
     ensures calls { CallsGo R.showing registry.old registry.new }
-    ensures ends { OverStanding R.Moderated registry.old registry.new (λ h.
-        AnswersLine R.Moderated result (ask_of line.now) h registry.old
+    ensures ends { AnswersOver R.Moderated result (ask_of line.now) registry.old
         (out (O.taken output.old) held.old.items) registry.new
-        (out (O.taken output.new) held.new.items)) }
+        (out (O.taken output.new) held.new.items) }
     ensures fault { result ≡ Err LineEnd.WriteFault → IsSome (O.write_fault output.new) }
 {
     match line_asks(line) {

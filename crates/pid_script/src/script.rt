@@ -28,7 +28,7 @@ ghost use Rattle.pid_script.specs.Steps.Progress.{
 };
 ghost use Rattle.pid_script.specs.Steps.Progress.{script_end};
 ghost use Rattle.pid_script.specs.Calling.{CallsGo};
-ghost use Rattle.pid_script.specs.Steps.Output.{out, AnswersLine, Unfit};
+ghost use Rattle.pid_script.specs.Steps.Output.{out, AnswersOver, Unfit};
 ghost use Rattle.pid_script.specs.Scripts.{
   passage,
   EndsWith,
@@ -37,7 +37,6 @@ ghost use Rattle.pid_script.specs.Scripts.{
   OverText,
   reader_and_writer,
 };
-ghost use Rattle.pid_script.specs.RegistryStates.{OverStanding};
 
 use crate::answering::answer_line;
 use crate::line::is_too_long;
@@ -91,11 +90,10 @@ fn end_line<R: Moderated, O: Output>(
     // The memory of a line that was kept is let go before the next one.
     ensures let_go { OnOk result (0 < length kept.old.items → vec_capacity kept.new ≡ 0) }
     ensures calls { CallsGo R.showing registry.old registry.new }
-    ensures ends { OverStanding R.Moderated registry.old registry.new (λ h.
-        AnswersLine R.Moderated result (ask_of
-        (drop_cr (kept.old.items ++ front.now))) h registry.old
+    ensures ends { AnswersOver R.Moderated result (ask_of
+        (drop_cr (kept.old.items ++ front.now))) registry.old
         (out (O.taken output.old) held.old.items) registry.new
-        (out (O.taken output.new) held.new.items)) }
+        (out (O.taken output.new) held.new.items) }
     ensures fault { result ≡ Err LineEnd.WriteFault → IsSome (O.write_fault output.new) }
 {
     if kept.is_empty() {

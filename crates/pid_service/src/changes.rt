@@ -18,7 +18,7 @@ ghost use Rattle.pid_service.specs.Steps.KeptChanges as steps;
 ghost use Rattle.pid_tables.specs.Lists.Steps.Adding.{Adds};
 ghost use Rattle.pid_tables.specs.Rows.Shows.{AreViews};
 
-use pid_ident::Path;
+use pid_ident::{NameText, Path};
 use pid_moderation::{ChangedItem, Edit, Effect, PAGE, Write};
 use std::alloc::Global;
 

@@ -29,7 +29,7 @@ use crate::kept_text::{FIRST, KeptText, MOST};
 use crate::laws;
 use crate::reading::or_refusal;
 use crate::registry::Registry;
-use pid_ident::{Name, Path};
+use pid_ident::{Name, NameText, Path};
 use pid_moderation::{Item, Refusal};
 use sqlite::Alter;
 use std::alloc::Global;

@@ -43,8 +43,8 @@ pub use running::RunReport;
 
 // What its callers need of the crates below.
 pub use pid_ident::{
-    Account, Id8, Id16, Input, Key, LineKind, Name, Output, Path, PathKind, ReadFault, Text,
-    WordFault, WriteFault,
+    Account, Id8, Id16, Input, Key, LineKind, Name, Output, Path, ReadFault, Text, WordFault,
+    WriteFault,
 };
 pub use pid_lookup::{Answer, AnswerText, Args, BadField, LookupRefusal, args_of};
 pub use pid_moderation::{

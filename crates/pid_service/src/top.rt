@@ -8,6 +8,7 @@ ghost use Rattle.pid_service.specs.Steps.Asking.{Finds};
 ghost use Rattle.pid_tables.specs.Lists.Steps.Adding.{Adds};
 
 use crate::registry::Registry;
+use pid_ident::NameText;
 use pid_moderation::{Effect, Item, Refusal};
 use sqlite::Alter;
 use std::alloc::Global;

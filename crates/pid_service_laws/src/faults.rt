@@ -11,7 +11,7 @@ use thiserror::Error;
 pub enum ExportFault {
     #[error("{0}")]
     Refused(Refusal),
-    #[error("{0}")]
+    #[error("the writer failed")]
     Write(WriteFault),
 }
 

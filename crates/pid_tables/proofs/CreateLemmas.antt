@@ -76,7 +76,7 @@ one_more ts text table it tables old new count made h =
     let first = went all.1 in
     let makes = first.1 in
     let both : Ok makes.table ≡ Ok (record table { tree = 0 }) = sym makes.defined ∙ it.defined in
-    let same : makes.table ≡ record table { tree = 0 } = cc in
+    let same : makes.table ≡ record table { tree = 0 } = same_value both in
     let schema : first.0.schema ≡ created (making ts) (record table { tree = 0 }) = makes.is ∙ ap (λ s. created s makes.table) made.schema ∙ ap (created (making ts)) same in
     let plain : lacks_sequence first.0.schema ≡ false = ap lacks_sequence schema ∙ it.alone in
     let now : new.now ≡ first.0 = ap (λ (p : Tally × Database). p.1) (same_value all.2) ∙ same_value (rw plain at first.2) in

@@ -5,7 +5,6 @@ ghost use Rattle.std.specs.Prelude.{
   true,
   false,
   length,
-  is_none,
   IsSome,
   IsTrue,
   IfErr,
@@ -25,7 +24,7 @@ ghost use Rattle.pid_moderation.specs.Changes.{
 };
 ghost use Rattle.pid_tables.specs.Rows.Faults.{IsMemoryOrStore};
 ghost use Rattle.pid_tables.specs.Rows.Shows.{Counts, Shows, counts_of};
-ghost use Rattle.pid_tables.specs.Rows.Steps.Writes.{with_rank, with_submission};
+ghost use Rattle.pid_tables.specs.Rows.Steps.Writes.{with_submission};
 ghost use Rattle.pid_tables.specs.Applies.{CountsFit};
 ghost use Rattle.pid_tables.specs.Steps.Applies.{recounted, turn_of};
 ghost use Rattle.pid_tables.specs.Steps.Clauses.{WritesChange};
@@ -45,37 +44,19 @@ ghost use Rattle.pid_tables.specs.Rows.Steps.Clauses.{ChangesTo, GoesOn, LeadsTo
 
 use crate::putting::{Put, put_text};
 use crate::rows::TableFault;
-use crate::rows::account::{add_account, change_rank};
+use crate::rows::account::set_rank;
 use crate::rows::item::{add_item, remove_item, rename_item};
 use crate::rows::meta::{count_items, count_submissions, set_revision, touch};
 use crate::rows::receipt::keep_reply;
 use crate::rows::remark::add_remark;
 use crate::rows::submission::{add_submission, decide};
 use pid_ident::{Account, Path, PathText, Text};
-use pid_moderation::{Change, Edit, Effect, Proposal, Rank, Receipt, State, Write};
+use pid_moderation::{Change, Edit, Effect, Proposal, Receipt, State, Write};
 use sqlite::{Alter, Connection, Transaction};
 use std::alloc::Global;
 
 /// One transaction on the tables. If it is dropped before its commit, nothing of it stays.
 pub type Batch<'t, S> = Transaction<'t, S>;
-
-fn set_rank<S: Alter>(
-    batch: &mut Batch<'_, S>,
-    who: &Account,
-    rank: Rank,
-    is_new: bool,
-) -> Result<(), TableFault>
-    ensures same_reference { batch.new.conn.ghost_name ≡ batch.old.conn.ghost_name }
-    ensures goes { GoesOn S.Store batch.old.conn.now batch.new.conn.now result }
-    ensures shows { ChangesTo S.Store batch.old.conn.now batch.new.conn.now result
-        (λ v. is_new ≡ is_none (v.rank who.now)) (with_rank who.now rank) }
-{
-    if is_new {
-        add_account(batch, who.as_str(), rank)
-    } else {
-        change_rank(batch, who.as_str(), rank)
-    }
-}
 
 fn submit<S: Alter>(
     batch: &mut Batch<'_, S>,

@@ -1,5 +1,5 @@
-//! Look-ups over a tree, and over a holder of names that fails. tests/support/script_rows.py has
-//! more of the former.
+//! Look-ups over a tree, which no program makes, and over a holder of names that fails.
+//! tests/support/script_rows.py has the look-ups of the program.
 use crate::trees::made;
 use pid_ident::{Name, Path};
 use pid_lookup::{Answer, Args, LookupRefusal, Names, TreeNames, args_of, lookup};
@@ -32,8 +32,7 @@ fn is_answered(alloc: Global, tree: &Tree, query: &str, expected: &[u8]) -> Resu
     let (flags, args, size) = args_of(fields.as_slice())?;
     match lookup(alloc, &mut TreeNames::new(tree), flags, &args, size) {
         Ok(answer) => Ok(is_text(&answer, expected)),
-        Err(LookupRefusal::BadFlags) => Ok(expected == b"bad flags".as_slice()),
-        Err(_) => Err("no memory")?,
+        Err(_) => Err("no answer")?,
     }
 }
 
@@ -58,11 +57,7 @@ PC/1af4 Red Hat, Inc.
 
 const SUBSYSTEMS: &str = "\
 flags=b&vendor=8086&device=1237&subvendor=1af4&subdevice=1100|Red Hat, Inc. Qemu machine
-flags=4000b&vendor=8086&device=1237&subvendor=1af4&subdevice=1100|Red Hat, Inc. Qemu machine [1af4:1100]
-flags=b&vendor=8086&device=1237&subvendor=1af4&subdevice=1101|Red Hat, Inc. Device 1101
 flags=a&vendor=8086&device=1237&subvendor=1af4&subdevice=1101|Device 1101
-flags=4000a&vendor=8086&device=1237&subvendor=1af4&subdevice=1101|Device [1101]
-flags=b&vendor=8086&device=1237&subvendor=8086&subdevice=1237|Intel Corporation 440FX
 ";
 
 #[test]

@@ -1,6 +1,7 @@
 //! Texts tidied and checked: their ends, and readers and writers that fail.
+use pid_doubles::{FaultyInput, FaultyOutput};
 use pid_file::{TextEnd, check, count_input, tell_unread, tidy};
-use pid_ident::{FaultyInput, FaultyOutput, LineKind, WriteFault};
+use pid_ident::{LineKind, WriteFault};
 use std::alloc::Global;
 
 const VENDORS: &[u8] = b"8086   Intel\n\t1237\t 440FX\n10EC\tRealtek\n";

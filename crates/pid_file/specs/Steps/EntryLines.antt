@@ -1,6 +1,6 @@
 -- What is wrong with the columns of a line, and what a line names, except for its own digits.
 -- Serves private functions alone; no promise rests on it.
-use Rattle.std.specs.Prelude.{◌≡◌, ℕ, not, List, [], ◌∷◌, ◌++◌, if◌then◌else◌, Option, Some, None}
+use Rattle.std.specs.Prelude.{◌≡◌, ◌<◌, ℕ, true, not, List, [], ◌∷◌, ◌++◌, if◌then◌else◌, Option, Some, None}
 use Rattle.pid_file.specs.declared.fault_kind.LineKind.{LineKind}
 use Rattle.pid_file.specs.declared.fault_kind.LineKind.TheVariants.{BadId, NoName, BadName}
 use Rattle.pid_file.specs.declared.path.Path.{Path}
@@ -8,7 +8,8 @@ use Rattle.pid_file.specs.declared.path.Path.TheVariants as paths
 use Rattle.pid_file.specs.Bytes.{is_empty}
 use Rattle.pid_file.specs.Words.{is_name}
 use Rattle.pid_file.specs.Identifiers.{hex4, hex2}
-use Rattle.pid_file.specs.Columns.{begins_with_ids, name_in}
+use Rattle.pid_file.specs.Marks.{trim_blanks}
+use Rattle.pid_file.specs.Columns.{begins_with_ids, digits_in, name_in}
 use Rattle.pid_file.specs.declared.entry_line.Place.{Place}
 use Rattle.pid_file.specs.declared.entry_line.Place.TheVariants.{Vendor, Device, Subsystem, Class}
 use Rattle.pid_file.specs.declared.entry_line.Place.TheVariants.{Subclass, ProgIf, Generic}
@@ -43,3 +44,30 @@ IsPathAt (Subclass c) (paths.Subclass b s) digits = (b ≡ c) × (digits ≡ hex
 IsPathAt (ProgIf c s) (paths.ProgIf b r i) digits = (b ≡ c) × (r ≡ s) × (digits ≡ hex2 i)
 IsPathAt (Generic v) (paths.Generic w d) digits = (w ≡ v) × (digits ≡ hex4 d)
 IsPathAt _ _ digits = ⊥
+
+-- below what the first of a place's own numbers is
+abbrev pub bound_of : Place → ℕ
+bound_of Vendor = 65536
+bound_of (Device v) = 65536
+bound_of (Subsystem v d) = 65536
+bound_of Class = 256
+bound_of (Subclass c) = 256
+bound_of (ProgIf c s) = 256
+bound_of (Generic v) = 65536
+
+-- the digits of a place's own numbers: one, or two of a subsystem
+abbrev pub digits_of : Place → ℕ → ℕ → List ℕ
+digits_of Vendor a b = hex4 a
+digits_of (Device v) a b = hex4 a
+digits_of (Subsystem v d) a b = hex4 a ++ hex4 b
+digits_of Class a b = hex2 a
+digits_of (Subclass c) a b = hex2 a
+digits_of (ProgIf c s) a b = hex2 a
+digits_of (Generic v) a b = hex4 a
+
+-- the numbers that the bytes begin with, and what follows them
+pub record AreIds (place : Place) (bytes : List ℕ) (first second : ℕ) (rest : List ℕ) : Type 0 where
+  pub small : first < bound_of place
+  pub begins : begins_with_ids (widths_of place) bytes ≡ true
+  pub says : digits_in (widths_of place) bytes ≡ digits_of place first second
+  pub behind : name_in (widths_of place) bytes ≡ trim_blanks rest

@@ -1,22 +1,15 @@
 -- The rows of a router, as routes come into it one by one.
-use Rattle.std.proofs.Common.{List, [], ◌∷◌, map, Result, Ok, Err, Some, ◌≡◌, ℕ, ◌+◌, ◌<◌, length, drop, get_or, ap, inl, inr, refl, subst, ◌∙◌, sym, Bool, true, false}
+use Rattle.std.proofs.Common.{List, [], Result, Ok, Err, Some, ◌≡◌, ℕ, ◌+◌, ◌<◌, length, drop, get_or, ap, inl, inr, refl, subst, ◌∙◌, sym, Bool, true, false}
 use Rattle.std.specs.Prelude.{◌&&◌, is_none}
 use Rattle.std.proofs.lemmas.List.{drop_more}
 use Rattle.matchit.specs.Rows.{RowsOf}
 use Rattle.matchit.specs.Route.{Scan, parse_route}
-use Rattle.matchit.specs.Router.{RouteOf, InsertsRead, nearest}
+use Rattle.matchit.specs.Router.{RouteOf, InsertsRead}
 use Rattle.matchit.specs.declared.error.InsertError.{InsertError}
 use Rattle.matchit.specs.declared.error.InsertError.TheVariants.{Conflict, InvalidParam, InvalidParamSegment, InvalidCatchAll, OutOfMemory}
 use Rattle.matchit.proofs.OnLiterals.{matchit_on_literals}
 use Rattle.pid_http.specs.Api.Routes.{all_routes, Given, Route, with_all, with_read}
-use Rattle.std.specs.Borrow.{Bor}
-
--- a path and its route, as the table has them, and by its text
-abbrev pub Entry : Type 0
-Entry = Bor (List ℕ) × Route
-
-abbrev pub texts : List Entry → List Given
-texts entries = map (λ entry. (entry.0.now, entry.1)) entries
+use Rattle.pid_http.specs.Api.Steps.Inserting.{Entry, all_new, reads_new, texts}
 
 -- what `insert` does where it does not fail
 pub inserted : (read : Result Scan InsertError) (route : Route) (old new : RowsOf (RouteOf Route)) (u : Unit {0}) → InsertsRead read route old new (Ok u) → new ≡ with_read read route old
@@ -27,16 +20,6 @@ inserted (Err error) route old new u h = absurd (elim h.1 [ inl e ↦ cc | inr e
 pub next : (all : List Entry) (rows : RowsOf (RouteOf Route)) (i : ℕ) (entry : Entry) → i < length all → with_all (texts (drop i all)) rows ≡ with_all (texts (drop (i + 1) all)) (with_read (parse_route (get_or all i entry).0.now) (get_or all i entry).1 rows)
 unfolding with_all
 next all rows i entry below = ap (λ rest. with_all (texts rest) rows) (drop_more all i entry below)
-
--- the path of a route can be read, and no row conflicts with it
-abbrev pub reads_new : Result Scan InsertError → RowsOf (RouteOf Route) → Bool
-reads_new (Ok scan) rows = is_none (nearest scan.pattern rows)
-reads_new (Err error) rows = false
-
--- these routes come in, one after another, and none conflicts with those before
-unfoldable pub all_new : List Given → RowsOf (RouteOf Route) → Bool
-all_new [] rows = true
-all_new (entry ∷ rest) rows = reads_new (parse_route entry.0) rows && all_new rest (with_read (parse_route entry.0) entry.1 rows)
 
 -- then nothing but memory is refused
 pub lacks_memory : (read : Result Scan InsertError) (route : Route) (old new : RowsOf (RouteOf Route)) (e : InsertError) → InsertsRead read route old new (Err e) → reads_new read old ≡ true → e ≡ OutOfMemory
@@ -70,15 +53,14 @@ all_come : all_new all_routes [] ≡ true
 unfolding all_new with_all matchit_on_literals
 all_come = refl
 
--- before the first of them
-pub start : (rows : RowsOf (RouteOf Route)) → rows ≡ [] → (with_all all_routes rows ≡ with_all all_routes []) × (all_new all_routes rows ≡ true)
-start rows none = (ap (with_all all_routes) none, ap (all_new all_routes) none ∙ all_come)
+pub all_fit : (table : List Given) (rows : RowsOf (RouteOf Route)) → table ≡ all_routes → rows ≡ [] → all_new table rows ≡ true
+all_fit table rows is none = (λ i. all_new (is i) (none i)) ∙ all_come
 
--- at the last
-pub reached : (all : List Entry) (rows : RowsOf (RouteOf Route)) (i n : ℕ) → i ≡ n → with_all (texts (drop i all)) rows ≡ with_all (texts all) [] → with_all (texts (drop n all)) rows ≡ with_all (texts all) []
-reached all rows i n e same = subst (λ j. with_all (texts (drop j all)) rows ≡ with_all (texts all) []) e same
+-- after all rows of the table
+pub whole : (table : List Given) (first last : RowsOf (RouteOf Route)) → last ≡ with_all table first → table ≡ all_routes → first ≡ [] → last ≡ with_all all_routes []
+whole table first last all is none = all ∙ (λ i. with_all (is i) (none i))
 
--- and after it
-pub finish : (rows : RowsOf (RouteOf Route)) → with_all [] rows ≡ with_all all_routes [] → rows ≡ with_all all_routes []
+-- and after all of some rows
+pub finish : (all left : List Entry) (first last : RowsOf (RouteOf Route)) → left ≡ [] → with_all (texts left) last ≡ with_all (texts all) first → last ≡ with_all (texts all) first
 unfolding with_all
-finish rows same = same
+finish all left first last none same = sym (ap (λ (l : List Entry). with_all (texts l) last) none) ∙ same

@@ -1,3 +1,4 @@
 -- What serves private functions alone; no promise rests on it.
 pub mod NoFloats
 pub mod Making
+pub mod Inserting

@@ -6,7 +6,7 @@ ghost use Rattle.pid_http.specs.Api.ItemAnswers.{changes_text};
 ghost use Rattle.pid_http.specs.Api.Steps.NoFloats.{changes_have_none};
 
 use crate::api::list::{push_lines, rows_value};
-use crate::api::members::{with_path, with_text, with_value};
+use crate::api::members::{object_of, with_path, with_text, with_value};
 use crate::api::shown::Shown;
 use crate::api::text::{push_line, push_word};
 use itoa::Buffer;
@@ -26,10 +26,10 @@ impl Shown for ChangedItem {
     ghost lines = { changed_line };
 
     fn value(&self, alloc: Global) -> Result<Value, AllocError> {
-        let members = with_text(Map::new(alloc), alloc, "name", self.name.as_str())?;
-        let members = with_path(members, alloc, &self.path)?;
-        let members = with_value(members, alloc, "since", Value::from(self.since))?;
-        Ok(Value::Object(members))
+        let members = with_text(Ok(Map::new(alloc)), alloc, "name", self.name.as_str());
+        let members = with_path(members, alloc, &self.path);
+        let members = with_value(members, alloc, "since", Value::from(self.since));
+        object_of(members)
     }
 
     fn push_text(&self, alloc: Global, text: &mut String) -> Result<(), AllocError> {
@@ -54,9 +54,9 @@ impl Shown for Changes {
 
     fn value(&self, alloc: Global) -> Result<Value, AllocError> {
         let items = rows_value(alloc, self.items.as_slice())?;
-        let members = with_value(Map::new(alloc), alloc, "items", items)?;
-        let members = with_value(members, alloc, "revision", Value::from(self.revision))?;
-        Ok(Value::Object(members))
+        let members = with_value(Ok(Map::new(alloc)), alloc, "items", items);
+        let members = with_value(members, alloc, "revision", Value::from(self.revision));
+        object_of(members)
     }
 
     fn push_text(&self, alloc: Global, text: &mut String) -> Result<(), AllocError> {

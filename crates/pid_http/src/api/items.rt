@@ -7,7 +7,7 @@ ghost use Rattle.pid_http.specs.Api.ItemAnswers.{item_answer, item_data, child_l
 ghost use Rattle.pid_http.specs.Api.Replying.{MakesReply};
 
 use crate::api::Format;
-use crate::api::members::{with_path, with_text};
+use crate::api::members::{object_of, with_path, with_text};
 use crate::api::reply::{json_reply, text_reply};
 use crate::api::shown::Shown;
 use crate::api::text::push_line;
@@ -21,9 +21,9 @@ use std::alloc::{AllocError, Global};
 fn item_value(alloc: Global, path: &Path, name: &Name) -> Result<Value, AllocError>
     ensures { IfOk result (λ value. view value ≡ item_data (path_text path.now, name.now)) }
 {
-    let members = with_text(Map::new(alloc), alloc, "name", name.as_str())?;
-    let members = with_path(members, alloc, path)?;
-    Ok(Value::Object(members))
+    let members = with_text(Ok(Map::new(alloc)), alloc, "name", name.as_str());
+    let members = with_path(members, alloc, path);
+    object_of(members)
 }
 
 /// The reply with an item. The text is its name.

@@ -9,7 +9,7 @@ ghost use Rattle.pid_http_stream.specs.StreamFaults.{refusal_data};
 ghost use Rattle.pid_http_stream.specs.HttpStatuses.{allows_body};
 
 use crate::api::Format;
-use crate::api::members::{with_text, with_value};
+use crate::api::members::{object_of, with_text, with_value};
 use crate::api::reply::{json_reply, text_reply};
 use http::StatusCode;
 use pid_http_stream::Reply as HttpReply;
@@ -45,49 +45,49 @@ fn status_of(outcome: Result<Reply, Refusal>) -> StatusCode
 fn done_value(alloc: Global) -> Result<Value, AllocError>
     ensures { IfOk result (λ value. view value ≡ outcome_data (Ok Reply.Done)) }
 {
-    let members = with_value(Map::new(alloc), alloc, "ok", Value::Bool(true))?;
-    Ok(Value::Object(members))
+    let members = with_value(Ok(Map::new(alloc)), alloc, "ok", Value::Bool(true));
+    object_of(members)
 }
 
 fn numbered_value(alloc: Global, number: u32) -> Result<Value, AllocError>
     ensures { IfOk result (λ value. view value
         ≡ outcome_data (Ok (Reply.Numbered number))) }
 {
-    let members = with_value(Map::new(alloc), alloc, "num", Value::from(number))?;
-    let members = with_value(members, alloc, "ok", Value::Bool(true))?;
-    Ok(Value::Object(members))
+    let members = with_value(Ok(Map::new(alloc)), alloc, "num", Value::from(number));
+    let members = with_value(members, alloc, "ok", Value::Bool(true));
+    object_of(members)
 }
 
 fn counts_value(alloc: Global, added: u32, renamed: u32, same: u32) -> Result<Value, AllocError>
     ensures { IfOk result (λ value. view value
         ≡ outcome_data (Ok (Reply.Counts added renamed same))) }
 {
-    let members = with_value(Map::new(alloc), alloc, "added", Value::from(added))?;
-    let members = with_value(members, alloc, "ok", Value::Bool(true))?;
-    let members = with_value(members, alloc, "renamed", Value::from(renamed))?;
-    let members = with_value(members, alloc, "same", Value::from(same))?;
-    Ok(Value::Object(members))
+    let members = with_value(Ok(Map::new(alloc)), alloc, "added", Value::from(added));
+    let members = with_value(members, alloc, "ok", Value::Bool(true));
+    let members = with_value(members, alloc, "renamed", Value::from(renamed));
+    let members = with_value(members, alloc, "same", Value::from(same));
+    object_of(members)
 }
 
 fn fault_value(alloc: Global, line: u64, kind: u8) -> Result<Value, AllocError>
     ensures { IfOk result (λ value. view value ≡ fault_data line kind) }
 {
-    let members = with_value(Map::new(alloc), alloc, "kind", Value::from(kind))?;
-    let members = with_value(members, alloc, "line", Value::from(line))?;
-    let members = with_value(members, alloc, "ok", Value::Bool(false))?;
-    let members = with_value(members, alloc, "refused", Value::from(14u8))?;
-    let members = with_text(members, alloc, "word", "FileFault")?;
-    Ok(Value::Object(members))
+    let members = with_value(Ok(Map::new(alloc)), alloc, "kind", Value::from(kind));
+    let members = with_value(members, alloc, "line", Value::from(line));
+    let members = with_value(members, alloc, "ok", Value::Bool(false));
+    let members = with_value(members, alloc, "refused", Value::from(14u8));
+    let members = with_text(members, alloc, "word", "FileFault");
+    object_of(members)
 }
 
 /// The value of a refusal: its number and its word.
 pub(crate) fn refusal_value(alloc: Global, number: u8, word: &str) -> Result<Value, AllocError>
     ensures { IfOk result (λ value. view value ≡ refusal_data number word.now) }
 {
-    let members = with_value(Map::new(alloc), alloc, "ok", Value::Bool(false))?;
-    let members = with_value(members, alloc, "refused", Value::from(number))?;
-    let members = with_text(members, alloc, "word", word)?;
-    Ok(Value::Object(members))
+    let members = with_value(Ok(Map::new(alloc)), alloc, "ok", Value::Bool(false));
+    let members = with_value(members, alloc, "refused", Value::from(number));
+    let members = with_text(members, alloc, "word", word);
+    object_of(members)
 }
 
 fn outcome_value(alloc: Global, outcome: Result<Reply, Refusal>) -> Result<Value, AllocError>

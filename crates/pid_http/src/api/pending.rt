@@ -3,14 +3,14 @@ ghost use Rattle.std.specs.Prelude.{◌≡◌, ◌++◌, ℕ, codes, map, string
 ghost use Rattle.pid_moderation.specs.PendingPages.{told_of};
 ghost use Rattle.pid_moderation.specs.QueuePages.{QueueEntry, queued_of};
 ghost use Rattle.pid_moderation.specs.Submissions.{Standing, standing_of};
-ghost use Rattle.serde_json.specs.Data.{put as with_member};
+ghost use Rattle.serde_json.specs.Data.{Members, put as with_member};
 ghost use Rattle.serde_json.specs.View.{members_view};
 ghost use Rattle.pid_http.specs.Api.SubmissionAnswers.{now_data, pending_data, pending_line};
 ghost use Rattle.pid_http.specs.Api.SubmissionAnswers.{pending_members, proposal_words};
 ghost use Rattle.pid_http.specs.Api.SubmissionAnswers.{proposed_data, queued_data, queued_line};
 ghost use Rattle.pid_http.specs.Api.Steps.NoFloats.{pending_has_none, queued_has_none};
 
-use crate::api::members::{with_path, with_text, with_value};
+use crate::api::members::{Made, object_of, with_path, with_text, with_value};
 use crate::api::shown::Shown;
 use crate::api::text::{push_line, push_word};
 use itoa::Buffer;
@@ -20,14 +20,10 @@ use serde_json::{Map, Value};
 use std::alloc::{AllocError, Global};
 
 // The members, and what is proposed: the name, or null if the item is to be removed.
-fn with_proposal(
-    members: Map<String, Value>,
-    alloc: Global,
-    proposal: &Proposal,
-) -> Result<Map<String, Value>, AllocError>
-    ensures { IfOk result (λ after. members_view after.entries
-        ≡ with_member (codes "name") (proposed_data proposal.now)
-        (members_view members.entries)) }
+fn with_proposal(members: Made, alloc: Global, proposal: &Proposal) -> Made
+    ensures { (ms : Members) → IfOk members (λ m. members_view m.entries ≡ ms)
+        → IfOk result (λ m. members_view m.entries
+        ≡ with_member (codes "name") (proposed_data proposal.now) ms) }
 {
     match proposal {
         Proposal::Name(name) => with_text(members, alloc, "name", name.as_str()),
@@ -36,17 +32,18 @@ fn with_proposal(
 }
 
 /// The members that each submission has: its author, what is proposed, its number and its path.
-pub(crate) fn submission_members(
-    alloc: Global,
-    number: u32,
-    submission: &Submission,
-) -> Result<Map<String, Value>, AllocError>
+pub(crate) fn submission_members(alloc: Global, number: u32, submission: &Submission) -> Made
     ensures { IfOk result (λ members. members_view members.entries
         ≡ pending_members number (standing_of submission.now)) }
 {
-    let members = with_text(Map::new(alloc), alloc, "author", submission.author.as_str())?;
-    let members = with_proposal(members, alloc, &submission.proposal)?;
-    let members = with_value(members, alloc, "num", Value::from(number))?;
+    let members = with_text(
+        Ok(Map::new(alloc)),
+        alloc,
+        "author",
+        submission.author.as_str(),
+    );
+    let members = with_proposal(members, alloc, &submission.proposal);
+    let members = with_value(members, alloc, "num", Value::from(number));
     with_path(members, alloc, &submission.path)
 }
 
@@ -97,8 +94,8 @@ impl Shown for Pending {
     ghost lines = { pending_line };
 
     fn value(&self, alloc: Global) -> Result<Value, AllocError> {
-        let members = submission_members(alloc, self.number, &self.submission)?;
-        Ok(Value::Object(members))
+        let members = submission_members(alloc, self.number, &self.submission);
+        object_of(members)
     }
 
     fn push_text(&self, alloc: Global, text: &mut String) -> Result<(), AllocError> {
@@ -109,13 +106,10 @@ impl Shown for Pending {
 }
 
 // The members, and the name of today, or null if there is none.
-fn with_now(
-    members: Map<String, Value>,
-    alloc: Global,
-    today: &Option<Name>,
-) -> Result<Map<String, Value>, AllocError>
-    ensures { IfOk result (λ after. members_view after.entries
-        ≡ with_member (codes "now") (now_data today.now) (members_view members.entries)) }
+fn with_now(members: Made, alloc: Global, today: &Option<Name>) -> Made
+    ensures { (ms : Members) → IfOk members (λ m. members_view m.entries ≡ ms)
+        → IfOk result (λ m. members_view m.entries
+        ≡ with_member (codes "now") (now_data today.now) ms) }
 {
     match today {
         Some(name) => with_text(members, alloc, "now", name.as_str()),
@@ -134,11 +128,11 @@ impl Shown for Queued {
     ghost lines = { queued_line };
 
     fn value(&self, alloc: Global) -> Result<Value, AllocError> {
-        let members = submission_members(alloc, self.number, &self.submission)?;
-        let members = with_text(members, alloc, "note", self.submission.note.as_str())?;
-        let members = with_now(members, alloc, &self.now)?;
-        let members = with_value(members, alloc, "remarks", Value::from(self.remarks))?;
-        Ok(Value::Object(members))
+        let members = submission_members(alloc, self.number, &self.submission);
+        let members = with_text(members, alloc, "note", self.submission.note.as_str());
+        let members = with_now(members, alloc, &self.now);
+        let members = with_value(members, alloc, "remarks", Value::from(self.remarks));
+        object_of(members)
     }
 
     fn push_text(&self, alloc: Global, text: &mut String) -> Result<(), AllocError> {

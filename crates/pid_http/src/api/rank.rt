@@ -5,7 +5,7 @@ ghost use Rattle.pid_http.specs.Api.RankAnswers.{rank_answer, rank_data};
 ghost use Rattle.pid_http.specs.Api.Replying.{MakesReply};
 
 use crate::api::Format;
-use crate::api::members::{with_text, with_value};
+use crate::api::members::{object_of, with_text, with_value};
 use crate::api::outcome::absent_reply;
 use crate::api::reply::{json_reply, text_reply};
 use crate::api::text::push_line;
@@ -20,9 +20,14 @@ use std::alloc::{AllocError, Global};
 fn rank_value(alloc: Global, who: &Account, rank: Rank) -> Result<Value, AllocError>
     ensures { IfOk result (λ value. view value ≡ rank_data who.now rank) }
 {
-    let members = with_value(Map::new(alloc), alloc, "rank", Value::from(rank.number()))?;
-    let members = with_text(members, alloc, "who", who.as_str())?;
-    Ok(Value::Object(members))
+    let members = with_value(
+        Ok(Map::new(alloc)),
+        alloc,
+        "rank",
+        Value::from(rank.number()),
+    );
+    let members = with_text(members, alloc, "who", who.as_str());
+    object_of(members)
 }
 
 /// The reply with the rank of an account, or that there is no such account. The text is a line of

@@ -7,7 +7,7 @@ ghost use Rattle.pid_http.specs.Api.SubmissionAnswers.{remarks_text};
 ghost use Rattle.pid_http.specs.Api.Steps.NoFloats.{remarks_have_none};
 
 use crate::api::list::{push_lines, rows_value};
-use crate::api::members::{with_text, with_value};
+use crate::api::members::{object_of, with_text, with_value};
 use crate::api::shown::Shown;
 use crate::api::submission::{push_standing, standing_members, state_name};
 use crate::api::text::{push_line, push_word};
@@ -27,11 +27,15 @@ impl Shown for PlacedRemark {
     ghost lines = { placed_line };
 
     fn value(&self, alloc: Global) -> Result<Value, AllocError> {
-        let members = Map::new(alloc);
-        let members = with_text(members, alloc, "author", self.remark.author.as_str())?;
-        let members = with_value(members, alloc, "place", Value::from(self.place))?;
-        let members = with_text(members, alloc, "text", self.remark.text.as_str())?;
-        Ok(Value::Object(members))
+        let members = with_text(
+            Ok(Map::new(alloc)),
+            alloc,
+            "author",
+            self.remark.author.as_str(),
+        );
+        let members = with_value(members, alloc, "place", Value::from(self.place));
+        let members = with_text(members, alloc, "text", self.remark.text.as_str());
+        object_of(members)
     }
 
     fn push_text(&self, _alloc: Global, text: &mut String) -> Result<(), AllocError> {
@@ -57,11 +61,11 @@ impl Shown for RemarkPage {
 
     fn value(&self, alloc: Global) -> Result<Value, AllocError> {
         let remarks = rows_value(alloc, self.remarks.as_slice())?;
-        let members = standing_members(alloc, self.number, &self.submission)?;
-        let members = with_value(members, alloc, "count", Value::from(self.count))?;
-        let members = with_value(members, alloc, "remarks", remarks)?;
-        let members = with_text(members, alloc, "state", state_name(&self.submission.state))?;
-        Ok(Value::Object(members))
+        let members = standing_members(alloc, self.number, &self.submission);
+        let members = with_value(members, alloc, "count", Value::from(self.count));
+        let members = with_value(members, alloc, "remarks", remarks);
+        let members = with_text(members, alloc, "state", state_name(&self.submission.state));
+        object_of(members)
     }
 
     fn push_text(&self, alloc: Global, text: &mut String) -> Result<(), AllocError> {

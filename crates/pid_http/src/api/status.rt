@@ -4,7 +4,7 @@ ghost use Rattle.pid_moderation.specs.RegistryStatus.{RegistryStatus, registry_s
 ghost use Rattle.pid_http.specs.Api.StatusAnswers.{status_data, status_text};
 ghost use Rattle.pid_http.specs.Api.Replying.{word_line};
 
-use crate::api::members::with_value;
+use crate::api::members::{object_of, with_value};
 use crate::api::shown::Shown;
 use crate::api::text::push_line;
 use itoa::Buffer;
@@ -32,13 +32,17 @@ impl Shown for Status {
     ghost lines = { status_text };
 
     fn value(&self, alloc: Global) -> Result<Value, AllocError> {
-        let members = Map::new(alloc);
-        let members = with_value(members, alloc, "accounts", Value::from(self.accounts))?;
-        let members = with_value(members, alloc, "items", Value::from(self.items))?;
-        let members = with_value(members, alloc, "pending", Value::from(self.pending))?;
-        let members = with_value(members, alloc, "revision", Value::from(self.revision))?;
-        let members = with_value(members, alloc, "submissions", Value::from(self.submissions))?;
-        Ok(Value::Object(members))
+        let members = with_value(
+            Ok(Map::new(alloc)),
+            alloc,
+            "accounts",
+            Value::from(self.accounts),
+        );
+        let members = with_value(members, alloc, "items", Value::from(self.items));
+        let members = with_value(members, alloc, "pending", Value::from(self.pending));
+        let members = with_value(members, alloc, "revision", Value::from(self.revision));
+        let members = with_value(members, alloc, "submissions", Value::from(self.submissions));
+        object_of(members)
     }
 
     fn push_text(&self, _alloc: Global, text: &mut String) -> Result<(), AllocError> {

@@ -14,7 +14,7 @@ ghost use Rattle.pid_http.specs.Api.SubmissionAnswers.{submission_answer, submis
 
 use crate::api::Format;
 use crate::api::list::{push_lines, push_rows, push_value};
-use crate::api::members::with_text;
+use crate::api::members::{Made, object_of, with_text};
 use crate::api::pending::submission_members;
 use crate::api::reply::{json_text_reply, printed, text_reply};
 use crate::api::shown::Shown;
@@ -71,9 +71,9 @@ impl Shown for Comment {
     ghost lines = { remark_line };
 
     fn value(&self, alloc: Global) -> Result<Value, AllocError> {
-        let members = with_text(Map::new(alloc), alloc, "author", self.author.as_str())?;
-        let members = with_text(members, alloc, "text", self.text.as_str())?;
-        Ok(Value::Object(members))
+        let members = with_text(Ok(Map::new(alloc)), alloc, "author", self.author.as_str());
+        let members = with_text(members, alloc, "text", self.text.as_str());
+        object_of(members)
     }
 
     fn push_text(&self, _alloc: Global, text: &mut String) -> Result<(), AllocError> {
@@ -85,17 +85,13 @@ impl Shown for Comment {
 }
 
 /// What comes before the remarks.
-pub(crate) fn standing_members(
-    alloc: Global,
-    number: u32,
-    submission: &Submission,
-) -> Result<Map<String, Value>, AllocError>
+pub(crate) fn standing_members(alloc: Global, number: u32, submission: &Submission) -> Made
     ensures { IfOk result (λ members. members_view members.entries
         ≡ members_of number (standing_of submission.now) no_members) }
 {
-    let members = submission_members(alloc, number, submission)?;
-    let members = with_text(members, alloc, "decider", decider(submission))?;
-    let members = with_text(members, alloc, "note", submission.note.as_str())?;
+    let members = submission_members(alloc, number, submission);
+    let members = with_text(members, alloc, "decider", decider(submission));
+    let members = with_text(members, alloc, "note", submission.note.as_str());
     with_text(members, alloc, "reason", reason(&submission.state))
 }
 
@@ -104,8 +100,8 @@ fn standing_json(alloc: Global, number: u32, submission: &Submission) -> Result<
     ensures { IfOk result (λ text. string_bytes text ++ codes "}"
         ≡ compact_text (object (members_of number (standing_of submission.now) no_members))) }
 {
-    let members = standing_members(alloc, number, submission)?;
-    let mut text = printed(alloc, Value::Object(members))?;
+    let value = object_of(standing_members(alloc, number, submission))?;
+    let mut text = printed(alloc, value)?;
     text.pop();
     Ok(text)
 }

@@ -6,7 +6,7 @@ ghost use Rattle.pid_http.specs.Api.SubmissionAnswers.{submissions_text};
 ghost use Rattle.pid_http.specs.Api.Steps.NoFloats.{listed_has_none, submissions_have_none};
 
 use crate::api::list::{push_lines, rows_value};
-use crate::api::members::{with_text, with_value};
+use crate::api::members::{object_of, with_text, with_value};
 use crate::api::pending::{push_proposal, submission_members};
 use crate::api::shown::Shown;
 use crate::api::submission::{decider, reason, state_name};
@@ -30,12 +30,12 @@ impl Shown for Listed {
 
     fn value(&self, alloc: Global) -> Result<Value, AllocError> {
         let submission = &self.submission;
-        let members = submission_members(alloc, self.number, submission)?;
-        let members = with_text(members, alloc, "decider", decider(submission))?;
-        let members = with_text(members, alloc, "reason", reason(&submission.state))?;
-        let members = with_value(members, alloc, "remarks", Value::from(self.remarks))?;
-        let members = with_text(members, alloc, "state", state_name(&submission.state))?;
-        Ok(Value::Object(members))
+        let members = submission_members(alloc, self.number, submission);
+        let members = with_text(members, alloc, "decider", decider(submission));
+        let members = with_text(members, alloc, "reason", reason(&submission.state));
+        let members = with_value(members, alloc, "remarks", Value::from(self.remarks));
+        let members = with_text(members, alloc, "state", state_name(&submission.state));
+        object_of(members)
     }
 
     fn push_text(&self, alloc: Global, text: &mut String) -> Result<(), AllocError> {
@@ -63,9 +63,14 @@ impl Shown for SubmissionPage {
 
     fn value(&self, alloc: Global) -> Result<Value, AllocError> {
         let submissions = rows_value(alloc, self.submissions.as_slice())?;
-        let members = with_value(Map::new(alloc), alloc, "before", Value::from(self.before))?;
-        let members = with_value(members, alloc, "submissions", submissions)?;
-        Ok(Value::Object(members))
+        let members = with_value(
+            Ok(Map::new(alloc)),
+            alloc,
+            "before",
+            Value::from(self.before),
+        );
+        let members = with_value(members, alloc, "submissions", submissions);
+        object_of(members)
     }
 
     fn push_text(&self, alloc: Global, text: &mut String) -> Result<(), AllocError> {

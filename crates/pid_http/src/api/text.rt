@@ -19,8 +19,7 @@ pub(crate) fn push_word(text: &mut String, word: &str) -> Result<(), AllocError>
         ≡ string_bytes text.old ++ word.now ++ codes " ") }
 {
     text.push_str(word)?;
-    text.push_str(" ")?;
-    Ok(())
+    text.push_str(" ")
 }
 
 /// Appends a word, a space, the value, and a line feed.
@@ -30,6 +29,5 @@ pub(crate) fn push_line(text: &mut String, word: &str, value: &str) -> Result<()
 {
     push_word(text, word)?;
     text.push_str(value)?;
-    text.push_str("\n")?;
-    Ok(())
+    text.push_str("\n")
 }

@@ -47,16 +47,16 @@ pub record BodyState : Type 0 where
   pub taken : Option (List ℕ)
 
 -- why there is this fault
-abbrev pub IsCauseOf : BodyFault → BodyState → Type 0
-IsCauseOf faults.Short s = IsAtEnd s.turns.reader.come
-IsCauseOf faults.ReadFault s = IsSome s.turns.reader.fault
-IsCauseOf faults.TurnsSpent s = s.turns.left ≡ 0
+abbrev pub IsCauseOf : BodyFault → Turns → Type 0
+IsCauseOf faults.Short t = IsAtEnd t.reader.come
+IsCauseOf faults.ReadFault t = IsSome t.reader.fault
+IsCauseOf faults.TurnsSpent t = t.left ≡ 0
 
 -- if there is a fault bytes are still wanted, and none are held
 pub record HasBrokenOff (s : BodyState) (fault : BodyFault) : Type 0 where
   pub wants : 0 < s.wanted
   pub none_held : s.held ≡ []
-  pub cause : IsCauseOf fault s
+  pub cause : IsCauseOf fault s.turns
 
 -- a fault has its cause
 abbrev pub IsFaultCaused : BodyState → Type 0

@@ -1,17 +1,19 @@
 -- What comes in from a reader, and what the bytes that came begin with.
-use Rattle.std.specs.Prelude.{◌≡◌, ℕ, ◌<◌, ◌≤◌, List, ◌++◌, take, map, Option, Some, IfSome}
+use Rattle.std.specs.Prelude.{◌≡◌, ℕ, ◌+◌, ◌<◌, ◌≤◌, ◌⊎◌, List, [], ◌++◌, length, take, map, Option, Some}
+use Rattle.std.specs.Prelude.{IfSome}
 use Rattle.std.specs.Prelude.{None, IsSome, ⊤, Result, Ok, Err}
 use Rattle.std.specs.Io.KnownBytes.{Consumes, IsAtEnd}
 use Rattle.httparse.specs.Spans.{header_bytes, IsRequestWithin, IsRequestOf}
 use Rattle.httparse.specs.declared.spans.HeaderSpan.{HeaderSpan}
 use Rattle.httparse.specs.declared.spans.RequestSpans.{RequestSpans}
 use Rattle.pid_file.specs.declared.io.ReadFault.{ReadFault}
-use Rattle.pid_http_stream.specs.Steps.Bodies.{idle_at}
+use Rattle.pid_http_stream.specs.Steps.Bodies.{Turns, SpendsTurns, IsCauseOf, idle_at}
 use Rattle.pid_http_stream.specs.BodyLengths.{body_length}
 use Rattle.pid_http_stream.specs.Endings.{HasFault}
 use Rattle.pid_http_stream.specs.Leftovers.{IsLeftover}
-use Rattle.pid_http_stream.specs.Moments.{Moment}
+use Rattle.pid_http_stream.specs.Moments.{Moment, AllSince}
 use Rattle.pid_http_stream.specs.Unfinished.{IsHeadUnfinished, IsUnfinished}
+use Rattle.pid_http_stream.specs.declared.body_input.BodyFault.{BodyFault}
 use Rattle.pid_http_stream.specs.declared.body_input.BodyFault.TheVariants as faults
 use Rattle.pid_http_stream.specs.declared.body_length.BodyLength.TheVariants.{Bytes}
 use Rattle.pid_http_stream.specs.declared.judging.FoundHead.{FoundHead}
@@ -36,6 +38,31 @@ pub record ComesIn (held held_after : List ℕ) (input input_after : Option (Lis
 -- it was read with this to come, and this taken
 abbrev pub IsMoment : Option (List ℕ) → Option (List ℕ) → Moment → Type 0
 IsMoment to_come taken m = m ≡ (record { to_come = to_come; taken = taken })
+
+-- one read within the turns brought some bytes, or a fault that has its cause
+abbrev pub TurnBrings : Result ℕ BodyFault → List ℕ → Turns → Turns → Type 0
+TurnBrings (Ok n) buffer a b = Consumes a.reader.come b.reader.come (take n buffer)
+    × (0 < n) × (n ≤ length buffer) × (b.reader.fault ≡ a.reader.fault) × (b.left + 1 ≡ a.left)
+TurnBrings (Err fault) buffer a b = Consumes a.reader.come b.reader.come [] × IsCauseOf fault b
+    × ((b.reader.fault ≡ a.reader.fault) ⊎ (fault ≡ faults.ReadFault))
+
+-- how many reads may be idle if this came of one
+abbrev pub idle_read : Result ℕ BodyFault → ℕ
+idle_read (Ok n) = 0
+idle_read (Err fault) = idle_at (Some fault)
+
+-- one read was made, if a turn was left
+pub record TakesTurn (result : Result ℕ BodyFault) (buffer : List ℕ) (taken : Option (List ℕ))
+    (a b : Turns) : Type 0 where
+  pub brings : TurnBrings result buffer a b
+  pub turns : SpendsTurns (idle_read result) a b
+  pub noted : AllSince (IsMoment a.reader.come taken) a.reader.moments b.reader.moments
+
+-- what a fault of a read is up to the end of a head
+abbrev pub filled_by : BodyFault → Filled
+filled_by faults.Short = filled.End
+filled_by faults.ReadFault = filled.Stopped stops.ReadFault
+filled_by faults.TurnsSpent = filled.Stopped stops.TurnsSpent
 
 -- when the reader was read, what was held and what had come after it was a request that had not
 -- come whole, and the writer had taken this

@@ -1,155 +1,144 @@
 //! The path of a text.
-ghost use Rattle.std.specs.Prelude.{◌≡◌, ◌<◌, ◌^◌, ◌++◌, ◌∷◌, ℕ, List, IfSome, IfNone};
-ghost use Rattle.std.specs.Char.{digit_char};
-ghost use Rattle.pid_file.specs.PathTexts.{IsPath, IsTextOf, parts_of, slashed};
-ghost use Rattle.pid_file.specs.Steps.PathPlaces.{letter_of};
-ghost use Rattle.pid_file.specs.Identifiers.{hex4 as four_digits, hex2 as two_digits};
+ghost use Rattle.std.specs.Prelude.{◌≡◌, ◌+◌, ◌^◌, ◌<◌};
+ghost use Rattle.pid_ident.specs.PathReading.{
+  path_of,
+  digit_at as value_at,
+  two_at as two_digits_at,
+  four_at as four_digits_at,
+};
+ghost use Rattle.pid_ident.specs.Steps.Shapes.{
+  fits as has_shape,
+  fits_mark as is_marked,
+  device_path as device_of,
+  class_path as class_of,
+  generic_path as generic_of,
+};
 
 use pid_file::{Id8, Id16, Path};
 
 /// The path whose text it is.
 pub fn read_path(text: &[u8]) -> Option<Path>
-    ensures found { IfSome result (λ p. IsTextOf text.now p) }
-    ensures none { IfNone result ((p : Path) → IsTextOf text.now p → ⊥) }
+    ensures { result ≡ path_of text.now }
 {
-    let [b'P', letter, parts @ ..] = text else {
-        return None;
-    };
-    match *letter {
-        b'C' => device_path(parts),
-        b'D' => class_path(parts),
-        b'S' => generic_path(parts),
-        _ => None,
+    device_path(text)
+        .or(class_path(text))
+        .or(generic_path(text))
+}
+
+fn device_path(text: &[u8]) -> Option<Path>
+    ensures { result ≡ device_of text.now }
+{
+    if fits(text, b"PC/####") {
+        return Some(Path::Vendor {
+            vendor: four_at(text, 3),
+        });
+    }
+    if fits(text, b"PC/####/####") {
+        return Some(Path::Device {
+            vendor: four_at(text, 3),
+            device: four_at(text, 8),
+        });
+    }
+    if fits(text, b"PC/####/####/########") {
+        return Some(Path::Subsystem {
+            vendor: four_at(text, 3),
+            device: four_at(text, 8),
+            subvendor: four_at(text, 13),
+            subdevice: four_at(text, 17),
+        });
+    }
+    None
+}
+
+fn class_path(text: &[u8]) -> Option<Path>
+    ensures { result ≡ class_of text.now }
+{
+    if fits(text, b"PD/##") {
+        return Some(Path::Class {
+            class: two_at(text, 3),
+        });
+    }
+    if fits(text, b"PD/##/##") {
+        return Some(Path::Subclass {
+            class: two_at(text, 3),
+            subclass: two_at(text, 6),
+        });
+    }
+    if fits(text, b"PD/##/##/##") {
+        return Some(Path::ProgIf {
+            class: two_at(text, 3),
+            subclass: two_at(text, 6),
+            progif: two_at(text, 9),
+        });
+    }
+    None
+}
+
+fn generic_path(text: &[u8]) -> Option<Path>
+    ensures { result ≡ generic_of text.now }
+{
+    if fits(text, b"PS/####/####") {
+        return Some(Path::Generic {
+            vendor: four_at(text, 3),
+            device: four_at(text, 8),
+        });
+    }
+    None
+}
+
+// Whether a text has a shape, in which `#` stands for a lower-case hex digit.
+fn fits(text: &[u8], shape: &[u8]) -> bool
+    ensures { result ≡ has_shape text.now shape.now }
+{
+    let mut rest = text;
+    let mut marks = shape;
+    while let [mark, others @ ..] = marks {
+        let [byte, behind @ ..] = rest else {
+            return false;
+        };
+        if !fits_mark(*byte, *mark) {
+            return false;
+        }
+        rest = behind;
+        marks = others;
+    }
+    rest.is_empty()
+}
+
+fn fits_mark(byte: u8, mark: u8) -> bool
+    ensures { result ≡ is_marked byte mark }
+{
+    if mark == b'#' {
+        (byte >= b'0' && byte <= b'9') || (byte >= b'a' && byte <= b'f')
+    } else {
+        byte == mark
     }
 }
 
-// What comes after `PC`.
-fn device_path(parts: &[u8]) -> Option<Path>
-    ensures found { IfSome result (λ p. IsPath p × (letter_of p ≡ 67)
-        × (parts.now ≡ slashed (parts_of p))) }
-    ensures none { IfNone result ((p : Path) → IsPath p → letter_of p ≡ 67
-        → parts.now ≡ slashed (parts_of p) → ⊥) }
+// The number of the four digits at a place.
+fn four_at(text: &[u8], place: usize) -> Id16
+    requires { place < 2 ^ 16 }
+    ensures { result ≡ four_digits_at place text.now }
 {
-    let (vendor, rest) = split_part4(parts)?;
-    if rest.is_empty() {
-        return Some(Path::Vendor { vendor });
-    }
-    let (device, rest) = split_part4(rest)?;
-    if rest.is_empty() {
-        return Some(Path::Device { vendor, device });
-    }
-    let (subvendor, rest) = split_part4(rest)?;
-    let (subdevice, rest) = split4(rest)?;
-    if !rest.is_empty() {
-        return None;
-    }
-    Some(Path::Subsystem {
-        vendor,
-        device,
-        subvendor,
-        subdevice,
-    })
+    two_at(text, place) as u16 * 256 + two_at(text, place + 2) as u16
 }
 
-// What comes after `PD`.
-fn class_path(parts: &[u8]) -> Option<Path>
-    ensures found { IfSome result (λ p. IsPath p × (letter_of p ≡ 68)
-        × (parts.now ≡ slashed (parts_of p))) }
-    ensures none { IfNone result ((p : Path) → IsPath p → letter_of p ≡ 68
-        → parts.now ≡ slashed (parts_of p) → ⊥) }
+// The number of the two digits at a place.
+fn two_at(text: &[u8], place: usize) -> Id8
+    requires { place < 2 ^ 17 }
+    ensures { result ≡ two_digits_at place text.now }
 {
-    let (class, rest) = split_part2(parts)?;
-    if rest.is_empty() {
-        return Some(Path::Class { class });
+    digit_at(text, place) * 16 + digit_at(text, place + 1)
+}
+
+// The value of the digit at a place; 0 past the end.
+fn digit_at(text: &[u8], place: usize) -> u8
+    ensures value { result ≡ value_at place text.now }
+    ensures small { result < 16 }
+{
+    match text.get(place) {
+        Some(byte) if *byte <= b'9' => byte.saturating_sub(b'0') % 16,
+        Some(byte) => byte.saturating_sub(b'a' - 10) % 16,
+        None => 0,
     }
-    let (subclass, rest) = split_part2(rest)?;
-    if rest.is_empty() {
-        return Some(Path::Subclass { class, subclass });
-    }
-    let (progif, rest) = split_part2(rest)?;
-    if !rest.is_empty() {
-        return None;
-    }
-    Some(Path::ProgIf {
-        class,
-        subclass,
-        progif,
-    })
-}
-
-// What comes after `PS`.
-fn generic_path(parts: &[u8]) -> Option<Path>
-    ensures found { IfSome result (λ p. IsPath p × (letter_of p ≡ 83)
-        × (parts.now ≡ slashed (parts_of p))) }
-    ensures none { IfNone result ((p : Path) → IsPath p → letter_of p ≡ 83
-        → parts.now ≡ slashed (parts_of p) → ⊥) }
-{
-    let (vendor, rest) = split_part4(parts)?;
-    let (device, rest) = split_part4(rest)?;
-    if !rest.is_empty() {
-        return None;
-    }
-    Some(Path::Generic { vendor, device })
-}
-
-// The number of a slash and four digits, and what follows them.
-fn split_part4(text: &[u8]) -> Option<(Id16, &[u8])>
-    ensures found { IfSome result (λ x. (x.0 < 2 ^ 16)
-        × (text.now ≡ 47 ∷ four_digits x.0 ++ x.1.now)) }
-    ensures none { IfNone result ((n : ℕ) (rest : List ℕ) → n < 2 ^ 16
-        → text.now ≡ 47 ∷ four_digits n ++ rest → ⊥) }
-{
-    let [b'/', digits @ ..] = text else {
-        return None;
-    };
-    split4(digits)
-}
-
-// The number of four digits, and what follows them.
-fn split4(text: &[u8]) -> Option<(Id16, &[u8])>
-    ensures found { IfSome result (λ x. (x.0 < 2 ^ 16) × (text.now ≡ four_digits x.0 ++ x.1.now)) }
-    ensures none { IfNone result ((n : ℕ) (rest : List ℕ) → n < 2 ^ 16
-        → text.now ≡ four_digits n ++ rest → ⊥) }
-{
-    let [a, b, c, d, rest @ ..] = text else {
-        return None;
-    };
-    let high = number2([*a, *b])?;
-    let low = number2([*c, *d])?;
-    Some((high as u16 * 256 + low as u16, rest))
-}
-
-// The number of a slash and two digits, and what follows them.
-fn split_part2(text: &[u8]) -> Option<(Id8, &[u8])>
-    ensures found { IfSome result (λ x. (x.0 < 2 ^ 8)
-        × (text.now ≡ 47 ∷ two_digits x.0 ++ x.1.now)) }
-    ensures none { IfNone result ((n : ℕ) (rest : List ℕ) → n < 2 ^ 8
-        → text.now ≡ 47 ∷ two_digits n ++ rest → ⊥) }
-{
-    let [b'/', a, b, rest @ ..] = text else {
-        return None;
-    };
-    let number = number2([*a, *b])?;
-    Some((number, rest))
-}
-
-// The value of a lower-case digit.
-fn lower_value(digit: u8) -> Option<u8>
-    ensures found { IfSome result (λ v. (v < 16) × (digit ≡ digit_char v)) }
-    ensures none { IfNone result ((v : ℕ) → v < 16 → digit ≡ digit_char v → ⊥) }
-{
-    match digit {
-        b'0'..=b'9' => Some(digit - b'0'),
-        b'a'..=b'f' => Some(digit - b'a' + 10),
-        _ => None,
-    }
-}
-
-// The number of two lower-case digits.
-fn number2(digits: [u8; 2]) -> Option<Id8>
-    ensures found { IfSome result (λ n. (n < 2 ^ 8) × (digits ≡ two_digits n)) }
-    ensures none { IfNone result ((n : ℕ) → n < 2 ^ 8 → digits ≡ two_digits n → ⊥) }
-{
-    let [a, b] = digits;
-    Some(lower_value(a)? * 16 + lower_value(b)?)
 }

@@ -1,5 +1,6 @@
 //! The text of a path.
 ghost use Rattle.std.specs.Prelude.{◌≡◌, ◌++◌, ◌∷◌, OnOk, string_bytes};
+ghost use Rattle.std.specs.Str.{IsAscii};
 ghost use Rattle.pid_file.specs.PathTexts.{front_of, parts_of, slashed};
 ghost use Rattle.pid_file.specs.Identifiers.{hex4 as four_digits, hex2 as two_digits};
 
@@ -37,7 +38,7 @@ pub fn push_parts(text: &mut String, path: Path) -> Result<(), AllocError>
             push_part4(text, vendor)?;
             push_part4(text, device)?;
             push_part4(text, subvendor)?;
-            push4(text, subdevice)
+            push_digits(text, &hex4(subdevice))
         }
         Path::Class { class } => push_part2(text, class),
         Path::Subclass { class, subclass } => {
@@ -61,7 +62,7 @@ fn push_part4(text: &mut String, number: Id16) -> Result<(), AllocError>
         ≡ string_bytes text.old ++ 47 ∷ four_digits number) }
 {
     text.push('/')?;
-    push4(text, number)
+    push_digits(text, &hex4(number))
 }
 
 fn push_part2(text: &mut String, number: Id8) -> Result<(), AllocError>
@@ -69,19 +70,15 @@ fn push_part2(text: &mut String, number: Id8) -> Result<(), AllocError>
         ≡ string_bytes text.old ++ 47 ∷ two_digits number) }
 {
     text.push('/')?;
-    let [a, b] = hex2(number);
-    text.push(char::from(a))?;
-    text.push(char::from(b))?;
-    Ok(())
+    push_digits(text, &hex2(number))
 }
 
-fn push4(text: &mut String, number: Id16) -> Result<(), AllocError>
-    ensures { OnOk result (string_bytes text.new ≡ string_bytes text.old ++ four_digits number) }
+fn push_digits(text: &mut String, digits: &[u8]) -> Result<(), AllocError>
+    requires { IsAscii digits.now }
+    ensures { OnOk result (string_bytes text.new ≡ string_bytes text.old ++ digits.now) }
 {
-    let [a, b, c, d] = hex4(number);
-    text.push(char::from(a))?;
-    text.push(char::from(b))?;
-    text.push(char::from(c))?;
-    text.push(char::from(d))?;
+    for digit in digits {
+        text.push(char::from(*digit))?;
+    }
     Ok(())
 }

@@ -13,9 +13,10 @@ use Rattle.pid_journal.specs.declared.placing.Place.{Place}
 use Rattle.pid_journal.specs.declared.placing.Said.{Said}
 use Rattle.pid_journal.specs.declared.placing.Step.{Step}
 use Rattle.pid_journal.specs.declared.placing.Step.TheVariants.{Here, Behind, Nowhere}
-use Rattle.pid_journal.specs.Comments.{counts_held}
-use Rattle.pid_journal.specs.Openings.{HasBegun, IsRefused, compared}
+use Rattle.pid_journal.specs.Journals.{counts_held}
+use Rattle.pid_journal.specs.Openings.{IsRefused, compared}
 use Rattle.pid_journal.specs.Steps.Places.{IsSaid}
+use Rattle.pid_journal.specs.Steps.Segments.{HasBegun}
 
 -- The counts so far are older than the registry, and have the greatest revision that is allowed here.
 abbrev pub IsOlderAt : Option Counts → Counts → Place → Type 0

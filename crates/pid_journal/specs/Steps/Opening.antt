@@ -7,9 +7,9 @@ use Rattle.pid_service_laws.specs.Registries.{Showing}
 use Rattle.pid_service_laws.specs.declared.moderated.Moderated.{Ghosts}
 use Rattle.pid_journal.specs.declared.file.JournalFile as files
 use Rattle.pid_journal.specs.declared.open_fault.OpenFault.{OpenFault}
-use Rattle.pid_journal.specs.Comments.{counts_held}
-use Rattle.pid_journal.specs.Journals.{IsMark, JournalLeads}
+use Rattle.pid_journal.specs.Journals.{counts_held, JournalLeads}
 use Rattle.pid_journal.specs.Openings.{IsRefused, StopsAtOne}
+use Rattle.pid_journal.specs.Steps.Notes.{IsMark}
 use Rattle.pid_journal.specs.Steps.Ways.{IsAlong}
 
 -- so many bytes of the text are whole lines

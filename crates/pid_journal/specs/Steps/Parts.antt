@@ -8,10 +8,10 @@ use Rattle.pid_journal.specs.declared.journaled.Journaled.{Journaled}
 use Rattle.pid_service_laws.specs.declared.moderated.Moderated.{Ghosts}
 use Rattle.pid_moderation.specs.declared.refusal.Refusal.{Refusal}
 use Rattle.pid_moderation.specs.declared.refusal.Refusal.TheVariants.{Failed}
-use Rattle.pid_journal.specs.Comments.{counts_held}
-use Rattle.pid_journal.specs.Files.{LeavesPart}
-use Rattle.pid_journal.specs.Journals.{IsMark}
-use Rattle.pid_journal.specs.Pairs.{PairShows}
+use Rattle.pid_journal.specs.Journals.{counts_held}
+use Rattle.pid_journal.specs.Doubts.{LeavesPart}
+use Rattle.pid_journal.specs.Pairs.{PairFailsBetween, PairShows, pair_showing}
+use Rattle.pid_journal.specs.Steps.Notes.{IsMark}
 
 -- A registry was asked whether it is live.
 pub record IsProbed {R : Type 0} (w : Showing R) (is_live : R → Bool) (old new : R)
@@ -53,3 +53,10 @@ pub record RefusesNothing {R J : Type 0} (registry : Ghosts R) (file : files.Gho
   pub shown : registry.showing.is_clean new.registry → (start h : History)
       → PairShows registry file start old h
       → (answered ≡ refusal) × PairShows registry file start new h
+
+-- how a pair is described whose journal begins at a history
+abbrev pub pair_showing_from : {R J : Type 0} → Ghosts R → files.Ghosts J → History → Showing (Journaled R J)
+pair_showing_from registry file start = record (pair_showing registry file) {
+  shows = PairShows registry file start;
+  fails_between = PairFailsBetween registry file start;
+}

@@ -14,8 +14,8 @@ use Rattle.pid_journal.specs.declared.placing.Said.{Said}
 use Rattle.pid_journal.specs.declared.placing.Said.TheVariants.{Holds, Nothing, Other}
 use Rattle.pid_journal.specs.declared.placing.Step.{Step}
 use Rattle.pid_journal.specs.declared.placing.Step.TheVariants.{Here, Behind, Nowhere}
-use Rattle.pid_journal.specs.Comments.{counts_held, counts_said}
-use Rattle.pid_journal.specs.Journals.{after_line}
+use Rattle.pid_journal.specs.Journals.{counts_held, counts_said}
+use Rattle.pid_journal.specs.Steps.Notes.{after_line}
 use Rattle.pid_journal.specs.Steps.Ways.{IsOnWay}
 use Rattle.pid_journal.specs.Openings.{IsRefused}
 
@@ -44,7 +44,7 @@ pub record IsPlaced (shown h : History) (place : Place) (lines : List (List ℕ)
   pub older : place.noted ≡ true → place.most < revision_of shown
 
 abbrev pub LeadsToPlace : Step → (shown h : History) → List ℕ → List (List ℕ) → Type 0
-LeadsToPlace Here shown h line lines = h ≡ shown
+LeadsToPlace Here shown h line lines = after_line h line ≡ shown
 LeadsToPlace (Behind place) shown h line lines = IsPlaced shown (after_line h line) place lines
 LeadsToPlace Nowhere shown h line lines = ⊥
 

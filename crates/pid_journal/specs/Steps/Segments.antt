@@ -12,10 +12,9 @@ use Rattle.pid_journal.specs.declared.file.JournalFile as files
 use Rattle.pid_journal.specs.declared.folder.JournalFolder as folders
 use Rattle.pid_journal.specs.declared.open_fault.OpenFault.{OpenFault}
 use Rattle.pid_journal.specs.declared.open_fault.OpenFault.TheVariants.{Another, Newer}
-use Rattle.pid_journal.specs.Journals.{JournalLeads}
-use Rattle.pid_journal.specs.Steps.Ways.{IsAlong, IsOnWay}
-use Rattle.pid_journal.specs.Openings.{IsRefused, NamesNew, StopsAtOne}
-use Rattle.pid_journal.specs.Segments.{IsOnSegments, lines_in}
+use Rattle.pid_journal.specs.Journals.{JournalLeads, lines_in}
+use Rattle.pid_journal.specs.Steps.Ways.{IsAlong, IsInSegments, IsOnWay}
+use Rattle.pid_journal.specs.Openings.{IsRefused, StopsAtOne}
 use Rattle.pid_journal.specs.Steps.Opening.{ShowsAll}
 
 -- a fault that leaves open whether the registry obeyed lines
@@ -28,9 +27,23 @@ LinesMayBeObeyed other = Unit {0}
 abbrev pub KeepsShown : {R : Type 0} → Showing R → R → R → Type 0
 KeepsShown w old new = w.is_clean new → (h : History) → w.shows old h → w.shows new h
 
+-- A new segment comes after the others, named by the revision at which it begins.
+abbrev pub NamesNew : Option (List ℕ) → List ℕ → History → Type 0
+NamesNew after names h = after ≡ Some (names ++ revision_of h ∷ [])
+
+-- the segments begin at no later revisions
+abbrev pub HasBegun : History → List ℕ → Type 0
+HasBegun h names = (above below : List ℕ) (name : ℕ) → names ≡ above ++ name ∷ below
+    → name ≤ revision_of h
+
 -- the registry had come to where a segment begins
 abbrev pub HasComeTo : {R : Type 0} → Showing R → R → R → ℕ → Type 0
 HasComeTo w old new begin = w.is_clean new → (h : History) → w.shows old h → begin ≤ revision_of h
+
+-- so had it to where the first one of these begins
+abbrev pub HasComeToFirst : {R : Type 0} → Showing R → R → R → List ℕ → Type 0
+HasComeToFirst w old new names = (name : ℕ) (later : List ℕ) → names ≡ name ∷ later
+    → HasComeTo w old new name
 
 -- how a registry is described, and the folder of its journal
 module _ {R F J : Type 0} (w : Showing R) (folder : folders.Ghosts F J) where
@@ -58,7 +71,7 @@ pub record ShowsWithin {R : Type 0} (w : Showing R) (text : ℕ → List ℕ) (h
     (names : List ℕ) (r : R) : Type 0 where
   pub shown : History
   pub shows : w.shows r shown
-  pub way : IsOnSegments text h names shown
+  pub way : IsInSegments text h names shown
 
 module _ {R J : Type 0} (registry : Ghosts R) (file : files.Ghosts J) where
   -- at a fault the registry has obeyed some of the first lines

@@ -2,7 +2,7 @@
 use Rattle.std.specs.Prelude.{◌≡◌, ℕ, Bool, List, ◌++◌}
 use Rattle.pid_moderation.specs.History.{History}
 use Rattle.pid_script.specs.Replies.{history_after}
-use Rattle.pid_journal.specs.Journals.{AreTrue}
+use Rattle.pid_journal.specs.Journals.{AreTrue, AreSegments, lines_in}
 
 -- It is the history after some of the first lines.
 pub record IsAlong (start : History) (lines : List (List ℕ)) (h : History) : Type 0 where
@@ -17,4 +17,12 @@ pub record IsOnWay (start : History) (noted : Bool) (lines : List (List ℕ)) (h
   pub before : List (List ℕ)
   pub later : List (List ℕ)
   pub parts : lines ≡ before ++ later
+  pub so_far : history_after start before ≡ h
+
+-- The same along which segments lead.
+pub record IsInSegments (text : ℕ → List ℕ) (start : History) (names : List ℕ) (h : History) : Type 0 where
+  pub told : AreSegments text start names
+  pub before : List (List ℕ)
+  pub later : List (List ℕ)
+  pub parts : lines_in text names ≡ before ++ later
   pub so_far : history_after start before ≡ h

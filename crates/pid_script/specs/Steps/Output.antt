@@ -22,7 +22,7 @@ use Rattle.pid_script.specs.ScriptLines as lines
 use Rattle.pid_script.specs.ScriptLines.{Ask}
 use Rattle.pid_script.specs.Replies.{BAD_FLAGS, answer_line, name_line, line_reply, command_of}
 use Rattle.pid_script.specs.Replies.{calls_for, is_call}
-use Rattle.pid_script.specs.RegistryStates.{Becomes, BecomesEither, StopsBehind}
+use Rattle.pid_script.specs.RegistryStates.{Becomes, BecomesEither, OverStanding, StopsBehind}
 use Rattle.pid_script.specs.StopLines.{is_stop, IsStopInPlace, IsStopText}
 
 -- the most bytes that are held
@@ -198,3 +198,8 @@ module _ {R : Type 0} (registry : Ghosts R) where
     pub tells : TellsLine result (line_reply ask h) (IsStopInPlace registry r h h ask) old left
     pub leaves : LeavesAfter result r h new ask left
     pub sends : SendsFor result r new ask
+
+  -- the answer to a line, over the history that the registry showed
+  abbrev pub AnswersOver : Result (Unit {0}) LineEnd → Ask → R → Out → R → Out → Type 0
+  AnswersOver result ask r old new left =
+      OverStanding registry r new (λ h. AnswersLine result ask h r old new left)

@@ -1,4 +1,5 @@
 -- What the queries of the tables show, whatever the schema.
+use Rattle.std.proofs.lemmas.Bool.{false≢true}
 use Rattle.std.specs.Prelude.{IsSome}
 use Rattle.std.proofs.Common.{◌≡◌, ℕ, List, [], true, false, cond, Option, Some, None, Ok, Err, Result, refl, sym, ap, subst}
 use Rattle.sqlite.specs.Order.{Row}
@@ -97,15 +98,13 @@ pub commits_none : (table : Table) (s : State) (db : Trees) → CommitsShowing (
 unfolding CommitsShowing
 commits_none table s db h =
     let plain = subst IsPlainIfAsked h.1.is (plain table s.now.schema) in
-    let bad = subst IsSome plain.0 h.2 in
-    let none : ⊥ = cc in
-    none
+    false≢true (subst IsSome plain.0 h.2)
 
 pub returns_none : (table : Table) (schema : Schema) → Returns (understood schema (query_of table)) → ⊥
 returns_none table schema h = go (understood schema (query_of table)) (plain table schema) h
   where
     go : (r : Result Compiled CompileError) → IsPlainIfAsked r → Returns r → ⊥
-    go (Ok c) plain some = let bad = subst IsSome plain.0 some in let none : ⊥ = cc in none
+    go (Ok c) plain some = false≢true (subst IsSome plain.0 some)
     go (Err e) plain some = some
 
 pub later_shown : (db : Database) (rows : List Row) (o : Option ℕ) → ShowsRows db (query_of Meta) rows → IsLater rows o → ShowsLater db o

@@ -8,14 +8,9 @@ use Rattle.std.proofs.lemmas.List.{map-append, reverse-append, reverse-reverse}
 use Rattle.std.proofs.lemmas.List.Elements.{filter-append}
 use Rattle.pid_reader.specs.Numbered.{Numbered, item_in}
 use Rattle.pid_reader.specs.Sinks.{Took}
-use Rattle.sqlite.specs.State.{State}
-use Rattle.pid_moderation.specs.Views.{Views}
 use Rattle.pid_tables.specs.declared.rows.fault.TableFault.{TableFault}
 use Rattle.pid_tables.specs.declared.rows.fault.TableFault.TheVariants.{Memory}
-use Rattle.pid_tables.specs.Rows.Causes.{IsCaused}
-use Rattle.pid_tables.specs.Lists.EachItem.{Walks, IsCausedEnd, placed_from}
-use Rattle.pid_tables.specs.declared.lists.walk.EachEnd.{EachEnd}
-use Rattle.pid_tables.specs.declared.lists.walk.EachEnd.TheVariants.{Tables, Fault}
+use Rattle.pid_tables.specs.Lists.EachItem.{placed_from}
 use Rattle.pid_tables.proofs.OfRows.ChildLemmas.{item_path, stands, is_no_vendor, generics_of}
 use Rattle.std.proofs.lemmas.Cmp.{tied_itself}
 use Rattle.sqlite_rules.specs.Lists.{Has}

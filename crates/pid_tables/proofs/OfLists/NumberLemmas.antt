@@ -4,14 +4,12 @@ use Rattle.std.specs.Prelude.{option_map}
 use Rattle.std.specs.List.{filter_map, cons_option}
 use Rattle.std.proofs.lemmas.List.{map-append}
 use Rattle.std.proofs.lemmas.List.Elements.{filter_map-append}
-use Rattle.sqlite.specs.State.{State, HasCleanDisk}
+use Rattle.sqlite.specs.State.{State}
 use Rattle.sqlite_rules.specs.Lists.{Has}
 use Rattle.pid_moderation.specs.Submissions.{Standing, standing_in}
 use Rattle.pid_moderation.specs.Views.{Views}
 use Rattle.pid_tables.specs.Rows.Causes.{IsCaused, IsReadable}
-use Rattle.pid_tables.specs.Rows.Leaves.{OnlyReads}
 use Rattle.pid_tables.specs.Rows.Steps.Unread.{IsUnreadable}
-use Rattle.pid_tables.proofs.OfRows.CauseLemmas.{caused_later}
 use Rattle.pid_tables.specs.declared.rows.fault.TableFault.{TableFault}
 use Rattle.pid_tables.specs.declared.rows.fault.TableFault.TheVariants.{Memory}
 use Rattle.pid_tables.specs.Lists.ByNumber.{standing_at, standings_at}

@@ -49,7 +49,7 @@ table_made old new has (count, h) =
     let first = went all.1 in
     let makes = first.1 in
     let both : Ok makes.table ≡ Ok (record item_since { tree = 0 }) = sym makes.defined ∙ create_defined in
-    let same : makes.table ≡ record item_since { tree = 0 } = cc in
+    let same : makes.table ≡ record item_since { tree = 0 } = same_value both in
     let schema : first.0.schema ≡ schema_of Two = makes.is ∙ ap (λ s. created s makes.table) has ∙ ap (created (schema_of One)) same ∙ since_created in
     let plain : lacks_sequence first.0.schema ≡ false = ap lacks_sequence schema ∙ create_alone in
     let now : new.now ≡ first.0 = ap (λ (p : Tally × Database). p.1) (same_value all.2) ∙ same_value (rw plain at first.2) in

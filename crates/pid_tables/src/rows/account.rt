@@ -1,7 +1,6 @@
 //! The table of accounts and their ranks.
-ghost use Rattle.std.specs.Prelude.{◌≡◌, false, None, IfErr, IsSome};
+ghost use Rattle.std.specs.Prelude.{◌≡◌, true, false, codes, is_none};
 ghost use Rattle.pid_tables.specs.Rows.Accounts.{HasAccounts};
-ghost use Rattle.pid_tables.specs.Rows.Faults.{IsNotNewerSchema};
 ghost use Rattle.pid_tables.specs.Rows.Steps.Writes.{with_rank};
 ghost use Rattle.pid_tables.specs.Rows.Clauses.{Reads};
 ghost use Rattle.pid_tables.specs.Rows.Steps.Clauses.{ChangesTo, GoesOn};
@@ -10,51 +9,41 @@ use crate::rows::fault::TableFault;
 use crate::rows::run::{read_rows, write_one};
 use crate::rows::value::rank_at;
 use crate::tables::Tables;
+use pid_ident::Account;
 use pid_moderation::Rank;
 use sqlite::types::ToSql;
 use sqlite::{Alter, Transaction};
 
-/// Adds an account that is not there yet. The name is taken as it is: the caller has tested it.
-/// An account that is there is refused with `Store`.
-pub fn add_account<S: Alter>(
-    tx: &mut Transaction<'_, S>,
-    name: &str,
-    rank: Rank,
-) -> Result<(), TableFault>
-    ensures same_reference { tx.new.conn.ghost_name ≡ tx.old.conn.ghost_name }
-    ensures goes { GoesOn S.Store tx.old.conn.now tx.new.conn.now result }
-    ensures never { IfErr result IsNotNewerSchema }
-    ensures shows { ChangesTo S.Store tx.old.conn.now tx.new.conn.now result
-        (λ v. v.rank name.now ≡ None) (with_rank name.now rank) }
+// The statement that adds an account, or sets the rank of one that is there.
+fn ranking(is_new: bool) -> &'static str
+    ensures new { is_new ≡ true
+        → result.now ≡ codes "INSERT INTO account (name, rank) VALUES (?1, ?2)" }
+    ensures known { is_new ≡ false
+        → result.now ≡ codes "UPDATE account SET rank = ?2 WHERE name = ?1" }
 {
-    let name = name.to_sql();
-    let rank = u32::from(rank.number()).to_sql();
-    write_one(
-        tx,
-        "INSERT INTO account (name, rank) VALUES (?1, ?2)",
-        &[name, rank],
-    )
+    if is_new {
+        "INSERT INTO account (name, rank) VALUES (?1, ?2)"
+    } else {
+        "UPDATE account SET rank = ?2 WHERE name = ?1"
+    }
 }
 
-/// Sets another rank of an account that is there. If there is no such account, it writes nothing
-/// and answers `Ok`.
-pub fn change_rank<S: Alter>(
+/// Sets the rank of an account, which is added if it `is_new`. One that is new and there is refused
+/// with `Store`; of one that is neither, nothing is written, and the answer is `Ok`.
+pub fn set_rank<S: Alter>(
     tx: &mut Transaction<'_, S>,
-    name: &str,
+    who: &Account,
     rank: Rank,
+    is_new: bool,
 ) -> Result<(), TableFault>
     ensures same_reference { tx.new.conn.ghost_name ≡ tx.old.conn.ghost_name }
     ensures goes { GoesOn S.Store tx.old.conn.now tx.new.conn.now result }
     ensures shows { ChangesTo S.Store tx.old.conn.now tx.new.conn.now result
-        (λ v. IsSome (v.rank name.now)) (with_rank name.now rank) }
+        (λ v. is_new ≡ is_none (v.rank who.now)) (with_rank who.now rank) }
 {
-    let name = name.to_sql();
+    let name = who.as_str().to_sql();
     let rank = u32::from(rank.number()).to_sql();
-    write_one(
-        tx,
-        "UPDATE account SET rank = ?2 WHERE name = ?1",
-        &[name, rank],
-    )
+    write_one(tx, ranking(is_new), &[name, rank])
 }
 
 impl<S: Alter + Drop> Tables<S> {

@@ -28,7 +28,7 @@ ghost use Rattle.pid_tables.specs.Rows.Steps.Unread.{
 ghost use Rattle.pid_tables.specs.Rows.TableRows.{number};
 
 use crate::rows::fault::TableFault;
-use pid_ident::{Account, Name, Path, PathText, Text};
+use pid_ident::{Account, Name, NameText, Path, PathText, Text};
 use pid_moderation::{Proposal, Rank, Reply, State};
 use sqlite::Row;
 use sqlite::types::ValueRef;

@@ -12,11 +12,14 @@ returns-in-Ok-clause-offers g c =
     let w = use_of g.O.Output c.args.output.now c.write_count.new.output in
     let word = codes "listening on 127.0.0.1:" in
     Served (record {
+      listener = c.args.listener.now;
+      at_port = c.requires;
       between = w.after;
       listens = subst (λ n. Appends w.before w.after (count_line word n)) c.from-number.ensures
           (taken_whole w (count_line word c.from-number.result) c.write_count.result
           c.in-Ok.field-0 c.in-Ok.is c.write_count.ensures.sent);
       serving = c.serve-serving.result;
+      serves = c.serve-serving.ensures.serving;
       counted = c.serve-serving.ensures.streams;
       lasts = c.serve-serving.ensures.live;
       reports = c.report.ensures;

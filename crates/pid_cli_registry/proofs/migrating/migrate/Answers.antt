@@ -14,8 +14,8 @@ returns-in-Ok-migrate g c = Migrated c.in-Ok.conn c.in-Ok-migrate.conn c.in-Ok-m
     (c.print_step-end.ensures, refl) c.close.ensures
 
 pub returns-in-Err : goal.returns-in-Err
-returns-in-Err g c = Unconnected c.in-Err.fault
-    (refl, rw (sym c.of_connection.ensures) c.report_unopened.ensures)
+returns-in-Err g c =
+    Unconnected c.in-Err.why c.in-Err.ensures.unopened (refl, c.report_unopened.ensures)
 
 pub returns-in-Err-migrate : goal.returns-in-Err-migrate
 returns-in-Err-migrate g c = Unmoved c.in-Ok.conn c.in-Err-migrate.refused c.in-Err-migrate.fault

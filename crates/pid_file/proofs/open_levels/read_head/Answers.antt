@@ -1,7 +1,7 @@
 use Rattle.std.proofs.Common.{◌∙◌, sym}
 use Rattle.std.proofs.lemmas.Result.{err_from_is_err_and}
 use Rattle.pid_file.specs.declared.entry_line.Place.TheVariants.{Vendor, Class}
-use Rattle.pid_file.proofs.LineSays.{entry_read, fault_read}
+use Rattle.pid_file.proofs.LineSays.{entry_read, fault_read, block_says, block_fault, unknown_says}
 use Rattle.pid_file.proofs.open_levels.read_head.Goals as goal
 
 pub returns-in_err-vendor-in-Devices-clause-fault : goal.returns-in_err-vendor-in-Devices-clause-fault
@@ -18,3 +18,19 @@ pub returns-in_ok-vendor-in-Devices-clause-says : goal.returns-in_ok-vendor-in-D
 returns-in_ok-vendor-in-Devices-clause-says c at earlier =
     let e = c.in_ok-vendor-in-Devices.ensures in
     entry_read at Vendor earlier c.args.line.now c.split_mark-mark.result.1.now c.in_ok-vendor-in-Devices.vendor c.requires.text c.requires.active (c.requires.flat, sym c.split_mark-mark.ensures.mark ∙ c.in-Devices.is) c.split_mark-mark.ensures.inside e.path e.name e.good
+
+pub returns-in_ok-class-in-Classes-clause-says : goal.returns-in_ok-class-in-Classes-clause-says
+returns-in_ok-class-in-Classes-clause-says c at earlier =
+    let e = c.in_ok-class-in-Classes.ensures in
+    entry_read at Class earlier c.args.line.now c.split_mark-mark.result.1.now c.in_ok-class-in-Classes.class c.requires.text c.requires.active (c.requires.flat, sym c.split_mark-mark.ensures.mark ∙ c.in-Classes.is) c.split_mark-mark.ensures.inside e.path e.name e.good
+
+pub returns-in-Some-clause-says : goal.returns-in-Some-clause-says
+returns-in-Some-clause-says c at earlier =
+    block_says at earlier c.args.line.now c.split_mark-mark.result.1.now c.in-Some.vendor c.requires.text c.requires.active c.requires.flat (sym c.split_mark-mark.ensures.mark ∙ c.in-Generics.is) c.split_mark-mark.ensures.inside c.in-Some.ensures.0 c.in-Some.ensures.1
+
+pub returns-in-None-clause-fault : goal.returns-in-None-clause-fault
+returns-in-None-clause-fault c earlier =
+    block_fault earlier c.args.line.now c.split_mark-mark.result.1.now c.requires.text c.requires.active c.requires.flat (sym c.split_mark-mark.ensures.mark ∙ c.in-Generics.is) c.split_mark-mark.ensures.inside c.in-None.ensures
+
+pub returns-in-Unknown-clause-says : goal.returns-in-Unknown-clause-says
+returns-in-Unknown-clause-says c at earlier = unknown_says at earlier c.args.line.now c.requires.text c.requires.active c.requires.flat (sym c.split_mark-mark.ensures.mark ∙ c.in-Unknown.is)

@@ -1,9 +1,9 @@
-use Rattle.std.proofs.Common.{sym, ap, subst, ◌∙◌, IfSome}
+use Rattle.std.proofs.Common.{refl, sym, ap, subst, ◌∙◌, IfSome}
 use Rattle.std.specs.Io.Buffered.{writer_contents}
 use Rattle.pid_file.specs.Statuses.{GotTidied}
 use Rattle.pid_file.specs.TextEnds.{status_of}
 use Rattle.pid_file.specs.Tidied.{IsTidied, Writers}
-use Rattle.pid_file.proofs.Flushed.{got_nothing, got_same, got_tidied, map_some, through}
+use Rattle.pid_file.proofs.Flushed.{all_some, failed_status, got_nothing, got_same, got_tidied, map_some, through}
 use Rattle.pid_file.proofs.process.run_tidy.Goals as goal
 use Rattle.pid_file.proofs.process.run_tidy.Goals.{in-Ok-flush, in-Err}
 
@@ -34,3 +34,15 @@ returns-clause-wrote g c =
           (ap g.F.Write.contents c.into_inner-faults.ensures ∙ c.status-status.ensures.silent (λ three. good (ap status_of (sym w.end-is) ∙ three)))))
       | in-Err w ↦ got_nothing text c.status-status.result wrote (c.status-status.ensures.status ∙ ap status_of w.end-is)
     ]) tidied
+
+pub returns-clause-handed_back : goal.returns-clause-handed_back
+returns-clause-handed_back g c _ = refl
+
+pub returns-in_default-clause-status : goal.returns-in_default-clause-status
+returns-in_default-clause-status g c = all_some (g.I.Read.remaining c.args.input) (λ text. failed_status text c.tell_end-status.result c.tell_end-status.ensures.status)
+
+pub returns-in_default-clause-wrote : goal.returns-in_default-clause-wrote
+returns-in_default-clause-wrote g c = all_some (g.I.Read.remaining c.args.input) (λ text. got_nothing text c.tell_end-status.result _ c.tell_end-status.ensures.status)
+
+pub returns-in_default-clause-handed_back : goal.returns-in_default-clause-handed_back
+returns-in_default-clause-handed_back g c unlike = absurd (unlike c.tell_end-status.ensures.status)

@@ -1,6 +1,9 @@
-use Rattle.std.proofs.Common.{◌++◌, [], refl}
+use Rattle.std.proofs.Common.{◌++◌, [], Ok, Err, refl, ap, ◌∙◌}
+use mathlib.Core.Bool.{true≢false}
+use Rattle.std.specs.Prelude.{is_ok}
 use Rattle.std.proofs.lemmas.Result.{err_from_is_err_and}
-use Rattle.pid_file.proofs.FrontEnds.{starts_read, reads_on, ends_read, given_up, cuts_by}
+use Rattle.pid_file.proofs.FrontEnds.{starts_read, reads_on, ends_read, given_up, cuts_by, whole_read, same_end, fault_cause, cause_fault, cut_no_fault}
+use Rattle.pid_file.specs.declared.whole_input.SkipEnd.{SkipEnd}
 use Rattle.pid_file.proofs.whole_input.cut_input.Goals as goal
 
 pub loop-outcome-init : goal.loop-outcome-init
@@ -34,3 +37,52 @@ loop-outcome-preserved g c =
       record { holds = c.take_next-outcome.ensures.holds front fed.holds; ends = c.take_next-outcome.ensures.ends front c.args.sink.now fed.holds fed.ends },
       g.met.I.Input.joins _ _ _ c.loop-outcome.invariant.3 c.in_ok-piece.ensures.goes,
     )
+
+pub returns-in_err-piece-clause-goes : goal.returns-in_err-piece-clause-goes
+returns-in_err-piece-clause-goes g c = g.met.I.Input.joins _ _ _ c.loop-outcome.invariant.3 c.in_err-piece.ensures.goes
+
+pub returns-in_err-piece-clause-fault : goal.returns-in_err-piece-clause-fault
+returns-in_err-piece-clause-fault g c faulted =
+    let p = err_from_is_err_and c.from_residual.result c.from_residual.ensures.1 in
+    c.in_err-piece.ensures.fault.0 (ap (λ (s : SkipEnd). Err s) (fault_cause c.from_residual.result c.in_err-piece.field-0.0 (p.1 ∙ ap (λ y. Err y) p.2) faulted))
+
+pub returns-in_err-piece-clause-fault_first : goal.returns-in_err-piece-clause-fault_first
+returns-in_err-piece-clause-fault_first g c some =
+    let p = err_from_is_err_and c.from_residual.result c.from_residual.ensures.1 in
+    cause_fault c.from_residual.result c.in_err-piece.field-0.0 (p.1 ∙ ap (λ y. Err y) p.2) (same_end _ c.in_err-piece.field-0.0 refl (c.in_err-piece.ensures.fault.1 some))
+
+pub returns-in-Ok-clause-read : goal.returns-in-Ok-clause-read
+returns-in-Ok-clause-read g c =
+    let fed = c.loop-outcome.invariant.2 in
+    let all = whole_read _ _ _ _ _ c.loop-outcome.invariant.0 c.loop-outcome.invariant.1 (c.in_ok-piece.ensures.end (ap (λ o. Ok o) c.in_default.is)) in (c.loop-outcome.invariant.0, all.consumed, (all.whole, c.in-Ok.ensures.ends c.loop-outcome.invariant.0 c.args.sink.now fed.holds fed.ends))
+
+pub returns-in-Ok-clause-stops : goal.returns-in-Ok-clause-stops
+returns-in-Ok-clause-stops g c =
+    let all = whole_read _ _ _ _ _ c.loop-outcome.invariant.0 c.loop-outcome.invariant.1 (c.in_ok-piece.ensures.end (ap (λ o. Ok o) c.in_default.is)) in (c.loop-outcome.invariant.0, all.consumed, all.short)
+
+pub returns-in-Ok-clause-fault : goal.returns-in-Ok-clause-fault
+returns-in-Ok-clause-fault g c faulted = absurd (true≢false (ap is_ok faulted))
+
+pub returns-in-Ok-clause-fault_first : goal.returns-in-Ok-clause-fault_first
+returns-in-Ok-clause-fault_first g c some = absurd (true≢false (ap is_ok (c.in_ok-piece.ensures.fault.1 some)))
+
+pub returns-in-Ok-clause-goes : goal.returns-in-Ok-clause-goes
+returns-in-Ok-clause-goes g c = g.met.I.Input.joins _ _ _ c.loop-outcome.invariant.3 c.in_ok-piece.ensures.goes
+
+pub returns-in-Err-clause-read : goal.returns-in-Err-clause-read
+returns-in-Err-clause-read g c =
+    let fed = c.loop-outcome.invariant.2 in
+    let all = whole_read _ _ _ _ _ c.loop-outcome.invariant.0 c.loop-outcome.invariant.1 (c.in_ok-piece.ensures.end (ap (λ o. Ok o) c.in_default.is)) in (c.loop-outcome.invariant.0, all.consumed, (all.whole, c.in-Err.ensures.ends c.loop-outcome.invariant.0 c.args.sink.now fed.holds fed.ends))
+
+pub returns-in-Err-clause-stops : goal.returns-in-Err-clause-stops
+returns-in-Err-clause-stops g c =
+    let all = whole_read _ _ _ _ _ c.loop-outcome.invariant.0 c.loop-outcome.invariant.1 (c.in_ok-piece.ensures.end (ap (λ o. Ok o) c.in_default.is)) in (c.loop-outcome.invariant.0, all.consumed, all.short)
+
+pub returns-in-Err-clause-fault : goal.returns-in-Err-clause-fault
+returns-in-Err-clause-fault g c faulted = absurd (cut_no_fault _ c.in-Err.end refl faulted)
+
+pub returns-in-Err-clause-fault_first : goal.returns-in-Err-clause-fault_first
+returns-in-Err-clause-fault_first g c some = absurd (true≢false (ap is_ok (c.in_ok-piece.ensures.fault.1 some)))
+
+pub returns-in-Err-clause-goes : goal.returns-in-Err-clause-goes
+returns-in-Err-clause-goes g c = g.met.I.Input.joins _ _ _ c.loop-outcome.invariant.3 c.in_ok-piece.ensures.goes

@@ -1,24 +1,36 @@
+use Rattle.std.proofs.Common.{◌-◌, [], length}
 use Rattle.pid_file.specs.WholeLines.{whole_lines}
-use Rattle.pid_journal.proofs.Along.{stops_behind, stops_within}
-use Rattle.pid_journal.proofs.Resuming.{ends_text, whole_up_to}
+use Rattle.pid_script.specs.Replies.{history_after}
+use Rattle.pid_journal.specs.Steps.Reads.{left_in}
+use Rattle.pid_journal.proofs.Along.{stops_behind}
+use Rattle.pid_journal.proofs.Resuming.{ends_text}
+use Rattle.pid_journal.proofs.SegmentLines.{left_torn, left_up_to}
 use Rattle.pid_journal.proofs.catching_up.obey_rest.Goals as goal
 
-pub cut_torn-requires-clause-whole : goal.cut_torn-requires-clause-whole
-cut_torn-requires-clause-whole g c = whole_up_to c.args.text.now c.args.rest.now c.in-Ok.torn.now c.requires.end c.in-Ok.ensures.ended
+pub cut_torn-requires : goal.cut_torn-requires
+cut_torn-requires g c =
+    left_torn g.F.JournalFolder c.args.folder.now c.args.text.now c.follow.new.text (g.F.Segment.JournalFile.safe c.args.journal.now) (g.F.Segment.JournalFile.safe c.follow.new.journal) c.left.result c.follow.ensures.same c.requires.known c.requires.end c.in-Ok.ensures.ended c.left.ensures
 
 pub returns-clause-obeyed : goal.returns-clause-obeyed
-returns-clause-obeyed g c clean h shown =
+returns-clause-obeyed g c names known clean h shown =
     let now = c.mark_last.ensures.honest clean in
-    let all = c.in-Ok.ensures.obeyed now h shown in (
-      c.mark_last.ensures.kept clean _ all,
-      ends_text g.R.Moderated.showing c.follow.new.registry c.mark_last.new.registry _ (g.J.JournalFile.safe c.args.journal.now) (g.J.JournalFile.safe c.follow.new.journal) (g.J.JournalFile.safe c.cut_torn.new.journal) (g.J.JournalFile.safe c.mark_last.new.journal) c.args.text.now _
-          (whole_up_to c.args.text.now c.args.rest.now c.in-Ok.torn.now c.requires.end c.in-Ok.ensures.ended) c.follow.ensures.same c.in-Ok-cut_torn.ensures c.mark_last.ensures.marked clean all,
+    let text = g.F.JournalFolder.text_in c.args.folder.now c.args.text.now.begin in
+    let all = c.in-Ok.ensures.obeyed names known now h shown in
+    let end = history_after h (whole_lines (left_in c.args.text.now text)) in
+    let ended = c.in-Ok.ensures.ended names known in
+    let up = left_up_to text c.args.text.now c.follow.new.text c.left.result (c.requires.end names known) ended.0 ended.1 c.left.ensures in (
+      c.mark_last.ensures.kept clean end all,
+      ends_text g.R.Moderated.showing c.follow.new.registry c.mark_last.new.registry end (g.F.Segment.JournalFile.safe c.args.journal.now) (g.F.Segment.JournalFile.safe c.follow.new.journal) (g.F.Segment.JournalFile.safe c.cut_torn.new.journal) (g.F.Segment.JournalFile.safe c.mark_last.new.journal) text (length text - c.left.result)
+          up c.follow.ensures.same (c.in-Ok-cut_torn.ensures text) c.mark_last.ensures.marked clean all,
     )
 
 -- WHAT A FAULT LEAVES
 
 pub returns-in-Err-clause-fault : goal.returns-in-Err-clause-fault
-returns-in-Err-clause-fault g c = (tt, λ clean h shown. stops_within g.R.Moderated.showing c.follow.new.registry h (whole_lines c.args.rest.now) (c.in-Err.ensures.obeyed clean h shown))
+returns-in-Err-clause-fault g c = (tt, c.in-Err.ensures.obeyed)
 
 pub returns-in-Err-cut_torn-clause-fault : goal.returns-in-Err-cut_torn-clause-fault
-returns-in-Err-cut_torn-clause-fault g c = (c.in-Err-cut_torn.ensures, λ clean h shown. stops_behind g.R.Moderated.showing c.follow.new.registry h (whole_lines c.args.rest.now) (c.in-Ok.ensures.obeyed clean h shown))
+returns-in-Err-cut_torn-clause-fault g c = (
+  c.in-Err-cut_torn.ensures [],
+  λ names known clean h shown. stops_behind g.R.Moderated.showing c.follow.new.registry h (whole_lines (left_in c.args.text.now (g.F.JournalFolder.text_in c.args.folder.now c.args.text.now.begin))) (c.in-Ok.ensures.obeyed names known clean h shown),
+)

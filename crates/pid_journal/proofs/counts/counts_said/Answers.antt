@@ -1,6 +1,6 @@
 use Rattle.std.proofs.Common.{sym, ap, ◌∙◌}
 use Rattle.pid_form.specs.FormFields.{bytes_of}
-use Rattle.pid_journal.specs.Comments.{counts_in_fields}
+use Rattle.pid_journal.specs.Journals.{counts_in_fields}
 use Rattle.pid_journal.proofs.Reading.{not_comment, not_text, says_fields}
 use Rattle.pid_journal.proofs.counts.counts_said.Goals as goal
 

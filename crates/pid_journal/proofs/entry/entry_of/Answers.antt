@@ -2,7 +2,7 @@ use Rattle.std.proofs.Common.{ap, ◌∙◌}
 use Rattle.std.specs.Prelude.{string_bytes}
 use Rattle.pid_moderation.specs.Files.{asks}
 use Rattle.pid_moderation.specs.RegistryStatus.{registry_status_of}
-use Rattle.pid_journal.specs.Comments.{counts_in}
+use Rattle.pid_journal.specs.Steps.Notes.{counts_in}
 use Rattle.pid_journal.proofs.Reading.{counts_same, same_entry}
 use Rattle.pid_journal.proofs.entry.entry_of.Goals as goal
 

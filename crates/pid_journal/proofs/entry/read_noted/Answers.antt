@@ -5,8 +5,7 @@ use Rattle.std.proofs.Common.{arith}
 use Rattle.std.proofs.lemmas.Bool.Decides.{nat_tests}
 use Rattle.std.proofs.lemmas.List.{nil_from_length}
 use Rattle.pid_journal.specs.declared.counts.Counts.{Counts}
-use Rattle.pid_journal.specs.Comments.{counts_said}
-use Rattle.pid_journal.specs.Journals.{IsNote}
+use Rattle.pid_journal.specs.Journals.{counts_said, IsNote}
 use Rattle.pid_journal.proofs.Reading.{reads}
 use Rattle.pid_journal.proofs.entry.read_noted.Goals as goal
 

@@ -1,7 +1,7 @@
-use Rattle.std.proofs.Common.{Ok, inl, refl, ◌∙◌}
+use Rattle.std.proofs.Common.{Ok, refl, ◌∙◌}
 use Rattle.pid_journal.proofs.Comparing.{finds_newer, finds_refused, finds_same}
-use Rattle.pid_journal.proofs.Along.{segments_along}
-use Rattle.pid_journal.proofs.InTurn.{at_folder, both_quiet, fault_found, found, gap_found, quiet_newer, read_names}
+use Rattle.pid_journal.proofs.Along.{segments_along, stops_at}
+use Rattle.pid_journal.proofs.InTurn.{at_folder, both_quiet, fault_found, first_found, found, gap_found, quiet_newer, read_names}
 use Rattle.pid_journal.proofs.opening.find_segment.Goals as goal
 use Rattle.pid_journal.proofs.opening.find_segment.Goals.{in-Ok-begin_segment, in-Err-begin_segment}
 
@@ -31,7 +31,7 @@ returns-in-Err-Newer-clause-gap g c =
 -- WHAT A FAULT LEAVES
 
 pub returns-in-Err-clause-found : goal.returns-in-Err-clause-found
-returns-in-Err-clause-found g c clean names known start marked shows = (tt, inl (shows.shown, shows.shows, segments_along (g.F.JournalFolder.text_in c.args.folder.now) start shows.shown names shows.way))
+returns-in-Err-clause-found g c clean names known start marked shows = (tt, stops_at g.R.Moderated.showing _ _ shows.shown shows.shows (segments_along (g.F.JournalFolder.text_in c.args.folder.now) start shows.shown names shows.way))
 
 pub returns-clause-found : goal.returns-clause-found
 returns-clause-found g c clean names known start marked shows =
@@ -57,4 +57,23 @@ returns-in-Err-Newer-clause-compared g c names known =
           rw w.result-is (finds_newer g.R.Moderated.showing g.F.JournalFolder c.args.registry.now c.follow_all.new.registry c.begin_segment.new.registry c.args.folder.now c.begins.new.self names c.as_slice.result.now c.begins.ensures.same
           (c.as_slice.ensures.value ∙ read_names (g.F.JournalFolder.names c.args.folder.now) names c.in-Ok.begins.items known c.in-Ok.ensures.read) c.begin_segment.ensures.honest (rw c.in-Err-Newer.field-0-is at c.in-Err-Newer.ensures.compared))
       | in-Err-begin_segment w ↦ rw w.result-is (finds_refused g.R.Moderated.showing g.F.JournalFolder c.args.registry.now c.begin_segment.new.registry c.args.folder.now names w.in-Err-begin_segment.fault w.in-Err-begin_segment.ensures.fault.0)
+    ]
+
+-- THE FIRST SEGMENT HAS BEGUN
+
+pub returns-in-Ok-segment_after-clause-begun : goal.returns-in-Ok-segment_after-clause-begun
+returns-in-Ok-segment_after-clause-begun g c names known =
+    let is = c.as_slice.ensures.value ∙ read_names (g.F.JournalFolder.names c.args.folder.now) names c.in-Ok.begins.items known c.in-Ok.ensures.read in
+    first_found g.R.Moderated.showing c.args.registry.now c.follow_all.new.registry c.segment_after.new.registry names c.as_slice.result.now is c.segment_after.ensures.honest
+    (c.in-Ok-follow_all.ensures.begun (rw c.as_slice.ensures.value c.in-Ok.ensures.ascending))
+
+pub returns-in-Err-Newer-clause-begun : goal.returns-in-Err-Newer-clause-begun
+returns-in-Err-Newer-clause-begun g c =
+    elim c.match-begin_segment.branch [
+      | in-Ok-begin_segment w ↦
+          rw w.result-is (λ names known.
+          let is = c.as_slice.ensures.value ∙ read_names (g.F.JournalFolder.names c.args.folder.now) names c.in-Ok.begins.items known c.in-Ok.ensures.read in
+          first_found g.R.Moderated.showing c.args.registry.now c.follow_all.new.registry c.begin_segment.new.registry names c.as_slice.result.now is c.begin_segment.ensures.honest
+          ((rw c.in-Err-Newer.field-0-is at c.in-Err-Newer.ensures.begun) (rw c.as_slice.ensures.value c.in-Ok.ensures.ascending) refl))
+      | in-Err-begin_segment w ↦ rw w.result-is tt
     ]

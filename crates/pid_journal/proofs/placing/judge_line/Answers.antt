@@ -48,17 +48,17 @@ returns-else-now-place-clause-next c shown h line lines is said placed =
 
 pub returns-then-counts-now-clause-compared : goal.returns-then-counts-now-clause-compared
 returns-then-counts-now-clause-compared c told line lines is told_so =
-    (Some c.in-Holds.counts, (refl, c.if-counts-now.true), told_older c.args.now c.in-Holds.counts told line lines (subst (λ (s : Said). IsSaid line s) c.in-Holds.is is) c.if-counts-now.true)
+    (Some c.in-Holds.counts, (refl, c.if-counts-now.true), told_older c.args.now c.in-Holds.counts told c.args.place line lines told_so (subst (λ (s : Said). IsSaid line s) c.in-Holds.is is))
 
 pub returns-then-eq-clause-compared : goal.returns-then-eq-clause-compared
 returns-then-eq-clause-compared c told line lines is told_so =
     let same : c.in-Holds.counts ≡ c.args.now = search rules in
-    told_here c.args.now c.in-Holds.counts told line lines (subst (λ (s : Said). IsSaid line s) c.in-Holds.is is) c.if-counts-now.false ∙ ap (λ (k : Counts). Some k) same
+    told_here c.args.now c.in-Holds.counts told c.args.place line lines told_so (subst (λ (s : Said). IsSaid line s) c.in-Holds.is is) c.if-counts-now.false ∙ ap (λ (k : Counts). Some k) same
 
 pub returns-in-Nothing-clause-compared : goal.returns-in-Nothing-clause-compared
 returns-in-Nothing-clause-compared c told line lines is told_so =
     let none = subst (λ (s : Said). IsSaid line s) c.in-Nothing.is is in
-    (told, told_so, told_still c.args.now told line lines none.0 none.1)
+    (told, told_so, told_still c.args.now told c.args.place line lines told_so none.0 none.1)
 
 pub returns-else-now-place-clause-compared : goal.returns-else-now-place-clause-compared
-returns-else-now-place-clause-compared c told line lines is told_so = (None, tt, told_no_more c.args.now told line lines (subst (λ (s : Said). IsSaid line s) c.in-Other.is is))
+returns-else-now-place-clause-compared c told line lines is told_so = (None, tt, told_no_more c.args.now told c.args.place line lines told_so (subst (λ (s : Said). IsSaid line s) c.in-Other.is is))

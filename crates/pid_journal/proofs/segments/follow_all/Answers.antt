@@ -1,8 +1,11 @@
 use Rattle.std.proofs.Common.{◌≡◌, true}
 use Rattle.pid_journal.specs.Steps.Comparing.{Fits}
 use Rattle.pid_journal.proofs.Comparing.{fault_all, last_all, none_all, refused_all}
-use Rattle.pid_journal.proofs.InTurn.{came, err_between, err_last, none_follows, not_newer, ok_last, turns}
+use Rattle.pid_journal.proofs.InTurn.{came, err_between, err_last, first_at_end, first_newer, first_turn, none_first, none_follows, not_newer, ok_last, turns}
 use Rattle.pid_journal.proofs.segments.follow_all.Goals as goal
+
+pub loop-next-init : goal.loop-next-init
+loop-next-init g c = first_turn g.R.Moderated.showing g.F.JournalFolder c.args.registry.now c.args.folder.now c.args.begins.now c.in-Some.begin c.in-Some.rest.now c.in-Some.ensures
 
 pub returns-in_default-clause-followed : goal.returns-in_default-clause-followed
 returns-in_default-clause-followed g c = none_follows g.R.Moderated g.F.Segment.JournalFile g.F.JournalFolder c.args.registry.now c.args.folder.now c.args.begins.now c.in_default.ensures
@@ -15,13 +18,13 @@ returns-in-Err-clause-followed g c =
 pub loop-next-preserved-then-moved : goal.loop-next-preserved-then-moved
 loop-next-preserved-then-moved g c =
     turns g.R.Moderated.showing g.F.JournalFolder c.args.registry.now c.loop-next.registry c.pass_segment.new.registry c.args.folder.now c.loop-next.folder c.pass_segment.new.folder c.args.begins.now c.loop-next.begin c.in-Some-first_of.next c.loop-next.rest.now c.in-Some-first_of.others.now c.loop-next.moved c.in-Ok.obeyed c.loop-next.moved
-    c.loop-next.invariant c.in-Some-first_of.ensures c.pass_segment.ensures.same c.pass_segment.ensures.honest c.in-Ok.ensures.stays.1 (λ off. let on : c.loop-next.moved ≡ true = c.if-moved.true in absurd (let no : ⊥ = cc in no)) (λ off none. off) c.in-Ok.ensures.late
+    c.loop-next.invariant c.in-Some-first_of.ensures c.pass_segment.ensures.same c.pass_segment.ensures.honest c.in-Ok.ensures.stays.1 (λ off. let on : c.loop-next.moved ≡ true = c.if-moved.true in absurd (let no : ⊥ = cc in no)) (λ off none. off) c.in-Ok.ensures.late c.in-Ok.ensures.begun
     (λ clean all known h marked shows. c.in-Ok.ensures.passed clean all c.in-Some-first_of.others.now known h marked shows)
 
 pub loop-next-preserved : goal.loop-next-preserved
 loop-next-preserved g c =
     turns g.R.Moderated.showing g.F.JournalFolder c.args.registry.now c.loop-next.registry c.pass_segment.new.registry c.args.folder.now c.loop-next.folder c.pass_segment.new.folder c.args.begins.now c.loop-next.begin c.in-Some-first_of.next c.loop-next.rest.now c.in-Some-first_of.others.now c.loop-next.moved c.in-Ok.obeyed c.in-Ok.obeyed
-    c.loop-next.invariant c.in-Some-first_of.ensures c.pass_segment.ensures.same c.pass_segment.ensures.honest c.in-Ok.ensures.stays.1 (λ off. (c.if-moved.false, off)) (λ off none. none) c.in-Ok.ensures.late
+    c.loop-next.invariant c.in-Some-first_of.ensures c.pass_segment.ensures.same c.pass_segment.ensures.honest c.in-Ok.ensures.stays.1 (λ off. (c.if-moved.false, off)) (λ off none. none) c.in-Ok.ensures.late c.in-Ok.ensures.begun
     (λ clean all known h marked shows. c.in-Ok.ensures.passed clean all c.in-Some-first_of.others.now known h marked shows)
 
 pub returns-in-Ok-follow_segment-clause-followed : goal.returns-in-Ok-follow_segment-clause-followed
@@ -68,3 +71,22 @@ returns-in-Err-follow_segment-clause-come g c newer =
     let gives = c.fault_after-in-Err-follow_segment.ensures in
     came g.R.Moderated g.F.Segment.JournalFile g.F.JournalFolder c.args.registry.now c.loop-next.registry c.follow_segment.new.registry c.args.folder.now c.loop-next.folder c.args.begins.now c.loop-next.begin c.loop-next.rest.now c.loop-next.moved c.in-Err-follow_segment.fault c.fault_after-in-Err-follow_segment.result
     turn c.in_default-first_of.ensures c.follow_segment.ensures.honest newer gives.moved gives.same c.in-Err-follow_segment.ensures.come
+
+-- THE FIRST ONE HAS BEGUN
+
+pub returns-in_default-clause-begun : goal.returns-in_default-clause-begun
+returns-in_default-clause-begun g c sorted = none_first g.R.Moderated.showing c.args.registry.now c.args.begins.now c.in_default.ensures
+
+pub returns-in-Err-clause-begun : goal.returns-in-Err-clause-begun
+returns-in-Err-clause-begun g c sorted newer = absurd (not_newer c.loop-next.moved c.in-Err.fault c.fault_after.result newer c.fault_after.ensures.moved c.fault_after.ensures.same c.in-Err.ensures.never)
+
+pub returns-in-Ok-follow_segment-clause-begun : goal.returns-in-Ok-follow_segment-clause-begun
+returns-in-Ok-follow_segment-clause-begun g c sorted =
+    first_at_end g.R.Moderated.showing g.F.JournalFolder c.args.registry.now c.loop-next.registry c.follow_segment.new.registry c.args.folder.now c.loop-next.folder c.args.begins.now c.loop-next.begin c.loop-next.rest.now c.loop-next.moved c.loop-next.invariant c.follow_segment.ensures.honest
+    (λ off. c.in-Ok-follow_segment.ensures.come) sorted
+
+pub returns-in-Err-follow_segment-clause-begun : goal.returns-in-Err-follow_segment-clause-begun
+returns-in-Err-follow_segment-clause-begun g c sorted newer =
+    let gives = c.fault_after-in-Err-follow_segment.ensures in
+    first_at_end g.R.Moderated.showing g.F.JournalFolder c.args.registry.now c.loop-next.registry c.follow_segment.new.registry c.args.folder.now c.loop-next.folder c.args.begins.now c.loop-next.begin c.loop-next.rest.now c.loop-next.moved c.loop-next.invariant c.follow_segment.ensures.honest
+    (λ off. first_newer c.in-Err-follow_segment.fault c.fault_after-in-Err-follow_segment.result newer (gives.same off) c.in-Err-follow_segment.ensures.come) sorted

@@ -1,6 +1,6 @@
 use Rattle.std.proofs.Common.{false, true, refl}
 use Rattle.pid_journal.proofs.Comparing.{not_late}
-use Rattle.pid_journal.proofs.InTurn.{fault_passes, follow_passes, none_passes, skip_passes}
+use Rattle.pid_journal.proofs.InTurn.{come_later, fault_passes, follow_passes, none_passes, skip_begun, skip_passes}
 use Rattle.pid_journal.proofs.segments.pass_segment.Goals as goal
 
 pub returns-then-next-revision-clause-passed : goal.returns-then-next-revision-clause-passed
@@ -29,3 +29,10 @@ returns-in-Ok-follow_segment-clause-late g c clean h shown late = absurd (not_la
 
 pub returns-in-Err-follow_segment-clause-late : goal.returns-in-Err-follow_segment-clause-late
 returns-in-Err-follow_segment-clause-late g c clean h shown late = absurd (not_late g.R.Moderated.showing c.args.registry.now c.revision_of.new.registry c.in-Ok.revision c.args.next h c.in-Ok.ensures.told (c.follow_segment.ensures.honest clean) shown late c.if-next-revision.false)
+
+-- the registry had come to this one
+pub returns-then-next-revision-clause-begun : goal.returns-then-next-revision-clause-begun
+returns-then-next-revision-clause-begun g c before = skip_begun g.R.Moderated.showing c.args.registry.now c.revision_of.new.registry c.args.begin c.args.next c.in-Ok.revision c.in-Ok.ensures.told before c.if-next-revision.true
+
+pub returns-in-Ok-follow_segment-clause-begun : goal.returns-in-Ok-follow_segment-clause-begun
+returns-in-Ok-follow_segment-clause-begun g c before = come_later g.R.Moderated.showing c.args.registry.now c.revision_of.new.registry c.follow_segment.new.registry c.args.begin c.follow_segment.ensures.honest c.in-Ok.ensures.kept c.in-Ok-follow_segment.ensures.come

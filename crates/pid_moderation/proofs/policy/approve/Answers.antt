@@ -1,6 +1,6 @@
-use Rattle.std.proofs.Common.{◌≡◌, ℕ, List, [], ◌∷◌, true, Some, None, Err, ap, ◌∙◌}
+use Rattle.std.proofs.Common.{◌≡◌, ℕ, List, [], ◌∷◌, ◌++◌, true, Option, Some, None, sym, ap, ◌∙◌}
 use Rattle.std.specs.Prelude.{is_none}
-use Rattle.std.proofs.lemmas.Result.{err_from_is_err_and}
+use Rattle.std.specs.Option.{option_or}
 use Rattle.pid_moderation.specs.declared.change.Effect.{Effect}
 use Rattle.pid_moderation.specs.declared.change.Effect.TheVariants.{Decided}
 use Rattle.pid_moderation.specs.declared.change.Write.{Write}
@@ -12,12 +12,16 @@ use Rattle.pid_moderation.specs.declared.facts.Named.{Named}
 use Rattle.pid_moderation.specs.declared.facts.State.TheVariants.{Approved}
 use Rattle.pid_moderation.specs.declared.refusal.Refusal.{Refusal}
 use Rattle.pid_moderation.specs.declared.refusal.Refusal.TheVariants.{NoAccount, NoSubmission}
-use Rattle.pid_moderation.specs.CheckTables.{Checks, approval_checks, first_failing, later_checks}
+use Rattle.pid_moderation.specs.CheckTables.{Checks, approval_checks, decision_checks, item_checks, first_failing, later_checks}
 use Rattle.pid_moderation.specs.Effects.{effect_of, write_of}
 use Rattle.pid_moderation.specs.History.{Approves}
-use Rattle.pid_moderation.proofs.FormLemmas.{follows_so}
+use Rattle.pid_moderation.proofs.FirstFailing.{joined}
 use Rattle.pid_moderation.proofs.Passing.{all_pass}
 use Rattle.pid_moderation.proofs.policy.approve.Goals as goal
+
+-- the checks of a decision, before those of the item
+abbrev earlier : List ℕ → Facts → Named → Checks
+earlier account f s = (is_none f.rank, NoAccount) ∷ decision_checks account f.rank s
 
 -- the checks of an approval, and those where the submission is there
 abbrev asked_checks : List ℕ → Facts → ℕ → Expected → Checks
@@ -46,18 +50,28 @@ decides account decider f n e s w is who what =
 pub returns-in_default : goal.returns-in_default
 returns-in_default c = λ _. is_absent c.args.account.now c.args.facts.now c.args.number c.args.expected.now c.absent.result c.in_default.is c.absent.ensures
 
-pub returns-in_err-may_approve : goal.returns-in_err-may_approve
-returns-in_err-may_approve c =
-    let p = err_from_is_err_and c.from_residual.result c.from_residual.ensures.1 in
+-- what the two kinds of checks leave is what all of them leave
+both : (account : List ℕ) (f : Facts) (e : Expected) (s : Named) (first then all : Option Refusal) → first ≡ first_failing (earlier account f s) → then ≡ first_failing (item_checks f e s)
+    → all ≡ option_or first then → first_failing (its_checks account f e s) ≡ all
+both account f e s first then all is_first is_then is_all =
+    joined (earlier account f s) (item_checks f e s) ∙ sym (is_all ∙ (λ i. option_or (is_first i) (is_then i)))
+
+pub returns-in-Some-refused : goal.returns-in-Some-refused
+returns-in-Some-refused c =
     let f = c.args.facts.now in
-    follows_so (asked_checks c.args.account.now f c.args.number c.args.expected.now) _ _ _ (p.1 ∙ ap Err p.2)
-    (λ m. is_refused c.args.account.now f c.args.number c.args.expected.now c.in-Some.named _ c.in-Some.is (c.in_err-may_approve.ensures m))
+    let all = both c.args.account.now f c.args.expected.now c.in-Some.named _ _ _ c.decision_refusal.ensures c.write_refusal.ensures c.or-refused.ensures ∙ c.in-Some-refused.is in
+    λ _. is_refused c.args.account.now f c.args.number c.args.expected.now c.in-Some.named _ c.in-Some.is all
 
 pub write-requires : goal.write-requires
-write-requires c = (all_pass (its_checks c.args.account.now c.args.facts.now c.args.expected.now c.in-Some.named) c.in_ok-may_approve.ensures.0).1.1.1.1.1.1.1.1.0
+write-requires c =
+    let f = c.args.facts.now in
+    let all = both c.args.account.now f c.args.expected.now c.in-Some.named _ _ _ c.decision_refusal.ensures c.write_refusal.ensures c.or-refused.ensures ∙ c.in_default-refused.is in
+    (all_pass (its_checks c.args.account.now f c.args.expected.now c.in-Some.named) all).1.1.1.1.1.1.1.1.0
 
 pub returns : goal.returns
-returns c = (
-  passes c.args.account.now c.args.facts.now c.args.number c.args.expected.now c.in-Some.named c.in-Some.is c.in_ok-may_approve.ensures.0,
-  decides c.args.account.now c.in_ok-decider.decider c.args.facts.now c.args.number c.args.expected.now c.in-Some.named c.in_ok-write.field-0 c.in-Some.is c.in_ok-decider.ensures c.in_ok-write.ensures,
-)
+returns c =
+    let f = c.args.facts.now in
+    let all = both c.args.account.now f c.args.expected.now c.in-Some.named _ _ _ c.decision_refusal.ensures c.write_refusal.ensures c.or-refused.ensures ∙ c.in_default-refused.is in (
+      passes c.args.account.now f c.args.number c.args.expected.now c.in-Some.named c.in-Some.is all,
+      decides c.args.account.now c.in_ok-decider.decider f c.args.number c.args.expected.now c.in-Some.named c.in_ok-write.field-0 c.in-Some.is c.in_ok-decider.ensures c.in_ok-write.ensures,
+    )

@@ -1,4 +1,5 @@
-use Rattle.std.proofs.Common.{◌≡◌, Bool, true, false, Ok, IsTrue, MatchResult, refl, sym, rules, ◌∙◌, subst}
+use Rattle.std.proofs.Common.{◌≡◌, Bool, true, false, Ok, IsTrue, refl, sym, rules, ◌∙◌, subst}
+use Rattle.std.proofs.lemmas.Bool.{true≢false}
 use Rattle.sqlite.specs.Held.{state}
 use Rattle.sqlite.specs.State.{HasCleanDisk}
 use Rattle.sqlite.proofs.StateLemmas.{clean_if_open, survives_then}
@@ -72,7 +73,7 @@ returns-in_err-fill-clause-makes g c =
 
 -- where a fault has shut the connection
 never_open : (s : Bool) → s ≡ false → IsTrue s → ⊥
-never_open s closed opened = let bad = sym opened ∙ closed in let no : ⊥ = cc in no
+never_open s closed opened = true≢false (sym opened ∙ closed)
 
 pub returns-in_err-fill-clause-spares : goal.returns-in_err-fill-clause-spares
 returns-in_err-fill-clause-spares g c =

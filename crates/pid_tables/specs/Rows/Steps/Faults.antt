@@ -4,12 +4,12 @@ use Rattle.sqlite.specs.declared.error.Error.TheVariants.{SqliteFailure, SqlInpu
 use Rattle.sqlite.specs.declared.error.Error.TheVariants.{InvalidColumnIndex, InvalidColumnType}
 use Rattle.sqlite.specs.declared.error.Error.TheVariants.{IntegralValueOutOfRange, Utf8Error}
 use Rattle.sqlite.specs.declared.error.ErrorCode.TheVariants.{OutOfMemory}
-use Rattle.pid_file.specs.declared.word_fault.WordFault.{WordFault}
+use Rattle.pid_ident.specs.declared.word_fault.WordFault.{WordFault}
 use Rattle.pid_tables.specs.declared.rows.fault.TableFault.{TableFault}
 use Rattle.pid_tables.specs.declared.rows.fault.TableFault.TheVariants.{Memory, Store}
 use Rattle.pid_tables.specs.declared.rows.fault.TableFault.TheVariants.{Damaged}
 use Rattle.sqlite_resolve.specs.declared.error.CompileError.TheVariants as compile
-use Rattle.pid_file.specs.declared.word_fault.WordFault.TheVariants as words
+use Rattle.pid_ident.specs.declared.word_fault.WordFault.TheVariants as words
 
 -- There was no memory; or the tables or their values are not those of the schema; else the store
 -- failed or refused.

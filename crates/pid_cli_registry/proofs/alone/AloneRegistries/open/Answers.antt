@@ -3,7 +3,7 @@ use Rattle.pid_cli_registry.specs.Openings.{IsOpening, Refused, Unconnected}
 use Rattle.pid_cli_registry.proofs.alone.AloneRegistries.open.Goals as goal
 
 pub returns-in-Err-clause-unopened : goal.returns-in-Err-clause-unopened
-returns-in-Err-clause-unopened g c = Unconnected c.in-Err.fault c.of_connection.ensures
+returns-in-Err-clause-unopened g c = Unconnected c.in-Err.ensures.unopened
 
 pub returns-in-Err-open-clause-unopened : goal.returns-in-Err-open-clause-unopened
 returns-in-Err-open-clause-unopened g c = Refused c.in-Ok.conn c.in-Err-open.refused

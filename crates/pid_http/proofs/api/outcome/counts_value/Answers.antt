@@ -1,13 +1,12 @@
-use Rattle.std.proofs.Common.{ap, true, ◌∙◌}
-use Rattle.serde_json.specs.Data.{object}
+use Rattle.std.proofs.Common.{ap, true}
 use Rattle.serde_json.specs.View.{members_view}
-use Rattle.serde_json.proofs.Views.{view-Object}
-use Rattle.pid_http.proofs.OfApi.MemberSteps.{one_more, view_truth}
+use Rattle.pid_http.proofs.OfApi.MemberSteps.{view_truth}
 use Rattle.pid_http.proofs.api.outcome.counts_value.Goals as goal
 
 pub returns : goal.returns
 returns c =
-    let added = one_more _ _ _ _ _ _ c.in_ok-members.ensures c.from.ensures (ap members_view c.new.ensures.empty) in
-    let ok = one_more _ _ _ _ _ _ c.in_ok-members-2.ensures (view_truth true) added in
-    let renamed = one_more _ _ _ _ _ _ c.in_ok-members-3.ensures c.from-2.ensures ok in
-    view-Object c.in_ok-members-4.members ∙ ap object (one_more _ _ _ _ _ _ c.in_ok-members-4.ensures c.from-3.ensures renamed)
+    let m1 = c.with_value-members.ensures _ _ (ap members_view c.new.ensures.empty) c.from.ensures in
+    let m2 = c.with_value-members-2.ensures _ _ m1 (view_truth true) in
+    let m3 = c.with_value-members-3.ensures _ _ m2 c.from-2.ensures in
+    let m4 = c.with_value-members-4.ensures _ _ m3 c.from-3.ensures in
+    c.object_of.ensures _ m4

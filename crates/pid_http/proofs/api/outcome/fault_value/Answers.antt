@@ -1,14 +1,13 @@
-use Rattle.std.proofs.Common.{ap, false, refl, ◌∙◌}
-use Rattle.serde_json.specs.Data.{object}
+use Rattle.std.proofs.Common.{ap, false, refl}
 use Rattle.serde_json.specs.View.{members_view}
-use Rattle.serde_json.proofs.Views.{view-Object}
-use Rattle.pid_http.proofs.OfApi.MemberSteps.{one_more, view_truth}
+use Rattle.pid_http.proofs.OfApi.MemberSteps.{view_truth}
 use Rattle.pid_http.proofs.api.outcome.fault_value.Goals as goal
 
 pub returns : goal.returns
 returns c =
-    let kind = one_more _ _ _ _ _ _ c.in_ok-members.ensures c.from.ensures (ap members_view c.new.ensures.empty) in
-    let line = one_more _ _ _ _ _ _ c.in_ok-members-2.ensures c.from-2.ensures kind in
-    let ok = one_more _ _ _ _ _ _ c.in_ok-members-3.ensures (view_truth false) line in
-    let refused = one_more _ _ _ _ _ _ c.in_ok-members-4.ensures c.from-3.ensures ok in
-    view-Object c.in_ok-members-5.members ∙ ap object (one_more _ _ _ _ _ _ c.in_ok-members-5.ensures refl refused)
+    let m1 = c.with_value-members.ensures _ _ (ap members_view c.new.ensures.empty) c.from.ensures in
+    let m2 = c.with_value-members-2.ensures _ _ m1 c.from-2.ensures in
+    let m3 = c.with_value-members-3.ensures _ _ m2 (view_truth false) in
+    let m4 = c.with_value-members-4.ensures _ _ m3 c.from-3.ensures in
+    let m5 = c.with_text-members.ensures _ _ m4 refl in
+    c.object_of.ensures _ m5

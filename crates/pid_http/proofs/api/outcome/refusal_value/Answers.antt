@@ -1,12 +1,11 @@
-use Rattle.std.proofs.Common.{ap, false, refl, ◌∙◌}
-use Rattle.serde_json.specs.Data.{object}
+use Rattle.std.proofs.Common.{ap, false, refl}
 use Rattle.serde_json.specs.View.{members_view}
-use Rattle.serde_json.proofs.Views.{view-Object}
-use Rattle.pid_http.proofs.OfApi.MemberSteps.{one_more, view_truth}
+use Rattle.pid_http.proofs.OfApi.MemberSteps.{view_truth}
 use Rattle.pid_http.proofs.api.outcome.refusal_value.Goals as goal
 
 pub returns : goal.returns
 returns c =
-    let ok = one_more _ _ _ _ _ _ c.in_ok-members.ensures (view_truth false) (ap members_view c.new.ensures.empty) in
-    let refused = one_more _ _ _ _ _ _ c.in_ok-members-2.ensures c.from.ensures ok in
-    view-Object c.in_ok-members-3.members ∙ ap object (one_more _ _ _ _ _ _ c.in_ok-members-3.ensures refl refused)
+    let m1 = c.with_value-members.ensures _ _ (ap members_view c.new.ensures.empty) (view_truth false) in
+    let m2 = c.with_value-members-2.ensures _ _ m1 c.from.ensures in
+    let m3 = c.with_text-members.ensures _ _ m2 refl in
+    c.object_of.ensures _ m3

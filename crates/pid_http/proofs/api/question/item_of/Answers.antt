@@ -8,7 +8,7 @@ use Rattle.pid_http.specs.declared.api.question.Question.TheVariants.{Read}
 use Rattle.pid_http.proofs.api.question.item_of.Goals as goal
 
 pub returns-in-Some : goal.returns-in-Some
-returns-in-Some c = ap (λ path. on_said Read (ok_or path (BadValue BadPath c.args.format))) (sym c.in-Some.is ∙ c.parse.ensures.computed ∙ ap path_of c.rest_after.ensures)
+returns-in-Some c = sym (ap (λ path. on_said Read (ok_or path (BadValue BadPath c.args.format))) (sym c.in-Some.is ∙ c.parse.ensures.computed ∙ ap path_of c.rest_after.ensures))
 
 pub returns-in-None : goal.returns-in-None
-returns-in-None c = ap (λ path. on_said Read (ok_or path (BadValue BadPath c.args.format))) (sym c.in-None.is ∙ c.parse.ensures.computed ∙ ap path_of c.rest_after.ensures)
+returns-in-None c = sym (ap (λ path. on_said Read (ok_or path (BadValue BadPath c.args.format))) (sym c.in-None.is ∙ c.parse.ensures.computed ∙ ap path_of c.rest_after.ensures))

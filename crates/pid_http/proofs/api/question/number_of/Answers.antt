@@ -8,7 +8,7 @@ use Rattle.pid_http.specs.declared.api.question.Question.TheVariants.{Submission
 use Rattle.pid_http.proofs.api.question.number_of.Goals as goal
 
 pub returns-in-Some : goal.returns-in-Some
-returns-in-Some c = ap (λ number. on_said Submission (ok_or number (BadValue BadText c.args.format))) (sym c.in-Some.is ∙ c.submission_number.ensures ∙ ap number_in c.rest_after.ensures)
+returns-in-Some c = sym (ap (λ number. on_said Submission (ok_or number (BadValue BadText c.args.format))) (sym c.in-Some.is ∙ c.submission_number.ensures ∙ ap number_in c.rest_after.ensures))
 
 pub returns-in-None : goal.returns-in-None
-returns-in-None c = ap (λ number. on_said Submission (ok_or number (BadValue BadText c.args.format))) (sym c.in-None.is ∙ c.submission_number.ensures ∙ ap number_in c.rest_after.ensures)
+returns-in-None c = sym (ap (λ number. on_said Submission (ok_or number (BadValue BadText c.args.format))) (sym c.in-None.is ∙ c.submission_number.ensures ∙ ap number_in c.rest_after.ensures))

@@ -11,4 +11,4 @@ four_parts (Err v) a b c d e x y z w p q r s = tt
 
 pub returns-in_ok-push_part4-in-Subsystem-3 : goal.returns-in_ok-push_part4-in-Subsystem-3
 returns-in_ok-push_part4-in-Subsystem-3 c =
-    rw c.in-Subsystem.is (four_parts _ _ _ _ _ _ _ _ _ _ c.in_ok-push_part4-in-Subsystem.ensures c.in_ok-push_part4-in-Subsystem-2.ensures c.in_ok-push_part4-in-Subsystem-3.ensures c.push4.ensures)
+    rw c.in-Subsystem.is (four_parts _ _ _ _ _ _ _ _ _ _ c.in_ok-push_part4-in-Subsystem.ensures c.in_ok-push_part4-in-Subsystem-2.ensures c.in_ok-push_part4-in-Subsystem-3.ensures (rw c.hex4.ensures at c.push_digits.ensures))

@@ -2,7 +2,7 @@ use Rattle.std.proofs.Common.{ℕ, List, subst}
 use Rattle.pid_moderation.specs.BeforeFile.{import_of}
 use Rattle.pid_moderation.specs.Files.{file_reading}
 use Rattle.pid_service_laws.specs.Registries.{CommandLeaves}
-use Rattle.pid_journal.specs.Pairs.{pair_showing_from}
+use Rattle.pid_journal.specs.Steps.Parts.{pair_showing_from}
 use Rattle.pid_journal.proofs.journaled.Journaled.import_bytes.Goals as goal
 
 pub returns-clause-obeyed : goal.returns-clause-obeyed

@@ -5,12 +5,12 @@ use Rattle.pid_moderation.specs.declared.refusal.Refusal.TheVariants.{Failed}
 use Rattle.pid_moderation.specs.Files.{asks, reading_of}
 use Rattle.pid_moderation.specs.Views.{views_of}
 use Rattle.pid_moderation.specs.RegistryStatus.{registry_status_of}
-use Rattle.pid_journal.specs.Comments.{counts_in}
 use Rattle.pid_journal.specs.Journals.{IsEntry}
 use Rattle.pid_journal.specs.Pairs.{PairShows}
 use Rattle.pid_journal.specs.Steps.Living.{registry_off}
 use Rattle.pid_journal.proofs.Forms.{broken_stays, tells_any}
 use Rattle.pid_journal.specs.Steps.Parts.{IsUnmarked}
+use Rattle.pid_journal.specs.Steps.Notes.{counts_in}
 use Rattle.pid_journal.proofs.Marks.{unmarked}
 use Rattle.pid_journal.proofs.Noted.{fault_of, is_error, unnoted}
 use Rattle.pid_journal.proofs.Probing.{refusal_or}

@@ -1,4 +1,5 @@
 use Rattle.std.proofs.Common.{ap, ◌∙◌, slice_get, subst, sym}
+use Rattle.std.proofs.lemmas.Bool.{false≢true}
 use Rattle.std.specs.Prelude.{IsSome}
 use Rattle.sqlite.specs.Held.{state}
 use Rattle.pid_tables.specs.Rows.Steps.Answers.{value_row}
@@ -23,8 +24,7 @@ returns-clause-found g c known clean v rest readable =
     let found = c.in_ok-rows.ensures.reads.told clean v rest in
     let none = no_row value_row (meta_of (counts_of v) v.revision c.args.label.now) (c.in-None.ensures.value ∙ ap (λ l. slice_get l 0) c.deref.ensures.value ∙ found) in
     let some = subst IsSome (sym none) (meta_there (counts_of v) v.revision c.args.label.now (known (counts_of v))) in
-    let bad : ⊥ = cc in
-    bad
+    absurd (false≢true some)
 
 pub returns-in-Some-clause-shown : goal.returns-in-Some-clause-shown
 returns-in-Some-clause-shown g c clean =

@@ -1,12 +1,11 @@
-use Rattle.std.proofs.Common.{◌∷◌, ◌∙◌, [], List, ℕ, ap, sym, true, length, length-take, refl}
-use Rattle.std.proofs.lemmas.List.{length-map}
+use Rattle.std.proofs.Common.{◌∷◌, ◌∙◌, [], List, ℕ, ap, true, refl}
 use Rattle.std.specs.Option.{option_copied}
 use Rattle.sqlite.specs.Held.{Held, state}
 use Rattle.sqlite.specs.Order.{Row}
 use Rattle.sqlite.specs.State.{Shown}
 use Rattle.sqlite.specs.declared.types.Value.TheVariants.{Text}
 use Rattle.sqlite_trees.specs.declared.store.Store.{Ghosts}
-use Rattle.pid_moderation.specs.ChangePages.{ChangePage, changed_behind, changed_of, changes_in, start_text}
+use Rattle.pid_moderation.specs.ChangePages.{changes_in, start_text}
 use Rattle.pid_moderation.specs.Views.{Views}
 use Rattle.pid_tables.specs.Rows.Causes.{IsCaused, IsReadable}
 use Rattle.pid_tables.specs.Rows.Leaves.{AtRest}
@@ -18,7 +17,6 @@ use Rattle.pid_tables.proofs.OfRows.FindLemmas.{rows_at_rest}
 use Rattle.pid_tables.proofs.OfRows.OnlyReading.{reads_then}
 use Rattle.pid_tables.specs.Lists.Steps.ChangeRows.{AreChangesIn, held}
 use Rattle.pid_tables.proofs.OfLists.ChangeLists.{select_changes, changes_found, changes_held, changes_named, changes_query}
-use Rattle.pid_tables.proofs.OfLists.RowLists.{on_fault}
 use Rattle.pid_tables.proofs.tables.Tables.changes_page.Goals as goal
 
 -- what the rows that were asked for have

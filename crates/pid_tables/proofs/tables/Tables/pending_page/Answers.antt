@@ -1,7 +1,6 @@
-use Rattle.std.proofs.Common.{◌∙◌, Ok, ap, sym, refl, length, length-take}
-use Rattle.std.proofs.lemmas.List.{length-map}
+use Rattle.std.proofs.Common.{◌∙◌, Ok, refl}
 use Rattle.sqlite.specs.Held.{state}
-use Rattle.pid_moderation.specs.PendingPages.{pending_in, told_of, waiting_above}
+use Rattle.pid_moderation.specs.PendingPages.{pending_in}
 use Rattle.pid_tables.specs.Rows.Causes.{IsCaused, IsReadable}
 use Rattle.pid_tables.specs.Rows.Shows.{counts_of}
 use Rattle.pid_tables.specs.Rows.Schema.{pid_schema}
@@ -9,7 +8,7 @@ use Rattle.pid_tables.proofs.OfRows.CauseLemmas.{passed_on}
 use Rattle.pid_tables.proofs.OfRows.FindLemmas.{at_rest}
 use Rattle.pid_tables.specs.Lists.Steps.PendingRows.{ArePendingIn}
 use Rattle.pid_tables.proofs.OfLists.PendingLists.{all_readable, select_page, page_found, page_in, page_query}
-use Rattle.pid_tables.proofs.OfLists.RowLists.{on_fault, on_value, read_or_caused}
+use Rattle.pid_tables.proofs.OfLists.RowLists.{read_or_caused}
 use Rattle.pid_tables.proofs.tables.Tables.pending_page.Goals as goal
 
 pub returns : goal.returns

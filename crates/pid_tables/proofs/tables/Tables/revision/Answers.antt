@@ -1,8 +1,11 @@
-use Rattle.std.proofs.Common.{ap, ◌∙◌, slice_get}
+use Rattle.std.proofs.Common.{◌≡◌, ap, ◌∙◌, slice_get, None, Some, Option}
 use Rattle.sqlite.specs.Held.{state}
 use Rattle.pid_tables.proofs.OfRows.ReadBack.{whole_read}
 use Rattle.pid_tables.proofs.OfRows.MapLemmas.{some_same}
 use Rattle.pid_tables.proofs.tables.Tables.revision.Goals as goal
+
+no_some : {A : Type 0} {x : A} → ◌≡◌ {A = Option A} None (Some x) → ⊥
+no_some e = cc
 
 pub returns-in-Some : goal.returns-in-Some
 returns-in-Some g c = record {
@@ -18,7 +21,5 @@ returns g c = record {
   rests = c.in_ok-rows.ensures.reads.rests;
   told = λ clean v rest readable.
       let found = c.in_ok-rows.ensures.reads.told clean v rest in
-      let none = c.in-None.ensures.value ∙ ap (λ l. slice_get l 0) c.deref.ensures.value ∙ found in
-      let bad : ⊥ = cc in
-      bad;
+      no_some (c.in-None.ensures.value ∙ ap (λ l. slice_get l 0) c.deref.ensures.value ∙ found);
 }

@@ -1,12 +1,9 @@
-use Rattle.std.proofs.Common.{ap, ◌∙◌}
-use Rattle.serde_json.specs.Data.{object, string}
-use Rattle.serde_json.proofs.Views.{view-Object}
-use Rattle.pid_http.proofs.OfApi.MemberSteps.{one_more}
 use Rattle.pid_http.proofs.api.submissions.ListedShown.value.Goals as goal
 
 pub returns : goal.returns
 returns c =
-    let decider = one_more _ _ _ _ _ _ c.in_ok-members-2.ensures (ap string c.decider.ensures) c.in_ok-members.ensures in
-    let reason = one_more _ _ _ _ _ _ c.in_ok-members-3.ensures (ap string c.reason.ensures) decider in
-    let remarks = one_more _ _ _ _ _ _ c.in_ok-members-4.ensures c.from.ensures reason in
-    view-Object c.in_ok-members-5.members ∙ ap object (one_more _ _ _ _ _ _ c.in_ok-members-5.ensures (ap string c.state_name.ensures) remarks)
+    let m1 = c.with_text-members.ensures _ _ c.submission_members-members.ensures c.decider.ensures in
+    let m2 = c.with_text-members-2.ensures _ _ m1 c.reason.ensures in
+    let m3 = c.with_value-members.ensures _ _ m2 c.from.ensures in
+    let m4 = c.with_text-members-3.ensures _ _ m3 c.state_name.ensures in
+    c.object_of.ensures _ m4

@@ -1,0 +1,190 @@
+//! The folder of a journal on the machine of the process.
+ghost use Rattle.std.specs.Prelude.{◌≤◌, IfOk, length};
+
+use crate::journals::{Journals, ReportingFolder};
+use crate::lock::{Lock, take_lock};
+use crate::segment::HostSegment;
+use pid_journal::JournalFolder;
+use pid_moderation::Refusal;
+use std::alloc::{AllocError, Global};
+use std::fs::File;
+use std::io::{ErrorKind, IsTerminal, Write};
+use std::os::unix::fs::FileExt;
+use std::{fs, io};
+
+/// A folder that is locked. A segment is a file in it, whose name is the revision at which it begins,
+/// in 20 digits, and `.script`. Other files are left alone.
+#[derive(Drop)]
+pub struct HostFolder<'r> {
+    rt: &'r HostRuntime,
+    path: String,
+    // How many segments were opened to be written, or made, or should have been.
+    opened: u64,
+    _lock: Lock,
+}
+
+fn refusal_of(error: io::Error) -> Refusal {
+    match error.kind() {
+        ErrorKind::OutOfMemory => Refusal::Memory,
+        _ => Refusal::Store,
+    }
+}
+
+// Syncs the names in a folder.
+fn sync_names(rt: &HostRuntime, path: &str) -> io::Result<()> {
+    File::open(rt, path)?.sync_all()
+}
+
+// Makes a folder, if there is none.
+fn make_folder(rt: &HostRuntime, path: &str) -> io::Result<()> {
+    match fs::create_dir(rt, path) {
+        Ok(()) => {
+            let above = format!(in rt.alloc(); "{path}/..")?;
+            sync_names(rt, above.as_str())
+        }
+        Err(error) => match error.kind() {
+            ErrorKind::AlreadyExists => Ok(()),
+            _ => Err(error),
+        },
+    }
+}
+
+// The number of a segment, if this is the name of one.
+fn number_of(name: &str) -> Option<u64> {
+    let digits = name.strip_suffix(".script")?;
+    if digits.len() != 20 {
+        return None;
+    }
+    let mut number = 0_u64;
+    for byte in digits.as_bytes() {
+        if !byte.is_ascii_digit() {
+            return None;
+        }
+        number = number.checked_mul(10)?.checked_add(u64::from(byte - b'0'))?;
+    }
+    Some(number)
+}
+
+// The numbers of the segments in a folder, in no order.
+fn numbers_in(rt: &HostRuntime, alloc: Global, path: &str) -> io::Result<Vec<u64>> {
+    let mut numbers = Vec::new(alloc);
+    for entry in fs::read_dir(rt, path)? {
+        if let Some(number) = number_of(entry?.file_name()) {
+            numbers.push(number)?;
+        }
+    }
+    Ok(numbers)
+}
+
+impl<'r> HostFolder<'r> {
+    fn at(rt: &'r HostRuntime, path: &str) -> Option<HostFolder<'r>> {
+        make_folder(rt, path).ok()?;
+        Some(HostFolder {
+            rt,
+            path: String::from_str(rt.alloc(), path).ok()?,
+            opened: 0,
+            _lock: take_lock(rt, path)?,
+        })
+    }
+
+    fn path_of(&self, begin: u64) -> Result<String, AllocError> {
+        format!(in self.rt.alloc(); "{}/{begin:020}.script", self.path.as_str())
+    }
+
+    // Opens the file of a segment to write it, or makes a new one.
+    fn open_file(&self, begin: u64, is_new: bool) -> io::Result<File> {
+        let path = self.path_of(begin)?;
+        File::options()
+            .append(true)
+            .create_new(is_new)
+            .open(self.rt, path.as_str())
+    }
+
+    fn read_file(&self, begin: u64, after: u64, buffer: &mut [u8]) -> io::Result<usize>
+        ensures { IfOk result (λ n. n ≤ length buffer.new) }
+    {
+        let path = self.path_of(begin)?;
+        File::open(self.rt, path.as_str())?.read_at(buffer, after)
+    }
+
+    fn make_file(&self, begin: u64) -> io::Result<File> {
+        let file = self.open_file(begin, true)?;
+        file.sync_all()?;
+        sync_names(self.rt, self.path.as_str())?;
+        Ok(file)
+    }
+}
+
+impl<'r> JournalFolder for HostFolder<'r> {
+    ghost use Rattle.std.specs.Prelude.{[], None};
+
+    type Segment = HostSegment<'r>;
+
+    ghost names = { λ _. None };
+
+    ghost text_in = { λ _ _. [] };
+
+    ghost openings = { λ folder. folder.opened };
+
+    fn begins(&mut self, alloc: Global) -> Result<Vec<u64>, Refusal> {
+        match numbers_in(self.rt, alloc, self.path.as_str()) {
+            Ok(numbers) => {
+                let mut numbers = numbers;
+                numbers.sort_unstable();
+                Ok(numbers)
+            }
+            Err(error) => Err(refusal_of(error)),
+        }
+    }
+
+    // The file is opened for each read, which brings many lines.
+    fn read(&mut self, begin: u64, after: u64, buffer: &mut [u8]) -> Result<usize, Refusal> {
+        match self.read_file(begin, after, buffer) {
+            Ok(count) => Ok(count),
+            Err(error) => Err(refusal_of(error)),
+        }
+    }
+
+    fn segment(&mut self, begin: u64) -> Result<HostSegment<'r>, Refusal> {
+        self.opened = self.opened.saturating_add(1);
+        match self.open_file(begin, false) {
+            Ok(file) => HostSegment::of(self.rt, file).ok_or(Refusal::Store),
+            Err(error) => Err(refusal_of(error)),
+        }
+    }
+
+    fn new_segment(&mut self, begin: u64) -> Result<HostSegment<'r>, Refusal> {
+        self.opened = self.opened.saturating_add(1);
+        match self.make_file(begin) {
+            Ok(file) => HostSegment::of(self.rt, file).ok_or(Refusal::Store),
+            Err(error) => Err(refusal_of(error)),
+        }
+    }
+}
+
+impl ReportingFolder for HostFolder<'_> {
+    fn report_gap(&mut self) {
+        let mut faults = self.rt.stderr();
+        let _ = write!(faults, "journal: gap\n");
+        if faults.is_terminal() {
+            let path = self.path.as_str();
+            let _ = write!(
+                faults,
+                "pciids: {path} lacks commands that the registry was given without it; a new \
+                 segment begins\n"
+            );
+        }
+    }
+}
+
+/// The folders of the process.
+#[derive(Clone, Copy)]
+pub struct HostFolders<'r>(pub &'r HostRuntime);
+
+impl<'r> Journals for HostFolders<'r> {
+    type Folder = HostFolder<'r>;
+
+    fn open_folder(&mut self, path: &str) -> Option<HostFolder<'r>> {
+        HostFolder::at(self.0, path)
+    }
+}

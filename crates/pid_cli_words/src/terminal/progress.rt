@@ -1,0 +1,135 @@
+//! Progress of a long job, shown at a terminal.
+
+use crate::terminal::say::say;
+use crate::terminal::seen::Looks;
+use crate::terminal::short_line::ShortLine;
+use itoa::Buffer;
+use std::time::{Duration, Instant};
+
+/// How long a job runs before its progress is shown, in milliseconds.
+const PATIENCE: u64 = 1_000;
+
+/// The shortest time between two updates, in milliseconds.
+const PAUSE: u64 = 100;
+
+/// Overwrites the longest progress line with spaces.
+const CLEARED: &str = "\r                                        \r";
+
+/// The number of lines that a job has read or written: one line on standard error, updated in
+/// place, once the job has taken a second. It is erased when this is dropped. No promise covers what
+/// is shown there.
+pub struct Progress<'r> {
+    rt: &'r HostRuntime,
+    job: &'r str,
+    lines: u64,
+    // When to show it next; `None` if it is not shown.
+    due: Option<Instant>,
+    is_shown: bool,
+}
+
+impl<'r> Progress<'r> {
+    /// The progress of a job that starts now, such as `importing`.
+    pub fn new(rt: &'r HostRuntime, job: &'r str, is_told: bool) -> Progress<'r> {
+        let due = if is_told {
+            instant_after(rt, PATIENCE)
+        } else {
+            None
+        };
+        Progress {
+            rt,
+            job,
+            lines: 0,
+            due,
+            is_shown: false,
+        }
+    }
+
+    /// Erases the line, so that other text can take its place.
+    pub fn clear(&mut self) {
+        if self.is_shown {
+            say(self.rt, &[CLEARED]);
+            self.is_shown = false;
+        }
+    }
+
+    /// Counts a line.
+    pub fn count_line(&mut self) {
+        self.note(b"\n");
+    }
+
+    // Counts the line ends in these bytes, and shows the count if it is due.
+    fn note(&mut self, bytes: &[u8]) {
+        let Some(due) = self.due else {
+            return;
+        };
+        self.lines = self.lines.saturating_add(ends_in(bytes));
+        if let Ok(now) = Instant::now(self.rt) {
+            if now >= due {
+                self.tell();
+                self.due = instant_after(self.rt, PAUSE);
+            }
+        }
+    }
+
+    fn tell(&mut self) {
+        let lines = grouped(self.lines);
+        say(self.rt, &["\r", self.job, ": ", lines.as_str(), " lines"]);
+        self.is_shown = true;
+    }
+}
+
+impl Drop for Progress<'_> {
+    fn drop(mut self) {
+        self.clear();
+        let Progress {
+            rt: _,
+            job: _,
+            lines: _,
+            due: _,
+            is_shown: _,
+        } = self;
+    }
+}
+
+// The moment so many milliseconds from now; `None` if the clock fails.
+fn instant_after(rt: &HostRuntime, millis: u64) -> Option<Instant> {
+    Instant::now(rt)
+        .ok()?
+        .checked_add(Duration::from_millis(millis))
+}
+
+fn ends_in(bytes: &[u8]) -> u64 {
+    let mut ends = 0_u64;
+    for byte in bytes {
+        if *byte == b'\n' {
+            ends = ends.saturating_add(1);
+        }
+    }
+    ends
+}
+
+// A number, with its digits in groups of three.
+fn grouped(number: u64) -> ShortLine {
+    let mut line = ShortLine::new();
+    let mut digits = Buffer::new();
+    let digits = digits.format(number).as_bytes();
+    let mut left = digits.len();
+    for digit in digits {
+        if left % 3 == 0 && left < digits.len() {
+            line.push(b',');
+        }
+        line.push(*digit);
+        left = left.saturating_sub(1);
+    }
+    line
+}
+
+/// Counts the lines that pass.
+#[derive(Drop)]
+pub struct Counted<'p, 'r>(pub &'p mut Progress<'r>);
+
+impl Looks for Counted<'_, '_> {
+    fn look(&mut self, bytes: &[u8]) {
+        self.0.note(bytes);
+    }
+}

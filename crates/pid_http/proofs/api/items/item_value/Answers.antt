@@ -1,0 +1,9 @@
+use Rattle.std.proofs.Common.{ap}
+use Rattle.serde_json.specs.View.{members_view}
+use Rattle.pid_http.proofs.api.items.item_value.Goals as goal
+
+pub returns : goal.returns
+returns c =
+    let m1 = c.with_text-members.ensures _ _ (ap members_view c.new.ensures.empty) c.as_str.ensures.text in
+    let m2 = c.with_path-members.ensures _ m1 in
+    c.object_of.ensures _ m2

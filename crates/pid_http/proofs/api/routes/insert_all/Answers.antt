@@ -1,0 +1,20 @@
+use Rattle.std.proofs.Common.{rules, refl, sym, ◌∙◌}
+use Rattle.std.proofs.lemmas.List.{drop_all}
+use Rattle.pid_http.proofs.OfApi.RouteRows.{finish, first_new, inserted, lacks_memory, more_new, next}
+use Rattle.pid_http.proofs.api.routes.insert_all.Goals as goal
+
+pub loop-row-init : goal.loop-row-init
+loop-row-init c = (refl, λ new. new)
+
+pub loop-row-preserved : goal.loop-row-preserved
+loop-row-preserved c =
+    rw (inserted _ _ _ _ _ c.in-Ok.ensures) (
+      sym (next _ _ _ _ c.loop-row-test.true) ∙ c.loop-row.invariant.0,
+      λ new. more_new _ _ _ _ c.loop-row-test.true (c.loop-row.invariant.1 new),
+    )
+
+pub returns-clause-inserted : goal.returns-clause-inserted
+returns-clause-inserted c = finish _ _ _ _ (drop_all c.loop-row.row-index c.args.rows.now (search rules)) c.loop-row.invariant.0
+
+pub returns-in-Err-clause-refused : goal.returns-in-Err-clause-refused
+returns-in-Err-clause-refused c = λ new. lacks_memory _ _ _ _ _ c.in-Err.ensures (first_new _ _ _ _ c.loop-row-test.true (c.loop-row.invariant.1 new))

@@ -1,0 +1,32 @@
+-- A segment that is read line by line.
+use Rattle.std.specs.Prelude.{◌≡◌, ℕ, List, [], ◌∷◌, ◌++◌, drop, Some}
+use Rattle.pid_file.specs.WholeLines.{ended_pieces}
+use Rattle.pid_journal.specs.declared.folder.JournalFolder as folders
+use Rattle.pid_journal.specs.declared.segment_text.SegmentText.{SegmentText}
+use Rattle.pid_journal.specs.Steps.Segments.{IsSameFolder}
+
+-- what is not taken yet of a text
+abbrev pub left_in : SegmentText → List ℕ → List ℕ
+left_in t text = drop t.taken t.held.items ++ drop t.read text
+
+-- a line was taken, with its LF (10)
+pub record IsLine (rest line behind : List ℕ) : Type 0 where
+  pub parts : rest ≡ line ++ 10 ∷ behind
+  pub one : ended_pieces line ≡ []
+
+-- all of the text was read, and no line that is left is whole
+pub record IsAllRead (t u : SegmentText) (text : List ℕ) : Type 0 where
+  pub same : left_in u text ≡ left_in t text
+  pub torn : ended_pieces (left_in t text) ≡ []
+  pub all : drop u.read text ≡ []
+
+module _ {F J : Type 0} (folder : folders.Ghosts F J) where
+  -- of a folder segments were read, and of the same segment
+  pub record OnlyReads (f g : F) (t u : SegmentText) : Type 0 where
+    pub same : IsSameFolder folder f g
+    pub quiet : folder.openings g ≡ folder.openings f
+    pub begin : u.begin ≡ t.begin
+
+  -- what holds of the text of a segment, if it is known
+  abbrev pub OfText : F → SegmentText → (List ℕ → Type 0) → Type 0
+  OfText f t Says = (names : List ℕ) → folder.names f ≡ Some names → Says (folder.text_in f t.begin)

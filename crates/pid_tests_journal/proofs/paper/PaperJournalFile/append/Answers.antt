@@ -1,5 +1,0 @@
-use Rattle.std.proofs.Common.{◌≡◌, Some, None}
-use Rattle.pid_tests_journal.proofs.paper.PaperJournalFile.append.Goals as goal
-
-pub returns-clause-appended : goal.returns-clause-appended
-returns-clause-appended c front is = absurd (let no : ⊥ = cc in no)
