@@ -1,8 +1,8 @@
 -- The account that a test's reader keeps.
 use Rattle.std.specs.Prelude.{List, Option, Some, None, map, if◌then◌else◌}
 use Rattle.pid_http_stream.specs.Moments.{Moment}
-use Rattle.pid_tests_registry.specs.declared.http.account.Account.{Account}
-use Rattle.pid_tests_registry.specs.declared.http.account.Kept.{Kept}
+use Rattle.pid_tests_registry.specs.declared.serving.account.Account.{Account}
+use Rattle.pid_tests_registry.specs.declared.serving.account.Kept.{Kept}
 
 -- one of its moments
 abbrev pub moment_of : Kept → Moment

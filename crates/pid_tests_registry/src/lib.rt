@@ -2,10 +2,10 @@
 //! over memory, where a disk, a reader or a writer fails.
 #![tactic(auto)]
 
-pub mod http;
 #[cfg(test)]
 mod journal;
 #[cfg(test)]
 mod script;
 #[cfg(test)]
 mod service;
+pub mod serving;

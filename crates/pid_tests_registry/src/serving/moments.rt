@@ -1,6 +1,6 @@
 //! When replies go out.
-use crate::http::account::{Account, Kept};
-use crate::http::desk::Desk;
+use crate::serving::account::{Account, Kept};
+use crate::serving::desk::Desk;
 use pid_doubles::FaultyOutput;
 use pid_http_stream::{StreamEnd, serve_stream};
 use std::alloc::Global;

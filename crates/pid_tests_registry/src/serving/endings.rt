@@ -1,5 +1,5 @@
 //! Streams that have few reads, and a handler that can't go on.
-use crate::http::desk::serve;
+use crate::serving::desk::serve;
 use pid_http_stream::{Served, StreamEnd};
 use std::alloc::Global;
 use std::test::Fail;

@@ -1,6 +1,6 @@
 //! Readers and writers that fail under a stream, at each byte.
-use crate::http::exchange::serve_new;
-use crate::http::streams::{THEIR_REPLIES, THREE};
+use crate::serving::exchange::serve_new;
+use crate::serving::streams::{THEIR_REPLIES, THREE};
 use pid_doubles::{FaultyInput, FaultyOutput};
 use pid_http_stream::{Served, StreamEnd};
 use pid_ident::WriteFault;

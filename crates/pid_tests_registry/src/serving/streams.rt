@@ -1,5 +1,5 @@
 //! A stream over a registry that is cut in two at each byte.
-use crate::http::exchange::serve_new;
+use crate::serving::exchange::serve_new;
 use pid_doubles::{FaultyInput, FaultyOutput};
 use pid_http_stream::{Served, StreamEnd, StreamFault};
 use pid_ident::{Input, Plain};
