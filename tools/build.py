@@ -30,6 +30,8 @@ from progress import Estimate, Progress, say
 TOP = os.path.dirname(os.path.dirname(os.path.abspath(__file__)))
 SOURCES = ("src", "specs", "proofs")
 TARGET = "x86_64-unknown-linux-gnu"
+# It runs until the whole program is built.
+FIRST = "pid_cli_first"
 # A prover and its copies are ended together. They stay in this session if Python can do that, since
 # Linux shares the processors out between sessions whatever `nice` says.
 GROUP = {"process_group": 0} if sys.version_info >= (3, 11) else {"start_new_session": True}
@@ -121,7 +123,8 @@ class Toolchain:
         command += ["--logic-built", f"{self.kit}/logic_built"]
         command += ["--links", f"{crate}=", "--jobs", str(jobs)]
         if self.is_program(crate):
-            command += ["--toolchain", f"{self.kit}/toolchain", "--backend", "llvm"]
+            command += ["--toolchain", f"{self.kit}/toolchain"]
+            command += ["--backend", "rattle" if crate == FIRST else "llvm"]
             return [*command, "-o", f"out/{crate}.o"]
         return [*command, "--statements", "-o", self.library(crate)]
 
@@ -320,7 +323,7 @@ def main():
         os.environ.pop("TMPDIR", None)
     build = Build(program, int(count[0]) if count else processors())
     signal.signal(signal.SIGTERM, lambda *_: sys.exit(build.stop() or 143))
-    is_built, is_small = False, program == "pid_cli_first"
+    is_built, is_small = False, program == FIRST
     what = "the first program, for tidy, check and help" if is_small else "the whole program"
     # If only the times of files have changed, a build ends within a second or two.
     progress = Progress(build, what, 3 if os.path.exists(path) else 0)

@@ -6,10 +6,10 @@
 #![tactic(auto)]
 
 use pid_cli_help::{
-    FirstJob, Met, Noted, USAGE_PAGE, explain_streams, first_job_of, is_for_a_person, tell_input,
-    usage_after,
+    FirstJob, Met, Noted, explain_streams, first_job_of, is_for_a_person, refuse_argument,
+    refuse_command, tell_input,
 };
-use pid_file::{refuse, run_check, run_tidy, show, tell_no_words};
+use pid_file::{run_check, run_tidy, show, tell_no_words};
 use std::process::ExitCode;
 use std::{env, io};
 
@@ -55,45 +55,7 @@ fn do_job(rt: &HostRuntime, job: FirstJob<'_>, read: &mut Met, written: &mut Met
         }
         FirstJob::Show(page) => show(page, Noted::new(rt.stdout(), written), faults),
         FirstJob::NoCommand(word) => refuse_command(rt, word),
-        FirstJob::NoArgument { command, word } => refuse(
-            &[
-                b"error: unexpected argument '",
-                word.as_bytes(),
-                b"' found\n\nUsage: pciids ",
-                command.as_bytes(),
-                b" < FILE\n\nFor more information, try '--help'.\n",
-                b"To read a file, redirect standard input: pciids ",
-                command.as_bytes(),
-                b" < FILE\n",
-            ],
-            faults,
-        ),
+        FirstJob::NoArgument { command, word } => refuse_argument(rt, command, word),
         FirstJob::Other => OTHER_JOB,
     }
-}
-
-// Reports that a word is no command, with a tip if there is memory for it.
-fn refuse_command(rt: &HostRuntime, word: &str) -> u8 {
-    let tip = usage_after(rt.alloc(), word).ok();
-    refuse_word(
-        rt,
-        word,
-        match &tip {
-            Some(text) => text.as_str(),
-            None => USAGE_PAGE,
-        },
-    )
-}
-
-fn refuse_word(rt: &HostRuntime, word: &str, usage: &str) -> u8 {
-    refuse(
-        &[
-            b"error: unrecognized subcommand '",
-            word.as_bytes(),
-            b"'\n\n",
-            usage.as_bytes(),
-            b"To read a file, redirect standard input: pciids < FILE\n",
-        ],
-        rt.stderr(),
-    )
 }

@@ -6,6 +6,7 @@ mod file_looks;
 mod first_job;
 mod met;
 mod pages;
+mod refusing;
 mod similar;
 
 pub use explaining::{explain_streams, is_for_a_person, reason_of, tell_input};
@@ -16,4 +17,4 @@ pub use pages::{
     CHECK, EXPORT, HELP, IMPORT, LOOKUP, MIGRATE, SCRIPT, SERVE, TIDY, USAGE, USAGE_PAGE, VERSION,
     VERSION_PAGE,
 };
-pub use similar::usage_after;
+pub use refusing::{refuse_argument, refuse_command};

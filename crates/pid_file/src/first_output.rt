@@ -1,7 +1,7 @@
 //! What the first program prints besides the result of `tidy` and `check`.
 ghost use Rattle.std.specs.Prelude.{◌≡◌, ◌⊎◌};
 
-use crate::io::{write_all, write_parts};
+use crate::io::write_all;
 use crate::plain::Plain;
 use crate::process::{tell_end, tell_failed};
 use crate::text_end::TextEnd;
@@ -9,7 +9,7 @@ use crate::watched::Watched;
 use std::io::{ErrorKind, Write};
 
 /// The exit status if the arguments name no job.
-pub const UNKNOWN_WORDS: u8 = 2;
+const UNKNOWN_WORDS: u8 = 2;
 
 /// Prints a page on `output`, and returns the exit status: 0, or 3 if it can't be written.
 pub fn show<O: Write + Drop, F: Write + Drop>(page: &str, output: O, faults: F) -> u8
@@ -22,20 +22,18 @@ pub fn show<O: Write + Drop, F: Write + Drop>(page: &str, output: O, faults: F) 
     }
 }
 
-/// Reports why the arguments name no job, and returns the exit status.
-pub fn refuse<F: Write + Drop>(reason: &[&[u8]], faults: F) -> u8
-    ensures { result ≡ 2 }
-{
-    let _ = write_parts(&mut Plain::new(faults), reason);
-    UNKNOWN_WORDS
-}
-
 /// Reports that the arguments can't be read, and returns the exit status.
 pub fn tell_no_words<F: Write + Drop>(kind: ErrorKind, faults: F) -> u8
     ensures { (result ≡ 2) ⊎ (result ≡ 3) }
 {
     match kind {
         ErrorKind::OutOfMemory => tell_end(TextEnd::Memory, &mut Plain::new(faults)),
-        _ => refuse(&[b"error: an argument is not valid UTF-8\n"], faults),
+        _ => {
+            let _ = write_all(
+                &mut Plain::new(faults),
+                b"error: an argument is not valid UTF-8\n",
+            );
+            UNKNOWN_WORDS
+        }
     }
 }

@@ -41,7 +41,7 @@ pub use bytes::{are_printed, is_empty};
 pub use checking::check;
 pub use counter::{Counter, Never};
 pub use fault_kind::LineKind;
-pub use first_output::{refuse, show, tell_no_words};
+pub use first_output::{show, tell_no_words};
 pub use identifier::{Id8, Id16, hex2, hex4};
 pub use input_text::{count_input, end_without_fault, read_input};
 pub use io::{Input, Output, ReadFault, WriteFault, write_all, write_parts};

@@ -1,0 +1,45 @@
+//! What the first program says of arguments that name no job.
+use crate::pages::USAGE_PAGE;
+use crate::similar::similar_commands;
+use std::io::Write;
+
+/// The exit status if the arguments name no job.
+const NO_JOB: u8 = 2;
+
+/// Reports that a word is no command, with a tip if there is memory for it. Returns the exit
+/// status.
+pub fn refuse_command(rt: &HostRuntime, word: &str) -> u8 {
+    let _ = write!(rt.stderr(), "error: unrecognized subcommand '{word}'\n\n");
+    if let Ok(similar) = similar_commands(rt.alloc(), word) {
+        tell_tip(rt, similar.as_slice());
+    }
+    let _ = write!(
+        rt.stderr(),
+        "{USAGE_PAGE}To read a file, redirect standard input: pciids < FILE\n"
+    );
+    NO_JOB
+}
+
+fn tell_tip(rt: &HostRuntime, similar: &[(f64, &'static str)]) {
+    let mut front = match similar {
+        [] => return,
+        [_] => "  tip: a similar subcommand exists: '",
+        _ => "  tip: some similar subcommands exist: '",
+    };
+    for (_, command) in similar {
+        let _ = write!(rt.stderr(), "{front}{command}");
+        front = "', '";
+    }
+    let _ = write!(rt.stderr(), "'\n\n");
+}
+
+/// Reports that a command takes no argument, as the name of a file. Returns the exit status.
+pub fn refuse_argument(rt: &HostRuntime, command: &str, word: &str) -> u8 {
+    let _ = write!(
+        rt.stderr(),
+        "error: unexpected argument '{word}' found\n\nUsage: pciids {command} < FILE\n\n\
+         For more information, try '--help'.\n\
+         To read a file, redirect standard input: pciids {command} < FILE\n"
+    );
+    NO_JOB
+}
