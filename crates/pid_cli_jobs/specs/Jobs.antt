@@ -6,7 +6,7 @@ use Rattle.std.specs.Io.KnownBytes.{Appends}
 use Rattle.std.specs.declared.alloc.AllocError.{AllocError}
 use Rattle.pid_file.specs.InputTexts.{ReadsInput}
 use Rattle.pid_file.specs.TextEnds.{status_of}
-use Rattle.pid_file.specs.Told.{IsTold, ReportsEnd}
+use Rattle.pid_file.specs.Reports.{IsReported, ReportsEnd}
 use Rattle.pid_file.specs.Words.{is_account, is_key}
 use Rattle.pid_file.specs.Writing.{FailsWithin, TriesLine}
 use Rattle.pid_file.specs.declared.counter.Never.{Never}
@@ -102,7 +102,7 @@ pub data LooksUpText (lookup : LookupValues) (come : Option (List ℕ)) (w : Str
       → IfSome come (λ text. IsFoundIn lookup text found)
       → PrintsAnswer found w end → LooksUpText lookup come w end
   Unread : (why : TextEnd) → why ≢ texts.Done → ReportsEnd why w.faults
-      → IfSome come (λ text. IsTold why text w.faults.before w.faults.after) → IsUnprinted w
+      → IfSome come (λ text. IsReported why text w.faults.before w.faults.after) → IsUnprinted w
       → EndsBy ((why ≡ texts.ReadFault) ⊎ (why ≡ texts.WriteFault)) (status_of why) end
       → LooksUpText lookup come w end
 

@@ -16,7 +16,7 @@ use crate::job_end::{JobEnd, report_memory};
 use crate::lines::{print_answer, print_reply};
 use crate::machine::Machine;
 use pid_cli_words::LookupWords;
-use pid_file::{LARGEST, TextEnd, tell_unread};
+use pid_file::{LARGEST, TextEnd, report_unread};
 use pid_ident::{Input, Output, Plain};
 use pid_lookup::{Args, BadField, args_of, lookup_in};
 use pid_moderation::Refusal;
@@ -87,7 +87,7 @@ fn look_up<I: Input, O: Output, F: Output>(
     let (flags, args, size) = *lookup;
     match lookup_in(alloc, LARGEST, input, flags, &args, size) {
         Ok(found) => print_answer(found, output, faults),
-        Err(end) => match tell_unread(end, faults) {
+        Err(end) => match report_unread(end, faults) {
             TextEnd::ReadFault | TextEnd::WriteFault => JobEnd::FileFailed,
             end => JobEnd::Exited(end.status()),
         },

@@ -9,5 +9,5 @@ pub mod terminal;
 mod words;
 
 pub use job::{ImportWords, Job, LookupWords};
-pub use no_job::tell_no_job;
+pub use no_job::report_no_job;
 pub use words::job_of;

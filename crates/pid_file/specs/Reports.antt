@@ -11,26 +11,26 @@ use Rattle.pid_file.specs.declared.text_end.TextEnd.TheVariants.{TooLarge, Memor
 use Rattle.pid_file.specs.declared.text_end.TextEnd.TheVariants.{WriteFault}
 
 -- the end is a fault of the text or out of memory, and its line was written
-pub record TellsFault (end : TextEnd) (text : List ℕ) (old new : Option (List ℕ)) : Type 0 where
+pub record ReportsFault (end : TextEnd) (text : List ℕ) (old new : Option (List ℕ)) : Type 0 where
   pub is_fault : IsFaultOf end text
   pub told : Appends old new (fault_line end)
 
 -- the writer failed, and a prefix of a fault line or of the line for out of memory was written
-pub record TellsFront (text : List ℕ) (old new : Option (List ℕ)) : Type 0 where
+pub record ReportsPrefix (text : List ℕ) (old new : Option (List ℕ)) : Type 0 where
   pub end : TextEnd
   pub is_fault : IsFaultOf end text
   pub told : SendsFront old new (fault_line end)
 
 -- an end without a result: a fault of the text and out of memory are reported, a fault of the
 -- reader is not
-abbrev pub IsTold : TextEnd → List ℕ → Option (List ℕ) → Option (List ℕ) → Type 0
-IsTold Done text old new = ⊥
-IsTold (Line line kind) text old new = TellsFault (Line line kind) text old new
-IsTold TooManyEntries text old new = TellsFault TooManyEntries text old new
-IsTold TooLarge text old new = TellsFault TooLarge text old new
-IsTold Memory text old new = TellsFault Memory text old new
-IsTold ReadFault text old new = Keeps old new
-IsTold WriteFault text old new = TellsFront text old new
+abbrev pub IsReported : TextEnd → List ℕ → Option (List ℕ) → Option (List ℕ) → Type 0
+IsReported Done text old new = ⊥
+IsReported (Line line kind) text old new = ReportsFault (Line line kind) text old new
+IsReported TooManyEntries text old new = ReportsFault TooManyEntries text old new
+IsReported TooLarge text old new = ReportsFault TooLarge text old new
+IsReported Memory text old new = ReportsFault Memory text old new
+IsReported ReadFault text old new = Keeps old new
+IsReported WriteFault text old new = ReportsPrefix text old new
 
 -- the writer failed within the line of some end
 pub record FailsInLine (w : WriterUse) : Type 0 where
