@@ -81,8 +81,8 @@ module _ {S : Type 0} (store : Ghosts S) where
     shown = λ clean h reached shows. (opens.opened h reached shows clean).1;
   }
 
-  pub unopened_untold : (conn back : Held S) (fault : TableFault) (h : History) → IsReached h → ShowsOrBlank store conn h → OpensTo store conn (Err (fault, back)) → clauses.HasCleanDisk store back → IsMemoryOrStore fault
-  unopened_untold conn back fault h reached shows opens clean = (opens.opened h reached shows clean).0
+  pub unopened_only_store : (conn back : Held S) (fault : TableFault) (h : History) → IsReached h → ShowsOrBlank store conn h → OpensTo store conn (Err (fault, back)) → clauses.HasCleanDisk store back → IsMemoryOrStore fault
+  unopened_only_store conn back fault h reached shows opens clean = (opens.opened h reached shows clean).0
 
   -- the first opening
   pub bare_shows_none : IsSettled → (conn : Held S) → IsOpened store conn → ListsNoTable (clauses.seen store conn).trees → ShowsOrBlank store conn new_history
@@ -105,8 +105,8 @@ module _ {S : Type 0} (store : Ghosts S) where
   move_leaves conn back fault h reached (inr (inl older)) moves clean = moves.moved h reached older clean
   move_leaves conn back fault h reached (inr (inr bare)) moves clean = subst (λ (g : History). IsMemoryOrStore fault × ShowsOrBlank store back g) (sym bare.1) (moves.created bare.0 clean)
 
-  pub move_untold : (conn back : Held S) (fault : TableFault) (h : History) → IsReached h → ShowsOrBlank store conn h → MovesTo store conn (Err (fault, back)) → clauses.HasCleanDisk store back → IsMemoryOrStore fault
-  move_untold conn back fault h reached shows moves clean = (move_leaves conn back fault h reached shows moves clean).0
+  pub move_only_store : (conn back : Held S) (fault : TableFault) (h : History) → IsReached h → ShowsOrBlank store conn h → MovesTo store conn (Err (fault, back)) → clauses.HasCleanDisk store back → IsMemoryOrStore fault
+  move_only_store conn back fault h reached shows moves clean = (move_leaves conn back fault h reached shows moves clean).0
 
   pub move_keeps : (conn : Held S) (result : Result (Held S × Step) (TableFault × Held S)) → MovesTo store conn result → KeepsHistory store store conn (moved_to store result)
   move_keeps conn (Ok (moved, step)) moves = record {

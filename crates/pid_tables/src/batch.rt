@@ -235,7 +235,7 @@ pub fn apply<S: Alter>(
         → CountsFit change.now.effect c w → FitsViews change.now w
         → OnOk result (Written S.Store batch.new.conn.now (counts_of (changed change.now w)) v
         (changed change.now w)) }
-    ensures untold { HasCleanDisk S.Store batch.new.conn.now
+    ensures only_store { HasCleanDisk S.Store batch.new.conn.now
         → IsTrue (is_open S.Store batch.old.conn.now) → (c : Counts) (v w : Views)
         → Within S.Store batch.old.conn.now c v w
         → CountsFit change.now.effect c w → FitsViews change.now w → IfErr result IsMemoryOrStore }

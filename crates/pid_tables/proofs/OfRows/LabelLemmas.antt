@@ -78,10 +78,10 @@ none_shown db label rows shows none = inr (rows, shows, λ y there. absurd (let 
 
 -- the query was refused
 pub query_refused : (db : Database) (label : List ℕ) (e : TableFault) → ((query : Compiled) → understood db.schema value_text ≡ Ok query → IsMemoryOrStore e) → IsNotNewerSchema e → IsDamageOf (ShowsNoNumber db label) e
-query_refused db label Memory untold never = tt
-query_refused db label Store untold never = tt
-query_refused db label (NewerSchema n) untold never = never
-query_refused db label Damaged untold never = inl untold
+query_refused db label Memory only_store never = tt
+query_refused db label Store only_store never = tt
+query_refused db label (NewerSchema n) only_store never = never
+query_refused db label Damaged only_store never = inl only_store
 
 pub unread_never : (Written : Type 0) (r : Result ℕ TableFault) → IfErr r (IsUnreadable Written) → IfErr r IsNotNewerSchema
 unread_never Written (Ok n) h = tt

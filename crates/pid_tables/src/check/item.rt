@@ -45,7 +45,7 @@ pub(crate) fn add_path(paths: &mut BTreeSet<Path>, row: &Row) -> Result<bool, Ta
     ensures added { (rows : List Values) → ArePathsOf paths.old rows
         → OnOk result (ArePathsOf paths.new (rows ++ row.now ∷ [])) }
     ensures there { IfOk result (λ there. IsTrue there ↔ HasPath row.now) }
-    ensures untold { IfErr result IsMemoryOrStore }
+    ensures only_store { IfErr result IsMemoryOrStore }
 {
     match path_at(row, 0) {
         None => Ok(false),

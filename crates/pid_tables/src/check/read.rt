@@ -21,7 +21,7 @@ pub(crate) trait Keeper {
     fn keep(&mut self, row: &Row) -> Result<(), TableFault>
         ensures kept { (first : Self) (rows : List Values) → keeps first rows self.old
             → OnOk result (keeps first (rows ++ row.now ∷ []) self.new) }
-        ensures untold { IfErr result IsMemoryOrStore };
+        ensures only_store { IfErr result IsMemoryOrStore };
 }
 
 /// Hands each row of a table to a keeper, in some order: no list of them is made.
@@ -51,7 +51,7 @@ pub(crate) fn keep_rows<S: Alter, K: Keeper>(
 /// The count of rows with one more.
 pub(crate) fn one_more(count: u64) -> Result<u64, TableFault>
     ensures next { IfOk result (λ next. next ≡ suc count) }
-    ensures untold { IfErr result IsMemoryOrStore }
+    ensures only_store { IfErr result IsMemoryOrStore }
 {
     match count.checked_add(1) {
         Some(next) => Ok(next),

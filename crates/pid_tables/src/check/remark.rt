@@ -28,7 +28,7 @@ use std::collections::BTreeSet;
 fn add_place(places: &mut BTreeSet<(u64, u64)>, row: &Row) -> Result<(), TableFault>
     ensures added { (rows : List Values) → ArePlacesOf places.old rows
         → OnOk result (ArePlacesOf places.new (rows ++ row.now ∷ [])) }
-    ensures untold { IfErr result IsMemoryOrStore }
+    ensures only_store { IfErr result IsMemoryOrStore }
 {
     let Some(submission) = number_at(row, 0) else {
         return Ok(());

@@ -115,7 +115,7 @@ fn value_rows<S: Alter>(conn: &mut Connection<S>, label: &str) -> Result<Vec<Row
         ≡ option_map value_row (meta_of (counts_of v) v.revision label.now)) }
     ensures shows { HasCleanDisk S.Store conn.new
         → IfOk result (λ rows. ShowsValues (seen S.Store conn.old) label.now rows.items) }
-    ensures untold { HasCleanDisk S.Store conn.new → (query : Compiled)
+    ensures only_store { HasCleanDisk S.Store conn.new → (query : Compiled)
         → understood (seen S.Store conn.old).schema value_text ≡ Ok query
         → IfErr result IsMemoryOrStore }
     ensures never { IfErr result IsNotNewerSchema }

@@ -14,7 +14,7 @@ use Rattle.pid_tables.proofs.OfRows.LeaveLemmas.{on_err}
 use Rattle.pid_tables.proofs.OfRows.GoingLemmas.{earlier}
 use Rattle.pid_tables.proofs.OfRows.OnlyReading.{reads_begun}
 use Rattle.pid_tables.proofs.MetLemmas.{reads_if_never}
-use Rattle.pid_tables.proofs.MoveLemmas.{all_never, all_untold, not_on_ok}
+use Rattle.pid_tables.proofs.MoveLemmas.{all_never, all_only_store, not_on_ok}
 use Rattle.pid_tables.proofs.AtOnceLemmas.{reads_at_once, reads_never, commit_at_once, commit_bare, committed_as, kept_as, still_bare}
 use Rattle.pid_tables.specs.AtOnce.{WritesAtOnce}
 use Rattle.pid_tables.specs.Creation.{IsNameTaken, MakesNew, MakesNothing}
@@ -66,7 +66,7 @@ returns-in_err-fill-clause-makes g c =
     let filled = rw c.transaction-batch.ensures.begun at c.in_err-fill.ensures.filled in
     subst (λ h. MakesNew old (state g.S.Store h) c.from_residual.result) same (record {
       made = λ rest. not_on_ok c.from_residual.result _ _ c.from_residual.ensures.1;
-      untold = λ clean rest. passed_from c.from_residual.result _ IsMemoryOrStore c.from_residual.ensures.1 (filled (earlier (state g.S.Store first) (state g.S.Store end) c.drop-batch.ensures.survives clean) refl rest.empty);
+      only_store = λ clean rest. passed_from c.from_residual.result _ IsMemoryOrStore c.from_residual.ensures.1 (filled (earlier (state g.S.Store first) (state g.S.Store end) c.drop-batch.ensures.survives clean) refl rest.empty);
       bare = λ rest. on_err c.from_residual.result (still_bare old (state g.S.Store end) (reads_begun g.S.Store c.args.conn.now first end c.fill.result (clean_if_open (g.S.Store.view first.store) (g.met.S.Store.shut_if_dirty first.store))
           (clean_if_open (g.S.Store.view end.store) (g.met.S.Store.shut_if_dirty end.store)) goes c.drop-batch.ensures.ended c.drop-batch.ensures.undone c.drop-batch.ensures.survives) rest);
     })
@@ -107,7 +107,7 @@ returns-clause-at_once g c =
     subst (λ h. WritesAtOnce (state g.S.Store c.args.conn.now) (state g.S.Store h) c.commit.result) same
     (commit_at_once g.S.Store c.args.conn.now first end (Ok c.in_ok-fill.field-0) goes c.commit.ensures.survives (clean_if_open (g.S.Store.view end.store) (g.met.S.Store.shut_if_dirty end.store)) c.commit.result c.commit.ensures.ended
     (λ clean. c.commit.ensures.ends.undone clean (goes.going (earlier (state g.S.Store first) (state g.S.Store end) c.commit.ensures.survives clean) refl).1)
-    (λ clean. all_untold (state g.S.Store first) (state g.S.Store end) c.commit.result (c.commit.ensures.ends.caused clean (goes.going (earlier (state g.S.Store first) (state g.S.Store end) c.commit.ensures.survives clean) refl).1)))
+    (λ clean. all_only_store (state g.S.Store first) (state g.S.Store end) c.commit.result (c.commit.ensures.ends.caused clean (goes.going (earlier (state g.S.Store first) (state g.S.Store end) c.commit.ensures.survives clean) refl).1)))
 
 pub returns-clause-statements : goal.returns-clause-statements
 returns-clause-statements g c =
@@ -142,8 +142,8 @@ returns-clause-makes g c =
     let shows = rw c.transaction-batch.ensures.begun at c.in_ok-fill.ensures.filled in
     subst (λ h. MakesNew old (state g.S.Store h) c.commit.result) same (record {
       made = λ rest. c.commit.ensures.stands (views_of new_history) (λ clean. ((goes.going clean refl).0, shows clean refl rest.empty));
-      untold = λ clean rest.
-          all_untold (state g.S.Store first) (state g.S.Store end) c.commit.result (c.commit.ensures.ends.caused clean (goes.going (earlier (state g.S.Store first) (state g.S.Store end) c.commit.ensures.survives clean) refl).1);
+      only_store = λ clean rest.
+          all_only_store (state g.S.Store first) (state g.S.Store end) c.commit.result (c.commit.ensures.ends.caused clean (goes.going (earlier (state g.S.Store first) (state g.S.Store end) c.commit.ensures.survives clean) refl).1);
       bare = λ rest.
           commit_bare g.S.Store c.args.conn.now first end (Ok c.in_ok-fill.field-0) goes c.commit.ensures.survives (clean_if_open (g.S.Store.view end.store) (g.met.S.Store.shut_if_dirty end.store)) c.commit.result
           c.commit.ensures.ended (λ clean. c.commit.ensures.ends.undone clean (goes.going (earlier (state g.S.Store first) (state g.S.Store end) c.commit.ensures.survives clean) refl).1) (λ clean. shows clean refl rest.empty) rest;
@@ -175,5 +175,5 @@ returns-clause-spares g c =
           absurd (never_open _ closed (goes.was_open early (goes.going early refl).0));
       never = λ clean.
           let early = earlier mid (state g.S.Store end) c.commit.ensures.survives clean in
-          all_never c.commit.result (all_untold mid (state g.S.Store end) c.commit.result (c.commit.ensures.ends.caused clean (goes.going early refl).1));
+          all_never c.commit.result (all_only_store mid (state g.S.Store end) c.commit.result (c.commit.ensures.ends.caused clean (goes.going early refl).1));
     })

@@ -32,7 +32,7 @@ returns-clause-filled g c clean inside made =
     let shown = shows_nothing d.now has in
     led c.write_one.result (account_added d (state g.S.Store c.write_one.new.tx.conn.now) _ nothing_yet shown (codes "root") Administrator refl)
     (rw (c.to_sql-name.ensures, c.to_sql-rank.ensures, c.from.ensures, c.number.ensures) at (c.write_one.ensures.runs.ran clean (two.goes.going second within).1))
-    (c.write_one.ensures.runs.untold clean pid_schema (λ opened. shown.schema) (insert_writes (insert_account_is Two)))
+    (c.write_one.ensures.runs.only_store clean pid_schema (λ opened. shown.schema) (insert_writes (insert_account_is Two)))
 
 -- ---- where a name is taken
 

@@ -32,7 +32,7 @@ returns-in-Err-clause-brings g c =
     let h = c.in-Err.ensures in
     as_none g.S.Store c.args.conn.now c.create.new.conn c.args.found _ c.in-None.is (record {
       carried = record { survives = h.statements.survives; done = λ clean. tt };
-      created = λ clean bare. (h.makes.untold clean bare, h.makes.bare bare);
+      created = λ clean bare. (h.makes.only_store clean bare, h.makes.bare bare);
       met = λ clean met. (h.spares.refused clean met, h.spares.rests met);
     })
 
@@ -63,7 +63,7 @@ returns-in-Err-move_up-clause-brings g c =
     let h = c.in-Err-move_up.ensures in
     as_one g.S.Store c.args.conn.now c.move_up.new.conn c.args.found _ (c.in-Some-One.is ∙ ap Some (rw c.in-Some-One.is at c.in-Some-One.field-0-is)) (record {
       carried = record { survives = h.statements.survives; done = λ clean. tt };
-      moved = λ clean v rest. (h.untold clean v rest, h.kept v rest);
+      moved = λ clean v rest. (h.only_store clean v rest, h.kept v rest);
     })
 
 pub returns-in-Err-move_up-clause-never : goal.returns-in-Err-move_up-clause-never

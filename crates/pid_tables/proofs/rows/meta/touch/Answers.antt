@@ -14,4 +14,4 @@ returns-clause-shows g c clean inside counts v shows _ =
 
 pub returns-in_err-read_inside-clause-shows : goal.returns-in_err-read_inside-clause-shows
 returns-in_err-read_inside-clause-shows g c clean inside counts v shows _ =
-    passed_on c.from_residual.result _ _ IsMemoryOrStore c.from_residual.ensures.1 (c.in_err-read_inside.ensures.faults.untold clean pid_schema shows.schema (select_meta_is Two).plain)
+    passed_on c.from_residual.result _ _ IsMemoryOrStore c.from_residual.ensures.1 (c.in_err-read_inside.ensures.faults.only_store clean pid_schema shows.schema (select_meta_is Two).plain)

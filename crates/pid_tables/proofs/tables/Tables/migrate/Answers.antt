@@ -7,15 +7,15 @@ use Rattle.pid_tables.specs.Rows.Faults.{IsMemoryOrStore, IsNotNewerSchema}
 use Rattle.pid_tables.specs.Rows.Leaves.{AtRest, OnlyReads, RestsIn}
 use Rattle.pid_tables.proofs.OfRows.CauseLemmas.{passed_from, passed_on}
 use Rattle.pid_tables.proofs.OfRows.OnlyReading.{rests_in_still}
-use Rattle.pid_tables.proofs.OfCheck.Later.{untold_never}
+use Rattle.pid_tables.proofs.OfCheck.Later.{only_store_never}
 use Rattle.pid_tables.specs.Check.Checking.{Explains}
 use Rattle.pid_tables.specs.Bringing.{Refuses, Fails}
 use Rattle.pid_tables.specs.Creation.{RestsBare}
 use Rattle.pid_tables.specs.Steps.Found.{BringsNone, BringsOne}
 use Rattle.pid_tables.specs.Statements.{IsMadeBy, move_statements, registry_statements}
 use Rattle.pid_tables.proofs.AtOnceLemmas.{reads_at_once, reads_never, reads_then_at_once, still_bare}
-use Rattle.pid_tables.proofs.BringLemmas.{of_none, of_one, of_two, made_alone, with_step, none_there, still_met, met_reads, left_alone, or_untold, brought, named_brought, moved_brought, some_moved, read_alone, one_found, ok_rests, left_rests, kept_rests, hands_latest, reads_then_kept, reads_then_made}
-use Rattle.pid_tables.proofs.StandLemmas.{standing_latest, tables_some, untold_told}
+use Rattle.pid_tables.proofs.BringLemmas.{of_none, of_one, of_two, made_alone, with_step, none_there, still_met, met_reads, left_alone, or_only_store, brought, named_brought, moved_brought, some_moved, read_alone, one_found, ok_rests, left_rests, kept_rests, hands_latest, reads_then_kept, reads_then_made}
+use Rattle.pid_tables.proofs.StandLemmas.{standing_latest, tables_some, only_store_told}
 use Rattle.pid_tables.proofs.MoveLemmas.{not_ok, not_on_ok}
 use Rattle.pid_tables.proofs.tables.Tables.migrate.Goals as goal
 
@@ -63,8 +63,8 @@ returns-in_err-found-clause-none g c =
     record {
       made = λ none. reads_never (IsMadeBy g.S.Store registry_statements c.args.self.now.conn) old mid reads;
       done = λ clean none. not_on_ok c.from_residual.result _ _ c.from_residual.ensures.1;
-      bare = λ clean none. passed_on c.from_residual.result _ _ IsNotNewerSchema c.from_residual.ensures.1 (untold_never _ (bad.bare clean none));
-      met = λ clean none met. passed_on c.from_residual.result _ _ (λ fault. IsNotNewerSchema fault × OnlyReads old mid) c.from_residual.ensures.1 (untold_never _ (bad.bare clean none), reads);
+      bare = λ clean none. passed_on c.from_residual.result _ _ IsNotNewerSchema c.from_residual.ensures.1 (only_store_never _ (bad.bare clean none));
+      met = λ clean none met. passed_on c.from_residual.result _ _ (λ fault. IsNotNewerSchema fault × OnlyReads old mid) c.from_residual.ensures.1 (only_store_never _ (bad.bare clean none), reads);
       shut = λ clean closed. passed_on c.from_residual.result _ _ (λ fault. IsMemoryOrStore fault × OnlyReads old mid) c.from_residual.ensures.1 (bad.shut clean closed, reads);
     }
 
@@ -97,10 +97,10 @@ returns-clause-shown g c =
       told = λ clean v rest.
           let first = c.bring.ensures.at_once.clean clean in
           let is = one_found old found v (tables_some One _ (c.schemas_have_tables.ensures.tables One)) rest (good.shut first) (c.in_ok-found.ensures.told first) in
-          untold_told (λ _. AtRest new v) (λ fault. RestsIn One new v) old.now c.bring.result ((moved is).moved clean v (rests_in_still old mid v reads rest));
+          only_store_told (λ _. AtRest new v) (λ fault. RestsIn One new v) old.now c.bring.result ((moved is).moved clean v (rests_in_still old mid v reads rest));
       already = λ clean v rest.
           let is = good.latest (c.bring.ensures.at_once.clean clean) v rest in
-          or_untold _ _ c.bring.result (left_alone g.S.Store old c.schema_found.new.self.conn c.bring.new.conn found c.bring.result reads is step (left is));
+          or_only_store _ _ c.bring.result (left_alone g.S.Store old c.schema_found.new.self.conn c.bring.new.conn found c.bring.result reads is step (left is));
       kept = λ clean.
           let first = c.bring.ensures.at_once.clean clean in
           kept_rests old new c.bring.result
