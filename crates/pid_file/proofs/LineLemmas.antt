@@ -123,8 +123,8 @@ four_is bytes mid rest h l p q = record {
 pub no_four_front : (bytes : List ℕ) → are_digits 2 bytes ≡ false → are_digits 4 bytes ≡ false
 no_four_front bytes h = digits_split bytes ∙ ap (λ t. t && are_digits 2 (drop 2 bytes)) h
 
-pub no_four_behind : (bytes mid : List ℕ) (h : ℕ) → SaysNumber 2 256 hex2 bytes h mid → are_digits 2 mid ≡ false → are_digits 4 bytes ≡ false
-no_four_behind bytes mid h p none = digits_split bytes ∙ (λ i. p.digits i && are_digits 2 (sym p.behind i)) ∙ none
+pub no_four_after : (bytes mid : List ℕ) (h : ℕ) → SaysNumber 2 256 hex2 bytes h mid → are_digits 2 mid ≡ false → are_digits 4 bytes ≡ false
+no_four_after bytes mid h p none = digits_split bytes ∙ (λ i. p.digits i && are_digits 2 (sym p.behind i)) ∙ none
 
 -- digits, and then a blank or none
 pub no_digits_no_id : (width : ℕ) (bytes : List ℕ) → are_digits width bytes ≡ false → begins_with_id width bytes ≡ false

@@ -90,7 +90,7 @@ fn four_at(bytes: &[u8]) -> Option<(Id16, &[u8])>
 }
 
 // What follows the blank that the bytes begin with.
-fn behind_blank(bytes: &[u8]) -> Option<&[u8]>
+fn after_blank(bytes: &[u8]) -> Option<&[u8]>
     ensures { MatchOption result (begins_with_id 0 bytes.now ≡ false)
         (λ rest. (begins_with_id 0 bytes.now ≡ true) × (rest.now ≡ drop 1 bytes.now)) }
 {
@@ -106,7 +106,7 @@ fn id4_at(bytes: &[u8]) -> Option<(Id16, &[u8])>
         (λ x. IsId 4 65536 hex4 bytes.now x.0 x.1.now) }
 {
     let (number, behind) = four_at(bytes)?;
-    let behind = behind_blank(behind)?;
+    let behind = after_blank(behind)?;
     Some((number, behind))
 }
 
@@ -116,7 +116,7 @@ fn id2_at(bytes: &[u8]) -> Option<(Id16, &[u8])>
         (λ x. IsId 2 256 hex2 bytes.now x.0 x.1.now) }
 {
     let (number, behind) = pair_at(bytes)?;
-    let behind = behind_blank(behind)?;
+    let behind = after_blank(behind)?;
     Some((number, behind))
 }
 

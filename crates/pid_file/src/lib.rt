@@ -53,7 +53,7 @@ pub use path::Path;
 pub use pieces::split_line;
 pub use plain::Plain;
 pub use print::{
-    opened_block, write_behind, write_block, write_canonical, write_header, write_item,
+    opened_block, write_after, write_block, write_canonical, write_header, write_item,
 };
 pub use process::{FAILED, report_failed, report_text_end, run_check, run_tidy};
 pub use refusal::ReadRefusal;

@@ -1,7 +1,7 @@
 //! The open levels, and what a line says below them.
 ghost use Rattle.std.specs.Prelude.{◌≡◌, ◌==◌, ℕ, List, true, false, Some, IfOk, IfErr};
 ghost use Rattle.std.specs.Str.{is_utf8 as utf8_bytes};
-ghost use Rattle.pid_file.specs.Marks.{is_idle as idle_line, depth as tabs, body as behind_tabs};
+ghost use Rattle.pid_file.specs.Marks.{is_idle as idle_line, depth as tabs, body as after_tabs};
 ghost use Rattle.pid_file.specs.Faults.{line_fault_of};
 ghost use Rattle.pid_file.specs.OpenLevels.{IsOpenAt};
 ghost use Rattle.pid_file.specs.Steps.OpenLevels.{IsNamed, Says};
@@ -12,7 +12,7 @@ ghost use Rattle.pid_file.specs.Steps.OpenLevels.{
 };
 ghost use Rattle.pid_file.specs.Steps.OpenLevels.{
   open_below as levels_below,
-  open_behind as levels_behind,
+  open_after as levels_after,
 };
 
 use crate::entry_line::{Named, Place, read_columns, vendor_of_block};
@@ -105,7 +105,7 @@ fn read_nested<'b>(
     requires active { idle_line line.now ≡ false }
     requires nested { (depth == 0) ≡ false }
     requires depth { tabs line.now ≡ depth }
-    requires body { behind_tabs line.now ≡ body.now }
+    requires body { after_tabs line.now ≡ body.now }
     ensures says { (earlier : List (List ℕ)) → IsOpenAt levels earlier
         → IfOk result (λ s. Says levels earlier line.now s) }
     ensures named { IfOk result (λ s. IsNamed s) }
@@ -192,8 +192,8 @@ fn open_below(path: Path) -> OpenLevels
 
 impl OpenLevels {
     /// The levels that are open after a line.
-    pub fn behind(self, said: &Said<'_>) -> OpenLevels
-        ensures { result ≡ levels_behind self said.now }
+    pub fn after(self, said: &Said<'_>) -> OpenLevels
+        ensures { result ≡ levels_after self said.now }
     {
         match *said {
             Said::Nothing => self,

@@ -16,7 +16,7 @@ ghost use Rattle.std.specs.Prelude.{
 };
 ghost use Rattle.pid_file.specs.Words.{is_name};
 ghost use Rattle.pid_file.specs.Numbered.{numbered_at};
-ghost use Rattle.pid_file.specs.Steps.OpenLevels.{Says, IsNamed, open_behind};
+ghost use Rattle.pid_file.specs.Steps.OpenLevels.{Says, IsNamed, open_after};
 ghost use Rattle.pid_file.specs.Refusals.{IsRefusal};
 ghost use Rattle.pid_file.specs.Steps.LineEnds.{refusal_at};
 ghost use Rattle.pid_file.specs.Progress.{Shows};
@@ -60,12 +60,12 @@ impl Progress {
 
     // The line with this number was read.
     fn pass(&mut self, number: usize, said: &Said<'_>)
-        ensures levels { self.new.levels ≡ open_behind self.old.levels said.now }
+        ensures levels { self.new.levels ≡ open_after self.old.levels said.now }
         ensures lines { self.new.lines ≡ number }
         ensures seen { self.new.seen ≡ self.old.seen }
         ensures entries { self.new.entries ≡ self.old.entries }
     {
-        self.levels = self.levels.behind(said);
+        self.levels = self.levels.after(said);
         self.lines = number;
     }
 

@@ -18,7 +18,7 @@ use Rattle.pid_http.specs.Api.Senders.{Sending, sender}
 use Rattle.pid_http.specs.declared.api.format.Format.{Format}
 use Rattle.pid_http.specs.Answering.{Errand, errand_asked, errand_of, import_errand}
 use Rattle.pid_http.specs.Known.{Told, ByCalls}
-use Rattle.pid_http.specs.Steps.Replying.{IsBodyMet, IsMetBehind}
+use Rattle.pid_http.specs.Steps.Replying.{IsBodyMet, IsMetAfter}
 use Rattle.pid_http.specs.Serving.{AreQuestions, IsErrandMet, most_given_up, most_questions, serving}
 
 -- what a head asks is what the request comes to
@@ -55,10 +55,10 @@ module _ {R : Type 0} (registry : Ghosts R) where
       → StandsStill (serving registry) t request.head u ⊎ (IsAtEnd (Some []) × (serving registry).leaves t request u)
   asked_err t u request errand same m = inr (refl, by_calls t u _ _ (λ calls h. (h.0, subst (λ c. IsErrandMet t.known c h.0 calls u.known) same h.1)) m)
 
-  pub asked_behind : {E : Type 0} (t u : Told registry) (request : Request) (errand : Errand) (result : Result Reply E) (left : Option (List ℕ)) → errand ≡ errand_of request
-      → most_questions errand ≡ most_given_up (question request.head.method request.head.target) (sender (fields_of request.head)) → ByCalls registry t u (λ calls. IsMetBehind t.known errand result left calls u.known) → IsHandled (serving registry) t request result left u
-  asked_behind {E} t u request errand (Ok reply) left same most m = asked_ok t u request errand reply same m
-  asked_behind {E} t u request errand (Err e) left same most m = by_case m.holds
+  pub asked_after : {E : Type 0} (t u : Told registry) (request : Request) (errand : Errand) (result : Result Reply E) (left : Option (List ℕ)) → errand ≡ errand_of request
+      → most_questions errand ≡ most_given_up (question request.head.method request.head.target) (sender (fields_of request.head)) → ByCalls registry t u (λ calls. IsMetAfter t.known errand result left calls u.known) → IsHandled (serving registry) t request result left u
+  asked_after {E} t u request errand (Ok reply) left same most m = asked_ok t u request errand reply same m
+  asked_after {E} t u request errand (Err e) left same most m = by_case m.holds
     where
       by_case : (AreQuestions (most_questions errand) m.more × (t.known ≡ u.known)) ⊎ (IsAtEnd left × ((given : Answer) × IsErrandMet t.known errand given m.more u.known)) → IsHandled {E = E} (serving registry) t request (Err e) left u
       by_case (inl still) = inl (inr (record { same_life = m.same_life; more = m.more; joined = m.joined; holds = (subst (λ n. AreQuestions n m.more) most still.0, still.1) }))

@@ -69,12 +69,12 @@ shows_there format found means there question same told = record {
 }
 
 -- the history after what was asked
-abbrev pub history_behind : History → Option Asked → History
-history_behind h command = option_map_or (after h) command h
+abbrev pub history_after : History → Option Asked → History
+history_after h command = option_map_or (after h) command h
 
 -- without a command the history stays
-same_history : (h : History) (errand : Errand) → command_sent errand ≡ None → Live h ≡ Live (history_behind h (command_sent errand))
-same_history h errand none = ap (λ (c : Option Asked). Live (history_behind h c)) (sym none)
+same_history : (h : History) (errand : Errand) → command_sent errand ≡ None → Live h ≡ Live (history_after h (command_sent errand))
+same_history h errand none = ap (λ (c : Option Asked). Live (history_after h c)) (sym none)
 
 calls_over : (h : History) (errand : Errand) (calls : List Call) → command_sent errand ≡ None → AreQuestions (most_questions errand) calls → AreCallsOver h (command_sent errand) (most_questions errand) calls
 calls_over h errand calls none asked = subst (λ (c : Option Asked). AreCallsOver h c (most_questions errand) calls) (sym none) asked

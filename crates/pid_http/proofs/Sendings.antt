@@ -14,7 +14,7 @@ use Rattle.pid_service_laws.specs.Outcomes.{IsMemoryOrStore}
 use Rattle.pid_http_stream.specs.Conducts.{AreReplies}
 use Rattle.pid_http_stream.specs.Replies.{Answer}
 use Rattle.pid_http_stream.specs.Requests.{Request}
-use Rattle.pid_http.proofs.Meeting.{history_behind}
+use Rattle.pid_http.proofs.Meeting.{history_after}
 use Rattle.pid_http.specs.Answering.{Errand, command_sent, errand_of}
 use Rattle.pid_http.specs.Steps.Handling.{nothing_then}
 use Rattle.pid_http.specs.Known.{Known, Live, Between, Told, ByCalls}
@@ -50,9 +50,9 @@ stops_then c [] ys s n = absurd s
 stops_then c (x ∷ xs) ys (inl (is, none)) n = inl (is, nothing_then xs ys none n)
 stops_then c (x ∷ xs) ys (inr s) n = inr (stops_then c xs ys s n)
 
-stops_behind : (c : Asked) (xs ys : List Call) → StopsAt c ys → StopsAt c (xs ++ ys)
-stops_behind c [] ys s = s
-stops_behind c (x ∷ xs) ys s = inr (stops_behind c xs ys s)
+stops_after : (c : Asked) (xs ys : List Call) → StopsAt c ys → StopsAt c (xs ++ ys)
+stops_after c [] ys s = s
+stops_after c (x ∷ xs) ys s = inr (stops_after c xs ys s)
 
 -- ---- some of the commands
 
@@ -88,7 +88,7 @@ AreOutcomes = (v : Views) (c : Asked) → is_outcome (answer (judge v c)) ≡ tr
 one_sent : (c : Asked) (r : Result Outcome Refusal) (live : Bool) → is_outcome r ≡ true → commands_in (sent_in (obeyed c r live ∷ [])) ≡ c ∷ []
 one_sent c r live e = ap (λ (b : Bool). commands_in (cond b (record { command = c; outcome = r } ∷ []) [] ++ [])) e
 
-over : AreOutcomes → (h : History) (o : Option Asked) (most : ℕ) (calls : List Call) (k : Known) → AreCallsOver h o most calls → k ≡ Live (history_behind h o) → SendsSome h (if_any o) calls k
+over : AreOutcomes → (h : History) (o : Option Asked) (most : ℕ) (calls : List Call) (k : Known) → AreCallsOver h o most calls → k ≡ Live (history_after h o) → SendsSome h (if_any o) calls k
 over outcomes h None most calls k asked is = quiet h [] calls k asked.0 is
 over outcomes h (Some c) most calls k by is =
     live_so h (c ∷ []) (c ∷ []) calls k (ap (λ (l : List Call). commands_in (sent_in l)) by ∙ one_sent c (answer (judge (views_of h) c)) true (outcomes (views_of h) c)) (inr ([], refl, refl)) is
@@ -142,7 +142,7 @@ module _ {R : Type 0} (registry : Ghosts R) where
       live_so h (cs ++ ds) (commands_in (sent_in xs) ++ commands_in (sent_in ys)) (xs ++ ys) k (both_sent xs ys) (some_join (commands_in (sent_in xs)) (commands_in (sent_in ys)) cs ds some more)
       (is ∙ ap (λ (x : History). Live (after_sent x (sent_in ys))) at ∙ ap Live (sym (after_on h (commands_in (sent_in xs)) (commands_in (sent_in ys)))))
   send_on h h' cs ds xs ys k some at (inr (c, stops, more, is)) =
-      stopped_so h (cs ++ ds) (commands_in (sent_in xs) ++ commands_in (sent_in ys)) c (xs ++ ys) k (both_sent xs ys) (stops_behind c xs ys stops)
+      stopped_so h (cs ++ ds) (commands_in (sent_in xs) ++ commands_in (sent_in ys)) c (xs ++ ys) k (both_sent xs ys) (stops_after c xs ys stops)
       (subst (λ (l : List Asked). AreSomeOf l (cs ++ ds)) (sym (append_assoc (commands_in (sent_in xs)) (commands_in (sent_in ys)) (c ∷ []))) (some_join (commands_in (sent_in xs)) (commands_in (sent_in ys) ++ c ∷ []) cs ds some more))
       (is ∙ ap (λ (x : History). Between (after_sent x (sent_in ys)) (after (after_sent x (sent_in ys)) c)) at
       ∙ ap (λ (x : History). Between x (after x c)) (sym (after_on h (commands_in (sent_in xs)) (commands_in (sent_in ys)))))

@@ -10,7 +10,7 @@ use Rattle.pid_http_stream.specs.Conducts.{StandsOver}
 use Rattle.pid_http_stream.specs.Laws.{RequestsStay}
 use Rattle.pid_http_stream.specs.Replies.{Answer, answer_after}
 use Rattle.pid_http_stream.specs.Requests.{Request, IsRequest}
-use Rattle.pid_http_stream.specs.Serving.{AnswersAll, AnswersFront, AnswersThen, ReadsThen, IsCutInReply, IsServed, IsWrittenNext, ReplyNext, HeadNext, RefusalNext, Outside, RestsBehind, RunsOut, WaitsOver}
+use Rattle.pid_http_stream.specs.Serving.{AnswersAll, AnswersFront, AnswersThen, ReadsThen, IsCutInReply, IsServed, IsWrittenNext, ReplyNext, HeadNext, RefusalNext, Outside, RestsAfter, RunsOut, WaitsOver}
 use Rattle.pid_http_stream.specs.Streams.{Ending, clean, closed, faulty, Fronts, Splits}
 use Rattle.pid_http_stream.specs.declared.refusal.StreamFault.TheVariants.{BadHead, Encoding, BodyTooLong, BodyShort}
 use Rattle.pid_http_stream.specs.declared.reply_head.ReplyHead.{ReplyHead}
@@ -69,7 +69,7 @@ module _ {R : Type 0} (registry : Ghosts R) where
   still t came u (inl same) = same_still t u same
   still t came u (inr (head, behind, has, b)) = record { same_life = b.same_life; more = b.more; joined = b.joined; holds = (b.holds.0.0, b.holds.1) }
 
-  rests_still : (ending : Ending) (IsRest : List ℕ → Type 0) (t u : Told registry) → RestsBehind (serving registry) ending IsRest t u → ByCalls registry t u (λ calls. AreNothing calls × (t.known ≡ u.known))
+  rests_still : (ending : Ending) (IsRest : List ℕ → Type 0) (t u : Told registry) → RestsAfter (serving registry) ending IsRest t u → ByCalls registry t u (λ calls. AreNothing calls × (t.known ≡ u.known))
   rests_still clean IsRest t u r = same_still t u r
   rests_still closed IsRest t u r = same_still t u r
   rests_still (faulty BadHead) IsRest t u r = same_still t u r

@@ -100,14 +100,14 @@ last_begins (f ∷ rs) q y listing above found =
     begins q f.0 y low above.0
 
 -- which lines are open behind the items
-abbrev pub IsOpenBehind : Items → Type 0
-IsOpenBehind [] = Unit {0}
-IsOpenBehind (e ∷ rs) = IsOpen (lines_back (e ∷ rs)) e.0
+abbrev pub IsOpenAfter : Items → Type 0
+IsOpenAfter [] = Unit {0}
+IsOpenAfter (e ∷ rs) = IsOpen (lines_back (e ∷ rs)) e.0
 
 pub record IsReported (rs : Items) : Type 0 where
   pub entries : entries_back (lines_back rs) ≡ rs
   pub good : AreGood (lines_back rs)
-  pub is_open : IsOpenBehind rs
+  pub is_open : IsOpenAfter rs
 
 -- where the last path begins with another one
 open_at : (rs : Items) (top rest : List ℕ) (t : ℕ) → IsReported rs → last_path rs ≡ t ∷ top ++ rest → IsOpen (lines_back rs) (t ∷ top ++ rest)

@@ -56,7 +56,7 @@ impl<'a> Iterator for Lines<'a> {
                 }
                 Ok(said) => {
                     self.rest = rest;
-                    self.levels = self.levels.behind(&said);
+                    self.levels = self.levels.after(&said);
                     self.number = line;
                     if let Said::Entry(named) = said {
                         return Some(Ok(Entry {

@@ -229,7 +229,7 @@ pub fn run_script<R: Moderated, I: Incoming<O>, O: Output>(
     let mut held = Vec::new(alloc);
     let mut kept = Vec::new(alloc);
     for _turn in 0..turns {
-        let Ok(count) = input.read_behind(output, &mut buffer) else {
+        let Ok(count) = input.read_after(output, &mut buffer) else {
             return ScriptEnd::ReadFault;
         };
         if count == 0 {

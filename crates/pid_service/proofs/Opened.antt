@@ -173,13 +173,13 @@ module _ {S : Type 0} (store : Ghosts S) where
       told = told;
     }
 
-    pub back_behind : {X : Type 0} (step : Step) (r : Result X TableFault) → (step ≡ Already → clauses.OnlyReads store old mid)
+    pub back_after : {X : Type 0} (step : Step) (r : Result X TableFault) → (step ≡ Already → clauses.OnlyReads store old mid)
         → (clauses.HasCleanDisk store mid → HasSomeTable (clauses.seen store old).schema → tables.Brings store old step mid)
         → (clauses.HasCleanDisk store new → IfErr r (λ e. ExplainsNow store new e)) → IfErr r (λ e. tables.IsTakenBack store old new ⊎ MayHaveMade store old e new)
-    back_behind step (Ok x) already brings told = tt
-    back_behind Already (Err e) already brings told = inl (reads_back (state store old) (state store new) (reads_then (state store old) (state store mid) (state store new) (already refl) reads))
-    back_behind Created (Err e) already brings told = inr (refused_then Created e (λ is. let no : ⊥ = cc in no) brings told)
-    back_behind Moved (Err e) already brings told = inr (refused_then Moved e (λ is. let no : ⊥ = cc in no) brings told)
+    back_after step (Ok x) already brings told = tt
+    back_after Already (Err e) already brings told = inl (reads_back (state store old) (state store new) (reads_then (state store old) (state store mid) (state store new) (already refl) reads))
+    back_after Created (Err e) already brings told = inr (refused_then Created e (λ is. let no : ⊥ = cc in no) brings told)
+    back_after Moved (Err e) already brings told = inr (refused_then Moved e (λ is. let no : ⊥ = cc in no) brings told)
 
 pub explains_now : {X : Type 0} (mid new : State) (r : Result X TableFault) → (IsTrue new.is_open → new.now ≡ mid.now) → Judged mid.now r → IfErr r (λ e. Now new e)
 explains_now mid new (Ok x) same found = tt

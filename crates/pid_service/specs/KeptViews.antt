@@ -2,7 +2,7 @@
 use Rattle.std.specs.Prelude.{◌≡◌, ◌<◌, ℕ, length, List, [], Option, None, IfSome, Vec, map}
 use Rattle.std.specs.declared.alloc.Global.{Global}
 use Rattle.sqlite_trees.specs.declared.store.Store.{Ghosts}
-use Rattle.pid_moderation.specs.ChangePages.{changed_behind, changed_of}
+use Rattle.pid_moderation.specs.ChangePages.{changed_after, changed_of}
 use Rattle.pid_moderation.specs.Children.{children_of}
 use Rattle.pid_moderation.specs.History.{History}
 use Rattle.pid_moderation.specs.ItemPairs.{pair_of}
@@ -21,7 +21,7 @@ use Rattle.pid_service.specs.declared.kept_views.KeptItems.{KeptItems}
 use Rattle.pid_service.specs.declared.kept_views.KeptViews.{KeptViews}
 use Rattle.pid_service.specs.declared.registry.Registry.{Registry}
 use Rattle.pid_tables.specs.declared.searches.numbers.Searches.TheVariants.{Unread}
-use Rattle.pid_service.specs.ItemTexts.{extents_behind, text_of_items}
+use Rattle.pid_service.specs.ItemTexts.{extents_after, text_of_items}
 use Rattle.pid_file.specs.PathTexts.{path_text}
 use Rattle.pid_tables.specs.Searches.KeptNumbers.{HoldsNumbers}
 use Rattle.pid_service.specs.Registries.{HasCleanDisk}
@@ -45,7 +45,7 @@ extent_in extent = (path_text extent.path, extent.length)
 -- this is the canonical text of the items, with the place of each
 pub record IsKeptText (kept : KeptText) (items : Items) : Type 0 where
   pub text : kept.bytes.items ≡ text_of_items items
-  pub extents : map extent_in kept.extents.items ≡ extents_behind [] items
+  pub extents : map extent_in kept.extents.items ≡ extents_after [] items
 
 -- it is, if one is kept
 abbrev pub HoldsText : Option KeptText → Items → Type 0
@@ -78,7 +78,7 @@ HoldsTop top v = IfSome top (λ kept. map pair_of kept.items ≡ top_of v)
 
 -- these are all items that were changed after their number, fewer than a page
 pub record AreChanged (kept : KeptChanges) (v : Views) : Type 0 where
-  pub items : map changed_of kept.items.items ≡ changed_behind kept.since [] v
+  pub items : map changed_of kept.items.items ≡ changed_after kept.since [] v
   pub few : length kept.items.items < PAGE
 
 -- if they are kept

@@ -263,11 +263,11 @@ module _ {R : Type 0} (w : Showing R) where
       not_empty : (s : Sent) → s ∷ [] ≡ [] → ⊥
       not_empty s e = cc
 
-  judged_behind : (between last : R) (g : History) (c : Asked) (result : Result Reply Refusal) (live : Bool) → is_outcome result ≡ true → w.is_clean last → Does w between (obeyed c result live) last
+  judged_after : (between last : R) (g : History) (c : Asked) (result : Result Reply Refusal) (live : Bool) → is_outcome result ≡ true → w.is_clean last → Does w between (obeyed c result live) last
       → w.shows between g ⊎ ((next : History) × w.fails_between between g next) → Judges g c result last
-  judged_behind between last g c result live is k does (inl s) =
+  judged_after between last g c result live is k does (inl s) =
       one_judged last g c result (subst (λ (call : Call). CallLeaves w call last g) (obeyed-outcome c result live is) (does.live k g s))
-  judged_behind between last g c result live is k does (inr (next, f)) = absurd (something_sent c result live is (does.failed g next f).0)
+  judged_after between last g c result live is k does (inr (next, f)) = absurd (something_sent c result live is (does.failed g next f).0)
 
   settled_by : (h : History) (c : Asked) (key : List ℕ) (stands : Bool) (result : Result Reply Refusal) (last : R) → c.key ≡ Some key → Judges (left_at_stop h c stands) c result last → (result ≡ answer (judge (views_of h) c)) × w.shows last (after h c)
   settled_by h c key stands result last keyed j =
@@ -349,7 +349,7 @@ module _ {R T : Type 0} (w : Showing R) (u : Showing T) where
       over stands s =
           let g = left_at_stop h c stands in
           settled_by u h c key stands result last keyed
-          (judged_behind u between last g c result live is k does (sent_nothing u calls between g none (calls_end u calls opened between g s lead (does.clean k))))
+          (judged_after u between last g c result live is k does (sent_nothing u calls between g none (calls_end u calls opened between g s lead (does.clean k))))
 
       by_found : u.shows opened h ⊎ u.shows opened (after h c) → (result ≡ answer (judge (views_of h) c)) × u.shows last (after h c)
       by_found (inl s) = over false s

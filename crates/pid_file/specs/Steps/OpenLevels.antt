@@ -90,11 +90,11 @@ open_below (paths.ProgIf c s i) = Subclass c s
 open_below (paths.Generic v d) = Generics v
 
 -- the levels that are open after a line
-abbrev pub open_behind : OpenLevels → Said → OpenLevels
-open_behind at said.Nothing = at
-open_behind at said.Unknown = Unknown
-open_behind at (said.Block v) = Generics v
-open_behind at (said.Entry e) = open_below e.path
+abbrev pub open_after : OpenLevels → Said → OpenLevels
+open_after at said.Nothing = at
+open_after at said.Unknown = Unknown
+open_after at (said.Block v) = Generics v
+open_after at (said.Entry e) = open_below e.path
 
 -- what a line says after others that leave these levels open
 pub record Says (at : OpenLevels) (earlier : List (List ℕ)) (line : List ℕ)
@@ -102,4 +102,4 @@ pub record Says (at : OpenLevels) (earlier : List (List ℕ)) (line : List ℕ)
   pub good : line_fault_of earlier line ≡ None
   pub entry : items_of s ≡ entry_of earlier line
   pub block : IsBlockOf s line
-  pub behind : IsOpenAt (open_behind at s) (line ∷ earlier)
+  pub behind : IsOpenAt (open_after at s) (line ∷ earlier)

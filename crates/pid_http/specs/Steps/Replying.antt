@@ -56,9 +56,9 @@ IsMetBy k errand result calls now = MatchResult result
 
 -- The same if the body is read as it comes: it may have been given up, and memory ran out only
 -- with the body at its end.
-abbrev pub IsMetBehind : {E : Type 0} → Known → Errand → Result Reply E → Option (List ℕ)
+abbrev pub IsMetAfter : {E : Type 0} → Known → Errand → Result Reply E → Option (List ℕ)
     → List Call → Known → Type 0
-IsMetBehind k errand result left calls now =
+IsMetAfter k errand result left calls now =
     MatchResult result
     (λ reply. IsBodyMet k errand reply.head reply.body calls now)
     (λ _. (AreQuestions (most_questions errand) calls × (k ≡ now))
@@ -76,4 +76,4 @@ abbrev pub RepliesToFile : {R E : Type 0} → (registry : Ghosts R) → R
     → Type 0
 RepliesToFile registry old new to_come left errand result = Goes registry old new
     (λ k calls now. (file : List ℕ) → to_come ≡ Some file → length file ≤ LONGEST_BODY
-    → IsMetBehind k (errand file) result left calls now)
+    → IsMetAfter k (errand file) result left calls now)

@@ -79,7 +79,7 @@ impl<'a> Incoming<FaultyOutput> for Account<'a> {
 
     ghost joins = { λ a b c p q. tt };
 
-    fn read_behind(
+    fn read_after(
         &mut self,
         output: &FaultyOutput,
         buffer: &mut [u8],

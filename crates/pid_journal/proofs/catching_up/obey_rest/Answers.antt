@@ -2,7 +2,7 @@ use Rattle.std.proofs.Common.{◌-◌, [], length}
 use Rattle.pid_file.specs.WholeLines.{whole_lines}
 use Rattle.pid_script.specs.Replies.{history_after}
 use Rattle.pid_journal.specs.Steps.Reads.{left_in}
-use Rattle.pid_journal.proofs.Along.{stops_behind}
+use Rattle.pid_journal.proofs.Along.{stops_after}
 use Rattle.pid_journal.proofs.Resuming.{ends_text}
 use Rattle.pid_journal.proofs.SegmentLines.{left_torn, left_up_to}
 use Rattle.pid_journal.proofs.catching_up.obey_rest.Goals as goal
@@ -32,5 +32,5 @@ returns-in-Err-clause-fault g c = (tt, c.in-Err.ensures.obeyed)
 pub returns-in-Err-cut_torn-clause-fault : goal.returns-in-Err-cut_torn-clause-fault
 returns-in-Err-cut_torn-clause-fault g c = (
   c.in-Err-cut_torn.ensures [],
-  λ names known clean h shown. stops_behind g.R.Moderated.showing c.follow.new.registry h (whole_lines (left_in c.args.text.now (g.F.JournalFolder.text_in c.args.folder.now c.args.text.now.begin))) (c.in-Ok.ensures.obeyed names known clean h shown),
+  λ names known clean h shown. stops_after g.R.Moderated.showing c.follow.new.registry h (whole_lines (left_in c.args.text.now (g.F.JournalFolder.text_in c.args.folder.now c.args.text.now.begin))) (c.in-Ok.ensures.obeyed names known clean h shown),
 )

@@ -1,7 +1,7 @@
 use Rattle.std.proofs.Common.{◌≡◌, ◌≤◌, ℕ, List, map, take, Err, Option, refl, rules, arith, ap, subst, sym, ◌∙◌}
 use Rattle.std.specs.Option.{option_copied}
 use Rattle.pid_file.specs.declared.path.Path.{Path}
-use Rattle.pid_moderation.specs.ChangePages.{ChangePage, Changed, changed_behind, changed_of, start_text}
+use Rattle.pid_moderation.specs.ChangePages.{ChangePage, Changed, changed_after, changed_of, start_text}
 use Rattle.pid_moderation.specs.declared.lists.ChangedItem.{ChangedItem}
 use Rattle.pid_moderation.specs.Views.{since_of, views_of}
 use Rattle.pid_moderation.specs.declared.lists.TheConstants.{PAGE}
@@ -11,7 +11,7 @@ use Rattle.pid_service.specs.declared.changes.KeptChanges.{KeptChanges}
 use Rattle.pid_service.proofs.Keeping.{true_not}
 use Rattle.pid_service.proofs.Obeyed.{only_read}
 use Rattle.pid_service.proofs.Consulting.{promised}
-use Rattle.pid_service.proofs.Questions.{answers_fault, failed_here, none_changed, reads_behind}
+use Rattle.pid_service.proofs.Questions.{answers_fault, failed_here, none_changed, reads_after}
 use Rattle.pid_service.proofs.consulted.RegistryConsulted.changes.Goals as goal
 
 page_with : (revision now : ℕ) (told : List ChangedItem) (items : List Changed) → revision ≡ now → map changed_of told ≡ items
@@ -61,7 +61,7 @@ returns-in-Some g c =
       rests = c.revision.ensures.rests;
       told = λ clean h shows.
           let now : c.in-Ok.revision ≡ (views_of h).revision = c.in-Ok.ensures.told clean (views_of h) shows.tables in
-          let page = c.in-Some.ensures (views_of h) (shows.kept (c.revision.ensures.rests.clean clean)).changes ∙ ap (λ (start : Option Path). take PAGE (changed_behind c.args.since (start_text start) (views_of h))) c.copied-start.ensures in
+          let page = c.in-Some.ensures (views_of h) (shows.kept (c.revision.ensures.rests.clean clean)).changes ∙ ap (λ (start : Option Path). take PAGE (changed_after c.args.since (start_text start) (views_of h))) c.copied-start.ensures in
           (page_with c.in-Ok.revision (views_of h).revision c.in-Some.items.items _ now page, only_read g.S.Store c.args.self.now _ h refl c.revision.ensures.rests refl shows);
       caused = λ clean h shows. tt;
     })
@@ -82,8 +82,8 @@ returns-in-Ok-changes_page g c =
       told = λ clean h shows.
           let kept = shows.kept (first.clean (second.clean clean)) in
           let told = c.in-Ok-changes_page.ensures.told clean (views_of h) (first.kept (views_of h) shows.tables) (c.reached_histories_are_kept.ensures.held h shows.history) in
-          let page : map changed_of c.in-Ok-changes_page.changes.items.items ≡ take PAGE (changed_behind c.args.since (start_text (option_copied c.args.after)) (views_of h)) = ap (λ (p : ChangePage). p.items) told in
-          let asked = page ∙ sym (ap (λ (start : Option Path). take PAGE (changed_behind c.args.since (start_text start) (views_of h))) c.copied-start.ensures) in (
+          let page : map changed_of c.in-Ok-changes_page.changes.items.items ≡ take PAGE (changed_after c.args.since (start_text (option_copied c.args.after)) (views_of h)) = ap (λ (p : ChangePage). p.items) told in
+          let asked = page ∙ sym (ap (λ (start : Option Path). take PAGE (changed_after c.args.since (start_text start) (views_of h))) c.copied-start.ensures) in (
             told,
             record {
               lives = shows.lives;
@@ -106,6 +106,6 @@ returns-in-Ok-changes_page g c =
 pub returns-in-Err-changes_page : goal.returns-in-Err-changes_page
 returns-in-Err-changes_page g c =
     promised g.S.Store c.args.self.now _ _ _
-    (let read = reads_behind g.S.Store c.args.self.now.tables.conn c.revision.new.self.conn c.changes_page.new.self.conn (Err c.in-Err-changes_page.fault) _ c.revision.ensures.rests c.in-Err-changes_page.ensures in
+    (let read = reads_after g.S.Store c.args.self.now.tables.conn c.revision.new.self.conn c.changes_page.new.self.conn (Err c.in-Err-changes_page.fault) _ c.revision.ensures.rests c.in-Err-changes_page.ensures in
     answers_fault g.S.Store c.args.self.now _ c.in-Err-changes_page.fault c.refusal_of-in-Err-changes_page.result _ c.if-not-self.false refl refl read.rests c.refusal_of-in-Err-changes_page.ensures.same c.refusal_of-in-Err-changes_page.ensures.fault
     (λ clean h shows. read.told clean (views_of h) shows.tables (c.reached_histories_are_kept.ensures.readable h shows.history)))

@@ -5,8 +5,8 @@ use Rattle.pid_file.specs.Identifiers.{hex4}
 use Rattle.pid_file.specs.PathTexts.{path_text}
 use Rattle.pid_file.specs.Steps.Printing.{text_or_none}
 use Rattle.pid_file.proofs.Written.{block_and_item, block_stopped, item_alone}
-use Rattle.pid_file.proofs.print.write_behind.Goals as goal
-use Rattle.pid_file.proofs.print.write_behind.Goals.{in-Some+in_ok-write_block, in_default}
+use Rattle.pid_file.proofs.print.write_after.Goals as goal
+use Rattle.pid_file.proofs.print.write_after.Goals.{in-Some+in_ok-write_block, in_default}
 
 pub returns-in_err-write_block-clause-sent : goal.returns-in_err-write_block-clause-sent
 returns-in_err-write_block-clause-sent g c =
