@@ -104,7 +104,7 @@ fn move_up<S: Alter>(conn: &mut Connection<S>) -> Result<(), TableFault>
 }
 
 // Moves what is there to schema 2.
-fn bring<S: Alter>(conn: &mut Connection<S>, found: Option<Version>) -> Result<Step, TableFault>
+fn upgrade<S: Alter>(conn: &mut Connection<S>, found: Option<Version>) -> Result<Step, TableFault>
     requires { conn.old.in_transaction ≡ false }
     ensures at_once { WritesAtOnce S.Store conn.old conn.new result }
     ensures step { IfOk result (λ step. step ≡ step_for found) }
@@ -165,6 +165,6 @@ impl<S: Alter + Drop> Tables<S> {
     {
         crate::check::laws::schemas_have_tables(); // proof only
         let found = self.schema_found(alloc)?;
-        bring(&mut self.conn, found)
+        upgrade(&mut self.conn, found)
     }
 }

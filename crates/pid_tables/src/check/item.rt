@@ -30,7 +30,7 @@ ghost use Rattle.pid_tables.specs.Check.Steps.Keeping.{KeepsItems};
 ghost use Rattle.pid_tables.specs.declared.check.shape.Table.TheVariants as table;
 ghost use Rattle.pid_tables.specs.Rows.Faults.{IsMemoryOrStore};
 
-use crate::check::read::{Keeper, keep_rows, one_more};
+use crate::check::read::{RowFold, fold_rows, one_more};
 use crate::check::shape::Table;
 use crate::check::words::{has_name, path_at};
 use crate::rows::TableFault;
@@ -100,7 +100,7 @@ pub(crate) struct Items {
     pub(crate) paths: BTreeSet<Path>,
 }
 
-impl Keeper for Items {
+impl RowFold for Items {
     ghost use Rattle.pid_tables.specs.Check.Steps.Keeping.{TakesItems};
 
     ghost keeps = { λ first rows it. TakesItems rows it };
@@ -128,7 +128,7 @@ pub(crate) fn read_items<S: Alter>(
         count: 0,
         paths: BTreeSet::new(alloc),
     };
-    keep_rows(conn, Table::Item, &mut items)?;
+    fold_rows(conn, Table::Item, &mut items)?;
     items.good &= (items.count <= ITEMS as u64) & hold_parents(&items.paths);
     Ok(items)
 }

@@ -30,7 +30,7 @@ ghost use Rattle.pid_tables.specs.Check.Steps.Labels.{
 ghost use Rattle.pid_tables.specs.declared.check.meta.Occurrence.TheVariants.{Never, Once};
 ghost use Rattle.pid_tables.specs.declared.check.shape.Table.TheVariants as table;
 
-use crate::check::read::{Keeper, keep_rows};
+use crate::check::read::{RowFold, fold_rows};
 use crate::check::shape::Table;
 use crate::check::value::{is_text_at, number_at};
 use crate::rows::{LATEST, TableFault, Version};
@@ -146,7 +146,7 @@ pub(crate) struct Labels {
     revision: Occurrence,
 }
 
-impl Keeper for Labels {
+impl RowFold for Labels {
     ghost use Rattle.pid_tables.specs.Check.Steps.Labels.{TakesLabels};
 
     ghost keeps = { λ first rows it. TakesLabels rows it };
@@ -177,7 +177,7 @@ pub(crate) fn read_labels<S: Alter>(conn: &mut Connection<S>) -> Result<Labels, 
         submissions: Occurrence::Never,
         revision: Occurrence::Never,
     };
-    keep_rows(conn, Table::Meta, &mut labels)?;
+    fold_rows(conn, Table::Meta, &mut labels)?;
     Ok(labels)
 }
 

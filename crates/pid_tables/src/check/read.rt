@@ -10,7 +10,7 @@ use crate::rows::TableFault;
 use sqlite::{Alter, Connection, Row};
 
 /// Keeps of rows what judging them needs.
-pub(crate) trait Keeper {
+pub(crate) trait RowFold {
     ghost use Rattle.std.specs.Prelude.{List};
     ghost use Rattle.sqlite.specs.Order.{Row as Values};
 
@@ -25,7 +25,7 @@ pub(crate) trait Keeper {
 }
 
 /// Hands each row of a table to a keeper, in some order: no list of them is made.
-pub(crate) fn keep_rows<S: Alter, K: Keeper>(
+pub(crate) fn fold_rows<S: Alter, K: RowFold>(
     conn: &mut Connection<S>,
     table: Table,
     keeper: &mut K,

@@ -1,6 +1,6 @@
 use Rattle.pid_tables.specs.Check.Conditions.{IsSinceRow}
 use Rattle.pid_tables.proofs.OfCheck.ItemFacts.{one_row}
-use Rattle.pid_tables.proofs.check.since.SinceKeeperKeeper.keep.Goals as goal
+use Rattle.pid_tables.proofs.check.since.SinceFoldRowFold.keep.Goals as goal
 
 pub returns-clause-kept : goal.returns-clause-kept
 returns-clause-kept c first rows was = record {

@@ -5,7 +5,7 @@ use Rattle.pid_tables.specs.Steps.Bringing.{step_for}
 use Rattle.pid_tables.specs.declared.migration.Step.TheVariants.{Already}
 use Rattle.pid_tables.proofs.AtOnceLemmas.{reads_at_once}
 use Rattle.pid_tables.proofs.BringLemmas.{as_none, as_one, as_two}
-use Rattle.pid_tables.proofs.migration.bring.Goals as goal
+use Rattle.pid_tables.proofs.migration.upgrade.Goals as goal
 
 -- ---- no table: a registry is made
 

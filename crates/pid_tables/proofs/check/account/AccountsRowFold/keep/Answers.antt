@@ -5,7 +5,7 @@ use Rattle.pid_tables.specs.Check.Conditions.{IsAccountRow}
 use Rattle.pid_tables.proofs.OfCheck.ItemFacts.{one_row}
 use Rattle.pid_tables.proofs.OfCheck.AccountFacts.{value_or}
 use Rattle.pid_tables.proofs.OfCheck.NameFacts.{name_added, name_skipped, on_is_ok}
-use Rattle.pid_tables.proofs.check.account.AccountsKeeper.keep.Goals as goal
+use Rattle.pid_tables.proofs.check.account.AccountsRowFold.keep.Goals as goal
 
 pub returns-in_default-clause-kept : goal.returns-in_default-clause-kept
 returns-in_default-clause-kept c first rows was =

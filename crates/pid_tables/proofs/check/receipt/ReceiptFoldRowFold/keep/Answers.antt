@@ -1,5 +1,5 @@
 use Rattle.pid_tables.proofs.OfCheck.ReceiptFacts.{one_receipt}
-use Rattle.pid_tables.proofs.check.receipt.ReceiptKeeperKeeper.keep.Goals as goal
+use Rattle.pid_tables.proofs.check.receipt.ReceiptFoldRowFold.keep.Goals as goal
 
 pub returns-clause-kept : goal.returns-clause-kept
 returns-clause-kept c first rows was = record {

@@ -1,7 +1,7 @@
 use Rattle.std.proofs.Common.{[], ◌∷◌, length-append, arith}
 use Rattle.pid_tables.specs.Check.Steps.PathSets.{IsItemAlone}
 use Rattle.pid_tables.proofs.OfCheck.ItemFacts.{one_row}
-use Rattle.pid_tables.proofs.check.item.ItemsKeeper.keep.Goals as goal
+use Rattle.pid_tables.proofs.check.item.ItemsRowFold.keep.Goals as goal
 
 pub returns-clause-kept : goal.returns-clause-kept
 returns-clause-kept c first rows was = record {

@@ -1,6 +1,6 @@
 use Rattle.pid_tables.specs.Check.Steps.PlaceSets.{IsRemark}
 use Rattle.pid_tables.proofs.OfCheck.ItemFacts.{one_row}
-use Rattle.pid_tables.proofs.check.remark.RemarkKeeperKeeper.keep.Goals as goal
+use Rattle.pid_tables.proofs.check.remark.RemarkFoldRowFold.keep.Goals as goal
 
 pub returns-clause-kept : goal.returns-clause-kept
 returns-clause-kept c first rows was = record {

@@ -1,5 +1,5 @@
 use Rattle.std.proofs.Common.{[], ◌∷◌, length-append, arith}
-use Rattle.pid_tables.proofs.check.submission.SubmissionKeeperKeeper.keep.Goals as goal
+use Rattle.pid_tables.proofs.check.submission.SubmissionFoldRowFold.keep.Goals as goal
 
 pub returns-clause-kept : goal.returns-clause-kept
 returns-clause-kept c first rows was = record {
