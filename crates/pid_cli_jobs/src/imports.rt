@@ -30,7 +30,7 @@ fn sender_of(alloc: Global, words: &ImportWords<'_>) -> Result<(Account, Option<
     }
 }
 
-fn bring_in<D: Databases, G: Registries<D>, I: Input>(
+fn import_file<D: Databases, G: Registries<D>, I: Input>(
     databases: &mut D,
     registries: &mut G,
     path: &str,
@@ -93,7 +93,7 @@ pub fn import<M: Machine, G: Registries<M>, O: Output, F: Output>(
         return JobEnd::FileFailed;
     };
     let mut input = Plain::new(Seen::new(file, Counted(&mut *progress)));
-    let found = bring_in(machine, registries, words.db, sender, &mut input);
+    let found = import_file(machine, registries, words.db, sender, &mut input);
     drop(input);
     progress.clear();
     report_import(found, output, faults)

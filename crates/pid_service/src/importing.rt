@@ -31,7 +31,7 @@ use pid_ident::{Account, Input, Key};
 use pid_moderation::{Act, Command, FILE_BYTES, Facts, File, Refusal, Reply};
 use pid_reader::{SkipEnd, SliceInput, skip_input};
 use pid_service_laws::ImportEnd;
-use pid_tables::{Early, Stop, bring_in, judge_import};
+use pid_tables::{Early, Stop, import_file, judge_import};
 use sqlite::Alter;
 use std::alloc::Global;
 
@@ -121,7 +121,7 @@ impl<S: Alter + Drop> Registry<S> {
     {
         pid_service_laws::judgements_are_outcomes(); // proof only
         self.kept.forget_items();
-        match bring_in(
+        match import_file(
             &mut self.tables.conn,
             self.alloc,
             facts,

@@ -71,7 +71,11 @@ struct Place {
 
 impl<S: Alter + Drop> Tables<S> {
     // What is known of every command of the account under the key.
-    fn known(&mut self, account: &Account, key: &Option<Key>) -> Result<KnownFacts, TableFault>
+    fn known_facts(
+        &mut self,
+        account: &Account,
+        key: &Option<Key>,
+    ) -> Result<KnownFacts, TableFault>
         requires { self.old.conn.in_transaction ≡ false }
         ensures { Reads S.Store self.old.conn self.new.conn result
             (λ v known. bare known ≡ known_of v account.now key.now) }
@@ -93,7 +97,7 @@ impl<S: Alter + Drop> Tables<S> {
         })
     }
 
-    fn named(&mut self, alloc: Global, number: u32) -> Result<Option<Named>, TableFault>
+    fn submission_facts(&mut self, alloc: Global, number: u32) -> Result<Option<Named>, TableFault>
         requires { self.old.conn.in_transaction ≡ false }
         ensures { Reads S.Store self.old.conn self.new.conn result (λ v named. named ≡ named_in v number) }
     {
@@ -170,7 +174,7 @@ impl<S: Alter + Drop> Tables<S> {
             (λ v facts. facts ≡ looked_at v (RemarksOf number) (bare known)) }
     {
         let remarks = remark_count(&mut self.conn, number)?;
-        match self.named(alloc, number) {
+        match self.submission_facts(alloc, number) {
             Ok(named) => {
                 let mut facts = plain_facts(known, None, 0, named);
                 facts.remarks = remarks;
@@ -192,7 +196,7 @@ impl<S: Alter + Drop> Tables<S> {
             (λ v facts. AllItems v.items → HoldsParents v.items
             → facts ≡ with_item_facts v (named_in v number) (bare known)) }
     {
-        match self.named(alloc, number)? {
+        match self.submission_facts(alloc, number)? {
             None => Ok(plain_facts(known, None, 0, None)),
             Some(named) => match self.place_at(alloc, named.path) {
                 Ok(place) => Ok(Facts {
@@ -239,7 +243,7 @@ impl<S: Alter + Drop> Tables<S> {
                 Ok(plain_facts(known, None, submissions, None))
             }
             Rows::Submission(number) => {
-                let named = self.named(alloc, number)?;
+                let named = self.submission_facts(alloc, number)?;
                 Ok(plain_facts(known, None, 0, named))
             }
             Rows::Remarks(number) => self.remark_facts(alloc, number, known),
@@ -264,7 +268,7 @@ impl<S: Alter + Drop> Tables<S> {
             (λ v facts. AllItems v.items → HoldsParents v.items
             → facts ≡ facts_at v account.now key.now (wanted_by rows.entry)) }
     {
-        let known = self.known(account, key)?;
+        let known = self.known_facts(account, key)?;
         self.with_rows(alloc, rows, known)
     }
 }

@@ -3,7 +3,7 @@ use Rattle.std.proofs.Common.{refl}
 use Rattle.pid_moderation.specs.BeforeFile.{import_of}
 use Rattle.pid_moderation.specs.Files.{file_reading}
 use Rattle.pid_service_laws.specs.Imports.{import_sent}
-use Rattle.pid_cli_jobs.proofs.imports.bring_in.Goals as goal
+use Rattle.pid_cli_jobs.proofs.imports.import_file.Goals as goal
 
 pub returns-in-Ok : goal.returns-in-Ok
 returns-in-Ok g c =

@@ -4,7 +4,7 @@ use Rattle.pid_http_stream.specs.Steps.BodyLaws.{no_turns}
 use Rattle.pid_ident.specs.Steps.MomentLaws.{since_none}
 use Rattle.pid_http_stream.specs.Steps.Intakes.{IsMoment}
 use Rattle.pid_http_stream.proofs.HeadReads.{none_came, piece_came, piece_fits, stopped_is_none, no_piece, filled_stays, filled_turns, filled_stops}
-use Rattle.pid_http_stream.proofs.intake.fill.Goals as goal
+use Rattle.pid_http_stream.proofs.intake.read_more.Goals as goal
 
 pub returns-then-is_err-clause-comes : goal.returns-then-is_err-clause-comes
 returns-then-is_err-clause-comes g c = none_came _ _ _ _ c.reserve.ensures.items (Consumes-nil _)

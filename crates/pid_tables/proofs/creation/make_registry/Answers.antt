@@ -17,7 +17,7 @@ use Rattle.pid_tables.proofs.Carrying.{carried_both, carried_one, carried_then}
 use Rattle.pid_tables.proofs.CreateLemmas.{all_made, shows_nothing, nothing_yet}
 use Rattle.pid_tables.proofs.MoveLemmas.{goes_fault, goes_fault_after, not_on_ok}
 use Rattle.pid_tables.proofs.MetLemmas.{none_met}
-use Rattle.pid_tables.proofs.creation.fill.Goals as goal
+use Rattle.pid_tables.proofs.creation.make_registry.Goals as goal
 
 pub returns-clause-filled : goal.returns-clause-filled
 returns-clause-filled g c clean inside made =

@@ -11,8 +11,8 @@ use Rattle.pid_moderation.specs.Files.{file_reading}
 use Rattle.pid_tables.specs.Steps.PutFiles.{PutsFile}
 use Rattle.pid_tables.proofs.PutInto.{puts, gives_up, shown, put_name, put_clean, put_limit, put_holds, put_within, put_tally}
 use Rattle.pid_tables.proofs.BringIn.{next_of, ok_apart, failed_apart, left_read, left_stops, stop_live, body_end, end_body, applied_stops, applied_read, err_is, end_is}
-use Rattle.pid_tables.proofs.put_file.bring_in.Given.{Over}
-use Rattle.pid_tables.proofs.put_file.bring_in.Goals as goal
+use Rattle.pid_tables.proofs.put_file.import_file.Given.{Over}
+use Rattle.pid_tables.proofs.put_file.import_file.Goals as goal
 
 -- ---- the connection is what the transaction leaves, which is rolled back or committed
 
