@@ -78,7 +78,7 @@ pub(crate) fn answer_failed<I: Input>(input: &mut I) -> Result<Reply, ImportEnd>
 }
 
 // What an import of bytes is answered: they do not fail.
-fn plain(end: Result<Reply, ImportEnd>) -> Result<Reply, Refusal>
+fn without_body_fault(end: Result<Reply, ImportEnd>) -> Result<Reply, Refusal>
     ensures same { IsPlain end result }
     ensures held { (before after : Bool) → EndStaysLive end before after
         → StaysLive result before after }
@@ -180,7 +180,7 @@ impl<S: Alter + Drop> Registry<S> {
     {
         let mut input = SliceInput::new(file);
         let end = self.import_act(command, &mut input);
-        plain(end)
+        without_body_fault(end)
     }
 
     /// Obeys an import of these bytes, as `obey` obeys one that has them.

@@ -88,7 +88,7 @@ pub(crate) fn waiting_numbers<S: Alter + Drop>(
 }
 
 // A count and the length of a page.
-fn plus(count: u32, page: &[Pending]) -> Option<u32>
+fn count_page(count: u32, page: &[Pending]) -> Option<u32>
     ensures { IfSome result (λ n. n ≡ count + length page.now) }
 {
     match u32::try_from(page.len()) {
@@ -119,7 +119,7 @@ pub(crate) fn count_waiting<S: Alter + Drop>(
     let mut after = 0;
     for _ in 0..u32::MAX {
         let page = tables.pending_page(alloc, after)?;
-        let Some(more) = plus(count, page.as_slice()) else {
+        let Some(more) = count_page(count, page.as_slice()) else {
             return Err(TableFault::Memory);
         };
         if page.len() < PAGE {

@@ -25,7 +25,7 @@ use pid_ident::{is_account, is_key};
 use pid_moderation::ITEMS;
 use sqlite::{Alter, Connection, Row};
 
-fn fits(added: u64, renamed: u64, same: u64) -> bool
+fn sums_within_limit(added: u64, renamed: u64, same: u64) -> bool
     ensures { IsTrue result ↔ (added + renamed + same ≤ 100000) }
 {
     let most = ITEMS as u64;
@@ -41,7 +41,7 @@ fn has_counts(row: &Row) -> bool
             None => false,
             Some(renamed) => match number_at(row, 5) {
                 None => false,
-                Some(same) => fits(added, renamed, same),
+                Some(same) => sums_within_limit(added, renamed, same),
             },
         },
     }

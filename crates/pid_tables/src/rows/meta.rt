@@ -97,7 +97,7 @@ pub fn set_revision<S: Alter>(tx: &mut Transaction<'_, S>, revision: u64) -> Res
 
 /// Reads one row and drops it: an answer of `Ok` means that the connection is open and the
 /// transaction goes on.
-pub fn touch<S: Alter>(tx: &mut Transaction<'_, S>) -> Result<(), TableFault>
+pub fn probe_transaction<S: Alter>(tx: &mut Transaction<'_, S>) -> Result<(), TableFault>
     ensures same_reference { tx.new.conn.ghost_name ≡ tx.old.conn.ghost_name }
     ensures goes { GoesOn S.Store tx.old.conn.now tx.new.conn.now result }
     ensures shows { ChangesTo S.Store tx.old.conn.now tx.new.conn.now result (λ v. Unit {0})

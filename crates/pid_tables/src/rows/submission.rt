@@ -80,7 +80,7 @@ pub fn add_submission<'x, S: Alter>(
 }
 
 // The number of a state, who decided and for what reason.
-fn parts(state: &State) -> (u32, &str, &str)
+fn state_columns(state: &State) -> (u32, &str, &str)
     ensures number { result.0 ≡ state_number state.now }
     ensures decider { result.1.now ≡ decider_of [] state.now }
     ensures reason { result.2.now ≡ reason_of state.now }
@@ -114,7 +114,7 @@ pub fn decide<S: Alter>(
         );
     }
     let number = number.to_sql();
-    let (told, decider, reason) = parts(state);
+    let (told, decider, reason) = state_columns(state);
     let told = told.to_sql();
     let decider = decider.to_sql();
     let reason = reason.to_sql();

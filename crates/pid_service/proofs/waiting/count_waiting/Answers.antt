@@ -37,8 +37,8 @@ returns-in_err-page g c =
     }
 
 -- too many
-pub returns-in_default-plus : goal.returns-in_default-plus
-returns-in_default-plus g c = record { rests = reads_then _ _ _ c.loop.invariant.0 c.in_ok-page.ensures.rests; told = λ clean v rest readable. tt }
+pub returns-in_default-count_page : goal.returns-in_default-count_page
+returns-in_default-count_page g c = record { rests = reads_then _ _ _ c.loop.invariant.0 c.in_ok-page.ensures.rests; told = λ clean v rest readable. tt }
 
 pub returns : goal.returns
 returns g c = record { rests = c.loop.invariant.0; told = λ clean v rest readable. tt }
@@ -51,7 +51,7 @@ returns-then-len-lt-PAGE g c =
     record {
       rests = reads_then _ _ _ before.0 one.rests;
       told = λ clean v rest holds.
-          c.in-Some-plus.ensures
+          c.in-Some-count_page.ensures
           ∙ last_count v 100 c.loop.after c.as_slice.result.now c.loop.count (ap (map told_of) c.as_slice.ensures.value ∙ one.told clean v (before.0.kept v rest)) short
           ∙ before.1 (one.rests.clean clean) v rest;
     }
@@ -64,7 +64,7 @@ loop-preserved g c =
     let last : c.last_number-after.result ≡ last_of pending_number c.loop.after (map told_of c.as_slice.result.now) = c.last_number-after.ensures ∙ ap (λ p. last_of pending_number c.loop.after (map told_of p)) same in (
       reads_then _ _ _ before.0 one.rests,
       λ clean v rest.
-          (λ i. c.in-Some-plus.ensures i + length (waiting_above (last i) v))
+          (λ i. c.in-Some-count_page.ensures i + length (waiting_above (last i) v))
           ∙ next_count c.pending_go_on.ensures.next v 100 c.loop.after c.as_slice.result.now c.loop.count (ap (map told_of) c.as_slice.ensures.value ∙ one.told clean v (before.0.kept v rest))
           ∙ before.1 (one.rests.clean clean) v rest,
     )

@@ -33,5 +33,5 @@ returns-clause-shows g c clean inside counts v shows fits =
     let old = state g.S.Store c.args.tx.now.conn.now in
     let new = state g.S.Store c.write_one-2.new.tx.conn.now in
     led c.write_one-2.result (submission_decided old new counts v shows c.args.number c.args.state.now (others c.args.state.now c.in_default.not-Withdrawn) fits)
-    (rw (c.to_sql-number.ensures, c.to_sql-told.ensures, c.to_sql-decider.ensures, c.to_sql-reason.ensures, c.parts-told.ensures.number, c.parts-told.ensures.decider, c.parts-told.ensures.reason) at (c.write_one-2.ensures.runs.ran clean inside))
+    (rw (c.to_sql-number.ensures, c.to_sql-told.ensures, c.to_sql-decider.ensures, c.to_sql-reason.ensures, c.state_columns-told.ensures.number, c.state_columns-told.ensures.decider, c.state_columns-told.ensures.reason) at (c.write_one-2.ensures.runs.ran clean inside))
     (c.write_one-2.ensures.runs.only_store clean pid_schema (λ opened. shows.schema) (update_writes (update_submission_is Two)))

@@ -6,7 +6,7 @@ use Rattle.pid_tables.proofs.OfRows.StatementTexts.{select_meta}
 use Rattle.pid_tables.proofs.OfRows.ReadLemmas.{shows_still}
 use Rattle.pid_tables.specs.declared.rows.version.Version.TheVariants.{Two}
 use Rattle.pid_tables.specs.Rows.Schema.{pid_schema}
-use Rattle.pid_tables.proofs.rows.meta.touch.Goals as goal
+use Rattle.pid_tables.proofs.rows.meta.probe_transaction.Goals as goal
 
 pub returns-clause-shows : goal.returns-clause-shows
 returns-clause-shows g c clean inside counts v shows _ =
