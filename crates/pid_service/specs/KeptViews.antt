@@ -7,7 +7,7 @@ use Rattle.pid_moderation.specs.Children.{children_of}
 use Rattle.pid_moderation.specs.History.{History}
 use Rattle.pid_moderation.specs.ItemPairs.{pair_of}
 use Rattle.pid_moderation.specs.Items.{Items, name_at}
-use Rattle.pid_moderation.specs.PendingPages.{waiting_above}
+use Rattle.pid_moderation.specs.PendingPages.{pending_above}
 use Rattle.pid_moderation.specs.Submissions.{Standing}
 use Rattle.pid_moderation.specs.Views.{Views, views_of}
 use Rattle.pid_moderation.specs.declared.lists.Item.{Item}
@@ -61,12 +61,12 @@ pub record KeepsNothing (k : KeptViews) : Type 0 where
   pub accounts : k.accounts ≡ None
 
 -- the numbers of what is pending, rising
-abbrev pub numbers_waiting : Views → List ℕ
-numbers_waiting v = map (λ (s : ℕ × Standing). s.0) (waiting_above 0 v)
+abbrev pub numbers_pending : Views → List ℕ
+numbers_pending v = map (λ (s : ℕ × Standing). s.0) (pending_above 0 v)
 
 -- these are they, if they are kept
-abbrev pub HoldsWaiting : Option (Vec ℕ Global) → Views → Type 0
-HoldsWaiting numbers v = IfSome numbers (λ kept. kept.items ≡ numbers_waiting v)
+abbrev pub HoldsPending : Option (Vec ℕ Global) → Views → Type 0
+HoldsPending numbers v = IfSome numbers (λ kept. kept.items ≡ numbers_pending v)
 
 -- the vendors and the classes
 abbrev pub top_of : Views → Items
@@ -100,7 +100,7 @@ pub record IsRightFor (k : KeptViews) (v : Views) : Type 0 where
   -- the items that were changed last, if they are kept
   pub changes : HoldsChanges k.changes v
   -- the numbers of what is pending, if they are kept
-  pub pending : HoldsWaiting k.pending v
+  pub pending : HoldsPending k.pending v
   -- the numbers of all submissions by path and by author, if they are kept
   pub numbers : HoldsNumbers k.numbers v
   -- how many accounts there are, if that is kept

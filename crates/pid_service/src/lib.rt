@@ -21,6 +21,7 @@ mod names;
 mod obeying;
 mod opening;
 mod pending;
+mod pending_numbers;
 mod preparing;
 mod reading;
 mod registry;
@@ -28,7 +29,6 @@ mod renewing;
 mod running;
 mod status;
 mod top;
-mod waiting;
 mod writing;
 
 pub use laws::{

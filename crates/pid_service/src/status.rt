@@ -2,10 +2,10 @@
 ghost use Rattle.std.specs.Prelude.{◌≡◌, false};
 ghost use Rattle.pid_moderation.specs.RegistryStatus.{IsStatusIn, registry_status_of};
 ghost use Rattle.pid_tables.specs.Rows.Clauses.{Reads};
-ghost use Rattle.pid_service.specs.KeptViews.{HoldsAccounts, HoldsWaiting};
+ghost use Rattle.pid_service.specs.KeptViews.{HoldsAccounts, HoldsPending};
 
 use crate::accounts::count_accounts;
-use crate::waiting::count_waiting;
+use crate::pending_numbers::count_pending;
 use pid_moderation::Status;
 use pid_tables::{TableFault, Tables};
 use sqlite::Alter;
@@ -20,10 +20,10 @@ pub(crate) fn status_by<S: Alter + Drop>(
 ) -> Result<Status, TableFault>
     requires { tables.old.conn.in_transaction ≡ false }
     ensures { Reads S.Store tables.old.conn tables.new.conn result
-        (λ v status. HoldsWaiting numbers.now v → HoldsAccounts accounts v
+        (λ v status. HoldsPending numbers.now v → HoldsAccounts accounts v
         → IsStatusIn v (registry_status_of status)) }
 {
-    let pending = count_waiting(tables, alloc, numbers)?;
+    let pending = count_pending(tables, alloc, numbers)?;
     let accounts = count_accounts(tables, accounts)?;
     let items = tables.items()?;
     let revision = tables.revision()?;

@@ -20,7 +20,7 @@ use Rattle.pid_moderation.specs.Submissions.{Standing}
 use Rattle.pid_moderation.specs.ChangePages.{Changed, numbered_in, is_later, changes_in, changed_after}
 use Rattle.pid_tables.specs.Lists.Laws.{pending_number, changed_path}
 use Rattle.pid_tables.specs.Lists.Pages.{last_of, pages_after}
-use Rattle.pid_moderation.specs.PendingPages.{standings_from, waiting_above}
+use Rattle.pid_moderation.specs.PendingPages.{standings_from, pending_above}
 use Rattle.pid_tables.proofs.OfLists.ItemLists.{less_is}
 
 -- two fronts, one behind the other, are one
@@ -113,8 +113,8 @@ standings_rise : (n : ℕ) (submits : List Submitted) (state : ℕ → State) �
 standings_rise n [] state = tt
 standings_rise n (s ∷ submits) state = (above_all n (n + 1) submits state (omega arith), standings_rise (n + 1) submits state)
 
-pub next_waiting : (v : Views) (after : ℕ) (s : ℕ × Standing) (more : List (ℕ × Standing)) → waiting_above after v ≡ s ∷ more → waiting_above (pending_number s) v ≡ more
-next_waiting v = next_one pending_number nat_lt numbers_strict waits (standings_from 1 v.submits v.state) (standings_rise 1 v.submits v.state)
+pub next_pending : (v : Views) (after : ℕ) (s : ℕ × Standing) (more : List (ℕ × Standing)) → pending_above after v ≡ s ∷ more → pending_above (pending_number s) v ≡ more
+next_pending v = next_one pending_number nat_lt numbers_strict waits (standings_from 1 v.submits v.state) (standings_rise 1 v.submits v.state)
 
 -- ---- changes
 

@@ -1,5 +1,5 @@
 use Rattle.std.proofs.Common.{◌≡◌, length}
-use Rattle.pid_moderation.specs.PendingPages.{waiting_above}
+use Rattle.pid_moderation.specs.PendingPages.{pending_above}
 use Rattle.pid_tables.proofs.OfRows.OnlyReading.{reads_then}
 use Rattle.pid_tables.specs.Rows.Accounts.{HasAccounts}
 use Rattle.pid_service.proofs.Questions.{faults_after}
@@ -7,7 +7,7 @@ use Rattle.pid_service.proofs.status.status_by.Goals as goal
 
 pub returns-in_err-accounts : goal.returns-in_err-accounts
 returns-in_err-accounts g c =
-    faults_after g.S.Store c.args.tables.now.conn c.count_waiting.new.tables.conn c.count_accounts.new.tables.conn c.in_err-accounts.field-0.0 c.from_residual-in_err-accounts.result _ c.in_ok-pending.ensures.rests c.in_err-accounts.ensures.rests
+    faults_after g.S.Store c.args.tables.now.conn c.count_pending.new.tables.conn c.count_accounts.new.tables.conn c.in_err-accounts.field-0.0 c.from_residual-in_err-accounts.result _ c.in_ok-pending.ensures.rests c.in_err-accounts.ensures.rests
     (λ clean v rest readable. c.in_err-accounts.ensures.told clean v rest readable) c.from_residual-in_err-accounts.ensures.1
 
 pub returns-in_err-items : goal.returns-in_err-items
@@ -43,7 +43,7 @@ returns g c =
           let rest_count = count.rests.kept v rest in
           let rest_first = first.rests.kept v rest_count in
           let rest_second = second.rests.kept v rest_first in
-          let pending : c.in_ok-pending.pending ≡ length (waiting_above 0 v) = count.told (first.rests.clean clean_first) v rest holds in
+          let pending : c.in_ok-pending.pending ≡ length (pending_above 0 v) = count.told (first.rests.clean clean_first) v rest holds in
           let has : HasAccounts v c.in_ok-accounts.accounts = first.told clean_first v rest_count many in
           let items : c.in_ok-items.items ≡ length v.items = second.told clean_second v rest_first in
           let revision : c.in_ok-revision.revision ≡ v.revision = third.told clean_third v rest_second in

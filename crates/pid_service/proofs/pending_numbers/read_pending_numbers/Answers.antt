@@ -6,8 +6,8 @@ use Rattle.pid_tables.proofs.OfRows.CauseLemmas.{caused_later, passed_on}
 use Rattle.pid_tables.proofs.OfRows.OnlyReading.{reads_then}
 use Rattle.pid_tables.specs.Lists.Laws.{pending_number}
 use Rattle.pid_tables.specs.Lists.Pages.{last_of}
-use Rattle.pid_service.proofs.PendingNumbers.{last_page, next_page, waiting}
-use Rattle.pid_service.proofs.waiting.waiting_numbers.Goals as goal
+use Rattle.pid_service.proofs.PendingNumbers.{last_page, next_page, pending_past}
+use Rattle.pid_service.proofs.pending_numbers.read_pending_numbers.Goals as goal
 
 pub returns-in_err-page : goal.returns-in_err-page
 returns-in_err-page g c =
@@ -55,7 +55,7 @@ loop-preserved g c =
     let last : c.last_number-after.result ≡ last_of pending_number c.loop.after (map told_of c.as_slice.result.now) = c.last_number-after.ensures ∙ ap (λ p. last_of pending_number c.loop.after (map told_of p)) same in (
       reads_then _ _ _ before.0 one.rests,
       λ clean v rest.
-          (λ i. added i ++ waiting (last i) v)
+          (λ i. added i ++ pending_past (last i) v)
           ∙ next_page c.pending_go_on.ensures.next v 100 c.loop.after c.as_slice.result.now c.loop.numbers.items (ap (map told_of) c.as_slice.ensures.value ∙ one.told clean v (before.0.kept v rest))
           ∙ before.1 (one.rests.clean clean) v rest,
     )

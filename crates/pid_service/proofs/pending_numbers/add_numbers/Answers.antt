@@ -1,6 +1,6 @@
 use Rattle.std.proofs.Common.{arith, sym}
 use Rattle.pid_service.proofs.PendingNumbers.{one_added}
-use Rattle.pid_service.proofs.waiting.add_numbers.Goals as goal
+use Rattle.pid_service.proofs.pending_numbers.add_numbers.Goals as goal
 
 pub loop-pending-preserved : goal.loop-pending-preserved
 loop-pending-preserved c =

@@ -1,24 +1,24 @@
 use Rattle.std.proofs.Common.{◌≡◌, ◌<◌, ◌+◌, map, length, ap, sym, subst, ◌∙◌, rules}
 use Rattle.sqlite.specs.Held.{state}
-use Rattle.pid_moderation.specs.PendingPages.{told_of, waiting_above}
+use Rattle.pid_moderation.specs.PendingPages.{told_of, pending_above}
 use Rattle.pid_tables.specs.Rows.Causes.{IsCaused, IsReadable}
 use Rattle.pid_tables.proofs.OfRows.CauseLemmas.{caused_later, passed_on}
 use Rattle.pid_tables.proofs.OfRows.OnlyReading.{reads_then}
 use Rattle.pid_tables.specs.Lists.Laws.{pending_number}
 use Rattle.pid_tables.specs.Lists.Pages.{last_of}
 use Rattle.std.proofs.lemmas.List.{length-map}
-use Rattle.pid_service.specs.KeptViews.{HoldsWaiting, numbers_waiting}
+use Rattle.pid_service.specs.KeptViews.{HoldsPending, numbers_pending}
 use Rattle.pid_service.proofs.PendingNumbers.{last_count, next_count}
-use Rattle.pid_service.proofs.waiting.count_waiting.Goals as goal
+use Rattle.pid_service.proofs.pending_numbers.count_pending.Goals as goal
 
 -- the numbers are kept
 pub returns-in-Ok : goal.returns-in-Ok
 returns-in-Ok g c = record {
   rests = search rules;
   told = λ clean v rest holds.
-      let held : c.in-Some.numbers.items ≡ numbers_waiting v = subst (λ o. HoldsWaiting o v) c.in-Some.is holds in
+      let held : c.in-Some.numbers.items ≡ numbers_pending v = subst (λ o. HoldsPending o v) c.in-Some.is holds in
       let many : c.in-Ok.count ≡ length c.in-Some.numbers.items = search rules in
-      many ∙ ap length held ∙ length-map (waiting_above 0 v) pending_number;
+      many ∙ ap length held ∙ length-map (pending_above 0 v) pending_number;
 }
 
 -- a page after the other
@@ -64,7 +64,7 @@ loop-preserved g c =
     let last : c.last_number-after.result ≡ last_of pending_number c.loop.after (map told_of c.as_slice.result.now) = c.last_number-after.ensures ∙ ap (λ p. last_of pending_number c.loop.after (map told_of p)) same in (
       reads_then _ _ _ before.0 one.rests,
       λ clean v rest.
-          (λ i. c.in-Some-count_page.ensures i + length (waiting_above (last i) v))
+          (λ i. c.in-Some-count_page.ensures i + length (pending_above (last i) v))
           ∙ next_count c.pending_go_on.ensures.next v 100 c.loop.after c.as_slice.result.now c.loop.count (ap (map told_of) c.as_slice.ensures.value ∙ one.told clean v (before.0.kept v rest))
           ∙ before.1 (one.rests.clean clean) v rest,
     )

@@ -14,12 +14,12 @@ ghost use Rattle.std.specs.Prelude.{
   map,
   take,
 };
-ghost use Rattle.pid_moderation.specs.PendingPages.{told_of, waiting_above};
+ghost use Rattle.pid_moderation.specs.PendingPages.{told_of, pending_above};
 ghost use Rattle.pid_tables.specs.Rows.Clauses.{Reads};
 ghost use Rattle.pid_tables.specs.Lists.Laws.{pending_number};
 ghost use Rattle.pid_tables.specs.Lists.Pages.{last_of};
-ghost use Rattle.pid_service.specs.KeptViews.{HoldsWaiting};
-ghost use Rattle.pid_service.specs.Steps.Waiting.{its_number};
+ghost use Rattle.pid_service.specs.KeptViews.{HoldsPending};
+ghost use Rattle.pid_service.specs.Steps.PendingNumbers.{its_number};
 
 use pid_moderation::{PAGE, Pending};
 use pid_tables::{TableFault, Tables};
@@ -63,13 +63,13 @@ fn last_number(after: u32, page: &[Pending]) -> u32
 
 /// The numbers of what is pending, rising, by pages of submissions. None if they are too many, or if
 /// there is no memory for them.
-pub(crate) fn waiting_numbers<S: Alter + Drop>(
+pub(crate) fn read_pending_numbers<S: Alter + Drop>(
     tables: &mut Tables<S>,
     alloc: Global,
 ) -> Result<Option<Vec<u32>>, TableFault>
     requires { tables.old.conn.in_transaction ≡ false }
     ensures { Reads S.Store tables.old.conn tables.new.conn result
-        (λ v numbers. HoldsWaiting numbers v) }
+        (λ v numbers. HoldsPending numbers v) }
 {
     pid_tables::lists::laws::pending_go_on(); // proof only
     let mut numbers = Vec::new(alloc);
@@ -99,14 +99,14 @@ fn count_page(count: u32, page: &[Pending]) -> Option<u32>
 
 /// How many submissions are pending: their numbers are counted, if they are kept, and else pages of
 /// them.
-pub(crate) fn count_waiting<S: Alter + Drop>(
+pub(crate) fn count_pending<S: Alter + Drop>(
     tables: &mut Tables<S>,
     alloc: Global,
     numbers: &Option<Vec<u32>>,
 ) -> Result<u32, TableFault>
     requires { tables.old.conn.in_transaction ≡ false }
     ensures { Reads S.Store tables.old.conn tables.new.conn result
-        (λ v n. HoldsWaiting numbers.now v → n ≡ length (waiting_above 0 v)) }
+        (λ v n. HoldsPending numbers.now v → n ≡ length (pending_above 0 v)) }
 {
     pid_tables::lists::laws::pending_go_on(); // proof only
     if let Some(numbers) = numbers {

@@ -3,8 +3,8 @@ use Rattle.std.proofs.lemmas.List.{take_all}
 use Rattle.std.specs.Prelude.{nat_lt}
 use Rattle.std.proofs.lemmas.Bool.Decides.{nat_tests}
 use Rattle.pid_service.proofs.PendingNumbers.{not_above, one_above, page_full}
-use Rattle.pid_service.proofs.waiting.numbers_above.Goals.{else-after-number-via-then-after-number+then-len-lt-PAGE+else-is_err, else-after-number-via-then-after-number+else-len-lt-PAGE, else-after-number-via-else-after-number}
-use Rattle.pid_service.proofs.waiting.numbers_above.Goals as goal
+use Rattle.pid_service.proofs.pending_numbers.numbers_above.Goals.{else-after-number-via-then-after-number+then-len-lt-PAGE+else-is_err, else-after-number-via-then-after-number+else-len-lt-PAGE, else-after-number-via-else-after-number}
+use Rattle.pid_service.proofs.pending_numbers.numbers_above.Goals as goal
 
 is_less : (after number : ℕ) → after < number → nat_lt after number ≡ true
 is_less after number above = grind (arith, nat_tests)
