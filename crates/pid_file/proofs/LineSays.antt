@@ -18,7 +18,7 @@ use Rattle.pid_file.specs.declared.entry_line.Place.TheVariants.{Vendor, Device,
 use Rattle.pid_file.specs.declared.entry_line.Named.{Named}
 use Rattle.pid_file.specs.declared.open_levels.OpenLevels.{OpenLevels}
 use Rattle.pid_file.specs.declared.open_levels.OpenLevels.TheVariants as opens
-use Rattle.pid_file.specs.declared.open_levels.Said.TheVariants as said
+use Rattle.pid_file.specs.declared.open_levels.LineContent.TheVariants as said
 use Rattle.pid_file.specs.Marks.{is_idle, depth, body, mark, is_unknown, inside}
 use Rattle.pid_file.specs.Levels.{levels, front, widths}
 use Rattle.pid_file.specs.Columns.{begins_with_ids, is_id, digits_in, name_in}

@@ -47,7 +47,7 @@ pub use input_text::{count_input, end_without_fault, read_input};
 pub use io::{Input, Output, ReadFault, WriteFault, write_all, write_parts};
 pub use line::without_cr;
 pub use name::{Name, is_name};
-pub use open_levels::{OpenLevels, Said, read_line};
+pub use open_levels::{LineContent, OpenLevels, read_line};
 pub use open_text::OpenText;
 pub use path::Path;
 pub use pieces::split_line;

@@ -38,7 +38,7 @@ pub enum OpenLevels {
 
 /// What a line says.
 #[derive(Clone, Copy)]
-pub enum Said<'a> {
+pub enum LineContent<'a> {
     Nothing,
     /// A block that is not known begins.
     Unknown,
@@ -100,7 +100,7 @@ fn read_nested<'b>(
     line: &'b [u8],
     depth: usize,
     body: &'b [u8],
-) -> Result<Said<'b>, LineKind>
+) -> Result<LineContent<'b>, LineKind>
     requires text { utf8_bytes line.now ≡ true }
     requires active { idle_line line.now ≡ false }
     requires nested { (depth == 0) ≡ false }
@@ -113,14 +113,14 @@ fn read_nested<'b>(
         → IfErr result (λ kind. line_fault_of earlier line.now ≡ Some kind) }
 {
     let Some(place) = place_below(levels, depth)? else {
-        return Ok(Said::Nothing);
+        return Ok(LineContent::Nothing);
     };
     let named = read_columns(place, body)?;
-    Ok(Said::Entry(named))
+    Ok(LineContent::Entry(named))
 }
 
 // Reads a line of depth 0.
-fn read_head(line: &[u8]) -> Result<Said<'_>, LineKind>
+fn read_head(line: &[u8]) -> Result<LineContent<'_>, LineKind>
     requires text { utf8_bytes line.now ≡ true }
     requires active { idle_line line.now ≡ false }
     requires flat { tabs line.now ≡ 0 }
@@ -134,22 +134,22 @@ fn read_head(line: &[u8]) -> Result<Said<'_>, LineKind>
     match mark {
         Mark::Devices => {
             let vendor = read_columns(Place::Vendor, behind)?;
-            Ok(Said::Entry(vendor))
+            Ok(LineContent::Entry(vendor))
         }
         Mark::Classes => {
             let class = read_columns(Place::Class, behind)?;
-            Ok(Said::Entry(class))
+            Ok(LineContent::Entry(class))
         }
         Mark::Generics => match vendor_of_block(behind) {
-            Some(vendor) => Ok(Said::Block { vendor }),
+            Some(vendor) => Ok(LineContent::Block { vendor }),
             None => Err(LineKind::BadId),
         },
-        Mark::Unknown => Ok(Said::Unknown),
+        Mark::Unknown => Ok(LineContent::Unknown),
     }
 }
 
 /// Reads a line below the open levels.
-pub fn read_line<'b>(levels: OpenLevels, line: &'b [u8]) -> Result<Said<'b>, LineKind>
+pub fn read_line<'b>(levels: OpenLevels, line: &'b [u8]) -> Result<LineContent<'b>, LineKind>
     ensures says { (earlier : List (List ℕ)) → IsOpenAt levels earlier
         → IfOk result (λ s. Says levels earlier line.now s) }
     ensures named { IfOk result (λ s. IsNamed s) }
@@ -160,7 +160,7 @@ pub fn read_line<'b>(levels: OpenLevels, line: &'b [u8]) -> Result<Said<'b>, Lin
         return Err(LineKind::NotUtf8);
     }
     if is_idle(line) {
-        return Ok(Said::Nothing);
+        return Ok(LineContent::Nothing);
     }
     let (depth, body) = split_depth(line);
     if depth == 0 {
@@ -192,14 +192,14 @@ fn open_below(path: Path) -> OpenLevels
 
 impl OpenLevels {
     /// The levels that are open after a line.
-    pub fn after(self, said: &Said<'_>) -> OpenLevels
+    pub fn after(self, said: &LineContent<'_>) -> OpenLevels
         ensures { result ≡ levels_after self said.now }
     {
         match *said {
-            Said::Nothing => self,
-            Said::Unknown => OpenLevels::Unknown,
-            Said::Block { vendor } => OpenLevels::Generics { vendor },
-            Said::Entry(entry) => open_below(entry.path),
+            LineContent::Nothing => self,
+            LineContent::Unknown => OpenLevels::Unknown,
+            LineContent::Block { vendor } => OpenLevels::Generics { vendor },
+            LineContent::Entry(entry) => open_below(entry.path),
         }
     }
 }

@@ -23,7 +23,7 @@ ghost use Rattle.pid_file.specs.Progress.{Shows};
 ghost use Rattle.pid_file.specs.Steps.Progress.{given};
 
 use crate::fault_kind::LineKind;
-use crate::open_levels::{OpenLevels, Said, read_line};
+use crate::open_levels::{LineContent, OpenLevels, read_line};
 use crate::refusal::ReadRefusal;
 use crate::seen_paths::SeenPaths;
 use crate::sink::Entry;
@@ -59,7 +59,7 @@ impl Progress {
     }
 
     // The line with this number was read.
-    fn pass(&mut self, number: usize, said: &Said<'_>)
+    fn pass(&mut self, number: usize, said: &LineContent<'_>)
         ensures levels { self.new.levels ≡ open_after self.old.levels said.now }
         ensures lines { self.new.lines ≡ number }
         ensures seen { self.new.seen ≡ self.old.seen }
@@ -70,7 +70,11 @@ impl Progress {
     }
 
     // Takes what the line with this number says, which has no fault of its own.
-    fn admit<'b>(&mut self, number: usize, said: Said<'b>) -> Result<Option<Entry<'b>>, ReadRefusal>
+    fn admit<'b>(
+        &mut self,
+        number: usize,
+        said: LineContent<'b>,
+    ) -> Result<Option<Entry<'b>>, ReadRefusal>
         requires { IsNamed said }
         ensures taken { (earlier : List (List ℕ)) (line : List ℕ) → Shows self.old earlier
             → number ≡ self.old.lines + 1 → Says self.old.levels earlier line said.entry →
@@ -82,11 +86,11 @@ impl Progress {
             IfErr result (λ r. IsRefusal r (refusal_at earlier line)) }
     {
         match said {
-            Said::Nothing | Said::Unknown => {
+            LineContent::Nothing | LineContent::Unknown => {
                 self.pass(number, &said);
                 Ok(None)
             }
-            Said::Block { vendor } => {
+            LineContent::Block { vendor } => {
                 if !self.seen.has_vendor(vendor) {
                     let kind = LineKind::VendorMissing;
                     return Err(ReadRefusal::Line { line: number, kind });
@@ -94,7 +98,7 @@ impl Progress {
                 self.pass(number, &said);
                 Ok(None)
             }
-            Said::Entry(named) => {
+            LineContent::Entry(named) => {
                 match self.seen.insert(named.path) {
                     Err(_) => return Err(ReadRefusal::Memory),
                     Ok(false) => {

@@ -6,7 +6,7 @@ ghost use Rattle.pid_script.specs.Calling.{CallsGo};
 ghost use Rattle.pid_script.specs.Steps.Output.{out, AnswersOver};
 
 use crate::fields::{read_command, read_path};
-use crate::line::{LineAsk, line_asks};
+use crate::line::{LineRequest, line_request};
 use crate::line_end::LineEnd;
 use crate::lookup::read_lookup;
 use crate::output::flush;
@@ -126,17 +126,17 @@ pub fn answer_line<R: Moderated, O: Output>(
         (out (O.taken output.new) held.new.items) }
     ensures fault { result ≡ Err LineEnd.WriteFault → IsSome (O.write_fault output.new) }
 {
-    match line_asks(line) {
-        LineAsk::Nothing => Ok(()),
-        LineAsk::Command {
+    match line_request(line) {
+        LineRequest::Nothing => Ok(()),
+        LineRequest::Command {
             verb,
             account,
             form,
         } => obey(alloc, registry, output, held, verb, account, form),
-        LineAsk::Export => export(registry, output, held),
-        LineAsk::Read(form) => read(alloc, registry, output, held, form),
-        LineAsk::Lookup(form) => lookup(alloc, registry, output, held, form),
-        LineAsk::Unclear => send_bad_text(output, held),
-        LineAsk::TooLong => Err(refuse_long(output, held)),
+        LineRequest::Export => export(registry, output, held),
+        LineRequest::Read(form) => read(alloc, registry, output, held, form),
+        LineRequest::Lookup(form) => lookup(alloc, registry, output, held, form),
+        LineRequest::Unclear => send_bad_text(output, held),
+        LineRequest::TooLong => Err(refuse_long(output, held)),
     }
 }

@@ -4,12 +4,12 @@ use Rattle.std.specs.Option.{option_map}
 use Rattle.std.specs.Borrow.{Bor}
 use Rattle.pid_script.specs.ScriptLines as asks
 use Rattle.pid_script.specs.ScriptLines.{Ask}
-use Rattle.pid_script.specs.declared.line.LineAsk.{LineAsk}
-use Rattle.pid_script.specs.declared.line.LineAsk.TheVariants.{Nothing, Command, Export, Read}
-use Rattle.pid_script.specs.declared.line.LineAsk.TheVariants.{Lookup, Unclear, TooLong}
+use Rattle.pid_script.specs.declared.line.LineRequest.{LineRequest}
+use Rattle.pid_script.specs.declared.line.LineRequest.TheVariants.{Nothing, Command, Export, Read}
+use Rattle.pid_script.specs.declared.line.LineRequest.TheVariants.{Lookup, Unclear, TooLong}
 
 -- the same as an ask of scripts
-abbrev pub ask_told : LineAsk → Ask
+abbrev pub ask_told : LineRequest → Ask
 ask_told Nothing = asks.AsksNothing
 ask_told (Command verb account form) = asks.AsksCommand verb account.now form.now
 ask_told Export = asks.AsksExport
