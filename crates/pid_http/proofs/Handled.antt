@@ -9,7 +9,7 @@ use Rattle.pid_http_stream.specs.declared.handler.Wanted.TheVariants.{Streamed}
 use Rattle.pid_http_stream.specs.Handling.{IsHandled, IsBodyFor, MayReply}
 use Rattle.pid_http_stream.specs.Replies.{Answer}
 use Rattle.pid_http_stream.specs.Requests.{Request, fields_of}
-use Rattle.pid_http_stream.specs.declared.handler.Reply.{Reply}
+use Rattle.pid_http_stream.specs.declared.handler.HttpReply.{HttpReply}
 use Rattle.pid_http_stream.specs.declared.handler.ReplyBody.{ReplyBody}
 use Rattle.pid_http_stream.specs.declared.handler.ReplyBody.TheVariants.{Bytes, Written}
 use Rattle.pid_http_stream.specs.declared.reply_head.ReplyHead.{ReplyHead}
@@ -46,7 +46,7 @@ module _ {R : Type 0} (registry : Ghosts R) where
   by_calls t u P Q f b = record { same_life = b.same_life; more = b.more; joined = b.joined; holds = f b.more b.holds }
 
   -- a reply was made
-  pub asked_ok : (t u : Told registry) (request : Request) (errand : Errand) (reply : Reply) → errand ≡ errand_of request → ByCalls registry t u (λ calls. IsBodyMet t.known errand reply.head reply.body calls u.known) → MayReply (serving registry) t request reply u
+  pub asked_ok : (t u : Told registry) (request : Request) (errand : Errand) (reply : HttpReply) → errand ≡ errand_of request → ByCalls registry t u (λ calls. IsBodyMet t.known errand reply.head reply.body calls u.known) → MayReply (serving registry) t request reply u
   asked_ok t u request errand reply same m =
       body_for t u request reply.head reply.body (by_calls t u _ _ (λ calls h. subst (λ c. IsBodyMet t.known c reply.head reply.body calls u.known) same h) m)
 
@@ -55,7 +55,7 @@ module _ {R : Type 0} (registry : Ghosts R) where
       → StandsStill (serving registry) t request.head u ⊎ (IsAtEnd (Some []) × (serving registry).leaves t request u)
   asked_err t u request errand same m = inr (refl, by_calls t u _ _ (λ calls h. (h.0, subst (λ c. IsErrandMet t.known c h.0 calls u.known) same h.1)) m)
 
-  pub asked_after : {E : Type 0} (t u : Told registry) (request : Request) (errand : Errand) (result : Result Reply E) (left : Option (List ℕ)) → errand ≡ errand_of request
+  pub asked_after : {E : Type 0} (t u : Told registry) (request : Request) (errand : Errand) (result : Result HttpReply E) (left : Option (List ℕ)) → errand ≡ errand_of request
       → most_questions errand ≡ most_given_up (question request.head.method request.head.target) (sender (fields_of request.head)) → ByCalls registry t u (λ calls. IsMetAfter t.known errand result left calls u.known) → IsHandled (serving registry) t request result left u
   asked_after {E} t u request errand (Ok reply) left same most m = asked_ok t u request errand reply same m
   asked_after {E} t u request errand (Err e) left same most m = by_case m.holds

@@ -18,7 +18,7 @@ use Rattle.pid_service_laws.specs.declared.faults.ImportEnd.{ImportEnd}
 use Rattle.pid_service_laws.specs.declared.faults.ImportEnd.TheVariants.{Refused, Body}
 use Rattle.pid_http_stream.specs.Replies.{Answer}
 use Rattle.pid_http_stream.specs.declared.limits.TheConstants.{LONGEST_BODY}
-use Rattle.pid_http_stream.specs.declared.handler.Reply.{Reply}
+use Rattle.pid_http_stream.specs.declared.handler.HttpReply.{HttpReply}
 use Rattle.pid_http.specs.declared.api.format.Format.{Format}
 use Rattle.pid_http.specs.Api.Outcomes.{outcome_answer}
 use Rattle.pid_http.specs.Api.Replying.{IsReplyOf}
@@ -45,13 +45,13 @@ refused_whole file text left fits consumed (inl read) = whole file text left con
 refused_whole file text left fits consumed (inr (why, long)) = let most = no_longer file text left consumed in absurd (omega arith)
 
 -- the reply to an import of this text is one to an import of the file
-behind : {E : Type 0} (account : List ℕ) (key : Option (List ℕ)) (format : Format) (file text : List ℕ) (outcome : Result Outcome Refusal) (r : Result Reply E) (left : Option (List ℕ)) (k : Known) (calls : List Call) (now : Known)
+behind : {E : Type 0} (account : List ℕ) (key : Option (List ℕ)) (format : Format) (file text : List ℕ) (outcome : Result Outcome Refusal) (r : Result HttpReply E) (left : Option (List ℕ)) (k : Known) (calls : List Call) (now : Known)
     → text ≡ file → IsAtEnd left → IfOk r (λ reply. IsReplyOf reply (outcome_answer format outcome)) → IsCommandMet (import_of account key (file_reading text)) k outcome calls now
     → IsMetAfter k (Obeys (import_of account key (file_reading file)) format) r left calls now
 behind {E} account key format file text outcome r left k calls now same end is obeys =
     by_reply r is (subst (λ (x : List ℕ). IsErrandMet k (Obeys (import_of account key (file_reading x)) format) (outcome_answer format outcome) calls now) same (obeyed_met (import_of account key (file_reading text)) format k now outcome calls obeys))
   where
-    by_reply : (r : Result Reply E) → IfOk r (λ reply. IsReplyOf reply (outcome_answer format outcome)) → IsErrandMet k (Obeys (import_of account key (file_reading file)) format) (outcome_answer format outcome) calls now
+    by_reply : (r : Result HttpReply E) → IfOk r (λ reply. IsReplyOf reply (outcome_answer format outcome)) → IsErrandMet k (Obeys (import_of account key (file_reading file)) format) (outcome_answer format outcome) calls now
         → IsMetAfter k (Obeys (import_of account key (file_reading file)) format) r left calls now
     by_reply (Ok reply) is met = body_met k now (Obeys (import_of account key (file_reading file)) format) reply.head reply.body (outcome_answer format outcome) calls is met
     by_reply (Err e) is met = inr (end, (outcome_answer format outcome, met))
@@ -78,7 +78,7 @@ module _ {R : Type 0} (registry : Ghosts R) where
       one_call registry old new (import_sent (import_of account key (file_reading read.text)) result (registry.is_live new)) read.holds.calls (λ off. (failed off).1)
 
   -- it was accepted
-  pub accepted : {E : Type 0} → Lives registry → (old new : R) (reply : Outcome) (account : List ℕ) (key : Option (List ℕ)) (format : Format) (to_come left : Option (List ℕ)) (r : Result Reply E)
+  pub accepted : {E : Type 0} → Lives registry → (old new : R) (reply : Outcome) (account : List ℕ) (key : Option (List ℕ)) (format : Format) (to_come left : Option (List ℕ)) (r : Result HttpReply E)
       → (registry.is_live old ≡ false → ((Ok reply ≡ Err (Refused refusals.Failed)) ⊎ (Ok reply ≡ Err Body)) × (new ≡ old))
       → HasRead (Ok reply) to_come left (Holds old new (Ok reply) account key) → IfOk r (λ x. IsReplyOf x (outcome_answer format (Ok reply)))
       → Goes registry old new (λ k calls now. (file : List ℕ) → to_come ≡ Some file → length file ≤ LONGEST_BODY → IsMetAfter k (Obeys (import_of account key (file_reading file)) format) r left calls now)
@@ -93,7 +93,7 @@ module _ {R : Type 0} (registry : Ghosts R) where
       never (inr e) = absurd cc
 
   -- it was refused, and nothing was left of a body that is short enough
-  refused_so : {E : Type 0} → Lives registry → (old new : R) (refusal : Refusal) (account : List ℕ) (key : Option (List ℕ)) (format : Format) (to_come left last : Option (List ℕ)) (r : Result Reply E) (lives : LivesOn registry old new)
+  refused_so : {E : Type 0} → Lives registry → (old new : R) (refusal : Refusal) (account : List ℕ) (key : Option (List ℕ)) (format : Format) (to_come left last : Option (List ℕ)) (r : Result HttpReply E) (lives : LivesOn registry old new)
       → (registry.is_live old ≡ false → (◌≡◌ {A = Result Outcome Refusal} (Err refusal) (Err refusals.Failed)) × (new ≡ old))
       → (read : HasRead (Err (Refused refusal)) to_come left (Holds old new (Err (Refused refusal)) account key)) → lives.calls ≡ obeyed (import_of account key (file_reading read.text)) (Err refusal) (registry.is_live new) ∷ [] → (left ≡ Some [] → last ≡ Some []) → IfOk r (λ x. IsReplyOf x (outcome_answer format (Err refusal)))
       → Goes registry old new (λ k calls now. (file : List ℕ) → to_come ≡ Some file → length file ≤ LONGEST_BODY → IsMetAfter k (Obeys (import_of account key (file_reading file)) format) r last calls now)
@@ -104,7 +104,7 @@ module _ {R : Type 0} (registry : Ghosts R) where
       behind account key format file read.text (Err refusal) r last k calls now w.0 (subst IsAtEnd (sym (ended w.1)) refl) is obeys)
       (obeys_so registry alive old new (Err refusal) (import_of account key (file_reading read.text)) lives by read.holds.calls.clean failed read.holds.leaves)
 
-  pub refused : {E : Type 0} → Lives registry → (old new : R) (end : ImportEnd) (refusal : Refusal) (account : List ℕ) (key : Option (List ℕ)) (format : Format) (to_come left last : Option (List ℕ)) (r : Result Reply E)
+  pub refused : {E : Type 0} → Lives registry → (old new : R) (end : ImportEnd) (refusal : Refusal) (account : List ℕ) (key : Option (List ℕ)) (format : Format) (to_come left last : Option (List ℕ)) (r : Result HttpReply E)
       → end ≡ Refused refusal → (registry.is_live old ≡ false → (IsEnd end (Refused refusals.Failed) ⊎ IsEnd end Body) × (new ≡ old))
       → HasRead (Err end) to_come left (Holds old new (Err end) account key) → (left ≡ Some [] → last ≡ Some []) → IfOk r (λ x. IsReplyOf x (outcome_answer format (Err refusal)))
       → Goes registry old new (λ k calls now. (file : List ℕ) → to_come ≡ Some file → length file ≤ LONGEST_BODY → IsMetAfter k (Obeys (import_of account key (file_reading file)) format) r last calls now)
@@ -120,16 +120,16 @@ module _ {R : Type 0} (registry : Ghosts R) where
           → Goes registry old new (λ k calls now. (file : List ℕ) → to_come ≡ Some file → length file ≤ LONGEST_BODY → IsMetAfter k (Obeys (import_of account key (file_reading file)) format) r last calls now)
 
   -- it was not asked for, and the body was read to its end, or given up
-  pub denied_after : {E : Type 0} (r : R) (errand : List ℕ → Errand) (given : Answer) (result : Result Reply E) (to_come left : Option (List ℕ)) → IfOk result (λ _. IsAtEnd left) → IfOk result (λ reply. IsReplyOf reply given)
+  pub denied_after : {E : Type 0} (r : R) (errand : List ℕ → Errand) (given : Answer) (result : Result HttpReply E) (to_come left : Option (List ℕ)) → IfOk result (λ _. IsAtEnd left) → IfOk result (λ reply. IsReplyOf reply given)
       → ((file : List ℕ) (k : Known) → IsErrandMet k (errand file) given [] k) → Goes registry r r (λ k calls now. (file : List ℕ) → to_come ≡ Some file → length file ≤ LONGEST_BODY → IsMetAfter k (errand file) result left calls now)
   denied_after {E} r errand given result to_come left end is met = no_call registry r _ (λ k file known fits. by_reply result is k file)
     where
-      by_reply : (result : Result Reply E) → IfOk result (λ reply. IsReplyOf reply given) → (k : Known) (file : List ℕ) → IsMetAfter k (errand file) result left [] k
+      by_reply : (result : Result HttpReply E) → IfOk result (λ reply. IsReplyOf reply given) → (k : Known) (file : List ℕ) → IsMetAfter k (errand file) result left [] k
       by_reply (Ok reply) is k file = body_met k k (errand file) reply.head reply.body given [] is (met file k)
       by_reply (Err e) is k file = inl (not_asked (most_questions (errand file)), refl)
 
   -- by the words of the sender
-  pub of_owner : {E : Type 0} (old new : R) (account said : List ℕ) (key told : Option (List ℕ)) (format : Format) (result : Result Reply E) (to_come left : Option (List ℕ)) → account ≡ said → key ≡ told
+  pub of_owner : {E : Type 0} (old new : R) (account said : List ℕ) (key told : Option (List ℕ)) (format : Format) (result : Result HttpReply E) (to_come left : Option (List ℕ)) → account ≡ said → key ≡ told
       → Goes registry old new (λ k calls now. (file : List ℕ) → to_come ≡ Some file → length file ≤ LONGEST_BODY → IsMetAfter k (Obeys (import_of account key (file_reading file)) format) result left calls now)
       → Goes registry old new (λ k calls now. (file : List ℕ) → to_come ≡ Some file → length file ≤ LONGEST_BODY → IsMetAfter k (Obeys (import_of said told (file_reading file)) format) result left calls now)
   of_owner old new account said key told format result to_come left e f goes =

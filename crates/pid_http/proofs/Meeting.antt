@@ -15,7 +15,7 @@ use Rattle.pid_service_laws.specs.Questions.{IsAnswered, IsAnsweredIfThere, IsMi
 use Rattle.pid_service_laws.specs.Outcomes.{IsMemoryOrStore}
 use Rattle.pid_http_stream.specs.Leading.{Leads}
 use Rattle.pid_http_stream.specs.Replies.{Answer}
-use Rattle.pid_http_stream.specs.declared.handler.Reply.{Reply}
+use Rattle.pid_http_stream.specs.declared.handler.HttpReply.{HttpReply}
 use Rattle.pid_http_stream.specs.declared.handler.ReplyBody.{ReplyBody}
 use Rattle.pid_http_stream.specs.declared.handler.ReplyBody.TheVariants.{Bytes, Written}
 use Rattle.pid_http_stream.specs.declared.reply_head.ReplyHead.{ReplyHead}
@@ -108,7 +108,7 @@ pub body_met : (k now : Known) (errand : Errand) (head : ReplyHead) (body : Repl
 body_met k now errand head (Bytes body) given calls e m = subst (λ g. IsErrandMet k errand g calls now) (sym e) m
 body_met k now errand head (Written told) given calls e m = absurd e
 
-is_met_by : {E : Type 0} (k now : Known) (errand : Errand) (result : Result Reply E) (given : Answer) (calls : List Call) → IfOk result (λ reply. IsReplyOf reply given) → IsErrandMet k errand given calls now → IsMetBy k errand result calls now
+is_met_by : {E : Type 0} (k now : Known) (errand : Errand) (result : Result HttpReply E) (given : Answer) (calls : List Call) → IfOk result (λ reply. IsReplyOf reply given) → IsErrandMet k errand given calls now → IsMetBy k errand result calls now
 is_met_by k now errand (Ok reply) given calls is m = body_met k now errand reply.head reply.body given calls is m
 is_met_by k now errand (Err e) given calls is m = (given, m)
 
@@ -335,7 +335,7 @@ module _ {R : Type 0} (registry : Ghosts R) where
   pub no_call : (r : R) (P : Known → List Call → Known → Type 0) → ((k : Known) → P k [] k) → Goes registry r r P
   no_call r P p = record { lives = record { rests = λ off. refl; calls = []; lead = refl }; served = record { good = λ c. c; leads = λ good k known. (k, known, p k) } }
 
-  pub replied : {E : Type 0} (old new : R) (errand : Errand) (result : Result Reply E) (given : Answer) → IfOk result (λ reply. IsReplyOf reply given) → Goes registry old new (λ k calls now. IsErrandMet k errand given calls now)
+  pub replied : {E : Type 0} (old new : R) (errand : Errand) (result : Result HttpReply E) (given : Answer) → IfOk result (λ reply. IsReplyOf reply given) → Goes registry old new (λ k calls now. IsErrandMet k errand given calls now)
       → Goes registry old new (λ k calls now. IsMetBy k errand result calls now)
   replied old new errand result given is goes = turned old new (λ k calls now m. is_met_by k now errand result given calls is m) goes
 

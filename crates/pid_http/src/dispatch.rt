@@ -16,7 +16,7 @@ use crate::api::{
     sender_of, submission_reply,
 };
 use http::StatusCode;
-use pid_http_stream::{Content, Head, Reply, ReplyBody, ReplyHead};
+use pid_http_stream::{Content, Head, HttpReply, ReplyBody, ReplyHead};
 use pid_ident::{Account, Path};
 use pid_lookup::Args;
 use pid_moderation::{Refusal, Verb};
@@ -41,12 +41,12 @@ fn export<R: Consulted>(
     alloc: Global,
     registry: &mut R,
     format: Format,
-) -> Result<Reply, AllocError>
+) -> Result<HttpReply, AllocError>
     ensures { Replies R.Moderated registry.old registry.new
         (errands.Asks (questions.Whole Whole.Export) format) result }
 {
     match registry.export_length() {
-        Ok(length) => Ok(Reply {
+        Ok(length) => Ok(HttpReply {
             head: ReplyHead {
                 status: StatusCode::OK,
                 content: Content::Text,
@@ -63,7 +63,7 @@ fn read<R: Consulted>(
     registry: &mut R,
     path: Path,
     format: Format,
-) -> Result<Reply, AllocError>
+) -> Result<HttpReply, AllocError>
     ensures { Replies R.Moderated registry.old registry.new (errands.Asks (questions.Read path) format)
         result }
 {
@@ -80,7 +80,7 @@ fn children<R: Consulted>(
     registry: &mut R,
     above: Option<Path>,
     format: Format,
-) -> Result<Reply, AllocError>
+) -> Result<HttpReply, AllocError>
     ensures { Replies R.Moderated registry.old registry.new (errands.Asks (questions.Children above) format)
         result }
 {
@@ -102,7 +102,7 @@ fn lookup<R: Consulted>(
     flags: u32,
     args: Args,
     size: u32,
-) -> Result<Reply, AllocError>
+) -> Result<HttpReply, AllocError>
     ensures { (format : _) → Replies R.Moderated registry.old registry.new
         (errands.Asks (questions.Lookup flags args size) format) result }
 {
@@ -116,7 +116,7 @@ fn submission<R: Consulted>(
     registry: &mut R,
     number: u32,
     format: Format,
-) -> Result<Reply, AllocError>
+) -> Result<HttpReply, AllocError>
     ensures { Replies R.Moderated registry.old registry.new
         (errands.Asks (questions.Submission number) format) result }
 {
@@ -132,7 +132,7 @@ fn rank<R: Consulted>(
     registry: &mut R,
     who: &Account,
     format: Format,
-) -> Result<Reply, AllocError>
+) -> Result<HttpReply, AllocError>
     ensures { Replies R.Moderated registry.old registry.new (errands.Asks (questions.Rank who.now) format)
         result }
 {
@@ -148,7 +148,7 @@ fn ask<R: Consulted>(
     registry: &mut R,
     question: &Question,
     format: Format,
-) -> Result<Reply, AllocError>
+) -> Result<HttpReply, AllocError>
     ensures { Replies R.Moderated registry.old registry.new (errands.Asks question.now format)
         result }
 {
@@ -189,7 +189,7 @@ fn command<R: Consulted>(
     format: Format,
     sender: Option<Sender<'_>>,
     body: &[u8],
-) -> Result<Reply, AllocError>
+) -> Result<HttpReply, AllocError>
     ensures { Replies R.Moderated registry.old registry.new
         (sent format (λ s. command_made verb s body.now) (sending_in sender.entry)) result }
 {
@@ -212,7 +212,7 @@ pub(crate) fn answer<R: Consulted>(
     request: &Request,
     sender: Option<Sender<'_>>,
     body: &[u8],
-) -> Result<Reply, AllocError>
+) -> Result<HttpReply, AllocError>
     ensures { Replies R.Moderated registry.old registry.new
         (errand_for request.now (sending_in sender.entry) body.now) result }
 {

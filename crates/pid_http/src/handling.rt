@@ -4,7 +4,7 @@ ghost use Rattle.std.specs.Prelude.{◌≡◌};
 use crate::api::{Format, Request, Routes, question_of, sender_of};
 use crate::dispatch::{answer, sender_for};
 use crate::importing::import;
-use pid_http_stream::{BodyStop, Handler, Head, NoReply, Reply, Wanted};
+use pid_http_stream::{BodyStop, Handler, Head, HttpReply, NoReply, Wanted};
 use pid_ident::{Input, Output};
 use pid_service_laws::{Consulted, ExportFault};
 use std::alloc::Global;
@@ -61,7 +61,12 @@ impl<R: Consulted> Handler for Service<'_, '_, R> {
         }
     }
 
-    fn answer(&mut self, request: Request, head: &Head<'_>, body: &[u8]) -> Result<Reply, NoReply> {
+    fn answer(
+        &mut self,
+        request: Request,
+        head: &Head<'_>,
+        body: &[u8],
+    ) -> Result<HttpReply, NoReply> {
         let sender = sender_for(&request, head);
         match answer(self.alloc, self.registry, &request, sender, body) {
             Ok(reply) => Ok(reply),
@@ -74,7 +79,7 @@ impl<R: Consulted> Handler for Service<'_, '_, R> {
         format: Format,
         head: &Head<'_>,
         body: &mut B,
-    ) -> Result<Reply, NoReply> {
+    ) -> Result<HttpReply, NoReply> {
         import(self.alloc, self.registry, format, sender_of(head), body)
     }
 

@@ -11,7 +11,7 @@ ghost use Rattle.pid_http.specs.Answering.{import_errand};
 ghost use Rattle.pid_http.specs.Steps.Replying.{RepliesToFile};
 
 use crate::api::{Format, Sender, outcome_reply};
-use pid_http_stream::{LONGEST_BODY, NoReply, Reply};
+use pid_http_stream::{HttpReply, LONGEST_BODY, NoReply};
 use pid_ident::{Account, Input, Key};
 use pid_moderation::{Refusal, Reply as Outcome};
 use pid_reader::skip_input;
@@ -22,7 +22,7 @@ fn reply_with(
     alloc: Global,
     format: Format,
     outcome: Result<Outcome, Refusal>,
-) -> Result<Reply, NoReply>
+) -> Result<HttpReply, NoReply>
     ensures { MakesReply result (outcome_answer format outcome) }
 {
     match outcome_reply(alloc, format, outcome) {
@@ -37,7 +37,7 @@ fn refuse<B: Input>(
     format: Format,
     refusal: Refusal,
     body: &mut B,
-) -> Result<Reply, NoReply>
+) -> Result<HttpReply, NoReply>
     ensures goes { B.goes body.old body.new }
     ensures whole { IfOk result (λ _. IsAtEnd (B.to_come body.new)) }
     ensures ended { B.to_come body.old ≡ Some [] → B.to_come body.new ≡ Some [] }
@@ -57,7 +57,7 @@ fn take_in<R: Consulted, B: Input>(
     account: Account,
     key: Option<Key>,
     body: &mut B,
-) -> Result<Reply, NoReply>
+) -> Result<HttpReply, NoReply>
     ensures goes { B.goes body.old body.new }
     ensures whole { IfOk result (λ _. IsAtEnd (B.to_come body.new)) }
     ensures replied { RepliesToFile R.Moderated registry.old registry.new
@@ -96,7 +96,7 @@ pub(crate) fn import<R: Consulted, B: Input>(
     format: Format,
     sender: Option<Sender<'_>>,
     body: &mut B,
-) -> Result<Reply, NoReply>
+) -> Result<HttpReply, NoReply>
     ensures goes { B.goes body.old body.new }
     ensures whole { IfOk result (λ _. IsAtEnd (B.to_come body.new)) }
     ensures replied { RepliesToFile R.Moderated registry.old registry.new

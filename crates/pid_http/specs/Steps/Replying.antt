@@ -14,7 +14,7 @@ use Rattle.pid_moderation.specs.declared.refusal.Refusal.TheVariants as refusals
 use Rattle.pid_service_laws.specs.Outcomes.{IsMemoryOrStore}
 use Rattle.pid_http_stream.specs.declared.limits.TheConstants.{LONGEST_BODY}
 use Rattle.pid_http_stream.specs.Replies.{Answer, answer_with}
-use Rattle.pid_http_stream.specs.declared.handler.Reply.{Reply}
+use Rattle.pid_http_stream.specs.declared.handler.HttpReply.{HttpReply}
 use Rattle.pid_http_stream.specs.declared.handler.ReplyBody.{ReplyBody}
 use Rattle.pid_http_stream.specs.declared.handler.ReplyBody.TheVariants.{Bytes, Written}
 use Rattle.pid_http_stream.specs.declared.reply_head.ReplyHead.{ReplyHead}
@@ -49,14 +49,14 @@ IsBodyMet k errand head (Bytes body) calls now = IsErrandMet k errand
 IsBodyMet k errand head (Written told) calls now = IsPromised k errand head told calls now
 
 -- the reply is an answer; or memory ran out for it, and what it is a reply to was done
-abbrev pub IsMetBy : {E : Type 0} → Known → Errand → Result Reply E → List Call → Known → Type 0
+abbrev pub IsMetBy : {E : Type 0} → Known → Errand → Result HttpReply E → List Call → Known → Type 0
 IsMetBy k errand result calls now = MatchResult result
     (λ reply. IsBodyMet k errand reply.head reply.body calls now)
     (λ _. (given : Answer) × IsErrandMet k errand given calls now)
 
 -- The same if the body is read as it comes: it may have been given up, and memory ran out only
 -- with the body at its end.
-abbrev pub IsMetAfter : {E : Type 0} → Known → Errand → Result Reply E → Option (List ℕ)
+abbrev pub IsMetAfter : {E : Type 0} → Known → Errand → Result HttpReply E → Option (List ℕ)
     → List Call → Known → Type 0
 IsMetAfter k errand result left calls now =
     MatchResult result
@@ -66,13 +66,13 @@ IsMetAfter k errand result left calls now =
 
 -- what comes of it
 abbrev pub Replies : {R E : Type 0} → (registry : Ghosts R) → R → R
-    → Errand → Result Reply E → Type 0
+    → Errand → Result HttpReply E → Type 0
 Replies registry old new errand result = Goes registry old new
     (λ k calls now. IsMetBy k errand result calls now)
 
 -- what comes of it if the body is a file that is read as it comes, known and not too long
 abbrev pub RepliesToFile : {R E : Type 0} → (registry : Ghosts R) → R
-    → R → Option (List ℕ) → Option (List ℕ) → (List ℕ → Errand) → Result Reply E
+    → R → Option (List ℕ) → Option (List ℕ) → (List ℕ → Errand) → Result HttpReply E
     → Type 0
 RepliesToFile registry old new to_come left errand result = Goes registry old new
     (λ k calls now. (file : List ℕ) → to_come ≡ Some file → length file ≤ LONGEST_BODY

@@ -8,7 +8,7 @@ use crate::api::Format;
 use crate::api::outcome::{refusal_reply, refused_reply};
 use crate::api::reply::reply_with;
 use http::StatusCode;
-use pid_http_stream::{Content, Reply};
+use pid_http_stream::{Content, HttpReply};
 use pid_moderation::Refusal;
 use std::alloc::{AllocError, Global};
 
@@ -63,7 +63,7 @@ impl From<AllocError> for Unasked {
 }
 
 // The reply with the methods that are allowed, which has no body.
-fn allow_reply(alloc: Global, content: Content) -> Reply
+fn allow_reply(alloc: Global, content: Content) -> HttpReply
     ensures { IsReplyOf result (answer_with 405 content []) }
 {
     reply_with(StatusCode::METHOD_NOT_ALLOWED, content, Vec::new(alloc))
@@ -71,7 +71,7 @@ fn allow_reply(alloc: Global, content: Content) -> Reply
 
 /// The reply to a request that comes to no call. One of another method gets the list of those that
 /// are allowed, with no body; any other has a refusal, which is JSON but for a bad value.
-pub fn early_reply(alloc: Global, early: Early) -> Result<Reply, AllocError>
+pub fn early_reply(alloc: Global, early: Early) -> Result<HttpReply, AllocError>
     ensures { MakesReply result (early_answer early) }
 {
     match early {
