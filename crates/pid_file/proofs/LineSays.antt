@@ -15,7 +15,7 @@ use Rattle.pid_file.specs.declared.line.Mark.{Mark}
 use Rattle.pid_file.specs.declared.line.Mark.TheVariants as marks
 use Rattle.pid_file.specs.declared.entry_line.Place.{Place}
 use Rattle.pid_file.specs.declared.entry_line.Place.TheVariants.{Vendor, Device, Subsystem, Class, Subclass, ProgIf, Generic}
-use Rattle.pid_file.specs.declared.entry_line.Named.{Named}
+use Rattle.pid_file.specs.declared.entry_line.NamedPath.{NamedPath}
 use Rattle.pid_file.specs.declared.open_levels.OpenLevels.{OpenLevels}
 use Rattle.pid_file.specs.declared.open_levels.OpenLevels.TheVariants as opens
 use Rattle.pid_file.specs.declared.open_levels.LineContent.TheVariants as said
@@ -170,7 +170,7 @@ place_open (ProgIf c s) (paths.ProgIf b r t) earlier line active p h = (subst (�
 place_open _ _ earlier line active p h = absurd h
 
 -- an entry
-pub entry_says : (open_is : OpenLevels) (place : Place) (earlier : List (List ℕ)) (line : List ℕ) (n : Named) → is_utf8 line ≡ true → is_idle line ≡ false → IsPlace place earlier line → IsPathAt place n.path (digits_in (widths_of place) (inside line)) → n.name.now ≡ name_in (widths_of place) (inside line) → columns_fault (widths_of place) (inside line) ≡ None → Says open_is earlier line (said.Entry n)
+pub entry_says : (open_is : OpenLevels) (place : Place) (earlier : List (List ℕ)) (line : List ℕ) (n : NamedPath) → is_utf8 line ≡ true → is_idle line ≡ false → IsPlace place earlier line → IsPathAt place n.path (digits_in (widths_of place) (inside line)) → n.name.now ≡ name_in (widths_of place) (inside line) → columns_fault (widths_of place) (inside line) ≡ None → Says open_is earlier line (said.Entry n)
 entry_says open_is place earlier line n text active p path name good =
     let s = stands place earlier line active p in
     record {
@@ -294,7 +294,7 @@ inside_nested (b ∷ c ∷ rest) h =
     ] refl h
 
 -- the same, of bytes that are found to stand inside the line
-pub entry_read : (open_is : OpenLevels) (place : Place) (earlier : List (List ℕ)) (line bytes : List ℕ) (n : Named) → is_utf8 line ≡ true → is_idle line ≡ false → IsPlace place earlier line → bytes ≡ inside line → IsPathAt place n.path (digits_in (widths_of place) bytes) → n.name.now ≡ name_in (widths_of place) bytes → columns_fault (widths_of place) bytes ≡ None → Says open_is earlier line (said.Entry n)
+pub entry_read : (open_is : OpenLevels) (place : Place) (earlier : List (List ℕ)) (line bytes : List ℕ) (n : NamedPath) → is_utf8 line ≡ true → is_idle line ≡ false → IsPlace place earlier line → bytes ≡ inside line → IsPathAt place n.path (digits_in (widths_of place) bytes) → n.name.now ≡ name_in (widths_of place) bytes → columns_fault (widths_of place) bytes ≡ None → Says open_is earlier line (said.Entry n)
 entry_read open_is place earlier line bytes n text active p is path name good =
     entry_says open_is place earlier line n text active p (subst (λ (l : List ℕ). IsPathAt place n.path (digits_in (widths_of place) l)) is path) (name ∙ ap (λ (l : List ℕ). name_in (widths_of place) l) is) (ap (λ (l : List ℕ). columns_fault (widths_of place) l) (sym is) ∙ good)
 

@@ -48,7 +48,7 @@ pub enum Place {
 
 /// What an entry's line says.
 #[derive(Clone, Copy)]
-pub struct Named<'a> {
+pub struct NamedPath<'a> {
     pub path: Path,
     pub name: &'a str,
 }
@@ -211,7 +211,7 @@ fn path_of(place: Place, first: Id16, second: Id16) -> Path
 }
 
 /// What the columns of an entry's line say.
-pub fn read_columns(place: Place, bytes: &[u8]) -> Result<Named<'_>, LineKind>
+pub fn read_columns(place: Place, bytes: &[u8]) -> Result<NamedPath<'_>, LineKind>
     ensures path { IfOk result (λ said. IsPathAt place said.path
         (digits_in (widths_of place) bytes.now)) }
     ensures name { IfOk result (λ said. said.name.now ≡ name_in (widths_of place) bytes.now) }
@@ -224,5 +224,5 @@ pub fn read_columns(place: Place, bytes: &[u8]) -> Result<Named<'_>, LineKind>
     };
     let name = name_at(behind)?;
     let path = path_of(place, first, second);
-    Ok(Named { path, name })
+    Ok(NamedPath { path, name })
 }

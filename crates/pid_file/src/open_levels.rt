@@ -15,7 +15,7 @@ ghost use Rattle.pid_file.specs.Steps.OpenLevels.{
   open_after as levels_after,
 };
 
-use crate::entry_line::{Named, Place, read_columns, vendor_of_block};
+use crate::entry_line::{NamedPath, Place, read_columns, vendor_of_block};
 use crate::fault_kind::LineKind;
 use crate::identifier::{Id8, Id16};
 use crate::line::{Mark, is_idle, is_utf8, split_depth, split_mark};
@@ -44,7 +44,7 @@ pub enum LineContent<'a> {
     Unknown,
     /// A block of generic subsystems begins.
     Block { vendor: Id16 },
-    Entry(Named<'a>),
+    Entry(NamedPath<'a>),
 }
 
 // What a line of depth 1 names, if it is not skipped.

@@ -5,7 +5,7 @@ use Rattle.pid_reader.specs.declared.line_fault.LineFault.{LineFault}
 use Rattle.pid_reader.specs.declared.lines.Lines.{Lines}
 use Rattle.pid_file.specs.declared.open_levels.LineContent.{LineContent}
 use Rattle.pid_file.specs.declared.open_levels.LineContent.TheVariants as said
-use Rattle.pid_file.specs.declared.entry_line.Named.{Named}
+use Rattle.pid_file.specs.declared.entry_line.NamedPath.{NamedPath}
 use Rattle.pid_file.specs.Lines.{lines_of, pieces_of, drop_cr}
 use Rattle.pid_file.specs.LookingBack.{Item}
 use Rattle.pid_file.specs.Numbered.{Numbered, at_line, numbered_at}
@@ -61,7 +61,7 @@ left_none l items left none =
     record { none = left.are ∙ same; left = record { earlier = left.earlier; stands = left.stands; are = sym same } }
 
 -- what is no entry says none
-pub no_items : (s : LineContent) → ((n : Named) → s ≡ said.Entry n → ⊥) → items_of s ≡ []
+pub no_items : (s : LineContent) → ((n : NamedPath) → s ≡ said.Entry n → ⊥) → items_of s ≡ []
 no_items said.Nothing h = refl
 no_items said.Unknown h = refl
 no_items (said.Block v) h = refl

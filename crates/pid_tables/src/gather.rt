@@ -23,7 +23,7 @@ use crate::rows::remark::remark_count;
 use crate::rows::submission::standing;
 use crate::tables::Tables;
 use pid_ident::{Account, Key, Name, Path, PathText};
-use pid_moderation::{Facts, Named, Rank, Reply, Rows};
+use pid_moderation::{Facts, NamedSubmission, Rank, Reply, Rows};
 use sqlite::Alter;
 use std::alloc::Global;
 
@@ -40,7 +40,7 @@ fn plain_facts(
     known: KnownFacts,
     who: Option<Rank>,
     submissions: u32,
-    named: Option<Named>,
+    named: Option<NamedSubmission>,
 ) -> Facts
     ensures { result ≡ record (bare known) { who = who; submissions = submissions; named = named } }
 {
@@ -97,13 +97,17 @@ impl<S: Alter + Drop> Tables<S> {
         })
     }
 
-    fn submission_facts(&mut self, alloc: Global, number: u32) -> Result<Option<Named>, TableFault>
+    fn submission_facts(
+        &mut self,
+        alloc: Global,
+        number: u32,
+    ) -> Result<Option<NamedSubmission>, TableFault>
         requires { self.old.conn.in_transaction ≡ false }
         ensures { Reads S.Store self.old.conn self.new.conn result (λ v named. named ≡ named_in v number) }
     {
         match standing(&mut self.conn, alloc, number) {
             Ok(None) => Ok(None),
-            Ok(Some(found)) => Ok(Some(Named {
+            Ok(Some(found)) => Ok(Some(NamedSubmission {
                 author: found.author,
                 path: found.path,
                 proposal: found.proposal,

@@ -1,7 +1,7 @@
 use Rattle.std.proofs.Common.{None, false}
 use Rattle.pid_tables.proofs.OfRows.OnlyReading.{reads_then}
 use Rattle.pid_tables.proofs.ThenReads.{fault_after, fault_first, value_after}
-use Rattle.pid_tables.proofs.tables.Tables.known.Goals as goal
+use Rattle.pid_tables.proofs.tables.Tables.known_facts.Goals as goal
 
 pub returns-in_err-revision : goal.returns-in_err-revision
 returns-in_err-revision g c =
