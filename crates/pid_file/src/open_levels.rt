@@ -15,7 +15,7 @@ ghost use Rattle.pid_file.specs.Steps.OpenLevels.{
   open_after as levels_after,
 };
 
-use crate::entry_line::{NamedPath, Place, read_columns, vendor_of_block};
+use crate::entry_line::{NamedPath, EntryKind, read_columns, vendor_of_block};
 use crate::fault_kind::LineKind;
 use crate::identifier::{Id8, Id16};
 use crate::line::{Mark, is_idle, is_utf8, split_depth, split_mark};
@@ -48,24 +48,24 @@ pub enum LineContent<'a> {
 }
 
 // What a line of depth 1 names, if it is not skipped.
-fn first_below(levels: OpenLevels) -> Result<Option<Place>, LineKind>
+fn first_below(levels: OpenLevels) -> Result<Option<EntryKind>, LineKind>
     ensures { result ≡ below_at_one levels }
 {
     match levels {
         OpenLevels::Nothing => Err(LineKind::NoParent),
         OpenLevels::Unknown => Ok(None),
         OpenLevels::Vendor { vendor } | OpenLevels::Device { vendor, .. } => {
-            Ok(Some(Place::Device { vendor }))
+            Ok(Some(EntryKind::Device { vendor }))
         }
         OpenLevels::Class { class } | OpenLevels::Subclass { class, .. } => {
-            Ok(Some(Place::Subclass { class }))
+            Ok(Some(EntryKind::Subclass { class }))
         }
-        OpenLevels::Generics { vendor } => Ok(Some(Place::Generic { vendor })),
+        OpenLevels::Generics { vendor } => Ok(Some(EntryKind::Generic { vendor })),
     }
 }
 
 // What a line of depth 2 names, if it is not skipped.
-fn second_below(levels: OpenLevels) -> Result<Option<Place>, LineKind>
+fn second_below(levels: OpenLevels) -> Result<Option<EntryKind>, LineKind>
     ensures { result ≡ below_at_two levels }
 {
     match levels {
@@ -73,14 +73,14 @@ fn second_below(levels: OpenLevels) -> Result<Option<Place>, LineKind>
         OpenLevels::Nothing | OpenLevels::Vendor { .. } | OpenLevels::Class { .. } => {
             Err(LineKind::NoParent)
         }
-        OpenLevels::Device { vendor, device } => Ok(Some(Place::Subsystem { vendor, device })),
-        OpenLevels::Subclass { class, subclass } => Ok(Some(Place::ProgIf { class, subclass })),
+        OpenLevels::Device { vendor, device } => Ok(Some(EntryKind::Subsystem { vendor, device })),
+        OpenLevels::Subclass { class, subclass } => Ok(Some(EntryKind::ProgIf { class, subclass })),
         OpenLevels::Generics { .. } => Err(LineKind::TooDeep),
     }
 }
 
 // What a line of this depth, which is not 0, names, if it is not skipped.
-fn place_below(levels: OpenLevels, depth: usize) -> Result<Option<Place>, LineKind>
+fn place_below(levels: OpenLevels, depth: usize) -> Result<Option<EntryKind>, LineKind>
     ensures { result ≡ below_at levels depth }
 {
     if depth == 1 {
@@ -133,11 +133,11 @@ fn read_head(line: &[u8]) -> Result<LineContent<'_>, LineKind>
     let (mark, behind) = split_mark(line);
     match mark {
         Mark::Devices => {
-            let vendor = read_columns(Place::Vendor, behind)?;
+            let vendor = read_columns(EntryKind::Vendor, behind)?;
             Ok(LineContent::Entry(vendor))
         }
         Mark::Classes => {
-            let class = read_columns(Place::Class, behind)?;
+            let class = read_columns(EntryKind::Class, behind)?;
             Ok(LineContent::Entry(class))
         }
         Mark::Generics => match vendor_of_block(behind) {

@@ -22,7 +22,7 @@ use Rattle.pid_service.specs.Steps.TextSinks.{HasLines}
 use Rattle.pid_service.specs.declared.items_text.GrowingText.{GrowingText}
 use Rattle.pid_service.specs.declared.kept_text.Extent.{Extent}
 use Rattle.pid_service.specs.declared.kept_text.KeptText.{KeptText}
-use Rattle.pid_service.specs.declared.renewing.Place.{Place}
+use Rattle.pid_service.specs.declared.renewing.TextPlace.{TextPlace}
 
 -- the path after which what is behind comes, before the edit
 last_was : (there : Bool) (path : Path) (before : Option Path) → text_or_none (if there then Some path else before) ≡ (if there then path_text path else text_or_none before)
@@ -50,7 +50,7 @@ lines_given text before write name shown is same has =
     ] in
     subst (λ (l : Items). HasLines text (text_behind before l) (extents_after before l)) (sym items) has
 
-module _ (old new : KeptText) (place : Place) (write : Write) (lines : GrowingText) (items : Items) (sorted : is_sorted text_cmp items ≡ true) (kept : IsKeptText old items) (at : IsPlace place (map extent_in old.extents.items) (path_text write.path))
+module _ (old new : KeptText) (place : TextPlace) (write : Write) (lines : GrowingText) (items : Items) (sorted : is_sorted text_cmp items ≡ true) (kept : IsKeptText old items) (at : IsPlace place (map extent_in old.extents.items) (path_text write.path))
     (has : HasLines lines (text_behind (text_or_none place.before) (new_items write)) (extents_after (text_or_none place.before) (new_items write))) (puts : PutsLines old new place write.path lines) where
   abbrev key : List ℕ
   key = path_text write.path

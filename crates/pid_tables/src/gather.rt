@@ -62,7 +62,7 @@ fn plain_facts(
 
 // What the item at the path of a submission is, and how many items there are.
 #[derive(Drop)]
-struct Place {
+struct ItemPlace {
     items: u32,
     present: Option<Name>,
     has_parent: bool,
@@ -141,7 +141,7 @@ impl<S: Alter + Drop> Tables<S> {
         }
     }
 
-    fn place_at(&mut self, alloc: Global, path: Path) -> Result<Place, TableFault>
+    fn place_at(&mut self, alloc: Global, path: Path) -> Result<ItemPlace, TableFault>
         requires { self.old.conn.in_transaction ≡ false }
         ensures { Reads S.Store self.old.conn self.new.conn result
             (λ v place. AllItems v.items → HoldsParents v.items
@@ -156,7 +156,7 @@ impl<S: Alter + Drop> Tables<S> {
         let has_parent = self.has_parent(alloc, path)?;
         let has_children = has_children(&mut self.conn, alloc, path)?;
         match self.item(alloc, &path) {
-            Ok(present) => Ok(Place {
+            Ok(present) => Ok(ItemPlace {
                 items,
                 present,
                 has_parent,
