@@ -15,7 +15,7 @@ ghost use Rattle.pid_file.specs.Steps.OpenLevels.{
   open_after as levels_after,
 };
 
-use crate::entry_line::{NamedPath, EntryKind, read_columns, vendor_of_block};
+use crate::entry_line::{EntryKind, NamedPath, read_columns, vendor_of_block};
 use crate::fault_kind::LineKind;
 use crate::identifier::{Id8, Id16};
 use crate::line::{Mark, is_idle, is_utf8, split_depth, split_mark};

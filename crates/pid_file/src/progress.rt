@@ -34,7 +34,7 @@ const ENTRIES: usize = 100_000;
 
 /// What is kept of the lines that were read.
 #[derive(Drop)]
-pub struct Progress {
+pub struct LinesRead {
     /// What the next nested line can belong to.
     pub levels: OpenLevels,
     /// How many lines were read.
@@ -45,12 +45,12 @@ pub struct Progress {
     pub seen: SeenPaths,
 }
 
-impl Progress {
+impl LinesRead {
     /// What is kept before the first line.
-    pub fn new(alloc: Global) -> Progress
+    pub fn new(alloc: Global) -> LinesRead
         ensures { Shows result [] }
     {
-        Progress {
+        LinesRead {
             levels: OpenLevels::Nothing,
             lines: 0,
             entries: 0,

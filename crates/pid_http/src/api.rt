@@ -33,7 +33,7 @@ mod submissions;
 mod text;
 
 pub use command::command_in;
-pub use early::{Early, Unasked, early_reply};
+pub use early::{RefusedEarly, Unasked, early_reply};
 pub use format::Format;
 pub use items::item_reply;
 pub(crate) use list::list_reply;

@@ -10,7 +10,7 @@ ghost use Rattle.pid_http.specs.Api.Questions.{account_said, author_said, num_sa
 ghost use Rattle.pid_http.specs.Api.Questions.{path_said, revision_said};
 ghost use Rattle.pid_http.specs.Api.Steps.Making.{MakesSaid};
 
-use crate::api::early::{Early, Unasked};
+use crate::api::early::{RefusedEarly, Unasked};
 use crate::api::format::Format;
 use pid_form::{is_twice, number_up_to, value};
 use pid_ident::{Account, Path, PathText, WordFault};
@@ -18,7 +18,7 @@ use pid_moderation::{REVISIONS, Refusal, submission_number};
 use std::alloc::Global;
 
 // The format that a value says: JSON if none is said.
-fn format_named(value: Option<&str>) -> Result<Format, Early>
+fn format_named(value: Option<&str>) -> Result<Format, RefusedEarly>
     ensures { result ≡ format_said (option_copied value.entry) }
 {
     match value {
@@ -29,7 +29,7 @@ fn format_named(value: Option<&str>) -> Result<Format, Early>
             } else if text == "text" {
                 Ok(Format::Text)
             } else {
-                Err(Early::BadQuery)
+                Err(RefusedEarly::BadQuery)
             }
         }
     }
@@ -69,13 +69,13 @@ fn are_of(fields: &[(String, String)], names: &[&str]) -> bool
 }
 
 // The format that fields say, which may have these names alone.
-pub(crate) fn format_of(fields: &[(String, String)], names: &[&str]) -> Result<Format, Early>
+pub(crate) fn format_of(fields: &[(String, String)], names: &[&str]) -> Result<Format, RefusedEarly>
     ensures { result ≡ format_in (map (λ name. name.now) names.now) (texts_of fields.now) }
 {
     if are_of(fields, names) {
         format_named(value(fields, "format"))
     } else {
-        Err(Early::BadQuery)
+        Err(RefusedEarly::BadQuery)
     }
 }
 
@@ -85,7 +85,7 @@ pub(crate) fn account_named(alloc: Global, text: &str) -> Result<Account, Unaske
 {
     match Account::of(alloc, text) {
         Ok(account) => Ok(account),
-        Err(WordFault::Bad) => Err(Unasked::Early(Early::BadQuery)),
+        Err(WordFault::Bad) => Err(Unasked::Early(RefusedEarly::BadQuery)),
         Err(WordFault::Memory) => Err(Unasked::Memory),
     }
 }
@@ -101,14 +101,14 @@ pub(crate) fn author_named(alloc: Global, value: Option<&str>) -> Result<Option<
 }
 
 // The submission that a text names.
-pub(crate) fn submission_named(text: &str) -> Result<u32, Early>
+pub(crate) fn submission_named(text: &str) -> Result<u32, RefusedEarly>
     ensures { result ≡ num_said text.now }
 {
-    submission_number(text).ok_or(Early::BadQuery)
+    submission_number(text).ok_or(RefusedEarly::BadQuery)
 }
 
 // The number after which, or below which, a page begins: 0 if none is said.
-pub(crate) fn number_named(value: Option<&str>) -> Result<u32, Early>
+pub(crate) fn number_named(value: Option<&str>) -> Result<u32, RefusedEarly>
     ensures { result ≡ after_said (option_copied value.entry) }
 {
     match value {
@@ -117,14 +117,14 @@ pub(crate) fn number_named(value: Option<&str>) -> Result<u32, Early>
             if text == "0" {
                 Ok(0)
             } else {
-                submission_number(text).ok_or(Early::BadQuery)
+                submission_number(text).ok_or(RefusedEarly::BadQuery)
             }
         }
     }
 }
 
 // The number above which changes are asked for: 0 if none is said.
-pub(crate) fn revision_named(value: Option<&str>) -> Result<u64, Early>
+pub(crate) fn revision_named(value: Option<&str>) -> Result<u64, RefusedEarly>
     ensures { result ≡ revision_said (option_copied value.entry) }
 {
     match value {
@@ -133,14 +133,14 @@ pub(crate) fn revision_named(value: Option<&str>) -> Result<u64, Early>
             if text == "0" {
                 Ok(0)
             } else {
-                number_up_to(text, REVISIONS, 19).ok_or(Early::BadQuery)
+                number_up_to(text, REVISIONS, 19).ok_or(RefusedEarly::BadQuery)
             }
         }
     }
 }
 
 // The path that a text names, if it names one; none if it is empty.
-pub(crate) fn path_named(text: &str, format: Format) -> Result<Option<Path>, Early>
+pub(crate) fn path_named(text: &str, format: Format) -> Result<Option<Path>, RefusedEarly>
     ensures { result ≡ path_said format text.now }
 {
     if text.is_empty() {
@@ -148,6 +148,6 @@ pub(crate) fn path_named(text: &str, format: Format) -> Result<Option<Path>, Ear
     }
     match Path::parse(text) {
         Some(path) => Ok(Some(path)),
-        None => Err(Early::BadValue(Refusal::BadPath, format)),
+        None => Err(RefusedEarly::BadValue(Refusal::BadPath, format)),
     }
 }

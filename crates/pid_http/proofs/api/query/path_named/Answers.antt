@@ -2,7 +2,7 @@ use Rattle.std.proofs.Common.{refl, sym, ap, ◌∙◌, Some}
 use Rattle.std.specs.Prelude.{ok_or}
 use Rattle.pid_moderation.specs.declared.refusal.Refusal.TheVariants.{BadPath}
 use Rattle.pid_http.specs.Api.Questions.{on_said}
-use Rattle.pid_http.specs.declared.api.early.Early.TheVariants.{BadValue}
+use Rattle.pid_http.specs.declared.api.early.RefusedEarly.TheVariants.{BadValue}
 use Rattle.pid_http.proofs.OfApi.Paths.{said_so}
 use Rattle.pid_http.proofs.api.query.path_named.Goals as goal
 

@@ -4,7 +4,7 @@ use Rattle.pid_file.specs.LookingBack.{entry_of, is_block}
 use Rattle.pid_file.specs.Steps.OpenLevels.{open_after}
 use Rattle.pid_file.specs.SeenPaths.{has_seen}
 use Rattle.pid_file.proofs.OneMoreLine.{block_refused, block_good, quiet_good, quiet_taken, kept_by, duplicate_refused, many_refused, item_taken, not_true, not_false}
-use Rattle.pid_file.proofs.progress.Progress.admit.Goals as goal
+use Rattle.pid_file.proofs.progress.LinesRead.admit.Goals as goal
 
 pub returns-then-not-has_vendor-clause-refused : goal.returns-then-not-has_vendor-clause-refused
 returns-then-not-has_vendor-clause-refused c earlier line shown at says =
