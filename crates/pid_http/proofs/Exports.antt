@@ -79,5 +79,5 @@ written registry alive old new Took lives nothing clean shown body off_body = re
         let x = over good t.known is.is_known in (
           record { start = t.start; calls = t.calls ++ lives.calls; known = x.0 },
           record { is_known = x.1; lead = calls_join registry.showing t.start old new t.calls lives.calls is.lead lives.lead },
-          (x.2.0, record { same_life = refl; more = lives.calls; joined = refl; holds = (nothing, x.2.1) }, x.2.2),
+          (x.2.0, record { same_session = refl; more = lives.calls; joined = refl; holds = (nothing, x.2.1) }, x.2.2),
         )

@@ -43,7 +43,7 @@ module _ {R : Type 0} (registry : Ghosts R) where
 
   -- what holds of the calls, said otherwise
   pub by_calls : (t u : Told registry) (P Q : List Call → Type 0) → ((calls : List Call) → P calls → Q calls) → ByCalls registry t u P → ByCalls registry t u Q
-  by_calls t u P Q f b = record { same_life = b.same_life; more = b.more; joined = b.joined; holds = f b.more b.holds }
+  by_calls t u P Q f b = record { same_session = b.same_session; more = b.more; joined = b.joined; holds = f b.more b.holds }
 
   -- a reply was made
   pub asked_ok : (t u : Told registry) (request : Request) (errand : Errand) (reply : HttpReply) → errand ≡ errand_of request → ByCalls registry t u (λ calls. IsBodyMet t.known errand reply.head reply.body calls u.known) → MayReply (serving registry) t request reply u
@@ -61,5 +61,5 @@ module _ {R : Type 0} (registry : Ghosts R) where
   asked_after {E} t u request errand (Err e) left same most m = by_case m.holds
     where
       by_case : (AreQuestions (most_questions errand) m.more × (t.known ≡ u.known)) ⊎ (IsAtEnd left × ((given : Answer) × IsErrandMet t.known errand given m.more u.known)) → IsHandled {E = E} (serving registry) t request (Err e) left u
-      by_case (inl still) = inl (inr (record { same_life = m.same_life; more = m.more; joined = m.joined; holds = (subst (λ n. AreQuestions n m.more) most still.0, still.1) }))
-      by_case (inr (end, (given, met))) = inr (end, record { same_life = m.same_life; more = m.more; joined = m.joined; holds = (given, subst (λ c. IsErrandMet t.known c given m.more u.known) same met) })
+      by_case (inl still) = inl (inr (record { same_session = m.same_session; more = m.more; joined = m.joined; holds = (subst (λ n. AreQuestions n m.more) most still.0, still.1) }))
+      by_case (inr (end, (given, met))) = inr (end, record { same_session = m.same_session; more = m.more; joined = m.joined; holds = (given, subst (λ c. IsErrandMet t.known c given m.more u.known) same met) })

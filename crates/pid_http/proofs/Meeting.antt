@@ -356,6 +356,6 @@ module _ {R : Type 0} (registry : Ghosts R) where
         let x = g.served.leads good t.known is.is_known in (
           record { start = t.start; calls = t.calls ++ g.lives.calls; known = x.0 },
           record { is_known = x.1; lead = calls_join registry.showing t.start old new t.calls g.lives.calls is.lead g.lives.lead },
-          record { same_life = refl; more = g.lives.calls; joined = refl; holds = x.2 },
+          record { same_session = refl; more = g.lives.calls; joined = refl; holds = x.2 },
         );
   }

@@ -3,7 +3,7 @@ use Rattle.std.proofs.Common.{◌≡◌, ℕ, true, false, Bool, cond, List, [],
 use Rattle.std.proofs.lemmas.List.{append-nil}
 use Rattle.pid_service_laws.specs.declared.moderated.Moderated.{Ghosts}
 use Rattle.pid_service_laws.specs.Calls.{AreNothing, Call, StopsAt, obeyed, sent_in}
-use Rattle.pid_service_laws.specs.Lives.{Sent, after_sent, commands_in}
+use Rattle.pid_service_laws.specs.Sessions.{Sent, after_sent, commands_in}
 use Rattle.pid_service_laws.specs.Outcomes.{is_outcome}
 use Rattle.pid_moderation.specs.History.{Asked, History}
 use Rattle.pid_moderation.specs.Judgement.{after, after_all, answer, judge}
@@ -128,14 +128,14 @@ failed_nothing errand given calls (Short short none) = subst AreNothing (sym non
 module _ {R : Type 0} (registry : Ghosts R) where
   pub by_join : (t mid u : Told registry) (P Q R : List Call → Type 0) → ((xs ys : List Call) → P xs → Q ys → R (xs ++ ys)) → ByCalls registry t mid P → ByCalls registry mid u Q → ByCalls registry t u R
   by_join t mid u P Q R f p q = record {
-    same_life = q.same_life ∙ p.same_life;
+    same_session = q.same_session ∙ p.same_session;
     more = p.more ++ q.more;
     joined = q.joined ∙ ap (λ (l : List Call). l ++ q.more) p.joined ∙ append_assoc t.calls p.more q.more;
     holds = f p.more q.more p.holds q.holds;
   }
 
   pub by_none : (t u : Told registry) (P : Told registry → List Call → Type 0) → t ≡ u → P t [] → ByCalls registry t u (P u)
-  by_none t u P same holds = subst (λ v. ByCalls registry t v (P v)) same (record { same_life = refl; more = []; joined = sym (append-nil t.calls); holds = holds })
+  by_none t u P same holds = subst (λ v. ByCalls registry t v (P v)) same (record { same_session = refl; more = []; joined = sym (append-nil t.calls); holds = holds })
 
   send_on : (h h' : History) (cs ds : List Asked) (xs ys : List Call) (k : Known) → AreSomeOf (commands_in (sent_in xs)) cs → h' ≡ after_sent h (sent_in xs) → SendsSome h' ds ys k → SendsSome h (cs ++ ds) (xs ++ ys) k
   send_on h h' cs ds xs ys k some at (inl (more, is)) =
@@ -160,7 +160,7 @@ module _ {R : Type 0} (registry : Ghosts R) where
   then_send t mid u h cs ds first live failed = by_case first.holds
     where
       at : (P : List Call → Type 0) → P first.more → ByCalls registry t mid P
-      at P p = record { same_life = first.same_life; more = first.more; joined = first.joined; holds = p }
+      at P p = record { same_session = first.same_session; more = first.more; joined = first.joined; holds = p }
 
       by_case : SendsSome h cs first.more mid.known → ByCalls registry t u (λ calls. SendsSome h (cs ++ ds) calls u.known)
       by_case (inl (some, is)) =
@@ -175,7 +175,7 @@ module _ {R : Type 0} (registry : Ghosts R) where
   pub met_by : AreOutcomes → (t u : Told registry) (h : History) (errand : Errand) (given : Answer) → t.known ≡ Live h → ByCalls registry t u (λ calls. IsErrandMet t.known errand given calls u.known)
       → ByCalls registry t u (λ calls. SendsSome h (if_any (command_sent errand)) calls u.known)
   met_by outcomes t u h errand given live b = record {
-    same_life = b.same_life;
+    same_session = b.same_session;
     more = b.more;
     joined = b.joined;
     holds = met_sends outcomes h errand given b.more u.known (subst (λ k. IsErrandMet k errand given b.more u.known) live b.holds);
@@ -184,7 +184,7 @@ module _ {R : Type 0} (registry : Ghosts R) where
   pub failed_by : (t u : Told registry) (x y : History) (errand : Errand) (given : Answer) → t.known ≡ Between x y → ByCalls registry t u (λ calls. IsErrandMet t.known errand given calls u.known)
       → ByCalls registry t u (λ calls. AreNothing calls × (u.known ≡ Between x y))
   failed_by t u x y errand given is b = record {
-    same_life = b.same_life;
+    same_session = b.same_session;
     more = b.more;
     joined = b.joined;
     holds = let m : IsErrandMet (Between x y) errand given b.more u.known = subst (λ k. IsErrandMet k errand given b.more u.known) is b.holds in (failed_nothing errand given b.more m.0, m.1);

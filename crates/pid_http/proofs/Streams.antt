@@ -4,7 +4,7 @@ use Rattle.std.proofs.lemmas.List.{append-nil}
 use Rattle.std.specs.Io.KnownBytes.{Consumes}
 use Rattle.pid_service_laws.specs.declared.moderated.Moderated.{Ghosts}
 use Rattle.pid_service_laws.specs.Calls.{AreNothing, Call, sent_in}
-use Rattle.pid_service_laws.specs.Lives.{commands_in}
+use Rattle.pid_service_laws.specs.Sessions.{commands_in}
 use Rattle.pid_moderation.specs.History.{Asked, History}
 use Rattle.pid_http_stream.specs.Conducts.{StandsOver}
 use Rattle.pid_http_stream.specs.Laws.{RequestsStay}
@@ -67,7 +67,7 @@ module _ {R : Type 0} (registry : Ghosts R) where
 
   still : (t : Told registry) (came : List ℕ) (u : Told registry) → StandsOver (serving registry) t came u → ByCalls registry t u (λ calls. AreNothing calls × (t.known ≡ u.known))
   still t came u (inl same) = same_still t u same
-  still t came u (inr (head, behind, has, b)) = record { same_life = b.same_life; more = b.more; joined = b.joined; holds = (b.holds.0.0, b.holds.1) }
+  still t came u (inr (head, behind, has, b)) = record { same_session = b.same_session; more = b.more; joined = b.joined; holds = (b.holds.0.0, b.holds.1) }
 
   rests_still : (ending : Ending) (IsRest : List ℕ → Type 0) (t u : Told registry) → RestsAfter (serving registry) ending IsRest t u → ByCalls registry t u (λ calls. AreNothing calls × (t.known ≡ u.known))
   rests_still clean IsRest t u r = same_still t u r
@@ -138,7 +138,7 @@ module _ {R : Type 0} (registry : Ghosts R) where
       by_case (inr (request, behind, is, inl stands)) = stood stands
       by_case (inr (request, behind, is, inr b)) =
           front_then outcomes h o.handler s.mid o.handler_after read s.rest o.taken s.taken count request behind b.holds.0 live s.before is
-          (record { same_life = b.same_life; more = b.more; joined = b.joined; holds = b.holds.1 })
+          (record { same_session = b.same_session; more = b.more; joined = b.joined; holds = b.holds.1 })
 
   broken_sends : AreOutcomes → (h : History) (o : Outside (Told registry)) (stream : List ℕ) (count : ℕ) → o.handler.known ≡ Live h → AnswersThen (serving registry) o stream count (IsCutInReply (serving registry)) → SendsOf registry h o.handler o.handler_after stream
   broken_sends outcomes h o stream count live s = by_case s.next.1
@@ -147,7 +147,7 @@ module _ {R : Type 0} (registry : Ghosts R) where
       by_case (ReplyNext request behind given is step e) = front_then outcomes h o.handler s.mid o.handler_after stream s.rest o.taken s.taken count request behind given live s.before is step
       by_case (HeadNext request behind head told is b e) =
           front_quiet outcomes h o.handler s.mid o.handler_after stream s.rest o.taken s.taken count live s.before
-          (record { same_life = b.same_life; more = b.more; joined = b.joined; holds = promised_so s.mid.known (errand_of request) head told b.more o.handler_after.known b.holds })
+          (record { same_session = b.same_session; more = b.more; joined = b.joined; holds = promised_so s.mid.known (errand_of request) head told b.more o.handler_after.known b.holds })
       by_case (RefusalNext fault has e rests) =
           front_quiet outcomes h o.handler s.mid o.handler_after stream s.rest o.taken s.taken count live s.before (rests_still (faulty fault) _ s.mid o.handler_after rests)
 

@@ -2,7 +2,7 @@
 use Rattle.std.specs.Prelude.{◌≡◌, ◌⊎◌, ℕ, List, [], ◌∷◌, ◌++◌, Option, Some, None}
 use Rattle.pid_service_laws.specs.declared.moderated.Moderated.{Ghosts}
 use Rattle.pid_service_laws.specs.Calls.{Call, StopsAt, sent_in}
-use Rattle.pid_service_laws.specs.Lives.{after_sent, commands_in}
+use Rattle.pid_service_laws.specs.Sessions.{after_sent, commands_in}
 use Rattle.pid_moderation.specs.History.{Asked, History}
 use Rattle.pid_moderation.specs.Judgement.{after}
 use Rattle.pid_http_stream.specs.Requests.{Request, IsRequest}

@@ -1,4 +1,4 @@
--- From the end of a life to the next opening.
+-- From the end of a session to the next opening.
 use Rattle.std.proofs.Common.{◌≡◌, inl, inr, ℕ, List, [], Bool, true, false, Option, Some, None, Result, Ok, Err, option_map, refl, sym, subst, ◌∙◌, arith}
 use Rattle.sqlite.specs.Tree.{Trees}
 use Rattle.sqlite.specs.Held.{Held, state}
@@ -25,8 +25,8 @@ use Rattle.pid_tables.proofs.OpenLemmas.{LeavesCommitted, opened_bare, opened_re
 use Rattle.pid_service.specs.declared.registry.Registry.{Registry}
 use Rattle.pid_service.specs.Histories.{FailsBetween, IsReached, Shows}
 use Rattle.pid_service.specs.Histories.{showing}
-use Rattle.pid_service.specs.LifeLaws.{KeepsBetween}
-use Rattle.pid_service.specs.Lives.{FailedOpening, IsAfterSession, IsAfterStop, KeepsHistory, LeavesTablesTo, Migration, NextStop, Stop}
+use Rattle.pid_service.specs.SessionLaws.{KeepsBetween}
+use Rattle.pid_service.specs.Sessions.{FailedOpening, IsAfterSession, IsAfterStop, KeepsHistory, LeavesTablesTo, Migration, NextStop, Stop}
 use Rattle.pid_service.specs.Opening.{MovesTo, OpensTo, moved_to}
 use Rattle.pid_service.specs.Registries.{HasCleanDisk, connection, is_live}
 

@@ -19,7 +19,7 @@ ghost use Rattle.pid_service_laws.specs.Imports.{AnswersFailed, HasRead, InputIs
 ghost use Rattle.pid_service_laws.specs.Searching.{sought_page};
 ghost use Rattle.pid_service.specs.Asking.{Answers, AnswersIfThere};
 ghost use Rattle.pid_service.specs.Importing.{EndLasts};
-ghost use Rattle.pid_service.specs.Lives.{showing as registry_showing};
+ghost use Rattle.pid_service.specs.Sessions.{showing as registry_showing};
 ghost use Rattle.pid_service.specs.Registries.{is_live as lives};
 
 use crate::changes::{kept_after, kept_page};
@@ -263,7 +263,7 @@ impl<S: Alter + Drop> Consulted for Registry<S> {
         ensures reads { InputIsRead I.Input input.old input.new result }
         ensures lasts { EndLasts S.Store self.old self.new (import_of account key) result }
     {
-        laws::clauses_meet_lives::<S>(); // proof only
+        laws::clauses_meet_sessions::<S>(); // proof only
         if !self.live {
             return answer_failed(input);
         }

@@ -15,7 +15,6 @@ mod kept_children;
 mod kept_text;
 mod kept_views;
 pub mod laws;
-mod lives;
 mod moderated;
 mod names;
 mod obeying;
@@ -27,12 +26,13 @@ mod reading;
 mod registry;
 mod renewing;
 mod running;
+mod sessions;
 mod status;
 mod top;
 mod writing;
 
 pub use laws::{
-    clauses_meet_lives, commands_lead_on, first_openings_show_what_is_there, histories_are_kept,
+    clauses_meet_sessions, commands_lead_on, first_openings_show_what_is_there, histories_are_kept,
     histories_are_kept_between, items_print_as_their_tree, migrations_find_histories,
     openings_find_histories, pages_tell_a_hundred, reached_histories_are_kept,
     reopened_registries_show_prefixes, repeats_end_doubts, taken_histories_are_reached,

@@ -8,7 +8,7 @@ ghost use Rattle.pid_service_laws.specs.Calls.{obeyed};
 ghost use Rattle.pid_service_laws.specs.Registries.{Does};
 ghost use Rattle.pid_service.specs.Asking.{Answers};
 ghost use Rattle.pid_service.specs.Exporting.{IsExported};
-ghost use Rattle.pid_service.specs.Lives.{showing as registry_showing};
+ghost use Rattle.pid_service.specs.Sessions.{showing as registry_showing};
 ghost use Rattle.pid_service.specs.LookingUp.{IsLookedUp};
 ghost use Rattle.pid_service.specs.Obeying.{IsObeyed};
 ghost use Rattle.pid_service.specs.Registries.{is_live as registry_is_live};
@@ -43,7 +43,7 @@ impl<S: Alter + Drop> Moderated for Registry<S> {
             (obeyed (asks command) result (registry_is_live self.new)) self.new }
         ensures own { IsObeyed S.Store self.old self.new command result }
     {
-        laws::clauses_meet_lives::<S>(); // proof only
+        laws::clauses_meet_sessions::<S>(); // proof only
         let answer = self.obey_lent(&command);
         drop(command);
         answer
@@ -70,7 +70,7 @@ impl<S: Alter + Drop> Moderated for Registry<S> {
     ) -> Result<Answer, LookupRefusal<Refusal>>
         ensures { IsLookedUp S.Store self.old self.new flags args.now size result }
     {
-        laws::clauses_meet_lives::<S>(); // proof only
+        laws::clauses_meet_sessions::<S>(); // proof only
         if !self.live {
             return Err(LookupRefusal::Names(Refusal::Failed));
         }
@@ -87,7 +87,7 @@ impl<S: Alter + Drop> Moderated for Registry<S> {
     fn export<O: Output>(&mut self, out: &mut O) -> Result<(), ExportFault>
         ensures { IsExported S.Store O.Output self.old self.new out.old out.new result }
     {
-        laws::clauses_meet_lives::<S>(); // proof only
+        laws::clauses_meet_sessions::<S>(); // proof only
         laws::items_print_as_their_tree(); // proof only
         // So the text is kept in memory and goes out whole. If it can't be, it goes out in parts.
         let _ = self.export_length();

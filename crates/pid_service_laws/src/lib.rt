@@ -13,8 +13,10 @@ mod faults;
 mod laws;
 mod moderated;
 
-pub use calls::calls_make_a_life;
+pub use calls::calls_make_a_session;
 pub use consulted::Consulted;
 pub use faults::{ExportFault, ImportEnd};
-pub use laws::{doubts_end, judgements_are_outcomes, lives_are_prefixes, refusals_change_nothing};
+pub use laws::{
+    doubts_end, judgements_are_outcomes, refusals_change_nothing, sessions_are_prefixes,
+};
 pub use moderated::Moderated;

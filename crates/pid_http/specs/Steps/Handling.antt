@@ -68,7 +68,7 @@ pub exports_text : {R : Type 0} {registry : Ghosts R} (a : Told registry) (reque
     → (serving registry).promises a request head told b → WritesText registry b body c
     → (serving registry).answers a request (answer_after head told body) c
 exports_text a request head told b body c p w = record {
-  same_life = w.same_life ∙ p.same_life;
+  same_session = w.same_session ∙ p.same_session;
   more = p.more ++ w.more;
   joined = w.joined ∙ ap (λ (l : List Call). l
       ++ w.more) p.joined ∙ append_assoc a.calls p.more w.more;

@@ -22,7 +22,7 @@ returns-clause-obeyed g c =
       consumed = taken.consumed;
       read = taken.read;
       holds = record {
-        calls = c.clauses_meet_lives.ensures.imports c.args.self.now c.import_act-end.new.self asks c.import_act-end.result c.import_act-end.ensures.clean (true_not c.args.self.now.live c.if-not-self.false) leaves;
+        calls = c.clauses_meet_sessions.ensures.imports c.args.self.now c.import_act-end.new.self asks c.import_act-end.result c.import_act-end.ensures.clean (true_not c.args.self.now.live c.if-not-self.false) leaves;
         leaves = leaves;
       };
     }
@@ -56,7 +56,7 @@ returns-then-not-self-clause-obeyed g c =
       consumed = past.consumed;
       read = past.read;
       holds = record {
-        calls = c.clauses_meet_lives.ensures.imports c.args.self.now c.args.self.now (import_of c.args.account c.args.key (file_reading past.text)) c.answer_failed.result (λ clean. clean) (λ off. (c.answer_failed.ensures.failed, refl))
+        calls = c.clauses_meet_sessions.ensures.imports c.args.self.now c.args.self.now (import_of c.args.account c.args.key (file_reading past.text)) c.answer_failed.result (λ clean. clean) (λ off. (c.answer_failed.ensures.failed, refl))
             (λ clean h shows. true_not c.args.self.now.live shows.lives c.if-not-self.true);
         leaves = λ clean h shows. true_not c.args.self.now.live shows.lives c.if-not-self.true;
       };

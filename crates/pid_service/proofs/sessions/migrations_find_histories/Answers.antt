@@ -1,5 +1,5 @@
 use Rattle.pid_service.proofs.Finding.{taken_bare, taken_there}
-use Rattle.pid_service.proofs.lives.migrations_find_histories.Goals as goal
+use Rattle.pid_service.proofs.sessions.migrations_find_histories.Goals as goal
 
 pub returns : goal.returns
 returns g c conn v h opens shows same =

@@ -8,29 +8,29 @@ use Rattle.pid_moderation.specs.Keys.{times_under}
 use Rattle.pid_moderation.specs.Views.{views_of}
 use Rattle.pid_service_laws.specs.Acknowledged.{IsIn, IsAcceptedIn}
 use Rattle.pid_service_laws.specs.KeptReplies.{IsKept}
-use Rattle.pid_service_laws.specs.Lives.{InDoubt, Life, after_lives, commands_in, prefix_of}
+use Rattle.pid_service_laws.specs.Sessions.{InDoubt, Session, after_sessions, commands_in, prefix_of}
 
 -- these are the commands with an outcome, and the one in doubt if it was written
-abbrev pub IsOutcomesAndDoubt : Life → List Asked → Type 0
-IsOutcomesAndDoubt life commands = (commands ≡ commands_in life.sent)
-    ⊎ ((c : Asked) × (life.doubt ≡ InDoubt c true) × (commands ≡ commands_in life.sent ++ c ∷ []))
+abbrev pub IsOutcomesAndDoubt : Session → List Asked → Type 0
+IsOutcomesAndDoubt session commands = (commands ≡ commands_in session.sent)
+    ⊎ ((c : Asked) × (session.doubt ≡ InDoubt c true) × (commands ≡ commands_in session.sent ++ c ∷ []))
 
 -- the prefixes of all sessions, joined in order
-abbrev pub all_prefixes : List Life → List Asked
-all_prefixes lives = flat_map prefix_of lives
+abbrev pub all_prefixes : List Session → List Asked
+all_prefixes sessions = flat_map prefix_of sessions
 
 -- the history that sessions leave, the first of which began with this mark and no command
-abbrev pub history_left : ℕ → List Life → History
-history_left mark lives = after_lives (Begins mark) lives
+abbrev pub history_left : ℕ → List Session → History
+history_left mark sessions = after_sessions (Begins mark) sessions
 
 -- What any sessions leave.
-pub record JoinsPrefixes (mark : ℕ) (lives : List Life) (h : History) : Type 0 where
+pub record JoinsPrefixes (mark : ℕ) (sessions : List Session) (h : History) : Type 0 where
   -- it is the history after the prefixes of all, joined in order
-  pub joined : h ≡ after_all (Begins mark) (all_prefixes lives)
+  pub joined : h ≡ after_all (Begins mark) (all_prefixes sessions)
   -- it keeps the mark with which it began
   pub marked : mark_of h ≡ mark
   -- it holds no command that was not sent
-  pub only : (e : Accepted) → IsAcceptedIn e h → IsIn e.asked (all_prefixes lives)
+  pub only : (e : Accepted) → IsAcceptedIn e h → IsIn e.asked (all_prefixes sessions)
   -- it holds at most one command of an account under a key
   pub once : (account key : List ℕ) → times_under account key h ≤ 1
   -- and the reply to that one is the reply that is kept there

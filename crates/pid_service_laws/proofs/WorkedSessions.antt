@@ -1,4 +1,4 @@
--- Worked lives, by computation.
+-- Worked sessions, by computation.
 use Rattle.std.proofs.Common.{◌≡◌, ℕ, Bool, true, false, List, [], ◌∷◌, Some, None, Ok, Err, refl}
 use Rattle.std.specs.Prelude.{codes}
 use Rattle.pid_file.specs.declared.path.Path.TheVariants.{Vendor}
@@ -10,8 +10,8 @@ use Rattle.pid_moderation.specs.declared.refusal.Refusal.TheVariants.{Failed, Me
 use Rattle.pid_moderation.specs.History.{Asked, Deed, Ranks, Submits, Approves, new_history}
 use Rattle.pid_moderation.specs.Keys.{times_under}
 use Rattle.pid_moderation.specs.Views.{items_of}
-use Rattle.pid_service_laws.specs.Calls.{Call, life_of, nothing_sent, obeyed, ran, sent_in}
-use Rattle.pid_service_laws.specs.Lives.{NoDoubt, InDoubt, Life, AreLives, after_lives, prefix_of}
+use Rattle.pid_service_laws.specs.Calls.{Call, session_of, nothing_sent, obeyed, ran, sent_in}
+use Rattle.pid_service_laws.specs.Sessions.{NoDoubt, InDoubt, Session, AreSessions, after_sessions, prefix_of}
 
 abbrev pub root : List ℕ
 root = codes "root"
@@ -32,7 +32,7 @@ submission = record { account = alice; key = Some (codes "k1"); deed = Submits (
 abbrev pub approval : Asked
 approval = by root (Approves 1 Anything)
 
--- A FIRST LIFE THAT ENDS IN DOUBT
+-- A FIRST SESSION THAT ENDS IN DOUBT
 
 -- alice is made an account; she asks something; her approval of a submission that is not there is refused; her submission meets
 -- want of memory, and counts as not sent; it is sent again, and the store fails; what comes then is not obeyed
@@ -56,40 +56,40 @@ nothing_in_doubt = refl
 in_doubt : obeyed submission (Err Store) false ≡ record { sent = []; stopped = Some submission }
 in_doubt = refl
 
-abbrev pub first_life : Bool → Life
-first_life stands = life_of first_calls (InDoubt submission stands)
+abbrev pub first_session : Bool → Session
+first_session stands = session_of first_calls (InDoubt submission stands)
 
-doubt_stands : prefix_of (first_life true) ≡ welcome ∷ by alice (Approves 1 Anything) ∷ submission ∷ []
+doubt_stands : prefix_of (first_session true) ≡ welcome ∷ by alice (Approves 1 Anything) ∷ submission ∷ []
 doubt_stands = refl
 
-doubt_falls : prefix_of (first_life false) ≡ welcome ∷ by alice (Approves 1 Anything) ∷ []
+doubt_falls : prefix_of (first_session false) ≡ welcome ∷ by alice (Approves 1 Anything) ∷ []
 doubt_falls = refl
 
--- A SECOND LIFE
+-- A SECOND SESSION
 
 -- the submission is sent again, and then approved: a list of three, of which the last one met want of memory
 abbrev pub second_calls : List Call
 second_calls = ran (submission ∷ approval ∷ welcome ∷ []) (Ok (Numbered 1) ∷ Ok Done ∷ []) (Some Memory) true ∷ []
 
-abbrev pub second_life : Life
-second_life = life_of second_calls NoDoubt
+abbrev pub second_session : Session
+second_session = session_of second_calls NoDoubt
 
-abbrev pub lives : Bool → List Life
-lives stands = first_life stands ∷ second_life ∷ []
+abbrev pub sessions : Bool → List Session
+sessions stands = first_session stands ∷ second_session ∷ []
 
 -- the outcomes are those of the judgement, whichever way the doubt went
-judged_where_it_stands : AreLives new_history (lives true)
+judged_where_it_stands : AreSessions new_history (sessions true)
 judged_where_it_stands = ((refl, (refl, tt)), ((refl, (refl, tt)), tt))
 
-judged_where_it_falls : AreLives new_history (lives false)
+judged_where_it_falls : AreSessions new_history (sessions false)
 judged_where_it_falls = ((refl, (refl, tt)), ((refl, (refl, tt)), tt))
 
 -- and the registry is the same
-same_history : after_lives new_history (lives true) ≡ after_lives new_history (lives false)
+same_history : after_sessions new_history (sessions true) ≡ after_sessions new_history (sessions false)
 same_history = refl
 
-once : times_under alice (codes "k1") (after_lives new_history (lives true)) ≡ 1
+once : times_under alice (codes "k1") (after_sessions new_history (sessions true)) ≡ 1
 once = refl
 
-items : items_of (after_lives new_history (lives true)) ≡ (codes "PC/8086", codes "Intel") ∷ []
+items : items_of (after_sessions new_history (sessions true)) ≡ (codes "PC/8086", codes "Intel") ∷ []
 items = refl

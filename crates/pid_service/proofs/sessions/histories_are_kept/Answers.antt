@@ -1,5 +1,5 @@
 use Rattle.pid_service.proofs.Finding.{move_keeps, move_shows, move_only_store, unopened_keeps, unopened_only_store}
-use Rattle.pid_service.proofs.lives.histories_are_kept.Goals as goal
+use Rattle.pid_service.proofs.sessions.histories_are_kept.Goals as goal
 
 pub returns : goal.returns
 returns g c = record {

@@ -22,7 +22,7 @@ pub data Doubt : Type 0 where
 -- What happened from one opening to the next. What got neither an outcome nor left a doubt counts
 -- as not sent: it was answered 18, or 16 or 17 by a registry that stayed live, or it is of a list
 -- whose run did not reach it, or an import whose input failed.
-pub record Life : Type 0 where
+pub record Session : Type 0 where
   -- the commands with an outcome, the first one first
   pub sent : List Sent
   -- the one command more, the last one, if the session ended in doubt
@@ -38,8 +38,8 @@ doubted NoDoubt = []
 doubted (InDoubt command stands) = command ∷ []
 
 -- the commands of a session: those with an outcome, and the one in doubt
-abbrev pub life_commands : Life → List Asked
-life_commands life = commands_in life.sent ++ doubted life.doubt
+abbrev pub session_commands : Session → List Asked
+session_commands session = commands_in session.sent ++ doubted session.doubt
 
 -- one more if the command in doubt was written
 abbrev pub standing : Doubt → ℕ
@@ -48,25 +48,25 @@ standing (InDoubt command stands) = if stands then 1 else 0
 
 -- how many of them the prefix has: as many as have an outcome, the refused ones too, and one more
 -- if the command in doubt was written
-abbrev pub prefix_length : Life → ℕ
-prefix_length life = length life.sent + standing life.doubt
+abbrev pub prefix_length : Session → ℕ
+prefix_length session = length session.sent + standing session.doubt
 
 -- the first ones, so many
-abbrev pub prefix_of : Life → List Asked
-prefix_of life = take (prefix_length life) (life_commands life)
+abbrev pub prefix_of : Session → List Asked
+prefix_of session = take (prefix_length session) (session_commands session)
 
 -- the history after commands that were sent
 abbrev pub after_sent : History → List Sent → History
 after_sent h sent = after_all h (commands_in sent)
 
 -- the history that a session leaves, which the next opening finds
-abbrev pub after_life : History → Life → History
-after_life h life = after_all h (prefix_of life)
+abbrev pub after_session : History → Session → History
+after_session h session = after_all h (prefix_of session)
 
 -- the history that sessions leave, from the first one on
-abbrev pub after_lives : History → List Life → History
-after_lives h [] = h
-after_lives h (life ∷ lives) = after_lives (after_life h life) lives
+abbrev pub after_sessions : History → List Session → History
+after_sessions h [] = h
+after_sessions h (session ∷ sessions) = after_sessions (after_session h session) sessions
 
 -- each outcome is that of the judgement over the history so far
 abbrev pub AreJudged : History → List Sent → Type 0
@@ -76,6 +76,6 @@ AreJudged h (s ∷ sent) = (s.outcome ≡ answer (judge (views_of h) s.command))
 
 -- in each session each outcome is that of the judgement, and it begins with the history that the
 -- session before it left
-abbrev pub AreLives : History → List Life → Type 0
-AreLives h [] = Unit {0}
-AreLives h (life ∷ lives) = AreJudged h life.sent × AreLives (after_life h life) lives
+abbrev pub AreSessions : History → List Session → Type 0
+AreSessions h [] = Unit {0}
+AreSessions h (session ∷ sessions) = AreJudged h session.sent × AreSessions (after_session h session) sessions

@@ -5,7 +5,7 @@ use Rattle.pid_service.proofs.Consulting.{looks}
 use Rattle.pid_service.proofs.Finding.{still_between}
 use Rattle.pid_service.proofs.ImportLives.{ObeysLaw, import_lives}
 use Rattle.pid_service.proofs.RunLives.{run_lives}
-use Rattle.pid_service.proofs.lives.clauses_meet_lives.Goals as goal
+use Rattle.pid_service.proofs.sessions.clauses_meet_sessions.Goals as goal
 
 pub returns : goal.returns
 returns g c =

@@ -1,5 +1,5 @@
 use Rattle.pid_service.proofs.Finding.{bare_shows_none, first_shows, none_reached, shown_rests}
-use Rattle.pid_service.proofs.lives.first_openings_show_what_is_there.Goals as goal
+use Rattle.pid_service.proofs.sessions.first_openings_show_what_is_there.Goals as goal
 
 pub returns : goal.returns
 returns g c = record {

@@ -1,5 +1,5 @@
 use Rattle.pid_service.proofs.Finding.{close_finds, opening_finds, stop_finds, stop_keeps}
-use Rattle.pid_service.proofs.lives.openings_find_histories.Goals as goal
+use Rattle.pid_service.proofs.sessions.openings_find_histories.Goals as goal
 
 pub returns : goal.returns
 returns g c = record {

@@ -29,8 +29,8 @@ use Rattle.pid_service.specs.declared.running.RunReport.{RunReport}
 use Rattle.pid_service.specs.Histories.{FailsBetween, IsReached, OverHistory, Shows}
 use Rattle.pid_service_laws.specs.Imports.{AnswersFailed, import_sent}
 use Rattle.pid_service.specs.Importing.{ObeysImport}
-use Rattle.pid_service.specs.Lives.{IsAfterStop, KeepsHistory, LeavesTablesTo, ShowsPrefixes}
-use Rattle.pid_service.specs.Lives.{showing}
+use Rattle.pid_service.specs.Sessions.{IsAfterStop, KeepsHistory, LeavesTablesTo, ShowsPrefixes}
+use Rattle.pid_service.specs.Sessions.{showing}
 use Rattle.pid_service.specs.Obeying.{Obeys}
 use Rattle.pid_service.specs.Opening.{MovesTo, OpensTo, moved_to}
 use Rattle.pid_service.specs.Registries.{HasCleanDisk, connection, is_live}
@@ -38,7 +38,7 @@ use Rattle.pid_service.specs.Running.{Runs}
 
 module _ {S : Type 0} (store : Ghosts S) where
   -- The clauses of each call say what a session asks of it.
-  pub record CallsMeetLives : Type 0 where
+  pub record CallsMeetSessions : Type 0 where
     -- one that obeys a command
     pub obeys : (old new : Registry S store) (c : Asked) (result : Result Reply Refusal)
         → (HasCleanDisk store new → HasCleanDisk store old)

@@ -1,5 +1,5 @@
 use Rattle.pid_service.proofs.Finding.{session_finds}
-use Rattle.pid_service.proofs.lives.openings_tell_prefixes.Goals as goal
+use Rattle.pid_service.proofs.sessions.openings_tell_prefixes.Goals as goal
 
 pub returns : goal.returns
 returns g c opened ended start runs calls shows lead conn after next opens clean =
