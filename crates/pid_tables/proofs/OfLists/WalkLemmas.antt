@@ -26,7 +26,7 @@ use Rattle.pid_tables.specs.Rows.Causes.{IsCaused, IsReadable}
 use Rattle.pid_tables.specs.Rows.Steps.Faults.{fault_of_sql}
 use Rattle.pid_tables.specs.Rows.Leaves.{AtRest, OnlyReads}
 use Rattle.pid_tables.specs.Rows.Schema.{pid_schema}
-use Rattle.pid_tables.specs.Rows.Steps.Unread.{IsUnreadable, ReadsAsItem}
+use Rattle.pid_tables.specs.Rows.Steps.Unread.{IsDamagedRow, ReadsAsItem}
 use Rattle.pid_ident.specs.Words.{is_name}
 use Rattle.sqlite.specs.declared.types.Value.TheVariants.{Text}
 use Rattle.pid_tables.specs.Rows.Steps.Unread.{IsPathText, IsWord}
@@ -94,7 +94,7 @@ name_broken row good name at broken =
     false≢true (sym broken ∙ ap is_name same ∙ good.2.1)
 
 -- a row that is not read ends the walk
-pub unread_end : {X F : Type 0} (r : Result X (EachEnd F)) (fault : TableFault) (Written : Type 0) → IsErrAnd r (λ y. y ≡ Tables fault) → IsUnreadable Written fault → IfErr r (IsUnreadEnd Written)
+pub unread_end : {X F : Type 0} (r : Result X (EachEnd F)) (fault : TableFault) (Written : Type 0) → IsErrAnd r (λ y. y ≡ Tables fault) → IsDamagedRow Written fault → IfErr r (IsUnreadEnd Written)
 unread_end (Ok x) fault Written h unread = absurd h
 unread_end (Err y) fault Written h unread = subst (IsUnreadEnd Written) (sym h) unread
 

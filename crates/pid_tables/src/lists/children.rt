@@ -18,7 +18,7 @@ ghost use Rattle.pid_moderation.specs.WellMade.{IsItem, AllItems};
 ghost use Rattle.pid_reader.specs.LookingBack.{Item as Pair};
 ghost use Rattle.pid_tables.specs.Rows.Steps.Answers.{item_shown};
 ghost use Rattle.pid_moderation.specs.ItemPairs.{pair_of};
-ghost use Rattle.pid_tables.specs.Rows.Steps.Unread.{IsUnreadable};
+ghost use Rattle.pid_tables.specs.Rows.Steps.Unread.{IsDamagedRow};
 ghost use Rattle.pid_tables.specs.Rows.Shows.{AreViews};
 ghost use Rattle.pid_moderation.specs.Children.{children_of};
 ghost use Rattle.pid_tables.specs.Lists.Steps.Adding.{Adds};
@@ -52,7 +52,7 @@ fn is_child(item: Path, path: Path) -> bool
 fn add_child(kept: &mut Vec<Item>, row: &Row, alloc: Global, path: Path) -> Result<(), TableFault>
     ensures { (e : Pair) → row.now ≡ item_shown e → MatchResult result
         (λ _. Adds pair_of kept.old.items kept.new.items (children_among path (e ∷ [])))
-        (IsUnreadable (IsItem e.0 e.1)) }
+        (IsDamagedRow (IsItem e.0 e.1)) }
 {
     let item = item_of(row, alloc)?;
     if is_child(item.path, path) {
@@ -70,7 +70,7 @@ fn add_children(
 ) -> Result<(), TableFault>
     ensures { (items : Items) → rows.now ≡ map item_shown items → MatchResult result
         (λ _. Adds pair_of kept.old.items kept.new.items (children_among path items))
-        (IsUnreadable (AllItems items)) }
+        (IsDamagedRow (AllItems items)) }
 {
     for row in rows {
         add_child(kept, row, alloc, path)?;

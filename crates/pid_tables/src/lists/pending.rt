@@ -12,7 +12,7 @@ ghost use Rattle.std.specs.Prelude.{
 ghost use Rattle.std.specs.List.{AllByRecursion};
 ghost use Rattle.sqlite.specs.Held.{state};
 ghost use Rattle.pid_moderation.specs.Views.{Views};
-ghost use Rattle.pid_tables.specs.Rows.Steps.Unread.{IsUnreadable};
+ghost use Rattle.pid_tables.specs.Rows.Steps.Unread.{IsDamagedRow};
 ghost use Rattle.pid_moderation.specs.Submissions.{Standing};
 ghost use Rattle.pid_moderation.specs.PendingPages.{pending_in, told_of};
 ghost use Rattle.pid_tables.specs.Lists.ByNumber.{standings_at};
@@ -38,7 +38,7 @@ use std::alloc::Global;
 fn add_pending(page: &mut Vec<Pending>, row: &Row, alloc: Global) -> Result<(), TableFault>
     ensures { (v : Views) (s : ℕ × Standing) → IsPendingIn v s row.now → MatchResult result
         (λ _. Adds told_of page.old.items page.new.items (s ∷ []))
-        (IsUnreadable (IsReadablePending s)) }
+        (IsDamagedRow (IsReadablePending s)) }
 {
     pid_ident::laws::texts_have_one_path(); // proof only
     let number = number_at(row, 8)?;
@@ -49,7 +49,7 @@ fn add_pending(page: &mut Vec<Pending>, row: &Row, alloc: Global) -> Result<(), 
 fn page_of(rows: &[Row], alloc: Global) -> Result<Vec<Pending>, TableFault>
     ensures { (v : Views) (all : List (ℕ × Standing)) → ArePendingIn v all rows.now
         → MatchResult result (λ page. map told_of page.items ≡ all)
-        (IsUnreadable (AllByRecursion IsReadablePending all)) }
+        (IsDamagedRow (AllByRecursion IsReadablePending all)) }
 {
     let mut page = Vec::new(alloc);
     for row in rows {

@@ -15,7 +15,7 @@ ghost use Rattle.pid_moderation.specs.Views.{submission_at};
 ghost use Rattle.pid_tables.specs.Rows.TableRows.{form_of, name_of, state_number};
 ghost use Rattle.pid_moderation.specs.Submissions.{decider_of, reason_of, standing_in, standing_of};
 ghost use Rattle.pid_tables.specs.Rows.Steps.Standings.{ReadsTo};
-ghost use Rattle.pid_tables.specs.Rows.Steps.Unread.{IsUnreadable, ReadsAsStanding};
+ghost use Rattle.pid_tables.specs.Rows.Steps.Unread.{IsDamagedRow, ReadsAsStanding};
 ghost use Rattle.pid_tables.specs.Rows.Steps.Writes.{with_submission, with_state};
 ghost use Rattle.pid_tables.specs.Rows.Clauses.{Reads};
 ghost use Rattle.pid_tables.specs.Rows.Steps.Clauses.{ChangesTo, GoesOn};
@@ -130,7 +130,7 @@ pub fn decide<S: Alter>(
 /// breaks its rule, the row is `Damaged`.
 pub fn submission_of(row: &Row, alloc: Global) -> Result<Submission, TableFault>
     ensures read { IfOk result (ReadsTo row.now) }
-    ensures unread { IfErr result (IsUnreadable (ReadsAsStanding row.now)) }
+    ensures unread { IfErr result (IsDamagedRow (ReadsAsStanding row.now)) }
 {
     let author = account_at(row, alloc, 0)?;
     let path = path_at(row, 1)?;
