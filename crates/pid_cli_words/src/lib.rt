@@ -1,10 +1,10 @@
 //! The command line of the program, and what a person at a terminal reads.
 #![tactic(auto)]
 
-mod command;
 mod commands;
 mod job;
 mod no_job;
+mod subcommand;
 pub mod terminal;
 mod words;
 

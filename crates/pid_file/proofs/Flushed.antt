@@ -6,7 +6,7 @@ use Rattle.pid_file.specs.declared.text_end.TextEnd.{TextEnd}
 use Rattle.pid_file.specs.declared.text_end.TextEnd.TheVariants.{Done, Line, TooManyEntries, TooLarge, Memory, ReadFault, WriteFault}
 use Rattle.pid_file.specs.declared.watched.Watched.{Watched}
 use Rattle.pid_file.specs.Printing.{print}
-use Rattle.pid_file.specs.Statuses.{GotTidied, IsStatusFor}
+use Rattle.pid_file.specs.ExitStatuses.{GotTidied, IsStatusFor}
 use Rattle.pid_file.specs.TextEnds.{fault_line, status_of}
 use Rattle.pid_file.specs.Tidied.{IsTidied, Writers}
 use Rattle.pid_file.specs.Reports.{ReportsFault}

@@ -9,7 +9,7 @@ ghost use Rattle.std.specs.Prelude.{
   IsSome,
 };
 ghost use Rattle.std.specs.Io.KnownBytes.{Keeps};
-ghost use Rattle.pid_file.specs.Statuses.{IsStatusFor, GotTidied, GotChecked};
+ghost use Rattle.pid_file.specs.ExitStatuses.{IsStatusFor, GotTidied, GotChecked};
 ghost use Rattle.pid_file.specs.TextEnds.{fault_line, status_of};
 ghost use Rattle.pid_file.specs.Steps.TextEnds.{failed_line};
 ghost use Rattle.pid_file.specs.Writing.{TriesLine, use_of};

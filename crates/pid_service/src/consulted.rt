@@ -29,7 +29,7 @@ use crate::laws;
 use crate::pending::{pending_by, queue_by};
 use crate::reading::or_refusal;
 use crate::registry::Registry;
-use crate::status::status_by;
+use crate::registry_status::status_by;
 use pid_ident::{Account, Input, Key, Path};
 use pid_moderation::{
     Changes, Discussion, Item, PAGE, Pending, Queued, Rank, Refusal, RemarkPage, Reply, Status,

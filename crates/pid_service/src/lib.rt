@@ -24,10 +24,10 @@ mod pending_numbers;
 mod preparing;
 mod reading;
 mod registry;
+mod registry_status;
 mod renewing;
 mod running;
 mod sessions;
-mod status;
 mod top;
 mod writing;
 

@@ -12,10 +12,10 @@ ghost use Rattle.pid_http.specs.Api.Steps.Making.{MakesSaid};
 ghost use Rattle.pid_http.specs.declared.api.question.Question.TheVariants as questions;
 
 use crate::api::early::{RefusedEarly, Unasked};
-use crate::api::format::Format;
-use crate::api::query::{
+use crate::api::field_values::{
     account_named, author_named, number_named, path_named, revision_named, submission_named,
 };
+use crate::api::format::Format;
 use crate::api::route::{Pages, Topic, Whole};
 use pid_form::{text_at, value};
 use pid_ident::{Account, Path, PathText};

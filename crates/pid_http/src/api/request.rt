@@ -6,8 +6,8 @@ ghost use Rattle.pid_http.specs.Api.Questions.{question, target_asked};
 ghost use Rattle.pid_http.specs.Api.Steps.Making.{MakesSaid};
 
 use crate::api::early::{RefusedEarly, Unasked};
+use crate::api::field_values::format_of;
 use crate::api::format::Format;
-use crate::api::query::format_of;
 use crate::api::question::{Question, ask_topic};
 use crate::api::route::{Payload, Route};
 use crate::api::routes::Routes;

@@ -1,6 +1,6 @@
 use Rattle.std.proofs.Common.{refl, sym, ap, subst, ◌∙◌, IfSome}
 use Rattle.std.specs.Io.Buffered.{writer_contents}
-use Rattle.pid_file.specs.Statuses.{GotTidied}
+use Rattle.pid_file.specs.ExitStatuses.{GotTidied}
 use Rattle.pid_file.specs.TextEnds.{status_of}
 use Rattle.pid_file.specs.Tidied.{IsTidied, Writers}
 use Rattle.pid_file.proofs.Flushed.{all_some, failed_status, got_nothing, got_same, got_tidied, map_some, through}

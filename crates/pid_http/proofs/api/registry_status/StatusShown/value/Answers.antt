@@ -1,6 +1,6 @@
 use Rattle.std.proofs.Common.{ap}
 use Rattle.serde_json.specs.View.{members_view}
-use Rattle.pid_http.proofs.api.status.StatusShown.value.Goals as goal
+use Rattle.pid_http.proofs.api.registry_status.StatusShown.value.Goals as goal
 
 pub returns : goal.returns
 returns c =

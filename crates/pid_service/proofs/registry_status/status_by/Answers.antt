@@ -3,7 +3,7 @@ use Rattle.pid_moderation.specs.PendingPages.{pending_above}
 use Rattle.pid_tables.proofs.OfRows.OnlyReading.{reads_then}
 use Rattle.pid_tables.specs.Rows.Accounts.{HasAccounts}
 use Rattle.pid_service.proofs.Questions.{faults_after}
-use Rattle.pid_service.proofs.status.status_by.Goals as goal
+use Rattle.pid_service.proofs.registry_status.status_by.Goals as goal
 
 pub returns-in_err-accounts : goal.returns-in_err-accounts
 returns-in_err-accounts g c =

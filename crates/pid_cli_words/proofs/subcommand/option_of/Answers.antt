@@ -1,6 +1,6 @@
 use Rattle.std.proofs.Common.{Some, ap, ◌∙◌}
 use Rattle.clap.specs.Words.{rule_of}
-use Rattle.pid_cli_words.proofs.command.option_of.Goals as goal
+use Rattle.pid_cli_words.proofs.subcommand.option_of.Goals as goal
 
 pub returns-clause-rule : goal.returns-clause-rule
 returns-clause-rule c =

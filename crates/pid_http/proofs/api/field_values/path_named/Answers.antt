@@ -4,7 +4,7 @@ use Rattle.pid_moderation.specs.declared.refusal.Refusal.TheVariants.{BadPath}
 use Rattle.pid_http.specs.Api.Questions.{on_said}
 use Rattle.pid_http.specs.declared.api.early.RefusedEarly.TheVariants.{BadValue}
 use Rattle.pid_http.proofs.OfApi.Paths.{said_so}
-use Rattle.pid_http.proofs.api.query.path_named.Goals as goal
+use Rattle.pid_http.proofs.api.field_values.path_named.Goals as goal
 
 pub returns-then-is_empty : goal.returns-then-is_empty
 returns-then-is_empty c = rw (said_so _ _ _ c.is_empty.ensures c.if-is_empty.true) refl

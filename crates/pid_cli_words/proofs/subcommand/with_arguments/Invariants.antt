@@ -3,7 +3,7 @@ use Rattle.std.specs.List.{fold}
 use Rattle.clap.specs.Words.{app_of}
 use Rattle.clap.specs.declared.builder.command.Command.TheViews.{out-Command}
 use Rattle.pid_cli_words.specs.Steps.Tables.{with_argument}
-use Rattle.pid_cli_words.proofs.command.with_arguments.Given as goal
+use Rattle.pid_cli_words.proofs.subcommand.with_arguments.Given as goal
 
 abbrev pub invariant-loop-argument : goal.invariant-loop-argument
 invariant-loop-argument l = (app_of l.command ≡ fold with_argument (app_of l.initial.command) (take l.argument-index l.arguments))
