@@ -27,7 +27,7 @@ use crate::importing::{answer_failed, import_command};
 use crate::items_text::{ItemsText, items_text};
 use crate::laws;
 use crate::pending::{pending_by, queue_by};
-use crate::reading::or_refusal;
+use crate::reading::fault_as_refusal;
 use crate::registry::Registry;
 use crate::registry_status::status_by;
 use pid_ident::{Account, Input, Key, Path};
@@ -48,7 +48,7 @@ impl<S: Alter + Drop> Consulted for Registry<S> {
             return Err(Refusal::Failed);
         }
         laws::reached_histories_are_kept(); // proof only
-        or_refusal(self.tables.rank(who.as_str()))
+        fault_as_refusal(self.tables.rank(who.as_str()))
     }
 
     /// The canonical order puts the generic subsystems of a vendor after its devices. The vendors
@@ -120,7 +120,7 @@ impl<S: Alter + Drop> Consulted for Registry<S> {
     {
         laws::reached_histories_are_kept(); // proof only
         match self.keep_numbers(path.is_some() || author.is_some()) {
-            Ok(()) => or_refusal(
+            Ok(()) => fault_as_refusal(
                 self.tables
                     .page_by(self.alloc, &self.kept.numbers, path, author, before),
             ),
@@ -140,7 +140,7 @@ impl<S: Alter + Drop> Consulted for Registry<S> {
     {
         laws::reached_histories_are_kept(); // proof only
         match self.keep_pending() {
-            Ok(()) => or_refusal(pending_by(
+            Ok(()) => fault_as_refusal(pending_by(
                 &mut self.tables,
                 self.alloc,
                 &self.kept.pending,
@@ -156,7 +156,12 @@ impl<S: Alter + Drop> Consulted for Registry<S> {
     {
         laws::reached_histories_are_kept(); // proof only
         match self.keep_pending() {
-            Ok(()) => or_refusal(queue_by(&mut self.tables, self.alloc, &self.kept.pending, after)),
+            Ok(()) => fault_as_refusal(queue_by(
+                &mut self.tables,
+                self.alloc,
+                &self.kept.pending,
+                after,
+            )),
             Err(refusal) => Err(refusal),
         }
     }
@@ -212,7 +217,7 @@ impl<S: Alter + Drop> Consulted for Registry<S> {
         laws::reached_histories_are_kept(); // proof only
         pid_moderation::laws::views_tell_status(); // proof only
         match self.keep_counts() {
-            Ok(()) => or_refusal(status_by(
+            Ok(()) => fault_as_refusal(status_by(
                 &mut self.tables,
                 self.alloc,
                 &self.kept.pending,

@@ -14,7 +14,7 @@ ghost use Rattle.pid_service.specs.Obeying.{IsObeyed};
 ghost use Rattle.pid_service.specs.Registries.{is_live as registry_is_live};
 
 use crate::laws;
-use crate::reading::or_refusal;
+use crate::reading::fault_as_refusal;
 use crate::registry::Registry;
 use pid_ident::{Name, Output, Path};
 use pid_lookup::{Answer, Args, LookupRefusal, lookup};
@@ -58,7 +58,7 @@ impl<S: Alter + Drop> Moderated for Registry<S> {
             return Err(Refusal::Failed);
         }
         laws::reached_histories_are_kept(); // proof only
-        or_refusal(self.tables.item(self.alloc, path))
+        fault_as_refusal(self.tables.item(self.alloc, path))
     }
 
     /// A registry that has failed answers `Names(Failed)`, before bad flags.

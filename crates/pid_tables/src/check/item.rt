@@ -30,7 +30,7 @@ ghost use Rattle.pid_tables.specs.Check.Steps.Keeping.{KeepsItems};
 ghost use Rattle.pid_tables.specs.declared.check.shape.Table.TheVariants as table;
 ghost use Rattle.pid_tables.specs.Rows.Faults.{IsMemoryOrStore};
 
-use crate::check::read::{RowFold, fold_rows, one_more};
+use crate::check::read::{RowFold, checked_next, fold_rows};
 use crate::check::shape::Table;
 use crate::check::words::{has_name, path_at};
 use crate::rows::TableFault;
@@ -106,7 +106,7 @@ impl RowFold for Items {
     ghost keeps = { λ first rows it. TakesItems rows it };
 
     fn keep(&mut self, row: &Row) -> Result<(), TableFault> {
-        self.count = one_more(self.count)?;
+        self.count = checked_next(self.count)?;
         let has_path = add_path(&mut self.paths, row)?;
         self.good &= is_item_row(row, has_path);
         Ok(())

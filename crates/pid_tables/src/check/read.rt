@@ -49,7 +49,7 @@ pub(crate) fn fold_rows<S: Alter, K: RowFold>(
 }
 
 /// The count of rows with one more.
-pub(crate) fn one_more(count: u64) -> Result<u64, TableFault>
+pub(crate) fn checked_next(count: u64) -> Result<u64, TableFault>
     ensures next { IfOk result (λ next. next ≡ suc count) }
     ensures only_store { IfErr result IsMemoryOrStore }
 {

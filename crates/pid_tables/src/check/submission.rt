@@ -28,7 +28,7 @@ ghost use Rattle.pid_tables.specs.declared.check.shape.Table.TheVariants as tabl
 
 use crate::check::authors::{Authors, add_author, no_authors};
 use crate::check::numbers::{Numbers, add_number, count_from_one, no_numbers};
-use crate::check::read::{RowFold, fold_rows, one_more};
+use crate::check::read::{RowFold, checked_next, fold_rows};
 use crate::check::shape::Table;
 use crate::check::value::{is_text_at, number_at, text_at};
 use crate::check::words::{has_filled_text, has_name, has_path, has_text};
@@ -145,7 +145,7 @@ impl RowFold for SubmissionFold<'_> {
     ghost keeps = { TakesSubmissions };
 
     fn keep(&mut self, row: &Row) -> Result<(), TableFault> {
-        self.count = one_more(self.count)?;
+        self.count = checked_next(self.count)?;
         self.fit = fit_row(self.fit, row, self.names);
         add_number(&mut self.numbers, row)?;
         add_author(&mut self.authors, self.alloc, row)?;

@@ -28,7 +28,7 @@ ghost use Rattle.pid_tables.specs.Lists.Steps.ChangeRows.{
   held as held_number,
 };
 
-use crate::lists::adding::put_last;
+use crate::lists::adding::push_last;
 use crate::lists::paths::text_or_empty;
 use crate::rows::TableFault;
 use crate::rows::run::read_rows;
@@ -67,7 +67,7 @@ impl<S: Alter + Drop> Tables<S> {
         let path = path_at(row, 0)?;
         let since = whole_at(row, 1)?;
         match self.item(alloc, &path)? {
-            Some(name) => put_last(items, ChangedItem { path, name, since }),
+            Some(name) => push_last(items, ChangedItem { path, name, since }),
             None => Err(TableFault::Damaged),
         }
     }

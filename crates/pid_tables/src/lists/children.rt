@@ -26,7 +26,7 @@ ghost use Rattle.pid_tables.specs.Lists.Steps.Children.{children_among, under};
 ghost use Rattle.pid_tables.specs.Lists.Children.{AreChildren};
 ghost use Rattle.pid_tables.specs.Rows.Clauses.{Reads};
 
-use crate::lists::adding::put_last;
+use crate::lists::adding::push_last;
 use crate::lists::walk::EachEnd;
 use crate::rows::TableFault;
 use crate::rows::item::{item_of, range_below};
@@ -56,7 +56,7 @@ fn add_child(kept: &mut Vec<Item>, row: &Row, alloc: Global, path: Path) -> Resu
 {
     let item = item_of(row, alloc)?;
     if is_child(item.path, path) {
-        put_last(kept, item)
+        push_last(kept, item)
     } else {
         Ok(())
     }
@@ -131,7 +131,7 @@ impl Sink for Tops {
             None => {
                 let name = Name::of_checked(self.alloc, entry.name)?;
                 let path = entry.path;
-                put_last(&mut self.kept, Item { path, name })
+                push_last(&mut self.kept, Item { path, name })
             }
         }
     }

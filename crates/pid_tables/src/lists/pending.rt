@@ -24,7 +24,7 @@ ghost use Rattle.pid_tables.specs.Lists.Steps.PendingRows.{
 };
 ghost use Rattle.pid_tables.specs.Rows.Clauses.{Reads};
 
-use crate::lists::adding::put_last;
+use crate::lists::adding::push_last;
 use crate::rows::TableFault;
 use crate::rows::run::read_rows;
 use crate::rows::submission::{standing, submission_of};
@@ -43,7 +43,7 @@ fn add_pending(page: &mut Vec<Pending>, row: &Row, alloc: Global) -> Result<(), 
     pid_ident::laws::texts_have_one_path(); // proof only
     let number = number_at(row, 8)?;
     let submission = submission_of(row, alloc)?;
-    put_last(page, Pending { number, submission })
+    push_last(page, Pending { number, submission })
 }
 
 fn page_of(rows: &[Row], alloc: Global) -> Result<Vec<Pending>, TableFault>
@@ -71,7 +71,7 @@ fn add_numbered<S: Alter>(
 {
     match standing(conn, alloc, number)? {
         None => Ok(()),
-        Some(submission) => put_last(page, Pending { number, submission }),
+        Some(submission) => push_last(page, Pending { number, submission }),
     }
 }
 

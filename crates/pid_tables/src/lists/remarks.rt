@@ -24,7 +24,7 @@ ghost use Rattle.pid_tables.specs.Rows.Clauses.{Reads};
 ghost use Rattle.pid_tables.specs.Lists.Steps.Adding.{Adds};
 ghost use Rattle.pid_tables.specs.Lists.Steps.RemarkRows.{IsReadablePlaced, placed_row};
 
-use crate::lists::adding::put_last;
+use crate::lists::adding::push_last;
 use crate::rows::TableFault;
 use crate::rows::remark::{comment_of, remark_count};
 use crate::rows::run::read_rows;
@@ -43,7 +43,7 @@ fn add_remark(page: &mut Vec<PlacedRemark>, row: &Row, alloc: Global) -> Result<
 {
     let place = number_at(row, 2)?;
     let remark = comment_of(row, alloc)?;
-    put_last(page, PlacedRemark { place, remark })
+    push_last(page, PlacedRemark { place, remark })
 }
 
 fn remarks_of(rows: &[Row], alloc: Global) -> Result<Vec<PlacedRemark>, TableFault>

@@ -9,7 +9,7 @@ ghost use Rattle.pid_tables.specs.Rows.Steps.Unread.{IsDamagedRow};
 ghost use Rattle.pid_tables.specs.Rows.Clauses.{Reads};
 ghost use Rattle.pid_tables.specs.Lists.Steps.Adding.{Adds};
 
-use crate::lists::adding::put_last;
+use crate::lists::adding::push_last;
 use crate::rows::TableFault;
 use crate::rows::remark::comment_of;
 use crate::rows::run::read_rows;
@@ -26,7 +26,7 @@ fn add_comment(comments: &mut Vec<Comment>, row: &Row, alloc: Global) -> Result<
         (remark ∷ [])) (IsDamagedRow (IsReadableRemark remark)) }
 {
     let comment = comment_of(row, alloc)?;
-    put_last(comments, comment)
+    push_last(comments, comment)
 }
 
 fn comments_of(rows: &[Row], alloc: Global) -> Result<Vec<Comment>, TableFault>

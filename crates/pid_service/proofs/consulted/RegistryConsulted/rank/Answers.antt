@@ -14,5 +14,5 @@ returns-then-not-self g c =
 pub returns : goal.returns
 returns g c =
     let Says : History → Option Rank → Type 0 = λ h rank. rank ≡ rank_of c.args.who.now h in
-    promised g.S.Store c.args.self.now _ c.or_refusal.result Says
-    (answers_read g.S.Store c.args.self.now _ c.rank.result c.or_refusal.result _ Says c.if-not-self.false refl refl c.rank.ensures c.or_refusal.ensures c.reached_histories_are_kept.ensures.readable (λ h rank shows clean told. told ∙ ap (λ (a : List ℕ). rank_of a h) c.as_str.ensures.text))
+    promised g.S.Store c.args.self.now _ c.fault_as_refusal.result Says
+    (answers_read g.S.Store c.args.self.now _ c.rank.result c.fault_as_refusal.result _ Says c.if-not-self.false refl refl c.rank.ensures c.fault_as_refusal.ensures c.reached_histories_are_kept.ensures.readable (λ h rank shows clean told. told ∙ ap (λ (a : List ℕ). rank_of a h) c.as_str.ensures.text))

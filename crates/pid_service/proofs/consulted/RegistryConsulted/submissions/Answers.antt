@@ -6,7 +6,7 @@ use Rattle.pid_service.proofs.consulted.RegistryConsulted.submissions.Goals as g
 pub returns-in-Ok : goal.returns-in-Ok
 returns-in-Ok g c =
     promised g.S.Store c.args.self.now _ _ _
-    (answers_after g.S.Store c.args.self.now c.keep_numbers.new.self _ _ c.page_by.result c.or_refusal.result _ _ _ c.in-Ok.ensures refl refl c.page_by.ensures c.or_refusal.ensures c.reached_histories_are_kept.ensures.readable (λ h page shows clean told. told (shows.kept clean).numbers))
+    (answers_after g.S.Store c.args.self.now c.keep_numbers.new.self _ _ c.page_by.result c.fault_as_refusal.result _ _ _ c.in-Ok.ensures refl refl c.page_by.ensures c.fault_as_refusal.ensures c.reached_histories_are_kept.ensures.readable (λ h page shows clean told. told (shows.kept clean).numbers))
 
 pub returns-in-Err : goal.returns-in-Err
 returns-in-Err g c =

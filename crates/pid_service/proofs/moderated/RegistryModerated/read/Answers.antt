@@ -11,4 +11,4 @@ returns-then-not-self g c =
 pub returns : goal.returns
 returns g c =
     promised g.S.Store c.args.self.now _ _ _
-    (answers_read g.S.Store c.args.self.now _ c.item.result c.or_refusal.result _ _ c.if-not-self.false refl refl c.item.ensures c.or_refusal.ensures c.reached_histories_are_kept.ensures.readable (λ h name shows clean told. told))
+    (answers_read g.S.Store c.args.self.now _ c.item.result c.fault_as_refusal.result _ _ c.if-not-self.false refl refl c.item.ensures c.fault_as_refusal.ensures c.reached_histories_are_kept.ensures.readable (λ h name shows clean told. told))

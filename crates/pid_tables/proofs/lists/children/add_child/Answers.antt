@@ -17,7 +17,7 @@ pub returns-then-is_child : goal.returns-then-is_child
 returns-then-is_child c e is =
     let read = c.in_ok-item.ensures in
     let more = child_kept c.args.path e c.args.row.now is c.in_ok-item.item read.path read.name c.is_child.result c.is_child.ensures c.if-is_child.true in
-    kept_child (IsItem e.0 e.1) c.args.kept.now.items c.put_last.new.list.items c.in_ok-item.item _ c.put_last.result c.put_last.ensures.items c.put_last.ensures.full more
+    kept_child (IsItem e.0 e.1) c.args.kept.now.items c.push_last.new.list.items c.in_ok-item.item _ c.push_last.result c.push_last.ensures.items c.push_last.ensures.full more
 
 pub returns-else-is_child : goal.returns-else-is_child
 returns-else-is_child c e is =

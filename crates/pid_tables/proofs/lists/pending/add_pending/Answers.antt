@@ -11,7 +11,7 @@ use Rattle.pid_tables.proofs.lists.pending.add_pending.Goals as goal
 
 pub returns : goal.returns
 returns c v s (views, is, row) =
-    kept_row (IsReadablePending s) told_of c.args.page.now.items c.put_last.new.list.items _ s c.put_last.result c.put_last.ensures.items c.put_last.ensures.full
+    kept_row (IsReadablePending s) told_of c.args.page.now.items c.push_last.new.list.items _ s c.push_last.result c.push_last.ensures.items c.push_last.ensures.full
     (pending_read c.texts_have_one_path.ensures v s c.args.row.now c.in_ok-submission.submission c.in_ok-number.number views is.0 row c.in_ok-submission.ensures.read c.in_ok-number.ensures.read)
 
 pub returns-in_err-number : goal.returns-in_err-number

@@ -11,7 +11,7 @@ use Rattle.pid_tables.proofs.lists.remarks.add_remark.Goals as goal
 
 pub returns : goal.returns
 returns c p is =
-    kept_row (IsReadablePlaced p) placed_of c.args.page.now.items c.put_last.new.list.items _ p c.put_last.result c.put_last.ensures.items c.put_last.ensures.full
+    kept_row (IsReadablePlaced p) placed_of c.args.page.now.items c.push_last.new.list.items _ p c.push_last.result c.push_last.ensures.items c.push_last.ensures.full
     (placed_read p c.args.row.now c.in_ok-place.place c.in_ok-remark.remark is c.in_ok-place.ensures.read c.in_ok-remark.ensures.author c.in_ok-remark.ensures.text)
 
 pub returns-in_err-place : goal.returns-in_err-place
