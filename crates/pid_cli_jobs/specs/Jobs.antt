@@ -31,7 +31,7 @@ use Rattle.pid_moderation.specs.declared.refusal.Refusal.TheVariants.{BadText}
 use Rattle.pid_service_laws.specs.Imports.{HasRead, ObeysFile}
 use Rattle.pid_service_laws.specs.declared.faults.ImportEnd.{ImportEnd}
 use Rattle.pid_service_laws.specs.declared.faults.ImportEnd.TheVariants as imports
-use Rattle.pid_service_laws.specs.declared.moderated.Moderated.{Ghosts}
+use Rattle.pid_service_laws.specs.declared.registry_calls.RegistryCalls.{Ghosts}
 use Rattle.pid_http_stream.specs.Causes.{EndsFor}
 use Rattle.pid_http_stream.specs.Listener.Servings.{CountsStreams, IsLiveAt}
 use Rattle.pid_http_stream.specs.Listener.Streams.{Exchange, ReaderUse}

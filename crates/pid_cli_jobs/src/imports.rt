@@ -14,7 +14,7 @@ use pid_cli_words::ImportWords;
 use pid_cli_words::terminal::{Counted, Progress, Seen};
 use pid_ident::{Account, Input, Key, Output, Plain, WordFault};
 use pid_moderation::{Refusal, Reply};
-use pid_service_laws::{Consulted, ImportEnd};
+use pid_service_laws::{ImportEnd, RegistryQueries};
 use std::alloc::Global;
 
 fn sender_of(alloc: Global, words: &ImportWords<'_>) -> Result<(Account, Option<Key>), WordFault>
@@ -37,7 +37,7 @@ fn import_file<D: Databases, G: Registries<D>, I: Input>(
     sender: (Account, Option<Key>),
     input: &mut I,
 ) -> Result<Result<Reply, ImportEnd>, Unopened>
-    ensures { BringsFile G.Registry.Moderated (G.is_opened registries.old path.now)
+    ensures { BringsFile G.Registry.RegistryCalls (G.is_opened registries.old path.now)
         (G.is_unopened registries.old path.now) G.is_closed sender
         (I.to_come input.old) (I.to_come input.new) (I.read_fault input.new) result }
 {
@@ -78,7 +78,7 @@ pub fn import<M: Machine, G: Registries<M>, O: Output, F: Output>(
     output: &mut O,
     faults: &mut F,
 ) -> JobEnd
-    ensures { Imports G.Registry.Moderated (G.is_opened registries.old words.now.db.now)
+    ensures { Imports G.Registry.RegistryCalls (G.is_opened registries.old words.now.db.now)
         (G.is_unopened registries.old words.now.db.now) G.is_closed
         (M.is_text words.now.ids.now) M.Opened.remaining words.now
         (streams (use_of O.Output output.old output.new)

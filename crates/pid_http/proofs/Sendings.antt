@@ -1,7 +1,7 @@
 -- What the requests of a stream send a registry, from one request to all.
 use Rattle.std.proofs.Common.{◌≡◌, ℕ, true, false, Bool, cond, List, [], ◌∷◌, ◌++◌, Option, Some, None, Result, Err, refl, sym, ap, subst, ◌∙◌, inl, inr, append_assoc}
 use Rattle.std.proofs.lemmas.List.{append-nil}
-use Rattle.pid_service_laws.specs.declared.moderated.Moderated.{Ghosts}
+use Rattle.pid_service_laws.specs.declared.registry_calls.RegistryCalls.{Ghosts}
 use Rattle.pid_service_laws.specs.Calls.{AreNothing, Call, StopsAt, obeyed, sent_in}
 use Rattle.pid_service_laws.specs.Sessions.{Sent, after_sent, commands_in}
 use Rattle.pid_service_laws.specs.Outcomes.{is_outcome}

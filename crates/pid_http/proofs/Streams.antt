@@ -2,7 +2,7 @@
 use Rattle.std.proofs.Common.{◌≡◌, ℕ, List, [], ◌∷◌, ◌++◌, Option, Some, None, refl, sym, ap, subst, ◌∙◌, inl, inr, append_assoc}
 use Rattle.std.proofs.lemmas.List.{append-nil}
 use Rattle.std.specs.Io.KnownBytes.{Consumes}
-use Rattle.pid_service_laws.specs.declared.moderated.Moderated.{Ghosts}
+use Rattle.pid_service_laws.specs.declared.registry_calls.RegistryCalls.{Ghosts}
 use Rattle.pid_service_laws.specs.Calls.{AreNothing, Call, sent_in}
 use Rattle.pid_service_laws.specs.Sessions.{commands_in}
 use Rattle.pid_moderation.specs.History.{Asked, History}

@@ -1,6 +1,6 @@
 -- What the requests of a stream send a registry within its session. Choices of this project.
 use Rattle.std.specs.Prelude.{◌≡◌, ◌⊎◌, ℕ, List, [], ◌∷◌, ◌++◌, Option, Some, None}
-use Rattle.pid_service_laws.specs.declared.moderated.Moderated.{Ghosts}
+use Rattle.pid_service_laws.specs.declared.registry_calls.RegistryCalls.{Ghosts}
 use Rattle.pid_service_laws.specs.Calls.{Call, StopsAt, sent_in}
 use Rattle.pid_service_laws.specs.Sessions.{after_sent, commands_in}
 use Rattle.pid_moderation.specs.History.{Asked, History}

@@ -20,7 +20,7 @@ use pid_http_stream::{Content, Head, HttpReply, ReplyBody, ReplyHead};
 use pid_ident::{Account, Path};
 use pid_lookup::Args;
 use pid_moderation::{Refusal, Verb};
-use pid_service_laws::Consulted;
+use pid_service_laws::RegistryQueries;
 use std::alloc::{AllocError, Global};
 
 /// The sender of a command. Of what is no command none is looked for.
@@ -37,12 +37,12 @@ pub(crate) fn sender_for<'b>(request: &Request, head: &Head<'b>) -> Option<Sende
 }
 
 // The head of the reply with the text, which `write_body` writes after it.
-fn export<R: Consulted>(
+fn export<R: RegistryQueries>(
     alloc: Global,
     registry: &mut R,
     format: Format,
 ) -> Result<HttpReply, AllocError>
-    ensures { Replies R.Moderated registry.old registry.new
+    ensures { Replies R.RegistryCalls registry.old registry.new
         (errands.Asks (questions.Whole Whole.Export) format) result }
 {
     match registry.export_length() {
@@ -58,13 +58,13 @@ fn export<R: Consulted>(
 }
 
 // The item at a path.
-fn read<R: Consulted>(
+fn read<R: RegistryQueries>(
     alloc: Global,
     registry: &mut R,
     path: Path,
     format: Format,
 ) -> Result<HttpReply, AllocError>
-    ensures { Replies R.Moderated registry.old registry.new (errands.Asks (questions.Read path) format)
+    ensures { Replies R.RegistryCalls registry.old registry.new (errands.Asks (questions.Read path) format)
         result }
 {
     match registry.read(&path) {
@@ -75,13 +75,13 @@ fn read<R: Consulted>(
 }
 
 // The items below a path, or at the top.
-fn children<R: Consulted>(
+fn children<R: RegistryQueries>(
     alloc: Global,
     registry: &mut R,
     above: Option<Path>,
     format: Format,
 ) -> Result<HttpReply, AllocError>
-    ensures { Replies R.Moderated registry.old registry.new (errands.Asks (questions.Children above) format)
+    ensures { Replies R.RegistryCalls registry.old registry.new (errands.Asks (questions.Children above) format)
         result }
 {
     match above {
@@ -96,14 +96,14 @@ fn children<R: Consulted>(
 }
 
 // A look-up, which has no format.
-fn lookup<R: Consulted>(
+fn lookup<R: RegistryQueries>(
     alloc: Global,
     registry: &mut R,
     flags: u32,
     args: Args,
     size: u32,
 ) -> Result<HttpReply, AllocError>
-    ensures { (format : _) → Replies R.Moderated registry.old registry.new
+    ensures { (format : _) → Replies R.RegistryCalls registry.old registry.new
         (errands.Asks (questions.Lookup flags args size) format) result }
 {
     let found = registry.lookup(flags, &args, size);
@@ -111,13 +111,13 @@ fn lookup<R: Consulted>(
 }
 
 // The submission with a number.
-fn submission<R: Consulted>(
+fn submission<R: RegistryQueries>(
     alloc: Global,
     registry: &mut R,
     number: u32,
     format: Format,
 ) -> Result<HttpReply, AllocError>
-    ensures { Replies R.Moderated registry.old registry.new
+    ensures { Replies R.RegistryCalls registry.old registry.new
         (errands.Asks (questions.Submission number) format) result }
 {
     match registry.submission(number) {
@@ -127,13 +127,13 @@ fn submission<R: Consulted>(
 }
 
 // The rank of an account.
-fn rank<R: Consulted>(
+fn rank<R: RegistryQueries>(
     alloc: Global,
     registry: &mut R,
     who: &Account,
     format: Format,
 ) -> Result<HttpReply, AllocError>
-    ensures { Replies R.Moderated registry.old registry.new (errands.Asks (questions.Rank who.now) format)
+    ensures { Replies R.RegistryCalls registry.old registry.new (errands.Asks (questions.Rank who.now) format)
         result }
 {
     match registry.rank(who) {
@@ -143,13 +143,13 @@ fn rank<R: Consulted>(
 }
 
 // Answers a question.
-fn ask<R: Consulted>(
+fn ask<R: RegistryQueries>(
     alloc: Global,
     registry: &mut R,
     question: &Question,
     format: Format,
 ) -> Result<HttpReply, AllocError>
-    ensures { Replies R.Moderated registry.old registry.new (errands.Asks question.now format)
+    ensures { Replies R.RegistryCalls registry.old registry.new (errands.Asks question.now format)
         result }
 {
     match *question {
@@ -182,7 +182,7 @@ fn ask<R: Consulted>(
 }
 
 // Has the command obeyed that a sender's form makes. The sender is judged before the form.
-fn command<R: Consulted>(
+fn command<R: RegistryQueries>(
     alloc: Global,
     registry: &mut R,
     verb: Verb,
@@ -190,7 +190,7 @@ fn command<R: Consulted>(
     sender: Option<Sender<'_>>,
     body: &[u8],
 ) -> Result<HttpReply, AllocError>
-    ensures { Replies R.Moderated registry.old registry.new
+    ensures { Replies R.RegistryCalls registry.old registry.new
         (sent format (λ s. command_made verb s body.now) (sending_in sender.entry)) result }
 {
     match sender {
@@ -206,14 +206,14 @@ fn command<R: Consulted>(
 }
 
 /// Answers a request whose body is in memory.
-pub(crate) fn answer<R: Consulted>(
+pub(crate) fn answer<R: RegistryQueries>(
     alloc: Global,
     registry: &mut R,
     request: &Request,
     sender: Option<Sender<'_>>,
     body: &[u8],
 ) -> Result<HttpReply, AllocError>
-    ensures { Replies R.Moderated registry.old registry.new
+    ensures { Replies R.RegistryCalls registry.old registry.new
         (errand_for request.now (sending_in sender.entry) body.now) result }
 {
     match *request {

@@ -15,7 +15,7 @@ use pid_http_stream::{HttpReply, LONGEST_BODY, NoReply};
 use pid_ident::{Account, Input, Key};
 use pid_moderation::{Refusal, Reply as Outcome};
 use pid_reader::skip_input;
-use pid_service_laws::{Consulted, ImportEnd};
+use pid_service_laws::{ImportEnd, RegistryQueries};
 use std::alloc::Global;
 
 fn reply_with(
@@ -50,7 +50,7 @@ fn refuse<B: Input>(
 }
 
 // Has an import obeyed.
-fn take_in<R: Consulted, B: Input>(
+fn take_in<R: RegistryQueries, B: Input>(
     alloc: Global,
     registry: &mut R,
     format: Format,
@@ -60,7 +60,7 @@ fn take_in<R: Consulted, B: Input>(
 ) -> Result<HttpReply, NoReply>
     ensures goes { B.goes body.old body.new }
     ensures whole { IfOk result (λ _. IsAtEnd (B.to_come body.new)) }
-    ensures replied { RepliesToFile R.Moderated registry.old registry.new
+    ensures replied { RepliesToFile R.RegistryCalls registry.old registry.new
         (B.to_come body.old) (B.to_come body.new)
         (λ file. errands.Obeys (import_of account key (file_reading file)) format) result }
 {
@@ -90,7 +90,7 @@ fn owner_of(alloc: Global, sender: Sender<'_>) -> Option<(Account, Option<Key>)>
 
 /// Has an import obeyed whose file is the body. The sender is judged first, but a refusal is
 /// answered only after the body.
-pub(crate) fn import<R: Consulted, B: Input>(
+pub(crate) fn import<R: RegistryQueries, B: Input>(
     alloc: Global,
     registry: &mut R,
     format: Format,
@@ -99,7 +99,7 @@ pub(crate) fn import<R: Consulted, B: Input>(
 ) -> Result<HttpReply, NoReply>
     ensures goes { B.goes body.old body.new }
     ensures whole { IfOk result (λ _. IsAtEnd (B.to_come body.new)) }
-    ensures replied { RepliesToFile R.Moderated registry.old registry.new
+    ensures replied { RepliesToFile R.RegistryCalls registry.old registry.new
         (B.to_come body.old) (B.to_come body.new)
         (import_errand format (sending_in sender.entry)) result }
 {

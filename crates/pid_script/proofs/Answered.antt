@@ -10,7 +10,7 @@ use Rattle.pid_moderation.specs.History.{History, Asked}
 use Rattle.pid_moderation.specs.Judgement.{after_all}
 use Rattle.pid_script.specs.declared.line_end.LineEnd.{LineEnd}
 use Rattle.pid_script.specs.declared.line_end.LineEnd.TheVariants.{Stopped, WriteFault, TooLong}
-use Rattle.pid_service_laws.specs.declared.moderated.Moderated.{Ghosts}
+use Rattle.pid_service_laws.specs.declared.registry_calls.RegistryCalls.{Ghosts}
 use Rattle.pid_script.specs.Calling.{CallsSend, CallsSendEither}
 use Rattle.pid_script.specs.Replies.{line_reply, calls_for, calls_for_lines, command_of, commands_of_lines, history_after, replies}
 use Rattle.pid_script.specs.Steps.Output.{Out, out, HasSaid, SaysStop, AnswersLine}

@@ -18,7 +18,7 @@ use Rattle.pid_service_laws.specs.Calls.{nothing_sent}
 use Rattle.pid_service_laws.specs.Registries.{Does}
 use Rattle.pid_script.specs.declared.line_end.LineEnd.{LineEnd}
 use Rattle.pid_script.specs.declared.line_end.LineEnd.TheVariants.{Stopped, WriteFault, TooLong}
-use Rattle.pid_service_laws.specs.declared.moderated.Moderated.{Ghosts}
+use Rattle.pid_service_laws.specs.declared.registry_calls.RegistryCalls.{Ghosts}
 use Rattle.pid_service_laws.specs.Moderating.{ExportsText, TakesWholeFront}
 use Rattle.pid_script.specs.Steps.Output.{out, IsGivenRefusal, IsGivenStop, IsNothing, TellsLine, IsReplyOrStop, GoesOnAfter, AnswersLine}
 use Rattle.pid_script.specs.ScriptLines as lines

@@ -9,7 +9,7 @@ use Rattle.pid_moderation.specs.History.{History}
 use Rattle.pid_moderation.specs.ReplyLines.{refused_line}
 use Rattle.pid_script.specs.declared.line_end.LineEnd.{LineEnd}
 use Rattle.pid_script.specs.declared.line_end.LineEnd.TheVariants.{Stopped, WriteFault, TooLong}
-use Rattle.pid_service_laws.specs.declared.moderated.Moderated.{Ghosts}
+use Rattle.pid_service_laws.specs.declared.registry_calls.RegistryCalls.{Ghosts}
 use Rattle.pid_script.specs.Replies.{command_of, history_after}
 use Rattle.pid_script.specs.RegistryStates.{StopsAfter}
 use Rattle.pid_script.specs.Steps.Output.{Out, out, IsGivenStop, SaysMemory, SaysStop, SaysTooLong, TellsLine, Unfit, NoMemory, AlreadyLong, AnswersLine}

@@ -11,7 +11,7 @@ use Rattle.pid_reader.specs.WholeLines.{ended_pieces, open_part, whole_lines}
 use Rattle.pid_file.proofs.Cuts.{whole_line, open_after, whole_same, open_longer, lines_more}
 use Rattle.pid_script.specs.declared.line_end.LineEnd.{LineEnd}
 use Rattle.pid_script.specs.declared.line_end.LineEnd.TheVariants.{WriteFault}
-use Rattle.pid_service_laws.specs.declared.moderated.Moderated.{Ghosts}
+use Rattle.pid_service_laws.specs.declared.registry_calls.RegistryCalls.{Ghosts}
 use Rattle.pid_script.specs.Steps.Output.{Out, out, Unfit, AnswersLine}
 use Rattle.pid_script.specs.ScriptLines.{LONGEST, ask_of}
 use Rattle.pid_script.specs.RegistryStates.{ShowsOrHasFailed}

@@ -13,7 +13,7 @@ use Rattle.pid_ident.specs.Moments.{Moment}
 use Rattle.pid_reader.specs.Lines.{drop_cr, lines_of}
 use Rattle.pid_reader.specs.WholeLines.{whole_lines, open_part}
 use Rattle.pid_moderation.specs.History.{History}
-use Rattle.pid_service_laws.specs.declared.moderated.Moderated.{Ghosts}
+use Rattle.pid_service_laws.specs.declared.registry_calls.RegistryCalls.{Ghosts}
 use Rattle.pid_script.specs.declared.script_end.ScriptEnd.{ScriptEnd}
 use Rattle.pid_script.specs.declared.script_end.ScriptEnd.TheVariants.{Done, ReadFault, WriteFault}
 use Rattle.pid_script.specs.declared.script_end.ScriptEnd.TheVariants.{TooLong, Stopped}

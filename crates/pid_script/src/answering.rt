@@ -15,11 +15,11 @@ use crate::reply::{
 };
 use pid_ident::Output;
 use pid_moderation::Verb;
-use pid_service_laws::{ExportFault, Moderated};
+use pid_service_laws::{ExportFault, RegistryCalls};
 use std::alloc::Global;
 
 // Obeys the command that a form says.
-fn obey<R: Moderated, O: Output>(
+fn obey<R: RegistryCalls, O: Output>(
     alloc: Global,
     registry: &mut R,
     output: &mut O,
@@ -29,7 +29,7 @@ fn obey<R: Moderated, O: Output>(
     form: &str,
 ) -> Result<(), LineEnd>
     ensures calls { CallsGo R.showing registry.old registry.new }
-    ensures ends { AnswersOver R.Moderated result (asks.AsksCommand verb account.now form.now) registry.old
+    ensures ends { AnswersOver R.RegistryCalls result (asks.AsksCommand verb account.now form.now) registry.old
         (out (O.taken output.old) held.old.items) registry.new
         (out (O.taken output.new) held.new.items) }
     ensures fault { result ≡ Err LineEnd.WriteFault → IsSome (O.write_fault output.new) }
@@ -44,7 +44,7 @@ fn obey<R: Moderated, O: Output>(
 }
 
 // Says the name of the path that a form says.
-fn read<R: Moderated, O: Output>(
+fn read<R: RegistryCalls, O: Output>(
     alloc: Global,
     registry: &mut R,
     output: &mut O,
@@ -52,7 +52,7 @@ fn read<R: Moderated, O: Output>(
     form: &str,
 ) -> Result<(), LineEnd>
     ensures calls { CallsGo R.showing registry.old registry.new }
-    ensures ends { AnswersOver R.Moderated result (asks.AsksName form.now) registry.old
+    ensures ends { AnswersOver R.RegistryCalls result (asks.AsksName form.now) registry.old
         (out (O.taken output.old) held.old.items) registry.new
         (out (O.taken output.new) held.new.items) }
     ensures fault { result ≡ Err LineEnd.WriteFault → IsSome (O.write_fault output.new) }
@@ -67,7 +67,7 @@ fn read<R: Moderated, O: Output>(
 }
 
 // Answers the look-up that a form says.
-fn lookup<R: Moderated, O: Output>(
+fn lookup<R: RegistryCalls, O: Output>(
     alloc: Global,
     registry: &mut R,
     output: &mut O,
@@ -75,7 +75,7 @@ fn lookup<R: Moderated, O: Output>(
     form: &str,
 ) -> Result<(), LineEnd>
     ensures calls { CallsGo R.showing registry.old registry.new }
-    ensures ends { AnswersOver R.Moderated result (asks.AsksLookup form.now) registry.old
+    ensures ends { AnswersOver R.RegistryCalls result (asks.AsksLookup form.now) registry.old
         (out (O.taken output.old) held.old.items) registry.new
         (out (O.taken output.new) held.new.items) }
     ensures fault { result ≡ Err LineEnd.WriteFault → IsSome (O.write_fault output.new) }
@@ -91,13 +91,13 @@ fn lookup<R: Moderated, O: Output>(
 }
 
 // Writes the canonical text, after what is held.
-fn export<R: Moderated, O: Output>(
+fn export<R: RegistryCalls, O: Output>(
     registry: &mut R,
     output: &mut O,
     held: &mut Vec<u8>,
 ) -> Result<(), LineEnd>
     ensures calls { CallsGo R.showing registry.old registry.new }
-    ensures ends { AnswersOver R.Moderated result asks.AsksExport registry.old
+    ensures ends { AnswersOver R.RegistryCalls result asks.AsksExport registry.old
         (out (O.taken output.old) held.old.items) registry.new
         (out (O.taken output.new) held.new.items) }
     ensures fault { result ≡ Err LineEnd.WriteFault → IsSome (O.write_fault output.new) }
@@ -113,7 +113,7 @@ fn export<R: Moderated, O: Output>(
 }
 
 /// Answers a line, whose CR is dropped.
-pub fn answer_line<R: Moderated, O: Output>(
+pub fn answer_line<R: RegistryCalls, O: Output>(
     alloc: Global,
     registry: &mut R,
     output: &mut O,
@@ -121,7 +121,7 @@ pub fn answer_line<R: Moderated, O: Output>(
     line: &[u8],
 ) -> Result<(), LineEnd>
     ensures calls { CallsGo R.showing registry.old registry.new }
-    ensures ends { AnswersOver R.Moderated result (ask_of line.now) registry.old
+    ensures ends { AnswersOver R.RegistryCalls result (ask_of line.now) registry.old
         (out (O.taken output.old) held.old.items) registry.new
         (out (O.taken output.new) held.new.items) }
     ensures fault { result ≡ Err LineEnd.WriteFault → IsSome (O.write_fault output.new) }

@@ -4,7 +4,6 @@
 mod accounts;
 mod changes;
 mod closing;
-mod consulted;
 mod export_sink;
 mod exporting;
 mod importing;
@@ -15,7 +14,6 @@ mod kept_children;
 mod kept_text;
 mod kept_views;
 pub mod laws;
-mod moderated;
 mod names;
 mod obeying;
 mod opening;
@@ -24,6 +22,8 @@ mod pending_numbers;
 mod preparing;
 mod reading;
 mod registry;
+mod registry_calls;
+mod registry_queries;
 mod registry_status;
 mod renewing;
 mod running;
@@ -52,5 +52,5 @@ pub use pid_moderation::{
     Listed, Pending, Proposal, Queued, Rank, Refusal, Reply, State, Status, Submission,
     SubmissionPage, Verb, command_of, reply_line,
 };
-pub use pid_service_laws::{Consulted, ExportFault, ImportEnd, Moderated};
+pub use pid_service_laws::{ExportFault, ImportEnd, RegistryCalls, RegistryQueries};
 pub use pid_tables::{Step, TableFault};

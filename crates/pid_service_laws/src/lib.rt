@@ -1,4 +1,4 @@
-//! What a registry under moderation promises to scripts and to HTTP (`Moderated`, `Consulted`),
+//! What a registry under moderation promises to scripts and to HTTP (`RegistryCalls`, `RegistryQueries`),
 //! and its sessions, from one opening to the next, over stops at any place, with the laws that hold
 //! over them.
 //!
@@ -8,15 +8,15 @@
 #![tactic(auto)]
 
 mod calls;
-mod consulted;
 mod faults;
 mod laws;
-mod moderated;
+mod registry_calls;
+mod registry_queries;
 
 pub use calls::calls_make_a_session;
-pub use consulted::Consulted;
 pub use faults::{ExportFault, ImportEnd};
 pub use laws::{
     doubts_end, judgements_are_outcomes, refusals_change_nothing, sessions_are_prefixes,
 };
-pub use moderated::Moderated;
+pub use registry_calls::RegistryCalls;
+pub use registry_queries::RegistryQueries;

@@ -1,7 +1,7 @@
 -- What the service says of itself as a handler.
 use Rattle.std.specs.Prelude.{◌≡◌, ◌+◌, ℕ, List, [], ◌∷◌, ◌++◌}
 use Rattle.std.proofs.Common.{sym, ap, arith, subst, ◌∙◌, append_assoc, length-append}
-use Rattle.pid_service_laws.specs.declared.moderated.Moderated.{Ghosts}
+use Rattle.pid_service_laws.specs.declared.registry_calls.RegistryCalls.{Ghosts}
 use Rattle.pid_service_laws.specs.Calls.{AreNothing, Call}
 use Rattle.pid_moderation.specs.History.{History}
 use Rattle.pid_moderation.specs.Writes.{tree_of}

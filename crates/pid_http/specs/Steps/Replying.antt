@@ -3,7 +3,7 @@ use Rattle.std.specs.Prelude.{◌≡◌, ◌≤◌, ◌⊎◌, ℕ, true, false,
 use Rattle.std.specs.Prelude.{Option, Some, Result}
 use Rattle.std.specs.Prelude.{Ok, Err, IsErrAnd, MatchResult}
 use Rattle.std.specs.Io.KnownBytes.{IsAtEnd}
-use Rattle.pid_service_laws.specs.declared.moderated.Moderated.{Ghosts}
+use Rattle.pid_service_laws.specs.declared.registry_calls.RegistryCalls.{Ghosts}
 use Rattle.pid_service_laws.specs.Calls.{Call, obeyed}
 use Rattle.pid_moderation.specs.History.{Asked}
 use Rattle.pid_moderation.specs.Judgement.{answer, judge, after}

@@ -16,7 +16,7 @@ returns-in-Ok g c =
         opens = c.in-Ok.ensures.opened;
         ended = new;
         goes = record {
-          calls = import_sent asked c.import_from-result.result (g.G.Registry.Moderated.is_live new) ∷ [];
+          calls = import_sent asked c.import_from-result.result (g.G.Registry.RegistryCalls.is_live new) ∷ [];
           lead = (new, i.obeyed.holds.calls, refl);
         };
         does = i.obeyed;

@@ -18,5 +18,5 @@ pub returns-in-Ok : goal.returns-in-Ok
 returns-in-Ok g c =
     let e = c.obey-outcome.ensures in
     let asked = asks c.in-Ok.command in
-    let done = replied _ _ _ _ _ _ c.outcome_reply.ensures (turned _ _ _ (λ k calls now is. obeyed_met asked c.args.format k now c.obey-outcome.result calls is) (obeyed _ g.met.R.Moderated.lives _ _ c.obey-outcome.result asked e.calls e.failed e.obeys)) in
+    let done = replied _ _ _ _ _ _ c.outcome_reply.ensures (turned _ _ _ (λ k calls now is. obeyed_met asked c.args.format k now c.obey-outcome.result calls is) (obeyed _ g.met.R.RegistryCalls.lives _ _ c.obey-outcome.result asked e.calls e.failed e.obeys)) in
     rw (c.in-Some.is, c.in-Ok.ensures.ok) done

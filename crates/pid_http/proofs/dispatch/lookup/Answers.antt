@@ -42,7 +42,7 @@ pub returns : goal.returns
 returns g c format =
     let l : Lookup = record { flags = c.args.flags; args = c.args.args; size = c.args.size } in
     let e = c.lookup-found.ensures in
-    replied _ _ _ _ _ _ c.lookup_reply.ensures (from_call _ g.met.R.Moderated.lives _ _ _ (lookup_answer c.lookup-found.result)
+    replied _ _ _ _ _ _ c.lookup_reply.ensures (from_call _ g.met.R.RegistryCalls.lives _ _ _ (lookup_answer c.lookup-found.result)
     (one_call _ _ _ nothing_sent e.calls (λ off. (e.failed off).1)) e.honest
     (λ clean h shows. (Live h, e.kept.shown clean h shows, over l format h c.lookup-found.result (e.told clean h shows)))
     (λ off. Refused (failed l format c.lookup-found.result (e.failed off).0) one_question))
