@@ -10,14 +10,14 @@ use crate::lines::{print_reply, report_unopened};
 use crate::machine::{Databases, Machine};
 use crate::registries::Registries;
 use crate::unopened::Unopened;
-use pid_cli_words::ImportWords;
+use pid_cli_words::ImportArgs;
 use pid_cli_words::terminal::{Counted, Progress, Seen};
 use pid_ident::{Account, Input, Key, Output, Plain, WordFault};
 use pid_moderation::{Refusal, Reply};
 use pid_service_laws::{ImportEnd, RegistryQueries};
 use std::alloc::Global;
 
-fn sender_of(alloc: Global, words: &ImportWords<'_>) -> Result<(Account, Option<Key>), WordFault>
+fn sender_of(alloc: Global, words: &ImportArgs<'_>) -> Result<(Account, Option<Key>), WordFault>
     ensures ok { IfOk result (λ s. (s.0 ≡ words.now.account.now)
         × (s.1 ≡ text_given words.now.key)) }
     ensures bad { IsErrOf result WordFault.Bad → IsBadSender words.now.account.now
@@ -74,7 +74,7 @@ pub fn import<M: Machine, G: Registries<M>, O: Output, F: Output>(
     machine: &mut M,
     registries: &mut G,
     progress: &mut Progress<'_>,
-    words: &ImportWords<'_>,
+    words: &ImportArgs<'_>,
     output: &mut O,
     faults: &mut F,
 ) -> JobEnd

@@ -7,7 +7,7 @@ use pid_cli_jobs::{
     answer_lookup, import, report_end, report_unopened, script, serve,
 };
 use pid_cli_words::terminal::{Counted, Progress, Seen};
-use pid_cli_words::{ImportWords, Job};
+use pid_cli_words::{ImportArgs, Job};
 use pid_file::{TextEnd, Watched, report_text_end, run_check, run_tidy};
 use pid_ident::{Output, Plain};
 use sqlite_disk::Start;
@@ -117,7 +117,7 @@ fn run_import<M: Machine, J: Journals, O: Output, F: Output>(
     rt: &HostRuntime,
     machine: &mut M,
     journals: &mut J,
-    words: &ImportWords<'_>,
+    words: &ImportArgs<'_>,
     output: &mut O,
     faults: &mut F,
 ) -> JobEnd {

@@ -8,6 +8,6 @@ mod subcommand;
 pub mod terminal;
 mod words;
 
-pub use job::{ImportWords, Job, LookupWords};
+pub use job::{ImportArgs, Job, LookupArgs};
 pub use no_job::report_no_job;
 pub use words::job_of;

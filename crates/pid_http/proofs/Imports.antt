@@ -23,11 +23,11 @@ use Rattle.pid_http.specs.declared.api.format.Format.{Format}
 use Rattle.pid_http.specs.Api.Outcomes.{outcome_answer}
 use Rattle.pid_http.specs.Api.Replying.{IsReplyOf}
 use Rattle.pid_service_laws.specs.Calls.{Call, obeyed}
-use Rattle.pid_http.specs.Answering.{Errand, Obeys}
+use Rattle.pid_http.specs.Answering.{RequestMeaning, Obeys}
 use Rattle.pid_http.specs.Known.{Known, Live, Between, Down, IsKnownOf, LivesOn}
 use Rattle.pid_http.specs.Steps.Going.{Goes}
 use Rattle.pid_http.specs.Steps.Replying.{IsCommandMet, IsMetAfter}
-use Rattle.pid_http.specs.Serving.{AreQuestions, IsErrandMet, most_questions}
+use Rattle.pid_http.specs.Serving.{AreQuestions, IsMeaningMet, most_questions}
 use Rattle.pid_http.proofs.Meeting.{Lives, body_met, no_call, not_asked, obeyed_met, obeys_so, one_call, one_question, turned}
 
 -- what was read of a known body to its end is all of it
@@ -49,9 +49,9 @@ behind : {E : Type 0} (account : List ℕ) (key : Option (List ℕ)) (format : F
     → text ≡ file → IsAtEnd left → IfOk r (λ reply. IsReplyOf reply (outcome_answer format outcome)) → IsCommandMet (import_of account key (file_reading text)) k outcome calls now
     → IsMetAfter k (Obeys (import_of account key (file_reading file)) format) r left calls now
 behind {E} account key format file text outcome r left k calls now same end is obeys =
-    by_reply r is (subst (λ (x : List ℕ). IsErrandMet k (Obeys (import_of account key (file_reading x)) format) (outcome_answer format outcome) calls now) same (obeyed_met (import_of account key (file_reading text)) format k now outcome calls obeys))
+    by_reply r is (subst (λ (x : List ℕ). IsMeaningMet k (Obeys (import_of account key (file_reading x)) format) (outcome_answer format outcome) calls now) same (obeyed_met (import_of account key (file_reading text)) format k now outcome calls obeys))
   where
-    by_reply : (r : Result HttpReply E) → IfOk r (λ reply. IsReplyOf reply (outcome_answer format outcome)) → IsErrandMet k (Obeys (import_of account key (file_reading file)) format) (outcome_answer format outcome) calls now
+    by_reply : (r : Result HttpReply E) → IfOk r (λ reply. IsReplyOf reply (outcome_answer format outcome)) → IsMeaningMet k (Obeys (import_of account key (file_reading file)) format) (outcome_answer format outcome) calls now
         → IsMetAfter k (Obeys (import_of account key (file_reading file)) format) r left calls now
     by_reply (Ok reply) is met = body_met k now (Obeys (import_of account key (file_reading file)) format) reply.head reply.body (outcome_answer format outcome) calls is met
     by_reply (Err e) is met = inr (end, (outcome_answer format outcome, met))
@@ -120,13 +120,13 @@ module _ {R : Type 0} (registry : Ghosts R) where
           → Goes registry old new (λ k calls now. (file : List ℕ) → to_come ≡ Some file → length file ≤ LONGEST_BODY → IsMetAfter k (Obeys (import_of account key (file_reading file)) format) r last calls now)
 
   -- it was not asked for, and the body was read to its end, or given up
-  pub denied_after : {E : Type 0} (r : R) (errand : List ℕ → Errand) (given : Answer) (result : Result HttpReply E) (to_come left : Option (List ℕ)) → IfOk result (λ _. IsAtEnd left) → IfOk result (λ reply. IsReplyOf reply given)
-      → ((file : List ℕ) (k : Known) → IsErrandMet k (errand file) given [] k) → Goes registry r r (λ k calls now. (file : List ℕ) → to_come ≡ Some file → length file ≤ LONGEST_BODY → IsMetAfter k (errand file) result left calls now)
-  denied_after {E} r errand given result to_come left end is met = no_call registry r _ (λ k file known fits. by_reply result is k file)
+  pub denied_after : {E : Type 0} (r : R) (meaning : List ℕ → RequestMeaning) (given : Answer) (result : Result HttpReply E) (to_come left : Option (List ℕ)) → IfOk result (λ _. IsAtEnd left) → IfOk result (λ reply. IsReplyOf reply given)
+      → ((file : List ℕ) (k : Known) → IsMeaningMet k (meaning file) given [] k) → Goes registry r r (λ k calls now. (file : List ℕ) → to_come ≡ Some file → length file ≤ LONGEST_BODY → IsMetAfter k (meaning file) result left calls now)
+  denied_after {E} r meaning given result to_come left end is met = no_call registry r _ (λ k file known fits. by_reply result is k file)
     where
-      by_reply : (result : Result HttpReply E) → IfOk result (λ reply. IsReplyOf reply given) → (k : Known) (file : List ℕ) → IsMetAfter k (errand file) result left [] k
-      by_reply (Ok reply) is k file = body_met k k (errand file) reply.head reply.body given [] is (met file k)
-      by_reply (Err e) is k file = inl (not_asked (most_questions (errand file)), refl)
+      by_reply : (result : Result HttpReply E) → IfOk result (λ reply. IsReplyOf reply given) → (k : Known) (file : List ℕ) → IsMetAfter k (meaning file) result left [] k
+      by_reply (Ok reply) is k file = body_met k k (meaning file) reply.head reply.body given [] is (met file k)
+      by_reply (Err e) is k file = inl (not_asked (most_questions (meaning file)), refl)
 
   -- by the words of the sender
   pub of_owner : {E : Type 0} (old new : R) (account said : List ℕ) (key told : Option (List ℕ)) (format : Format) (result : Result HttpReply E) (to_come left : Option (List ℕ)) → account ≡ said → key ≡ told
@@ -136,14 +136,14 @@ module _ {R : Type 0} (registry : Ghosts R) where
       turned registry old new (λ k calls now behind file known fits. subst (λ (c : Asked). IsMetAfter k (Obeys c format) result left calls now) (λ i. import_of (e i) (f i) (file_reading file)) (behind file known fits)) goes
 
   -- the input failed
-  pub gave_up : Lives registry → (old new : R) (end : ImportEnd) (account : List ℕ) (key : Option (List ℕ)) (to_come left : Option (List ℕ)) (errand : List ℕ → Errand)
-      → ((file : List ℕ) → 1 ≤ most_questions (errand file)) → end ≡ Body → (registry.is_live old ≡ false → (IsEnd end (Refused refusals.Failed) ⊎ IsEnd end Body) × (new ≡ old)) → HasRead (Err end) to_come left (Holds old new (Err end) account key)
-      → Goes registry old new (λ k calls now. (file : List ℕ) → to_come ≡ Some file → length file ≤ LONGEST_BODY → (AreQuestions (most_questions (errand file)) calls × (k ≡ now)) ⊎ (IsAtEnd left × ((given : Answer) × IsErrandMet k (errand file) given calls now)))
-  gave_up alive old new end account key to_come left errand takes is failed read = record {
+  pub gave_up : Lives registry → (old new : R) (end : ImportEnd) (account : List ℕ) (key : Option (List ℕ)) (to_come left : Option (List ℕ)) (meaning : List ℕ → RequestMeaning)
+      → ((file : List ℕ) → 1 ≤ most_questions (meaning file)) → end ≡ Body → (registry.is_live old ≡ false → (IsEnd end (Refused refusals.Failed) ⊎ IsEnd end Body) × (new ≡ old)) → HasRead (Err end) to_come left (Holds old new (Err end) account key)
+      → Goes registry old new (λ k calls now. (file : List ℕ) → to_come ≡ Some file → length file ≤ LONGEST_BODY → (AreQuestions (most_questions (meaning file)) calls × (k ≡ now)) ⊎ (IsAtEnd left × ((given : Answer) × IsMeaningMet k (meaning file) given calls now)))
+  gave_up alive old new end account key to_come left meaning takes is failed read = record {
     lives = imports_on old new (Err end) account key to_come left failed read;
     served = record {
       good = read.holds.calls.clean;
-      leads = λ good k known. (k, still (subst (λ x. HasRead (Err x) to_come left (Holds old new (Err x) account key)) is read) good k known, λ file comes fits. inl (subst (λ x. AreQuestions (most_questions (errand file)) (import_sent (import_of account key (file_reading read.text)) (Err x) (registry.is_live new) ∷ [])) (sym is) (one_question.0, takes file), refl));
+      leads = λ good k known. (k, still (subst (λ x. HasRead (Err x) to_come left (Holds old new (Err x) account key)) is read) good k known, λ file comes fits. inl (subst (λ x. AreQuestions (most_questions (meaning file)) (import_sent (import_of account key (file_reading read.text)) (Err x) (registry.is_live new) ∷ [])) (sym is) (one_question.0, takes file), refl));
     };
   }
     where

@@ -15,11 +15,11 @@ use Rattle.pid_http_stream.specs.Conducts.{AreReplies}
 use Rattle.pid_http_stream.specs.Replies.{Answer}
 use Rattle.pid_http_stream.specs.Requests.{Request}
 use Rattle.pid_http.proofs.Meeting.{history_after}
-use Rattle.pid_http.specs.Answering.{Errand, command_sent, errand_of}
+use Rattle.pid_http.specs.Answering.{RequestMeaning, command_sent, meaning_of}
 use Rattle.pid_http.specs.Steps.Handling.{nothing_then}
 use Rattle.pid_http.specs.Known.{Known, Live, Between, Told, ByCalls}
 use Rattle.pid_http.specs.Sending.{AreSomeOf, SendsSome, commands_asked, if_any}
-use Rattle.pid_http.specs.Serving.{AreCallsOver, AreUndone, IsFailedAnswer, Refused, AsEver, Short, most_questions, IsErrandMet, IsMetOver, AnsweredOver, NotAsked, NotDone, InDoubt, serving}
+use Rattle.pid_http.specs.Serving.{AreCallsOver, AreUndone, IsFailedAnswer, Refused, AsEver, Short, most_questions, IsMeaningMet, IsMetOver, AnsweredOver, NotAsked, NotDone, InDoubt, serving}
 
 -- ---- calls one behind the other
 
@@ -110,18 +110,18 @@ in_doubt : (h : History) (c : Asked) (refusal : Refusal) (calls : List Call) (k 
 in_doubt h c refusal calls k fault by is =
     stopped_so h (c ∷ []) [] c calls k (ap (λ (l : List Call). commands_in (sent_in l)) by ∙ fault_sends c refusal false fault) (subst (StopsAt c) (sym by) (fault_stops c refusal fault)) (inr ([], refl, refl)) is
 
-met_sends : AreOutcomes → (h : History) (errand : Errand) (given : Answer) (calls : List Call) (k : Known) → IsMetOver h errand given calls k → SendsSome h (if_any (command_sent errand)) calls k
-met_sends outcomes h errand given calls k (AnsweredOver e by is) = over outcomes h (command_sent errand) (most_questions errand) calls k by is
-met_sends outcomes h errand given calls k (NotAsked short none is) = quiet h (if_any (command_sent errand)) calls k (subst AreNothing (sym none) tt) is
-met_sends outcomes h errand given calls k (NotDone refusal fault refused undone is) = not_done h (command_sent errand) refusal (most_questions errand) calls k fault undone is
-met_sends outcomes h errand given calls k (InDoubt refusal c fault refused command by is) =
+met_sends : AreOutcomes → (h : History) (meaning : RequestMeaning) (given : Answer) (calls : List Call) (k : Known) → IsMetOver h meaning given calls k → SendsSome h (if_any (command_sent meaning)) calls k
+met_sends outcomes h meaning given calls k (AnsweredOver e by is) = over outcomes h (command_sent meaning) (most_questions meaning) calls k by is
+met_sends outcomes h meaning given calls k (NotAsked short none is) = quiet h (if_any (command_sent meaning)) calls k (subst AreNothing (sym none) tt) is
+met_sends outcomes h meaning given calls k (NotDone refusal fault refused undone is) = not_done h (command_sent meaning) refusal (most_questions meaning) calls k fault undone is
+met_sends outcomes h meaning given calls k (InDoubt refusal c fault refused command by is) =
     subst (λ (o : Option Asked). SendsSome h (if_any o) calls k) (sym command) (in_doubt h c refusal calls k fault by is)
 
 -- one that has failed was sent nothing
-failed_nothing : (errand : Errand) (given : Answer) (calls : List Call) → IsFailedAnswer errand given calls → AreNothing calls
-failed_nothing errand given calls (Refused refused asked) = asked.0
-failed_nothing errand given calls (AsEver known none) = subst AreNothing (sym none) tt
-failed_nothing errand given calls (Short short none) = subst AreNothing (sym none) tt
+failed_nothing : (meaning : RequestMeaning) (given : Answer) (calls : List Call) → IsFailedAnswer meaning given calls → AreNothing calls
+failed_nothing meaning given calls (Refused refused asked) = asked.0
+failed_nothing meaning given calls (AsEver known none) = subst AreNothing (sym none) tt
+failed_nothing meaning given calls (Short short none) = subst AreNothing (sym none) tt
 
 -- ---- requests in turn
 
@@ -172,22 +172,22 @@ module _ {R : Type 0} (registry : Ghosts R) where
           (λ calls. SendsSome h (cs ++ ds) calls u.known)
           (λ xs ys p q. stop_on h cs ds xs ys c u.known p.0 p.1 q.0 (q.1 ∙ ap (λ (a : History). Between a (after a c)) p.2)) (at _ (stops, some, refl)) (failed x (after x c) is)
 
-  pub met_by : AreOutcomes → (t u : Told registry) (h : History) (errand : Errand) (given : Answer) → t.known ≡ Live h → ByCalls registry t u (λ calls. IsErrandMet t.known errand given calls u.known)
-      → ByCalls registry t u (λ calls. SendsSome h (if_any (command_sent errand)) calls u.known)
-  met_by outcomes t u h errand given live b = record {
+  pub met_by : AreOutcomes → (t u : Told registry) (h : History) (meaning : RequestMeaning) (given : Answer) → t.known ≡ Live h → ByCalls registry t u (λ calls. IsMeaningMet t.known meaning given calls u.known)
+      → ByCalls registry t u (λ calls. SendsSome h (if_any (command_sent meaning)) calls u.known)
+  met_by outcomes t u h meaning given live b = record {
     same_session = b.same_session;
     more = b.more;
     joined = b.joined;
-    holds = met_sends outcomes h errand given b.more u.known (subst (λ k. IsErrandMet k errand given b.more u.known) live b.holds);
+    holds = met_sends outcomes h meaning given b.more u.known (subst (λ k. IsMeaningMet k meaning given b.more u.known) live b.holds);
   }
 
-  pub failed_by : (t u : Told registry) (x y : History) (errand : Errand) (given : Answer) → t.known ≡ Between x y → ByCalls registry t u (λ calls. IsErrandMet t.known errand given calls u.known)
+  pub failed_by : (t u : Told registry) (x y : History) (meaning : RequestMeaning) (given : Answer) → t.known ≡ Between x y → ByCalls registry t u (λ calls. IsMeaningMet t.known meaning given calls u.known)
       → ByCalls registry t u (λ calls. AreNothing calls × (u.known ≡ Between x y))
-  failed_by t u x y errand given is b = record {
+  failed_by t u x y meaning given is b = record {
     same_session = b.same_session;
     more = b.more;
     joined = b.joined;
-    holds = let m : IsErrandMet (Between x y) errand given b.more u.known = subst (λ k. IsErrandMet k errand given b.more u.known) is b.holds in (failed_nothing errand given b.more m.0, m.1);
+    holds = let m : IsMeaningMet (Between x y) meaning given b.more u.known = subst (λ k. IsMeaningMet k meaning given b.more u.known) is b.holds in (failed_nothing meaning given b.more m.0, m.1);
   }
 
   -- one that has failed is sent nothing more
@@ -195,7 +195,7 @@ module _ {R : Type 0} (registry : Ghosts R) where
       → ByCalls registry t u (λ calls. AreNothing calls × (u.known ≡ Between x y))
   failed_replies t u x y [] bytes is (e, same) = by_none t u (λ v calls. AreNothing calls × (v.known ≡ Between x y)) same (tt, is)
   failed_replies t u x y (request ∷ requests) bytes is (mid, given, later, step, e, rest) =
-      let b = failed_by t mid x y (errand_of request) given is step in
+      let b = failed_by t mid x y (meaning_of request) given is step in
       by_join t mid u _ _ _ (λ xs ys p q. (nothing_then xs ys p.0 q.0, q.1)) b (failed_replies mid u x y requests later b.holds.1 rest)
 
   -- requests that were answered
@@ -203,5 +203,5 @@ module _ {R : Type 0} (registry : Ghosts R) where
       → ByCalls registry t u (λ calls. SendsSome h (commands_asked requests) calls u.known)
   replies_send outcomes t u h [] bytes live (e, same) = by_none t u (λ v calls. SendsSome h [] calls v.known) same (inl (refl, live))
   replies_send outcomes t u h (request ∷ requests) bytes live (mid, given, later, step, e, rest) =
-      then_send t mid u h (if_any (command_sent (errand_of request))) (commands_asked requests) (met_by outcomes t mid h (errand_of request) given live step)
+      then_send t mid u h (if_any (command_sent (meaning_of request))) (commands_asked requests) (met_by outcomes t mid h (meaning_of request) given live step)
       (λ next is. replies_send outcomes mid u next requests later is rest) (λ x y is. failed_replies mid u x y requests later is rest)

@@ -5,8 +5,8 @@ ghost use Rattle.pid_http_stream.specs.HeadParts.{IsHeadOf};
 ghost use Rattle.pid_http_stream.specs.Requests.{fields_of};
 ghost use Rattle.pid_http.specs.Api.Commands.{command_made};
 ghost use Rattle.pid_http.specs.Api.Senders.{sender as sender_in, sending_in};
-ghost use Rattle.pid_http.specs.Answering as errands;
-ghost use Rattle.pid_http.specs.Answering.{errand_for, sent};
+ghost use Rattle.pid_http.specs.Answering as meanings;
+ghost use Rattle.pid_http.specs.Answering.{meaning_for, sent};
 ghost use Rattle.pid_http.specs.Steps.Replying.{Replies};
 ghost use Rattle.pid_http.specs.declared.api.question.Question.TheVariants as questions;
 
@@ -26,8 +26,8 @@ use std::alloc::{AllocError, Global};
 /// The sender of a command. Of what is no command none is looked for.
 pub(crate) fn sender_for<'b>(request: &Request, head: &Head<'b>) -> Option<Sender<'b>>
     ensures { (h : RequestHead) → IsHeadOf head.now h → (body : List ℕ)
-        → errand_for request.now (sending_in result) body
-        ≡ errand_for request.now (sender_in (fields_of h)) body }
+        → meaning_for request.now (sending_in result) body
+        ≡ meaning_for request.now (sender_in (fields_of h)) body }
 {
     match *request {
         Request::Refused(_) => None,
@@ -43,7 +43,7 @@ fn export<R: RegistryQueries>(
     format: Format,
 ) -> Result<HttpReply, AllocError>
     ensures { Replies R.RegistryCalls registry.old registry.new
-        (errands.Asks (questions.Whole Whole.Export) format) result }
+        (meanings.Asks (questions.Whole Whole.Export) format) result }
 {
     match registry.export_length() {
         Ok(length) => Ok(HttpReply {
@@ -64,7 +64,7 @@ fn read<R: RegistryQueries>(
     path: Path,
     format: Format,
 ) -> Result<HttpReply, AllocError>
-    ensures { Replies R.RegistryCalls registry.old registry.new (errands.Asks (questions.Read path) format)
+    ensures { Replies R.RegistryCalls registry.old registry.new (meanings.Asks (questions.Read path) format)
         result }
 {
     match registry.read(&path) {
@@ -81,7 +81,7 @@ fn children<R: RegistryQueries>(
     above: Option<Path>,
     format: Format,
 ) -> Result<HttpReply, AllocError>
-    ensures { Replies R.RegistryCalls registry.old registry.new (errands.Asks (questions.Children above) format)
+    ensures { Replies R.RegistryCalls registry.old registry.new (meanings.Asks (questions.Children above) format)
         result }
 {
     match above {
@@ -104,7 +104,7 @@ fn lookup<R: RegistryQueries>(
     size: u32,
 ) -> Result<HttpReply, AllocError>
     ensures { (format : _) → Replies R.RegistryCalls registry.old registry.new
-        (errands.Asks (questions.Lookup flags args size) format) result }
+        (meanings.Asks (questions.Lookup flags args size) format) result }
 {
     let found = registry.lookup(flags, &args, size);
     lookup_reply(alloc, found)
@@ -118,7 +118,7 @@ fn submission<R: RegistryQueries>(
     format: Format,
 ) -> Result<HttpReply, AllocError>
     ensures { Replies R.RegistryCalls registry.old registry.new
-        (errands.Asks (questions.Submission number) format) result }
+        (meanings.Asks (questions.Submission number) format) result }
 {
     match registry.submission(number) {
         Ok(discussion) => submission_reply(alloc, format, number, &discussion),
@@ -133,7 +133,7 @@ fn rank<R: RegistryQueries>(
     who: &Account,
     format: Format,
 ) -> Result<HttpReply, AllocError>
-    ensures { Replies R.RegistryCalls registry.old registry.new (errands.Asks (questions.Rank who.now) format)
+    ensures { Replies R.RegistryCalls registry.old registry.new (meanings.Asks (questions.Rank who.now) format)
         result }
 {
     match registry.rank(who) {
@@ -149,7 +149,7 @@ fn ask<R: RegistryQueries>(
     question: &Question,
     format: Format,
 ) -> Result<HttpReply, AllocError>
-    ensures { Replies R.RegistryCalls registry.old registry.new (errands.Asks question.now format)
+    ensures { Replies R.RegistryCalls registry.old registry.new (meanings.Asks question.now format)
         result }
 {
     match *question {
@@ -214,7 +214,7 @@ pub(crate) fn answer<R: RegistryQueries>(
     body: &[u8],
 ) -> Result<HttpReply, AllocError>
     ensures { Replies R.RegistryCalls registry.old registry.new
-        (errand_for request.now (sending_in sender.entry) body.now) result }
+        (meaning_for request.now (sending_in sender.entry) body.now) result }
 {
     match *request {
         Request::Refused(early) => early_reply(alloc, early),

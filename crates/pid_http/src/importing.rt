@@ -6,8 +6,8 @@ ghost use Rattle.pid_moderation.specs.BeforeFile.{import_of};
 ghost use Rattle.pid_http.specs.Api.Outcomes.{outcome_answer};
 ghost use Rattle.pid_http.specs.Api.Replying.{MakesReply};
 ghost use Rattle.pid_http.specs.Api.Senders.{sending_in};
-ghost use Rattle.pid_http.specs.Answering as errands;
-ghost use Rattle.pid_http.specs.Answering.{import_errand};
+ghost use Rattle.pid_http.specs.Answering as meanings;
+ghost use Rattle.pid_http.specs.Answering.{import_meaning};
 ghost use Rattle.pid_http.specs.Steps.Replying.{RepliesToFile};
 
 use crate::api::{Format, Sender, outcome_reply};
@@ -62,7 +62,7 @@ fn take_in<R: RegistryQueries, B: Input>(
     ensures whole { IfOk result (λ _. IsAtEnd (B.to_come body.new)) }
     ensures replied { RepliesToFile R.RegistryCalls registry.old registry.new
         (B.to_come body.old) (B.to_come body.new)
-        (λ file. errands.Obeys (import_of account key (file_reading file)) format) result }
+        (λ file. meanings.Obeys (import_of account key (file_reading file)) format) result }
 {
     match registry.import_from(account, key, body) {
         Ok(reply) => reply_with(alloc, format, Ok(reply)),
@@ -101,7 +101,7 @@ pub(crate) fn import<R: RegistryQueries, B: Input>(
     ensures whole { IfOk result (λ _. IsAtEnd (B.to_come body.new)) }
     ensures replied { RepliesToFile R.RegistryCalls registry.old registry.new
         (B.to_come body.old) (B.to_come body.new)
-        (import_errand format (sending_in sender.entry)) result }
+        (import_meaning format (sending_in sender.entry)) result }
 {
     match sender {
         None => refuse(alloc, format, Refusal::BadText, body),

@@ -13,7 +13,7 @@ use Rattle.pid_moderation.specs.declared.refusal.Refusal.{Refusal}
 use Rattle.pid_moderation.specs.declared.refusal.Refusal.TheVariants.{Memory, Failed as HasFailed}
 use Rattle.pid_service_laws.specs.Moderating.{LooksUp}
 use Rattle.pid_http.specs.Api.LookupAnswers.{lookup_answer}
-use Rattle.pid_http.specs.Answering.{answer_over, IsErrandRefused, Asks}
+use Rattle.pid_http.specs.Answering.{answer_over, IsMeaningRefused, Asks}
 use Rattle.pid_http.specs.declared.api.question.Question.TheVariants as questions
 use Rattle.pid_http.specs.declared.api.format.Format.{Format}
 use Rattle.pid_http.specs.Serving.{IsMetOver, AnsweredOver, NotDone, Refused}
@@ -35,7 +35,7 @@ over l format h (Err lookups.BadFlags) bad = AnsweredOver (ap lookup_answer (by_
 over l format h (Err (lookups.Names f)) fault = NotDone f fault (refl, refl) one_question refl
 over l format h (Err lookups.Memory) told = NotDone Memory (inl refl) (refl, refl) one_question refl
 
-failed : (l : Lookup) (format : Format) (result : Result Found (LookupRefusal Refusal)) → result ≡ Err (lookups.Names HasFailed) → IsErrandRefused (Asks (questions.Lookup l.flags l.args l.size) format) HasFailed (lookup_answer result)
+failed : (l : Lookup) (format : Format) (result : Result Found (LookupRefusal Refusal)) → result ≡ Err (lookups.Names HasFailed) → IsMeaningRefused (Asks (questions.Lookup l.flags l.args l.size) format) HasFailed (lookup_answer result)
 failed l format result e = (refl, ap lookup_answer e)
 
 pub returns : goal.returns
