@@ -288,7 +288,7 @@ FORMS = [f"path=PC/{at:04x}&name=renamed" for at in range(200)]
 def beside_obey(profile, count):
     """The instructions of submissions, beside what of them is in the registry's call that obeys
     them."""
-    within = profile.within("::RegistryModerated::obey::")
+    within = profile.within("::RegistryRegistryCalls::obey::")
     return Figures(count / len(FORMS), within / len(FORMS), "instructions")
 
 

@@ -33,7 +33,7 @@ PROMISES = (
     # public calls.
     ("7. Crash prefix",
      ("pid_service::openings_tell_prefixes", "pid_service::reopened_registries_show_prefixes",
-      "pid_service::clauses_meet_lives", "pid_service::first_openings_show_what_is_there")),
+      "pid_service::clauses_meet_sessions", "pid_service::first_openings_show_what_is_there")),
     ("8. Migration", ("pid_service::migrate", "pid_service::histories_are_kept")),
     ("9. Scripts", ("pid_script::run_script",)),
     ("10. HTTP", ("pid_http::serve_stream",)),

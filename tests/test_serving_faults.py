@@ -55,7 +55,7 @@ class Turn(NamedTuple):
 
     shim: str
     steps: list
-    is_behind_opening: bool
+    is_after_opening: bool
     stride: int
     numbers: tuple
     least: int
@@ -227,7 +227,7 @@ def run_refusing(shim, at, database, turn):
         return client.wrong, pipe.read(1) == b"!", client.refused
 
 
-def is_behind_opening(shim, at):
+def is_after_opening(shim, at):
     """Whether call number `at` comes after a server listens. One that is refused what it keeps in
     memory listens nevertheless."""
     told, telling = os.pipe()
@@ -240,10 +240,10 @@ def is_behind_opening(shim, at):
             return server.first_line != b"" and pipe.read(1) != b"!"
 
 
-def first_behind_opening(shim):
+def first_after_opening(shim):
     """The first call that may be refused to a server that listens."""
     return 1 + bisect.bisect_left(
-        range(1, 100_000), True, key=lambda at: is_behind_opening(shim, at)
+        range(1, 100_000), True, key=lambda at: is_after_opening(shim, at)
     )
 
 
@@ -251,7 +251,7 @@ def refuse_in_turn(cases, shim, turn):
     """Refuses the calls of a run in turn, each in a new file, until none is refused, and answers
     how many, and the refusals that were answered."""
     refusals, refused = 0, set()
-    first = first_behind_opening(shim) if turn.is_behind_opening else first_of(turn.stride)
+    first = first_after_opening(shim) if turn.is_after_opening else first_of(turn.stride)
     for at in range(first, 1_000_000, turn.stride):
         with tempfile.TemporaryDirectory(dir=ROOM) as folder:
             database = os.path.join(folder, "r.db")
@@ -274,7 +274,7 @@ def test_refused_in_turn(cases, shims, turn):
     start = time.monotonic()
     refusals, refused = refuse_in_turn(cases, shims[turn.shim], turn)
     which = ("each call" if turn.stride == 1 else f"each {turn.stride}th call") + (
-        " behind the opening" if turn.is_behind_opening else ""
+        " after the opening" if turn.is_after_opening else ""
     )
     name = f"serve: {turn.shim}: {which} of {len(turn.steps)} requests"
     print(
@@ -340,7 +340,7 @@ def test_three_requests(cases, shims):
     """Each request for memory after the opening is refused in turn under one stream; afterwards the
     registry has no item."""
     shim = shims["refuse_malloc"]
-    first = first_behind_opening(shim)
+    first = first_after_opening(shim)
     for at in range(first, 1_000_000):
         with tempfile.TemporaryDirectory(dir=ROOM) as folder:
             database = os.path.join(folder, "r.db")

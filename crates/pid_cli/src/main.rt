@@ -4,8 +4,8 @@
 use pid_cli_help::Met;
 use pid_cli_registry::run_on_host;
 use pid_cli_words::terminal::Session;
-use pid_cli_words::{job_of, tell_no_job};
-use pid_file::tell_no_words;
+use pid_cli_words::{job_of, report_no_job};
+use pid_file::report_no_words;
 use sqlite_disk::Unknown;
 use std::process::ExitCode;
 use std::{env, io};
@@ -13,7 +13,7 @@ use std::{env, io};
 fn main(rt: HostRuntime) -> ExitCode {
     ExitCode::from(match words_given(&rt) {
         Ok(words) => run(&rt, words.as_slice()),
-        Err(error) => tell_no_words(error.kind(), rt.stderr()),
+        Err(error) => report_no_words(error.kind(), rt.stderr()),
     })
 }
 
@@ -26,7 +26,7 @@ fn run(rt: &HostRuntime, words: &[String]) -> u8 {
     let job = match job_of(rt.alloc(), words) {
         Ok(job) => job,
         Err(error) => {
-            return tell_no_job(&error, words, &mut rt.stdout(), &mut rt.stderr());
+            return report_no_job(&error, words, &mut rt.stdout(), &mut rt.stderr());
         }
     };
     let session = Session::begin(rt, job);

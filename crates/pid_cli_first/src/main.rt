@@ -7,9 +7,9 @@
 
 use pid_cli_help::{
     FirstJob, Met, Noted, explain_streams, first_job_of, is_for_a_person, refuse_argument,
-    refuse_command, tell_input,
+    refuse_command, report_input,
 };
-use pid_file::{run_check, run_tidy, show, tell_no_words};
+use pid_file::{report_no_words, run_check, run_tidy, show};
 use std::process::ExitCode;
 use std::{env, io};
 
@@ -19,7 +19,7 @@ const OTHER_JOB: u8 = 4;
 fn main(rt: HostRuntime) -> ExitCode {
     ExitCode::from(match words_given(&rt) {
         Ok(words) => run(&rt, first_job_of(words.as_slice())),
-        Err(error) => tell_no_words(error.kind(), rt.stderr()),
+        Err(error) => report_no_words(error.kind(), rt.stderr()),
     })
 }
 
@@ -31,7 +31,7 @@ fn words_given(rt: &HostRuntime) -> io::Result<Vec<String>> {
 fn run(rt: &HostRuntime, job: FirstJob<'_>) -> u8 {
     let is_told = is_for_a_person(rt);
     if is_told && matches!(job, FirstJob::Tidy | FirstJob::Check) {
-        tell_input(rt, "a pci.ids file");
+        report_input(rt, "a pci.ids file");
     }
     let (mut read, mut written) = (Met::new(), Met::new());
     let status = do_job(rt, job, &mut read, &mut written);

@@ -8,7 +8,7 @@ pub fn is_for_a_person(rt: &HostRuntime) -> bool {
 }
 
 /// Says what is read from a terminal, and how to end it.
-pub fn tell_input(rt: &HostRuntime, what: &str) {
+pub fn report_input(rt: &HostRuntime, what: &str) {
     if rt.stdin().is_terminal() {
         let _ = write!(
             rt.stderr(),

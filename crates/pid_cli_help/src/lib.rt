@@ -9,7 +9,7 @@ mod pages;
 mod refusing;
 mod similar;
 
-pub use explaining::{explain_streams, is_for_a_person, reason_of, tell_input};
+pub use explaining::{explain_streams, is_for_a_person, reason_of, report_input};
 pub use file_looks::looks_of;
 pub use first_job::{FirstJob, first_job_of};
 pub use met::{Met, Noted};

@@ -11,7 +11,7 @@ const NO_JOB: u8 = 2;
 pub fn refuse_command(rt: &HostRuntime, word: &str) -> u8 {
     let _ = write!(rt.stderr(), "error: unrecognized subcommand '{word}'\n\n");
     if let Ok(similar) = similar_commands(rt.alloc(), word) {
-        tell_tip(rt, similar.as_slice());
+        report_tip(rt, similar.as_slice());
     }
     let _ = write!(
         rt.stderr(),
@@ -20,7 +20,7 @@ pub fn refuse_command(rt: &HostRuntime, word: &str) -> u8 {
     NO_JOB
 }
 
-fn tell_tip(rt: &HostRuntime, similar: &[(f64, &'static str)]) {
+fn report_tip(rt: &HostRuntime, similar: &[(f64, &'static str)]) {
     let mut front = match similar {
         [] => return,
         [_] => "  tip: a similar subcommand exists: '",

@@ -4,7 +4,7 @@ use Rattle.std.proofs.Common.{inl, inr, ap}
 use Rattle.pid_moderation.specs.History.{History}
 use Rattle.pid_service_laws.specs.Calls.{nothing_sent}
 use Rattle.pid_service_laws.specs.Registries.{Does, Showing}
-use Rattle.pid_service_laws.specs.declared.moderated.Moderated.{Ghosts}
+use Rattle.pid_service_laws.specs.declared.registry_calls.RegistryCalls.{Ghosts}
 use Rattle.pid_journal.specs.declared.file.JournalFile as files
 use Rattle.pid_journal.specs.declared.journaled.Journaled.{Journaled}
 use Rattle.pid_journal.specs.Pairs.{pair_is_live, pair_showing}

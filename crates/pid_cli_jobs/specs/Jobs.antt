@@ -6,7 +6,7 @@ use Rattle.std.specs.Io.KnownBytes.{Appends}
 use Rattle.std.specs.declared.alloc.AllocError.{AllocError}
 use Rattle.pid_file.specs.InputTexts.{ReadsInput}
 use Rattle.pid_file.specs.TextEnds.{status_of}
-use Rattle.pid_file.specs.Told.{IsTold, ReportsEnd}
+use Rattle.pid_file.specs.Reports.{IsReported, ReportsEnd}
 use Rattle.pid_file.specs.Words.{is_account, is_key}
 use Rattle.pid_file.specs.Writing.{FailsWithin, TriesLine}
 use Rattle.pid_file.specs.declared.counter.Never.{Never}
@@ -31,7 +31,7 @@ use Rattle.pid_moderation.specs.declared.refusal.Refusal.TheVariants.{BadText}
 use Rattle.pid_service_laws.specs.Imports.{HasRead, ObeysFile}
 use Rattle.pid_service_laws.specs.declared.faults.ImportEnd.{ImportEnd}
 use Rattle.pid_service_laws.specs.declared.faults.ImportEnd.TheVariants as imports
-use Rattle.pid_service_laws.specs.declared.moderated.Moderated.{Ghosts}
+use Rattle.pid_service_laws.specs.declared.registry_calls.RegistryCalls.{Ghosts}
 use Rattle.pid_http_stream.specs.Causes.{EndsFor}
 use Rattle.pid_http_stream.specs.Listener.Servings.{CountsStreams, IsLiveAt}
 use Rattle.pid_http_stream.specs.Listener.Streams.{Exchange, ReaderUse}
@@ -46,8 +46,8 @@ use Rattle.pid_script.specs.Scripts.{EndsWith, IsScript, IsUpToDate, OverText, p
 use Rattle.pid_script.specs.declared.script_end.ScriptEnd.{ScriptEnd}
 use Rattle.pid_script.specs.declared.script_end.ScriptEnd.TheVariants as scripts
 use Rattle.pid_cli_words.specs.Jobs.{text_given}
-use Rattle.pid_cli_words.specs.declared.job.ImportWords.{ImportWords}
-use Rattle.pid_cli_words.specs.declared.job.LookupWords.{LookupWords}
+use Rattle.pid_cli_words.specs.declared.job.ImportArgs.{ImportArgs}
+use Rattle.pid_cli_words.specs.declared.job.LookupArgs.{LookupArgs}
 use Rattle.pid_cli_jobs.specs.Lines.{FailsSilently, IsUnprinted, IsUnreported, PrintsAnswer}
 use Rattle.pid_cli_jobs.specs.Lines.{PrintsOnly, PrintsReply, ReportsMemory, ReportsOnly}
 use Rattle.pid_cli_jobs.specs.Lines.{ReportsUnopened, Streams, count_line}
@@ -68,7 +68,7 @@ abbrev pub field_given : List ℕ → Option (List ℕ) → List (List ℕ × Li
 field_given name None = []
 field_given name (Some value) = (name, value) ∷ []
 
-abbrev pub fields_given : LookupWords → List (List ℕ × List ℕ)
+abbrev pub fields_given : LookupArgs → List (List ℕ × List ℕ)
 fields_given words = field_given (codes "flags") (Some words.flags.now)
     ++ field_given (codes "size") (text_given words.size)
     ++ field_given (codes "vendor") (text_given words.vendor)
@@ -102,7 +102,7 @@ pub data LooksUpText (lookup : LookupValues) (come : Option (List ℕ)) (w : Str
       → IfSome come (λ text. IsFoundIn lookup text found)
       → PrintsAnswer found w end → LooksUpText lookup come w end
   Unread : (why : TextEnd) → why ≢ texts.Done → ReportsEnd why w.faults
-      → IfSome come (λ text. IsTold why text w.faults.before w.faults.after) → IsUnprinted w
+      → IfSome come (λ text. IsReported why text w.faults.before w.faults.after) → IsUnprinted w
       → EndsBy ((why ≡ texts.ReadFault) ⊎ (why ≡ texts.WriteFault)) (status_of why) end
       → LooksUpText lookup come w end
 
@@ -145,7 +145,7 @@ module _ {R : Type 0} (registry : Ghosts R) (IsOpened : R → Type 0) (IsUnopene
   -- The import that the arguments ask for, of a file that was opened at their path, of which the
   -- bytes may be known.
   pub data Imports {T : Type 0} (IsText : T → Type 0) (holds : T → Option (List ℕ))
-      (words : ImportWords) (w : Streams) (end : JobEnd) : Type 0 where
+      (words : ImportArgs) (w : Streams) (end : JobEnd) : Type 0 where
     BadSender : IsBadSender words.account.now (text_given words.key)
         → PrintsReply (Err BadText) w end → Imports IsText holds words w end
     NoMemory : ReportsMemory w end → Imports IsText holds words w end

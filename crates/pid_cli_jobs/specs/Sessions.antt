@@ -3,7 +3,7 @@
 use Rattle.std.specs.Prelude.{◌≡◌, List, ⊤}
 use Rattle.pid_service_laws.specs.Calls.{Call, nothing_sent}
 use Rattle.pid_service_laws.specs.Registries.{CallsLead, Does}
-use Rattle.pid_service_laws.specs.declared.moderated.Moderated.{Ghosts}
+use Rattle.pid_service_laws.specs.declared.registry_calls.RegistryCalls.{Ghosts}
 use Rattle.pid_cli_jobs.specs.declared.job_end.JobEnd.{JobEnd}
 use Rattle.pid_cli_jobs.specs.declared.unopened.Unopened.{Unopened as Reason}
 use Rattle.pid_cli_jobs.specs.declared.unopened.Unopened.TheVariants.{Memory, Store, Damaged}

@@ -10,14 +10,14 @@ use crate::lines::{print_reply, report_unopened};
 use crate::machine::{Databases, Machine};
 use crate::registries::Registries;
 use crate::unopened::Unopened;
-use pid_cli_words::ImportWords;
+use pid_cli_words::ImportArgs;
 use pid_cli_words::terminal::{Counted, Progress, Seen};
 use pid_ident::{Account, Input, Key, Output, Plain, WordFault};
 use pid_moderation::{Refusal, Reply};
-use pid_service_laws::{Consulted, ImportEnd};
+use pid_service_laws::{ImportEnd, RegistryQueries};
 use std::alloc::Global;
 
-fn sender_of(alloc: Global, words: &ImportWords<'_>) -> Result<(Account, Option<Key>), WordFault>
+fn sender_of(alloc: Global, words: &ImportArgs<'_>) -> Result<(Account, Option<Key>), WordFault>
     ensures ok { IfOk result (λ s. (s.0 ≡ words.now.account.now)
         × (s.1 ≡ text_given words.now.key)) }
     ensures bad { IsErrOf result WordFault.Bad → IsBadSender words.now.account.now
@@ -30,14 +30,14 @@ fn sender_of(alloc: Global, words: &ImportWords<'_>) -> Result<(Account, Option<
     }
 }
 
-fn bring_in<D: Databases, G: Registries<D>, I: Input>(
+fn import_file<D: Databases, G: Registries<D>, I: Input>(
     databases: &mut D,
     registries: &mut G,
     path: &str,
     sender: (Account, Option<Key>),
     input: &mut I,
 ) -> Result<Result<Reply, ImportEnd>, Unopened>
-    ensures { BringsFile G.Registry.Moderated (G.is_opened registries.old path.now)
+    ensures { BringsFile G.Registry.RegistryCalls (G.is_opened registries.old path.now)
         (G.is_unopened registries.old path.now) G.is_closed sender
         (I.to_come input.old) (I.to_come input.new) (I.read_fault input.new) result }
 {
@@ -74,11 +74,11 @@ pub fn import<M: Machine, G: Registries<M>, O: Output, F: Output>(
     machine: &mut M,
     registries: &mut G,
     progress: &mut Progress<'_>,
-    words: &ImportWords<'_>,
+    words: &ImportArgs<'_>,
     output: &mut O,
     faults: &mut F,
 ) -> JobEnd
-    ensures { Imports G.Registry.Moderated (G.is_opened registries.old words.now.db.now)
+    ensures { Imports G.Registry.RegistryCalls (G.is_opened registries.old words.now.db.now)
         (G.is_unopened registries.old words.now.db.now) G.is_closed
         (M.is_text words.now.ids.now) M.Opened.remaining words.now
         (streams (use_of O.Output output.old output.new)
@@ -93,7 +93,7 @@ pub fn import<M: Machine, G: Registries<M>, O: Output, F: Output>(
         return JobEnd::FileFailed;
     };
     let mut input = Plain::new(Seen::new(file, Counted(&mut *progress)));
-    let found = bring_in(machine, registries, words.db, sender, &mut input);
+    let found = import_file(machine, registries, words.db, sender, &mut input);
     drop(input);
     progress.clear();
     report_import(found, output, faults)

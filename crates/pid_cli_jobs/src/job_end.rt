@@ -4,7 +4,7 @@ ghost use Rattle.pid_file.specs.TextEnds.{fault_line};
 ghost use Rattle.pid_file.specs.Writing.{use_of};
 ghost use Rattle.pid_cli_jobs.specs.Lines.{PrintsLine, Reports, ReportsLast, exit_status};
 
-use pid_file::{FAILED, TextEnd, tell_end, tell_failed};
+use pid_file::{FAILED, TextEnd, report_failed, report_text_end};
 use pid_ident::{Output, write_all};
 use pid_moderation::{Refusal, write_reply_line};
 
@@ -33,7 +33,7 @@ pub fn print_line<O: Output>(line: &[u8], status: u8, output: &mut O) -> JobEnd
 pub fn report_memory<F: Output>(faults: &mut F) -> JobEnd
     ensures { Reports (fault_line TextEnd.Memory) (use_of F.Output faults.old faults.new) result }
 {
-    JobEnd::Exited(tell_end(TextEnd::Memory, faults))
+    JobEnd::Exited(report_text_end(TextEnd::Memory, faults))
 }
 
 /// Reports what is still to be reported at an end, and returns the exit status. `is_unread` says
@@ -48,6 +48,6 @@ pub fn report_end<F: Output>(end: JobEnd, is_unread: bool, faults: &mut F) -> u8
             let _ = write_reply_line(faults, Err(refusal));
             FAILED
         }
-        JobEnd::FileFailed => tell_failed(is_unread, faults),
+        JobEnd::FileFailed => report_failed(is_unread, faults),
     }
 }

@@ -44,10 +44,10 @@ impl<D: Databases, G: Registries<D>, F: ReportingFolder> Registries<D> for Journ
 
     type Registry = Journaled<G::Registry, F::Segment>;
 
-    ghost is_opened = { λ self path pair. IsJournaled G.Registry.Moderated F.JournalFolder
+    ghost is_opened = { λ self path pair. IsJournaled G.Registry.RegistryCalls F.JournalFolder
         F.Segment.JournalFile self.folder (G.is_opened self.registries path) pair };
 
-    ghost is_unopened = { λ self path why. IsNotJournaled G.Registry.Moderated
+    ghost is_unopened = { λ self path why. IsNotJournaled G.Registry.RegistryCalls
         F.JournalFolder F.Segment.JournalFile self.folder (G.is_opened self.registries path)
         (G.is_unopened self.registries path) G.is_closed why };
 

@@ -15,8 +15,8 @@ ghost use Rattle.pid_cli_jobs.specs.Lines.{streams};
 use crate::job_end::{JobEnd, report_memory};
 use crate::lines::{print_answer, print_reply};
 use crate::machine::Machine;
-use pid_cli_words::LookupWords;
-use pid_file::{LARGEST, TextEnd, tell_unread};
+use pid_cli_words::LookupArgs;
+use pid_file::{LARGEST, TextEnd, report_unread};
 use pid_ident::{Input, Output, Plain};
 use pid_lookup::{Args, BadField, args_of, lookup_in};
 use pid_moderation::Refusal;
@@ -45,7 +45,7 @@ fn push_given(
 fn push_fields(
     alloc: Global,
     fields: &mut Vec<(String, String)>,
-    words: &LookupWords<'_>,
+    words: &LookupArgs<'_>,
 ) -> Result<(), AllocError>
     ensures { fields.old.items ≡ []
         → OnOk result (bytes_of fields.new.items ≡ fields_given words.now) }
@@ -64,7 +64,7 @@ fn push_fields(
 // Checks the values of the arguments and returns the flags, the arguments and the size that they say.
 fn read_words(
     alloc: Global,
-    words: &LookupWords<'_>,
+    words: &LookupArgs<'_>,
 ) -> Result<Result<(u32, Args, u32), BadField>, AllocError>
     ensures { IfOk result (IsReadFrom (fields_given words.now)) }
 {
@@ -87,7 +87,7 @@ fn look_up<I: Input, O: Output, F: Output>(
     let (flags, args, size) = *lookup;
     match lookup_in(alloc, LARGEST, input, flags, &args, size) {
         Ok(found) => print_answer(found, output, faults),
-        Err(end) => match tell_unread(end, faults) {
+        Err(end) => match report_unread(end, faults) {
             TextEnd::ReadFault | TextEnd::WriteFault => JobEnd::FileFailed,
             end => JobEnd::Exited(end.status()),
         },
@@ -97,7 +97,7 @@ fn look_up<I: Input, O: Output, F: Output>(
 /// Answers the lookup of the arguments in the file that they name; bad values get a refusal.
 pub fn answer_lookup<M: Machine, O: Output, F: Output>(
     machine: &mut M,
-    words: &LookupWords<'_>,
+    words: &LookupArgs<'_>,
     output: &mut O,
     faults: &mut F,
 ) -> JobEnd

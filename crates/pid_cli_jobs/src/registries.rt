@@ -1,7 +1,7 @@
 //! Where registries are opened.
 use crate::machine::Databases;
 use crate::unopened::Unopened;
-use pid_service_laws::Consulted;
+use pid_service_laws::RegistryQueries;
 
 /// How a registry is opened at a path of a machine, and closed: alone, or with a journal in front of
 /// it.
@@ -10,7 +10,7 @@ pub trait Registries<D: Databases> {
     ghost use Rattle.pid_cli_jobs.specs.Sessions.{IsPrepared};
     ghost use Rattle.pid_cli_jobs.specs.declared.unopened.Unopened.{Unopened};
 
-    type Registry: Consulted + Drop;
+    type Registry: RegistryQueries + Drop;
 
     /// The registry was opened at this path.
     ghost is_opened: { Self → List ℕ → Self.Registry → Type 0 };
@@ -33,7 +33,7 @@ pub trait Registries<D: Databases> {
     /// Reads what a registry keeps in memory, so that no question waits for it. What cannot be read,
     /// or does not fit, is read when it is asked for.
     fn prepare(&self, registry: &mut Self::Registry)
-        ensures { IsPrepared Self.Registry.Moderated registry.old registry.new };
+        ensures { IsPrepared Self.Registry.RegistryCalls registry.old registry.new };
 
     /// Closes a registry, unless it has failed.
     fn close(&mut self, databases: &mut D, registry: Self::Registry)

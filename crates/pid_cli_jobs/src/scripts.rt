@@ -34,9 +34,9 @@ pub fn script<D: Databases, G: Registries<D>, I: Incoming<O>, O: Output, F: Outp
     output: &mut O,
     faults: &mut F,
 ) -> JobEnd
-    ensures works { Works G.Registry.Moderated (G.is_opened registries.old path.now)
+    ensures works { Works G.Registry.RegistryCalls (G.is_opened registries.old path.now)
         (G.is_unopened registries.old path.now) G.is_closed
-        (RunsLines G.Registry.Moderated (use_of_reader I.Incoming input.old input.new))
+        (RunsLines G.Registry.RegistryCalls (use_of_reader I.Incoming input.old input.new))
         (streams (use_of O.Output output.old output.new)
         (use_of F.Output faults.old faults.new)) result }
     ensures reads { I.goes input.old input.new }

@@ -43,10 +43,10 @@ impl<D: Databases, G: Registries<D>> StreamServer for Server<'_, '_, '_, D, G> {
     ghost live = { λ server. G.Registry.is_live server.registry.now };
 
     ghost goes = { λ a b. (b.registry.ghost_name ≡ a.registry.ghost_name)
-        × LivesOn G.Registry.Moderated a.registry.now b.registry.now };
+        × LivesOn G.Registry.RegistryCalls a.registry.now b.registry.now };
 
     ghost answers = { λ a b x.
-        AnswersStream G.Registry.Moderated a.registry.now b.registry.now x };
+        AnswersStream G.Registry.RegistryCalls a.registry.now b.registry.now x };
 
     ghost stays = { λ a. (refl, lives_still a.registry.now) };
 
@@ -124,8 +124,8 @@ fn serve_registry<M: Machine, G: Registries<M>, O: Output, F: Output>(
     output: &mut O,
     faults: &mut F,
 ) -> JobEnd
-    ensures goes { IsPartOfSession G.Registry.Moderated registry.old registry.new }
-    ensures offers { Serves M.port_of M.is_serving G.Registry.Moderated port (streams
+    ensures goes { IsPartOfSession G.Registry.RegistryCalls registry.old registry.new }
+    ensures offers { Serves M.port_of M.is_serving G.Registry.RegistryCalls port (streams
         (use_of O.Output output.old output.new) (use_of F.Output faults.old faults.new)) result
         registry.old registry.new }
 {
@@ -159,9 +159,9 @@ pub fn serve<M: Machine, G: Registries<M>, O: Output, F: Output>(
     output: &mut O,
     faults: &mut F,
 ) -> JobEnd
-    ensures { Works G.Registry.Moderated (G.is_opened registries.old path.now)
+    ensures { Works G.Registry.RegistryCalls (G.is_opened registries.old path.now)
         (G.is_unopened registries.old path.now) G.is_closed
-        (Serves M.port_of M.is_serving G.Registry.Moderated port)
+        (Serves M.port_of M.is_serving G.Registry.RegistryCalls port)
         (streams (use_of O.Output output.old output.new)
         (use_of F.Output faults.old faults.new)) result }
 {

@@ -16,9 +16,9 @@ use Rattle.sqlite_store.specs.declared.store.FileStore.{FileStore}
 use Rattle.sqlite_trees.specs.declared.store.Store.{Ghosts}
 use Rattle.pid_moderation.specs.History.{Asked, History}
 use Rattle.pid_moderation.specs.Views.{Views, views_of}
-use Rattle.pid_service_laws.specs.Calls.{Call, StopsAt, life_of}
-use Rattle.pid_service_laws.specs.Lives.{InDoubt, NoDoubt, after_life}
-use Rattle.pid_service_laws.specs.Registries.{EndsLife}
+use Rattle.pid_service_laws.specs.Calls.{Call, StopsAt, session_of}
+use Rattle.pid_service_laws.specs.Sessions.{InDoubt, NoDoubt, after_session}
+use Rattle.pid_service_laws.specs.Registries.{EndsSession}
 use Rattle.pid_tables.specs.Clauses.{ShowsOrBlank}
 use Rattle.pid_tables.specs.Rows.Clauses as clauses
 use Rattle.pid_tables.specs.Rows.Leaves.{as_found}
@@ -26,7 +26,7 @@ use Rattle.pid_tables.specs.Rows.Schema.{no_schema, pid_schema, schema_of}
 use Rattle.pid_tables.specs.Rows.Shows.{Shows as ShowsViews}
 use Rattle.pid_service.specs.declared.registry.Registry.{Registry}
 use Rattle.pid_service.specs.Histories.{FailsBetween, Shows}
-use Rattle.pid_service.specs.Lives.{IsAfterStop, showing}
+use Rattle.pid_service.specs.Sessions.{IsAfterStop, showing}
 use Rattle.pid_service.specs.Registries.{HasCleanDisk, connection}
 use Rattle.sqlite.specs.Start.{FindsIn}
 use Rattle.sqlite_wal.specs.Recovery.{Image}
@@ -71,13 +71,13 @@ module _ {S : Type 0} (store : Ghosts S) where
   ends_sound ended calls h before after (inr (c, at, fails)) clean =
       between_sound (connection ended) (views_of (before c)) (views_of (after c)) fails.leaves clean
 
-  pub life_sound : (h : History) (calls : List Call) (ended : Registry S store)
-      → EndsLife (showing store) h calls ended → HasCleanDisk store ended
+  pub session_sound : (h : History) (calls : List Call) (ended : Registry S store)
+      → EndsSession (showing store) h calls ended → HasCleanDisk store ended
       → AreDatabases (store.recovers (connection ended).store)
-  life_sound h calls ended life clean = ends_sound ended calls (after_life h (life_of calls NoDoubt))
-      (λ c. after_life h (life_of calls (InDoubt c false)))
-      (λ c. after_life h (life_of calls (InDoubt c true)))
-      life.ends clean
+  session_sound h calls ended session clean = ends_sound ended calls (after_session h (session_of calls NoDoubt))
+      (λ c. after_session h (session_of calls (InDoubt c false)))
+      (λ c. after_session h (session_of calls (InDoubt c true)))
+      session.ends clean
 
 module _ {D E : Type 0} {g : disk.Ghosts D} {k : disk.Ghosts E} where
   -- the trees that the next connection sees are ones that a stop may have left of the earlier one

@@ -17,7 +17,7 @@ use Rattle.pid_tables.specs.Clauses.{ShowsOrBlank}
 use Rattle.pid_service.specs.declared.registry.Registry.{Registry}
 use Rattle.pid_service.specs.Histories.{Shows}
 use Rattle.pid_service.specs.Headline.{TellsPrefixes}
-use Rattle.pid_service.specs.Lives.{IsAfterSession, IsAfterStop, ShowsPrefixes, showing}
+use Rattle.pid_service.specs.Sessions.{IsAfterSession, IsAfterStop, ShowsPrefixes, showing}
 use Rattle.pid_service.specs.Opening.{OpensTo}
 use Rattle.pid_service.specs.Registries.{HasCleanDisk, connection}
 use Rattle.pid_cli_jobs.specs.Files.{IsNextRun}

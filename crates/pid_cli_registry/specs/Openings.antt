@@ -3,7 +3,7 @@ use Rattle.std.specs.Prelude.{◌≡◌, false, IsTrue, Result, Ok, Err}
 use Rattle.sqlite.specs.Held.{Held, IsNew}
 use Rattle.sqlite_trees.specs.declared.store.Store.{Ghosts}
 use Rattle.pid_service.specs.declared.registry.Registry.{Registry}
-use Rattle.pid_service.specs.Histories.{as_moderated}
+use Rattle.pid_service.specs.Histories.{as_calls}
 use Rattle.pid_service.specs.Opening.{ExplainsOpening, OpensAtOnce, OpensRegistry, OpensTo}
 use Rattle.pid_service.specs.Opening.{connection_left, opening_end}
 use Rattle.pid_service.specs.Registries.{connection, is_live}
@@ -52,5 +52,5 @@ module _ {S : Type 0} (store : Ghosts S) (IsAt IsClosed : Held S → Type 0) whe
   -- what a job does with the registry at this place, alone
   abbrev pub WorksAt : (Streams → JobEnd → Registry S store → Registry S store → Type 0) → Streams
       → JobEnd → Type 0
-  WorksAt = Works (as_moderated store) (IsOpenedAt store IsAt) (IsUnopened store IsAt)
+  WorksAt = Works (as_calls store) (IsOpenedAt store IsAt) (IsUnopened store IsAt)
       (λ r. IsTrue (is_live r) → IsClosed (connection r))

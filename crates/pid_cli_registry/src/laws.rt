@@ -21,7 +21,7 @@ use sqlite_disk::Disk;
 pub fn calls_leave_databases<S: Alter + Drop>()
     ensures { CallsLeaveDatabases S.Store }
 {
-    pid_service_laws::calls_make_a_life::<Registry<S>>(); // proof only
+    pid_service_laws::calls_make_a_session::<Registry<S>>(); // proof only
 }
 
 /// What a stop leaves of a connection whose tables show a history is a database too: after a

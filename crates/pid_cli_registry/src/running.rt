@@ -7,8 +7,8 @@ use pid_cli_jobs::{
     answer_lookup, import, report_end, report_unopened, script, serve,
 };
 use pid_cli_words::terminal::{Counted, Progress, Seen};
-use pid_cli_words::{ImportWords, Job};
-use pid_file::{TextEnd, Watched, run_check, run_tidy, tell_end};
+use pid_cli_words::{ImportArgs, Job};
+use pid_file::{TextEnd, Watched, report_text_end, run_check, run_tidy};
 use pid_ident::{Output, Plain};
 use sqlite_disk::Start;
 use std::io::{BufWriter, IsTerminal, Read, Write};
@@ -117,7 +117,7 @@ fn run_import<M: Machine, J: Journals, O: Output, F: Output>(
     rt: &HostRuntime,
     machine: &mut M,
     journals: &mut J,
-    words: &ImportWords<'_>,
+    words: &ImportArgs<'_>,
     output: &mut O,
     faults: &mut F,
 ) -> JobEnd {
@@ -143,7 +143,7 @@ fn run_export<M: Machine, O: Write, F: Output>(
     let mut progress = Progress::new(rt, "exporting", is_told);
     let output = Watched::new(Seen::new(output, Counted(&mut progress)));
     let Ok(buffer) = BufWriter::with_capacity(machine.alloc(), BUFFER, output) else {
-        return tell_end(TextEnd::Memory, faults);
+        return report_text_end(TextEnd::Memory, faults);
     };
     let (end, output) = export(machine, db, buffer, faults);
     let is_unread = output.is_unread();

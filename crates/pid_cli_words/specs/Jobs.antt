@@ -12,8 +12,8 @@ use Rattle.clap.specs.Words.{subcommand_of, fault_of, Kinds}
 use Rattle.pid_cli_words.specs.Commands.{commands, table, Parameter, Needed, Spare, Operand, Port}
 use Rattle.pid_cli_words.specs.Commands.{Connections}
 use Rattle.pid_cli_words.specs.declared.job.Job.{Job}
-use Rattle.pid_cli_words.specs.declared.job.ImportWords.{ImportWords}
-use Rattle.pid_cli_words.specs.declared.job.LookupWords.{LookupWords}
+use Rattle.pid_cli_words.specs.declared.job.ImportArgs.{ImportArgs}
+use Rattle.pid_cli_words.specs.declared.job.LookupArgs.{LookupArgs}
 use Rattle.pid_cli_words.specs.declared.job.Job.TheVariants as jobs
 
 -- the value of an argument
@@ -27,12 +27,12 @@ abbrev pub text_given : Option (Bor Text) → Option Text
 text_given = option_map (λ text. text.now)
 
 -- the values of a lookup and of an import, in the order of their arguments
-abbrev pub lookup_values : LookupWords → List Value
+abbrev pub lookup_values : LookupArgs → List Value
 lookup_values asked = OfText asked.ids.now ∷ OfText asked.flags.now
     ∷ map (λ spare. OfSpare (text_given spare)) (asked.size ∷ asked.vendor ∷ asked.device
     ∷ asked.subvendor ∷ asked.subdevice ∷ asked.class ∷ asked.progif ∷ [])
 
-abbrev pub import_values : ImportWords → List Value
+abbrev pub import_values : ImportArgs → List Value
 import_values asked = OfText asked.db.now ∷ OfSpare (text_given asked.journal)
     ∷ OfText asked.account.now ∷ OfSpare (text_given asked.key) ∷ OfText asked.ids.now ∷ []
 

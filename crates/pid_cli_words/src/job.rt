@@ -5,13 +5,13 @@
 pub enum Job<'a> {
     Tidy,
     Check,
-    Lookup(LookupWords<'a>),
+    Lookup(LookupArgs<'a>),
     /// On a registry in memory, if no file is named.
     Script {
         db: Option<&'a str>,
         journal: Option<&'a str>,
     },
-    Import(ImportWords<'a>),
+    Import(ImportArgs<'a>),
     Export {
         db: &'a str,
     },
@@ -29,7 +29,7 @@ pub enum Job<'a> {
 
 /// The file and the values of a lookup. The values are not checked yet.
 #[derive(Clone, Copy)]
-pub struct LookupWords<'a> {
+pub struct LookupArgs<'a> {
     pub ids: &'a str,
     pub flags: &'a str,
     pub size: Option<&'a str>,
@@ -44,7 +44,7 @@ pub struct LookupWords<'a> {
 /// The registry and the file of an import, and who sends it. Whether the account and the key keep
 /// their rules is not checked yet.
 #[derive(Clone, Copy)]
-pub struct ImportWords<'a> {
+pub struct ImportArgs<'a> {
     pub db: &'a str,
     pub journal: Option<&'a str>,
     pub account: &'a str,

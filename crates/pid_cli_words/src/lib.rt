@@ -1,13 +1,13 @@
 //! The command line of the program, and what a person at a terminal reads.
 #![tactic(auto)]
 
-mod command;
 mod commands;
 mod job;
 mod no_job;
+mod subcommand;
 pub mod terminal;
 mod words;
 
-pub use job::{ImportWords, Job, LookupWords};
-pub use no_job::tell_no_job;
+pub use job::{ImportArgs, Job, LookupArgs};
+pub use no_job::report_no_job;
 pub use words::job_of;

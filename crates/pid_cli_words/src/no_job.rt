@@ -6,13 +6,13 @@ ghost use Rattle.clap.specs.declared.error.kind.ErrorKind.TheVariants.{OutOfMemo
 
 use clap::Error;
 use clap::error::ErrorKind;
-use pid_file::{Plain, TextEnd, tell_end, tell_failed};
+use pid_file::{Plain, TextEnd, report_failed, report_text_end};
 use std::io;
 use std::io::Write;
 
 /// Prints why the arguments name no job, and returns the exit status: help and the version, if
 /// asked for, on `output`, and anything else on `faults`.
-pub fn tell_no_job<O: Write, F: Write>(
+pub fn report_no_job<O: Write, F: Write>(
     error: &Error,
     words: &[String],
     output: &mut O,
@@ -23,7 +23,7 @@ pub fn tell_no_job<O: Write, F: Write>(
         → kind_of error.now ≢ DisplayVersion → result ≡ 2 }
 {
     if matches!(error.kind(), ErrorKind::OutOfMemory) {
-        return tell_end(TextEnd::Memory, &mut Plain::new(faults));
+        return report_text_end(TextEnd::Memory, &mut Plain::new(faults));
     }
     if error.use_stderr() {
         let _ = write!(faults, "{error}{}", hint(words));
@@ -33,7 +33,7 @@ pub fn tell_no_job<O: Write, F: Write>(
         Ok(()) => 0,
         Err(fault) => {
             let is_unread = fault.kind() == io::ErrorKind::BrokenPipe;
-            tell_failed(is_unread, &mut Plain::new(faults))
+            report_failed(is_unread, &mut Plain::new(faults))
         }
     }
 }

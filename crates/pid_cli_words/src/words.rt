@@ -17,7 +17,7 @@ ghost use Rattle.pid_cli_words.specs.Jobs.{
 };
 
 use crate::commands::commands;
-use crate::job::{ImportWords, Job, LookupWords};
+use crate::job::{ImportArgs, Job, LookupArgs};
 use clap::{ArgMatches, Error};
 use std::alloc::Global;
 
@@ -34,10 +34,10 @@ fn text<'a>(given: &ArgMatches<'a>, name: &str) -> Option<&'a str>
     given.get_str(name)
 }
 
-fn lookup_words<'a>(given: &ArgMatches<'a>) -> LookupWords<'a>
+fn lookup_args<'a>(given: &ArgMatches<'a>) -> LookupArgs<'a>
     ensures { lookup_values result ≡ argument_values of_lookup (rows_of (found_of given.now)) }
 {
-    LookupWords {
+    LookupArgs {
         ids: needed_text(given, "ids"),
         flags: needed_text(given, "flags"),
         size: text(given, "size"),
@@ -50,10 +50,10 @@ fn lookup_words<'a>(given: &ArgMatches<'a>) -> LookupWords<'a>
     }
 }
 
-fn import_words<'a>(given: &ArgMatches<'a>) -> ImportWords<'a>
+fn import_words<'a>(given: &ArgMatches<'a>) -> ImportArgs<'a>
     ensures { import_values result ≡ argument_values of_import (rows_of (found_of given.now)) }
 {
-    ImportWords {
+    ImportArgs {
         db: needed_text(given, "db"),
         journal: text(given, "journal"),
         account: needed_text(given, "account"),
@@ -80,7 +80,7 @@ fn job_named<'a>(name: &str, given: &ArgMatches<'a>) -> Job<'a>
 {
     match name {
         "check" => Job::Check,
-        "lookup" => Job::Lookup(lookup_words(given)),
+        "lookup" => Job::Lookup(lookup_args(given)),
         "script" => Job::Script {
             db: text(given, "db"),
             journal: text(given, "journal"),

@@ -111,8 +111,8 @@ whole_line text line more h =
     ap (map drop_cr) (ended_more text (line ++ 10 ∷ more)) ∙ map_append drop_cr (ended_pieces text) (ended_pieces (open_part text ++ (line ++ 10 ∷ more)))
     ∙ ap (λ ls. whole_lines text ++ map drop_cr ls) (ap ended_pieces (sym (append_assoc (open_part text) line (10 ∷ more))) ∙ ended_line (open_part text ++ line) more (open_then text line h))
 
-pub open_behind : (text line : List ℕ) → ended_pieces line ≡ [] → open_part (text ++ (line ++ 10 ∷ [])) ≡ []
-open_behind text line h = open_more text (line ++ 10 ∷ []) ∙ ap open_part (sym (append_assoc (open_part text) line (10 ∷ []))) ∙ open_line (open_part text ++ line) [] (open_then text line h)
+pub open_after : (text line : List ℕ) → ended_pieces line ≡ [] → open_part (text ++ (line ++ 10 ∷ [])) ≡ []
+open_after text line h = open_more text (line ++ 10 ∷ []) ∙ ap open_part (sym (append_assoc (open_part text) line (10 ∷ []))) ∙ open_line (open_part text ++ line) [] (open_then text line h)
 
 -- bytes without LF behind a text
 pub whole_same : (text line : List ℕ) → ended_pieces line ≡ [] → whole_lines (text ++ line) ≡ whole_lines text
@@ -137,8 +137,8 @@ parts_at (b ∷ t) zero h e = let b_is : b ≡ 10 = e in rw b_is refl
 parts_at (b ∷ t) (suc i) h e = ap (λ (l : List ℕ). b ∷ l) (parts_at t i (omega arith) e)
 
 -- a slice to the end, as the code writes it
-pub parts_behind : (text : List ℕ) (i : ℕ) → i < length text → get_or text i 0 ≡ 10 → text ≡ take i text ++ 10 ∷ take (length text - (i + 1)) (drop (i + 1) text)
-parts_behind text i h e =
+pub parts_after : (text : List ℕ) (i : ℕ) → i < length text → get_or text i 0 ≡ 10 → text ≡ take i text ++ 10 ∷ take (length text - (i + 1)) (drop (i + 1) text)
+parts_after text i h e =
     let next : i + 1 ≡ suc i = omega arith in
     parts_at text i h e ∙ ap (λ (l : List ℕ). take i text ++ 10 ∷ l) (sym (take_all (length text - (i + 1)) (drop (i + 1) text) (omega (arith, length-drop (i + 1) text)) ∙ ap (λ n. drop n text) next))
 

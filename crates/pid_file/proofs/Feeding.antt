@@ -25,7 +25,7 @@ use Rattle.pid_file.specs.Sinks.{Took, TookSome, Ends}
 use Rattle.pid_file.specs.OpenTexts.{IsLeftOpen}
 use Rattle.pid_file.specs.Progress.{Shows}
 use Rattle.pid_file.specs.Steps.LineEnds.{LineEnds, TookLine}
-use Rattle.pid_file.proofs.Cuts.{map_append, whole_line, open_behind, whole_same, open_longer, lines_split, lines_more, last_line, open_no_lf}
+use Rattle.pid_file.proofs.Cuts.{map_append, whole_line, open_after, whole_same, open_longer, lines_split, lines_more, last_line, open_no_lf}
 
 or_else-assoc : (a b c : Option ReadRefusal) → or_else (or_else a b) c ≡ or_else a (or_else b c)
 or_else-assoc (Some r) b c = refl
@@ -119,7 +119,7 @@ pub holds_line : (c d : OpenText) (text front line : List ℕ) → IsLeftOpen c 
 holds_line c d text front line h no_lf line_is ok shown none =
     let lines : whole_lines (text ++ (front ++ 10 ∷ [])) ≡ whole_lines text ++ line ∷ [] = whole_line text front [] no_lf ∙ ap (λ (l : List ℕ). whole_lines text ++ l ∷ []) (sym line_is) in
     record {
-      open_line = none ∙ sym (open_behind text front no_lf);
+      open_line = none ∙ sym (open_after text front no_lf);
       good = ap refusal_of lines ∙ refused_line (whole_lines text) line [] h.good ∙ ap (λ o. or_else o None) ok;
       shown = subst (λ ls. Shows d.progress ls) (sym (ap reverse lines ∙ reverse_aux-snoc (whole_lines text) [] line)) shown;
     }

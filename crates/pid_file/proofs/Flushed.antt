@@ -6,10 +6,10 @@ use Rattle.pid_file.specs.declared.text_end.TextEnd.{TextEnd}
 use Rattle.pid_file.specs.declared.text_end.TextEnd.TheVariants.{Done, Line, TooManyEntries, TooLarge, Memory, ReadFault, WriteFault}
 use Rattle.pid_file.specs.declared.watched.Watched.{Watched}
 use Rattle.pid_file.specs.Printing.{print}
-use Rattle.pid_file.specs.Statuses.{GotTidied, IsStatusFor}
+use Rattle.pid_file.specs.ExitStatuses.{GotTidied, IsStatusFor}
 use Rattle.pid_file.specs.TextEnds.{fault_line, status_of}
 use Rattle.pid_file.specs.Tidied.{IsTidied, Writers}
-use Rattle.pid_file.specs.Told.{TellsFault}
+use Rattle.pid_file.specs.Reports.{ReportsFault}
 
 nothing_more : (xs : List ℕ) → xs ++ [] ≡ xs
 nothing_more [] = refl
@@ -70,7 +70,7 @@ kept_too : (old new out out_new : Option (List ℕ)) → GotToo old new out out_
 kept_too old new out out_new got kept = none_appended out out_new (got [] (appends_none old new kept))
 
 refused_got : (end : TextEnd) (text : List ℕ) (k w : Writers) → status_of end ≡ 1
-    → Keeps k.output k.output_after → TellsFault end text k.faults k.faults_after
+    → Keeps k.output k.output_after → ReportsFault end text k.faults k.faults_after
     → GotToo k.output k.output_after w.output w.output_after
     → (status_of end ≢ 3 → GotToo k.faults k.faults_after w.faults w.faults_after)
     → GotTidied text (status_of end) w

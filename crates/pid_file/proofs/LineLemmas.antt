@@ -12,8 +12,8 @@ use Rattle.std.specs.Char.{to_ascii_lowercase, digit_char}
 use Rattle.pid_file.specs.Identifiers.{hex4, hex2}
 use Rattle.pid_file.specs.Columns.{is_hex, begins_with_id, begins_with_ids, is_id, digits_in, name_in}
 use Rattle.pid_file.specs.Steps.Columns.{are_digits, SaysNumber, IsId}
-use Rattle.pid_file.specs.declared.entry_line.Place.{Place}
-use Rattle.pid_file.specs.declared.entry_line.Place.TheVariants.{Subsystem}
+use Rattle.pid_file.specs.declared.entry_line.EntryKind.{EntryKind}
+use Rattle.pid_file.specs.declared.entry_line.EntryKind.TheVariants.{Subsystem}
 use Rattle.pid_file.specs.Lines.{drop_cr}
 use Rattle.pid_file.specs.Marks.{trim_blanks}
 
@@ -123,8 +123,8 @@ four_is bytes mid rest h l p q = record {
 pub no_four_front : (bytes : List ℕ) → are_digits 2 bytes ≡ false → are_digits 4 bytes ≡ false
 no_four_front bytes h = digits_split bytes ∙ ap (λ t. t && are_digits 2 (drop 2 bytes)) h
 
-pub no_four_behind : (bytes mid : List ℕ) (h : ℕ) → SaysNumber 2 256 hex2 bytes h mid → are_digits 2 mid ≡ false → are_digits 4 bytes ≡ false
-no_four_behind bytes mid h p none = digits_split bytes ∙ (λ i. p.digits i && are_digits 2 (sym p.behind i)) ∙ none
+pub no_four_after : (bytes mid : List ℕ) (h : ℕ) → SaysNumber 2 256 hex2 bytes h mid → are_digits 2 mid ≡ false → are_digits 4 bytes ≡ false
+no_four_after bytes mid h p none = digits_split bytes ∙ (λ i. p.digits i && are_digits 2 (sym p.behind i)) ∙ none
 
 -- digits, and then a blank or none
 pub no_digits_no_id : (width : ℕ) (bytes : List ℕ) → are_digits width bytes ≡ false → begins_with_id width bytes ≡ false
@@ -166,7 +166,7 @@ block_is bytes mid n p h = (block_as bytes mid n p ∙ h, p.says)
 pub no_ids : (width : ℕ) (more : List ℕ) (bytes : List ℕ) → begins_with_id width bytes ≡ false → begins_with_ids (width ∷ more) bytes ≡ false
 no_ids width more bytes h = ap (λ t. t && begins_with_ids more (drop (suc width) bytes)) h
 
-pub short_ids : (place : Place) (bytes rest : List ℕ) (n : ℕ) → widths_of place ≡ 2 ∷ [] → bound_of place ≡ 256 → digits_of place n 0 ≡ hex2 n → IsId 2 256 hex2 bytes n rest → AreIds place bytes n 0 rest
+pub short_ids : (place : EntryKind) (bytes rest : List ℕ) (n : ℕ) → widths_of place ≡ 2 ∷ [] → bound_of place ≡ 256 → digits_of place n 0 ≡ hex2 n → IsId 2 256 hex2 bytes n rest → AreIds place bytes n 0 rest
 short_ids place bytes rest n widths bound digits p = record {
   small = subst (λ m. n < m) (sym bound) p.small;
   begins = ap (λ (ws : List ℕ). begins_with_ids ws bytes) widths ∙ ap (λ t. t && true) p.begins;
@@ -174,7 +174,7 @@ short_ids place bytes rest n widths bound digits p = record {
   behind = ap (λ (ws : List ℕ). name_in ws bytes) widths ∙ ap (λ (l : List ℕ). trim_blanks l) (sym p.behind);
 }
 
-pub long_ids : (place : Place) (bytes rest : List ℕ) (n : ℕ) → widths_of place ≡ 4 ∷ [] → bound_of place ≡ 65536 → digits_of place n 0 ≡ hex4 n → IsId 4 65536 hex4 bytes n rest → AreIds place bytes n 0 rest
+pub long_ids : (place : EntryKind) (bytes rest : List ℕ) (n : ℕ) → widths_of place ≡ 4 ∷ [] → bound_of place ≡ 65536 → digits_of place n 0 ≡ hex4 n → IsId 4 65536 hex4 bytes n rest → AreIds place bytes n 0 rest
 long_ids place bytes rest n widths bound digits p = record {
   small = subst (λ m. n < m) (sym bound) p.small;
   begins = ap (λ (ws : List ℕ). begins_with_ids ws bytes) widths ∙ ap (λ t. t && true) p.begins;

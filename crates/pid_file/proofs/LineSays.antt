@@ -13,12 +13,12 @@ use Rattle.pid_file.specs.Identifiers.{hex4, hex2}
 use Rattle.pid_file.specs.PathTexts.{path_text}
 use Rattle.pid_file.specs.declared.line.Mark.{Mark}
 use Rattle.pid_file.specs.declared.line.Mark.TheVariants as marks
-use Rattle.pid_file.specs.declared.entry_line.Place.{Place}
-use Rattle.pid_file.specs.declared.entry_line.Place.TheVariants.{Vendor, Device, Subsystem, Class, Subclass, ProgIf, Generic}
-use Rattle.pid_file.specs.declared.entry_line.Named.{Named}
+use Rattle.pid_file.specs.declared.entry_line.EntryKind.{EntryKind}
+use Rattle.pid_file.specs.declared.entry_line.EntryKind.TheVariants.{Vendor, Device, Subsystem, Class, Subclass, ProgIf, Generic}
+use Rattle.pid_file.specs.declared.entry_line.NamedPath.{NamedPath}
 use Rattle.pid_file.specs.declared.open_levels.OpenLevels.{OpenLevels}
 use Rattle.pid_file.specs.declared.open_levels.OpenLevels.TheVariants as opens
-use Rattle.pid_file.specs.declared.open_levels.Said.TheVariants as said
+use Rattle.pid_file.specs.declared.open_levels.LineContent.TheVariants as said
 use Rattle.pid_file.specs.Marks.{is_idle, depth, body, mark, is_unknown, inside}
 use Rattle.pid_file.specs.Levels.{levels, front, widths}
 use Rattle.pid_file.specs.Columns.{begins_with_ids, is_id, digits_in, name_in}
@@ -30,7 +30,7 @@ use Rattle.pid_file.specs.Steps.OpenLevels.{open_below, Says}
 use Rattle.pid_file.specs.Steps.OpenLevels.{first_below, second_below, deeper_below, below}
 
 -- what stands before its own digits in the text of its path
-abbrev text_before : Place → List ℕ
+abbrev text_before : EntryKind → List ℕ
 text_before Vendor = codes "PC/"
 text_before (Device v) = codes "PC/" ++ hex4 v ++ 47 ∷ []
 text_before (Subsystem v d) = codes "PC/" ++ hex4 v ++ 47 ∷ hex4 d ++ 47 ∷ []
@@ -57,7 +57,7 @@ block_digits : (bytes : List ℕ) (v : ℕ) → map to_ascii_lowercase (take 4 b
 block_digits bytes v h = ap (λ (l : List ℕ). l ++ []) h
 
 -- where an entry's line stands among the open lines
-abbrev pub IsPlace : Place → List (List ℕ) → List ℕ → Type 0
+abbrev pub IsPlace : EntryKind → List (List ℕ) → List ℕ → Type 0
 IsPlace Vendor earlier line = (depth line ≡ 0) × (mark line ≡ marks.Devices)
 IsPlace (Device v) earlier line = (depth line ≡ 1) × Under earlier marks.Devices (codes "PC/" ++ hex4 v)
 IsPlace (Subsystem v d) earlier line = (depth line ≡ 2) × Under earlier marks.Devices (codes "PC/" ++ hex4 v) × Below earlier marks.Devices (hex4 d)
@@ -66,7 +66,7 @@ IsPlace (Subclass c) earlier line = (depth line ≡ 1) × Under earlier marks.Cl
 IsPlace (ProgIf c s) earlier line = (depth line ≡ 2) × Under earlier marks.Classes (codes "PD/" ++ hex2 c) × Below earlier marks.Classes (hex2 s)
 IsPlace (Generic v) earlier line = (depth line ≡ 1) × Under earlier marks.Generics (codes "PS/" ++ hex4 v)
 
-record StandsAt (earlier : List (List ℕ)) (line : List ℕ) (place : Place) : Type 0 where
+record StandsAt (earlier : List (List ℕ)) (line : List ℕ) (place : EntryKind) : Type 0 where
   entry : is_entry earlier line ≡ true
   shallow : leb (length (levels (mark_at earlier line))) (depth line) ≡ false
   parent : (not (eqb (depth line) 0) && is_none (parent_line earlier line)) ≡ false
@@ -74,7 +74,7 @@ record StandsAt (earlier : List (List ℕ)) (line : List ℕ) (place : Place) : 
   width : widths_at earlier line ≡ widths_of place
   path : path_at earlier line ≡ text_before place ++ digits_in (widths_of place) (inside line)
 
-stands_one : (earlier : List (List ℕ)) (line top ws : List ℕ) (m : Mark) (place : Place) → is_idle line ≡ false → depth line ≡ 1 → Under earlier m top → is_unknown m ≡ false → leb (length (levels m)) 1 ≡ false → widths m 1 ≡ ws → ws ≡ widths_of place → text_before place ≡ top ++ 47 ∷ [] → ((l : List ℕ) → top ++ 47 ∷ l ≡ (top ++ 47 ∷ []) ++ l) → StandsAt earlier line place
+stands_one : (earlier : List (List ℕ)) (line top ws : List ℕ) (m : Mark) (place : EntryKind) → is_idle line ≡ false → depth line ≡ 1 → Under earlier m top → is_unknown m ≡ false → leb (length (levels m)) 1 ≡ false → widths m 1 ≡ ws → ws ≡ widths_of place → text_before place ≡ top ++ 47 ∷ [] → ((l : List ℕ) → top ++ 47 ∷ l ≡ (top ++ 47 ∷ []) ++ l) → StandsAt earlier line place
 stands_one earlier line top ws m place active at u known within width same before joined = record {
   entry = rw (active, at, u.is_head, u.marked, known) refl;
   shallow = rw (at, u.is_head, u.marked) within;
@@ -87,7 +87,7 @@ stands_one earlier line top ws m place active at u known within width same befor
       path_is ∙ joined (digits_in ws (inside line)) ∙ (λ i. sym before i ++ digits_in (same i) (inside line));
 }
 
-stands_two : (earlier : List (List ℕ)) (line top second ws : List ℕ) (m : Mark) (place : Place) → is_idle line ≡ false → depth line ≡ 2 → Under earlier m top → Below earlier m second → is_unknown m ≡ false → leb (length (levels m)) 2 ≡ false → widths m 2 ≡ ws → ws ≡ widths_of place → text_before place ≡ top ++ 47 ∷ second ++ 47 ∷ [] → ((l : List ℕ) → top ++ 47 ∷ second ++ 47 ∷ l ≡ (top ++ 47 ∷ second ++ 47 ∷ []) ++ l) → StandsAt earlier line place
+stands_two : (earlier : List (List ℕ)) (line top second ws : List ℕ) (m : Mark) (place : EntryKind) → is_idle line ≡ false → depth line ≡ 2 → Under earlier m top → Below earlier m second → is_unknown m ≡ false → leb (length (levels m)) 2 ≡ false → widths m 2 ≡ ws → ws ≡ widths_of place → text_before place ≡ top ++ 47 ∷ second ++ 47 ∷ [] → ((l : List ℕ) → top ++ 47 ∷ second ++ 47 ∷ l ≡ (top ++ 47 ∷ second ++ 47 ∷ []) ++ l) → StandsAt earlier line place
 stands_two earlier line top second ws m place active at u b known within width same before joined = record {
   entry = rw (active, at, u.is_head, u.marked, known) refl;
   shallow = rw (at, u.is_head, u.marked) within;
@@ -102,7 +102,7 @@ stands_two earlier line top second ws m place active at u b known within width s
       path_is ∙ joined (digits_in ws (inside line)) ∙ (λ i. sym before i ++ digits_in (same i) (inside line));
 }
 
-stands : (place : Place) (earlier : List (List ℕ)) (line : List ℕ) → is_idle line ≡ false → IsPlace place earlier line → StandsAt earlier line place
+stands : (place : EntryKind) (earlier : List (List ℕ)) (line : List ℕ) → is_idle line ≡ false → IsPlace place earlier line → StandsAt earlier line place
 stands Vendor earlier line active p = record {
   entry = rw (active, p.0, p.1) refl;
   shallow = rw (p.0, p.1) refl;
@@ -129,14 +129,14 @@ or_false : (b : Bool) (x y : Option LineKind) → cond (not b || false) x y ≡ 
 or_false true x y = refl
 or_false false x y = refl
 
-stands_fault : (place : Place) (earlier : List (List ℕ)) (line : List ℕ) → is_utf8 line ≡ true → StandsAt earlier line place → line_fault_of earlier line ≡ columns_fault (widths_of place) (inside line)
+stands_fault : (place : EntryKind) (earlier : List (List ℕ)) (line : List ℕ) → is_utf8 line ≡ true → StandsAt earlier line place → line_fault_of earlier line ≡ columns_fault (widths_of place) (inside line)
 stands_fault place earlier line text s = rw (text, s.entry, s.shallow, s.parent, s.no_block, s.width) (or_false (begins_with_ids (widths_of place) (inside line)) _ _)
 
 -- the fault of an entry's line
-pub place_fault : (place : Place) (earlier : List (List ℕ)) (line : List ℕ) → is_utf8 line ≡ true → is_idle line ≡ false → IsPlace place earlier line → line_fault_of earlier line ≡ columns_fault (widths_of place) (inside line)
+pub place_fault : (place : EntryKind) (earlier : List (List ℕ)) (line : List ℕ) → is_utf8 line ≡ true → is_idle line ≡ false → IsPlace place earlier line → line_fault_of earlier line ≡ columns_fault (widths_of place) (inside line)
 place_fault place earlier line text active p = stands_fault place earlier line text (stands place earlier line active p)
 
-path_is : (place : Place) (p : Path) (digits : List ℕ) → IsPathAt place p digits → path_text p ≡ text_before place ++ digits
+path_is : (place : EntryKind) (p : Path) (digits : List ℕ) → IsPathAt place p digits → path_text p ≡ text_before place ++ digits
 path_is Vendor (paths.Vendor v) digits h = ap (λ (l : List ℕ). codes "PC/" ++ l) (sym h)
 path_is (Device v) (paths.Device w d) digits h = ap (λ n. path_text (paths.Device n d)) h.0 ∙ ap (λ (l : List ℕ). text_before (Device v) ++ l) (sym h.1)
 path_is (Subsystem v d) (paths.Subsystem w e s t) digits h = (λ i. path_text (paths.Subsystem (h.0 i) (h.1 i) s t)) ∙ ap (λ (l : List ℕ). text_before (Subsystem v d) ++ l) (sym h.2)
@@ -146,7 +146,7 @@ path_is (ProgIf c s) (paths.ProgIf b r t) digits h = (λ i. path_text (paths.Pro
 path_is (Generic v) (paths.Generic w d) digits h = ap (λ n. path_text (paths.Generic n d)) h.0 ∙ ap (λ (l : List ℕ). text_before (Generic v) ++ l) (sym h.1)
 path_is _ _ digits h = absurd h
 
-stands_entry : (place : Place) (earlier : List (List ℕ)) (line : List ℕ) → StandsAt earlier line place → entry_of earlier line ≡ (text_before place ++ digits_in (widths_of place) (inside line), name_in (widths_of place) (inside line)) ∷ []
+stands_entry : (place : EntryKind) (earlier : List (List ℕ)) (line : List ℕ) → StandsAt earlier line place → entry_of earlier line ≡ (text_before place ++ digits_in (widths_of place) (inside line), name_in (widths_of place) (inside line)) ∷ []
 stands_entry place earlier line s = rw (s.entry, s.path, s.width) refl
 
 -- which levels are open behind an entry's line
@@ -159,7 +159,7 @@ head_bare earlier line active flat = record { nearest = line; is_nearest = rw (a
 one_below : (earlier : List (List ℕ)) (line digits : List ℕ) (m : Mark) → is_idle line ≡ false → depth line ≡ 1 → digits_in (widths m 1) (inside line) ≡ digits → Below (line ∷ earlier) m digits
 one_below earlier line digits m active at says = record { line = line; is_open = rw (active, at) refl; nested = at; says = says }
 
-place_open : (place : Place) (p : Path) (earlier : List (List ℕ)) (line : List ℕ) → is_idle line ≡ false → IsPlace place earlier line → IsPathAt place p (digits_in (widths_of place) (inside line)) → IsOpenAt (open_below p) (line ∷ earlier)
+place_open : (place : EntryKind) (p : Path) (earlier : List (List ℕ)) (line : List ℕ) → is_idle line ≡ false → IsPlace place earlier line → IsPathAt place p (digits_in (widths_of place) (inside line)) → IsOpenAt (open_below p) (line ∷ earlier)
 place_open Vendor (paths.Vendor v) earlier line active p h = (head_open earlier line (codes "PC/" ++ hex4 v) marks.Devices active p.0 p.1 (subst (λ (l : List ℕ). head_path line ≡ codes "PC/" ++ l) h (rw p.1 refl)), head_bare earlier line active p.0)
 place_open Class (paths.Class c) earlier line active p h = (head_open earlier line (codes "PD/" ++ hex2 c) marks.Classes active p.0 p.1 (subst (λ (l : List ℕ). head_path line ≡ codes "PD/" ++ l) h (rw p.1 refl)), head_bare earlier line active p.0)
 place_open (Device v) (paths.Device w d) earlier line active p h = (subst (λ n. Under (line ∷ earlier) marks.Devices (codes "PC/" ++ hex4 n)) (sym h.0) (under_past earlier line _ _ (rw (active, p.0) refl) p.1), one_below earlier line (hex4 d) marks.Devices active p.0 h.1)
@@ -170,7 +170,7 @@ place_open (ProgIf c s) (paths.ProgIf b r t) earlier line active p h = (subst (�
 place_open _ _ earlier line active p h = absurd h
 
 -- an entry
-pub entry_says : (open_is : OpenLevels) (place : Place) (earlier : List (List ℕ)) (line : List ℕ) (n : Named) → is_utf8 line ≡ true → is_idle line ≡ false → IsPlace place earlier line → IsPathAt place n.path (digits_in (widths_of place) (inside line)) → n.name.now ≡ name_in (widths_of place) (inside line) → columns_fault (widths_of place) (inside line) ≡ None → Says open_is earlier line (said.Entry n)
+pub entry_says : (open_is : OpenLevels) (place : EntryKind) (earlier : List (List ℕ)) (line : List ℕ) (n : NamedPath) → is_utf8 line ≡ true → is_idle line ≡ false → IsPlace place earlier line → IsPathAt place n.path (digits_in (widths_of place) (inside line)) → n.name.now ≡ name_in (widths_of place) (inside line) → columns_fault (widths_of place) (inside line) ≡ None → Says open_is earlier line (said.Entry n)
 entry_says open_is place earlier line n text active p path name good =
     let s = stands place earlier line active p in
     record {
@@ -181,25 +181,25 @@ entry_says open_is place earlier line n text active p path name good =
     }
 
 -- which place a nested line has
-place_one : (open_is : OpenLevels) (place : Place) (earlier : List (List ℕ)) (line : List ℕ) → depth line ≡ 1 → IsOpenAt open_is earlier → first_below open_is ≡ Ok (Some place) → IsPlace place earlier line
+place_one : (open_is : OpenLevels) (place : EntryKind) (earlier : List (List ℕ)) (line : List ℕ) → depth line ≡ 1 → IsOpenAt open_is earlier → first_below open_is ≡ Ok (Some place) → IsPlace place earlier line
 place_one opens.Nothing place earlier line at o h = absurd cc
 place_one opens.Unknown place earlier line at o h = absurd cc
-place_one (opens.Vendor v) place earlier line at o h = let is : Device v ≡ place = cc in subst (λ (q : Place). IsPlace q earlier line) is (at, o.0)
-place_one (opens.Device v d) place earlier line at o h = let is : Device v ≡ place = cc in subst (λ (q : Place). IsPlace q earlier line) is (at, o.0)
-place_one (opens.Class c) place earlier line at o h = let is : Subclass c ≡ place = cc in subst (λ (q : Place). IsPlace q earlier line) is (at, o.0)
-place_one (opens.Subclass c s) place earlier line at o h = let is : Subclass c ≡ place = cc in subst (λ (q : Place). IsPlace q earlier line) is (at, o.0)
-place_one (opens.Generics v) place earlier line at o h = let is : Generic v ≡ place = cc in subst (λ (q : Place). IsPlace q earlier line) is (at, o)
+place_one (opens.Vendor v) place earlier line at o h = let is : Device v ≡ place = cc in subst (λ (q : EntryKind). IsPlace q earlier line) is (at, o.0)
+place_one (opens.Device v d) place earlier line at o h = let is : Device v ≡ place = cc in subst (λ (q : EntryKind). IsPlace q earlier line) is (at, o.0)
+place_one (opens.Class c) place earlier line at o h = let is : Subclass c ≡ place = cc in subst (λ (q : EntryKind). IsPlace q earlier line) is (at, o.0)
+place_one (opens.Subclass c s) place earlier line at o h = let is : Subclass c ≡ place = cc in subst (λ (q : EntryKind). IsPlace q earlier line) is (at, o.0)
+place_one (opens.Generics v) place earlier line at o h = let is : Generic v ≡ place = cc in subst (λ (q : EntryKind). IsPlace q earlier line) is (at, o)
 
-place_two : (open_is : OpenLevels) (place : Place) (earlier : List (List ℕ)) (line : List ℕ) → depth line ≡ 2 → IsOpenAt open_is earlier → second_below open_is ≡ Ok (Some place) → IsPlace place earlier line
+place_two : (open_is : OpenLevels) (place : EntryKind) (earlier : List (List ℕ)) (line : List ℕ) → depth line ≡ 2 → IsOpenAt open_is earlier → second_below open_is ≡ Ok (Some place) → IsPlace place earlier line
 place_two opens.Nothing place earlier line at o h = absurd cc
 place_two opens.Unknown place earlier line at o h = absurd cc
 place_two (opens.Vendor v) place earlier line at o h = absurd cc
-place_two (opens.Device v d) place earlier line at o h = let is : Subsystem v d ≡ place = cc in subst (λ (q : Place). IsPlace q earlier line) is (at, o.0, o.1)
+place_two (opens.Device v d) place earlier line at o h = let is : Subsystem v d ≡ place = cc in subst (λ (q : EntryKind). IsPlace q earlier line) is (at, o.0, o.1)
 place_two (opens.Class c) place earlier line at o h = absurd cc
-place_two (opens.Subclass c s) place earlier line at o h = let is : ProgIf c s ≡ place = cc in subst (λ (q : Place). IsPlace q earlier line) is (at, o.0, o.1)
+place_two (opens.Subclass c s) place earlier line at o h = let is : ProgIf c s ≡ place = cc in subst (λ (q : EntryKind). IsPlace q earlier line) is (at, o.0, o.1)
 place_two (opens.Generics v) place earlier line at o h = absurd cc
 
-place_deep : (open_is : OpenLevels) (place : Place) → deeper_below open_is ≡ Ok (Some place) → ⊥
+place_deep : (open_is : OpenLevels) (place : EntryKind) → deeper_below open_is ≡ Ok (Some place) → ⊥
 place_deep opens.Nothing place h = cc
 place_deep opens.Unknown place h = cc
 place_deep (opens.Vendor v) place h = cc
@@ -211,7 +211,7 @@ place_deep (opens.Generics v) place h = cc
 number_is : (d n : ℕ) → eqb d n ≡ true → d ≡ n
 number_is d n h = grind (arith, nat_tests)
 
-pub place_is : (open_is : OpenLevels) (d : ℕ) (place : Place) (earlier : List (List ℕ)) (line : List ℕ) → depth line ≡ d → IsOpenAt open_is earlier → below open_is d ≡ Ok (Some place) → IsPlace place earlier line
+pub place_is : (open_is : OpenLevels) (d : ℕ) (place : EntryKind) (earlier : List (List ℕ)) (line : List ℕ) → depth line ≡ d → IsOpenAt open_is earlier → below open_is d ≡ Ok (Some place) → IsPlace place earlier line
 place_is open_is d place earlier line at o h =
     elim (eqb d 1) as (λ b. eqb d 1 ≡ b → cond b (first_below open_is) (cond (eqb d 2) (second_below open_is) (deeper_below open_is)) ≡ Ok (Some place) → IsPlace place earlier line) [
       | true ↦ λ e h. place_one open_is place earlier line (at ∙ number_is d 1 e) o h
@@ -294,11 +294,11 @@ inside_nested (b ∷ c ∷ rest) h =
     ] refl h
 
 -- the same, of bytes that are found to stand inside the line
-pub entry_read : (open_is : OpenLevels) (place : Place) (earlier : List (List ℕ)) (line bytes : List ℕ) (n : Named) → is_utf8 line ≡ true → is_idle line ≡ false → IsPlace place earlier line → bytes ≡ inside line → IsPathAt place n.path (digits_in (widths_of place) bytes) → n.name.now ≡ name_in (widths_of place) bytes → columns_fault (widths_of place) bytes ≡ None → Says open_is earlier line (said.Entry n)
+pub entry_read : (open_is : OpenLevels) (place : EntryKind) (earlier : List (List ℕ)) (line bytes : List ℕ) (n : NamedPath) → is_utf8 line ≡ true → is_idle line ≡ false → IsPlace place earlier line → bytes ≡ inside line → IsPathAt place n.path (digits_in (widths_of place) bytes) → n.name.now ≡ name_in (widths_of place) bytes → columns_fault (widths_of place) bytes ≡ None → Says open_is earlier line (said.Entry n)
 entry_read open_is place earlier line bytes n text active p is path name good =
     entry_says open_is place earlier line n text active p (subst (λ (l : List ℕ). IsPathAt place n.path (digits_in (widths_of place) l)) is path) (name ∙ ap (λ (l : List ℕ). name_in (widths_of place) l) is) (ap (λ (l : List ℕ). columns_fault (widths_of place) l) (sym is) ∙ good)
 
-pub fault_read : (place : Place) (earlier : List (List ℕ)) (line bytes : List ℕ) (k : LineKind) → is_utf8 line ≡ true → is_idle line ≡ false → IsPlace place earlier line → bytes ≡ inside line → columns_fault (widths_of place) bytes ≡ Some k → line_fault_of earlier line ≡ Some k
+pub fault_read : (place : EntryKind) (earlier : List (List ℕ)) (line bytes : List ℕ) (k : LineKind) → is_utf8 line ≡ true → is_idle line ≡ false → IsPlace place earlier line → bytes ≡ inside line → columns_fault (widths_of place) bytes ≡ Some k → line_fault_of earlier line ≡ Some k
 fault_read place earlier line bytes k text active p is fault = place_fault place earlier line text active p ∙ ap (λ (l : List ℕ). columns_fault (widths_of place) l) (sym is) ∙ fault
 
 -- the line of a block of generic subsystems, with good digits or not, and that of an unknown block

@@ -4,7 +4,7 @@ use Rattle.std.specs.Io.KnownBytes.{Keeps}
 use Rattle.pid_file.specs.declared.text_end.TextEnd.{TextEnd}
 use Rattle.pid_file.specs.declared.text_end.TextEnd.TheVariants.{Done, Line, TooManyEntries, TooLarge, Memory, ReadFault, WriteFault}
 use Rattle.pid_file.specs.Tidied.{IsTidied, PrintsNothing, Writers}
-use Rattle.pid_file.specs.Told.{IsTold}
+use Rattle.pid_file.specs.Reports.{IsReported}
 
 pub nothing_printed : (end : TextEnd) (old new : Option (List ℕ)) → Keeps old new → PrintsNothing end old new
 nothing_printed Done old new kept = tt
@@ -19,7 +19,7 @@ pub Keeps-itself : (a : Option (List ℕ)) → Keeps a a
 Keeps-itself None = tt
 Keeps-itself (Some x) = refl
 
-pub told_tidied : (end : TextEnd) (text : List ℕ) (w : Writers) → Keeps w.output w.output_after → IsTold end text w.faults w.faults_after → IsTidied end text w
+pub told_tidied : (end : TextEnd) (text : List ℕ) (w : Writers) → Keeps w.output w.output_after → IsReported end text w.faults w.faults_after → IsTidied end text w
 told_tidied Done text w kept told = absurd told
 told_tidied (Line line kind) text w kept told = (kept, told)
 told_tidied TooManyEntries text w kept told = (kept, told)

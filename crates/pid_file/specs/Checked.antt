@@ -5,7 +5,7 @@ use Rattle.pid_file.specs.Reading.{history_of}
 use Rattle.pid_file.specs.LookingBack.{entries_back}
 use Rattle.pid_file.specs.Sending.{SendsFront}
 use Rattle.pid_file.specs.Judgements.{IsGood}
-use Rattle.pid_file.specs.Told.{IsTold}
+use Rattle.pid_file.specs.Reports.{IsReported}
 use Rattle.pid_file.specs.declared.text_end.TextEnd.{TextEnd}
 use Rattle.pid_file.specs.declared.text_end.TextEnd.TheVariants.{Done, Line, TooManyEntries}
 use Rattle.pid_file.specs.declared.text_end.TextEnd.TheVariants.{TooLarge, Memory, ReadFault}
@@ -23,9 +23,9 @@ ok_line count = codes "ok " ++ decimal count ++ 10 ∷ []
 abbrev pub IsChecked : TextEnd → List ℕ → Option (List ℕ) → Option (List ℕ) → Type 0
 IsChecked Done text old new = IsGood text × Appends old new (ok_line (count_of text))
 IsChecked WriteFault text old new = (IsGood text × SendsFront old new (ok_line (count_of text)))
-    ⊎ IsTold WriteFault text old new
-IsChecked (Line line kind) text old new = IsTold (Line line kind) text old new
-IsChecked TooManyEntries text old new = IsTold TooManyEntries text old new
-IsChecked TooLarge text old new = IsTold TooLarge text old new
-IsChecked Memory text old new = IsTold Memory text old new
-IsChecked ReadFault text old new = IsTold ReadFault text old new
+    ⊎ IsReported WriteFault text old new
+IsChecked (Line line kind) text old new = IsReported (Line line kind) text old new
+IsChecked TooManyEntries text old new = IsReported TooManyEntries text old new
+IsChecked TooLarge text old new = IsReported TooLarge text old new
+IsChecked Memory text old new = IsReported Memory text old new
+IsChecked ReadFault text old new = IsReported ReadFault text old new

@@ -57,12 +57,12 @@ is_generics Devices = false
 is_generics Classes = false
 is_generics Unknown = false
 
-abbrev pub behind_mark : Mark → List ℕ → List ℕ
-behind_mark Devices line = body line
-behind_mark Classes line = drop 2 line
-behind_mark Generics line = drop 2 line
-behind_mark Unknown line = drop 2 line
+abbrev pub after_mark : Mark → List ℕ → List ℕ
+after_mark Devices line = body line
+after_mark Classes line = drop 2 line
+after_mark Generics line = drop 2 line
+after_mark Unknown line = drop 2 line
 
 -- what follows the tabs, or the letter and its space
 abbrev pub inside : List ℕ → List ℕ
-inside line = behind_mark (mark line) line
+inside line = after_mark (mark line) line

@@ -49,10 +49,10 @@ abbrev pub opens_block : List ℕ → List ℕ → Bool
 opens_block before path = is_generic path && not (is_eq (text_cmp (take 7 before) (take 7 path)))
 
 -- the lines of items in order, which follow an item whose path has the text `before`
-abbrev pub lines_behind : List ℕ → List (List ℕ × List ℕ) → List (List ℕ)
-lines_behind before [] = []
-lines_behind before (item ∷ items) = (if opens_block before item.0 then block_line item.0
-    ∷ [] else []) ++ item_line item ∷ lines_behind item.0 items
+abbrev pub lines_after : List ℕ → List (List ℕ × List ℕ) → List (List ℕ)
+lines_after before [] = []
+lines_after before (item ∷ items) = (if opens_block before item.0 then block_line item.0
+    ∷ [] else []) ++ item_line item ∷ lines_after item.0 items
 
 -- the first line of every canonical text
 abbrev pub header : List ℕ
@@ -66,4 +66,4 @@ ended (line ∷ lines) = line ++ 10 ∷ ended lines
 -- the text of a tree: the header, and the lines of its items in the bytewise order of their paths'
 -- texts
 abbrev pub print : TreeMap → List ℕ
-print t = ended (header ∷ lines_behind [] (entries t))
+print t = ended (header ∷ lines_after [] (entries t))

@@ -3,7 +3,7 @@ use Rattle.std.specs.Prelude.{◌≡◌, ℕ, Bool, true, List, Option, Some, No
 use Rattle.pid_file.specs.declared.path.Path.{Path}
 use Rattle.pid_file.specs.PathTexts.{IsPath, path_text}
 use Rattle.pid_file.specs.declared.open_levels.OpenLevels.{OpenLevels}
-use Rattle.pid_file.specs.declared.progress.Progress.{Progress}
+use Rattle.pid_file.specs.declared.progress.LinesRead.{LinesRead}
 use Rattle.pid_file.specs.LookingBack.{above, head_path, entries_back, is_told}
 use Rattle.pid_file.specs.OpenLevels.{IsOpenAt}
 use Rattle.pid_file.specs.SeenPaths.{AreRising, block_of, has_seen, is_nested}
@@ -33,6 +33,6 @@ pub record IsShown (at : OpenLevels) (seen : Path → Bool) (entries lines : ℕ
   pub number : lines ≡ length earlier
 
 -- the kept runs of keys rise, and what is kept shows the lines
-pub record Shows (p : Progress) (earlier : List (List ℕ)) : Type 0 where
+pub record Shows (p : LinesRead) (earlier : List (List ℕ)) : Type 0 where
   pub rising : AreRising p.seen
   pub shown : IsShown p.levels (has_seen p.seen) p.entries p.lines earlier

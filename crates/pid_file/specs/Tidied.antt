@@ -5,7 +5,7 @@ use Rattle.pid_file.specs.Trees.{TreeMap}
 use Rattle.pid_file.specs.Printing.{print}
 use Rattle.pid_file.specs.Judgements.{ReadsWithin}
 use Rattle.pid_file.specs.Sending.{SendsFront}
-use Rattle.pid_file.specs.Told.{IsTold}
+use Rattle.pid_file.specs.Reports.{IsReported}
 use Rattle.pid_file.specs.declared.text_end.TextEnd.{TextEnd}
 use Rattle.pid_file.specs.declared.text_end.TextEnd.TheVariants.{Done, Line, TooManyEntries}
 use Rattle.pid_file.specs.declared.text_end.TextEnd.TheVariants.{TooLarge, Memory, ReadFault}
@@ -34,7 +34,7 @@ pub record PrintsFront (text : List ℕ) (w : Writers) : Type 0 where
 
 -- nothing was printed, and the reason was reported
 abbrev pub TellsOnly : TextEnd → List ℕ → Writers → Type 0
-TellsOnly end text w = Keeps w.output w.output_after × IsTold end text w.faults w.faults_after
+TellsOnly end text w = Keeps w.output w.output_after × IsReported end text w.faults w.faults_after
 
 -- what was written, by the end: the canonical form, or why there is none
 abbrev pub IsTidied : TextEnd → List ℕ → Writers → Type 0

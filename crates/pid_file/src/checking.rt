@@ -19,8 +19,8 @@ ghost use Rattle.pid_file.specs.InputTexts.{HasEntries, ReadsInput, IsUsedUpTo};
 use crate::counter::Never;
 use crate::input_text::count_input;
 use crate::io::{Input, Output, WriteFault, write_parts};
+use crate::report::report_unread;
 use crate::text_end::{LARGEST, TextEnd};
-use crate::told::tell_unread;
 use crate::whole_input::InputEnd;
 use itoa::Buffer;
 use std::alloc::Global;
@@ -53,7 +53,7 @@ fn write_counted<O: Output>(counted: Result<u64, InputEnd<Never>>, output: &mut 
             Ok(()) => TextEnd::Done,
             Err(_) => TextEnd::WriteFault,
         },
-        Err(end) => tell_unread(end, output),
+        Err(end) => report_unread(end, output),
     }
 }
 

@@ -36,7 +36,7 @@ use crate::path::Path;
 
 /// What a line names, except for its own digits.
 #[derive(Clone, Copy)]
-pub enum Place {
+pub enum EntryKind {
     Vendor,
     Device { vendor: Id16 },
     Subsystem { vendor: Id16, device: Id16 },
@@ -48,7 +48,7 @@ pub enum Place {
 
 /// What an entry's line says.
 #[derive(Clone, Copy)]
-pub struct Named<'a> {
+pub struct NamedPath<'a> {
     pub path: Path,
     pub name: &'a str,
 }
@@ -90,7 +90,7 @@ fn four_at(bytes: &[u8]) -> Option<(Id16, &[u8])>
 }
 
 // What follows the blank that the bytes begin with.
-fn behind_blank(bytes: &[u8]) -> Option<&[u8]>
+fn after_blank(bytes: &[u8]) -> Option<&[u8]>
     ensures { MatchOption result (begins_with_id 0 bytes.now ≡ false)
         (λ rest. (begins_with_id 0 bytes.now ≡ true) × (rest.now ≡ drop 1 bytes.now)) }
 {
@@ -106,7 +106,7 @@ fn id4_at(bytes: &[u8]) -> Option<(Id16, &[u8])>
         (λ x. IsId 4 65536 hex4 bytes.now x.0 x.1.now) }
 {
     let (number, behind) = four_at(bytes)?;
-    let behind = behind_blank(behind)?;
+    let behind = after_blank(behind)?;
     Some((number, behind))
 }
 
@@ -116,7 +116,7 @@ fn id2_at(bytes: &[u8]) -> Option<(Id16, &[u8])>
         (λ x. IsId 2 256 hex2 bytes.now x.0 x.1.now) }
 {
     let (number, behind) = pair_at(bytes)?;
-    let behind = behind_blank(behind)?;
+    let behind = after_blank(behind)?;
     Some((number, behind))
 }
 
@@ -155,21 +155,21 @@ fn name_at(bytes: &[u8]) -> Result<&str, LineKind>
 
 // The numbers of a place's own digits, with which the bytes begin, and what follows them. The second
 // is 0 unless there are two.
-fn ids_at(place: Place, bytes: &[u8]) -> Option<(Id16, Id16, &[u8])>
+fn ids_at(place: EntryKind, bytes: &[u8]) -> Option<(Id16, Id16, &[u8])>
     ensures { MatchOption result (begins_with_ids (widths_of place) bytes.now ≡ false)
         (λ x. AreIds place bytes.now x.0 x.1 x.2.now) }
 {
     match place {
-        Place::Class | Place::Subclass { .. } | Place::ProgIf { .. } => {
+        EntryKind::Class | EntryKind::Subclass { .. } | EntryKind::ProgIf { .. } => {
             let (id, behind) = id2_at(bytes)?;
             Some((id, 0, behind))
         }
-        Place::Subsystem { .. } => {
+        EntryKind::Subsystem { .. } => {
             let (subvendor, behind) = id4_at(bytes)?;
             let (subdevice, behind) = id4_at(behind)?;
             Some((subvendor, subdevice, behind))
         }
-        Place::Vendor | Place::Device { .. } | Place::Generic { .. } => {
+        EntryKind::Vendor | EntryKind::Device { .. } | EntryKind::Generic { .. } => {
             let (id, behind) = id4_at(bytes)?;
             Some((id, 0, behind))
         }
@@ -177,33 +177,33 @@ fn ids_at(place: Place, bytes: &[u8]) -> Option<(Id16, Id16, &[u8])>
 }
 
 // The path of a place with its own numbers.
-fn path_of(place: Place, first: Id16, second: Id16) -> Path
+fn path_of(place: EntryKind, first: Id16, second: Id16) -> Path
     requires { first < bound_of place }
     ensures { IsPathAt place result (digits_of place first second) }
 {
     match place {
-        Place::Vendor => Path::Vendor { vendor: first },
-        Place::Device { vendor } => Path::Device {
+        EntryKind::Vendor => Path::Vendor { vendor: first },
+        EntryKind::Device { vendor } => Path::Device {
             vendor,
             device: first,
         },
-        Place::Subsystem { vendor, device } => Path::Subsystem {
+        EntryKind::Subsystem { vendor, device } => Path::Subsystem {
             vendor,
             device,
             subvendor: first,
             subdevice: second,
         },
-        Place::Class => Path::Class { class: first as u8 },
-        Place::Subclass { class } => Path::Subclass {
+        EntryKind::Class => Path::Class { class: first as u8 },
+        EntryKind::Subclass { class } => Path::Subclass {
             class,
             subclass: first as u8,
         },
-        Place::ProgIf { class, subclass } => Path::ProgIf {
+        EntryKind::ProgIf { class, subclass } => Path::ProgIf {
             class,
             subclass,
             progif: first as u8,
         },
-        Place::Generic { vendor } => Path::Generic {
+        EntryKind::Generic { vendor } => Path::Generic {
             vendor,
             device: first,
         },
@@ -211,7 +211,7 @@ fn path_of(place: Place, first: Id16, second: Id16) -> Path
 }
 
 /// What the columns of an entry's line say.
-pub fn read_columns(place: Place, bytes: &[u8]) -> Result<Named<'_>, LineKind>
+pub fn read_columns(place: EntryKind, bytes: &[u8]) -> Result<NamedPath<'_>, LineKind>
     ensures path { IfOk result (λ said. IsPathAt place said.path
         (digits_in (widths_of place) bytes.now)) }
     ensures name { IfOk result (λ said. said.name.now ≡ name_in (widths_of place) bytes.now) }
@@ -224,5 +224,5 @@ pub fn read_columns(place: Place, bytes: &[u8]) -> Result<Named<'_>, LineKind>
     };
     let name = name_at(behind)?;
     let path = path_of(place, first, second);
-    Ok(Named { path, name })
+    Ok(NamedPath { path, name })
 }

@@ -3,7 +3,7 @@ ghost use Rattle.std.specs.Prelude.{◌≡◌, ◌⊎◌};
 
 use crate::io::write_all;
 use crate::plain::Plain;
-use crate::process::{tell_end, tell_failed};
+use crate::process::{report_failed, report_text_end};
 use crate::text_end::TextEnd;
 use crate::watched::Watched;
 use std::io::{ErrorKind, Write};
@@ -18,16 +18,16 @@ pub fn show<O: Write + Drop, F: Write + Drop>(page: &str, output: O, faults: F) 
     let mut output = Plain::new(Watched::new(output));
     match write_all(&mut output, page.as_bytes()) {
         Ok(()) => 0,
-        Err(_) => tell_failed(output.into_inner().is_unread(), &mut Plain::new(faults)),
+        Err(_) => report_failed(output.into_inner().is_unread(), &mut Plain::new(faults)),
     }
 }
 
 /// Reports that the arguments can't be read, and returns the exit status.
-pub fn tell_no_words<F: Write + Drop>(kind: ErrorKind, faults: F) -> u8
+pub fn report_no_words<F: Write + Drop>(kind: ErrorKind, faults: F) -> u8
     ensures { (result ≡ 2) ⊎ (result ≡ 3) }
 {
     match kind {
-        ErrorKind::OutOfMemory => tell_end(TextEnd::Memory, &mut Plain::new(faults)),
+        ErrorKind::OutOfMemory => report_text_end(TextEnd::Memory, &mut Plain::new(faults)),
         _ => {
             let _ = write_all(
                 &mut Plain::new(faults),

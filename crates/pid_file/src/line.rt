@@ -9,7 +9,7 @@ ghost use Rattle.pid_file.specs.Marks.{
   depth,
   body,
   mark,
-  behind_mark,
+  after_mark,
 };
 
 /// What a line of depth 0 opens.
@@ -91,7 +91,7 @@ pub fn split_depth(line: &[u8]) -> (usize, &[u8])
 pub fn split_mark(line: &[u8]) -> (Mark, &[u8])
     requires { depth line.now ≡ 0 }
     ensures mark { result.0 ≡ mark line.now }
-    ensures inside { result.1.now ≡ behind_mark (mark line.now) line.now }
+    ensures inside { result.1.now ≡ after_mark (mark line.now) line.now }
 {
     let [letter, b' ', behind @ ..] = line else {
         return (Mark::Devices, line);

@@ -1,7 +1,7 @@
 //! The open levels, and what a line says below them.
 ghost use Rattle.std.specs.Prelude.{◌≡◌, ◌==◌, ℕ, List, true, false, Some, IfOk, IfErr};
 ghost use Rattle.std.specs.Str.{is_utf8 as utf8_bytes};
-ghost use Rattle.pid_file.specs.Marks.{is_idle as idle_line, depth as tabs, body as behind_tabs};
+ghost use Rattle.pid_file.specs.Marks.{is_idle as idle_line, depth as tabs, body as after_tabs};
 ghost use Rattle.pid_file.specs.Faults.{line_fault_of};
 ghost use Rattle.pid_file.specs.OpenLevels.{IsOpenAt};
 ghost use Rattle.pid_file.specs.Steps.OpenLevels.{IsNamed, Says};
@@ -12,10 +12,10 @@ ghost use Rattle.pid_file.specs.Steps.OpenLevels.{
 };
 ghost use Rattle.pid_file.specs.Steps.OpenLevels.{
   open_below as levels_below,
-  open_behind as levels_behind,
+  open_after as levels_after,
 };
 
-use crate::entry_line::{Named, Place, read_columns, vendor_of_block};
+use crate::entry_line::{EntryKind, NamedPath, read_columns, vendor_of_block};
 use crate::fault_kind::LineKind;
 use crate::identifier::{Id8, Id16};
 use crate::line::{Mark, is_idle, is_utf8, split_depth, split_mark};
@@ -38,34 +38,34 @@ pub enum OpenLevels {
 
 /// What a line says.
 #[derive(Clone, Copy)]
-pub enum Said<'a> {
+pub enum LineContent<'a> {
     Nothing,
     /// A block that is not known begins.
     Unknown,
     /// A block of generic subsystems begins.
     Block { vendor: Id16 },
-    Entry(Named<'a>),
+    Entry(NamedPath<'a>),
 }
 
 // What a line of depth 1 names, if it is not skipped.
-fn first_below(levels: OpenLevels) -> Result<Option<Place>, LineKind>
+fn first_below(levels: OpenLevels) -> Result<Option<EntryKind>, LineKind>
     ensures { result ≡ below_at_one levels }
 {
     match levels {
         OpenLevels::Nothing => Err(LineKind::NoParent),
         OpenLevels::Unknown => Ok(None),
         OpenLevels::Vendor { vendor } | OpenLevels::Device { vendor, .. } => {
-            Ok(Some(Place::Device { vendor }))
+            Ok(Some(EntryKind::Device { vendor }))
         }
         OpenLevels::Class { class } | OpenLevels::Subclass { class, .. } => {
-            Ok(Some(Place::Subclass { class }))
+            Ok(Some(EntryKind::Subclass { class }))
         }
-        OpenLevels::Generics { vendor } => Ok(Some(Place::Generic { vendor })),
+        OpenLevels::Generics { vendor } => Ok(Some(EntryKind::Generic { vendor })),
     }
 }
 
 // What a line of depth 2 names, if it is not skipped.
-fn second_below(levels: OpenLevels) -> Result<Option<Place>, LineKind>
+fn second_below(levels: OpenLevels) -> Result<Option<EntryKind>, LineKind>
     ensures { result ≡ below_at_two levels }
 {
     match levels {
@@ -73,14 +73,14 @@ fn second_below(levels: OpenLevels) -> Result<Option<Place>, LineKind>
         OpenLevels::Nothing | OpenLevels::Vendor { .. } | OpenLevels::Class { .. } => {
             Err(LineKind::NoParent)
         }
-        OpenLevels::Device { vendor, device } => Ok(Some(Place::Subsystem { vendor, device })),
-        OpenLevels::Subclass { class, subclass } => Ok(Some(Place::ProgIf { class, subclass })),
+        OpenLevels::Device { vendor, device } => Ok(Some(EntryKind::Subsystem { vendor, device })),
+        OpenLevels::Subclass { class, subclass } => Ok(Some(EntryKind::ProgIf { class, subclass })),
         OpenLevels::Generics { .. } => Err(LineKind::TooDeep),
     }
 }
 
 // What a line of this depth, which is not 0, names, if it is not skipped.
-fn place_below(levels: OpenLevels, depth: usize) -> Result<Option<Place>, LineKind>
+fn place_below(levels: OpenLevels, depth: usize) -> Result<Option<EntryKind>, LineKind>
     ensures { result ≡ below_at levels depth }
 {
     if depth == 1 {
@@ -100,12 +100,12 @@ fn read_nested<'b>(
     line: &'b [u8],
     depth: usize,
     body: &'b [u8],
-) -> Result<Said<'b>, LineKind>
+) -> Result<LineContent<'b>, LineKind>
     requires text { utf8_bytes line.now ≡ true }
     requires active { idle_line line.now ≡ false }
     requires nested { (depth == 0) ≡ false }
     requires depth { tabs line.now ≡ depth }
-    requires body { behind_tabs line.now ≡ body.now }
+    requires body { after_tabs line.now ≡ body.now }
     ensures says { (earlier : List (List ℕ)) → IsOpenAt levels earlier
         → IfOk result (λ s. Says levels earlier line.now s) }
     ensures named { IfOk result (λ s. IsNamed s) }
@@ -113,14 +113,14 @@ fn read_nested<'b>(
         → IfErr result (λ kind. line_fault_of earlier line.now ≡ Some kind) }
 {
     let Some(place) = place_below(levels, depth)? else {
-        return Ok(Said::Nothing);
+        return Ok(LineContent::Nothing);
     };
     let named = read_columns(place, body)?;
-    Ok(Said::Entry(named))
+    Ok(LineContent::Entry(named))
 }
 
 // Reads a line of depth 0.
-fn read_head(line: &[u8]) -> Result<Said<'_>, LineKind>
+fn read_head(line: &[u8]) -> Result<LineContent<'_>, LineKind>
     requires text { utf8_bytes line.now ≡ true }
     requires active { idle_line line.now ≡ false }
     requires flat { tabs line.now ≡ 0 }
@@ -133,23 +133,23 @@ fn read_head(line: &[u8]) -> Result<Said<'_>, LineKind>
     let (mark, behind) = split_mark(line);
     match mark {
         Mark::Devices => {
-            let vendor = read_columns(Place::Vendor, behind)?;
-            Ok(Said::Entry(vendor))
+            let vendor = read_columns(EntryKind::Vendor, behind)?;
+            Ok(LineContent::Entry(vendor))
         }
         Mark::Classes => {
-            let class = read_columns(Place::Class, behind)?;
-            Ok(Said::Entry(class))
+            let class = read_columns(EntryKind::Class, behind)?;
+            Ok(LineContent::Entry(class))
         }
         Mark::Generics => match vendor_of_block(behind) {
-            Some(vendor) => Ok(Said::Block { vendor }),
+            Some(vendor) => Ok(LineContent::Block { vendor }),
             None => Err(LineKind::BadId),
         },
-        Mark::Unknown => Ok(Said::Unknown),
+        Mark::Unknown => Ok(LineContent::Unknown),
     }
 }
 
 /// Reads a line below the open levels.
-pub fn read_line<'b>(levels: OpenLevels, line: &'b [u8]) -> Result<Said<'b>, LineKind>
+pub fn read_line<'b>(levels: OpenLevels, line: &'b [u8]) -> Result<LineContent<'b>, LineKind>
     ensures says { (earlier : List (List ℕ)) → IsOpenAt levels earlier
         → IfOk result (λ s. Says levels earlier line.now s) }
     ensures named { IfOk result (λ s. IsNamed s) }
@@ -160,7 +160,7 @@ pub fn read_line<'b>(levels: OpenLevels, line: &'b [u8]) -> Result<Said<'b>, Lin
         return Err(LineKind::NotUtf8);
     }
     if is_idle(line) {
-        return Ok(Said::Nothing);
+        return Ok(LineContent::Nothing);
     }
     let (depth, body) = split_depth(line);
     if depth == 0 {
@@ -192,14 +192,14 @@ fn open_below(path: Path) -> OpenLevels
 
 impl OpenLevels {
     /// The levels that are open after a line.
-    pub fn behind(self, said: &Said<'_>) -> OpenLevels
-        ensures { result ≡ levels_behind self said.now }
+    pub fn after(self, said: &LineContent<'_>) -> OpenLevels
+        ensures { result ≡ levels_after self said.now }
     {
         match *said {
-            Said::Nothing => self,
-            Said::Unknown => OpenLevels::Unknown,
-            Said::Block { vendor } => OpenLevels::Generics { vendor },
-            Said::Entry(entry) => open_below(entry.path),
+            LineContent::Nothing => self,
+            LineContent::Unknown => OpenLevels::Unknown,
+            LineContent::Block { vendor } => OpenLevels::Generics { vendor },
+            LineContent::Entry(entry) => open_below(entry.path),
         }
     }
 }

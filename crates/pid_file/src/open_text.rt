@@ -10,7 +10,7 @@ ghost use Rattle.pid_file.specs.Steps.LineEnds.{LineEnds};
 
 use crate::line::without_cr;
 use crate::pieces::split_line;
-use crate::progress::Progress;
+use crate::progress::LinesRead;
 use crate::refusal::ReadRefusal;
 use crate::sink::{CutEnd, Sink};
 use std::alloc::Global;
@@ -20,12 +20,12 @@ use std::alloc::Global;
 #[derive(Drop)]
 pub struct OpenText {
     line: Vec<u8>,
-    progress: Progress,
+    progress: LinesRead,
 }
 
 // Reads one more line.
 fn take_line<S: Sink>(
-    progress: &mut Progress,
+    progress: &mut LinesRead,
     line: &[u8],
     sink: &mut S,
 ) -> Result<(), CutEnd<S::Fault>>
@@ -51,7 +51,7 @@ impl OpenText {
     {
         OpenText {
             line: Vec::new(alloc),
-            progress: Progress::new(alloc),
+            progress: LinesRead::new(alloc),
         }
     }
 

@@ -23,7 +23,7 @@ ghost use Rattle.pid_file.specs.Printing.{
   header,
   item_line,
   label_of,
-  lines_behind,
+  lines_after,
   opens_block,
   print,
 };
@@ -162,14 +162,14 @@ impl Label {
 
 /// Writes the lines of an item that follows another or is the first: that of the block that it
 /// opens, and its own.
-pub fn write_behind<W: Output>(
+pub fn write_after<W: Output>(
     before: Option<Path>,
     path: &Path,
     name: &str,
     out: &mut W,
 ) -> Result<(), WriteFault>
     ensures sent { Sends result (W.taken out.old) (W.taken out.new)
-        (ended (lines_behind (text_or_none before) ((path_text path.now, name.now) ∷ []))) }
+        (ended (lines_after (text_or_none before) ((path_text path.now, name.now) ∷ []))) }
     ensures fault { IfErr result (λ f. W.write_fault out.new ≡ Some f) }
 {
     if let Some(vendor) = opened_block(before, *path) {
@@ -187,7 +187,7 @@ pub fn write_canonical<W: Output>(tree: &Tree, out: &mut W) -> Result<(), WriteF
     write_header(out)?;
     let mut before = None;
     for (path, name) in tree.in_order() {
-        write_behind(before, path, name.as_str(), out)?;
+        write_after(before, path, name.as_str(), out)?;
         before = Some(*path);
     }
     Ok(())

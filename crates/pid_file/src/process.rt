@@ -9,7 +9,7 @@ ghost use Rattle.std.specs.Prelude.{
   IsSome,
 };
 ghost use Rattle.std.specs.Io.KnownBytes.{Keeps};
-ghost use Rattle.pid_file.specs.Statuses.{IsStatusFor, GotTidied, GotChecked};
+ghost use Rattle.pid_file.specs.ExitStatuses.{IsStatusFor, GotTidied, GotChecked};
 ghost use Rattle.pid_file.specs.TextEnds.{fault_line, status_of};
 ghost use Rattle.pid_file.specs.Steps.TextEnds.{failed_line};
 ghost use Rattle.pid_file.specs.Writing.{TriesLine, use_of};
@@ -51,7 +51,7 @@ pub fn run_tidy<I: Read + Drop, O: Write + Drop, F: Write + Drop>(
 {
     let mut faults = Plain::new(faults);
     let Ok(buffer) = BufWriter::with_capacity(alloc, BUFFER, Watched::new(output)) else {
-        let status = tell_end(TextEnd::Memory, &mut faults);
+        let status = report_text_end(TextEnd::Memory, &mut faults);
         return (status, None, faults.into_inner());
     };
     let mut input = Plain::new(input);
@@ -105,23 +105,23 @@ fn status<F: Output>(end: TextEnd, is_unread: bool, faults: &mut F) -> u8
     ensures silent { status_of end ≢ FAILED → F.taken faults.new ≡ F.taken faults.old }
 {
     match end {
-        TextEnd::ReadFault | TextEnd::WriteFault => tell_failed(is_unread, faults),
+        TextEnd::ReadFault | TextEnd::WriteFault => report_failed(is_unread, faults),
         _ => end.status(),
     }
 }
 
 /// Reports a fault of a text, or that memory ran out, and returns the exit status.
-pub fn tell_end<F: Output>(end: TextEnd, faults: &mut F) -> u8
+pub fn report_text_end<F: Output>(end: TextEnd, faults: &mut F) -> u8
     ensures status { result ≡ status_of end }
     ensures told { TriesLine (use_of F.Output faults.old faults.new) (fault_line end) }
 {
-    let _ = end.tell(faults);
+    let _ = end.report_to(faults);
     end.status()
 }
 
 /// Reports that a file failed, as `file: failed`. If the reader of the output has gone away, only
 /// the exit status says so.
-pub fn tell_failed<F: Output>(is_unread: bool, faults: &mut F) -> u8
+pub fn report_failed<F: Output>(is_unread: bool, faults: &mut F) -> u8
     ensures status { result ≡ FAILED }
     ensures told { is_unread ≡ false
         → TriesLine (use_of F.Output faults.old faults.new) failed_line }

@@ -16,14 +16,14 @@ ghost use Rattle.std.specs.Prelude.{
 };
 ghost use Rattle.pid_file.specs.Words.{is_name};
 ghost use Rattle.pid_file.specs.Numbered.{numbered_at};
-ghost use Rattle.pid_file.specs.Steps.OpenLevels.{Says, IsNamed, open_behind};
+ghost use Rattle.pid_file.specs.Steps.OpenLevels.{Says, IsNamed, open_after};
 ghost use Rattle.pid_file.specs.Refusals.{IsRefusal};
 ghost use Rattle.pid_file.specs.Steps.LineEnds.{refusal_at};
 ghost use Rattle.pid_file.specs.Progress.{Shows};
 ghost use Rattle.pid_file.specs.Steps.Progress.{given};
 
 use crate::fault_kind::LineKind;
-use crate::open_levels::{OpenLevels, Said, read_line};
+use crate::open_levels::{LineContent, OpenLevels, read_line};
 use crate::refusal::ReadRefusal;
 use crate::seen_paths::SeenPaths;
 use crate::sink::Entry;
@@ -34,7 +34,7 @@ const ENTRIES: usize = 100_000;
 
 /// What is kept of the lines that were read.
 #[derive(Drop)]
-pub struct Progress {
+pub struct LinesRead {
     /// What the next nested line can belong to.
     pub levels: OpenLevels,
     /// How many lines were read.
@@ -45,12 +45,12 @@ pub struct Progress {
     pub seen: SeenPaths,
 }
 
-impl Progress {
+impl LinesRead {
     /// What is kept before the first line.
-    pub fn new(alloc: Global) -> Progress
+    pub fn new(alloc: Global) -> LinesRead
         ensures { Shows result [] }
     {
-        Progress {
+        LinesRead {
             levels: OpenLevels::Nothing,
             lines: 0,
             entries: 0,
@@ -59,18 +59,22 @@ impl Progress {
     }
 
     // The line with this number was read.
-    fn pass(&mut self, number: usize, said: &Said<'_>)
-        ensures levels { self.new.levels ≡ open_behind self.old.levels said.now }
+    fn pass(&mut self, number: usize, said: &LineContent<'_>)
+        ensures levels { self.new.levels ≡ open_after self.old.levels said.now }
         ensures lines { self.new.lines ≡ number }
         ensures seen { self.new.seen ≡ self.old.seen }
         ensures entries { self.new.entries ≡ self.old.entries }
     {
-        self.levels = self.levels.behind(said);
+        self.levels = self.levels.after(said);
         self.lines = number;
     }
 
     // Takes what the line with this number says, which has no fault of its own.
-    fn admit<'b>(&mut self, number: usize, said: Said<'b>) -> Result<Option<Entry<'b>>, ReadRefusal>
+    fn admit<'b>(
+        &mut self,
+        number: usize,
+        said: LineContent<'b>,
+    ) -> Result<Option<Entry<'b>>, ReadRefusal>
         requires { IsNamed said }
         ensures taken { (earlier : List (List ℕ)) (line : List ℕ) → Shows self.old earlier
             → number ≡ self.old.lines + 1 → Says self.old.levels earlier line said.entry →
@@ -82,11 +86,11 @@ impl Progress {
             IfErr result (λ r. IsRefusal r (refusal_at earlier line)) }
     {
         match said {
-            Said::Nothing | Said::Unknown => {
+            LineContent::Nothing | LineContent::Unknown => {
                 self.pass(number, &said);
                 Ok(None)
             }
-            Said::Block { vendor } => {
+            LineContent::Block { vendor } => {
                 if !self.seen.has_vendor(vendor) {
                     let kind = LineKind::VendorMissing;
                     return Err(ReadRefusal::Line { line: number, kind });
@@ -94,7 +98,7 @@ impl Progress {
                 self.pass(number, &said);
                 Ok(None)
             }
-            Said::Entry(named) => {
+            LineContent::Entry(named) => {
                 match self.seen.insert(named.path) {
                     Err(_) => return Err(ReadRefusal::Memory),
                     Ok(false) => {

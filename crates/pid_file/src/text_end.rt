@@ -57,12 +57,12 @@ impl TextEnd {
     }
 
     /// Writes the line that reports a fault of the text, or `no memory`. Allocates nothing.
-    pub fn tell<W: Output>(self, out: &mut W) -> Result<(), WriteFault>
+    pub fn report_to<W: Output>(self, out: &mut W) -> Result<(), WriteFault>
         ensures sent { Sends result (W.taken out.old) (W.taken out.new) (fault_line self) }
         ensures fault { IfErr result (λ f. W.write_fault out.new ≡ Some f) }
     {
         match self {
-            TextEnd::Line { line, kind } => tell_line(line, kind, out),
+            TextEnd::Line { line, kind } => report_line(line, kind, out),
             TextEnd::TooManyEntries => write_all(out, b"too many entries\n"),
             TextEnd::TooLarge => write_all(out, b"too large\n"),
             TextEnd::Memory => write_all(out, b"no memory\n"),
@@ -71,7 +71,7 @@ impl TextEnd {
     }
 }
 
-fn tell_line<W: Output>(line: usize, kind: LineKind, out: &mut W) -> Result<(), WriteFault>
+fn report_line<W: Output>(line: usize, kind: LineKind, out: &mut W) -> Result<(), WriteFault>
     ensures sent { Sends result (W.taken out.old) (W.taken out.new)
         (line_told line (number_of kind) (word_of kind)) }
     ensures fault { IfErr result (λ f. W.write_fault out.new ≡ Some f) }

@@ -8,8 +8,8 @@ use crate::counter::Never;
 use crate::input_text::read_input;
 use crate::io::{Input, Output};
 use crate::print::write_canonical;
+use crate::report::report_unread;
 use crate::text_end::{LARGEST, TextEnd};
-use crate::told::tell_unread;
 use crate::tree::Tree;
 use crate::whole_input::InputEnd;
 use std::alloc::Global;
@@ -70,6 +70,6 @@ fn print_read<O: Output, F: Output>(
                 Err(_) => TextEnd::WriteFault,
             }
         }
-        Err(end) => tell_unread(end, faults),
+        Err(end) => report_unread(end, faults),
     }
 }

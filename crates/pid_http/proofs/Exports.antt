@@ -3,7 +3,7 @@ use Rattle.std.proofs.Common.{◌≡◌, ℕ, false, List, [], ◌++◌, Option,
 use Rattle.std.specs.Io.KnownBytes.{Appends}
 use Rattle.std.proofs.KnownBytes.{Appends-nil}
 use Rattle.std.proofs.Math.Seq.{take-append_seam}
-use Rattle.pid_service_laws.specs.declared.moderated.Moderated.{Ghosts}
+use Rattle.pid_service_laws.specs.declared.registry_calls.RegistryCalls.{Ghosts}
 use Rattle.pid_ident.specs.Sending.{SendsFront}
 use Rattle.pid_file.specs.declared.io.WriteFault.{WriteFault}
 use Rattle.pid_moderation.specs.History.{History}
@@ -79,5 +79,5 @@ written registry alive old new Took lives nothing clean shown body off_body = re
         let x = over good t.known is.is_known in (
           record { start = t.start; calls = t.calls ++ lives.calls; known = x.0 },
           record { is_known = x.1; lead = calls_join registry.showing t.start old new t.calls lives.calls is.lead lives.lead },
-          (x.2.0, record { same_life = refl; more = lives.calls; joined = refl; holds = (nothing, x.2.1) }, x.2.2),
+          (x.2.0, record { same_session = refl; more = lives.calls; joined = refl; holds = (nothing, x.2.1) }, x.2.2),
         )

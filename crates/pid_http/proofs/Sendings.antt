@@ -1,9 +1,9 @@
 -- What the requests of a stream send a registry, from one request to all.
 use Rattle.std.proofs.Common.{◌≡◌, ℕ, true, false, Bool, cond, List, [], ◌∷◌, ◌++◌, Option, Some, None, Result, Err, refl, sym, ap, subst, ◌∙◌, inl, inr, append_assoc}
 use Rattle.std.proofs.lemmas.List.{append-nil}
-use Rattle.pid_service_laws.specs.declared.moderated.Moderated.{Ghosts}
+use Rattle.pid_service_laws.specs.declared.registry_calls.RegistryCalls.{Ghosts}
 use Rattle.pid_service_laws.specs.Calls.{AreNothing, Call, StopsAt, obeyed, sent_in}
-use Rattle.pid_service_laws.specs.Lives.{Sent, after_sent, commands_in}
+use Rattle.pid_service_laws.specs.Sessions.{Sent, after_sent, commands_in}
 use Rattle.pid_service_laws.specs.Outcomes.{is_outcome}
 use Rattle.pid_moderation.specs.History.{Asked, History}
 use Rattle.pid_moderation.specs.Judgement.{after, after_all, answer, judge}
@@ -14,12 +14,12 @@ use Rattle.pid_service_laws.specs.Outcomes.{IsMemoryOrStore}
 use Rattle.pid_http_stream.specs.Conducts.{AreReplies}
 use Rattle.pid_http_stream.specs.Replies.{Answer}
 use Rattle.pid_http_stream.specs.Requests.{Request}
-use Rattle.pid_http.proofs.Meeting.{history_behind}
-use Rattle.pid_http.specs.Answering.{Errand, command_sent, errand_of}
+use Rattle.pid_http.proofs.Meeting.{history_after}
+use Rattle.pid_http.specs.Answering.{RequestMeaning, command_sent, meaning_of}
 use Rattle.pid_http.specs.Steps.Handling.{nothing_then}
 use Rattle.pid_http.specs.Known.{Known, Live, Between, Told, ByCalls}
 use Rattle.pid_http.specs.Sending.{AreSomeOf, SendsSome, commands_asked, if_any}
-use Rattle.pid_http.specs.Serving.{AreCallsOver, AreUndone, IsFailedAnswer, Refused, AsEver, Short, most_questions, IsErrandMet, IsMetOver, AnsweredOver, NotAsked, NotDone, InDoubt, serving}
+use Rattle.pid_http.specs.Serving.{AreCallsOver, AreUndone, IsFailedAnswer, Refused, AsEver, Short, most_questions, IsMeaningMet, IsMetOver, AnsweredOver, NotAsked, NotDone, InDoubt, serving}
 
 -- ---- calls one behind the other
 
@@ -50,9 +50,9 @@ stops_then c [] ys s n = absurd s
 stops_then c (x ∷ xs) ys (inl (is, none)) n = inl (is, nothing_then xs ys none n)
 stops_then c (x ∷ xs) ys (inr s) n = inr (stops_then c xs ys s n)
 
-stops_behind : (c : Asked) (xs ys : List Call) → StopsAt c ys → StopsAt c (xs ++ ys)
-stops_behind c [] ys s = s
-stops_behind c (x ∷ xs) ys s = inr (stops_behind c xs ys s)
+stops_after : (c : Asked) (xs ys : List Call) → StopsAt c ys → StopsAt c (xs ++ ys)
+stops_after c [] ys s = s
+stops_after c (x ∷ xs) ys s = inr (stops_after c xs ys s)
 
 -- ---- some of the commands
 
@@ -88,7 +88,7 @@ AreOutcomes = (v : Views) (c : Asked) → is_outcome (answer (judge v c)) ≡ tr
 one_sent : (c : Asked) (r : Result Outcome Refusal) (live : Bool) → is_outcome r ≡ true → commands_in (sent_in (obeyed c r live ∷ [])) ≡ c ∷ []
 one_sent c r live e = ap (λ (b : Bool). commands_in (cond b (record { command = c; outcome = r } ∷ []) [] ++ [])) e
 
-over : AreOutcomes → (h : History) (o : Option Asked) (most : ℕ) (calls : List Call) (k : Known) → AreCallsOver h o most calls → k ≡ Live (history_behind h o) → SendsSome h (if_any o) calls k
+over : AreOutcomes → (h : History) (o : Option Asked) (most : ℕ) (calls : List Call) (k : Known) → AreCallsOver h o most calls → k ≡ Live (history_after h o) → SendsSome h (if_any o) calls k
 over outcomes h None most calls k asked is = quiet h [] calls k asked.0 is
 over outcomes h (Some c) most calls k by is =
     live_so h (c ∷ []) (c ∷ []) calls k (ap (λ (l : List Call). commands_in (sent_in l)) by ∙ one_sent c (answer (judge (views_of h) c)) true (outcomes (views_of h) c)) (inr ([], refl, refl)) is
@@ -110,39 +110,39 @@ in_doubt : (h : History) (c : Asked) (refusal : Refusal) (calls : List Call) (k 
 in_doubt h c refusal calls k fault by is =
     stopped_so h (c ∷ []) [] c calls k (ap (λ (l : List Call). commands_in (sent_in l)) by ∙ fault_sends c refusal false fault) (subst (StopsAt c) (sym by) (fault_stops c refusal fault)) (inr ([], refl, refl)) is
 
-met_sends : AreOutcomes → (h : History) (errand : Errand) (given : Answer) (calls : List Call) (k : Known) → IsMetOver h errand given calls k → SendsSome h (if_any (command_sent errand)) calls k
-met_sends outcomes h errand given calls k (AnsweredOver e by is) = over outcomes h (command_sent errand) (most_questions errand) calls k by is
-met_sends outcomes h errand given calls k (NotAsked short none is) = quiet h (if_any (command_sent errand)) calls k (subst AreNothing (sym none) tt) is
-met_sends outcomes h errand given calls k (NotDone refusal fault refused undone is) = not_done h (command_sent errand) refusal (most_questions errand) calls k fault undone is
-met_sends outcomes h errand given calls k (InDoubt refusal c fault refused command by is) =
+met_sends : AreOutcomes → (h : History) (meaning : RequestMeaning) (given : Answer) (calls : List Call) (k : Known) → IsMetOver h meaning given calls k → SendsSome h (if_any (command_sent meaning)) calls k
+met_sends outcomes h meaning given calls k (AnsweredOver e by is) = over outcomes h (command_sent meaning) (most_questions meaning) calls k by is
+met_sends outcomes h meaning given calls k (NotAsked short none is) = quiet h (if_any (command_sent meaning)) calls k (subst AreNothing (sym none) tt) is
+met_sends outcomes h meaning given calls k (NotDone refusal fault refused undone is) = not_done h (command_sent meaning) refusal (most_questions meaning) calls k fault undone is
+met_sends outcomes h meaning given calls k (InDoubt refusal c fault refused command by is) =
     subst (λ (o : Option Asked). SendsSome h (if_any o) calls k) (sym command) (in_doubt h c refusal calls k fault by is)
 
 -- one that has failed was sent nothing
-failed_nothing : (errand : Errand) (given : Answer) (calls : List Call) → IsFailedAnswer errand given calls → AreNothing calls
-failed_nothing errand given calls (Refused refused asked) = asked.0
-failed_nothing errand given calls (AsEver known none) = subst AreNothing (sym none) tt
-failed_nothing errand given calls (Short short none) = subst AreNothing (sym none) tt
+failed_nothing : (meaning : RequestMeaning) (given : Answer) (calls : List Call) → IsFailedAnswer meaning given calls → AreNothing calls
+failed_nothing meaning given calls (Refused refused asked) = asked.0
+failed_nothing meaning given calls (AsEver known none) = subst AreNothing (sym none) tt
+failed_nothing meaning given calls (Short short none) = subst AreNothing (sym none) tt
 
 -- ---- requests in turn
 
 module _ {R : Type 0} (registry : Ghosts R) where
   pub by_join : (t mid u : Told registry) (P Q R : List Call → Type 0) → ((xs ys : List Call) → P xs → Q ys → R (xs ++ ys)) → ByCalls registry t mid P → ByCalls registry mid u Q → ByCalls registry t u R
   by_join t mid u P Q R f p q = record {
-    same_life = q.same_life ∙ p.same_life;
+    same_session = q.same_session ∙ p.same_session;
     more = p.more ++ q.more;
     joined = q.joined ∙ ap (λ (l : List Call). l ++ q.more) p.joined ∙ append_assoc t.calls p.more q.more;
     holds = f p.more q.more p.holds q.holds;
   }
 
   pub by_none : (t u : Told registry) (P : Told registry → List Call → Type 0) → t ≡ u → P t [] → ByCalls registry t u (P u)
-  by_none t u P same holds = subst (λ v. ByCalls registry t v (P v)) same (record { same_life = refl; more = []; joined = sym (append-nil t.calls); holds = holds })
+  by_none t u P same holds = subst (λ v. ByCalls registry t v (P v)) same (record { same_session = refl; more = []; joined = sym (append-nil t.calls); holds = holds })
 
   send_on : (h h' : History) (cs ds : List Asked) (xs ys : List Call) (k : Known) → AreSomeOf (commands_in (sent_in xs)) cs → h' ≡ after_sent h (sent_in xs) → SendsSome h' ds ys k → SendsSome h (cs ++ ds) (xs ++ ys) k
   send_on h h' cs ds xs ys k some at (inl (more, is)) =
       live_so h (cs ++ ds) (commands_in (sent_in xs) ++ commands_in (sent_in ys)) (xs ++ ys) k (both_sent xs ys) (some_join (commands_in (sent_in xs)) (commands_in (sent_in ys)) cs ds some more)
       (is ∙ ap (λ (x : History). Live (after_sent x (sent_in ys))) at ∙ ap Live (sym (after_on h (commands_in (sent_in xs)) (commands_in (sent_in ys)))))
   send_on h h' cs ds xs ys k some at (inr (c, stops, more, is)) =
-      stopped_so h (cs ++ ds) (commands_in (sent_in xs) ++ commands_in (sent_in ys)) c (xs ++ ys) k (both_sent xs ys) (stops_behind c xs ys stops)
+      stopped_so h (cs ++ ds) (commands_in (sent_in xs) ++ commands_in (sent_in ys)) c (xs ++ ys) k (both_sent xs ys) (stops_after c xs ys stops)
       (subst (λ (l : List Asked). AreSomeOf l (cs ++ ds)) (sym (append_assoc (commands_in (sent_in xs)) (commands_in (sent_in ys)) (c ∷ []))) (some_join (commands_in (sent_in xs)) (commands_in (sent_in ys) ++ c ∷ []) cs ds some more))
       (is ∙ ap (λ (x : History). Between (after_sent x (sent_in ys)) (after (after_sent x (sent_in ys)) c)) at
       ∙ ap (λ (x : History). Between x (after x c)) (sym (after_on h (commands_in (sent_in xs)) (commands_in (sent_in ys)))))
@@ -160,7 +160,7 @@ module _ {R : Type 0} (registry : Ghosts R) where
   then_send t mid u h cs ds first live failed = by_case first.holds
     where
       at : (P : List Call → Type 0) → P first.more → ByCalls registry t mid P
-      at P p = record { same_life = first.same_life; more = first.more; joined = first.joined; holds = p }
+      at P p = record { same_session = first.same_session; more = first.more; joined = first.joined; holds = p }
 
       by_case : SendsSome h cs first.more mid.known → ByCalls registry t u (λ calls. SendsSome h (cs ++ ds) calls u.known)
       by_case (inl (some, is)) =
@@ -172,22 +172,22 @@ module _ {R : Type 0} (registry : Ghosts R) where
           (λ calls. SendsSome h (cs ++ ds) calls u.known)
           (λ xs ys p q. stop_on h cs ds xs ys c u.known p.0 p.1 q.0 (q.1 ∙ ap (λ (a : History). Between a (after a c)) p.2)) (at _ (stops, some, refl)) (failed x (after x c) is)
 
-  pub met_by : AreOutcomes → (t u : Told registry) (h : History) (errand : Errand) (given : Answer) → t.known ≡ Live h → ByCalls registry t u (λ calls. IsErrandMet t.known errand given calls u.known)
-      → ByCalls registry t u (λ calls. SendsSome h (if_any (command_sent errand)) calls u.known)
-  met_by outcomes t u h errand given live b = record {
-    same_life = b.same_life;
+  pub met_by : AreOutcomes → (t u : Told registry) (h : History) (meaning : RequestMeaning) (given : Answer) → t.known ≡ Live h → ByCalls registry t u (λ calls. IsMeaningMet t.known meaning given calls u.known)
+      → ByCalls registry t u (λ calls. SendsSome h (if_any (command_sent meaning)) calls u.known)
+  met_by outcomes t u h meaning given live b = record {
+    same_session = b.same_session;
     more = b.more;
     joined = b.joined;
-    holds = met_sends outcomes h errand given b.more u.known (subst (λ k. IsErrandMet k errand given b.more u.known) live b.holds);
+    holds = met_sends outcomes h meaning given b.more u.known (subst (λ k. IsMeaningMet k meaning given b.more u.known) live b.holds);
   }
 
-  pub failed_by : (t u : Told registry) (x y : History) (errand : Errand) (given : Answer) → t.known ≡ Between x y → ByCalls registry t u (λ calls. IsErrandMet t.known errand given calls u.known)
+  pub failed_by : (t u : Told registry) (x y : History) (meaning : RequestMeaning) (given : Answer) → t.known ≡ Between x y → ByCalls registry t u (λ calls. IsMeaningMet t.known meaning given calls u.known)
       → ByCalls registry t u (λ calls. AreNothing calls × (u.known ≡ Between x y))
-  failed_by t u x y errand given is b = record {
-    same_life = b.same_life;
+  failed_by t u x y meaning given is b = record {
+    same_session = b.same_session;
     more = b.more;
     joined = b.joined;
-    holds = let m : IsErrandMet (Between x y) errand given b.more u.known = subst (λ k. IsErrandMet k errand given b.more u.known) is b.holds in (failed_nothing errand given b.more m.0, m.1);
+    holds = let m : IsMeaningMet (Between x y) meaning given b.more u.known = subst (λ k. IsMeaningMet k meaning given b.more u.known) is b.holds in (failed_nothing meaning given b.more m.0, m.1);
   }
 
   -- one that has failed is sent nothing more
@@ -195,7 +195,7 @@ module _ {R : Type 0} (registry : Ghosts R) where
       → ByCalls registry t u (λ calls. AreNothing calls × (u.known ≡ Between x y))
   failed_replies t u x y [] bytes is (e, same) = by_none t u (λ v calls. AreNothing calls × (v.known ≡ Between x y)) same (tt, is)
   failed_replies t u x y (request ∷ requests) bytes is (mid, given, later, step, e, rest) =
-      let b = failed_by t mid x y (errand_of request) given is step in
+      let b = failed_by t mid x y (meaning_of request) given is step in
       by_join t mid u _ _ _ (λ xs ys p q. (nothing_then xs ys p.0 q.0, q.1)) b (failed_replies mid u x y requests later b.holds.1 rest)
 
   -- requests that were answered
@@ -203,5 +203,5 @@ module _ {R : Type 0} (registry : Ghosts R) where
       → ByCalls registry t u (λ calls. SendsSome h (commands_asked requests) calls u.known)
   replies_send outcomes t u h [] bytes live (e, same) = by_none t u (λ v calls. SendsSome h [] calls v.known) same (inl (refl, live))
   replies_send outcomes t u h (request ∷ requests) bytes live (mid, given, later, step, e, rest) =
-      then_send t mid u h (if_any (command_sent (errand_of request))) (commands_asked requests) (met_by outcomes t mid h (errand_of request) given live step)
+      then_send t mid u h (if_any (command_sent (meaning_of request))) (commands_asked requests) (met_by outcomes t mid h (meaning_of request) given live step)
       (λ next is. replies_send outcomes mid u next requests later is rest) (λ x y is. failed_replies mid u x y requests later is rest)

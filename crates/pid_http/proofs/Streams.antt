@@ -2,24 +2,24 @@
 use Rattle.std.proofs.Common.{◌≡◌, ℕ, List, [], ◌∷◌, ◌++◌, Option, Some, None, refl, sym, ap, subst, ◌∙◌, inl, inr, append_assoc}
 use Rattle.std.proofs.lemmas.List.{append-nil}
 use Rattle.std.specs.Io.KnownBytes.{Consumes}
-use Rattle.pid_service_laws.specs.declared.moderated.Moderated.{Ghosts}
+use Rattle.pid_service_laws.specs.declared.registry_calls.RegistryCalls.{Ghosts}
 use Rattle.pid_service_laws.specs.Calls.{AreNothing, Call, sent_in}
-use Rattle.pid_service_laws.specs.Lives.{commands_in}
+use Rattle.pid_service_laws.specs.Sessions.{commands_in}
 use Rattle.pid_moderation.specs.History.{Asked, History}
 use Rattle.pid_http_stream.specs.Conducts.{StandsOver}
 use Rattle.pid_http_stream.specs.Laws.{RequestsStay}
 use Rattle.pid_http_stream.specs.Replies.{Answer, answer_after}
 use Rattle.pid_http_stream.specs.Requests.{Request, IsRequest}
-use Rattle.pid_http_stream.specs.Serving.{AnswersAll, AnswersFront, AnswersThen, ReadsThen, IsCutInReply, IsServed, IsWrittenNext, ReplyNext, HeadNext, RefusalNext, Outside, RestsBehind, RunsOut, WaitsOver}
+use Rattle.pid_http_stream.specs.Serving.{AnswersAll, AnswersFront, AnswersThen, ReadsThen, IsCutInReply, IsServed, IsWrittenNext, ReplyNext, HeadNext, RefusalNext, Outside, RestsAfter, RunsOut, WaitsOver}
 use Rattle.pid_http_stream.specs.Streams.{Ending, clean, closed, faulty, Fronts, Splits}
 use Rattle.pid_http_stream.specs.declared.refusal.StreamFault.TheVariants.{BadHead, Encoding, BodyTooLong, BodyShort}
 use Rattle.pid_http_stream.specs.declared.reply_head.ReplyHead.{ReplyHead}
 use Rattle.pid_http_stream.specs.declared.stream.StreamEnd.{StreamEnd}
 use Rattle.pid_http_stream.specs.declared.stream.StreamEnd.TheVariants.{Clean, Closed, Refused, ReadFault, WriteFault, StoreFault, Memory, TurnsSpent}
-use Rattle.pid_http.specs.Answering.{Errand, command_sent, errand_of}
+use Rattle.pid_http.specs.Answering.{RequestMeaning, command_sent, meaning_of}
 use Rattle.pid_http.specs.Known.{Known, Live, Between, Down, Told, ByCalls}
 use Rattle.pid_http.specs.Sending.{SendsOf, SendsSome, StandInFront, commands_asked, if_any}
-use Rattle.pid_http.specs.Serving.{IsErrandMet, IsPromised, serving}
+use Rattle.pid_http.specs.Serving.{IsMeaningMet, IsPromised, serving}
 use Rattle.pid_http.proofs.Sendings.{AreOutcomes, by_join, by_none, failed_by, first_sent, live_so, met_by, replies_send, stopped_so, stops_then, then_send}
 
 -- ---- requests at the front
@@ -45,10 +45,10 @@ read_in_front : RequestsStay → (stream read : List ℕ) (left : Option (List �
 read_in_front stay stream read None rs consumed s = absurd consumed
 read_in_front stay stream read (Some more) rs consumed s = subst (λ (l : List ℕ). StandInFront l rs) (sym consumed) (still_in_front stay read more rs s)
 
-commands_snoc : (rs : List Request) (r : Request) → commands_asked rs ++ if_any (command_sent (errand_of r)) ≡ commands_asked (rs ++ r ∷ [])
-commands_snoc [] r = sym (append-nil (if_any (command_sent (errand_of r))))
+commands_snoc : (rs : List Request) (r : Request) → commands_asked rs ++ if_any (command_sent (meaning_of r)) ≡ commands_asked (rs ++ r ∷ [])
+commands_snoc [] r = sym (append-nil (if_any (command_sent (meaning_of r))))
 commands_snoc (q ∷ rs) r =
-    append_assoc (if_any (command_sent (errand_of q))) (commands_asked rs) (if_any (command_sent (errand_of r))) ∙ ap (λ (l : List Asked). if_any (command_sent (errand_of q)) ++ l) (commands_snoc rs r)
+    append_assoc (if_any (command_sent (meaning_of q))) (commands_asked rs) (if_any (command_sent (meaning_of r))) ∙ ap (λ (l : List Asked). if_any (command_sent (meaning_of q)) ++ l) (commands_snoc rs r)
 
 -- ---- what comes behind the requests that were answered
 
@@ -56,10 +56,10 @@ quiet_on : (h : History) (cs : List Asked) (xs ys : List Call) (k next : Known) 
 quiet_on h cs xs ys k next (inl (some, is)) nothing same = live_so h cs (commands_in (sent_in xs)) (xs ++ ys) next (first_sent xs ys nothing) some (sym same ∙ is)
 quiet_on h cs xs ys k next (inr (c, stops, some, is)) nothing same = stopped_so h cs (commands_in (sent_in xs)) c (xs ++ ys) next (first_sent xs ys nothing) (stops_then c xs ys stops nothing) some (sym same ∙ is)
 
-promised_so : (k : Known) (errand : Errand) (head : ReplyHead) (told : ℕ) (calls : List Call) (next : Known) → IsPromised k errand head told calls next → AreNothing calls × (k ≡ next)
-promised_so (Live h) errand head told calls next (export, text, asked, same) = (asked.0, sym same)
-promised_so (Between x y) errand head told calls next promised = absurd promised
-promised_so Down errand head told calls next promised = absurd promised
+promised_so : (k : Known) (meaning : RequestMeaning) (head : ReplyHead) (told : ℕ) (calls : List Call) (next : Known) → IsPromised k meaning head told calls next → AreNothing calls × (k ≡ next)
+promised_so (Live h) meaning head told calls next (export, text, asked, same) = (asked.0, sym same)
+promised_so (Between x y) meaning head told calls next promised = absurd promised
+promised_so Down meaning head told calls next promised = absurd promised
 
 module _ {R : Type 0} (registry : Ghosts R) where
   same_still : (t u : Told registry) → t ≡ u → ByCalls registry t u (λ calls. AreNothing calls × (t.known ≡ u.known))
@@ -67,9 +67,9 @@ module _ {R : Type 0} (registry : Ghosts R) where
 
   still : (t : Told registry) (came : List ℕ) (u : Told registry) → StandsOver (serving registry) t came u → ByCalls registry t u (λ calls. AreNothing calls × (t.known ≡ u.known))
   still t came u (inl same) = same_still t u same
-  still t came u (inr (head, behind, has, b)) = record { same_life = b.same_life; more = b.more; joined = b.joined; holds = (b.holds.0.0, b.holds.1) }
+  still t came u (inr (head, behind, has, b)) = record { same_session = b.same_session; more = b.more; joined = b.joined; holds = (b.holds.0.0, b.holds.1) }
 
-  rests_still : (ending : Ending) (IsRest : List ℕ → Type 0) (t u : Told registry) → RestsBehind (serving registry) ending IsRest t u → ByCalls registry t u (λ calls. AreNothing calls × (t.known ≡ u.known))
+  rests_still : (ending : Ending) (IsRest : List ℕ → Type 0) (t u : Told registry) → RestsAfter (serving registry) ending IsRest t u → ByCalls registry t u (λ calls. AreNothing calls × (t.known ≡ u.known))
   rests_still clean IsRest t u r = same_still t u r
   rests_still closed IsRest t u r = same_still t u r
   rests_still (faulty BadHead) IsRest t u r = same_still t u r
@@ -83,10 +83,10 @@ module _ {R : Type 0} (registry : Ghosts R) where
       by_join registry t mid u (λ xs. SendsSome h cs xs mid.known) (λ ys. AreNothing ys × (mid.known ≡ u.known)) (λ calls. SendsSome h cs calls u.known) (λ xs ys p q. quiet_on h cs xs ys mid.known u.known p q.0 q.1) first next
 
   then_request : AreOutcomes → (t mid u : Told registry) (h : History) (rs : List Request) (r : Request) (given : Answer) → ByCalls registry t mid (λ calls. SendsSome h (commands_asked rs) calls mid.known)
-      → ByCalls registry mid u (λ calls. IsErrandMet mid.known (errand_of r) given calls u.known) → ByCalls registry t u (λ calls. SendsSome h (commands_asked (rs ++ r ∷ [])) calls u.known)
+      → ByCalls registry mid u (λ calls. IsMeaningMet mid.known (meaning_of r) given calls u.known) → ByCalls registry t u (λ calls. SendsSome h (commands_asked (rs ++ r ∷ [])) calls u.known)
   then_request outcomes t mid u h rs r given first step =
       subst (λ (l : List Asked). ByCalls registry t u (λ calls. SendsSome h l calls u.known)) (commands_snoc rs r)
-      (then_send registry t mid u h (commands_asked rs) (if_any (command_sent (errand_of r))) first (λ next is. met_by registry outcomes mid u next (errand_of r) given is step) (λ x y is. failed_by registry mid u x y (errand_of r) given is step))
+      (then_send registry t mid u h (commands_asked rs) (if_any (command_sent (meaning_of r))) first (λ next is. met_by registry outcomes mid u next (meaning_of r) given is step) (λ x y is. failed_by registry mid u x y (meaning_of r) given is step))
 
   -- the whole stream was answered
   all_send : AreOutcomes → (h : History) (o : Outside (Told registry)) (stream : List ℕ) (ending : Ending) (tail : List ℕ) (count : ℕ) → o.handler.known ≡ Live h → AnswersAll (serving registry) o stream ending tail count
@@ -111,7 +111,7 @@ module _ {R : Type 0} (registry : Ghosts R) where
   -- and then one request more
   front_then : AreOutcomes → (h : History) (t mid u : Told registry) (stream rest : List ℕ) (taken taken_after : Option (List ℕ)) (count : ℕ) (r : Request) (behind : List ℕ) (given : Answer) → t.known ≡ Live h
       → AnswersFront (serving registry) (record { handler = t; handler_after = mid; taken = taken; taken_after = taken_after }) stream rest count → IsRequest rest r behind
-      → ByCalls registry mid u (λ calls. IsErrandMet mid.known (errand_of r) given calls u.known) → SendsOf registry h t u stream
+      → ByCalls registry mid u (λ calls. IsMeaningMet mid.known (meaning_of r) given calls u.known) → SendsOf registry h t u stream
   front_then outcomes h t mid u stream rest taken taken_after count r behind given live f is step = record {
     requests = f.requests ++ r ∷ [];
     stand = next_in_front stream f.requests rest r behind f.fronts is;
@@ -138,7 +138,7 @@ module _ {R : Type 0} (registry : Ghosts R) where
       by_case (inr (request, behind, is, inl stands)) = stood stands
       by_case (inr (request, behind, is, inr b)) =
           front_then outcomes h o.handler s.mid o.handler_after read s.rest o.taken s.taken count request behind b.holds.0 live s.before is
-          (record { same_life = b.same_life; more = b.more; joined = b.joined; holds = b.holds.1 })
+          (record { same_session = b.same_session; more = b.more; joined = b.joined; holds = b.holds.1 })
 
   broken_sends : AreOutcomes → (h : History) (o : Outside (Told registry)) (stream : List ℕ) (count : ℕ) → o.handler.known ≡ Live h → AnswersThen (serving registry) o stream count (IsCutInReply (serving registry)) → SendsOf registry h o.handler o.handler_after stream
   broken_sends outcomes h o stream count live s = by_case s.next.1
@@ -147,7 +147,7 @@ module _ {R : Type 0} (registry : Ghosts R) where
       by_case (ReplyNext request behind given is step e) = front_then outcomes h o.handler s.mid o.handler_after stream s.rest o.taken s.taken count request behind given live s.before is step
       by_case (HeadNext request behind head told is b e) =
           front_quiet outcomes h o.handler s.mid o.handler_after stream s.rest o.taken s.taken count live s.before
-          (record { same_life = b.same_life; more = b.more; joined = b.joined; holds = promised_so s.mid.known (errand_of request) head told b.more o.handler_after.known b.holds })
+          (record { same_session = b.same_session; more = b.more; joined = b.joined; holds = promised_so s.mid.known (meaning_of request) head told b.more o.handler_after.known b.holds })
       by_case (RefusalNext fault has e rests) =
           front_quiet outcomes h o.handler s.mid o.handler_after stream s.rest o.taken s.taken count live s.before (rests_still (faulty fault) _ s.mid o.handler_after rests)
 

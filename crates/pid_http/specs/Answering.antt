@@ -54,23 +54,23 @@ use Rattle.pid_http.specs.declared.api.route.Whole.TheVariants as wholes
 use Rattle.pid_http.specs.declared.api.request.Request.TheVariants as wants
 use Rattle.pid_lookup.specs.declared.answering.LookupRefusal.TheVariants as lookups
 
-pub data Errand : Type 0 where
+pub data RequestMeaning : Type 0 where
   -- nothing is asked of the registry: this is the answer
-  Answered : Answer → Errand
+  Answered : Answer → RequestMeaning
   -- nor here: the sender or the form of a command is refused
-  Denied : Refusal → Format → Errand
+  Denied : Refusal → Format → RequestMeaning
   -- a command
-  Obeys : Asked → Format → Errand
+  Obeys : Asked → Format → RequestMeaning
   -- a question
-  Asks : Question → Format → Errand
+  Asks : Question → Format → RequestMeaning
 
 -- the command that the registry is to obey, if it is one
-abbrev pub command_sent : Errand → Option Asked
+abbrev pub command_sent : RequestMeaning → Option Asked
 command_sent (Obeys command format) = Some command
-command_sent errand = None
+command_sent meaning = None
 
 -- the format in which it is refused: a look-up has none, and is refused in JSON
-abbrev pub format_of : Errand → Format
+abbrev pub format_of : RequestMeaning → Format
 format_of (Answered given) = Json
 format_of (Denied refusal format) = format
 format_of (Obeys command format) = format
@@ -78,41 +78,41 @@ format_of (Asks (questions.Lookup flags args size) format) = Json
 format_of (Asks question format) = format
 
 -- the answer that is known without the registry; none if that is asked
-abbrev pub known_answer : Errand → Option Answer
+abbrev pub known_answer : RequestMeaning → Option Answer
 known_answer (Answered given) = Some given
 known_answer (Denied refusal format) = Some (outcome_answer format (Err refusal))
-known_answer errand = None
+known_answer meaning = None
 
 -- a command, or the first check that it fails
-abbrev pub command_errand : Format → Result Command Refusal → Errand
-command_errand format (Ok command) = Obeys (asks command) format
-command_errand format (Err refusal) = Denied refusal format
+abbrev pub command_meaning : Format → Result Command Refusal → RequestMeaning
+command_meaning format (Ok command) = Obeys (asks command) format
+command_meaning format (Err refusal) = Denied refusal format
 
 -- an import of a sender with this file
-abbrev pub import_errand : Format → Option Sending → List ℕ → Errand
-import_errand format None file = Denied BadText format
-import_errand format (Some s) file = Obeys (import_of s.account s.key (file_reading file)) format
+abbrev pub import_meaning : Format → Option Sending → List ℕ → RequestMeaning
+import_meaning format None file = Denied BadText format
+import_meaning format (Some s) file = Obeys (import_of s.account s.key (file_reading file)) format
 
 -- the sender is judged before the body
-abbrev pub sent : Format → (Sending → Result Command Refusal) → Option Sending → Errand
+abbrev pub sent : Format → (Sending → Result Command Refusal) → Option Sending → RequestMeaning
 sent format command None = Denied BadText format
-sent format command (Some s) = command_errand format (command s)
+sent format command (Some s) = command_meaning format (command s)
 
 -- what a request comes to whose body is in memory: commands alone have a sender
-abbrev pub errand_for : Wants → Option Sending → List ℕ → Errand
-errand_for (wants.Refused early) s body = Answered (early_answer early)
-errand_for (wants.Asks question format) s body = Asks question format
-errand_for (wants.Obeys verb format) s body = sent format
+abbrev pub meaning_for : Wants → Option Sending → List ℕ → RequestMeaning
+meaning_for (wants.Refused early) s body = Answered (early_answer early)
+meaning_for (wants.Asks question format) s body = Asks question format
+meaning_for (wants.Obeys verb format) s body = sent format
     (λ sending. command_made verb sending body) s
 
 -- what a head and the body after it come to
-abbrev pub errand_asked : Asking → Option Sending → List ℕ → Errand
-errand_asked (Buffered asked) s body = errand_for asked s body
-errand_asked (Streamed format) s body = import_errand format s body
+abbrev pub meaning_asked : Asking → Option Sending → List ℕ → RequestMeaning
+meaning_asked (Buffered asked) s body = meaning_for asked s body
+meaning_asked (Streamed format) s body = import_meaning format s body
 
 -- what a request comes to
-unfoldable pub errand_of : Request → Errand
-errand_of request = errand_asked (question request.head.method request.head.target)
+unfoldable pub meaning_of : Request → RequestMeaning
+meaning_of request = meaning_asked (question request.head.method request.head.target)
     (sender (fields_of request.head)) request.body
 
 -- the items right below a path, if one is at that; without a path those at the top
@@ -153,19 +153,19 @@ answer_to h (questions.Submissions path author before) format = shown_answer
 answer_to h (questions.Rank who) format = rank_answer format who (rank_of who h)
 
 -- the answer over a history
-unfoldable pub answer_over : History → Errand → Answer
+unfoldable pub answer_over : History → RequestMeaning → Answer
 answer_over h (Answered given) = given
 answer_over h (Denied refusal format) = outcome_answer format (Err refusal)
 answer_over h (Obeys command format) = outcome_answer format (answer (judge (views_of h) command))
 answer_over h (Asks question format) = answer_to h question format
 
 -- the registry was asked, and refused it for this reason
-abbrev pub IsErrandRefused : Errand → Refusal → Answer → Type 0
-IsErrandRefused errand refusal given = (known_answer errand ≡ None)
-    × (given ≡ outcome_answer (format_of errand) (Err refusal))
+abbrev pub IsMeaningRefused : RequestMeaning → Refusal → Answer → Type 0
+IsMeaningRefused meaning refusal given = (known_answer meaning ≡ None)
+    × (given ≡ outcome_answer (format_of meaning) (Err refusal))
 
 -- Memory ran out for a command's sender or form, before the registry was asked.
-abbrev pub LacksForm : Errand → Answer → Type 0
+abbrev pub LacksForm : RequestMeaning → Answer → Type 0
 LacksForm (Denied refusal format) given = given ≡ outcome_answer format (Err Memory)
 LacksForm (Obeys command format) given = given ≡ outcome_answer format (Err Memory)
-LacksForm errand given = ⊥
+LacksForm meaning given = ⊥

@@ -1,6 +1,6 @@
 -- What is known of a registry between two requests of a stream, and of its session.
 use Rattle.std.specs.Prelude.{◌≡◌, false, List, ◌++◌}
-use Rattle.pid_service_laws.specs.declared.moderated.Moderated.{Ghosts}
+use Rattle.pid_service_laws.specs.declared.registry_calls.RegistryCalls.{Ghosts}
 use Rattle.pid_moderation.specs.History.{History}
 use Rattle.pid_service_laws.specs.Calls.{Call}
 use Rattle.pid_service_laws.specs.Registries.{CallsLead}
@@ -42,7 +42,7 @@ module _ {R : Type 0} (registry : Ghosts R) where
 
   -- more calls of the same session led from the one to the other, of which this holds
   pub record ByCalls (t u : Told) (Holds : List Call → Type 0) : Type 0 where
-    pub same_life : u.start ≡ t.start
+    pub same_session : u.start ≡ t.start
     pub more : List Call
     pub joined : u.calls ≡ t.calls ++ more
     pub holds : Holds more

@@ -1,12 +1,12 @@
 -- What the requests of a stream send a registry within its session. Choices of this project.
 use Rattle.std.specs.Prelude.{◌≡◌, ◌⊎◌, ℕ, List, [], ◌∷◌, ◌++◌, Option, Some, None}
-use Rattle.pid_service_laws.specs.declared.moderated.Moderated.{Ghosts}
+use Rattle.pid_service_laws.specs.declared.registry_calls.RegistryCalls.{Ghosts}
 use Rattle.pid_service_laws.specs.Calls.{Call, StopsAt, sent_in}
-use Rattle.pid_service_laws.specs.Lives.{after_sent, commands_in}
+use Rattle.pid_service_laws.specs.Sessions.{after_sent, commands_in}
 use Rattle.pid_moderation.specs.History.{Asked, History}
 use Rattle.pid_moderation.specs.Judgement.{after}
 use Rattle.pid_http_stream.specs.Requests.{Request, IsRequest}
-use Rattle.pid_http.specs.Answering.{command_sent, errand_of}
+use Rattle.pid_http.specs.Answering.{command_sent, meaning_of}
 use Rattle.pid_http_stream.specs.Serving.{IsServed, Outside}
 use Rattle.pid_http_stream.specs.declared.stream.StreamEnd.{StreamEnd}
 use Rattle.pid_http.specs.Known.{Known, Live, Between, Told, ByCalls}
@@ -20,7 +20,7 @@ if_any (Some command) = command ∷ []
 -- the commands that requests ask for, in their order
 abbrev pub commands_asked : List Request → List Asked
 commands_asked [] = []
-commands_asked (request ∷ requests) = if_any (command_sent (errand_of request))
+commands_asked (request ∷ requests) = if_any (command_sent (meaning_of request))
     ++ commands_asked requests
 
 -- these are some of all of them, in their order

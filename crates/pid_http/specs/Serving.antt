@@ -3,7 +3,7 @@
 use Rattle.std.specs.Prelude.{◌≡◌, ◌≤◌, ℕ, true, false, List, [], ◌∷◌, length}
 use Rattle.std.specs.Prelude.{Option, None, Some, Err}
 use Rattle.std.specs.Option.{option_map_or}
-use Rattle.pid_service_laws.specs.declared.moderated.Moderated.{Ghosts}
+use Rattle.pid_service_laws.specs.declared.registry_calls.RegistryCalls.{Ghosts}
 use Rattle.pid_service_laws.specs.Calls.{AreNothing, Call, obeyed}
 use Rattle.pid_moderation.specs.History.{Asked, History}
 use Rattle.pid_moderation.specs.Judgement.{after, answer, judge}
@@ -21,8 +21,9 @@ use Rattle.pid_http_stream.specs.declared.reply_head.Content.TheVariants.{Text}
 use Rattle.pid_http_stream.specs.declared.reply_head.ReplyHead.{ReplyHead}
 use Rattle.pid_http.specs.Api.Questions.{Asking, question}
 use Rattle.pid_http.specs.Api.Senders.{Sending, sender}
-use Rattle.pid_http.specs.Answering.{answer_over, IsErrandRefused, LacksForm, Errand, Answered}
-use Rattle.pid_http.specs.Answering.{Denied, Asks, command_sent, errand_of, known_answer}
+use Rattle.pid_http.specs.Answering.{answer_over, IsMeaningRefused, LacksForm, RequestMeaning}
+use Rattle.pid_http.specs.Answering.{Answered}
+use Rattle.pid_http.specs.Answering.{Denied, Asks, command_sent, meaning_of, known_answer}
 use Rattle.pid_http.specs.declared.api.format.Format.{Format}
 use Rattle.pid_http.specs.declared.api.question.Question.TheVariants.{Whole, Children}
 use Rattle.pid_http.specs.declared.api.route.Whole.TheVariants.{Export}
@@ -34,12 +35,12 @@ AreQuestions most calls = AreNothing calls × (length calls ≤ most)
 
 -- How many questions a request takes at most. Before the items below a path the item at the path is
 -- asked for, and before the text of all items its length.
-abbrev pub most_questions : Errand → ℕ
+abbrev pub most_questions : RequestMeaning → ℕ
 most_questions (Answered given) = 0
 most_questions (Denied refusal format) = 0
 most_questions (Asks (Whole Export) format) = 2
 most_questions (Asks (Children (Some path)) format) = 2
-most_questions errand = 1
+most_questions meaning = 1
 
 -- The calls for a request that was answered over the history: by them a command was sent once, and
 -- has the outcome of the judgement; what is no command sends nothing, by at most so many calls.
@@ -56,41 +57,44 @@ AreUndone (Some command) fault most calls = calls ≡ obeyed command (Err fault)
 
 -- How a live registry that shows this history meets what a request comes to: its answer, the calls
 -- that it got, and what is known of it then.
-pub data IsMetOver (h : History) (errand : Errand) (given : Answer) (calls : List Call) (k : Known)
+pub data IsMetOver (h : History) (meaning : RequestMeaning) (given : Answer) (calls : List Call)
+    (k : Known)
     : Type 0 where
   -- it is answered over the history, and the registry shows the one after it, to which only a
   -- command that is accepted adds
-  AnsweredOver : given ≡ answer_over h errand
-      → AreCallsOver h (command_sent errand) (most_questions errand) calls
-      → k ≡ Live (option_map_or (after h) (command_sent errand) h) → IsMetOver h errand given calls k
+  AnsweredOver : given ≡ answer_over h meaning
+      → AreCallsOver h (command_sent meaning) (most_questions meaning) calls
+      → k ≡ Live (option_map_or (after h) (command_sent meaning) h)
+      → IsMetOver h meaning given calls k
   -- out of memory before the registry was asked
-  NotAsked : LacksForm errand given → calls ≡ [] → k ≡ Live h → IsMetOver h errand given calls k
+  NotAsked : LacksForm meaning given → calls ≡ [] → k ≡ Live h → IsMetOver h meaning given calls k
   -- memory or the store failed, and nothing was done
-  NotDone : (fault : Refusal) → IsMemoryOrStore fault → IsErrandRefused errand fault given
-      → AreUndone (command_sent errand) fault (most_questions errand) calls → k ≡ Live h
-      → IsMetOver h errand given calls k
+  NotDone : (fault : Refusal) → IsMemoryOrStore fault → IsMeaningRefused meaning fault given
+      → AreUndone (command_sent meaning) fault (most_questions meaning) calls → k ≡ Live h
+      → IsMetOver h meaning given calls k
   -- They failed while a command was written, at which the calls then stopped: the registry has
   -- failed between the history and the one after the command.
   InDoubt : (fault : Refusal) (command : Asked) → IsMemoryOrStore fault
-      → IsErrandRefused errand fault given
-      → command_sent errand ≡ Some command → calls ≡ obeyed command (Err fault) false ∷ []
-      → k ≡ Between h (after h command) → IsMetOver h errand given calls k
+      → IsMeaningRefused meaning fault given
+      → command_sent meaning ≡ Some command → calls ≡ obeyed command (Err fault) false ∷ []
+      → k ≡ Between h (after h command) → IsMetOver h meaning given calls k
 
 -- the answer of a registry that has failed, and the calls that it got, which send nothing
-pub data IsFailedAnswer (errand : Errand) (given : Answer) (calls : List Call) : Type 0 where
+pub data IsFailedAnswer (meaning : RequestMeaning) (given : Answer) (calls : List Call)
+    : Type 0 where
   -- what it is asked, by one call at most, it refuses for that
-  Refused : IsErrandRefused errand Failed given → AreQuestions 1 calls
-      → IsFailedAnswer errand given calls
+  Refused : IsMeaningRefused meaning Failed given → AreQuestions 1 calls
+      → IsFailedAnswer meaning given calls
   -- what it is not asked is answered as ever
-  AsEver : known_answer errand ≡ Some given → calls ≡ [] → IsFailedAnswer errand given calls
+  AsEver : known_answer meaning ≡ Some given → calls ≡ [] → IsFailedAnswer meaning given calls
   -- out of memory before it was asked
-  Short : LacksForm errand given → calls ≡ [] → IsFailedAnswer errand given calls
+  Short : LacksForm meaning given → calls ≡ [] → IsFailedAnswer meaning given calls
 
 -- How it is answered, by what was known of the registry before it and what is known then, and by
 -- which calls.
-abbrev pub IsErrandMet : Known → Errand → Answer → List Call → Known → Type 0
-IsErrandMet (Live h) errand given calls k = IsMetOver h errand given calls k
-IsErrandMet known errand given calls k = IsFailedAnswer errand given calls × (k ≡ known)
+abbrev pub IsMeaningMet : Known → RequestMeaning → Answer → List Call → Known → Type 0
+IsMeaningMet (Live h) meaning given calls k = IsMetOver h meaning given calls k
+IsMeaningMet known meaning given calls k = IsFailedAnswer meaning given calls × (k ≡ known)
 
 -- what is said of a text before it is written: its head, and how many bytes it has
 pub record IsTextHead (h : History) (head : ReplyHead) (told : ℕ) : Type 0 where
@@ -99,11 +103,11 @@ pub record IsTextHead (h : History) (head : ReplyHead) (told : ℕ) : Type 0 whe
   pub length_is : told ≡ length (print (tree_of h))
 
 -- only an export is promised, and only by a registry that is live, by at most one call
-abbrev pub IsPromised : Known → Errand → ReplyHead → ℕ → List Call → Known → Type 0
-IsPromised (Live h) errand head told calls k =
-    ((format : Format) × (errand ≡ Asks (Whole Export) format))
+abbrev pub IsPromised : Known → RequestMeaning → ReplyHead → ℕ → List Call → Known → Type 0
+IsPromised (Live h) meaning head told calls k =
+    ((format : Format) × (meaning ≡ Asks (Whole Export) format))
     × IsTextHead h head told × AreQuestions 1 calls × (k ≡ Live h)
-IsPromised known errand head told calls k = ⊥
+IsPromised known meaning head told calls k = ⊥
 
 -- How many questions a request takes at most whose body broke off. Only an import is obeyed as its
 -- body comes, and one without a sender is refused.
@@ -116,12 +120,12 @@ most_given_up asked s = 0
 abbrev pub serving : {R : Type 0} (registry : Ghosts R) → Conduct (Told registry)
 serving registry = record {
   answers = λ t request given u. ByCalls registry t u
-      (λ calls. IsErrandMet t.known (errand_of request) given calls u.known);
+      (λ calls. IsMeaningMet t.known (meaning_of request) given calls u.known);
   leaves = λ t request u. ByCalls registry t u
-      (λ calls. (given : Answer) × IsErrandMet t.known (errand_of request) given calls u.known);
+      (λ calls. (given : Answer) × IsMeaningMet t.known (meaning_of request) given calls u.known);
   gives_up = λ t head u. ByCalls registry t u (λ calls. AreQuestions
       (most_given_up (question head.method head.target) (sender (fields_of head))) calls
       × (t.known ≡ u.known));
   promises = λ t request head told u. ByCalls registry t u
-      (λ calls. IsPromised t.known (errand_of request) head told calls u.known);
+      (λ calls. IsPromised t.known (meaning_of request) head told calls u.known);
 }

@@ -1,6 +1,6 @@
 -- What is said of a stream of requests over a registry.
 use Rattle.std.specs.Prelude.{List, ℕ, Option, IfSome}
-use Rattle.pid_service_laws.specs.declared.moderated.Moderated.{Ghosts}
+use Rattle.pid_service_laws.specs.declared.registry_calls.RegistryCalls.{Ghosts}
 use Rattle.pid_http_stream.specs.Leading.{Leads}
 use Rattle.pid_http.specs.Known.{IsToldOf, Told}
 

@@ -5,8 +5,8 @@ ghost use Rattle.pid_http_stream.specs.HeadParts.{IsHeadOf};
 ghost use Rattle.pid_http_stream.specs.Requests.{fields_of};
 ghost use Rattle.pid_http.specs.Api.Commands.{command_made};
 ghost use Rattle.pid_http.specs.Api.Senders.{sender as sender_in, sending_in};
-ghost use Rattle.pid_http.specs.Answering as errands;
-ghost use Rattle.pid_http.specs.Answering.{errand_for, sent};
+ghost use Rattle.pid_http.specs.Answering as meanings;
+ghost use Rattle.pid_http.specs.Answering.{meaning_for, sent};
 ghost use Rattle.pid_http.specs.Steps.Replying.{Replies};
 ghost use Rattle.pid_http.specs.declared.api.question.Question.TheVariants as questions;
 
@@ -16,18 +16,18 @@ use crate::api::{
     sender_of, submission_reply,
 };
 use http::StatusCode;
-use pid_http_stream::{Content, Head, Reply, ReplyBody, ReplyHead};
+use pid_http_stream::{Content, Head, HttpReply, ReplyBody, ReplyHead};
 use pid_ident::{Account, Path};
 use pid_lookup::Args;
 use pid_moderation::{Refusal, Verb};
-use pid_service_laws::Consulted;
+use pid_service_laws::RegistryQueries;
 use std::alloc::{AllocError, Global};
 
 /// The sender of a command. Of what is no command none is looked for.
 pub(crate) fn sender_for<'b>(request: &Request, head: &Head<'b>) -> Option<Sender<'b>>
     ensures { (h : RequestHead) → IsHeadOf head.now h → (body : List ℕ)
-        → errand_for request.now (sending_in result) body
-        ≡ errand_for request.now (sender_in (fields_of h)) body }
+        → meaning_for request.now (sending_in result) body
+        ≡ meaning_for request.now (sender_in (fields_of h)) body }
 {
     match *request {
         Request::Refused(_) => None,
@@ -37,16 +37,16 @@ pub(crate) fn sender_for<'b>(request: &Request, head: &Head<'b>) -> Option<Sende
 }
 
 // The head of the reply with the text, which `write_body` writes after it.
-fn export<R: Consulted>(
+fn export<R: RegistryQueries>(
     alloc: Global,
     registry: &mut R,
     format: Format,
-) -> Result<Reply, AllocError>
-    ensures { Replies R.Moderated registry.old registry.new
-        (errands.Asks (questions.Whole Whole.Export) format) result }
+) -> Result<HttpReply, AllocError>
+    ensures { Replies R.RegistryCalls registry.old registry.new
+        (meanings.Asks (questions.Whole Whole.Export) format) result }
 {
     match registry.export_length() {
-        Ok(length) => Ok(Reply {
+        Ok(length) => Ok(HttpReply {
             head: ReplyHead {
                 status: StatusCode::OK,
                 content: Content::Text,
@@ -58,14 +58,14 @@ fn export<R: Consulted>(
 }
 
 // The item at a path.
-fn read<R: Consulted>(
+fn read<R: RegistryQueries>(
     alloc: Global,
     registry: &mut R,
     path: Path,
     format: Format,
-) -> Result<Reply, AllocError>
-    ensures { Replies R.Moderated registry.old registry.new (errands.Asks (questions.Read path) format)
-        result }
+) -> Result<HttpReply, AllocError>
+    ensures { Replies R.RegistryCalls registry.old registry.new
+        (meanings.Asks (questions.Read path) format) result }
 {
     match registry.read(&path) {
         Ok(Some(name)) => item_reply(alloc, format, &path, &name),
@@ -75,14 +75,14 @@ fn read<R: Consulted>(
 }
 
 // The items below a path, or at the top.
-fn children<R: Consulted>(
+fn children<R: RegistryQueries>(
     alloc: Global,
     registry: &mut R,
     above: Option<Path>,
     format: Format,
-) -> Result<Reply, AllocError>
-    ensures { Replies R.Moderated registry.old registry.new (errands.Asks (questions.Children above) format)
-        result }
+) -> Result<HttpReply, AllocError>
+    ensures { Replies R.RegistryCalls registry.old registry.new
+        (meanings.Asks (questions.Children above) format) result }
 {
     match above {
         None => {}
@@ -96,29 +96,29 @@ fn children<R: Consulted>(
 }
 
 // A look-up, which has no format.
-fn lookup<R: Consulted>(
+fn lookup<R: RegistryQueries>(
     alloc: Global,
     registry: &mut R,
     flags: u32,
     args: Args,
     size: u32,
-) -> Result<Reply, AllocError>
-    ensures { (format : _) → Replies R.Moderated registry.old registry.new
-        (errands.Asks (questions.Lookup flags args size) format) result }
+) -> Result<HttpReply, AllocError>
+    ensures { (format : _) → Replies R.RegistryCalls registry.old registry.new
+        (meanings.Asks (questions.Lookup flags args size) format) result }
 {
     let found = registry.lookup(flags, &args, size);
     lookup_reply(alloc, found)
 }
 
 // The submission with a number.
-fn submission<R: Consulted>(
+fn submission<R: RegistryQueries>(
     alloc: Global,
     registry: &mut R,
     number: u32,
     format: Format,
-) -> Result<Reply, AllocError>
-    ensures { Replies R.Moderated registry.old registry.new
-        (errands.Asks (questions.Submission number) format) result }
+) -> Result<HttpReply, AllocError>
+    ensures { Replies R.RegistryCalls registry.old registry.new
+        (meanings.Asks (questions.Submission number) format) result }
 {
     match registry.submission(number) {
         Ok(discussion) => submission_reply(alloc, format, number, &discussion),
@@ -127,14 +127,14 @@ fn submission<R: Consulted>(
 }
 
 // The rank of an account.
-fn rank<R: Consulted>(
+fn rank<R: RegistryQueries>(
     alloc: Global,
     registry: &mut R,
     who: &Account,
     format: Format,
-) -> Result<Reply, AllocError>
-    ensures { Replies R.Moderated registry.old registry.new (errands.Asks (questions.Rank who.now) format)
-        result }
+) -> Result<HttpReply, AllocError>
+    ensures { Replies R.RegistryCalls registry.old registry.new
+        (meanings.Asks (questions.Rank who.now) format) result }
 {
     match registry.rank(who) {
         Ok(rank) => rank_reply(alloc, format, who, rank),
@@ -143,13 +143,13 @@ fn rank<R: Consulted>(
 }
 
 // Answers a question.
-fn ask<R: Consulted>(
+fn ask<R: RegistryQueries>(
     alloc: Global,
     registry: &mut R,
     question: &Question,
     format: Format,
-) -> Result<Reply, AllocError>
-    ensures { Replies R.Moderated registry.old registry.new (errands.Asks question.now format)
+) -> Result<HttpReply, AllocError>
+    ensures { Replies R.RegistryCalls registry.old registry.new (meanings.Asks question.now format)
         result }
 {
     match *question {
@@ -182,15 +182,15 @@ fn ask<R: Consulted>(
 }
 
 // Has the command obeyed that a sender's form makes. The sender is judged before the form.
-fn command<R: Consulted>(
+fn command<R: RegistryQueries>(
     alloc: Global,
     registry: &mut R,
     verb: Verb,
     format: Format,
     sender: Option<Sender<'_>>,
     body: &[u8],
-) -> Result<Reply, AllocError>
-    ensures { Replies R.Moderated registry.old registry.new
+) -> Result<HttpReply, AllocError>
+    ensures { Replies R.RegistryCalls registry.old registry.new
         (sent format (λ s. command_made verb s body.now) (sending_in sender.entry)) result }
 {
     match sender {
@@ -206,15 +206,15 @@ fn command<R: Consulted>(
 }
 
 /// Answers a request whose body is in memory.
-pub(crate) fn answer<R: Consulted>(
+pub(crate) fn answer<R: RegistryQueries>(
     alloc: Global,
     registry: &mut R,
     request: &Request,
     sender: Option<Sender<'_>>,
     body: &[u8],
-) -> Result<Reply, AllocError>
-    ensures { Replies R.Moderated registry.old registry.new
-        (errand_for request.now (sending_in sender.entry) body.now) result }
+) -> Result<HttpReply, AllocError>
+    ensures { Replies R.RegistryCalls registry.old registry.new
+        (meaning_for request.now (sending_in sender.entry) body.now) result }
 {
     match *request {
         Request::Refused(early) => early_reply(alloc, early),

@@ -4,20 +4,20 @@ ghost use Rattle.std.specs.Prelude.{◌≡◌};
 use crate::api::{Format, Request, Routes, question_of, sender_of};
 use crate::dispatch::{answer, sender_for};
 use crate::importing::import;
-use pid_http_stream::{BodyStop, Handler, Head, NoReply, Reply, Wanted};
+use pid_http_stream::{BodyStop, Handler, Head, HttpReply, NoReply, Wanted};
 use pid_ident::{Input, Output};
-use pid_service_laws::{Consulted, ExportFault};
+use pid_service_laws::{ExportFault, RegistryQueries};
 use std::alloc::Global;
 
 /// A registry and the routes, lent for a stream of requests.
 #[derive(Drop)]
-pub(crate) struct Service<'r, 't, R: Consulted> {
+pub(crate) struct Service<'r, 't, R: RegistryQueries> {
     pub(crate) alloc: Global,
     pub(crate) registry: &'r mut R,
     pub(crate) routes: &'t Routes,
 }
 
-impl<R: Consulted> Handler for Service<'_, '_, R> {
+impl<R: RegistryQueries> Handler for Service<'_, '_, R> {
     ghost use Rattle.std.specs.Prelude.{◌≡◌, refl};
     ghost use Rattle.pid_http.specs.Steps.Handling.{WritesText, exports_text, same_on};
     ghost use Rattle.pid_http.specs.Known.{IsToldOf, LivesOn, Told};
@@ -30,18 +30,18 @@ impl<R: Consulted> Handler for Service<'_, '_, R> {
     /// The format of the reply to an import.
     type Upload = Format;
 
-    ghost View = { Told R.Moderated };
+    ghost View = { Told R.RegistryCalls };
 
-    ghost stands = { λ a t. IsToldOf R.Moderated a.registry.now t };
+    ghost stands = { λ a t. IsToldOf R.RegistryCalls a.registry.now t };
 
-    ghost is_good = { λ a. R.Moderated.showing.is_clean a.registry.now };
+    ghost is_good = { λ a. R.RegistryCalls.showing.is_clean a.registry.now };
 
     ghost becomes = { λ a b. (b.registry.ghost_name ≡ a.registry.ghost_name)
-        × LivesOn R.Moderated a.registry.now b.registry.now };
+        × LivesOn R.RegistryCalls a.registry.now b.registry.now };
 
-    ghost conduct = { serving R.Moderated };
+    ghost conduct = { serving R.RegistryCalls };
 
-    ghost writes = { WritesText R.Moderated };
+    ghost writes = { WritesText R.RegistryCalls };
 
     ghost kept = { exports_text };
 
@@ -61,7 +61,12 @@ impl<R: Consulted> Handler for Service<'_, '_, R> {
         }
     }
 
-    fn answer(&mut self, request: Request, head: &Head<'_>, body: &[u8]) -> Result<Reply, NoReply> {
+    fn answer(
+        &mut self,
+        request: Request,
+        head: &Head<'_>,
+        body: &[u8],
+    ) -> Result<HttpReply, NoReply> {
         let sender = sender_for(&request, head);
         match answer(self.alloc, self.registry, &request, sender, body) {
             Ok(reply) => Ok(reply),
@@ -74,7 +79,7 @@ impl<R: Consulted> Handler for Service<'_, '_, R> {
         format: Format,
         head: &Head<'_>,
         body: &mut B,
-    ) -> Result<Reply, NoReply> {
+    ) -> Result<HttpReply, NoReply> {
         import(self.alloc, self.registry, format, sender_of(head), body)
     }
 

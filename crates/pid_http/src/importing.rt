@@ -6,23 +6,23 @@ ghost use Rattle.pid_moderation.specs.BeforeFile.{import_of};
 ghost use Rattle.pid_http.specs.Api.Outcomes.{outcome_answer};
 ghost use Rattle.pid_http.specs.Api.Replying.{MakesReply};
 ghost use Rattle.pid_http.specs.Api.Senders.{sending_in};
-ghost use Rattle.pid_http.specs.Answering as errands;
-ghost use Rattle.pid_http.specs.Answering.{import_errand};
+ghost use Rattle.pid_http.specs.Answering as meanings;
+ghost use Rattle.pid_http.specs.Answering.{import_meaning};
 ghost use Rattle.pid_http.specs.Steps.Replying.{RepliesToFile};
 
 use crate::api::{Format, Sender, outcome_reply};
-use pid_http_stream::{LONGEST_BODY, NoReply, Reply};
+use pid_http_stream::{HttpReply, LONGEST_BODY, NoReply};
 use pid_ident::{Account, Input, Key};
 use pid_moderation::{Refusal, Reply as Outcome};
 use pid_reader::skip_input;
-use pid_service_laws::{Consulted, ImportEnd};
+use pid_service_laws::{ImportEnd, RegistryQueries};
 use std::alloc::Global;
 
 fn reply_with(
     alloc: Global,
     format: Format,
     outcome: Result<Outcome, Refusal>,
-) -> Result<Reply, NoReply>
+) -> Result<HttpReply, NoReply>
     ensures { MakesReply result (outcome_answer format outcome) }
 {
     match outcome_reply(alloc, format, outcome) {
@@ -37,7 +37,7 @@ fn refuse<B: Input>(
     format: Format,
     refusal: Refusal,
     body: &mut B,
-) -> Result<Reply, NoReply>
+) -> Result<HttpReply, NoReply>
     ensures goes { B.goes body.old body.new }
     ensures whole { IfOk result (λ _. IsAtEnd (B.to_come body.new)) }
     ensures ended { B.to_come body.old ≡ Some [] → B.to_come body.new ≡ Some [] }
@@ -50,19 +50,19 @@ fn refuse<B: Input>(
 }
 
 // Has an import obeyed.
-fn take_in<R: Consulted, B: Input>(
+fn take_in<R: RegistryQueries, B: Input>(
     alloc: Global,
     registry: &mut R,
     format: Format,
     account: Account,
     key: Option<Key>,
     body: &mut B,
-) -> Result<Reply, NoReply>
+) -> Result<HttpReply, NoReply>
     ensures goes { B.goes body.old body.new }
     ensures whole { IfOk result (λ _. IsAtEnd (B.to_come body.new)) }
-    ensures replied { RepliesToFile R.Moderated registry.old registry.new
+    ensures replied { RepliesToFile R.RegistryCalls registry.old registry.new
         (B.to_come body.old) (B.to_come body.new)
-        (λ file. errands.Obeys (import_of account key (file_reading file)) format) result }
+        (λ file. meanings.Obeys (import_of account key (file_reading file)) format) result }
 {
     match registry.import_from(account, key, body) {
         Ok(reply) => reply_with(alloc, format, Ok(reply)),
@@ -90,18 +90,18 @@ fn owner_of(alloc: Global, sender: Sender<'_>) -> Option<(Account, Option<Key>)>
 
 /// Has an import obeyed whose file is the body. The sender is judged first, but a refusal is
 /// answered only after the body.
-pub(crate) fn import<R: Consulted, B: Input>(
+pub(crate) fn import<R: RegistryQueries, B: Input>(
     alloc: Global,
     registry: &mut R,
     format: Format,
     sender: Option<Sender<'_>>,
     body: &mut B,
-) -> Result<Reply, NoReply>
+) -> Result<HttpReply, NoReply>
     ensures goes { B.goes body.old body.new }
     ensures whole { IfOk result (λ _. IsAtEnd (B.to_come body.new)) }
-    ensures replied { RepliesToFile R.Moderated registry.old registry.new
+    ensures replied { RepliesToFile R.RegistryCalls registry.old registry.new
         (B.to_come body.old) (B.to_come body.new)
-        (import_errand format (sending_in sender.entry)) result }
+        (import_meaning format (sending_in sender.entry)) result }
 {
     match sender {
         None => refuse(alloc, format, Refusal::BadText, body),

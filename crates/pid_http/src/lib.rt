@@ -12,5 +12,5 @@ mod stream;
 pub use crate::api::Routes;
 pub use laws::streams_send_their_commands;
 pub use pid_http_stream::{Served, StreamEnd};
-pub use pid_service_laws::Consulted;
+pub use pid_service_laws::RegistryQueries;
 pub use stream::{serve_stream, serve_with};

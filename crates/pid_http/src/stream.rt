@@ -12,7 +12,7 @@ use crate::api::Routes;
 use crate::handling::Service;
 use pid_http_stream::{Incoming, Served, StreamEnd, serve_stream as serve_requests};
 use pid_ident::Output;
-use pid_service_laws::Consulted;
+use pid_service_laws::RegistryQueries;
 use std::alloc::Global;
 
 /// Answers the requests of a stream over a registry, one after another, in at most so many reads.
@@ -39,7 +39,7 @@ use std::alloc::Global;
 ///
 /// If there is no memory for the routes, it ends so before anything is read. A server makes them
 /// once, and calls `serve_with`.
-pub fn serve_stream<R: Consulted, I: Incoming<W>, W: Output>(
+pub fn serve_stream<R: RegistryQueries, I: Incoming<W>, W: Output>(
     alloc: Global,
     registry: &mut R,
     reader: &mut I,
@@ -51,18 +51,18 @@ pub fn serve_stream<R: Consulted, I: Incoming<W>, W: Output>(
     // its session sent it. As `t` a reader takes what is known of the registry at the start:
     // `start` is this registry, there are no `calls` yet, and `known` is `Live h` if it shows the
     // history `h`, `Down` if it had failed earlier.
-    ensures served { OverStream R.Moderated registry.old registry.new (I.to_come reader.old)
-        (λ t u stream. IsServed (serving R.Moderated)
+    ensures served { OverStream R.RegistryCalls registry.old registry.new (I.to_come reader.old)
+        (λ t u stream. IsServed (serving R.RegistryCalls)
         (outside t u (W.taken writer.old) (W.taken writer.new))
         stream (I.to_come reader.new) result.end result.answered) }
     // Whenever the reader was read, the requests that had come were answered, and the writer had
     // taken the replies.
-    ensures caught_up { OverStream R.Moderated registry.old registry.new (I.to_come reader.old)
-        (λ t _ stream. AllSince (IsCaughtUp (serving R.Moderated) t (W.taken writer.old) stream)
+    ensures caught_up { OverStream R.RegistryCalls registry.old registry.new (I.to_come reader.old)
+        (λ t _ stream. AllSince (IsCaughtUp (serving R.RegistryCalls) t (W.taken writer.old) stream)
         (I.moments reader.old) (I.moments reader.new)) }
     // Whatever the bytes are and wherever it ends, it is a part of the registry's session; and
     // one that has failed stays as it is.
-    ensures lives { LivesOn R.Moderated registry.old registry.new }
+    ensures lives { LivesOn R.RegistryCalls registry.old registry.new }
     ensures ended { EndsFor result.end (record {
       before = reader_at I.Incoming reader.old;
       after = reader_at I.Incoming reader.new;
@@ -82,7 +82,7 @@ pub fn serve_stream<R: Consulted, I: Incoming<W>, W: Output>(
 }
 
 /// The same by routes that were made before.
-pub fn serve_with<R: Consulted, I: Incoming<W>, W: Output>(
+pub fn serve_with<R: RegistryQueries, I: Incoming<W>, W: Output>(
     alloc: Global,
     routes: &Routes,
     registry: &mut R,
@@ -90,14 +90,14 @@ pub fn serve_with<R: Consulted, I: Incoming<W>, W: Output>(
     writer: &mut W,
     turns: u64,
 ) -> Served
-    ensures served { OverStream R.Moderated registry.old registry.new (I.to_come reader.old)
-        (λ t u stream. IsServed (serving R.Moderated)
+    ensures served { OverStream R.RegistryCalls registry.old registry.new (I.to_come reader.old)
+        (λ t u stream. IsServed (serving R.RegistryCalls)
         (outside t u (W.taken writer.old) (W.taken writer.new))
         stream (I.to_come reader.new) result.end result.answered) }
-    ensures caught_up { OverStream R.Moderated registry.old registry.new (I.to_come reader.old)
-        (λ t _ stream. AllSince (IsCaughtUp (serving R.Moderated) t (W.taken writer.old) stream)
+    ensures caught_up { OverStream R.RegistryCalls registry.old registry.new (I.to_come reader.old)
+        (λ t _ stream. AllSince (IsCaughtUp (serving R.RegistryCalls) t (W.taken writer.old) stream)
         (I.moments reader.old) (I.moments reader.new)) }
-    ensures lives { LivesOn R.Moderated registry.old registry.new }
+    ensures lives { LivesOn R.RegistryCalls registry.old registry.new }
     ensures ended { EndsFor result.end (record {
       before = reader_at I.Incoming reader.old;
       after = reader_at I.Incoming reader.new;

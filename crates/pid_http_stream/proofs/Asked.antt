@@ -24,7 +24,7 @@ use Rattle.pid_http_stream.specs.Steps.Loop.{FrontHead, IsAskedOver, AsksHandler
 use Rattle.pid_http_stream.specs.declared.one_request.Asked.TheVariants as asked
 use Rattle.pid_http_stream.specs.declared.body_input.BodyFault.{BodyFault}
 use Rattle.pid_http_stream.specs.declared.body_input.BodyFault.TheVariants as faults
-use Rattle.pid_http_stream.specs.declared.handler.Reply.{Reply}
+use Rattle.pid_http_stream.specs.declared.handler.HttpReply.{HttpReply}
 use Rattle.pid_http_stream.proofs.BodyReads.{whole_padded, none_wanted, nothing}
 use Rattle.pid_http_stream.proofs.Heads.{HasHead-append, head_of, stands_request, stands_short}
 
@@ -112,7 +112,7 @@ told_at P held headers spans w A B r s e told =
     let fits = r.stands.fits in
     told (record { head = r.stands.found.0; body = body_of A s }) r.stands.found.1 (ap (option_map (λ x. padded A.wanted (A.held ++ x))) e) (omega arith)
 
-pub reply_made : {H : Type 0} (conduct : Conduct H) (a b : H) (held : List ℕ) (headers : List HeaderSpan) (spans : RequestSpans) (w : ℕ) (A B : BodyState) → Reading held headers spans w A B → (reply : Reply)
+pub reply_made : {H : Type 0} (conduct : Conduct H) (a b : H) (held : List ℕ) (headers : List HeaderSpan) (spans : RequestSpans) (w : ℕ) (A B : BodyState) → Reading held headers spans w A B → (reply : HttpReply)
     → B.wanted ≡ 0 → Told (λ request. MayReply conduct a request reply b) held headers spans A
     → IfSome A.turns.reader.come (λ _. AsksHandler conduct (record { a = a; b = b; input = A.turns.reader.come; input_after = B.turns.reader.come }) (record { held = held; headers = headers; spans = spans; content_length = w }) (asked.Reply reply))
 reply_made conduct a b held headers spans w A B r reply none told = by_known A.turns.reader.come refl
@@ -161,7 +161,7 @@ not_ended B more e some end =
     let none = none_wanted B.wanted (B.held ++ more) (subst (λ (o : Option (List ℕ)). IsAtEnd (option_map (λ y. padded B.wanted (B.held ++ y)) o)) e end) in
     omega arith
 
-stands_of : {H E : Type 0} (conduct : Conduct H) (a b : H) (request : Request) (result : Result Reply E) (left : Option (List ℕ)) → IsHandled conduct a request result left b → IfOk result (λ _. IsAtEnd left) → ¬ (IsAtEnd left) → StandsStill conduct a request.head b
+stands_of : {H E : Type 0} (conduct : Conduct H) (a b : H) (request : Request) (result : Result HttpReply E) (left : Option (List ℕ)) → IsHandled conduct a request result left b → IfOk result (λ _. IsAtEnd left) → ¬ (IsAtEnd left) → StandsStill conduct a request.head b
 stands_of conduct a b request (Ok reply) left is whole on = absurd (on whole)
 stands_of conduct a b request (Err x) left (inl stands) whole on = stands
 stands_of conduct a b request (Err x) left (inr (end, leaves)) whole on = absurd (on end)
@@ -172,7 +172,7 @@ pub record IsLeft {H : Type 0} (conduct : Conduct H) (a b : H) (held came more :
   pub after : input_after ≡ Some more
   pub stands : StandsOver conduct a (held ++ came) b
 
-is_left : {H E : Type 0} (conduct : Conduct H) (a b : H) (held : List ℕ) (headers : List HeaderSpan) (spans : RequestSpans) (w : ℕ) (A B : BodyState) (r : Reading held headers spans w A B) (result : Result Reply E) (s : List ℕ)
+is_left : {H E : Type 0} (conduct : Conduct H) (a b : H) (held : List ℕ) (headers : List HeaderSpan) (spans : RequestSpans) (w : ℕ) (A B : BodyState) (r : Reading held headers spans w A B) (result : Result HttpReply E) (s : List ℕ)
     → A.turns.reader.come ≡ Some s → 0 < B.wanted → Told (λ request. IsHandled conduct a request result (option_map (λ y. padded B.wanted (B.held ++ y)) B.turns.reader.come) b) held headers spans A → IfOk result (λ _. IsAtEnd (option_map (λ y. padded B.wanted (B.held ++ y)) B.turns.reader.come))
     → (more : List ℕ) × IsLeft conduct a b held r.read.came more A.turns.reader.come B.turns.reader.come
 is_left conduct a b held headers spans w A B r result s e some told whole =
@@ -206,7 +206,7 @@ came_so conduct a b held headers spans w A B r stands = by_length (cases_lt (len
         let sized : length (r.read.used ++ B.held) ≡ w = omega arith in
         inr (record { head = r.stands.found.0; body = r.read.used ++ B.held }, drop w (drop spans.len held), stands_request held headers spans w r.stands r.read.came (r.read.used ++ B.held) (drop w (drop spans.len held)) (whole_body (drop spans.len held) r.read.came (r.read.used ++ B.held) w r.n r.n_is given sized) sized, inl stands)
 
-pub left_unread : {H E : Type 0} (conduct : Conduct H) (a b : H) (held : List ℕ) (headers : List HeaderSpan) (spans : RequestSpans) (w : ℕ) (A B : BodyState) (r : Reading held headers spans w A B) (result : Result Reply E)
+pub left_unread : {H E : Type 0} (conduct : Conduct H) (a b : H) (held : List ℕ) (headers : List HeaderSpan) (spans : RequestSpans) (w : ℕ) (A B : BodyState) (r : Reading held headers spans w A B) (result : Result HttpReply E)
     → 0 < B.wanted → Told (λ request. IsHandled conduct a request result (option_map (λ y. padded B.wanted (B.held ++ y)) B.turns.reader.come) b) held headers spans A → IfOk result (λ _. IsAtEnd (option_map (λ y. padded B.wanted (B.held ++ y)) B.turns.reader.come))
     → IfSome A.turns.reader.come (λ _. AsksHandler conduct (record { a = a; b = b; input = A.turns.reader.come; input_after = B.turns.reader.come }) (record { held = held; headers = headers; spans = spans; content_length = w }) asked.NoMemory)
 left_unread {H} conduct a b held headers spans w A B r result some told whole = by_known A.turns.reader.come refl
@@ -237,7 +237,7 @@ broken_as conduct a b front came B faults.ReadFault input off stands short = (st
 broken_as conduct a b front came B faults.TurnsSpent input off stands short = (stands, inr short)
 
 -- the body broke off
-pub broken : {H E : Type 0} (conduct : Conduct H) (a b : H) (held : List ℕ) (headers : List HeaderSpan) (spans : RequestSpans) (w : ℕ) (A B : BodyState) (r : Reading held headers spans w A B) (result : Result Reply E) (fault : BodyFault)
+pub broken : {H E : Type 0} (conduct : Conduct H) (a b : H) (held : List ℕ) (headers : List HeaderSpan) (spans : RequestSpans) (w : ℕ) (A B : BodyState) (r : Reading held headers spans w A B) (result : Result HttpReply E) (fault : BodyFault)
     → B.fault ≡ Some fault → Told (λ request. IsHandled conduct a request result (option_map (λ y. padded B.wanted (B.held ++ y)) B.turns.reader.come) b) held headers spans A → IfOk result (λ _. IsAtEnd (option_map (λ y. padded B.wanted (B.held ++ y)) B.turns.reader.come))
     → IfSome A.turns.reader.come (λ _. AsksHandler conduct (record { a = a; b = b; input = A.turns.reader.come; input_after = B.turns.reader.come }) (record { held = held; headers = headers; spans = spans; content_length = w }) (asked.Broken fault))
 broken {H} conduct a b held headers spans w A B r result fault f told whole = by_known A.turns.reader.come refl
@@ -251,13 +251,13 @@ broken {H} conduct a b held headers spans w A B r result fault f told whole = by
 
 -- ---- all of it, by what the code tells
 
-asked_whole : {H E : Type 0} (conduct : Conduct H) (a b : H) (held : List ℕ) (headers : List HeaderSpan) (spans : RequestSpans) (w : ℕ) (A B : BodyState) (r : Reading held headers spans w A B) (result : Result Reply E)
+asked_whole : {H E : Type 0} (conduct : Conduct H) (a b : H) (held : List ℕ) (headers : List HeaderSpan) (spans : RequestSpans) (w : ℕ) (A B : BodyState) (r : Reading held headers spans w A B) (result : Result HttpReply E)
     → B.wanted ≡ 0 → Told (λ request. IsHandled conduct a request result (option_map (λ y. padded B.wanted (B.held ++ y)) B.turns.reader.come) b) held headers spans A
     → IfSome A.turns.reader.come (λ _. AsksHandler conduct (record { a = a; b = b; input = A.turns.reader.come; input_after = B.turns.reader.come }) (record { held = held; headers = headers; spans = spans; content_length = w }) (whole_so result))
 asked_whole conduct a b held headers spans w A B r (Ok reply) none told = reply_made conduct a b held headers spans w A B r reply none told
 asked_whole conduct a b held headers spans w A B r (Err x) none told = no_memory conduct a b held headers spans w A B r none told
 
-asked_broken : {H E : Type 0} (conduct : Conduct H) (a b : H) (held : List ℕ) (headers : List HeaderSpan) (spans : RequestSpans) (w : ℕ) (A B : BodyState) (r : Reading held headers spans w A B) (result : Result Reply E) (fault : Option BodyFault)
+asked_broken : {H E : Type 0} (conduct : Conduct H) (a b : H) (held : List ℕ) (headers : List HeaderSpan) (spans : RequestSpans) (w : ℕ) (A B : BodyState) (r : Reading held headers spans w A B) (result : Result HttpReply E) (fault : Option BodyFault)
     → B.fault ≡ fault → 0 < B.wanted → Told (λ request. IsHandled conduct a request result (option_map (λ y. padded B.wanted (B.held ++ y)) B.turns.reader.come) b) held headers spans A → IfOk result (λ _. IsAtEnd (option_map (λ y. padded B.wanted (B.held ++ y)) B.turns.reader.come))
     → IfSome A.turns.reader.come (λ _. AsksHandler conduct (record { a = a; b = b; input = A.turns.reader.come; input_after = B.turns.reader.come }) (record { held = held; headers = headers; spans = spans; content_length = w }) (broken_so fault))
 asked_broken conduct a b held headers spans w A B r result None e some told whole = left_unread conduct a b held headers spans w A B r result some told whole
@@ -267,7 +267,7 @@ some_left : (n : ℕ) → (n == 0) ≡ false → 0 < n
 some_left zero e = cc
 some_left (suc n) e = omega arith
 
-pub asked_is : {H E : Type 0} (conduct : Conduct H) (a b : H) (held : List ℕ) (headers : List HeaderSpan) (spans : RequestSpans) (w : ℕ) (A B : BodyState) (r : Reading held headers spans w A B) (result : Result Reply E)
+pub asked_is : {H E : Type 0} (conduct : Conduct H) (a b : H) (held : List ℕ) (headers : List HeaderSpan) (spans : RequestSpans) (w : ℕ) (A B : BodyState) (r : Reading held headers spans w A B) (result : Result HttpReply E)
     → Told (λ request. IsHandled conduct a request result (option_map (λ y. padded B.wanted (B.held ++ y)) B.turns.reader.come) b) held headers spans A → IfOk result (λ _. IsAtEnd (option_map (λ y. padded B.wanted (B.held ++ y)) B.turns.reader.come))
     → IfSome A.turns.reader.come (λ _. AsksHandler conduct (record { a = a; b = b; input = A.turns.reader.come; input_after = B.turns.reader.come }) (record { held = held; headers = headers; spans = spans; content_length = w }) (asked_so result B.wanted B.fault))
 asked_is {H} {E} conduct a b held headers spans w A B r result told whole = by_test (B.wanted == 0) refl
@@ -283,7 +283,7 @@ unfailed : (P : Type 0) (f : Option BodyFault) → P ⊎ (f ≡ Some faults.Read
 unfailed P f (inl p) other = p
 unfailed P f (inr e) other = absurd (other e)
 
-whole_stops : {E : Type 0} (result : Result Reply E) (before now : Option ReadFault) (left : ℕ) → now ≡ before → AskStops (whole_so result) before now left
+whole_stops : {E : Type 0} (result : Result HttpReply E) (before now : Option ReadFault) (left : ℕ) → now ≡ before → AskStops (whole_so result) before now left
 whole_stops (Ok reply) before now left same = same
 whole_stops (Err x) before now left same = same
 
@@ -292,7 +292,7 @@ broken_stops before B faults.Short off kept = unfailed _ (Some faults.Short) kep
 broken_stops before B faults.ReadFault off kept = off.cause
 broken_stops before B faults.TurnsSpent off kept = (off.cause, unfailed _ (Some faults.TurnsSpent) kept (λ e. cc))
 
-pub asked_stops : {E : Type 0} (held : List ℕ) (headers : List HeaderSpan) (spans : RequestSpans) (w : ℕ) (A B : BodyState) → Reading held headers spans w A B → (result : Result Reply E) → AskStops (asked_so result B.wanted B.fault) A.turns.reader.fault B.turns.reader.fault B.turns.left
+pub asked_stops : {E : Type 0} (held : List ℕ) (headers : List HeaderSpan) (spans : RequestSpans) (w : ℕ) (A B : BodyState) → Reading held headers spans w A B → (result : Result HttpReply E) → AskStops (asked_so result B.wanted B.fault) A.turns.reader.fault B.turns.reader.fault B.turns.left
 asked_stops held headers spans w A B r result = by_test (B.wanted == 0) refl
   where
     by_fault : (f : Option BodyFault) → B.fault ≡ f → (B.turns.reader.fault ≡ A.turns.reader.fault) ⊎ (f ≡ Some faults.ReadFault) → AskStops (broken_so f) A.turns.reader.fault B.turns.reader.fault B.turns.left
@@ -305,7 +305,7 @@ asked_stops held headers spans w A B r result = by_test (B.wanted == 0) refl
         let none : B.wanted ≡ 0 = eqb-true B.wanted 0 e in absurd (omega arith)))
     by_test false e = by_fault B.fault refl r.read.failed
 
-whole_turns : {E : Type 0} (result : Result Reply E) (a b : Turns) → SpendsTurns 0 a b → SpendsTurns (idle_asked (whole_so result)) a b
+whole_turns : {E : Type 0} (result : Result HttpReply E) (a b : Turns) → SpendsTurns 0 a b → SpendsTurns (idle_asked (whole_so result)) a b
 whole_turns (Ok reply) a b spent = spent
 whole_turns (Err x) a b spent = spent
 
@@ -314,7 +314,7 @@ broken_turns None a b spent = spent
 broken_turns (Some fault) a b spent = spent
 
 -- where the body is whole each read brought something
-pub asked_turns : {E : Type 0} (held : List ℕ) (headers : List HeaderSpan) (spans : RequestSpans) (w : ℕ) (A B : BodyState) → Reading held headers spans w A B → (result : Result Reply E) → SpendsTurns (idle_asked (asked_so result B.wanted B.fault)) A.turns B.turns
+pub asked_turns : {E : Type 0} (held : List ℕ) (headers : List HeaderSpan) (spans : RequestSpans) (w : ℕ) (A B : BodyState) → Reading held headers spans w A B → (result : Result HttpReply E) → SpendsTurns (idle_asked (asked_so result B.wanted B.fault)) A.turns B.turns
 asked_turns held headers spans w A B r result = by_test (B.wanted == 0) refl
   where
     no_fault : (f : Option BodyFault) → B.fault ≡ f → B.wanted ≡ 0 → SpendsTurns (idle_at f) A.turns B.turns → SpendsTurns 0 A.turns B.turns

@@ -127,8 +127,8 @@ all_of_it (Some s) (Some t) x body c end e =
 -- ---- what a read leaves, as the states tell it
 
 -- nothing was told before, and nothing is now
-untold : (f : Option BodyFault) (s : BodyState) → f ≡ None → s.fault ≡ f → IsFaultCaused s
-untold f s e same = subst (λ (x : Option BodyFault). IfSome x (HasBrokenOff s)) (sym (same ∙ e)) tt
+still_no_fault : (f : Option BodyFault) (s : BodyState) → f ≡ None → s.fault ≡ f → IsFaultCaused s
+still_no_fault f s e same = subst (λ (x : Option BodyFault). IfSome x (HasBrokenOff s)) (sym (same ∙ e)) tt
 
 -- some of what was held was given
 pub gave_held : (f : Option BodyFault) (turns : Turns) (u : Option (List ℕ)) (wanted n : ℕ) (held behind piece : List ℕ) → f ≡ None → held ≡ piece ++ behind → length piece ≡ n → n ≤ wanted
@@ -142,7 +142,7 @@ gave_held f turns u wanted n held behind piece none e l h = record {
   turns = no_turns (idle_at f) turns;
   unread = λ some. refl;
   fault = stays_kept f;
-  told = λ t. untold f (record { held = behind; wanted = wanted - n; fault = f; turns = turns; taken = u }) none refl;
+  told = λ t. still_no_fault f (record { held = behind; wanted = wanted - n; fault = f; turns = turns; taken = u }) none refl;
   failed = inl refl;
   taken = refl;
   moments = since_none (IsWithinBody (record { held = held; wanted = wanted; fault = f; turns = turns; taken = u })) turns.reader.moments;
@@ -201,7 +201,7 @@ gave_read f a b u wanted n held piece none e c l h spent wants noted good = reco
   turns = subst (λ (x : Option BodyFault). SpendsTurns (idle_at x) a b) (sym none) spent;
   unread = λ some. no_fault f none some;
   fault = stays_kept f;
-  told = λ t. untold f (record { held = held; wanted = wanted - n; fault = f; turns = b; taken = u }) none refl;
+  told = λ t. still_no_fault f (record { held = held; wanted = wanted - n; fault = f; turns = b; taken = u }) none refl;
   failed = inl good;
   taken = refl;
   moments = read_within (record { held = held; wanted = wanted; fault = f; turns = a; taken = u }) b.reader.moments e wants noted;

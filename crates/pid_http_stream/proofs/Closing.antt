@@ -64,8 +64,8 @@ scanned value = scan_is [] value (All-nil _)
 at_comma : (before rest : List ℕ) (b : ℕ) → b ≡ 44 → is_close before ≡ false → closes_after before (b ∷ rest) ≡ closes_after [] rest
 at_comma before rest b e n = rw (eq-eqb b 44 e, n) refl
 
-behind_comma : (before rest : List ℕ) (b : ℕ) → (b == 44) ≡ false → closes_after before (b ∷ rest) ≡ closes_after (before ++ b ∷ []) rest
-behind_comma before rest b e = rw e refl
+after_comma : (before rest : List ℕ) (b : ℕ) → (b == 44) ≡ false → closes_after before (b ∷ rest) ≡ closes_after (before ++ b ∷ []) rest
+after_comma before rest b e = rw e refl
 
 pub comma_step : (v : List ℕ) (s i : ℕ) → i < length v → get_or v i 0 ≡ 44 → is_close (slice_range v s i) ≡ false
     → closes_after (slice_range v (i + 1) (i + 1)) (drop (i + 1) v) ≡ closes_after (slice_range v s i) (drop i v)
@@ -73,7 +73,7 @@ comma_step v s i h e n = rw (none_before v (i + 1), drop-cons v i 0 h, add-one) 
 
 pub other_step : (v : List ℕ) (s i : ℕ) → s ≤ i → i < length v → (get_or v i 0 == 44) ≡ false
     → closes_after (slice_range v s (i + 1)) (drop (i + 1) v) ≡ closes_after (slice_range v s i) (drop i v)
-other_step v s i o h e = rw (one_more v s i o h, drop-cons v i 0 h, add-one) (sym (behind_comma (slice_range v s i) (drop (suc i) v) (get_or v i 0) e))
+other_step v s i o h e = rw (one_more v s i o h, drop-cons v i 0 h, add-one) (sym (after_comma (slice_range v s i) (drop (suc i) v) (get_or v i 0) e))
 
 -- ---- blanks at the start
 

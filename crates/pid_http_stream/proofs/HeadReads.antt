@@ -25,7 +25,7 @@ use Rattle.pid_http_stream.specs.Unfinished.{CanBeHead, IsHeadUnfinished, IsUnfi
 use Rattle.pid_http_stream.specs.declared.refusal.StreamFault.{StreamFault}
 use Rattle.pid_http_stream.specs.declared.refusal.StreamFault.TheVariants.{BadHead}
 use Rattle.pid_http_stream.proofs.BodyReads.{whole_front}
-use Rattle.pid_http_stream.proofs.Heads.{IsNoHead, HasNoLineEnd, end_within_head, no_head_behind}
+use Rattle.pid_http_stream.proofs.Heads.{IsNoHead, HasNoLineEnd, end_within_head, no_head_after}
 
 -- what was found of a head
 pub judged_none : (held : List ℕ) (headers : List HeaderSpan) (judged : Result (Option FoundHead) StreamFault) (found : Option FoundHead) → judged ≡ Ok found → found ≡ None → IsHeadJudged held headers judged → IsHeadUnfinished held
@@ -60,7 +60,7 @@ any_faulty held fault has None = tt
 any_faulty held fault has (Some more) = has more
 
 pub still_none : (after : List ℕ) (n : ℕ) → IsHeadUnfinished (take n after) → HasNoLineEnd (drop n after) → HasNoRequestHead after
-still_none after n wants quiet = subst HasNoRequestHead (take-append-drop n after) (no_head_behind (take n after) (drop n after) wants.none quiet)
+still_none after n wants quiet = subst HasNoRequestHead (take-append-drop n after) (no_head_after (take n after) (drop n after) wants.none quiet)
 
 -- where no line ended in the piece, the lines that have ended are those of before
 pub still_begins : (after : List ℕ) (n : ℕ) → CanBeHead (take n after) → HasNoLineEnd (drop n after) → CanBeHead after

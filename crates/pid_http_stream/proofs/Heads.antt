@@ -290,21 +290,21 @@ lf_in (x ∷ front) [] rest e none = cc
 lf_in (x ∷ front) (b ∷ piece) rest e none = let tails : piece ≡ front ++ 10 ∷ rest = cc in lf_in front piece rest tails (All-tail (λ (y : ℕ). ¬ (y ≡ 10)) b piece none)
 
 -- an LF behind the bytes held stands in the piece
-lf_behind : (held front piece rest : List ℕ) → held ++ piece ≡ front ++ 10 ∷ rest → length held ≤ length front → HasNoLineEnd piece → ⊥
-lf_behind [] front piece rest e l none = lf_in front piece rest e none
-lf_behind (b ∷ held) [] piece rest e l none = absurd (omega arith)
-lf_behind (b ∷ held) (x ∷ front) piece rest e l none = let tails : held ++ piece ≡ front ++ 10 ∷ rest = cc in lf_behind held front piece rest tails (omega arith) none
+lf_after : (held front piece rest : List ℕ) → held ++ piece ≡ front ++ 10 ∷ rest → length held ≤ length front → HasNoLineEnd piece → ⊥
+lf_after [] front piece rest e l none = lf_in front piece rest e none
+lf_after (b ∷ held) [] piece rest e l none = absurd (omega arith)
+lf_after (b ∷ held) (x ∷ front) piece rest e l none = let tails : held ++ piece ≡ front ++ 10 ∷ rest = cc in lf_after held front piece rest tails (omega arith) none
 
 -- where no line ends in a piece, no head ends in it
-pub no_head_behind : (held piece : List ℕ) → HasNoRequestHead held → HasNoLineEnd piece → HasNoRequestHead (held ++ piece)
-no_head_behind held piece none quiet = λ h rest x.
+pub no_head_after : (held piece : List ℕ) → HasNoRequestHead held → HasNoLineEnd piece → HasNoRequestHead (held ++ piece)
+no_head_after held piece none quiet = λ h rest x.
     let e = last_is_lf h in
     by_length h rest x e.0 e.1 (cases_lt (length held) (length (print_request h)))
   where
     by_length : (h : RequestHead) (rest : List ℕ) → ReadsRequest (held ++ piece) h rest → (front : List ℕ) → print_request h ≡ front ++ 10 ∷ [] → (length held < length (print_request h)) ⊎ (length (print_request h) ≤ length held) → ⊥
     by_length h rest x front e (inr short) = none h (drop (length (print_request h)) held) (within_front held piece h rest x short)
     by_length h rest x front e (inl long) =
-        lf_behind held front piece rest (x.1 ∙ ap (λ (l : List ℕ). l ++ rest) e ∙ append_assoc front (10 ∷ []) rest) (let n = ap length e ∙ length-append front (10 ∷ []) in omega arith) quiet
+        lf_after held front piece rest (x.1 ∙ ap (λ (l : List ℕ). l ++ rest) e ∙ append_assoc front (10 ∷ []) rest) (let n = ap length e ∙ length-append front (10 ∷ []) in omega arith) quiet
 
 neither : (x y : Bool) → (x || y) ≡ false → (x ≡ false) × (y ≡ false)
 neither false y e = (refl, e)

@@ -5,7 +5,7 @@ use Rattle.pid_http_stream.specs.Conducts.{Conduct}
 use Rattle.pid_http_stream.specs.Handling.{IsHandled}
 use Rattle.pid_http_stream.specs.Leading.{Leads}
 use Rattle.pid_http_stream.specs.Requests.{Request}
-use Rattle.pid_http_stream.specs.declared.handler.Reply.{Reply}
+use Rattle.pid_http_stream.specs.declared.handler.HttpReply.{HttpReply}
 
 pub stays : {H V : Type 0} {is_good : H → Type 0} {stands : H → V → Type 0} (a : H) (P : V → V → Type 0) → ((v : V) → P v v) → Leads is_good stands a a P
 stays a P p = record { good = λ h. h; leads = λ h v is. (v, is, p v) }
@@ -24,7 +24,7 @@ pub beside : {H V : Type 0} {is_good : H → Type 0} {stands : H → V → Type 
 beside a b P Q R f p q = record { good = p.good; leads = λ h u is. let x = p.leads h u is in let y = q.leads h u is in (x.0, x.1, f u x.0 y.0 x.2 y.2) }
 
 -- the body was read to its end before
-pub asked_left : {H E : Type 0} (conduct : Conduct H) (a b : H) (request : Request) (result : Result Reply E) (left : Option (List ℕ)) → IsAtEnd left → IsHandled conduct a request result (Some []) b → IsHandled conduct a request result left b
+pub asked_left : {H E : Type 0} (conduct : Conduct H) (a b : H) (request : Request) (result : Result HttpReply E) (left : Option (List ℕ)) → IsAtEnd left → IsHandled conduct a request result (Some []) b → IsHandled conduct a request result left b
 asked_left conduct a b request (Ok reply) left end is = is
 asked_left conduct a b request (Err e) left end (inl stands) = inl stands
 asked_left conduct a b request (Err e) left end (inr (at, leaves)) = inr (end, leaves)

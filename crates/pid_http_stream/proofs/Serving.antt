@@ -10,7 +10,7 @@ use Rattle.pid_http_stream.specs.Steps.Intakes.{ComesIn}
 use Rattle.pid_http_stream.specs.Leftovers.{IsLeftover}
 use Rattle.pid_http_stream.specs.Replies.{Answer, reply_bytes}
 use Rattle.pid_http_stream.specs.Requests.{Request, IsRequest}
-use Rattle.pid_http_stream.specs.Serving.{saturated, Outside, RestsBehind, AnswersAll, AnswersFront, AnswersThen, ReadsThen, RefusalNext, IsCutInReply, IsCutNext, RunsOut, WaitsOver, IsServed}
+use Rattle.pid_http_stream.specs.Serving.{saturated, Outside, RestsAfter, AnswersAll, AnswersFront, AnswersThen, ReadsThen, RefusalNext, IsCutInReply, IsCutNext, RunsOut, WaitsOver, IsServed}
 use Rattle.pid_http_stream.specs.Steps.Loop.{count_with, IsReplied, WritesRefusal, EndsWithin, Steps, stop_end}
 use Rattle.pid_http_stream.specs.Streams.{closes, Ending, clean, closed, faulty, EndsStream, Fronts, Splits}
 use Rattle.pid_http_stream.specs.Unfinished.{IsUnfinished}
@@ -141,7 +141,7 @@ front_of conduct o stream left held more count s e =
     subst (λ (l : List ℕ). AnswersFront conduct o l (held ++ more) count) (sym (subst (λ (k : Option (List ℕ)). Consumes (Some stream) k s.read) e s.consumed)) (front_append conduct o s.read held more count s.before)
 
 all_answered : {H : Type 0} (conduct : Conduct H) (a b c : H) (t u v : Option (List ℕ)) (stream rest : List ℕ) (ending : Ending) (tail : List ℕ) (count : ℕ)
-    → (f : AnswersFront conduct (record { handler = a; handler_after = b; taken = t; taken_after = u }) stream rest count) → EndsStream rest ending → RestsBehind conduct ending (Fronts stream f.requests) b c → Appends u v tail
+    → (f : AnswersFront conduct (record { handler = a; handler_after = b; taken = t; taken_after = u }) stream rest count) → EndsStream rest ending → RestsAfter conduct ending (Fronts stream f.requests) b c → Appends u v tail
     → AnswersAll conduct (record { handler = a; handler_after = c; taken = t; taken_after = v }) stream ending tail count
 all_answered conduct a b c t u v stream rest ending tail count f ends rests written = record {
   requests = f.requests;
@@ -180,7 +180,7 @@ answered_closed conduct a b c t u v stream came behind more all count f r = reco
   counts = count_snoc f.requests r.request count (saturated (count + 1)) f.counts refl;
 }
 
-rests_same : {H : Type 0} (conduct : Conduct H) (fault : StreamFault) (IsRest : List ℕ → Type 0) (rest : List ℕ) → IsRest rest → (a : H) → RestsBehind conduct (faulty fault) IsRest a a
+rests_same : {H : Type 0} (conduct : Conduct H) (fault : StreamFault) (IsRest : List ℕ → Type 0) (rest : List ℕ) → IsRest rest → (a : H) → RestsAfter conduct (faulty fault) IsRest a a
 rests_same conduct BadHead IsRest rest is a = refl
 rests_same conduct Encoding IsRest rest is a = refl
 rests_same conduct BodyTooLong IsRest rest is a = refl

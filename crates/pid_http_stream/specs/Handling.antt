@@ -6,7 +6,7 @@ use Rattle.pid_http_stream.specs.Replies.{answer_with}
 use Rattle.pid_http_stream.specs.Requests.{Request}
 use Rattle.pid_http_stream.specs.Serving.{WritesFront}
 use Rattle.pid_http_stream.specs.declared.reply_head.ReplyHead.{ReplyHead}
-use Rattle.pid_http_stream.specs.declared.handler.Reply.{Reply}
+use Rattle.pid_http_stream.specs.declared.handler.HttpReply.{HttpReply}
 use Rattle.pid_http_stream.specs.declared.handler.ReplyBody.{ReplyBody}
 use Rattle.pid_http_stream.specs.declared.handler.ReplyBody.TheVariants.{Bytes, Written}
 
@@ -17,12 +17,12 @@ IsBodyFor conduct a request head (Bytes body) b = conduct.answers a request
 IsBodyFor conduct a request head (Written told) b = conduct.promises a request head told b
 
 -- the handler may reply so
-abbrev pub MayReply : {H : Type 0} → Conduct H → H → Request → Reply → H → Type 0
+abbrev pub MayReply : {H : Type 0} → Conduct H → H → Request → HttpReply → H → Type 0
 MayReply conduct a request reply b = IsBodyFor conduct a request reply.head reply.body b
 
 -- a reply was made; or the request was given up, or its body came whole and memory ran out. left:
 -- what is left of its body
-abbrev pub IsHandled : {H E : Type 0} → Conduct H → H → Request → Result Reply E
+abbrev pub IsHandled : {H E : Type 0} → Conduct H → H → Request → Result HttpReply E
     → Option (List ℕ) → H → Type 0
 IsHandled conduct a request result left b =
     MatchResult result (λ reply. MayReply conduct a request reply b)

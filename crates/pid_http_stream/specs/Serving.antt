@@ -40,10 +40,10 @@ WritesFront old new bytes = (n : ℕ) × (n ≤ length bytes) × Appends old new
 
 -- After the last request the handler is as it was. Only if a body is short may it have been asked,
 -- for the request with which the rest begins; this says which bytes are the rest.
-abbrev pub RestsBehind : {H : Type 0} → Conduct H → Ending → (List ℕ → Type 0) → H → H → Type 0
-RestsBehind conduct (faulty BodyShort) IsRest a b = (rest : List ℕ) × IsRest rest
+abbrev pub RestsAfter : {H : Type 0} → Conduct H → Ending → (List ℕ → Type 0) → H → H → Type 0
+RestsAfter conduct (faulty BodyShort) IsRest a b = (rest : List ℕ) × IsRest rest
     × StandsOver conduct a rest b
-RestsBehind conduct ending IsRest a b = a ≡ b
+RestsAfter conduct ending IsRest a b = a ≡ b
 
 -- the whole stream was answered, and then this was written
 pub record AnswersAll {H : Type 0} (conduct : Conduct H) (o : Outside H) (stream : List ℕ)
@@ -53,7 +53,7 @@ pub record AnswersAll {H : Type 0} (conduct : Conduct H) (o : Outside H) (stream
   pub last : H
   pub splits : Splits stream requests ending
   pub answered : AreReplies conduct o.handler requests replies last
-  pub rests : RestsBehind conduct ending (Fronts stream requests) last o.handler_after
+  pub rests : RestsAfter conduct ending (Fronts stream requests) last o.handler_after
   pub written : Appends o.taken o.taken_after (replies ++ tail)
   pub counts : count ≡ saturated (length requests)
 
@@ -98,7 +98,7 @@ pub data IsWrittenNext {H : Type 0} (conduct : Conduct H) (a : H) (rest bytes : 
   -- the refusal of the rest
   RefusalNext : (fault : StreamFault) → HasFault rest fault
       → bytes ≡ reply_bytes (fault_answer fault) true
-      → RestsBehind conduct (faulty fault) (λ r. r ≡ rest) a b → IsWrittenNext conduct a rest bytes b
+      → RestsAfter conduct (faulty fault) (λ r. r ≡ rest) a b → IsWrittenNext conduct a rest bytes b
 
 -- a prefix of that was written
 abbrev pub IsCutInReply : {H : Type 0} → Conduct H → List ℕ → Outside H → Type 0

@@ -33,7 +33,7 @@ pub enum ReplyBody {
 
 /// A reply.
 #[derive(Drop)]
-pub struct Reply {
+pub struct HttpReply {
     pub head: ReplyHead,
     pub body: ReplyBody,
 }
@@ -107,7 +107,7 @@ pub trait Handler {
         question: Self::Question,
         head: &Head<'_>,
         body: &[u8],
-    ) -> Result<Reply, NoReply>
+    ) -> Result<HttpReply, NoReply>
         ensures becomes { becomes self.old self.new }
         ensures answered { Leads is_good stands self.old self.new
             (λ v w. (request : Request) → IsHeadOf head.now request.head
@@ -121,7 +121,7 @@ pub trait Handler {
         upload: Self::Upload,
         head: &Head<'_>,
         body: &mut B,
-    ) -> Result<Reply, NoReply>
+    ) -> Result<HttpReply, NoReply>
         ensures goes { B.goes body.old body.new }
         ensures whole { IfOk result (λ _. IsAtEnd (B.to_come body.new)) }
         ensures becomes { becomes self.old self.new }

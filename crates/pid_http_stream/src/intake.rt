@@ -94,7 +94,7 @@ fn filled_by(fault: BodyFault) -> Filled
 
 // Reads once, and keeps what came. Room is made first, so that nothing is read that can't be kept;
 // and nothing is read while a whole request is held, or what is refused.
-fn fill<I: Incoming<W>, W: Output>(
+fn read_more<I: Incoming<W>, W: Output>(
     held: &mut Vec<u8>,
     turns_left: &mut u64,
     input: &mut I,
@@ -195,7 +195,7 @@ pub(crate) fn read_head<I: Incoming<W>, W: Output>(
             },
         }
         let before = held.len();
-        match fill(held, turns_left, input, output) {
+        match read_more(held, turns_left, input, output) {
             Filled::Stopped(stop) => return HeadRead::Stopped(stop),
             Filled::End => return judge_end(held),
             Filled::Piece => {

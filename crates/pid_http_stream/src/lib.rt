@@ -30,7 +30,7 @@ mod stream;
 mod turn;
 
 pub use fields::{count_named, first_named};
-pub use handler::{BodyStop, Handler, NoReply, Reply, ReplyBody, Wanted};
+pub use handler::{BodyStop, Handler, HttpReply, NoReply, ReplyBody, Wanted};
 pub use head::Head;
 pub use limits::LONGEST_BODY;
 pub use pid_ident::Incoming;

@@ -33,7 +33,7 @@ ghost use Rattle.pid_http_stream.specs.Steps.Loop.{
 };
 
 use crate::body_input::{BodyFault, BodyInput};
-use crate::handler::{Handler, NoReply, Reply, Wanted};
+use crate::handler::{Handler, HttpReply, NoReply, Wanted};
 use crate::head::Head;
 use crate::limits::READ_SIZE;
 use pid_ident::{Incoming, Input, Output};
@@ -42,7 +42,7 @@ use std::alloc::Global;
 /// What came of asking the handler.
 #[derive(Drop)]
 pub(crate) enum Asked {
-    Reply(Reply),
+    Reply(HttpReply),
     /// No reply: memory was refused.
     NoMemory,
     /// The body did not come whole.
@@ -101,7 +101,7 @@ fn ask<H: Handler, B: Input>(
     head: &Head<'_>,
     content_length: usize,
     body: &mut B,
-) -> Result<Reply, NoReply>
+) -> Result<HttpReply, NoReply>
     ensures goes { B.goes body.old body.new }
     ensures whole { IfOk result (λ _. IsAtEnd (B.to_come body.new)) }
     ensures becomes { H.becomes handler.old handler.new }
@@ -132,7 +132,7 @@ fn came_with<'b>(head: &Head<'b>, content_length: usize) -> &'b [u8]
 }
 
 // What came of it: the body is whole if none of it is wanted any more.
-fn asked_of(reply: Result<Reply, NoReply>, wanted: usize, fault: Option<BodyFault>) -> Asked
+fn asked_of(reply: Result<HttpReply, NoReply>, wanted: usize, fault: Option<BodyFault>) -> Asked
     ensures { result ≡ asked_so reply wanted fault }
 {
     if wanted == 0 {

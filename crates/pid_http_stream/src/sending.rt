@@ -6,7 +6,7 @@ ghost use Rattle.pid_http_stream.specs.Requests.{Request};
 ghost use Rattle.pid_http_stream.specs.Serving.{outside};
 ghost use Rattle.pid_http_stream.specs.Steps.Loop.{IsSent, SendStops, SendsText, replied};
 
-use crate::handler::{BodyStop, Handler, Reply, ReplyBody};
+use crate::handler::{BodyStop, Handler, HttpReply, ReplyBody};
 use crate::reply::write_reply;
 use crate::reply_head::ReplyHead;
 use pid_ident::Output;
@@ -62,7 +62,7 @@ fn send_written<H: Handler, W: Output>(
 /// Writes a reply, with a body that is there or that the handler writes.
 pub(crate) fn send<H: Handler, W: Output>(
     handler: &mut H,
-    reply: Reply,
+    reply: HttpReply,
     closes: bool,
     out: &mut W,
 ) -> Result<(), BodyStop>
@@ -74,7 +74,7 @@ pub(crate) fn send<H: Handler, W: Output>(
         (replied request closes) result) }
     ensures stops { SendStops result (W.write_fault out.new) (H.cannot_go_on handler.new) }
 {
-    let Reply { head, body } = reply;
+    let HttpReply { head, body } = reply;
     match body {
         ReplyBody::Bytes(bytes) => send_bytes(head, &bytes, closes, out),
         ReplyBody::Written(length) => send_written(handler, head, length, closes, out),

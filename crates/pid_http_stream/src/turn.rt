@@ -23,7 +23,7 @@ pub(crate) fn read_turn<I: Incoming<W>, W: Output>(
         return Err(BodyFault::TurnsSpent);
     }
     *turns_left -= 1;
-    match input.read_behind(output, buffer) {
+    match input.read_after(output, buffer) {
         Err(_) => Err(BodyFault::ReadFault),
         Ok(0) => Err(BodyFault::Short),
         Ok(count) => Ok(count),

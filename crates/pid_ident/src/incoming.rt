@@ -43,7 +43,7 @@ pub trait Incoming<W: Output> {
     ghost moments: { Self → Option (List Moment) } = { λ _. None };
 
     /// Reads some bytes, after what the writer has taken. None into a buffer with room is the end.
-    fn read_behind(&mut self, output: &W, buffer: &mut [u8]) -> Result<usize, ReadFault>
+    fn read_after(&mut self, output: &W, buffer: &mut [u8]) -> Result<usize, ReadFault>
         ensures room { IfOk result (λ n. n ≤ length buffer.new) }
         ensures bytes { ReadConsumes (to_come self.old) (to_come self.new) result buffer.new }
         ensures fault { MatchResult result (λ _. read_fault self.new ≡ None)
@@ -74,7 +74,7 @@ impl<I: Input, W: Output> Incoming<W> for I {
 
     ghost joins = { λ a b c p q. I.joins a b c p q };
 
-    fn read_behind(&mut self, _output: &W, buffer: &mut [u8]) -> Result<usize, ReadFault> {
+    fn read_after(&mut self, _output: &W, buffer: &mut [u8]) -> Result<usize, ReadFault> {
         self.read(buffer)
     }
 }

@@ -66,8 +66,8 @@ module _ {R : Type 0} (w : Showing R) where
   stops_at r P h shown is = (h, h, is, is, inl shown)
 
   -- all lines were obeyed
-  pub stops_behind : (r : R) (h : History) (lines : List (List ℕ)) → w.shows r (history_after h lines) → StopsAtOne w (IsAlong h lines) r
-  stops_behind r h lines shown = stops_at r (IsAlong h lines) (history_after h lines) shown (record { before = lines; later = []; parts = sym (append-nil lines); so_far = refl })
+  pub stops_after : (r : R) (h : History) (lines : List (List ℕ)) → w.shows r (history_after h lines) → StopsAtOne w (IsAlong h lines) r
+  stops_after r h lines shown = stops_at r (IsAlong h lines) (history_after h lines) shown (record { before = lines; later = []; parts = sym (append-nil lines); so_far = refl })
 
   -- a fault came at one of them
   pub record FaultsWithin (new : R) (h : History) (lines : List (List ℕ)) : Type 0 where

@@ -4,7 +4,7 @@ use Rattle.pid_file.specs.WholeLines.{whole_lines}
 use Rattle.pid_moderation.specs.History.{History}
 use Rattle.pid_moderation.specs.Views.{revision_of}
 use Rattle.pid_script.specs.Replies.{history_after}
-use Rattle.pid_service_laws.specs.declared.moderated.Moderated.{Ghosts}
+use Rattle.pid_service_laws.specs.declared.registry_calls.RegistryCalls.{Ghosts}
 use Rattle.pid_journal.specs.declared.file.JournalFile as files
 use Rattle.pid_journal.specs.Journals.{AreSegments, lines_in}
 use Rattle.pid_journal.specs.Steps.Segments.{EndsIn}

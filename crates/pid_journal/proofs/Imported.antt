@@ -20,7 +20,7 @@ use Rattle.pid_service_laws.specs.declared.faults.ImportEnd.TheVariants as ends
 use Rattle.pid_service_laws.specs.Imports.{ObeysFile}
 use Rattle.pid_service_laws.specs.Questions.{ShowsWhileLive}
 use Rattle.pid_service_laws.specs.Registries.{CommandLeaves}
-use Rattle.pid_service_laws.specs.declared.moderated.Moderated.{Ghosts}
+use Rattle.pid_service_laws.specs.declared.registry_calls.RegistryCalls.{Ghosts}
 use Rattle.pid_journal.specs.declared.file.JournalFile as files
 use Rattle.pid_journal.specs.declared.journaled.Journaled.{Journaled}
 use Rattle.pid_journal.specs.Pairs.{PairShows, pair_is_live, pair_showing}

@@ -11,7 +11,7 @@ use Rattle.pid_moderation.specs.Revisions.{IsMarked}
 use Rattle.pid_moderation.specs.Views.{revision_of}
 use Rattle.pid_script.specs.Replies.{commands_of_lines, history_after}
 use Rattle.pid_service_laws.specs.Registries.{Showing}
-use Rattle.pid_service_laws.specs.declared.moderated.Moderated.{Ghosts}
+use Rattle.pid_service_laws.specs.declared.registry_calls.RegistryCalls.{Ghosts}
 use Rattle.pid_journal.specs.declared.file.JournalFile as files
 use Rattle.pid_journal.specs.declared.folder.JournalFolder as folders
 use Rattle.pid_journal.specs.declared.open_fault.OpenFault.{OpenFault}
@@ -21,7 +21,7 @@ use Rattle.pid_journal.specs.Steps.Ways.{IsAlong, IsInSegments, IsOnWay}
 use Rattle.pid_journal.specs.Openings.{IsRefused, StopsAtOne}
 use Rattle.pid_journal.specs.Steps.Opening.{ShowsAll}
 use Rattle.pid_journal.specs.Steps.Segments.{BeginsIn, EndsIn, EndsLast, FaultsAlong, FindsGap, FollowsAll, FollowsSegment, HasBegun, HasComeTo, HasComeToFirst, HasComeToLast, IsSameFolder, KeepsShown, LinesMayBeObeyed, NamesNew, PassesSegment, ShowsWithin, StaysQuiet, TellsRevision}
-use Rattle.pid_journal.proofs.Along.{along_all, segments_along, stops_as, stops_at, stops_behind}
+use Rattle.pid_journal.proofs.Along.{along_all, segments_along, stops_as, stops_at, stops_after}
 use Rattle.pid_journal.proofs.Appending.{history_both}
 use Rattle.pid_journal.proofs.Comparing.{last_same}
 use Rattle.pid_journal.proofs.Places.{no_lines_left, same_by_revision}
@@ -414,7 +414,7 @@ module _ {R J : Type 0} (registry : Ghosts R) (file : files.Ghosts J) where
         → registry.showing.is_clean new → folder.names f ≡ Some names → (start : History) → IsMarked start → ShowsWithin registry.showing (folder.text_in f) start names old → FaultsAlong registry file start (lines_in (folder.text_in f) names) new fault
     fault_found old mid new f names last fault is honest kept follows clean known start marked shows =
         let ends = follows (honest clean) known start marked shows in
-        (is, stops_behind registry.showing new start (lines_in (folder.text_in f) names) (kept clean _ (ends_shown (folder.text_in f) start names mid last ends)))
+        (is, stops_after registry.showing new start (lines_in (folder.text_in f) names) (kept clean _ (ends_shown (folder.text_in f) start names mid last ends)))
 
     -- a journal that goes on after the last segment
     pub found : (old mid new : R) (f g z : F) (names : List ℕ) (last : Option J) (k : J) → (registry.showing.is_clean new → registry.showing.is_clean mid) → FollowsAll registry file folder old mid f names (Ok last) → KeepsShown registry.showing mid new

@@ -8,7 +8,7 @@ use Rattle.pid_moderation.specs.Judgement.{after, answer, judge}
 use Rattle.pid_moderation.specs.Views.{views_of}
 use Rattle.pid_service_laws.specs.Outcomes.{IsMemoryOrStore, is_outcome}
 use Rattle.pid_service_laws.specs.Registries.{CommandLeaves}
-use Rattle.pid_service_laws.specs.declared.moderated.Moderated.{Ghosts}
+use Rattle.pid_service_laws.specs.declared.registry_calls.RegistryCalls.{Ghosts}
 use Rattle.pid_journal.specs.declared.file.JournalFile as files
 use Rattle.pid_journal.specs.declared.journaled.Journaled.{Journaled}
 use Rattle.pid_journal.specs.Journals.{counts_held, IsEntry, JournalLeads}

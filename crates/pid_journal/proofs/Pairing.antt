@@ -7,7 +7,7 @@ use Rattle.pid_moderation.specs.History.{Asked, History}
 use Rattle.pid_service_laws.specs.Calls.{nothing_sent, obeyed}
 use Rattle.pid_service_laws.specs.Questions.{IsAsked, ShowsWhileLive}
 use Rattle.pid_service_laws.specs.Registries.{CommandLeaves, Does}
-use Rattle.pid_service_laws.specs.declared.moderated.Moderated.{Ghosts}
+use Rattle.pid_service_laws.specs.declared.registry_calls.RegistryCalls.{Ghosts}
 use Rattle.pid_service_laws.proofs.Calling.{looked_does, obeyed_does}
 use Rattle.pid_journal.specs.declared.file.JournalFile as files
 use Rattle.pid_journal.specs.declared.journaled.Journaled.{Journaled}

@@ -1,7 +1,7 @@
 -- Where in a journal a registry stands: the revision says it.
 use Rattle.std.proofs.Common.{◌≡◌, ◌⊎◌, inl, inr, ℕ, ◌+◌, ◌<◌, ◌≤◌, Bool, true, false, cond, List, [], ◌∷◌, ◌++◌, map, Option, Some, None, Result, Ok, Err, refl, sym, ap, subst, ◌∙◌, arith, append_assoc}
 use Rattle.std.specs.Prelude.{IfSome, MatchResult, is_some, ◌||◌}
-use Rattle.pid_file.proofs.Cuts.{ended_line, open_behind}
+use Rattle.pid_file.proofs.Cuts.{ended_line, open_after}
 use Rattle.pid_file.specs.Lines.{drop_cr}
 use Rattle.pid_file.specs.WholeLines.{ended_pieces, whole_lines}
 use Rattle.pid_moderation.proofs.RevisionLemmas.{counted, grows, marked_stays}
@@ -252,7 +252,7 @@ pub end_more : (text rest line behind : List ℕ) → IsEndOf text rest → rest
 end_more text rest line behind end parts one = record {
   front = end.front ++ (line ++ 10 ∷ []);
   parts = end.parts ∙ ap (λ (l : List ℕ). end.front ++ l) (parts ∙ sym (append_assoc line (10 ∷ []) behind)) ∙ sym (append_assoc end.front (line ++ 10 ∷ []) behind);
-  whole = open_behind end.front line one;
+  whole = open_after end.front line one;
 }
 
 pub placed_at : (shown h : History) (place : Place) (rest line behind : List ℕ) → rest ≡ line ++ 10 ∷ behind → ended_pieces line ≡ [] → IsPlaced shown h place (whole_lines rest) → IsPlaced shown h place (drop_cr line ∷ whole_lines behind)
@@ -283,8 +283,8 @@ pub found_here : (start shown : History) (text rest : List ℕ) (place : Place) 
 found_here start shown text rest place r is = record { far = r.at.far; parts = r.at.parts; so_far = r.at.so_far ∙ is }
 
 -- it stands behind this line
-pub found_behind : (start shown : History) (text rest line behind : List ℕ) (place : Place) (r : IsReached start shown text rest place) → rest ≡ line ++ 10 ∷ behind → ended_pieces line ≡ [] → after_line r.here (drop_cr line) ≡ shown → IsAt start shown text behind
-found_behind start shown text rest line behind place r parts one is =
+pub found_after : (start shown : History) (text rest line behind : List ℕ) (place : Place) (r : IsReached start shown text rest place) → rest ≡ line ++ 10 ∷ behind → ended_pieces line ≡ [] → after_line r.here (drop_cr line) ≡ shown → IsAt start shown text behind
+found_after start shown text rest line behind place r parts one is =
     let at = at_more start r.here text rest line behind r.at parts one in
     record { far = at.far; parts = at.parts; so_far = at.so_far ∙ is }
 

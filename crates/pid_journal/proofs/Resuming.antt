@@ -8,7 +8,7 @@ use Rattle.pid_moderation.specs.Views.{revision_of}
 use Rattle.pid_moderation.specs.RegistryStatus.{RegistryStatus, status_of_registry}
 use Rattle.pid_script.specs.Replies.{history_after}
 use Rattle.pid_service_laws.specs.Registries.{Showing}
-use Rattle.pid_service_laws.specs.declared.moderated.Moderated.{Ghosts}
+use Rattle.pid_service_laws.specs.declared.registry_calls.RegistryCalls.{Ghosts}
 use Rattle.pid_journal.specs.declared.counts.Counts.{Counts}
 use Rattle.pid_journal.specs.declared.file.JournalFile as files
 use Rattle.pid_journal.specs.declared.open_fault.OpenFault.{OpenFault}

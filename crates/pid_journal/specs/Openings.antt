@@ -11,7 +11,7 @@ use Rattle.pid_script.specs.Replies.{history_after}
 use Rattle.pid_script.specs.ScriptLines.{is_idle_line}
 use Rattle.pid_service_laws.specs.CallLaws.{StaysClean}
 use Rattle.pid_service_laws.specs.Registries.{Showing}
-use Rattle.pid_service_laws.specs.declared.moderated.Moderated.{Ghosts}
+use Rattle.pid_service_laws.specs.declared.registry_calls.RegistryCalls.{Ghosts}
 use Rattle.pid_journal.specs.declared.counts.Counts.{Counts}
 use Rattle.pid_journal.specs.declared.file.JournalFile as files
 use Rattle.pid_journal.specs.declared.folder.JournalFolder as folders
@@ -43,7 +43,7 @@ abbrev pub registry_left : {R J : Type 0} → Result (Opened R J) (R × OpenFaul
 registry_left (Ok opened) = opened.registry.registry
 registry_left (Err back) = back.0
 
--- `registry` is `R.Moderated`, `folder` is `F.JournalFolder`, and `file` is that of its segments
+-- `registry` is `R.RegistryCalls`, `folder` is `F.JournalFolder`, and `file` that of its segments
 module _ {R F J : Type 0} (registry : Ghosts R) (folder : folders.Ghosts F J) (file : files.Ghosts J) where
   -- The registry shows the history of all lines. The journal goes on in the last segment, or in a new
   -- one after it, named by the revision at which it begins; it has all lines that it had, and maybe a mark.

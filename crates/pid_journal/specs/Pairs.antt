@@ -5,7 +5,7 @@ use Rattle.pid_moderation.specs.declared.command.Reply.{Reply}
 use Rattle.pid_moderation.specs.declared.refusal.Refusal.{Refusal}
 use Rattle.pid_moderation.specs.History.{Asked, History}
 use Rattle.pid_service_laws.specs.Registries.{CommandLeaves, Showing}
-use Rattle.pid_service_laws.specs.declared.moderated.Moderated.{Ghosts}
+use Rattle.pid_service_laws.specs.declared.registry_calls.RegistryCalls.{Ghosts}
 use Rattle.pid_journal.specs.declared.counts.Counts.{Counts}
 use Rattle.pid_journal.specs.declared.file.JournalFile as files
 use Rattle.pid_journal.specs.declared.journaled.Journaled.{Journaled}
@@ -16,7 +16,7 @@ use Rattle.pid_journal.specs.Journals.{IsEntry, IsNote, JournalLeads}
 abbrev pub pair_parts : {R J : Type 0} → Journaled R J → R × J × Bool
 pair_parts p = (p.registry, p.journal, p.failed)
 
--- `registry` is `R.Moderated`, and `file` is `J.JournalFile`
+-- `registry` is `R.RegistryCalls`, and `file` is `J.JournalFile`
 module _ {R J : Type 0} (registry : Ghosts R) (file : files.Ghosts J) where
   -- the registry is live, and no entry is left in the journal that could not be cut off
   abbrev pub pair_is_live : Journaled R J → Bool

@@ -42,7 +42,7 @@ use crate::placing::find_place;
 use crate::segment_text::SegmentText;
 use crate::status_counts::counts_of;
 use pid_moderation::Refusal;
-use pid_service_laws::Consulted;
+use pid_service_laws::RegistryQueries;
 use std::alloc::Global;
 
 // Cuts off so many bytes at the end of a file, which are no whole line.
@@ -62,7 +62,7 @@ fn cut_torn<J: JournalFile>(journal: &mut J, torn: usize) -> Result<(), OpenFaul
 }
 
 // Marks the last line of a file, if it is not marked yet.
-fn mark_last<R: Consulted, J: JournalFile>(
+fn mark_last<R: RegistryQueries, J: JournalFile>(
     alloc: Global,
     registry: &mut R,
     journal: &mut J,
@@ -80,7 +80,7 @@ fn mark_last<R: Consulted, J: JournalFile>(
 
 // A registry obeys the lines that are left of a segment. What is no whole line there is cut off, and
 // the end is marked.
-fn obey_rest<R: Consulted, F: JournalFolder>(
+fn obey_rest<R: RegistryQueries, F: JournalFolder>(
     alloc: Global,
     registry: &mut R,
     folder: &mut F,
@@ -113,7 +113,7 @@ fn obey_rest<R: Consulted, F: JournalFolder>(
 
 /// Opens the segment that begins at a revision, and brings a registry up to its end. What is no
 /// whole line there is cut off, and the end is marked.
-pub(crate) fn follow_segment<R: Consulted, F: JournalFolder>(
+pub(crate) fn follow_segment<R: RegistryQueries, F: JournalFolder>(
     alloc: Global,
     registry: &mut R,
     folder: &mut F,
@@ -121,8 +121,8 @@ pub(crate) fn follow_segment<R: Consulted, F: JournalFolder>(
 ) -> Result<F::Segment, OpenFault>
     ensures honest { StaysClean R.showing registry.old registry.new }
     ensures same { IsSameFolder F.JournalFolder folder.old folder.new }
-    ensures followed { FollowsSegment R.Moderated F.Segment.JournalFile F.JournalFolder registry.old
-        registry.new folder.old begin result }
+    ensures followed { FollowsSegment R.RegistryCalls F.Segment.JournalFile F.JournalFolder
+        registry.old registry.new folder.old begin result }
     ensures stays { StaysOrMoved R.showing F.JournalFolder registry.old registry.new folder.old
         folder.new result }
     ensures compared { ComparesSegment R.showing F.JournalFolder registry.old registry.new folder.old

@@ -12,7 +12,7 @@ use crate::segment_text::SegmentText;
 use pid_moderation::Refusal;
 use pid_reader::without_cr;
 use pid_script::command_in_line;
-use pid_service_laws::Moderated;
+use pid_service_laws::RegistryCalls;
 use std::alloc::Global;
 
 // A line that says no command asks nothing.
@@ -36,7 +36,11 @@ fn unless_stop(refusal: Refusal) -> Result<(), Refusal>
 }
 
 // Obeys the command of a line, if it has one. One that is refused was refused before.
-fn follow_line<R: Moderated>(alloc: Global, registry: &mut R, line: &[u8]) -> Result<(), Refusal>
+fn follow_line<R: RegistryCalls>(
+    alloc: Global,
+    registry: &mut R,
+    line: &[u8],
+) -> Result<(), Refusal>
     ensures honest { StaysClean R.showing registry.old registry.new }
     ensures obeyed { FollowsLine R.showing registry.old registry.new line.now result }
 {
@@ -52,7 +56,7 @@ fn follow_line<R: Moderated>(alloc: Global, registry: &mut R, line: &[u8]) -> Re
 
 /// Obeys the commands of the whole lines that are left of a segment. The file of the journal hears
 /// of each.
-pub fn follow<R: Moderated, F: JournalFolder>(
+pub fn follow<R: RegistryCalls, F: JournalFolder>(
     alloc: Global,
     registry: &mut R,
     folder: &mut F,

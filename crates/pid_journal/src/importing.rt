@@ -31,7 +31,7 @@ use crate::obeying::is_answering;
 use pid_file::{BUFFER, SkipEnd, next_piece};
 use pid_ident::{Account, Input, Key};
 use pid_moderation::{Act, Command, FILE_BYTES, File, Refusal, Reply};
-use pid_service_laws::Consulted;
+use pid_service_laws::RegistryQueries;
 use std::alloc::Global;
 
 // More of a file, unless memory ran out before or does now.
@@ -66,12 +66,13 @@ pub fn read_bytes<I: Input>(alloc: Global, input: &mut I) -> Result<Option<Vec<u
     Ok(kept)
 }
 
-impl<R: Consulted, J: JournalFile> Journaled<R, J> {
+impl<R: RegistryQueries, J: JournalFile> Journaled<R, J> {
     /// The refusal, or that the registry has failed.
     pub(crate) fn unless_failed(&mut self, refusal: Refusal) -> Refusal
-        ensures honest { StaysClean (pair_showing R.Moderated J.JournalFile) self.old self.new }
-        ensures told { RefusesNothing R.Moderated J.JournalFile self.old self.new refusal result }
-        ensures failed { pair_is_live R.Moderated J.JournalFile self.old ≡ false
+        ensures honest { StaysClean (pair_showing R.RegistryCalls J.JournalFile) self.old self.new }
+        ensures told { RefusesNothing R.RegistryCalls J.JournalFile self.old self.new refusal
+            result }
+        ensures failed { pair_is_live R.RegistryCalls J.JournalFile self.old ≡ false
             → (result ≡ Refusal.Failed) × (self.new ≡ self.old) }
     {
         if self.failed {
@@ -91,10 +92,10 @@ impl<R: Consulted, J: JournalFile> Journaled<R, J> {
         key: Option<Key>,
         bytes: Vec<u8>,
     ) -> Result<Reply, Refusal>
-        ensures honest { StaysClean (pair_showing R.Moderated J.JournalFile) self.old self.new }
-        ensures obeyed { ObeysAnywhere R.Moderated J.JournalFile self.old
+        ensures honest { StaysClean (pair_showing R.RegistryCalls J.JournalFile) self.old self.new }
+        ensures obeyed { ObeysAnywhere R.RegistryCalls J.JournalFile self.old
             (import_of account key (file_reading bytes.items)) result self.new }
-        ensures failed { pair_is_live R.Moderated J.JournalFile self.old ≡ false
+        ensures failed { pair_is_live R.RegistryCalls J.JournalFile self.old ≡ false
             → (result ≡ Err Refusal.Failed) × (self.new ≡ self.old) }
     {
         let file = File::new(bytes);

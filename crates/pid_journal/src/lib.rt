@@ -17,7 +17,6 @@
 
 mod catching_up;
 mod composing;
-mod consulted;
 mod counts;
 mod entry;
 mod file;
@@ -27,12 +26,13 @@ mod importing;
 mod journaled;
 pub mod laws;
 mod marking;
-mod moderated;
 mod obeying;
 mod open_fault;
 mod opened;
 mod opening;
 mod placing;
+mod registry_calls;
+mod registry_queries;
 mod sameness;
 mod segment_text;
 mod segments;

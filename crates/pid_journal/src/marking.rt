@@ -5,12 +5,16 @@ ghost use Rattle.pid_journal.specs.Steps.Segments.{KeepsShown};
 
 use crate::entry::mark_of;
 use crate::file::JournalFile;
-use pid_service_laws::Consulted;
+use pid_service_laws::RegistryQueries;
 use std::alloc::Global;
 
 /// Marks the last entry of a journal: its command has ended, and this is what the registry holds.
 /// There is no mark if the registry refuses the question, or memory runs out.
-pub fn mark_end<R: Consulted, J: JournalFile>(alloc: Global, registry: &mut R, journal: &mut J)
+pub fn mark_end<R: RegistryQueries, J: JournalFile>(
+    alloc: Global,
+    registry: &mut R,
+    journal: &mut J,
+)
     ensures honest { StaysClean R.showing registry.old registry.new }
     ensures kept { KeepsShown R.showing registry.old registry.new }
     ensures marked { MayBeMarked R.showing registry.old registry.new (J.safe journal.old)

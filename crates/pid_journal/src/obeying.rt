@@ -29,7 +29,7 @@ use crate::journaled::Journaled;
 use crate::marking::mark_end;
 use crate::unaccepted::has_no_line;
 use pid_moderation::{Command, Refusal, Reply, breaks_form};
-use pid_service_laws::Consulted;
+use pid_service_laws::RegistryQueries;
 
 // Whether an answer says that memory ran out or that the store failed.
 fn is_fault(answer: &Result<Reply, Refusal>) -> bool
@@ -50,7 +50,7 @@ fn is_failed(refusal: Refusal) -> bool
 }
 
 // Whether a registry is live: one that has failed answers nothing else.
-pub(crate) fn is_answering<R: Consulted>(registry: &mut R) -> bool
+pub(crate) fn is_answering<R: RegistryQueries>(registry: &mut R) -> bool
     ensures { IsProbed R.showing R.is_live registry.old registry.new result }
 {
     match registry.status() {
@@ -59,7 +59,7 @@ pub(crate) fn is_answering<R: Consulted>(registry: &mut R) -> bool
     }
 }
 
-impl<R: Consulted, J: JournalFile> Journaled<R, J> {
+impl<R: RegistryQueries, J: JournalFile> Journaled<R, J> {
     // Cuts off what comes after so many bytes. If that fails, the registry counts as failed.
     fn take_back(&mut self, count: u64)
         requires { IfSome (J.safe self.old.journal) (λ text. MarksAreWithin text count) }
@@ -80,10 +80,10 @@ impl<R: Consulted, J: JournalFile> Journaled<R, J> {
             → AddsEntry (J.safe self.old.journal) (J.safe self.new.journal) (asks command) result }
         ensures honest { R.showing.is_clean self.new.registry → R.showing.is_clean self.old.registry }
         ensures obeyed { R.showing.is_clean self.new.registry → (start h : History)
-            → PairShows R.Moderated J.JournalFile start self.old h
+            → PairShows R.RegistryCalls J.JournalFile start self.old h
             → IsEntry entry.now (counts_held h) (asks command)
-            → CommandLeaves (pair_showing_from R.Moderated J.JournalFile start) result self.new h
-            (asks command) }
+            → CommandLeaves (pair_showing_from R.RegistryCalls J.JournalFile start) result self.new
+            h (asks command) }
     {
         pid_service_laws::judgements_are_outcomes(); // proof only
         let count = self.journal.count();
@@ -118,10 +118,11 @@ impl<R: Consulted, J: JournalFile> Journaled<R, J> {
     /// - If a cut fails, the registry has failed, as a registry fails whose commit failed: the
     ///   command is in doubt.
     pub fn obey(&mut self, command: Command) -> Result<Reply, Refusal>
-        ensures honest { StaysClean (pair_showing R.Moderated J.JournalFile) self.old self.new }
+        ensures honest { StaysClean (pair_showing R.RegistryCalls J.JournalFile) self.old self.new }
         // It shows the history to which its journal leads.
-        ensures obeyed { ObeysAnywhere R.Moderated J.JournalFile self.old (asks command) result self.new }
-        ensures failed { pair_is_live R.Moderated J.JournalFile self.old ≡ false
+        ensures obeyed { ObeysAnywhere R.RegistryCalls J.JournalFile self.old (asks command) result
+            self.new }
+        ensures failed { pair_is_live R.RegistryCalls J.JournalFile self.old ≡ false
             → (result ≡ Err Refusal.Failed) × (self.new ≡ self.old) }
         // What its journal has stays, and the entry of the command comes to it.
         ensures added { AddsEntry (J.safe self.old.journal) (J.safe self.new.journal) (asks command) result }

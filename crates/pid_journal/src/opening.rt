@@ -19,16 +19,16 @@ use crate::journaled::Journaled;
 use crate::open_fault::OpenFault;
 use crate::opened::Opened;
 use crate::segments::{follow_all, revision_of};
-use pid_service_laws::Consulted;
+use pid_service_laws::RegistryQueries;
 use std::alloc::Global;
 
 // A new segment, which begins where a registry stands.
-fn begin_segment<R: Consulted, F: JournalFolder>(
+fn begin_segment<R: RegistryQueries, F: JournalFolder>(
     registry: &mut R,
     folder: &mut F,
 ) -> Result<F::Segment, OpenFault>
     ensures honest { StaysClean R.showing registry.old registry.new }
-    ensures begun { IfOk result (BeginsIn R.Moderated F.Segment.JournalFile F.JournalFolder
+    ensures begun { IfOk result (BeginsIn R.RegistryCalls F.Segment.JournalFile F.JournalFolder
         registry.old registry.new folder.old folder.new) }
     ensures kept { KeepsShown R.showing registry.old registry.new }
     ensures fault { IfErr result (λ fault. IsRefused fault × LinesMayBeObeyed fault) }
@@ -45,7 +45,7 @@ fn begin_segment<R: Consulted, F: JournalFolder>(
 
 // Whether a journal goes on in its last segment. One that is longer than so many bytes ends, but not
 // where the next one would have its name.
-fn goes_on<R: Consulted, J: JournalFile>(
+fn goes_on<R: RegistryQueries, J: JournalFile>(
     registry: &mut R,
     segment: &J,
     begins: &[u64],
@@ -65,7 +65,7 @@ fn goes_on<R: Consulted, J: JournalFile>(
 }
 
 // The segment in which a journal goes on after the last one that it has.
-fn segment_after<R: Consulted, F: JournalFolder>(
+fn segment_after<R: RegistryQueries, F: JournalFolder>(
     registry: &mut R,
     folder: &mut F,
     last: Option<F::Segment>,
@@ -76,7 +76,7 @@ fn segment_after<R: Consulted, F: JournalFolder>(
     ensures kept { KeepsShown R.showing registry.old registry.new }
     ensures goes { IfOk result (λ segment.
         ((last ≡ Some segment) × (F.names folder.new ≡ F.names folder.old))
-        ⊎ BeginsIn R.Moderated F.Segment.JournalFile F.JournalFolder registry.old registry.new
+        ⊎ BeginsIn R.RegistryCalls F.Segment.JournalFile F.JournalFolder registry.old registry.new
         folder.old folder.new segment) }
     ensures fault { IfErr result (λ fault. IsRefused fault × LinesMayBeObeyed fault) }
 {
@@ -92,16 +92,16 @@ fn segment_after<R: Consulted, F: JournalFolder>(
 
 // The segment in which the journal of a folder goes on, and whether there is a gap before it. The
 // registry obeys the lines that it does not have.
-fn find_segment<R: Consulted, F: JournalFolder>(
+fn find_segment<R: RegistryQueries, F: JournalFolder>(
     alloc: Global,
     registry: &mut R,
     folder: &mut F,
     longest: u64,
 ) -> Result<(F::Segment, bool), OpenFault>
     ensures honest { StaysClean R.showing registry.old registry.new }
-    ensures found { FindsJournal R.Moderated F.Segment.JournalFile F.JournalFolder registry.old
+    ensures found { FindsJournal R.RegistryCalls F.Segment.JournalFile F.JournalFolder registry.old
         registry.new folder.old folder.new result }
-    ensures gap { IfOk result (λ found. found.1 ≡ true → FindsGap R.Moderated
+    ensures gap { IfOk result (λ found. found.1 ≡ true → FindsGap R.RegistryCalls
         F.Segment.JournalFile F.JournalFolder registry.old registry.new folder.old folder.new found.0) }
     ensures stays { StaysOrMoved R.showing F.JournalFolder registry.old registry.new folder.old
         folder.new result }
@@ -143,13 +143,14 @@ fn find_segment<R: Consulted, F: JournalFolder>(
 ///   written.
 ///
 /// The registry is handed back with a fault.
-pub fn open_journal<R: Consulted, F: JournalFolder>(
+pub fn open_journal<R: RegistryQueries, F: JournalFolder>(
     alloc: Global,
     mut registry: R,
     folder: &mut F,
     longest: u64,
 ) -> Result<Opened<R, F::Segment>, (R, OpenFault)>
-    ensures { OpensJournal R.Moderated F.JournalFolder F.Segment.JournalFile registry folder.old folder.new result }
+    ensures { OpensJournal R.RegistryCalls F.JournalFolder F.Segment.JournalFile registry folder.old
+        folder.new result }
 {
     match find_segment(alloc, &mut registry, folder, longest) {
         Ok((journal, gap)) => {

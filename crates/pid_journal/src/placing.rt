@@ -16,7 +16,7 @@ use std::alloc::{AllocError, Global};
 
 /// What a line says of what was held.
 #[derive(Clone, Copy)]
-pub enum Said {
+pub enum LineCounts {
     Holds(Counts),
     /// Nothing: another comment, or an empty line.
     Nothing,
@@ -48,25 +48,25 @@ fn is_idle(line: &[u8]) -> bool
     matches!(line, [] | [b'#', ..])
 }
 
-fn said_by(alloc: Global, line: &[u8]) -> Result<Said, AllocError>
+fn said_by(alloc: Global, line: &[u8]) -> Result<LineCounts, AllocError>
     ensures { IfOk result (IsSaid line.now) }
 {
     if !is_idle(line) {
-        return Ok(Said::Other);
+        return Ok(LineCounts::Other);
     }
     match counts_said(alloc, line)? {
-        Some(counts) => Ok(Said::Holds(counts)),
-        None => Ok(Said::Nothing),
+        Some(counts) => Ok(LineCounts::Holds(counts)),
+        None => Ok(LineCounts::Nothing),
     }
 }
 
 // The place of a registry with these counts, by what the next line says.
-fn judge_line(said: Said, now: Counts, place: Place) -> Step
+fn judge_line(said: LineCounts, now: Counts, place: Place) -> Step
     ensures next { IsNextPlace said now place result }
     ensures compared { ComparesLine said now place result }
 {
     match said {
-        Said::Holds(counts) => {
+        LineCounts::Holds(counts) => {
             if counts.revision < now.revision {
                 let most = counts.revision;
                 return Step::Behind(Place { noted: true, most });
@@ -77,8 +77,8 @@ fn judge_line(said: Said, now: Counts, place: Place) -> Step
                 Step::Nowhere
             }
         }
-        Said::Nothing => Step::Behind(place),
-        Said::Other => {
+        LineCounts::Nothing => Step::Behind(place),
+        LineCounts::Other => {
             if !place.noted {
                 return Step::Nowhere;
             }

@@ -35,11 +35,11 @@ ghost use Rattle.pid_journal.specs.Steps.Segments.{
 use crate::catching_up::follow_segment;
 use crate::folder::JournalFolder;
 use crate::open_fault::OpenFault;
-use pid_service_laws::Consulted;
+use pid_service_laws::RegistryQueries;
 use std::alloc::Global;
 
 /// The revision of a registry.
-pub fn revision_of<R: Consulted>(registry: &mut R) -> Result<u64, OpenFault>
+pub fn revision_of<R: RegistryQueries>(registry: &mut R) -> Result<u64, OpenFault>
     ensures honest { StaysClean R.showing registry.old registry.new }
     ensures kept { KeepsShown R.showing registry.old registry.new }
     ensures told { TellsRevision R.showing registry.old registry.new result }
@@ -88,7 +88,7 @@ fn fault_between(fault: OpenFault) -> OpenFault
 
 // Brings a registry up to where the next segment begins, unless it is there or later already.
 // Answers whether it obeyed the segment.
-fn pass_segment<R: Consulted, F: JournalFolder>(
+fn pass_segment<R: RegistryQueries, F: JournalFolder>(
     alloc: Global,
     registry: &mut R,
     folder: &mut F,
@@ -97,8 +97,8 @@ fn pass_segment<R: Consulted, F: JournalFolder>(
 ) -> Result<bool, OpenFault>
     ensures honest { StaysClean R.showing registry.old registry.new }
     ensures same { IsSameFolder F.JournalFolder folder.old folder.new }
-    ensures passed { PassesSegment R.Moderated F.Segment.JournalFile F.JournalFolder registry.old
-        registry.new folder.old begin next result }
+    ensures passed { PassesSegment R.RegistryCalls F.Segment.JournalFile F.JournalFolder
+        registry.old registry.new folder.old begin next result }
     ensures stays { StaysOrPassed R.showing F.JournalFolder registry.old registry.new folder.old
         folder.new result }
     ensures late { SkipsLate R.showing registry.old registry.new next result }
@@ -121,7 +121,7 @@ fn pass_segment<R: Consulted, F: JournalFolder>(
 
 /// Brings a registry up to the end of the segments that begin at these revisions. Answers the last
 /// one, if there is one.
-pub(crate) fn follow_all<R: Consulted, F: JournalFolder>(
+pub(crate) fn follow_all<R: RegistryQueries, F: JournalFolder>(
     alloc: Global,
     registry: &mut R,
     folder: &mut F,
@@ -129,13 +129,13 @@ pub(crate) fn follow_all<R: Consulted, F: JournalFolder>(
 ) -> Result<Option<F::Segment>, OpenFault>
     ensures honest { StaysClean R.showing registry.old registry.new }
     ensures same { IsSameFolder F.JournalFolder folder.old folder.new }
-    ensures followed { FollowsAll R.Moderated F.Segment.JournalFile F.JournalFolder registry.old
+    ensures followed { FollowsAll R.RegistryCalls F.Segment.JournalFile F.JournalFolder registry.old
         registry.new folder.old begins.now result }
     ensures stays { StaysOrMoved R.showing F.JournalFolder registry.old registry.new folder.old
         folder.new result }
     ensures compared { ComparesAll R.showing F.JournalFolder registry.old registry.new folder.old
         begins.now result }
-    ensures come { IfErr result (λ fault. fault ≡ OpenFault.Newer → HasComeToLast R.Moderated
+    ensures come { IfErr result (λ fault. fault ≡ OpenFault.Newer → HasComeToLast R.RegistryCalls
         F.Segment.JournalFile F.JournalFolder registry.old registry.new begins.now) }
     ensures begun { IsSorted nat_cmp begins.now → MatchResult result
         (λ x. HasComeToFirst R.showing registry.old registry.new begins.now)

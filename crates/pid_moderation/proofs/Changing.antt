@@ -9,7 +9,7 @@ use Rattle.pid_moderation.specs.declared.command.Proposal.{Proposal}
 use Rattle.pid_moderation.specs.declared.command.Proposal.TheVariants.{Name, Removal}
 use Rattle.pid_moderation.specs.declared.command.Reply.{Reply}
 use Rattle.pid_moderation.specs.declared.facts.Facts.{Facts}
-use Rattle.pid_moderation.specs.declared.facts.Named.{Named}
+use Rattle.pid_moderation.specs.declared.facts.NamedSubmission.{NamedSubmission}
 use Rattle.pid_moderation.specs.History.{TooLong, Faulty, Good, Deed, Ranks, Submits, Comments, Withdraws, Approves, Rejects, Imports, Asked, Accepted, More, History, mark_of, accepted_count}
 use Rattle.pid_moderation.specs.Items.{Items, name_at, written}
 use Rattle.pid_moderation.specs.Views.{Views, Submitted, views_of, without_numbers, submission_at, submits_of, items_of, itemized, carried_out, revision_of, since_of, is_named_anew}
@@ -25,7 +25,7 @@ abbrev pub entry : Asked → Reply → Accepted
 entry c reply = record { asked = c; reply = reply }
 
 -- what is seen of a submission
-abbrev pub seen : Views → ℕ → Submitted → Named
+abbrev pub seen : Views → ℕ → Submitted → NamedSubmission
 seen v n s = record { author = s.author; path = s.path; proposal = s.proposal; state = v.state n }
 
 proposed_item : (path : List ℕ) (p : Proposal) (present : Option (List ℕ)) (items : Items) → written path p items ≡ edited path (edit_of p present) items
@@ -65,7 +65,7 @@ not_anew (Some name) = ap not (same_text name)
 same_number : (n : ℕ) (items : Items) (since : List ℕ → ℕ) (q : List ℕ) → renumbered n items items since q ≡ since q
 same_number n items since q = ap (λ b. cond b n (since q)) (not_anew (name_at q items))
 
-with_item-revision : (v : Views) (o : Option Named) (f : Facts) → (with_item_facts v o f).revision ≡ f.revision
+with_item-revision : (v : Views) (o : Option NamedSubmission) (f : Facts) → (with_item_facts v o f).revision ≡ f.revision
 with_item-revision v None f = refl
 with_item-revision v (Some s) f = refl
 

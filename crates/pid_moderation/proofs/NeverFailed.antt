@@ -7,7 +7,7 @@ use Rattle.pid_moderation.specs.declared.change.Change.{Change}
 use Rattle.pid_moderation.specs.declared.command.Reply.{Reply}
 use Rattle.pid_moderation.specs.declared.command.Reply.TheVariants.{Done}
 use Rattle.pid_moderation.specs.declared.facts.Facts.{Facts}
-use Rattle.pid_moderation.specs.declared.facts.Named.{Named}
+use Rattle.pid_moderation.specs.declared.facts.NamedSubmission.{NamedSubmission}
 use Rattle.pid_moderation.specs.declared.facts.Verdict.{Verdict}
 use Rattle.pid_moderation.specs.declared.facts.Verdict.TheVariants as verdicts
 use Rattle.pid_moderation.specs.declared.refusal.Refusal.{Refusal}
@@ -35,7 +35,7 @@ Judges check = is_judged_refusal check.1 ≡ true
 abbrev AllJudge : Checks → Type 0
 AllJudge cs = AllByRecursion Judges cs
 
-named_judge : (o : Option Named) (cs : Named → Checks) → ((s : Named) → AllJudge (cs s)) → AllJudge (if_named o cs)
+named_judge : (o : Option NamedSubmission) (cs : NamedSubmission → Checks) → ((s : NamedSubmission) → AllJudge (cs s)) → AllJudge (if_named o cs)
 named_judge None cs all = (refl, tt)
 named_judge (Some s) cs all = all s
 

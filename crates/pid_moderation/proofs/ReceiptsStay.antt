@@ -11,7 +11,7 @@ use Rattle.pid_moderation.specs.History.{TooLong, Faulty, Good, Deed, Ranks, Sub
 use Rattle.pid_moderation.specs.Items.{Items, name_at, has_name, count_new, count_renamed, count_same}
 use Rattle.pid_moderation.specs.Views.{Views, Submitted, views_of, submits_of, submitted, submission_at, items_of, kept_of, receipted}
 use Rattle.pid_moderation.specs.declared.facts.Facts.{Facts}
-use Rattle.pid_moderation.specs.declared.facts.Named.{Named}
+use Rattle.pid_moderation.specs.declared.facts.NamedSubmission.{NamedSubmission}
 use Rattle.pid_moderation.specs.FactsOfViews.{Wanted, ItemOf, wanted, facts_of, looked_at, with_file, with_item_facts, known, named, kept_in}
 use Rattle.pid_moderation.specs.CheckTables.{reply_by_facts, most_items}
 use Rattle.pid_moderation.specs.Sound.{IsRegistered, HasReceipt, HaveReceipts, IsSubmissionBy, IsOwnReply, IsReceipt}
@@ -46,7 +46,7 @@ own_receipt h account (Some key) deed reply = rw (same_text account, same_text k
 abbrev pub AllReceipted : History → Type 0
 AllReceipted h = HaveReceipts (accepted_in h) h
 
-with_item-kept : (v : Views) (o : Option Named) (f : Facts) → (with_item_facts v o f).kept ≡ f.kept
+with_item-kept : (v : Views) (o : Option NamedSubmission) (f : Facts) → (with_item_facts v o f).kept ≡ f.kept
 with_item-kept v None f = refl
 with_item-kept v (Some s) f = refl
 

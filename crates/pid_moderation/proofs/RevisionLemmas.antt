@@ -6,7 +6,7 @@ use Rattle.std.proofs.lemmas.Bool.{false_from_ne_true}
 use Rattle.std.proofs.lemmas.Slice.Eq.{bytes_eq-Decides}
 use Rattle.pid_moderation.specs.declared.command.Reply.{Reply}
 use Rattle.pid_moderation.specs.declared.facts.Facts.{Facts}
-use Rattle.pid_moderation.specs.declared.facts.Named.{Named}
+use Rattle.pid_moderation.specs.declared.facts.NamedSubmission.{NamedSubmission}
 use Rattle.pid_moderation.specs.declared.refusal.Refusal.TheVariants.{BadText, Full}
 use Rattle.pid_moderation.specs.CheckTables.{most_revision, command_checks, first_failing, is_ill_formed, reply_by_facts}
 use Rattle.pid_moderation.specs.FactsOfViews.{facts_of, known, named, with_item_facts}
@@ -95,7 +95,7 @@ same_judged last f account key (Approves n e) = refl
 same_judged last f account key (Rejects n reason) = refl
 same_judged last f account key (Imports reading) = refl
 
-same_item : (v : Views) (o : Option Named) (f : Facts) → uncounted (with_item_facts v o f) ≡ with_item_facts (without_numbers v) o (uncounted f)
+same_item : (v : Views) (o : Option NamedSubmission) (f : Facts) → uncounted (with_item_facts v o f) ≡ with_item_facts (without_numbers v) o (uncounted f)
 same_item v None f = refl
 same_item v (Some s) f = refl
 

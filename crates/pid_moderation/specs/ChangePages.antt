@@ -29,15 +29,15 @@ abbrev pub numbered_in : Views → List ℕ × List ℕ → Changed
 numbered_in v item = record { path = item.0; name = item.1; since = v.since item.0 }
 
 -- all items that are later, in the order of their paths
-abbrev pub changed_behind : ℕ → List ℕ → Views → List Changed
-changed_behind since after v = map (numbered_in v) (filter (is_later since after v) v.items)
+abbrev pub changed_after : ℕ → List ℕ → Views → List Changed
+changed_after since after v = map (numbered_in v) (filter (is_later since after v) v.items)
 
 -- the first of them, at most so many
 abbrev pub changes_in : ℕ → ℕ → List ℕ → Views → ChangePage
 changes_in most since after v = record {
   revision = v.revision;
   items = take most
-      (changed_behind since after v);
+      (changed_after since after v);
 }
 
 -- the text after which a page begins: that of a path, or the empty one, which comes before every

@@ -12,7 +12,7 @@ use Rattle.pid_moderation.specs.declared.command.Proposal.TheVariants as proposa
 use Rattle.pid_moderation.specs.declared.command.Reply.{Reply}
 use Rattle.pid_moderation.specs.declared.command.Reply.TheVariants.{Done, Numbered, Counts}
 use Rattle.pid_moderation.specs.declared.facts.Facts.{Facts}
-use Rattle.pid_moderation.specs.declared.facts.Named.{Named}
+use Rattle.pid_moderation.specs.declared.facts.NamedSubmission.{NamedSubmission}
 use Rattle.pid_moderation.specs.declared.facts.State.{State}
 use Rattle.pid_moderation.specs.declared.facts.State.TheVariants as states
 use Rattle.pid_moderation.specs.declared.facts.Verdict.{Verdict}
@@ -91,16 +91,16 @@ account_checks account f who rank =
 abbrev pub submit_checks : Facts → Checks
 submit_checks f = (nat_le most_submissions f.submissions, Full) ∷ []
 
-abbrev pub comment_checks : Facts → Named → Checks
+abbrev pub comment_checks : Facts → NamedSubmission → Checks
 comment_checks f s = (nat_le most_remarks f.remarks, Full) ∷ []
 
-abbrev pub withdraw_checks : List ℕ → Named → Checks
+abbrev pub withdraw_checks : List ℕ → NamedSubmission → Checks
 withdraw_checks account s =
     (not (bytes_eq account s.author), NotAuthor)
     ∷ (not (is_pending s.state), NotPending)
     ∷ []
 
-abbrev pub decision_checks : List ℕ → Option Rank → Named → Checks
+abbrev pub decision_checks : List ℕ → Option Rank → NamedSubmission → Checks
 decision_checks account rank s =
     (not (is_pending s.state), NotPending)
     ∷ (not (has_rank (needed_rank s.path (is_removal s.proposal)) rank), RankTooLow)
@@ -113,7 +113,7 @@ is_changed expecteds.Anything present = false
 is_changed expecteds.Absent present = is_some present
 is_changed (expecteds.Named name) present = not (has_name name present)
 
-abbrev pub item_checks : Facts → Expected → Named → Checks
+abbrev pub item_checks : Facts → Expected → NamedSubmission → Checks
 item_checks f expected s =
     (is_changed expected f.present, Changed)
     ∷ (is_so s.proposal f.present, NothingToDo)
@@ -122,12 +122,12 @@ item_checks f expected s =
     ∷ (overflows s.proposal f.present f.items, Full)
     ∷ []
 
-abbrev pub approval_checks : List ℕ → Facts → Expected → Named → Checks
+abbrev pub approval_checks : List ℕ → Facts → Expected → NamedSubmission → Checks
 approval_checks account f expected s =
     decision_checks account f.rank s ++ item_checks f expected s
 
 -- the checks of the named submission; if there is none, that is the refusal
-abbrev pub if_named : Option Named → (Named → Checks) → Checks
+abbrev pub if_named : Option NamedSubmission → (NamedSubmission → Checks) → Checks
 if_named None checks = (true, NoSubmission) ∷ []
 if_named (Some s) checks = checks s
 

@@ -6,7 +6,7 @@ use Rattle.pid_moderation.specs.declared.command.Reply.{Reply}
 use Rattle.pid_moderation.specs.declared.command.Proposal.{Proposal}
 use Rattle.pid_moderation.specs.declared.command.Proposal.TheVariants.{Name, Removal}
 use Rattle.pid_moderation.specs.declared.facts.Facts.{Facts}
-use Rattle.pid_moderation.specs.declared.facts.Named.{Named}
+use Rattle.pid_moderation.specs.declared.facts.NamedSubmission.{NamedSubmission}
 use Rattle.pid_moderation.specs.declared.facts.State.TheVariants.{Approved, Rejected, Withdrawn}
 use Rattle.pid_moderation.specs.declared.facts.Verdict.{Verdict}
 use Rattle.pid_moderation.specs.declared.facts.Verdict.TheVariants as verdicts
@@ -45,7 +45,7 @@ items_after (Add name) items = items + 1
 items_after (Rename name) items = items
 items_after Remove items = items - 1
 
-abbrev pub write_of : Facts → Named → Write
+abbrev pub write_of : Facts → NamedSubmission → Write
 write_of f s = record {
   path = s.path;
   edit = edit_of s.proposal f.present;

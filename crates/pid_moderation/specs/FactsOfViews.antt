@@ -4,7 +4,7 @@ use Rattle.std.specs.Option.{option_map}
 use Rattle.pid_file.specs.PathTexts.{path_text}
 use Rattle.pid_moderation.specs.declared.command.Reply.{Reply}
 use Rattle.pid_moderation.specs.declared.facts.Facts.{Facts}
-use Rattle.pid_moderation.specs.declared.facts.Named.{Named}
+use Rattle.pid_moderation.specs.declared.facts.NamedSubmission.{NamedSubmission}
 use Rattle.pid_moderation.specs.declared.facts.Verdict.{Verdict}
 use Rattle.pid_moderation.specs.declared.facts.Verdict.TheVariants as verdicts
 use Rattle.pid_moderation.specs.History.{Reading, TooLong, Faulty, Good, Deed, Ranks, Submits}
@@ -18,7 +18,7 @@ abbrev pub kept_in : Views → List ℕ → Option (List ℕ) → Option Reply
 kept_in v account None = None
 kept_in v account (Some key) = v.kept account key
 
-abbrev pub named : Views → ℕ → Option Named
+abbrev pub named : Views → ℕ → Option NamedSubmission
 named v n = option_map
     (λ s. record {
       author = s.author;
@@ -74,7 +74,7 @@ wanted (Rejects n reason) = SubmissionOf n
 wanted (Imports reading) = NoRows
 
 -- the item that a submission speaks of
-abbrev pub with_item_facts : Views → Option Named → Facts → Facts
+abbrev pub with_item_facts : Views → Option NamedSubmission → Facts → Facts
 with_item_facts v None f = f
 with_item_facts v (Some s) f = record f {
   named = Some s;

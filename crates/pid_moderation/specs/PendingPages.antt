@@ -17,12 +17,12 @@ abbrev pub waits_above : ℕ → ℕ × Standing → Bool
 waits_above after s = nat_lt after s.0 && is_pending s.1.state
 
 -- all of them, in the order of their numbers, which count from 1
-abbrev pub waiting_above : ℕ → Views → List (ℕ × Standing)
-waiting_above after v = filter (waits_above after) (standings_from 1 v.submits v.state)
+abbrev pub pending_above : ℕ → Views → List (ℕ × Standing)
+pending_above after v = filter (waits_above after) (standings_from 1 v.submits v.state)
 
 -- the first of them, at most so many
 abbrev pub pending_in : ℕ → ℕ → Views → List (ℕ × Standing)
-pending_in most after v = take most (waiting_above after v)
+pending_in most after v = take most (pending_above after v)
 
 -- the pending submission of a value of the code
 abbrev pub told_of : Pending → ℕ × Standing

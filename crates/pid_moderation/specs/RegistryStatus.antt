@@ -3,7 +3,7 @@ use Rattle.std.specs.Prelude.{◌≡◌, ℕ, List, [], ◌∷◌, length, is_so
 use Rattle.std.specs.List.{IsDistinct, list_any}
 use Rattle.std.specs.Str.{bytes_eq}
 use Rattle.pid_moderation.specs.History.{Deed, Ranks, History, Begins, More}
-use Rattle.pid_moderation.specs.PendingPages.{waiting_above}
+use Rattle.pid_moderation.specs.PendingPages.{pending_above}
 use Rattle.pid_moderation.specs.Views.{Views, views_of}
 use Rattle.pid_moderation.specs.declared.lists.Status.{Status}
 
@@ -31,7 +31,7 @@ abbrev pub status_in : ℕ → Views → RegistryStatus
 status_in accounts v = record {
   accounts = accounts;
   items = length v.items;
-  pending = length (waiting_above 0 v);
+  pending = length (pending_above 0 v);
   revision = v.revision;
   submissions = length v.submits;
 }

@@ -15,7 +15,7 @@ pub enum State {
 
 /// The submission that a command names.
 #[derive(Drop)]
-pub struct Named {
+pub struct NamedSubmission {
     pub author: Account,
     pub path: Path,
     pub proposal: Proposal,
@@ -53,7 +53,7 @@ pub struct Facts {
     /// How many items there are, if a submission is to be approved.
     pub items: u32,
     /// The submission with the command's number; None if there is none.
-    pub named: Option<Named>,
+    pub named: Option<NamedSubmission>,
     /// How many remarks that submission has, if one more is to be made.
     pub remarks: u32,
     /// The name at the path of the submission that is to be approved.

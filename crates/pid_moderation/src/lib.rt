@@ -19,7 +19,7 @@ mod wants;
 pub use change::{Change, Edit, Effect, Receipt, Write};
 pub use checks::{FILE_BYTES, ITEMS, REMARKS, REVISIONS, SUBMISSIONS, breaks_form};
 pub use command::{Act, Command, Expected, File, Proposal, Reply};
-pub use facts::{Facts, Named, State, Verdict};
+pub use facts::{Facts, NamedSubmission, State, Verdict};
 pub use fields::submission_number;
 pub use form::command_of;
 pub use laws::{

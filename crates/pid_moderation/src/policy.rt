@@ -70,7 +70,7 @@ use crate::checks::{
     is_named_so, is_pending, is_rank, is_removal,
 };
 use crate::command::{Act, Command, Expected, Proposal, Reply};
-use crate::facts::{Facts, Named, State, Verdict};
+use crate::facts::{Facts, NamedSubmission, State, Verdict};
 use crate::rank::{Rank, needed_rank};
 use crate::refusal::Refusal;
 use pid_ident::{Account, Name, NameText, Path, Text};
@@ -202,7 +202,7 @@ fn withdraw(facts: &Facts, account: &Account, number: u32) -> Result<(Effect, Re
 }
 
 // What a decision on a submission that is there is refused for.
-fn decision_refusal(facts: &Facts, account: &Account, named: &Named) -> Option<Refusal>
+fn decision_refusal(facts: &Facts, account: &Account, named: &NamedSubmission) -> Option<Refusal>
     ensures { result ≡ first_that_fails ((is_none facts.now.rank, Refusal.NoAccount) ∷
         decision_checks account.now facts.now.rank named.now) }
 {
@@ -217,7 +217,7 @@ fn decision_refusal(facts: &Facts, account: &Account, named: &Named) -> Option<R
 
 // What an approval is refused for: the item is not as it expects, or what it writes is not new or
 // breaks the tree.
-fn write_refusal(facts: &Facts, expected: &Expected, named: &Named) -> Option<Refusal>
+fn write_refusal(facts: &Facts, expected: &Expected, named: &NamedSubmission) -> Option<Refusal>
     ensures { result ≡ first_that_fails (item_checks facts.now expected.now named.now) }
 {
     let changed = (is_changed(expected, &facts.present), Refusal::Changed);
@@ -239,7 +239,7 @@ fn write_refusal(facts: &Facts, expected: &Expected, named: &Named) -> Option<Re
     }
 }
 
-fn write(facts: &Facts, named: &Named) -> Result<Write, AllocError>
+fn write(facts: &Facts, named: &NamedSubmission) -> Result<Write, AllocError>
     requires { one_too_many named.now.proposal facts.now.present facts.now.items ≡ false }
     ensures { IfOk result (λ w. w ≡ write_of facts.now named.now) }
 {

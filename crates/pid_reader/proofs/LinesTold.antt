@@ -3,15 +3,15 @@ use Rattle.std.proofs.Common.{◌≡◌, ℕ, ◌+◌, List, [], ◌∷◌, ◌+
 use Rattle.pid_file.specs.declared.fault_kind.LineKind.{LineKind}
 use Rattle.pid_reader.specs.declared.line_fault.LineFault.{LineFault}
 use Rattle.pid_reader.specs.declared.lines.Lines.{Lines}
-use Rattle.pid_file.specs.declared.open_levels.Said.{Said}
-use Rattle.pid_file.specs.declared.open_levels.Said.TheVariants as said
-use Rattle.pid_file.specs.declared.entry_line.Named.{Named}
+use Rattle.pid_file.specs.declared.open_levels.LineContent.{LineContent}
+use Rattle.pid_file.specs.declared.open_levels.LineContent.TheVariants as said
+use Rattle.pid_file.specs.declared.entry_line.NamedPath.{NamedPath}
 use Rattle.pid_file.specs.Lines.{lines_of, pieces_of, drop_cr}
 use Rattle.pid_file.specs.LookingBack.{Item}
 use Rattle.pid_file.specs.Numbered.{Numbered, at_line, numbered_at}
 use Rattle.pid_file.specs.Faults.{line_fault_of}
 use Rattle.pid_file.specs.OpenLevels.{IsOpenAt}
-use Rattle.pid_file.specs.Steps.OpenLevels.{Says, items_of, open_behind}
+use Rattle.pid_file.specs.Steps.OpenLevels.{Says, items_of, open_after}
 use Rattle.pid_reader.specs.LinesLeft.{as_ok, told_at, told_from, StandsAfter, HasLeft, IsAtEnd, GivesFirst}
 
 -- what is told where a line has no fault
@@ -24,11 +24,11 @@ told_stop earlier line lines k h = ap (λ o. told_at earlier line o (told_from (
 next_lines : (text piece rest line : List ℕ) → pieces_of text ≡ piece ∷ pieces_of rest → line ≡ drop_cr piece → lines_of text ≡ line ∷ lines_of rest
 next_lines text piece rest line parts is = ap (map drop_cr) parts ∙ ap (λ (l : List ℕ). l ∷ lines_of rest) (sym is)
 
-stands_on : (l m : Lines) (earlier : List (List ℕ)) (line : List ℕ) (s : Said) → StandsAfter l earlier → Says l.levels earlier line s → m.levels ≡ open_behind l.levels s → m.number ≡ l.number + 1 → StandsAfter m (line ∷ earlier)
+stands_on : (l m : Lines) (earlier : List (List ℕ)) (line : List ℕ) (s : LineContent) → StandsAfter l earlier → Says l.levels earlier line s → m.levels ≡ open_after l.levels s → m.number ≡ l.number + 1 → StandsAfter m (line ∷ earlier)
 stands_on l m earlier line s at says levels number = record { levels = rw levels says.behind; number = omega (arith, at.number, number) }
 
 -- a line that is no entry
-pub left_quiet : (l m : Lines) (items : List (Result Numbered LineFault)) (piece line : List ℕ) (s : Said) → HasLeft l items → pieces_of l.rest.now ≡ piece ∷ pieces_of m.rest.now → line ≡ drop_cr piece → ((earlier : List (List ℕ)) → IsOpenAt l.levels earlier → Says l.levels earlier line s) → items_of s ≡ [] → m.levels ≡ open_behind l.levels s → m.number ≡ l.number + 1 → HasLeft m items
+pub left_quiet : (l m : Lines) (items : List (Result Numbered LineFault)) (piece line : List ℕ) (s : LineContent) → HasLeft l items → pieces_of l.rest.now ≡ piece ∷ pieces_of m.rest.now → line ≡ drop_cr piece → ((earlier : List (List ℕ)) → IsOpenAt l.levels earlier → Says l.levels earlier line s) → items_of s ≡ [] → m.levels ≡ open_after l.levels s → m.number ≡ l.number + 1 → HasLeft m items
 left_quiet l m items piece line s left parts is says none levels number =
     let earlier = left.earlier in
     let here = says earlier left.stands.levels in
@@ -36,7 +36,7 @@ left_quiet l m items piece line s left parts is says none levels number =
     record { earlier = line ∷ earlier; stands = stands_on l m earlier line s left.stands here levels number; are = left.are ∙ step }
 
 -- an entry
-pub left_entry : (l m : Lines) (items : List (Result Numbered LineFault)) (piece line : List ℕ) (s : Said) (e : Item) (n : ℕ) → HasLeft l items → pieces_of l.rest.now ≡ piece ∷ pieces_of m.rest.now → line ≡ drop_cr piece → ((earlier : List (List ℕ)) → IsOpenAt l.levels earlier → Says l.levels earlier line s) → items_of s ≡ e ∷ [] → m.levels ≡ open_behind l.levels s → m.number ≡ l.number + 1 → n ≡ l.number + 1 → GivesFirst items (Ok (n, e)) m
+pub left_entry : (l m : Lines) (items : List (Result Numbered LineFault)) (piece line : List ℕ) (s : LineContent) (e : Item) (n : ℕ) → HasLeft l items → pieces_of l.rest.now ≡ piece ∷ pieces_of m.rest.now → line ≡ drop_cr piece → ((earlier : List (List ℕ)) → IsOpenAt l.levels earlier → Says l.levels earlier line s) → items_of s ≡ e ∷ [] → m.levels ≡ open_after l.levels s → m.number ≡ l.number + 1 → n ≡ l.number + 1 → GivesFirst items (Ok (n, e)) m
 left_entry l m items piece line s e n left parts is says one levels number n_is =
     let earlier = left.earlier in
     let here = says earlier left.stands.levels in
@@ -61,7 +61,7 @@ left_none l items left none =
     record { none = left.are ∙ same; left = record { earlier = left.earlier; stands = left.stands; are = sym same } }
 
 -- what is no entry says none
-pub no_items : (s : Said) → ((n : Named) → s ≡ said.Entry n → ⊥) → items_of s ≡ []
+pub no_items : (s : LineContent) → ((n : NamedPath) → s ≡ said.Entry n → ⊥) → items_of s ≡ []
 no_items said.Nothing h = refl
 no_items said.Unknown h = refl
 no_items (said.Block v) h = refl

@@ -100,17 +100,17 @@ last_begins (f ∷ rs) q y listing above found =
     begins q f.0 y low above.0
 
 -- which lines are open behind the items
-abbrev pub IsOpenBehind : Items → Type 0
-IsOpenBehind [] = Unit {0}
-IsOpenBehind (e ∷ rs) = IsOpen (lines_back (e ∷ rs)) e.0
+abbrev pub IsOpenAfter : Items → Type 0
+IsOpenAfter [] = Unit {0}
+IsOpenAfter (e ∷ rs) = IsOpen (lines_back (e ∷ rs)) e.0
 
-pub record IsTold (rs : Items) : Type 0 where
+pub record IsReported (rs : Items) : Type 0 where
   pub entries : entries_back (lines_back rs) ≡ rs
   pub good : AreGood (lines_back rs)
-  pub is_open : IsOpenBehind rs
+  pub is_open : IsOpenAfter rs
 
 -- where the last path begins with another one
-open_at : (rs : Items) (top rest : List ℕ) (t : ℕ) → IsTold rs → last_path rs ≡ t ∷ top ++ rest → IsOpen (lines_back rs) (t ∷ top ++ rest)
+open_at : (rs : Items) (top rest : List ℕ) (t : ℕ) → IsReported rs → last_path rs ≡ t ∷ top ++ rest → IsOpen (lines_back rs) (t ∷ top ++ rest)
 open_at [] top rest t told e = absurd cc
 open_at (f ∷ rs) top rest t told e = subst (λ (k : List ℕ). IsOpen (lines_back (f ∷ rs)) k) e told.is_open
 
@@ -118,7 +118,7 @@ open_at (f ∷ rs) top rest t told e = subst (λ (k : List ℕ). IsOpen (lines_b
 step : (rs : Items) (earlier : List (List ℕ)) (line path name : List ℕ) → entries_back earlier ≡ rs → AllByRecursion (λ f. text_cmp f.0 path ≡ Less) rs → Says earlier line path name → OneMore earlier line path name
 step rs earlier line path name same above says = one_more earlier line path name says (rw same (new_key rs path above))
 
-told_vendor : (rs : Items) (v : ℕ) (name : List ℕ) → IsNext rs (Vendor v) name → IsTold rs → IsTold ((path_text (Vendor v), name) ∷ rs)
+told_vendor : (rs : Items) (v : ℕ) (name : List ℕ) → IsNext rs (Vendor v) name → IsReported rs → IsReported ((path_text (Vendor v), name) ∷ rs)
 told_vendor rs v name next told =
     let earlier = lines_back rs in
     let w = written4 v name next.named in
@@ -130,7 +130,7 @@ told_vendor rs v name next told =
       is_open = record { under = under_head earlier _ _ _ _ name Devices row (bare w) w; below = λ h. absurd (true≢false h) };
     }
 
-told_class : (rs : Items) (c : ℕ) (name : List ℕ) → IsNext rs (Class c) name → IsTold rs → IsTold ((path_text (Class c), name) ∷ rs)
+told_class : (rs : Items) (c : ℕ) (name : List ℕ) → IsNext rs (Class c) name → IsReported rs → IsReported ((path_text (Class c), name) ∷ rs)
 told_class rs c name next told =
     let earlier = lines_back rs in
     let w = written2 c name next.named in
@@ -142,7 +142,7 @@ told_class rs c name next told =
       is_open = record { under = under_head earlier _ _ _ _ name Classes row (lettered w) w; below = λ h. absurd (true≢false h) };
     }
 
-told_device : (rs : Items) (v d : ℕ) (name : List ℕ) → IsListing rs → IsNext rs (Device v d) name → IsTold rs → IsTold ((path_text (Device v d), name) ∷ rs)
+told_device : (rs : Items) (v d : ℕ) (name : List ℕ) → IsListing rs → IsNext rs (Device v d) name → IsReported rs → IsReported ((path_text (Device v d), name) ∷ rs)
 told_device rs v d name listing next told =
     let earlier = lines_back rs in
     let w = written4 d name next.named in
@@ -156,7 +156,7 @@ told_device rs v d name listing next told =
       is_open = record { under = under_nested earlier _ _ _ Devices 1 refl (one_tab w) under; below = λ h. below_one earlier _ _ _ _ name Devices row (one_tab w) w };
     }
 
-told_subclass : (rs : Items) (c s : ℕ) (name : List ℕ) → IsListing rs → IsNext rs (Subclass c s) name → IsTold rs → IsTold ((path_text (Subclass c s), name) ∷ rs)
+told_subclass : (rs : Items) (c s : ℕ) (name : List ℕ) → IsListing rs → IsNext rs (Subclass c s) name → IsReported rs → IsReported ((path_text (Subclass c s), name) ∷ rs)
 told_subclass rs c s name listing next told =
     let earlier = lines_back rs in
     let w = written2 s name next.named in
@@ -170,7 +170,7 @@ told_subclass rs c s name listing next told =
       is_open = record { under = under_nested earlier _ _ _ Classes 1 refl (one_tab w) under; below = λ h. below_one earlier _ _ _ _ name Classes row (one_tab w) w };
     }
 
-told_subsystem : (rs : Items) (v d s e : ℕ) (name : List ℕ) → IsListing rs → IsNext rs (Subsystem v d s e) name → IsTold rs → IsTold ((path_text (Subsystem v d s e), name) ∷ rs)
+told_subsystem : (rs : Items) (v d s e : ℕ) (name : List ℕ) → IsListing rs → IsNext rs (Subsystem v d s e) name → IsReported rs → IsReported ((path_text (Subsystem v d s e), name) ∷ rs)
 told_subsystem rs v d s e name listing next told =
     let earlier = lines_back rs in
     let w = written44 s e name next.named in
@@ -186,7 +186,7 @@ told_subsystem rs v d s e name listing next told =
       is_open = record { under = under_nested earlier _ _ _ Devices 2 refl (two_tabs w) under; below = λ h. below_two earlier _ _ _ Devices (two_tabs w) below };
     }
 
-told_progif : (rs : Items) (c s p : ℕ) (name : List ℕ) → IsListing rs → IsNext rs (ProgIf c s p) name → IsTold rs → IsTold ((path_text (ProgIf c s p), name) ∷ rs)
+told_progif : (rs : Items) (c s p : ℕ) (name : List ℕ) → IsListing rs → IsNext rs (ProgIf c s p) name → IsReported rs → IsReported ((path_text (ProgIf c s p), name) ∷ rs)
 told_progif rs c s p name listing next told =
     let earlier = lines_back rs in
     let w = written2 p name next.named in
@@ -213,7 +213,7 @@ is_equal Less h = absurd (true≢false h)
 is_equal Equal h = refl
 is_equal Greater h = absurd (true≢false h)
 
-block_open : (rs : Items) (v d : ℕ) (name : List ℕ) → IsNext rs (Generic v d) name → IsTold rs → IsBlockOpen rs (cond (opens_block (last_path rs) (path_text (Generic v d))) (block_line (path_text (Generic v d)) ∷ []) [] ++ lines_back rs) (codes "PS/" ++ hex4 v)
+block_open : (rs : Items) (v d : ℕ) (name : List ℕ) → IsNext rs (Generic v d) name → IsReported rs → IsBlockOpen rs (cond (opens_block (last_path rs) (path_text (Generic v d))) (block_line (path_text (Generic v d)) ∷ []) [] ++ lines_back rs) (codes "PS/" ++ hex4 v)
 block_open rs v d name next told =
     let top = codes "PS/" ++ hex4 v in
     elim (opens_block (last_path rs) (path_text (Generic v d))) as (λ b. opens_block (last_path rs) (path_text (Generic v d)) ≡ b → IsBlockOpen rs (cond b (block_line (path_text (Generic v d)) ∷ []) [] ++ lines_back rs) top) [
@@ -226,7 +226,7 @@ block_open rs v d name next told =
           record { entries = told.entries; good = told.good; under = (open_at rs (83 ∷ 47 ∷ hex4 v) (drop 7 (last_path rs)) 80 told whole).under }
     ] refl
 
-told_generic : (rs : Items) (v d : ℕ) (name : List ℕ) → IsNext rs (Generic v d) name → IsTold rs → IsTold ((path_text (Generic v d), name) ∷ rs)
+told_generic : (rs : Items) (v d : ℕ) (name : List ℕ) → IsNext rs (Generic v d) name → IsReported rs → IsReported ((path_text (Generic v d), name) ∷ rs)
 told_generic rs v d name next told =
     let earlier = cond (opens_block (last_path rs) (path_text (Generic v d))) (block_line (path_text (Generic v d)) ∷ []) [] ++ lines_back rs in
     let block : IsBlockOpen rs earlier (codes "PS/" ++ hex4 v) = block_open rs v d name next told in
@@ -243,12 +243,12 @@ header_good : fault_of [] header ≡ None
 unfolding is_utf8 chars encode
 header_good = refl
 
-pub told : (rs : Items) → IsListing rs → IsTold rs
+pub told : (rs : Items) → IsListing rs → IsReported rs
 told [] listing = record { entries = refl; good = (header_good, tt); is_open = tt }
 told (e ∷ rs) listing =
     let next = listing.0 in
     let rest = told rs listing.1 in
-    subst (λ (k : List ℕ). IsTold ((k, e.1) ∷ rs)) (sym next.1) (elim next.0 as (λ p. IsNext rs p e.1 → IsTold ((path_text p, e.1) ∷ rs)) [
+    subst (λ (k : List ℕ). IsReported ((k, e.1) ∷ rs)) (sym next.1) (elim next.0 as (λ p. IsNext rs p e.1 → IsReported ((path_text p, e.1) ∷ rs)) [
       | Vendor v ↦ λ n. told_vendor rs v e.1 n rest
       | Device v d ↦ λ n. told_device rs v d e.1 listing.1 n rest
       | Subsystem v d s u ↦ λ n. told_subsystem rs v d s u e.1 listing.1 n rest

@@ -9,7 +9,7 @@ use Rattle.pid_file.specs.Words.{is_name}
 use Rattle.pid_file.specs.Bytes.{is_printed}
 use Rattle.pid_file.specs.Identifiers.{hex4, hex2}
 use Rattle.pid_file.specs.Lines.{pieces_of, drop_cr, lines_of}
-use Rattle.pid_file.specs.Printing.{header, item_line, block_line, opens_block, lines_behind, ended}
+use Rattle.pid_file.specs.Printing.{header, item_line, block_line, opens_block, lines_after, ended}
 use Rattle.pid_reader.proofs.Cells.{hex4_is, hex2_is}
 use Rattle.pid_reader.proofs.Written.{both_true, not_true}
 use Rattle.pid_reader.proofs.Listing.{Items}
@@ -82,11 +82,11 @@ item_lines_plain p before n rest h q =
 abbrev pub IsItem : List ℕ × List ℕ → Type 0
 IsItem e = (p : Path) × IsTextOf e.0 p × (is_name e.1 ≡ true)
 
-pub lines_plain : (es : Items) (before : List ℕ) → AllByRecursion IsItem es → AllByRecursion IsPlain (lines_behind before es)
+pub lines_plain : (es : Items) (before : List ℕ) → AllByRecursion IsItem es → AllByRecursion IsPlain (lines_after before es)
 lines_plain [] before h = tt
 lines_plain (e ∷ es) before h =
     let rest = lines_plain es e.0 h.1 in
-    subst (λ (k : List ℕ). AllByRecursion IsPlain (cond (opens_block before k) (block_line k ∷ []) [] ++ item_line (k, e.1) ∷ lines_behind e.0 es)) (sym h.0.1.same) (item_lines_plain h.0.0 before e.1 _ (name_plain e.1 (both_true _ _ h.0.2).1) rest)
+    subst (λ (k : List ℕ). AllByRecursion IsPlain (cond (opens_block before k) (block_line k ∷ []) [] ++ item_line (k, e.1) ∷ lines_after e.0 es)) (sym h.0.1.same) (item_lines_plain h.0.0 before e.1 _ (name_plain e.1 (both_true _ _ h.0.2).1) rest)
 
 plain-from_test : (l : List ℕ) → list_all (λ b. not (eqb b 10) && not (eqb b 13)) l ≡ true → IsPlain l
 plain-from_test [] h = tt

@@ -20,7 +20,7 @@ use Rattle.pid_file.specs.Lines.{lines_of}
 use Rattle.pid_file.specs.Reading.{Reads, history_of, AreGood}
 use Rattle.pid_file.specs.LookingBack.{entries_back}
 use Rattle.pid_file.specs.Trees.{TreeMap, IsTree, text_cmp}
-use Rattle.pid_file.specs.Printing.{item_line, block_line, opens_block, header, lines_behind, print}
+use Rattle.pid_file.specs.Printing.{item_line, block_line, opens_block, header, lines_after, print}
 use Rattle.pid_reader.proofs.Printed.{IsItem, lines_of-ended, lines_plain, header_plain}
 use Rattle.pid_reader.proofs.Listing.{Items, IsListing, IsNext, told, lines_back, last_path}
 
@@ -57,13 +57,13 @@ missing k [] h = refl
 missing k (f ∷ es) h = rw h.0 (missing k es h.1)
 
 -- each item is found
-found_behind : (e : List ℕ × List ℕ) (es fs : Items) → IsBelow e.0 fs → AllByRecursion (λ f. value_at text_cmp f.0 es ≡ Some f.1) fs → AllByRecursion (λ f. value_at text_cmp f.0 (e ∷ es) ≡ Some f.1) fs
-found_behind e es [] below h = tt
-found_behind e es (f ∷ fs) below h = (rw (nat_list_cmp_total.antisymm f.0 e.0 ∙ ap ordering_reverse below.0) h.0, found_behind e es fs below.1 h.1)
+found_after : (e : List ℕ × List ℕ) (es fs : Items) → IsBelow e.0 fs → AllByRecursion (λ f. value_at text_cmp f.0 es ≡ Some f.1) fs → AllByRecursion (λ f. value_at text_cmp f.0 (e ∷ es) ≡ Some f.1) fs
+found_after e es [] below h = tt
+found_after e es (f ∷ fs) below h = (rw (nat_list_cmp_total.antisymm f.0 e.0 ∙ ap ordering_reverse below.0) h.0, found_after e es fs below.1 h.1)
 
 each_found : (es : Items) → IsRising es → AllByRecursion (λ e. value_at text_cmp e.0 es ≡ Some e.1) es
 each_found [] h = tt
-each_found (e ∷ es) h = (rw (tied_itself nat_list_cmp_total e.0) refl, found_behind e es es h.0 (each_found es h.1))
+each_found (e ∷ es) h = (rw (tied_itself nat_list_cmp_total e.0) refl, found_after e es es h.0 (each_found es h.1))
 
 items_of_tree : (t : TreeMap) → IsTree t → (es : Items) → AllByRecursion (λ e. get t e.0 ≡ Some e.1) es → AllByRecursion IsItem es
 items_of_tree t tree [] h = tt
@@ -96,9 +96,9 @@ held_behind e es rs q h =
       | false ↦ λ h. h
     ] h
 
-above_behind : (e : List ℕ × List ℕ) (es rs : Items) → IsBelow e.0 es → AllByRecursion (λ g. AllByRecursion (λ f. text_cmp f.0 g.0 ≡ Less) rs) es → AllByRecursion (λ g. AllByRecursion (λ f. text_cmp f.0 g.0 ≡ Less) (e ∷ rs)) es
-above_behind e [] rs below h = tt
-above_behind e (g ∷ es) rs below h = ((below.0, h.0), above_behind e es rs below.1 h.1)
+above_after : (e : List ℕ × List ℕ) (es rs : Items) → IsBelow e.0 es → AllByRecursion (λ g. AllByRecursion (λ f. text_cmp f.0 g.0 ≡ Less) rs) es → AllByRecursion (λ g. AllByRecursion (λ f. text_cmp f.0 g.0 ≡ Less) (e ∷ rs)) es
+above_after e [] rs below h = tt
+above_after e (g ∷ es) rs below h = ((below.0, h.0), above_after e es rs below.1 h.1)
 
 -- the parent of an item that comes next
 parent_held : (t : TreeMap) (k name : List ℕ) (es rs : Items) (parent : Option Path) → IfSome parent (λ q. text_cmp (path_text q) k ≡ Less) → IfSome parent (λ q. IsSome (get t (path_text q))) → IsBelow k es → ((q : List ℕ) → IsSome (get t q) → IsSome (value_at text_cmp q ((k, name) ∷ es)) ⊎ IsSome (value_at text_cmp q rs)) → IfSome parent (λ q. IsSome (value_at text_cmp (path_text q) rs))
@@ -121,16 +121,16 @@ listing_onto t tree rs (e ∷ es) listing rising items found above held =
       above = subst (λ (k : List ℕ). AllByRecursion (λ f. text_cmp f.0 k ≡ Less) rs) same above.0;
       parent = parent_held t (path_text p) e.1 es rs (parent_of p) (parent_below p) (tree.parents p items.0.1.in_range (rw (subst (λ (k : List ℕ). get t k ≡ Some e.1) same found.0) refl)) (subst (λ (k : List ℕ). IsBelow k es) same rising.0) (subst (λ (k : List ℕ). (q : List ℕ) → IsSome (get t q) → IsSome (value_at text_cmp q ((k, e.1) ∷ es)) ⊎ IsSome (value_at text_cmp q rs)) same held);
     } in
-    listing_onto t tree (e ∷ rs) es ((p, same, next), listing) rising.1 items.1 found.1 (above_behind e es rs rising.0 above.1) (λ q s. held_behind e es rs q (held q s))
+    listing_onto t tree (e ∷ rs) es ((p, same, next), listing) rising.1 items.1 found.1 (above_after e es rs rising.0 above.1) (λ q s. held_behind e es rs q (held q s))
 
-lines_of_print : (t : TreeMap) → AllByRecursion IsItem (entries t) → lines_of (print t) ≡ header ∷ lines_behind [] (entries t)
-lines_of_print t items = lines_of-ended (header ∷ lines_behind [] (entries t)) (header_plain, lines_plain (entries t) [] items)
+lines_of_print : (t : TreeMap) → AllByRecursion IsItem (entries t) → lines_of (print t) ≡ header ∷ lines_after [] (entries t)
+lines_of_print t items = lines_of-ended (header ∷ lines_after [] (entries t)) (header_plain, lines_plain (entries t) [] items)
 
 -- lines one after another are the lines of the turned items
-turned : (es rs : Items) → reverse_aux (lines_behind (last_path rs) es) (lines_back rs) ≡ lines_back (reverse_aux es rs)
+turned : (es rs : Items) → reverse_aux (lines_after (last_path rs) es) (lines_back rs) ≡ lines_back (reverse_aux es rs)
 turned [] rs = refl
 turned (e ∷ es) rs =
-    elim (opens_block (last_path rs) e.0) as (λ b. reverse_aux (cond b (block_line e.0 ∷ []) [] ++ item_line e ∷ lines_behind e.0 es) (lines_back rs) ≡ reverse_aux (lines_behind e.0 es) (item_line e ∷ (cond b (block_line e.0 ∷ []) [] ++ lines_back rs))) [
+    elim (opens_block (last_path rs) e.0) as (λ b. reverse_aux (cond b (block_line e.0 ∷ []) [] ++ item_line e ∷ lines_after e.0 es) (lines_back rs) ≡ reverse_aux (lines_after e.0 es) (item_line e ∷ (cond b (block_line e.0 ∷ []) [] ++ lines_back rs))) [
       | true ↦ refl
       | false ↦ refl
     ]

@@ -5,7 +5,7 @@ use Rattle.std.specs.Str.{is_utf8, chars}
 use lib.Utf8.{encode}
 use Rattle.pid_file.specs.declared.fault_kind.LineKind.TheVariants.{NotUtf8, TooDeep, NoParent, BadId, NoName, Duplicate, VendorMissing}
 use Rattle.pid_file.specs.declared.refusal.ReadRefusal.TheVariants.{Line}
-use Rattle.pid_file.specs.Printing.{lines_behind}
+use Rattle.pid_file.specs.Printing.{lines_after}
 use Rattle.pid_file.specs.LookingBack.{entries_back}
 use Rattle.pid_file.specs.Reading.{history_of, refused}
 
@@ -20,16 +20,16 @@ generics_good : refused generics ≡ None
 unfolding generics is_utf8 chars encode
 generics_good = refl
 
-generics_printed : lines_behind [] ((codes "PC/1af4", codes "Red Hat") ∷ (codes "PC/8086", codes "I") ∷ (codes "PD/01", codes "Mass") ∷ (codes "PS/1af4/0001", codes "Net") ∷ (codes "PS/1af4/0002", codes "Blk") ∷ (codes "PS/1af4/1100", codes "Qemu") ∷ [])
+generics_printed : lines_after [] ((codes "PC/1af4", codes "Red Hat") ∷ (codes "PC/8086", codes "I") ∷ (codes "PD/01", codes "Mass") ∷ (codes "PS/1af4/0001", codes "Net") ∷ (codes "PS/1af4/0002", codes "Blk") ∷ (codes "PS/1af4/1100", codes "Qemu") ∷ [])
     ≡ codes "1af4  Red Hat" ∷ codes "8086  I" ∷ codes "C 01  Mass" ∷ codes "S 1af4" ∷ (9 ∷ codes "0001  Net") ∷ (9 ∷ codes "0002  Blk") ∷ (9 ∷ codes "1100  Qemu") ∷ []
 generics_printed = refl
 
 abbrev after : List ℕ → List ℕ
 after rest = codes "1af4  R" ++ 10 ∷ rest
 
-letter_behind_block : refused (after (codes "S 1af4x")) ≡ Some (Line 2 BadId)
+letter_after_block : refused (after (codes "S 1af4x")) ≡ Some (Line 2 BadId)
 unfolding is_utf8 chars encode
-letter_behind_block = refl
+letter_after_block = refl
 
 three_digits_of_block : refused (after (codes "S 1af")) ≡ Some (Line 2 BadId)
 unfolding is_utf8 chars encode
@@ -62,7 +62,7 @@ whole_good : refused whole ≡ None
 unfolding whole is_utf8 chars encode
 whole_good = refl
 
-whole_printed : lines_behind [] ((codes "PC/8086", codes "I") ∷ (codes "PC/8086/1237", codes "F") ∷ (codes "PC/8086/1237/1af41100", codes "Q") ∷ (codes "PD/01", codes "M") ∷ (codes "PD/01/01", codes "J") ∷ (codes "PD/01/01/80", codes "B") ∷ [])
+whole_printed : lines_after [] ((codes "PC/8086", codes "I") ∷ (codes "PC/8086/1237", codes "F") ∷ (codes "PC/8086/1237/1af41100", codes "Q") ∷ (codes "PD/01", codes "M") ∷ (codes "PD/01/01", codes "J") ∷ (codes "PD/01/01/80", codes "B") ∷ [])
     ≡ codes "8086  I" ∷ (9 ∷ codes "1237  F") ∷ (9 ∷ 9 ∷ codes "1af4 1100  Q") ∷ codes "C 01  M" ∷ (9 ∷ codes "01  J") ∷ (9 ∷ 9 ∷ codes "80  B") ∷ []
 whole_printed = refl
 

@@ -3,7 +3,7 @@ ghost use Rattle.std.specs.Prelude.{◌+◌, ◌<◌, ◌^◌, length, []};
 
 use crate::line_fault::LineFault;
 use crate::pieces::first_line;
-use pid_file::{Entry, OpenLevels, Said, read_line, without_cr};
+use pid_file::{Entry, LineContent, OpenLevels, read_line, without_cr};
 
 /// The entries of a text, line by line, up to the first line that has a fault of its own (a kind
 /// from NotUtf8 to BadName): that fault is the last item.
@@ -56,9 +56,9 @@ impl<'a> Iterator for Lines<'a> {
                 }
                 Ok(said) => {
                     self.rest = rest;
-                    self.levels = self.levels.behind(&said);
+                    self.levels = self.levels.after(&said);
                     self.number = line;
-                    if let Said::Entry(named) = said {
+                    if let LineContent::Entry(named) = said {
                         return Some(Ok(Entry {
                             line,
                             path: named.path,

@@ -10,12 +10,12 @@ use Rattle.pid_moderation.specs.History.{History, Asked}
 use Rattle.pid_moderation.specs.Judgement.{after_all}
 use Rattle.pid_script.specs.declared.line_end.LineEnd.{LineEnd}
 use Rattle.pid_script.specs.declared.line_end.LineEnd.TheVariants.{Stopped, WriteFault, TooLong}
-use Rattle.pid_service_laws.specs.declared.moderated.Moderated.{Ghosts}
+use Rattle.pid_service_laws.specs.declared.registry_calls.RegistryCalls.{Ghosts}
 use Rattle.pid_script.specs.Calling.{CallsSend, CallsSendEither}
 use Rattle.pid_script.specs.Replies.{line_reply, calls_for, calls_for_lines, command_of, commands_of_lines, history_after, replies}
 use Rattle.pid_script.specs.Steps.Output.{Out, out, HasSaid, SaysStop, AnswersLine}
 use Rattle.pid_script.specs.ScriptLines.{Ask, ask_of}
-use Rattle.pid_script.specs.RegistryStates.{ShowsOrHasFailed, Becomes, BecomesEither, StopsBehind}
+use Rattle.pid_script.specs.RegistryStates.{ShowsOrHasFailed, Becomes, BecomesEither, StopsAfter}
 use Rattle.pid_script.specs.StopLines.{IsBegun, StoppedBy, IsStopInPlace, IsStopText}
 use Rattle.pid_script.specs.Steps.Progress.{Answered, Ended}
 use Rattle.pid_script.specs.Scripts.{NoneTooLong, NoneCalls, AllButLast, IsNotTooLong, CallsNot, passage, AnswersLines, EndsTooLong, EndsStopped, IsTextFor, Replied, StoppedLast, FailsToWrite}
@@ -29,7 +29,7 @@ becomes_then m a b c h k l p q = record { shows = λ s. q.shows (p.shows s); fai
 either_then : {R : Type 0} (m : Ghosts R) (a b c : R) (h k l n : History) → Becomes m a h b k → BecomesEither m b k c l n → BecomesEither m a h c l n
 either_then m a b c h k l n p q = record { shows = λ s. q.shows (p.shows s); failed = λ f. q.failed (subst (λ x. m.is_live x ≡ false) (sym (p.failed f)) f) ∙ p.failed f }
 
-stops_then : {R : Type 0} (m : Ghosts R) (a b c : R) (h k : History) (commands : List Asked) → Becomes m a h b k → StopsBehind m b k c k commands → StopsBehind m a h c k commands
+stops_then : {R : Type 0} (m : Ghosts R) (a b c : R) (h k : History) (commands : List Asked) → Becomes m a h b k → StopsAfter m b k c k commands → StopsAfter m a h c k commands
 stops_then m a b c h k commands p q = record { shows = λ s. q.shows (p.shows s); failed = λ f. q.failed (subst (λ x. m.is_live x ≡ false) (sym (p.failed f)) f) ∙ p.failed f }
 
 pub stands_then : {R : Type 0} (m : Ghosts R) (a b : R) (h k : History) → Becomes m a h b k → ShowsOrHasFailed m a h → ShowsOrHasFailed m b k
@@ -209,7 +209,7 @@ either_sent m first r new lines line p q =
 -- a line stopped it, of which this part was read
 pub stopped_at : {R : Type 0} (m : Ghosts R) (h : History) (start : Option (List ℕ)) (first r new : R) (old left : Out) (text rest front : List ℕ) (lines : List (List ℕ)) (line part : List ℕ) (behind more : List (List ℕ))
     → lines_of text ≡ lines ++ line ∷ behind → text ≡ front ++ rest → lines_of front ≡ lines ++ part ∷ more → IsNotTooLong part → Answered m h start first r old lines
-    → SaysStop (IsStopInPlace m r (history_after h lines) (history_after h lines) (ask_of line)) old left → StopsBehind m r (history_after h lines) new (history_after h lines) (command_of (ask_of line)) → CallsSend m.showing r [] (calls_for (ask_of line)) new
+    → SaysStop (IsStopInPlace m r (history_after h lines) (history_after h lines) (ask_of line)) old left → StopsAfter m r (history_after h lines) new (history_after h lines) (command_of (ask_of line)) → CallsSend m.showing r [] (calls_for (ask_of line)) new
     → EndsStopped m h (passage first new start left.taken) text (Some rest)
 stopped_at m h start first r new old left text rest front lines line part behind more parts read is fits a tells leaves sends = record {
   stops = record {

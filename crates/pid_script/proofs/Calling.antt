@@ -5,7 +5,7 @@ use Rattle.pid_moderation.specs.declared.command.Reply.{Reply}
 use Rattle.pid_moderation.specs.declared.refusal.Refusal.{Refusal}
 use Rattle.pid_moderation.specs.History.{Asked}
 use Rattle.pid_service_laws.specs.Calls.{Call, nothing_sent, obeyed, sent_in}
-use Rattle.pid_service_laws.specs.Lives.{Sent, commands_in}
+use Rattle.pid_service_laws.specs.Sessions.{Sent, commands_in}
 use Rattle.pid_service_laws.specs.Outcomes.{is_outcome}
 use Rattle.pid_service_laws.specs.Registries.{Showing, CallsLead, Does}
 use Rattle.pid_script.specs.Calling.{CallsGo, CallsSend, CallsSendEither}

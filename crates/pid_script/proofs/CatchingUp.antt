@@ -7,7 +7,7 @@ use Rattle.pid_ident.specs.Moments.{Moment, AllSince}
 use Rattle.pid_ident.specs.Steps.Moments.{IsNoted}
 use Rattle.pid_ident.specs.Steps.MomentLaws.{since_none, since_then, since_so}
 use Rattle.pid_moderation.specs.History.{History}
-use Rattle.pid_service_laws.specs.declared.moderated.Moderated.{Ghosts}
+use Rattle.pid_service_laws.specs.declared.registry_calls.RegistryCalls.{Ghosts}
 use Rattle.pid_script.specs.Calling.{CallsGo}
 use Rattle.pid_script.specs.RegistryStates.{OverStanding}
 use Rattle.pid_script.specs.Scripts.{passage, IsUpToDate}

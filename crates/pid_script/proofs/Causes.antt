@@ -20,7 +20,7 @@ use Rattle.pid_moderation.specs.Writes.{tree_of}
 use Rattle.pid_moderation.specs.Faults.{IsMemoryOrStore}
 use Rattle.pid_script.specs.declared.line_end.LineEnd.{LineEnd}
 use Rattle.pid_script.specs.declared.line_end.LineEnd.TheVariants.{Stopped, WriteFault, TooLong}
-use Rattle.pid_service_laws.specs.declared.moderated.Moderated.{Ghosts}
+use Rattle.pid_service_laws.specs.declared.registry_calls.RegistryCalls.{Ghosts}
 use Rattle.pid_script.specs.Asking.{command_in_form, path_asked, other_fields, refused_or, path_checks}
 use Rattle.pid_script.specs.Replies.{is_call}
 use Rattle.pid_script.specs.Steps.Output.{Out, IsGivenRefusal, IsNothing, TellsLine, refusal_given, refusal_of_names, GoesOnAfter}

@@ -18,7 +18,7 @@ use Rattle.pid_service_laws.specs.Calls.{nothing_sent}
 use Rattle.pid_service_laws.specs.Registries.{Does}
 use Rattle.pid_script.specs.declared.line_end.LineEnd.{LineEnd}
 use Rattle.pid_script.specs.declared.line_end.LineEnd.TheVariants.{Stopped, WriteFault, TooLong}
-use Rattle.pid_service_laws.specs.declared.moderated.Moderated.{Ghosts}
+use Rattle.pid_service_laws.specs.declared.registry_calls.RegistryCalls.{Ghosts}
 use Rattle.pid_service_laws.specs.Moderating.{ExportsText, TakesWholeFront}
 use Rattle.pid_script.specs.Steps.Output.{out, IsGivenRefusal, IsGivenStop, IsNothing, TellsLine, IsReplyOrStop, GoesOnAfter, AnswersLine}
 use Rattle.pid_script.specs.ScriptLines as lines
@@ -90,12 +90,12 @@ record BegunExport (a b : Option (List ℕ)) (text : List ℕ) : Type 0 where
   pub whole : IsWholeFront text front
   pub told : Appends a b front
 
-behind_begun : {R : Type 0} (m : Ghosts R) (result : Result (Unit {0}) LineEnd) (e : Refusal) (h : History) (r new : R) (a b c d : Option (List ℕ)) (was now left : List ℕ)
+after_begun : {R : Type 0} (m : Ghosts R) (result : Result (Unit {0}) LineEnd) (e : Refusal) (h : History) (r new : R) (a b c d : Option (List ℕ)) (was now left : List ℕ)
     → Appends a b was → now ≡ [] → BegunExport b c (print (tree_of h)) → ((f : Refusal) → IsGivenRefusal (Some e) f → StoppedBy m r h lines.AsksExport f) → is_stop e ≡ true → (m.showing.shows r h → m.showing.shows new h) → (m.is_live r ≡ false → new ≡ r)
     → TellsLine result (refused_line e) (IsGivenStop (Some e)) (out c now) (out d left) → GoesOnAfter result (Some e) → (result ≡ Err TooLong → ⊥) → Does m.showing r nothing_sent new
     → AnswersLine m result lines.AsksExport h r (out a was) new (out d left)
-behind_begun m (Ok x) e h r new a b c d was now left went none begun cause stop kept failed t goes fits does = absurd (true≢false (sym stop ∙ goes))
-behind_begun m (Err Stopped) e h r new a b c d was now left went none begun cause stop kept failed t goes fits does = record {
+after_begun m (Ok x) e h r new a b c d was now left went none begun cause stop kept failed t goes fits does = absurd (true≢false (sym stop ∙ goes))
+after_begun m (Err Stopped) e h r new a b c d was now left went none begun cause stop kept failed t goes fits does = record {
   tells = record {
     text = begun.front ++ t.text;
     stop = record {
@@ -110,7 +110,7 @@ behind_begun m (Err Stopped) e h r new a b c d was now left went none begun caus
   leaves = record { stops = record { shows = λ s. inl (kept s); failed = failed }; fits = λ e. cc };
   sends = send_none m.showing r new 1 (omega arith) does;
 }
-behind_begun m (Err WriteFault) e h r new a b c d was now left went none begun cause stop kept failed t goes fits does = record {
+after_begun m (Err WriteFault) e h r new a b c d was now left went none begun cause stop kept failed t goes fits does = record {
   tells = record {
     text = begun.front ++ t.text;
     is = inr (by t.is);
@@ -129,14 +129,14 @@ behind_begun m (Err WriteFault) e h r new a b c d was now left went none begun c
       cause = cause s.refusal s.cause;
       is = ap (λ (l : List ℕ). begun.front ++ l) (s.is ∙ ap (λ (l : List ℕ). l ++ refused_line s.refusal) s.front);
     }
-behind_begun m (Err TooLong) e h r new a b c d was now left went none begun cause stop kept failed t goes fits does = absurd (fits refl)
+after_begun m (Err TooLong) e h r new a b c d was now left went none begun cause stop kept failed t goes fits does = absurd (fits refl)
 
 pub export_refused : {R : Type 0} (m : Ghosts R) (result : Result (Unit {0}) LineEnd) (e : Refusal) (h : History) (r new : R) (a b c d : Option (List ℕ)) (was now left : List ℕ)
     → Appends a b was → now ≡ [] → (m.showing.shows r h → IsMemoryOrStore e × TakesWholeFront b c (print (tree_of h))) → (m.is_live r ≡ false → (e ≡ Failed) × (new ≡ r) × (c ≡ b)) → (m.showing.shows r h → m.showing.shows new h) → ShowsOrHasFailed m r h
     → ((reply : List ℕ) → IsReplyOrStop reply (Err e) → TellsLine result reply (IsGivenStop (Some e)) (out c now) (out d left)) → GoesOnAfter result (Some e) → (result ≡ Err TooLong → ⊥) → Does m.showing r nothing_sent new
     → AnswersLine m result lines.AsksExport h r (out a was) new (out d left)
 export_refused m result e h r new a b c d was now left went none told failed kept stands sends goes fits does =
-    behind_begun m result e h r new a b c d was now left went none (by stands) cause (stops stands) kept (λ f. (failed f).1) (sends (refused_line e) (inl refl)) goes fits does
+    after_begun m result e h r new a b c d was now left went none (by stands) cause (stops stands) kept (λ f. (failed f).1) (sends (refused_line e) (inl refl)) goes fits does
   where
     by : ShowsOrHasFailed m r h → BegunExport b c (print (tree_of h))
     by (inl s) = record { front = (told s).1.front; whole = (told s).1.whole; told = (told s).1.told }

@@ -64,9 +64,9 @@ none_first : (xs ys : List Asked) → xs ++ ys ≡ [] → xs ≡ []
 none_first [] ys is = refl
 none_first (x ∷ xs) ys is = absurd cc
 
-none_behind : (xs ys : List Asked) → xs ++ ys ≡ [] → ys ≡ []
-none_behind [] ys is = is
-none_behind (x ∷ xs) ys is = absurd cc
+none_after : (xs ys : List Asked) → xs ++ ys ≡ [] → ys ≡ []
+none_after [] ys is = is
+none_after (x ∷ xs) ys is = absurd cc
 
 -- what holds of all lines holds of all but the last
 pub all_but_last : {A : Type 0} (P : A → Type 0) (lines : List A) → AllByRecursion P lines → AllButLast P lines
@@ -84,13 +84,13 @@ but_one P (x ∷ y ∷ lines) line all = (all.0, but_one P (y ∷ lines) line al
 pub quiet_lines : (lines : List (List ℕ)) → commands_of_lines lines ≡ [] → AllButLast CommandsNot lines
 quiet_lines [] none = tt
 quiet_lines (x ∷ []) none = tt
-quiet_lines (x ∷ y ∷ lines) none = (none_first (command_of (ask_of x)) (commands_of_lines (y ∷ lines)) none, quiet_lines (y ∷ lines) (none_behind (command_of (ask_of x)) (commands_of_lines (y ∷ lines)) none))
+quiet_lines (x ∷ y ∷ lines) none = (none_first (command_of (ask_of x)) (commands_of_lines (y ∷ lines)) none, quiet_lines (y ∷ lines) (none_after (command_of (ask_of x)) (commands_of_lines (y ∷ lines)) none))
 
 -- and one line more
 pub quiet_before : (lines : List (List ℕ)) (line : List ℕ) → commands_of_lines lines ≡ [] → AllButLast CommandsNot (lines ++ line ∷ [])
 quiet_before [] line none = tt
 quiet_before (x ∷ []) line none = (none_first (command_of (ask_of x)) [] none, tt)
-quiet_before (x ∷ y ∷ lines) line none = (none_first (command_of (ask_of x)) (commands_of_lines (y ∷ lines)) none, quiet_before (y ∷ lines) line (none_behind (command_of (ask_of x)) (commands_of_lines (y ∷ lines)) none))
+quiet_before (x ∷ y ∷ lines) line none = (none_first (command_of (ask_of x)) (commands_of_lines (y ∷ lines)) none, quiet_before (y ∷ lines) line (none_after (command_of (ask_of x)) (commands_of_lines (y ∷ lines)) none))
 
 pub history_waits : (h : History) (before waiting : List (List ℕ)) → commands_of_lines waiting ≡ [] → history_after h (before ++ waiting) ≡ history_after h before
 history_waits h before waiting none = history_on h before waiting ∙ ap (after_all (history_after h before)) none

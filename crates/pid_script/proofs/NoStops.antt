@@ -8,7 +8,7 @@ use Rattle.pid_moderation.specs.declared.command.Reply.{Reply}
 use Rattle.pid_moderation.specs.declared.verb.Verb.{Verb}
 use Rattle.pid_moderation.specs.declared.verb.Verb.TheVariants as verbs
 use Rattle.pid_moderation.specs.declared.facts.Facts.{Facts}
-use Rattle.pid_moderation.specs.declared.facts.Named.{Named}
+use Rattle.pid_moderation.specs.declared.facts.NamedSubmission.{NamedSubmission}
 use Rattle.pid_moderation.specs.declared.facts.Verdict.{Verdict}
 use Rattle.pid_moderation.specs.declared.facts.Verdict.TheVariants as verdicts
 use Rattle.pid_moderation.specs.CheckTables.{Checks, checks, command_checks, revision_checks, first_failing, later_checks, if_named, comment_checks, withdraw_checks, decision_checks, approval_checks, file_checks, is_ill_formed, reply_by_facts}
@@ -43,7 +43,7 @@ no_form_stops verbs.Confirm account key fields = (refl, (refl, (refl, (refl, (re
 no_form_stops verbs.Reject account key fields = (refl, (refl, (refl, (refl, (refl, tt)))))
 no_form_stops verbs.Import account key fields = (refl, (refl, (refl, (refl, tt))))
 
-named_stops : (named : Option Named) (cs : Named → Checks) → ((s : Named) → AreNoStops (cs s)) → AreNoStops (if_named named cs)
+named_stops : (named : Option NamedSubmission) (cs : NamedSubmission → Checks) → ((s : NamedSubmission) → AreNoStops (cs s)) → AreNoStops (if_named named cs)
 named_stops None cs all = (refl, tt)
 named_stops (Some s) cs all = all s
 

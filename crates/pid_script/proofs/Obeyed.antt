@@ -19,7 +19,7 @@ use Rattle.pid_service_laws.specs.Outcomes.{is_outcome}
 use Rattle.pid_service_laws.specs.Registries.{CommandLeaves, Does}
 use Rattle.pid_script.specs.declared.line_end.LineEnd.{LineEnd}
 use Rattle.pid_script.specs.declared.line_end.LineEnd.TheVariants.{Stopped, WriteFault, TooLong}
-use Rattle.pid_service_laws.specs.declared.moderated.Moderated.{Ghosts}
+use Rattle.pid_service_laws.specs.declared.registry_calls.RegistryCalls.{Ghosts}
 use Rattle.pid_script.specs.Asking.{command_in_form}
 use Rattle.pid_script.specs.Calling.{CallsSend, CallsSendEither}
 use Rattle.pid_script.specs.Replies.{calls_for, those_sent, outcome_of, is_call}

@@ -9,9 +9,9 @@ use Rattle.pid_moderation.specs.History.{History}
 use Rattle.pid_moderation.specs.ReplyLines.{refused_line}
 use Rattle.pid_script.specs.declared.line_end.LineEnd.{LineEnd}
 use Rattle.pid_script.specs.declared.line_end.LineEnd.TheVariants.{Stopped, WriteFault, TooLong}
-use Rattle.pid_service_laws.specs.declared.moderated.Moderated.{Ghosts}
+use Rattle.pid_service_laws.specs.declared.registry_calls.RegistryCalls.{Ghosts}
 use Rattle.pid_script.specs.Replies.{command_of, history_after}
-use Rattle.pid_script.specs.RegistryStates.{StopsBehind}
+use Rattle.pid_script.specs.RegistryStates.{StopsAfter}
 use Rattle.pid_script.specs.Steps.Output.{Out, out, IsGivenStop, SaysMemory, SaysStop, SaysTooLong, TellsLine, Unfit, NoMemory, AlreadyLong, AnswersLine}
 use Rattle.pid_script.specs.Steps.Progress.{Answered, Ended}
 use Rattle.pid_script.specs.ScriptLines as lines
@@ -58,7 +58,7 @@ own_says : {R : Type 0} (m : Ghosts R) (r : R) (ask : Ask) (h : History) (old le
 own_says m r ask h old left says = record { text = refused_line Memory; stop = own_stop m r ask h; told = says }
 
 -- the registry is as before, and nothing is undone
-still : {R : Type 0} (m : Ghosts R) (r : R) (h : History) (ask : Ask) → StopsBehind m r h r h (command_of ask)
+still : {R : Type 0} (m : Ghosts R) (r : R) (h : History) (ask : Ask) → StopsAfter m r h r h (command_of ask)
 still m r h ask = record { shows = λ s. inl s; failed = λ f. refl }
 
 unfit_broken : {R : Type 0} (m : Ghosts R) (bytes tail : List ℕ) (h : History) (r : R) (old left : Out) → Unfit WriteFault bytes old left → AnswersLine m (Err WriteFault) (ask_of (drop_cr (bytes ++ tail))) h r old r left

@@ -8,10 +8,10 @@ use Rattle.pid_ident.specs.Sending.{SendsFront}
 use Rattle.pid_reader.specs.Lines.{drop_cr, lines_of}
 use Rattle.pid_moderation.specs.History.{History}
 use Rattle.pid_reader.specs.WholeLines.{ended_pieces, open_part, whole_lines}
-use Rattle.pid_file.proofs.Cuts.{whole_line, open_behind, whole_same, open_longer, lines_more}
+use Rattle.pid_file.proofs.Cuts.{whole_line, open_after, whole_same, open_longer, lines_more}
 use Rattle.pid_script.specs.declared.line_end.LineEnd.{LineEnd}
 use Rattle.pid_script.specs.declared.line_end.LineEnd.TheVariants.{WriteFault}
-use Rattle.pid_service_laws.specs.declared.moderated.Moderated.{Ghosts}
+use Rattle.pid_service_laws.specs.declared.registry_calls.RegistryCalls.{Ghosts}
 use Rattle.pid_script.specs.Steps.Output.{Out, out, Unfit, AnswersLine}
 use Rattle.pid_script.specs.ScriptLines.{LONGEST, ask_of}
 use Rattle.pid_script.specs.RegistryStates.{ShowsOrHasFailed}
@@ -68,7 +68,7 @@ line_answered : {R : Type 0} (m : Ghosts R) (x : Unit {0}) (h : History) (start 
     → AnswersLine m (Ok x) (ask_of (drop_cr (kept ++ front))) (history_after h (whole_lines text)) r old new left
     → HasAnswered m h start first new left kept_next (text ++ (front ++ 10 ∷ []))
 line_answered m x h start first r new old left text front kept kept_next a no_lf none ends = record {
-  open_line = none ∙ sym (open_behind text front no_lf);
+  open_line = none ∙ sym (open_after text front no_lf);
   short = no_line kept_next none;
   answered = subst (Answered m h start first new left) (sym (whole_line text front [] no_lf ∙ ap (λ (l : List ℕ). whole_lines text ++ drop_cr (l ++ front) ∷ []) (sym a.open_line)))
       (more_answered m x h start first r new old left (whole_lines text) (drop_cr (kept ++ front)) a.answered ends);

@@ -11,7 +11,7 @@ use Rattle.pid_reader.specs.Lines.{drop_cr}
 use Rattle.pid_moderation.specs.History.{History}
 use Rattle.pid_script.specs.declared.line_end.LineEnd.{LineEnd}
 use Rattle.pid_script.specs.declared.line_end.LineEnd.TheVariants as line_ends
-use Rattle.pid_service_laws.specs.declared.moderated.Moderated.{Ghosts}
+use Rattle.pid_service_laws.specs.declared.registry_calls.RegistryCalls.{Ghosts}
 use Rattle.pid_script.specs.declared.script_end.ScriptEnd.{ScriptEnd}
 use Rattle.pid_script.specs.declared.script_end.ScriptEnd.TheVariants.{ReadFault as ReadEnd, WriteFault as WriteEnd, TurnsSpent}
 use Rattle.pid_script.specs.Steps.Progress.{HasAnswered, Ended, EndsText, script_end}

@@ -65,9 +65,9 @@ pub said_front : (a b : Out) (new : Option (List ℕ)) (x : List ℕ) → HasSai
 said_front a b new x p q = subst (SendsFront a.taken new) (sym p.rest) (front-then a.taken b.taken new p.sent b.held p.told q)
 
 -- what was held went out, and the text is sent behind it
-pub sent_behind : (r : Result (Unit {0}) LineEnd) (old mid new : Option (List ℕ)) (was now text : List ℕ) → Appends old mid was → now ≡ [] → OnOk r (Appends mid new text) → OnErr r (SendsFront mid new text) → MatchResult r (λ _. HasSaid (out old was) (out new now) text) (λ _. SaysFront (out old was) (out new now) text)
-sent_behind (Ok x) old mid new was now text went none told front = out_then old mid new was now text none went told
-sent_behind (Err e) old mid new was now text went none told front = front-then old mid new was text went front
+pub sent_after : (r : Result (Unit {0}) LineEnd) (old mid new : Option (List ℕ)) (was now text : List ℕ) → Appends old mid was → now ≡ [] → OnOk r (Appends mid new text) → OnErr r (SendsFront mid new text) → MatchResult r (λ _. HasSaid (out old was) (out new now) text) (λ _. SaysFront (out old was) (out new now) text)
+sent_after (Ok x) old mid new was now text went none told front = out_then old mid new was now text none went told
+sent_after (Err e) old mid new was now text went none told front = front-then old mid new was text went front
 
 -- one text was said, and another is
 pub said_more : (r : Result (Unit {0}) LineEnd) (a b c : Out) (x y : List ℕ) → HasSaid a b x → MatchResult r (λ _. HasSaid b c y) (λ _. SaysFront b c y) → MatchResult r (λ _. HasSaid a c (x ++ y)) (λ _. SaysFront a c (x ++ y))

@@ -72,16 +72,16 @@ never_longer (b ∷ []) = elim (eqb b 13) as (λ t. length (cond t [] (b ∷ [])
 never_longer (b ∷ c ∷ bs) = let rest = never_longer (c ∷ bs) in omega arith
 
 -- the CR of two parts is that of the second one
-pub drop_behind : (front line : List ℕ) → (line ≡ [] → ⊥) → drop_cr (front ++ line) ≡ front ++ drop_cr line
-drop_behind [] line some = refl
-drop_behind (b ∷ []) [] some = absurd (some refl)
-drop_behind (b ∷ []) (c ∷ line) some = refl
-drop_behind (b ∷ c ∷ front) line some = ap (λ (l : List ℕ). b ∷ l) (drop_behind (c ∷ front) line some)
+pub drop_after : (front line : List ℕ) → (line ≡ [] → ⊥) → drop_cr (front ++ line) ≡ front ++ drop_cr line
+drop_after [] line some = refl
+drop_after (b ∷ []) [] some = absurd (some refl)
+drop_after (b ∷ []) (c ∷ line) some = refl
+drop_after (b ∷ c ∷ front) line some = ap (λ (l : List ℕ). b ∷ l) (drop_after (c ∷ front) line some)
 
 -- a line is no shorter than what it begins with
 pub begins_shorter : (front tail : List ℕ) → length (drop_cr front) ≤ length (drop_cr (front ++ tail))
 begins_shorter front [] = subst (λ (l : List ℕ). length (drop_cr front) ≤ length (drop_cr l)) (sym (append-nil front)) (omega arith)
 begins_shorter front (b ∷ tail) =
     let n = never_longer front in
-    let all : length (drop_cr (front ++ b ∷ tail)) ≡ length front + length (drop_cr (b ∷ tail)) = ap length (drop_behind front (b ∷ tail) (λ e. absurd cc)) ∙ length-append front (drop_cr (b ∷ tail)) in
+    let all : length (drop_cr (front ++ b ∷ tail)) ≡ length front + length (drop_cr (b ∷ tail)) = ap length (drop_after front (b ∷ tail) (λ e. absurd cc)) ∙ length-append front (drop_cr (b ∷ tail)) in
     omega arith

@@ -3,7 +3,7 @@ use Rattle.std.specs.Prelude.{◌≡◌, ◌≤◌, ◌⊎◌, ℕ, List, length
 use Rattle.pid_moderation.specs.History.{Asked}
 use Rattle.pid_service_laws.specs.CallLaws.{StaysClean}
 use Rattle.pid_service_laws.specs.Calls.{Call, sent_in}
-use Rattle.pid_service_laws.specs.Lives.{commands_in}
+use Rattle.pid_service_laws.specs.Sessions.{commands_in}
 use Rattle.pid_service_laws.specs.Registries.{Showing, CallsLead}
 
 -- `seen` is how sessions see a registry

@@ -1,8 +1,8 @@
--- What calls make of a registry: `registry` is `R.Moderated`, which says what it shows.
+-- What calls make of a registry: `registry` is `R.RegistryCalls`, which says what it shows.
 use Rattle.std.specs.Prelude.{◌≡◌, ◌⊎◌, List, [], ◌∷◌, false}
 use Rattle.pid_moderation.specs.History.{Asked, History}
 use Rattle.pid_moderation.specs.Judgement.{after}
-use Rattle.pid_service_laws.specs.declared.moderated.Moderated.{Ghosts}
+use Rattle.pid_service_laws.specs.declared.registry_calls.RegistryCalls.{Ghosts}
 
 module _ {R : Type 0} (registry : Ghosts R) where
   -- it is live and shows the history, or it has failed earlier
@@ -39,7 +39,7 @@ module _ {R : Type 0} (registry : Ghosts R) where
   -- What a stop leaves: if the registry showed the one history, it now shows the other, which is
   -- the one before the line of the stop, or it has failed at the command of that line, which may
   -- have been written. If it had failed earlier, it is as before.
-  pub record StopsBehind (old : R) (h : History) (new : R) (before : History)
+  pub record StopsAfter (old : R) (h : History) (new : R) (before : History)
       (commands : List Asked) : Type 0 where
     pub shows : registry.showing.shows old h
         → registry.showing.shows new before ⊎ FailsAt new before commands

@@ -13,7 +13,7 @@ use Rattle.pid_ident.specs.Moments.{Moment}
 use Rattle.pid_reader.specs.Lines.{drop_cr, lines_of}
 use Rattle.pid_reader.specs.WholeLines.{whole_lines, open_part}
 use Rattle.pid_moderation.specs.History.{History}
-use Rattle.pid_service_laws.specs.declared.moderated.Moderated.{Ghosts}
+use Rattle.pid_service_laws.specs.declared.registry_calls.RegistryCalls.{Ghosts}
 use Rattle.pid_script.specs.declared.script_end.ScriptEnd.{ScriptEnd}
 use Rattle.pid_script.specs.declared.script_end.ScriptEnd.TheVariants.{Done, ReadFault, WriteFault}
 use Rattle.pid_script.specs.declared.script_end.ScriptEnd.TheVariants.{TooLong, Stopped}
@@ -23,7 +23,7 @@ use Rattle.pid_script.specs.ScriptLines.{LONGEST, ask_of}
 use Rattle.pid_script.specs.Calling.{CallsGo, CallsSend, CallsSendEither}
 use Rattle.pid_script.specs.Replies.{replies, command_of, calls_for_lines, commands_of_lines}
 use Rattle.pid_script.specs.Replies.{history_after, is_call}
-use Rattle.pid_script.specs.RegistryStates.{Becomes, BecomesEither, OverStanding, StopsBehind}
+use Rattle.pid_script.specs.RegistryStates.{Becomes, BecomesEither, OverStanding, StopsAfter}
 use Rattle.pid_script.specs.StopLines.{IsStopInPlace}
 
 -- the room of one read, in bytes
@@ -196,7 +196,7 @@ module _ {R : Type 0} (registry : Ghosts R) where
     pub text : List ℕ
     pub stop : IsStopInPlace registry p.old h (history_after h before) (ask_of line) text
     pub told : Appends p.taken p.taken_now (replies h before ++ text)
-    pub leaves : StopsBehind registry p.old h p.new (history_after h before)
+    pub leaves : StopsAfter registry p.old h p.new (history_after h before)
         (command_of (ask_of line))
     pub calls : CallsSend registry.showing p.old (commands_of_lines before)
         (calls_for_lines (before ++ line ∷ [])) p.new

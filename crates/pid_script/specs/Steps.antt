@@ -1,4 +1,4 @@
 -- What serves private functions alone; no promise rests on it.
-pub mod LineAsks
+pub mod LineRequests
 pub mod Progress
 pub mod Output

@@ -6,7 +6,7 @@ use Rattle.pid_moderation.specs.declared.refusal.Refusal.TheVariants.{Memory, St
 use Rattle.pid_moderation.specs.History.{History}
 use Rattle.pid_moderation.specs.ReplyLines.{refused_line}
 use Rattle.pid_moderation.specs.Writes.{tree_of}
-use Rattle.pid_service_laws.specs.declared.moderated.Moderated.{Ghosts}
+use Rattle.pid_service_laws.specs.declared.registry_calls.RegistryCalls.{Ghosts}
 use Rattle.pid_moderation.specs.Faults.{IsMemoryOrStore}
 use Rattle.pid_script.specs.Replies.{is_call}
 use Rattle.pid_script.specs.ScriptLines.{Ask, AsksNothing, AsksCommand, AsksExport, AsksName}

@@ -6,7 +6,7 @@ ghost use Rattle.pid_script.specs.Calling.{CallsGo};
 ghost use Rattle.pid_script.specs.Steps.Output.{out, AnswersOver};
 
 use crate::fields::{read_command, read_path};
-use crate::line::{LineAsk, line_asks};
+use crate::line::{LineRequest, line_request};
 use crate::line_end::LineEnd;
 use crate::lookup::read_lookup;
 use crate::output::flush;
@@ -15,11 +15,11 @@ use crate::reply::{
 };
 use pid_ident::Output;
 use pid_moderation::Verb;
-use pid_service_laws::{ExportFault, Moderated};
+use pid_service_laws::{ExportFault, RegistryCalls};
 use std::alloc::Global;
 
 // Obeys the command that a form says.
-fn obey<R: Moderated, O: Output>(
+fn obey<R: RegistryCalls, O: Output>(
     alloc: Global,
     registry: &mut R,
     output: &mut O,
@@ -29,8 +29,8 @@ fn obey<R: Moderated, O: Output>(
     form: &str,
 ) -> Result<(), LineEnd>
     ensures calls { CallsGo R.showing registry.old registry.new }
-    ensures ends { AnswersOver R.Moderated result (asks.AsksCommand verb account.now form.now) registry.old
-        (out (O.taken output.old) held.old.items) registry.new
+    ensures ends { AnswersOver R.RegistryCalls result (asks.AsksCommand verb account.now form.now)
+        registry.old (out (O.taken output.old) held.old.items) registry.new
         (out (O.taken output.new) held.new.items) }
     ensures fault { result ≡ Err LineEnd.WriteFault → IsSome (O.write_fault output.new) }
 {
@@ -44,7 +44,7 @@ fn obey<R: Moderated, O: Output>(
 }
 
 // Says the name of the path that a form says.
-fn read<R: Moderated, O: Output>(
+fn read<R: RegistryCalls, O: Output>(
     alloc: Global,
     registry: &mut R,
     output: &mut O,
@@ -52,7 +52,7 @@ fn read<R: Moderated, O: Output>(
     form: &str,
 ) -> Result<(), LineEnd>
     ensures calls { CallsGo R.showing registry.old registry.new }
-    ensures ends { AnswersOver R.Moderated result (asks.AsksName form.now) registry.old
+    ensures ends { AnswersOver R.RegistryCalls result (asks.AsksName form.now) registry.old
         (out (O.taken output.old) held.old.items) registry.new
         (out (O.taken output.new) held.new.items) }
     ensures fault { result ≡ Err LineEnd.WriteFault → IsSome (O.write_fault output.new) }
@@ -67,7 +67,7 @@ fn read<R: Moderated, O: Output>(
 }
 
 // Answers the look-up that a form says.
-fn lookup<R: Moderated, O: Output>(
+fn lookup<R: RegistryCalls, O: Output>(
     alloc: Global,
     registry: &mut R,
     output: &mut O,
@@ -75,7 +75,7 @@ fn lookup<R: Moderated, O: Output>(
     form: &str,
 ) -> Result<(), LineEnd>
     ensures calls { CallsGo R.showing registry.old registry.new }
-    ensures ends { AnswersOver R.Moderated result (asks.AsksLookup form.now) registry.old
+    ensures ends { AnswersOver R.RegistryCalls result (asks.AsksLookup form.now) registry.old
         (out (O.taken output.old) held.old.items) registry.new
         (out (O.taken output.new) held.new.items) }
     ensures fault { result ≡ Err LineEnd.WriteFault → IsSome (O.write_fault output.new) }
@@ -91,13 +91,13 @@ fn lookup<R: Moderated, O: Output>(
 }
 
 // Writes the canonical text, after what is held.
-fn export<R: Moderated, O: Output>(
+fn export<R: RegistryCalls, O: Output>(
     registry: &mut R,
     output: &mut O,
     held: &mut Vec<u8>,
 ) -> Result<(), LineEnd>
     ensures calls { CallsGo R.showing registry.old registry.new }
-    ensures ends { AnswersOver R.Moderated result asks.AsksExport registry.old
+    ensures ends { AnswersOver R.RegistryCalls result asks.AsksExport registry.old
         (out (O.taken output.old) held.old.items) registry.new
         (out (O.taken output.new) held.new.items) }
     ensures fault { result ≡ Err LineEnd.WriteFault → IsSome (O.write_fault output.new) }
@@ -113,7 +113,7 @@ fn export<R: Moderated, O: Output>(
 }
 
 /// Answers a line, whose CR is dropped.
-pub fn answer_line<R: Moderated, O: Output>(
+pub fn answer_line<R: RegistryCalls, O: Output>(
     alloc: Global,
     registry: &mut R,
     output: &mut O,
@@ -121,22 +121,22 @@ pub fn answer_line<R: Moderated, O: Output>(
     line: &[u8],
 ) -> Result<(), LineEnd>
     ensures calls { CallsGo R.showing registry.old registry.new }
-    ensures ends { AnswersOver R.Moderated result (ask_of line.now) registry.old
+    ensures ends { AnswersOver R.RegistryCalls result (ask_of line.now) registry.old
         (out (O.taken output.old) held.old.items) registry.new
         (out (O.taken output.new) held.new.items) }
     ensures fault { result ≡ Err LineEnd.WriteFault → IsSome (O.write_fault output.new) }
 {
-    match line_asks(line) {
-        LineAsk::Nothing => Ok(()),
-        LineAsk::Command {
+    match line_request(line) {
+        LineRequest::Nothing => Ok(()),
+        LineRequest::Command {
             verb,
             account,
             form,
         } => obey(alloc, registry, output, held, verb, account, form),
-        LineAsk::Export => export(registry, output, held),
-        LineAsk::Read(form) => read(alloc, registry, output, held, form),
-        LineAsk::Lookup(form) => lookup(alloc, registry, output, held, form),
-        LineAsk::Unclear => send_bad_text(output, held),
-        LineAsk::TooLong => Err(refuse_long(output, held)),
+        LineRequest::Export => export(registry, output, held),
+        LineRequest::Read(form) => read(alloc, registry, output, held, form),
+        LineRequest::Lookup(form) => lookup(alloc, registry, output, held, form),
+        LineRequest::Unclear => send_bad_text(output, held),
+        LineRequest::TooLong => Err(refuse_long(output, held)),
     }
 }

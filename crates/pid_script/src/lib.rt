@@ -15,6 +15,6 @@ mod script_end;
 
 pub use line::LONGEST_LINE;
 pub use line_command::command_in_line;
-pub use pid_service_laws::Moderated;
+pub use pid_service_laws::RegistryCalls;
 pub use script::run_script;
 pub use script_end::ScriptEnd;

@@ -5,7 +5,7 @@ ghost use Rattle.pid_script.specs.Replies.{command_of};
 ghost use Rattle.pid_script.specs.ScriptLines.{ask_of};
 
 use crate::fields::read_command;
-use crate::line::{LineAsk, line_asks};
+use crate::line::{LineRequest, line_request};
 use pid_moderation::{Command, Refusal};
 use std::alloc::Global;
 
@@ -15,17 +15,17 @@ pub fn command_in_line(alloc: Global, line: &[u8]) -> Result<Command, Refusal>
     ensures said { IfOk result (λ c. command_of (ask_of line.now) ≡ asks c ∷ []) }
     ensures none { IfErr result (λ e. e ≢ Refusal.Memory → command_of (ask_of line.now) ≡ []) }
 {
-    match line_asks(line) {
-        LineAsk::Command {
+    match line_request(line) {
+        LineRequest::Command {
             verb,
             account,
             form,
         } => read_command(alloc, verb, account, form),
-        LineAsk::Nothing => Err(Refusal::BadText),
-        LineAsk::Export => Err(Refusal::BadText),
-        LineAsk::Read(_) => Err(Refusal::BadText),
-        LineAsk::Lookup(_) => Err(Refusal::BadText),
-        LineAsk::Unclear => Err(Refusal::BadText),
-        LineAsk::TooLong => Err(Refusal::BadText),
+        LineRequest::Nothing => Err(Refusal::BadText),
+        LineRequest::Export => Err(Refusal::BadText),
+        LineRequest::Read(_) => Err(Refusal::BadText),
+        LineRequest::Lookup(_) => Err(Refusal::BadText),
+        LineRequest::Unclear => Err(Refusal::BadText),
+        LineRequest::TooLong => Err(Refusal::BadText),
     }
 }

@@ -66,7 +66,7 @@ pub fn refuse_long<O: Output>(output: &mut O, held: &mut Vec<u8>) -> LineEnd
 }
 
 // Whether an answer stops a script.
-fn stops(answer: Result<Reply, Refusal>) -> bool
+fn ends_script(answer: Result<Reply, Refusal>) -> bool
     ensures true_at { result ≡ true → (e : _) × (answer ≡ Err e) × (is_stopping e ≡ true) }
     ensures false_at { result ≡ false → (e : _) → answer ≡ Err e → is_stopping e ≡ false }
 {
@@ -118,7 +118,7 @@ pub fn send_answer<O: Output>(
     let Ok(()) = write_reply_line(output, answer) else {
         return Err(LineEnd::WriteFault);
     };
-    if stops(answer) {
+    if ends_script(answer) {
         return Err(LineEnd::Stopped);
     }
     Ok(())

@@ -46,7 +46,7 @@ use crate::reply::{refuse_long, stop_for_memory};
 use crate::script_end::ScriptEnd;
 use pid_ident::{Incoming, Output};
 use pid_reader::{split_line, without_cr};
-use pid_service_laws::Moderated;
+use pid_service_laws::RegistryCalls;
 use std::alloc::Global;
 
 /// The room of one read, in bytes.
@@ -78,7 +78,7 @@ fn keep<O: Output>(
 }
 
 // Answers the open line, which ends with these bytes.
-fn end_line<R: Moderated, O: Output>(
+fn end_line<R: RegistryCalls, O: Output>(
     alloc: Global,
     registry: &mut R,
     output: &mut O,
@@ -90,7 +90,7 @@ fn end_line<R: Moderated, O: Output>(
     // The memory of a line that was kept is let go before the next one.
     ensures let_go { OnOk result (0 < length kept.old.items → vec_capacity kept.new ≡ 0) }
     ensures calls { CallsGo R.showing registry.old registry.new }
-    ensures ends { AnswersOver R.Moderated result (ask_of
+    ensures ends { AnswersOver R.RegistryCalls result (ask_of
         (drop_cr (kept.old.items ++ front.now))) registry.old
         (out (O.taken output.old) held.old.items) registry.new
         (out (O.taken output.new) held.new.items) }
@@ -110,7 +110,7 @@ fn end_line<R: Moderated, O: Output>(
 
 // Answers the lines of the next piece of the text, keeps what comes after them, and writes the
 // replies that are held.
-fn take_piece<R: Moderated, O: Output>(
+fn take_piece<R: RegistryCalls, O: Output>(
     alloc: Global,
     registry: &mut R,
     output: &mut O,
@@ -120,10 +120,10 @@ fn take_piece<R: Moderated, O: Output>(
 ) -> Result<(), LineEnd>
     ensures calls { CallsGo R.showing registry.old registry.new }
     ensures empty { OnOk result (held.new.items ≡ []) }
-    ensures answered { AnswersPiece R.Moderated result registry.old registry.new
+    ensures answered { AnswersPiece R.RegistryCalls result registry.old registry.new
         (out (O.taken output.old) held.old.items) (out (O.taken output.new) held.new.items)
         kept.old.items kept.new.items piece.now }
-    ensures ended { EndsInPiece R.Moderated result registry.old registry.new
+    ensures ended { EndsInPiece R.RegistryCalls result registry.old registry.new
         (out (O.taken output.old) held.old.items) (out (O.taken output.new) held.new.items)
         kept.old.items piece.now }
     ensures fault { result ≡ Err LineEnd.WriteFault → IsSome (O.write_fault output.new) }
@@ -145,7 +145,7 @@ fn take_piece<R: Moderated, O: Output>(
 }
 
 // The text has ended: answers a last line without LF, and writes the replies that are held.
-fn end_text<R: Moderated, O: Output>(
+fn end_text<R: RegistryCalls, O: Output>(
     alloc: Global,
     registry: &mut R,
     output: &mut O,
@@ -153,7 +153,7 @@ fn end_text<R: Moderated, O: Output>(
     kept: &[u8],
 ) -> Result<(), LineEnd>
     ensures calls { CallsGo R.showing registry.old registry.new }
-    ensures ends { EndsAll R.Moderated result registry.old registry.new
+    ensures ends { EndsAll R.RegistryCalls result registry.old registry.new
         (out (O.taken output.old) held.old.items) (out (O.taken output.new) held.new.items)
         kept.now }
     ensures fault { result ≡ Err LineEnd.WriteFault → IsSome (O.write_fault output.new) }
@@ -201,7 +201,7 @@ fn end_of(answered: Result<(), LineEnd>) -> ScriptEnd
 /// leaves the one or the other. So a later opening finds each command whose reply went out whole. A
 /// registry that has failed before refuses the first line that asks something of it as 18, or as 16
 /// if memory runs out for the line, and stays as it is.
-pub fn run_script<R: Moderated, I: Incoming<O>, O: Output>(
+pub fn run_script<R: RegistryCalls, I: Incoming<O>, O: Output>(
     alloc: Global,
     registry: &mut R,
     input: &mut I,
@@ -213,13 +213,14 @@ pub fn run_script<R: Moderated, I: Incoming<O>, O: Output>(
     ensures calls { CallsGo R.showing registry.old registry.new }
     // The replies are those of the lines of the text, and the registry shows the history after
     // them.
-    ensures script { OverText R.Moderated (passage registry.old registry.new
+    ensures script { OverText R.RegistryCalls (passage registry.old registry.new
         (O.taken output.old) (O.taken output.new)) (I.to_come input.old) (λ h p text.
-        IsScript R.Moderated result h p text (I.to_come input.new)) }
+        IsScript R.RegistryCalls result h p text (I.to_come input.new)) }
     // Whenever the text was read, the lines that had come whole had got their replies.
-    ensures caught_up { OverText R.Moderated (passage registry.old registry.new
+    ensures caught_up { OverText R.RegistryCalls (passage registry.old registry.new
         (O.taken output.old) (O.taken output.new)) (I.to_come input.old) (λ h p text.
-        AllSince (IsUpToDate R.Moderated h p text) (I.moments input.old) (I.moments input.new)) }
+        AllSince (IsUpToDate R.RegistryCalls h p text) (I.moments input.old)
+        (I.moments input.new)) }
     // A fault that it ended by is kept, and no read but the last one found nothing to come.
     ensures ended { EndsWith result (reader_and_writer I.Incoming O.Output
         input.old input.new output.new turns) }
@@ -229,7 +230,7 @@ pub fn run_script<R: Moderated, I: Incoming<O>, O: Output>(
     let mut held = Vec::new(alloc);
     let mut kept = Vec::new(alloc);
     for _turn in 0..turns {
-        let Ok(count) = input.read_behind(output, &mut buffer) else {
+        let Ok(count) = input.read_after(output, &mut buffer) else {
             return ScriptEnd::ReadFault;
         };
         if count == 0 {

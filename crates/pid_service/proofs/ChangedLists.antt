@@ -10,7 +10,7 @@ use Rattle.pid_file.specs.PathTexts.{path_text}
 use Rattle.pid_file.specs.Trees.{text_cmp}
 use Rattle.pid_file.specs.declared.path.Path.{Path}
 use Rattle.pid_file.specs.declared.path.Path.TheVariants.{Vendor, Device, Subsystem, Generic, Class, Subclass, ProgIf}
-use Rattle.pid_moderation.specs.ChangePages.{Changed, changed_behind, changed_of, is_later, numbered_in}
+use Rattle.pid_moderation.specs.ChangePages.{Changed, changed_after, changed_of, is_later, numbered_in}
 use Rattle.pid_moderation.specs.Changes.{affected, keeping}
 use Rattle.pid_moderation.proofs.Changing.{not_anew}
 use Rattle.pid_moderation.specs.Items.{Items, name_at}
@@ -24,7 +24,7 @@ use Rattle.pid_moderation.specs.declared.lists.ChangedItem.{ChangedItem}
 use Rattle.pid_moderation.specs.declared.lists.TheConstants.{PAGE}
 use Rattle.pid_service.specs.declared.changes.KeptChanges.{KeptChanges}
 use Rattle.pid_service.specs.KeptViews.{AreChanged, HoldsChanges}
-use Rattle.pid_service.specs.Steps.KeptChanges.{comes_behind}
+use Rattle.pid_service.specs.Steps.KeptChanges.{comes_after}
 
 -- ---- what a change leaves
 
@@ -50,20 +50,20 @@ undecided_numbers effect number state (Some w) is none n v = absurd (let bad : t
 -- ---- paths after a text
 
 -- each comes after the empty one
-pub behind_nothing : (path : Path) → is_lt (text_cmp [] (path_text path)) ≡ true
-behind_nothing (Vendor v) = refl
-behind_nothing (Device v d) = refl
-behind_nothing (Subsystem v d sv sd) = refl
-behind_nothing (Generic v d) = refl
-behind_nothing (Class c) = refl
-behind_nothing (Subclass c s) = refl
-behind_nothing (ProgIf c s p) = refl
+pub after_nothing : (path : Path) → is_lt (text_cmp [] (path_text path)) ≡ true
+after_nothing (Vendor v) = refl
+after_nothing (Device v d) = refl
+after_nothing (Subsystem v d sv sd) = refl
+after_nothing (Generic v d) = refl
+after_nothing (Class c) = refl
+after_nothing (Subclass c s) = refl
+after_nothing (ProgIf c s p) = refl
 
 -- what comes after some text comes after the empty one
-behind_any : (after text : List ℕ) → is_lt (text_cmp after text) ≡ true → is_lt (text_cmp [] text) ≡ true
-behind_any [] [] is = is
-behind_any (a ∷ after) [] is = absurd (let bad : false ≡ true = is in let no : ⊥ = cc in no)
-behind_any after (b ∷ text) is = refl
+after_any : (after text : List ℕ) → is_lt (text_cmp after text) ≡ true → is_lt (text_cmp [] text) ≡ true
+after_any [] [] is = is
+after_any (a ∷ after) [] is = absurd (let bad : false ≡ true = is in let no : ⊥ = cc in no)
+after_any after (b ∷ text) is = refl
 
 above_less : (low since n : ℕ) → low ≤ since → nat_lt since n ≡ true → nat_lt low n ≡ true
 above_less low since n less is = grind (arith, nat_tests)
@@ -81,22 +81,22 @@ both false b one two = one
 later_too : (low since : ℕ) (after : List ℕ) (v : Views) (item : List ℕ × List ℕ) → low ≤ since → is_later since after v item ≡ true → is_later low [] v item ≡ true
 later_too low since after v item less is =
     let parts = both_true (is_lt (text_cmp after item.0)) (nat_lt since (v.since item.0)) is in
-    both _ _ (behind_any after item.0 parts.0) (above_less low since (v.since item.0) less parts.1)
+    both _ _ (after_any after item.0 parts.0) (above_less low since (v.since item.0) less parts.1)
 
 -- ---- a page of what is kept
 
 -- of those that are later than a number those that are later than a greater one
-pub later_among : (low since : ℕ) (after : List ℕ) (v : Views) (items : Items) → low ≤ since → filter (comes_behind since after) (map (numbered_in v) (filter (is_later low [] v) items)) ≡ map (numbered_in v) (filter (is_later since after v) items)
+pub later_among : (low since : ℕ) (after : List ℕ) (v : Views) (items : Items) → low ≤ since → filter (comes_after since after) (map (numbered_in v) (filter (is_later low [] v) items)) ≡ map (numbered_in v) (filter (is_later since after v) items)
 later_among low since after v [] less = refl
 later_among low since after v (item ∷ items) less = by_tests (is_later low [] v item) (is_later since after v item) refl refl (later_among low since after v items less)
   where
-    by_tests : (a b : Bool) → is_later low [] v item ≡ a → is_later since after v item ≡ b → filter (comes_behind since after) (map (numbered_in v) (filter (is_later low [] v) items)) ≡ map (numbered_in v) (filter (is_later since after v) items)
-        → filter (comes_behind since after) (map (numbered_in v) (cond a (item ∷ filter (is_later low [] v) items) (filter (is_later low [] v) items))) ≡ map (numbered_in v) (cond b (item ∷ filter (is_later since after v) items) (filter (is_later since after v) items))
+    by_tests : (a b : Bool) → is_later low [] v item ≡ a → is_later since after v item ≡ b → filter (comes_after since after) (map (numbered_in v) (filter (is_later low [] v) items)) ≡ map (numbered_in v) (filter (is_later since after v) items)
+        → filter (comes_after since after) (map (numbered_in v) (cond a (item ∷ filter (is_later low [] v) items) (filter (is_later low [] v) items))) ≡ map (numbered_in v) (cond b (item ∷ filter (is_later since after v) items) (filter (is_later since after v) items))
     by_tests true true wide is rest =
-        ap (λ t. cond t (numbered_in v item ∷ filter (comes_behind since after) (map (numbered_in v) (filter (is_later low [] v) items))) (filter (comes_behind since after) (map (numbered_in v) (filter (is_later low [] v) items)))) is
+        ap (λ t. cond t (numbered_in v item ∷ filter (comes_after since after) (map (numbered_in v) (filter (is_later low [] v) items))) (filter (comes_after since after) (map (numbered_in v) (filter (is_later low [] v) items)))) is
         ∙ ap (λ l. numbered_in v item ∷ l) rest
     by_tests true false wide is rest =
-        ap (λ t. cond t (numbered_in v item ∷ filter (comes_behind since after) (map (numbered_in v) (filter (is_later low [] v) items))) (filter (comes_behind since after) (map (numbered_in v) (filter (is_later low [] v) items)))) is
+        ap (λ t. cond t (numbered_in v item ∷ filter (comes_after since after) (map (numbered_in v) (filter (is_later low [] v) items))) (filter (comes_after since after) (map (numbered_in v) (filter (is_later low [] v) items)))) is
         ∙ rest
     by_tests false false wide is rest = rest
     by_tests false true wide is rest = absurd (let bad : false ≡ true = sym wide ∙ later_too low since after v item less is in let no : ⊥ = cc in no)
@@ -110,16 +110,16 @@ filter_shorter p (x ∷ xs) = by_test (p x) (filter_shorter p xs)
     by_test false less = omega (arith, less)
 
 -- copies of those that belong to a page are the page
-pub page_kept : (kept : KeptChanges) (v : Views) (since : ℕ) (after : List ℕ) (page : Option (Vec ChangedItem Global)) → AreChanged kept v → kept.since ≤ since → IfSome page (λ p. map changed_of p.items ≡ filter (comes_behind since after) (map changed_of kept.items.items))
-    → IfSome page (λ p. map changed_of p.items ≡ take PAGE (changed_behind since after v))
+pub page_kept : (kept : KeptChanges) (v : Views) (since : ℕ) (after : List ℕ) (page : Option (Vec ChangedItem Global)) → AreChanged kept v → kept.since ≤ since → IfSome page (λ p. map changed_of p.items ≡ filter (comes_after since after) (map changed_of kept.items.items))
+    → IfSome page (λ p. map changed_of p.items ≡ take PAGE (changed_after since after v))
 page_kept kept v since after None are less same = tt
 page_kept kept v since after (Some page) are less same =
-    let told : filter (comes_behind since after) (map changed_of kept.items.items) ≡ changed_behind since after v = ap (filter (comes_behind since after)) are.items ∙ later_among kept.since since after v v.items less in
-    let many : length (changed_behind since after v) ≡ length (filter (comes_behind since after) (map changed_of kept.items.items)) = ap length (sym told) in
-    let short : length (filter (comes_behind since after) (map changed_of kept.items.items)) ≤ length (map changed_of kept.items.items) = filter_shorter (comes_behind since after) (map changed_of kept.items.items) in
+    let told : filter (comes_after since after) (map changed_of kept.items.items) ≡ changed_after since after v = ap (filter (comes_after since after)) are.items ∙ later_among kept.since since after v v.items less in
+    let many : length (changed_after since after v) ≡ length (filter (comes_after since after) (map changed_of kept.items.items)) = ap length (sym told) in
+    let short : length (filter (comes_after since after) (map changed_of kept.items.items)) ≤ length (map changed_of kept.items.items) = filter_shorter (comes_after since after) (map changed_of kept.items.items) in
     let all : length (map changed_of kept.items.items) ≡ length kept.items.items = length-map kept.items.items changed_of in
     let few : length kept.items.items < PAGE = are.few in
-    same ∙ told ∙ sym (take_all PAGE (changed_behind since after v) (omega (arith, many, short, all, few)))
+    same ∙ told ∙ sym (take_all PAGE (changed_after since after v) (omega (arith, many, short, all, few)))
 
 -- ---- a page that is kept
 
@@ -129,21 +129,21 @@ take_short (suc n) [] low = refl
 take_short (suc n) (x ∷ xs) low = ap (λ l. x ∷ l) (take_short n xs (omega (arith, low)))
 
 -- all of a page come after its number and the empty text
-all_behind : (since : ℕ) (v : Views) (items : Items) → filter (comes_behind since []) (map (numbered_in v) (filter (is_later since [] v) items)) ≡ map (numbered_in v) (filter (is_later since [] v) items)
+all_behind : (since : ℕ) (v : Views) (items : Items) → filter (comes_after since []) (map (numbered_in v) (filter (is_later since [] v) items)) ≡ map (numbered_in v) (filter (is_later since [] v) items)
 all_behind since v items = later_among since since [] v items (omega arith)
 
 -- a page that is not full has all that were changed
-pub page_whole : (since : ℕ) (page copy : List ChangedItem) (v : Views) → map changed_of page ≡ take PAGE (changed_behind since [] v) → length page < PAGE → map changed_of copy ≡ filter (comes_behind since []) (map changed_of page)
-    → map changed_of copy ≡ changed_behind since [] v
+pub page_whole : (since : ℕ) (page copy : List ChangedItem) (v : Views) → map changed_of page ≡ take PAGE (changed_after since [] v) → length page < PAGE → map changed_of copy ≡ filter (comes_after since []) (map changed_of page)
+    → map changed_of copy ≡ changed_after since [] v
 page_whole since page copy v told few same =
-    let many : length (take PAGE (changed_behind since [] v)) ≡ length page = sym (ap length told) ∙ length-map page changed_of in
-    let whole : map changed_of page ≡ changed_behind since [] v = told ∙ take_short PAGE (changed_behind since [] v) (omega (arith, many, few)) in
-    same ∙ ap (filter (comes_behind since [])) whole ∙ all_behind since v v.items
+    let many : length (take PAGE (changed_after since [] v)) ≡ length page = sym (ap length told) ∙ length-map page changed_of in
+    let whole : map changed_of page ≡ changed_after since [] v = told ∙ take_short PAGE (changed_after since [] v) (omega (arith, many, few)) in
+    same ∙ ap (filter (comes_after since [])) whole ∙ all_behind since v v.items
 
-pub copy_few : (since : ℕ) (page copy : List ChangedItem) → length page < PAGE → map changed_of copy ≡ filter (comes_behind since []) (map changed_of page) → length copy < PAGE
+pub copy_few : (since : ℕ) (page copy : List ChangedItem) → length page < PAGE → map changed_of copy ≡ filter (comes_after since []) (map changed_of page) → length copy < PAGE
 copy_few since page copy few same =
-    let many : length copy ≡ length (filter (comes_behind since []) (map changed_of page)) = sym (length-map copy changed_of) ∙ ap length same in
-    let short : length (filter (comes_behind since []) (map changed_of page)) ≤ length (map changed_of page) = filter_shorter (comes_behind since []) (map changed_of page) in
+    let many : length copy ≡ length (filter (comes_after since []) (map changed_of page)) = sym (length-map copy changed_of) ∙ ap length same in
+    let short : length (filter (comes_after since []) (map changed_of page)) ≤ length (map changed_of page) = filter_shorter (comes_after since []) (map changed_of page) in
     let all : length (map changed_of page) ≡ length page = length-map page changed_of in
     omega (arith, many, short, all, few)
 

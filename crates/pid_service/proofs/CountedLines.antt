@@ -18,11 +18,11 @@ use Rattle.pid_file.specs.Labels.{label}
 use Rattle.pid_file.specs.Printing.{block_line, ended, header, item_line, label_of, opens_block}
 use Rattle.pid_file.specs.Steps.Printing.{text_or_none}
 use Rattle.pid_service.proofs.Labelled.{label_of_text}
-use Rattle.pid_service.specs.ItemTexts.{extents_behind, text_behind, text_of_items}
+use Rattle.pid_service.specs.ItemTexts.{extents_after, text_behind, text_of_items}
 use Rattle.pid_service.specs.Steps.ItemTexts.{Extents}
 use Rattle.pid_service.specs.KeptViews.{HoldsText, extent_in}
 use Rattle.pid_ident.specs.PathTexts.{path_text}
-use Rattle.pid_service.specs.Steps.TextSinks.{HasLines, Lengthens, TakesItem, block_behind}
+use Rattle.pid_service.specs.Steps.TextSinks.{HasLines, Lengthens, TakesItem, block_after}
 use Rattle.pid_service.specs.declared.items_text.GrowingText.{GrowingText}
 use Rattle.pid_service.specs.declared.items_text.TextSink.{TextSink}
 use Rattle.pid_service.specs.declared.kept_text.Extent.{Extent}
@@ -53,7 +53,7 @@ then_more old between (Some now) before xs ys one other =
           let all = more _ _ (first bytes extents has) in
           record {
             bytes_are = all.bytes_are ∙ append_assoc bytes (text_behind before xs) (text_behind (last_path before xs) ys) ∙ ap (λ (l : List ℕ). bytes ++ l) (sym (text_joined before xs ys));
-            extents_are = all.extents_are ∙ append_assoc extents (extents_behind before xs) (extents_behind (last_path before xs) ys) ∙ ap (λ (l : Extents). extents ++ l) (sym (extents_joined before xs ys));
+            extents_are = all.extents_are ∙ append_assoc extents (extents_after before xs) (extents_after (last_path before xs) ys) ∙ ap (λ (l : Extents). extents ++ l) (sym (extents_joined before xs ys));
           },
     )
 
@@ -134,7 +134,7 @@ ended_block block true few = omega (arith, few, length-append {A = ℕ})
 ended_block block false few = omega arith
 
 -- so what comes before a name fits
-pub block_short : (n : ℕ) (before path : List ℕ) → n ≡ length (ended (block_behind before path)) → n ≤ 7
+pub block_short : (n : ℕ) (before path : List ℕ) → n ≡ length (ended (block_after before path)) → n ≤ 7
 block_short n before path is =
     subst (λ k. k ≤ 7) (sym is) (ended_block (block_line path) (opens_block before path) (opened (codes "S ") (take 4 (drop 3 path)) (two_long (codes "S ") refl) (first_four (drop 3 path))))
 
@@ -189,5 +189,5 @@ all_kept old new items (Some kept) first start took (grown, is, bytes, extents) 
     let all = more (ended (header ∷ [])) [] begun in
     record {
       text = ap (λ (v : Vec ℕ Global). v.items) bytes ∙ all.bytes_are ∙ ap (λ (b : Option Path). ended (header ∷ []) ++ text_behind (text_or_none b) items) first;
-      extents = ap (λ (v : Vec Extent Global). map extent_in v.items) extents ∙ all.extents_are ∙ ap (λ (b : Option Path). extents_behind (text_or_none b) items) first;
+      extents = ap (λ (v : Vec Extent Global). map extent_in v.items) extents ∙ all.extents_are ∙ ap (λ (b : Option Path). extents_after (text_or_none b) items) first;
     }

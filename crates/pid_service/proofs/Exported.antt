@@ -27,7 +27,7 @@ use Rattle.pid_service.specs.declared.changes.KeptChanges.{KeptChanges}
 use Rattle.pid_service.specs.declared.kept_text.KeptText.{KeptText}
 use Rattle.pid_tables.specs.Searches.KeptNumbers.{HoldsNumbers}
 use Rattle.pid_tables.specs.declared.searches.numbers.Searches.{Searches}
-use Rattle.pid_service.specs.KeptViews.{HoldsAccounts, HoldsChanges, HoldsText, HoldsTop, HoldsWaiting, kept_by, kept_views}
+use Rattle.pid_service.specs.KeptViews.{HoldsAccounts, HoldsChanges, HoldsText, HoldsTop, HoldsPending, kept_by, kept_views}
 use Rattle.pid_service.specs.Registries.{HasCleanDisk, OnlyReads, is_live}
 use Rattle.pid_lookup.specs.CacheAgreement.{Agrees}
 use Rattle.pid_lookup.specs.CacheEntries.{Entries}
@@ -89,5 +89,5 @@ module _ {S : Type 0} (store : Ghosts S) where
     lives = same ∙ shows.lives;
     history = shows.history;
     tables = reads.kept (views_of h) shows.tables;
-    kept = λ clean. record { names = subst (λ (n : Entries). Agrees n (λ path. name_at path (items_of h))) (sym names) (shows.kept (reads.clean clean)).names; text = text; top = subst (λ (t : Option (Vec Item Global)). HoldsTop t (views_of h)) (sym tops) (shows.kept (reads.clean clean)).top; changes = subst (λ (c : Option KeptChanges). HoldsChanges c (views_of h)) (sym changes) (shows.kept (reads.clean clean)).changes; pending = subst (λ (n : Option (Vec ℕ Global)). HoldsWaiting n (views_of h)) (sym waiting) (shows.kept (reads.clean clean)).pending; numbers = subst (λ (n : Searches). HoldsNumbers n (views_of h)) (sym numbers) (shows.kept (reads.clean clean)).numbers; accounts = subst (λ (n : Option ℕ). HoldsAccounts n (views_of h)) (sym many) (shows.kept (reads.clean clean)).accounts };
+    kept = λ clean. record { names = subst (λ (n : Entries). Agrees n (λ path. name_at path (items_of h))) (sym names) (shows.kept (reads.clean clean)).names; text = text; top = subst (λ (t : Option (Vec Item Global)). HoldsTop t (views_of h)) (sym tops) (shows.kept (reads.clean clean)).top; changes = subst (λ (c : Option KeptChanges). HoldsChanges c (views_of h)) (sym changes) (shows.kept (reads.clean clean)).changes; pending = subst (λ (n : Option (Vec ℕ Global)). HoldsPending n (views_of h)) (sym waiting) (shows.kept (reads.clean clean)).pending; numbers = subst (λ (n : Searches). HoldsNumbers n (views_of h)) (sym numbers) (shows.kept (reads.clean clean)).numbers; accounts = subst (λ (n : Option ℕ). HoldsAccounts n (views_of h)) (sym many) (shows.kept (reads.clean clean)).accounts };
   }

@@ -1,4 +1,4 @@
--- From the end of a life to the next opening.
+-- From the end of a session to the next opening.
 use Rattle.std.proofs.Common.{◌≡◌, inl, inr, ℕ, List, [], Bool, true, false, Option, Some, None, Result, Ok, Err, option_map, refl, sym, subst, ◌∙◌, arith}
 use Rattle.sqlite.specs.Tree.{Trees}
 use Rattle.sqlite.specs.Held.{Held, state}
@@ -25,8 +25,8 @@ use Rattle.pid_tables.proofs.OpenLemmas.{LeavesCommitted, opened_bare, opened_re
 use Rattle.pid_service.specs.declared.registry.Registry.{Registry}
 use Rattle.pid_service.specs.Histories.{FailsBetween, IsReached, Shows}
 use Rattle.pid_service.specs.Histories.{showing}
-use Rattle.pid_service.specs.LifeLaws.{KeepsBetween}
-use Rattle.pid_service.specs.Lives.{FailedOpening, IsAfterSession, IsAfterStop, KeepsHistory, LeavesTablesTo, Migration, NextStop, Stop}
+use Rattle.pid_service.specs.SessionLaws.{KeepsBetween}
+use Rattle.pid_service.specs.Sessions.{FailedOpening, IsAfterSession, IsAfterStop, KeepsHistory, LeavesTablesTo, Migration, NextStop, Stop}
 use Rattle.pid_service.specs.Opening.{MovesTo, OpensTo, moved_to}
 use Rattle.pid_service.specs.Registries.{HasCleanDisk, connection, is_live}
 
@@ -81,8 +81,8 @@ module _ {S : Type 0} (store : Ghosts S) where
     shown = λ clean h reached shows. (opens.opened h reached shows clean).1;
   }
 
-  pub unopened_untold : (conn back : Held S) (fault : TableFault) (h : History) → IsReached h → ShowsOrBlank store conn h → OpensTo store conn (Err (fault, back)) → clauses.HasCleanDisk store back → IsMemoryOrStore fault
-  unopened_untold conn back fault h reached shows opens clean = (opens.opened h reached shows clean).0
+  pub unopened_only_store : (conn back : Held S) (fault : TableFault) (h : History) → IsReached h → ShowsOrBlank store conn h → OpensTo store conn (Err (fault, back)) → clauses.HasCleanDisk store back → IsMemoryOrStore fault
+  unopened_only_store conn back fault h reached shows opens clean = (opens.opened h reached shows clean).0
 
   -- the first opening
   pub bare_shows_none : IsSettled → (conn : Held S) → IsOpened store conn → ListsNoTable (clauses.seen store conn).trees → ShowsOrBlank store conn new_history
@@ -105,8 +105,8 @@ module _ {S : Type 0} (store : Ghosts S) where
   move_leaves conn back fault h reached (inr (inl older)) moves clean = moves.moved h reached older clean
   move_leaves conn back fault h reached (inr (inr bare)) moves clean = subst (λ (g : History). IsMemoryOrStore fault × ShowsOrBlank store back g) (sym bare.1) (moves.created bare.0 clean)
 
-  pub move_untold : (conn back : Held S) (fault : TableFault) (h : History) → IsReached h → ShowsOrBlank store conn h → MovesTo store conn (Err (fault, back)) → clauses.HasCleanDisk store back → IsMemoryOrStore fault
-  move_untold conn back fault h reached shows moves clean = (move_leaves conn back fault h reached shows moves clean).0
+  pub move_only_store : (conn back : Held S) (fault : TableFault) (h : History) → IsReached h → ShowsOrBlank store conn h → MovesTo store conn (Err (fault, back)) → clauses.HasCleanDisk store back → IsMemoryOrStore fault
+  move_only_store conn back fault h reached shows moves clean = (move_leaves conn back fault h reached shows moves clean).0
 
   pub move_keeps : (conn : Held S) (result : Result (Held S × Step) (TableFault × Held S)) → MovesTo store conn result → KeepsHistory store store conn (moved_to store result)
   move_keeps conn (Ok (moved, step)) moves = record {

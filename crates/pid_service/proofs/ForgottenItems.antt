@@ -14,13 +14,13 @@ use Rattle.pid_tables.specs.declared.searches.numbers.Searches.TheVariants.{Unre
 use Rattle.pid_service.proofs.AccountCounts.{same_accounts}
 use Rattle.pid_service.proofs.Imported.{import_deed}
 use Rattle.pid_service.proofs.Keeping.{no_changes, no_items, no_top}
-use Rattle.pid_service.specs.KeptViews.{HoldsAccounts, HoldsWaiting, IsRightFor, nothing}
+use Rattle.pid_service.specs.KeptViews.{HoldsAccounts, HoldsPending, IsRightFor, nothing}
 use Rattle.pid_service.specs.declared.kept_views.KeptViews.{KeptViews}
 use Rattle.pid_service.specs.Steps.KeptItems.{LeavesTheRest}
 
-same_waiting : (numbers : Option (Vec ℕ Global)) (v w : Views) → w.submits ≡ v.submits → w.state ≡ v.state → HoldsWaiting numbers v → HoldsWaiting numbers w
-same_waiting None v w submits states holds = tt
-same_waiting (Some kept) v w submits states holds = holds ∙ sym (λ i. map (λ s. s.0) (filter (waits_above 0) (standings_from 1 (submits i) (states i))))
+same_pending : (numbers : Option (Vec ℕ Global)) (v w : Views) → w.submits ≡ v.submits → w.state ≡ v.state → HoldsPending numbers v → HoldsPending numbers w
+same_pending None v w submits states holds = tt
+same_pending (Some kept) v w submits states holds = holds ∙ sym (λ i. map (λ s. s.0) (filter (waits_above 0) (standings_from 1 (submits i) (states i))))
 
 same_numbers : (numbers : Searches) (v w : Views) → w.submits ≡ v.submits → HoldsNumbers numbers v → HoldsNumbers numbers w
 same_numbers Unread v w same holds = tt
@@ -34,7 +34,7 @@ forgotten old new v w leaves right items top changes pending numbers accounts = 
   text = none.1;
   top = no_top new.top w top;
   changes = no_changes new.changes w changes;
-  pending = subst (λ (n : Option (Vec ℕ Global)). HoldsWaiting n w) (sym pending) (same_waiting old.pending v w leaves.submits leaves.states right.pending);
+  pending = subst (λ (n : Option (Vec ℕ Global)). HoldsPending n w) (sym pending) (same_pending old.pending v w leaves.submits leaves.states right.pending);
   numbers = subst (λ (n : Searches). HoldsNumbers n w) (sym numbers) (same_numbers old.numbers v w leaves.submits right.numbers);
   accounts = subst (λ (n : Option ℕ). HoldsAccounts n w) (sym accounts) (same_accounts old.accounts v w leaves.ranks right.accounts);
 }

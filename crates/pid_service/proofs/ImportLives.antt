@@ -13,7 +13,7 @@ use Rattle.pid_service.specs.declared.registry.Registry.{Registry}
 use Rattle.pid_service.specs.Histories.{Shows}
 use Rattle.pid_service.specs.Importing.{ObeysImport}
 use Rattle.pid_service_laws.specs.Imports.{import_sent}
-use Rattle.pid_service.specs.Lives.{showing}
+use Rattle.pid_service.specs.Sessions.{showing}
 use Rattle.pid_service.specs.Obeying.{Obeys}
 use Rattle.pid_service.specs.Registries.{HasCleanDisk, is_live}
 

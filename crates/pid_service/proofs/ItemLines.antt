@@ -6,10 +6,10 @@ use Rattle.pid_file.proofs.SendingLemmas.{Appends-nil, Appends-then}
 use Rattle.pid_moderation.specs.Items.{Items}
 use Rattle.pid_reader.specs.Numbered.{Numbered, item_in}
 use Rattle.pid_reader.specs.Sinks.{Took}
-use Rattle.pid_file.specs.Printing.{ended, lines_behind}
+use Rattle.pid_file.specs.Printing.{ended, lines_after}
 use Rattle.pid_file.specs.Steps.Printing.{text_or_none}
 use Rattle.pid_file.proofs.Written.{ended-append, lines-first}
-use Rattle.pid_service.specs.ItemTexts.{extents_behind, text_behind}
+use Rattle.pid_service.specs.ItemTexts.{extents_after, text_behind}
 use Rattle.pid_service.specs.Steps.ItemTexts.{Extents}
 use Rattle.pid_service.specs.Steps.ExportSinks.{PrintsItem}
 use Rattle.pid_service.specs.declared.export_sink.ExportSink.{ExportSink}
@@ -21,7 +21,7 @@ last_path before (item ∷ items) = last_path item.0 items
 
 -- the lines of the first item, and then those behind it
 pub text_first : (before : List ℕ) (item : List ℕ × List ℕ) (items : Items) → text_behind before (item ∷ items) ≡ text_behind before (item ∷ []) ++ text_behind item.0 items
-text_first before item items = ap ended (lines-first before item items) ∙ ended-append (lines_behind before (item ∷ [])) (lines_behind item.0 items)
+text_first before item items = ap ended (lines-first before item items) ∙ ended-append (lines_after before (item ∷ [])) (lines_after item.0 items)
 
 -- the lines of some items, and then those behind them
 pub text_joined : (before : List ℕ) (xs ys : Items) → text_behind before (xs ++ ys) ≡ text_behind before xs ++ text_behind (last_path before xs) ys
@@ -32,7 +32,7 @@ text_joined before (x ∷ xs) ys =
     ∙ ap (λ (l : List ℕ). l ++ text_behind (last_path x.0 xs) ys) (sym (text_first before x xs))
 
 -- the extents of some items, and then those behind them
-pub extents_joined : (before : List ℕ) (xs ys : Items) → extents_behind before (xs ++ ys) ≡ extents_behind before xs ++ extents_behind (last_path before xs) ys
+pub extents_joined : (before : List ℕ) (xs ys : Items) → extents_after before (xs ++ ys) ≡ extents_after before xs ++ extents_after (last_path before xs) ys
 extents_joined before [] ys = refl
 extents_joined before (x ∷ xs) ys = ap (λ (l : Extents). (x.0, length (text_behind before (x ∷ []))) ∷ l) (extents_joined x.0 xs ys)
 

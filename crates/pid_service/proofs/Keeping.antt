@@ -8,7 +8,7 @@ use Rattle.pid_moderation.specs.Views.{Views}
 use Rattle.pid_moderation.specs.declared.lists.Item.{Item}
 use Rattle.pid_tables.specs.Searches.KeptNumbers.{HoldsNumbers}
 use Rattle.pid_tables.specs.declared.searches.numbers.Searches.{Searches}
-use Rattle.pid_service.specs.KeptViews.{HoldsAccounts, HoldsChanges, HoldsText, HoldsTop, HoldsWaiting, IsRightFor, KeepsNothing, nothing}
+use Rattle.pid_service.specs.KeptViews.{HoldsAccounts, HoldsChanges, HoldsText, HoldsTop, HoldsPending, IsRightFor, KeepsNothing, nothing}
 use Rattle.pid_service.specs.declared.changes.KeptChanges.{KeptChanges}
 use Rattle.pid_service.specs.declared.kept_views.KeptItems.{KeptItems}
 use Rattle.pid_service.specs.declared.kept_views.KeptViews.{KeptViews}
@@ -36,8 +36,8 @@ ItemsRight k items = Agrees k.names (λ path. name_at path items) × HoldsText k
 pub no_items : (k : KeptItems) (items : Items) → k ≡ nothing → ItemsRight k items
 no_items k items none = subst (λ (n : KeptItems). ItemsRight n items) (sym none) (record { known = λ entry there. absurd (let no : ⊥ = search rules in no) }, tt)
 
-no_numbers : (numbers : Option (Vec ℕ Global)) (v : Views) → numbers ≡ None → HoldsWaiting numbers v
-no_numbers numbers v none = subst (λ (n : Option (Vec ℕ Global)). HoldsWaiting n v) (sym none) tt
+no_numbers : (numbers : Option (Vec ℕ Global)) (v : Views) → numbers ≡ None → HoldsPending numbers v
+no_numbers numbers v none = subst (λ (n : Option (Vec ℕ Global)). HoldsPending n v) (sym none) tt
 
 pub no_top : (top : Option (Vec Item Global)) (v : Views) → top ≡ None → HoldsTop top v
 no_top top v none = subst (λ (t : Option (Vec Item Global)). HoldsTop t v) (sym none) tt

@@ -13,28 +13,28 @@ use Rattle.pid_moderation.specs.ItemPairs.{pair_of}
 use Rattle.pid_moderation.specs.Items.{Items}
 use Rattle.pid_moderation.specs.declared.lists.Item.{Item}
 use Rattle.pid_service.proofs.ItemLines.{last_path, text_first}
-use Rattle.pid_service.proofs.RenewedTexts.{cut_there, cut_whole, drop_extents, last_behind, take_extents, take_front, drop_front}
-use Rattle.pid_service.specs.ItemTexts.{extents_behind, text_behind, text_of_items}
+use Rattle.pid_service.proofs.RenewedTexts.{cut_there, cut_whole, drop_extents, last_after, take_extents, take_front, drop_front}
+use Rattle.pid_service.specs.ItemTexts.{extents_after, text_behind, text_of_items}
 use Rattle.pid_service.specs.Steps.ItemTexts.{Extents}
 use Rattle.pid_service.specs.KeptViews.{extent_in}
 use Rattle.pid_service.specs.Steps.KeptChildren.{before_name}
 use Rattle.pid_service.specs.Steps.Renewing.{bytes_in, last_extent}
-use Rattle.pid_service.specs.Steps.TextSinks.{block_behind}
+use Rattle.pid_service.specs.Steps.TextSinks.{block_after}
 use Rattle.pid_service.specs.declared.kept_text.Extent.{Extent}
 
 -- ---- the name in the lines of an item
 
 lines_parts : (before : List ℕ) (item : List ℕ × List ℕ) → text_behind before (item ∷ []) ≡ before_name before item.0 ++ (item.1 ++ 10 ∷ [])
 lines_parts before item =
-    let block = ended (block_behind before item.0) in
+    let block = ended (block_after before item.0) in
     let label = label_of item.0 ++ codes "  " in
-    ended-append (block_behind before item.0) (item_line item ∷ []) ∙ ap (λ (l : List ℕ). block ++ l) (append_assoc label item.1 (10 ∷ [])) ∙ sym (append_assoc block label (item.1 ++ 10 ∷ []))
+    ended-append (block_after before item.0) (item_line item ∷ []) ∙ ap (λ (l : List ℕ). block ++ l) (append_assoc label item.1 (10 ∷ [])) ∙ sym (append_assoc block label (item.1 ++ 10 ∷ []))
 
 long_as : (start skip name first end lines : ℕ) → first ≡ start + skip → lines ≡ skip + (name + 1) → end ≡ start + lines → end - 1 - first ≡ name
 long_as start skip name first end lines a b c = omega arith
 
 -- in the text of all items
-module _ (items : Items) (i : ℕ) (item : List ℕ × List ℕ) (more : Items) (next : drop i items ≡ item ∷ more) (start : ℕ) (is : start ≡ 18 + bytes_in (take i (extents_behind [] items))) where
+module _ (items : Items) (i : ℕ) (item : List ℕ × List ℕ) (more : Items) (next : drop i items ≡ item ∷ more) (start : ℕ) (is : start ≡ 18 + bytes_in (take i (extents_after [] items))) where
   abbrev preceding : List ℕ
   preceding = last_path [] (take i items)
 
@@ -63,11 +63,11 @@ take_next (suc n) (y ∷ xs) x more is =
     let one : suc n + 1 ≡ suc (n + 1) = omega arith in
     ap (λ k. take k (y ∷ xs)) one ∙ ap (λ (l : Items). y ∷ l) (take_next n xs x more is)
 
-length_behind : (before : List ℕ) (items : Items) → length (extents_behind before items) ≡ length items
-length_behind before [] = refl
-length_behind before (item ∷ items) = ap suc (length_behind item.0 items)
+length_after : (before : List ℕ) (items : Items) → length (extents_after before items) ≡ length items
+length_after before [] = refl
+length_after before (item ∷ items) = ap suc (length_after item.0 items)
 
-first_extent : (before : List ℕ) (rest : Items) (e : List ℕ × ℕ) (l : Extents) → extents_behind before rest ≡ e ∷ l → (item : List ℕ × List ℕ) × (more : Items) × (rest ≡ item ∷ more) × (item.0 ≡ e.0) × (length (text_behind before (item ∷ [])) ≡ e.1)
+first_extent : (before : List ℕ) (rest : Items) (e : List ℕ × ℕ) (l : Extents) → extents_after before rest ≡ e ∷ l → (item : List ℕ × List ℕ) × (more : Items) × (rest ≡ item ∷ more) × (item.0 ≡ e.0) × (length (text_behind before (item ∷ [])) ≡ e.1)
 first_extent before [] e l is = absurd (let no : ⊥ = cc in no)
 first_extent before (item ∷ more) e l is =
     let f : Extents → List ℕ × ℕ = λ xs. elim xs as (λ _. List ℕ × ℕ) [ [] ↦ e | ◌∷◌ x ys ↦ x ] in
@@ -75,9 +75,9 @@ first_extent before (item ∷ more) e l is =
     (item, more, refl, ap (λ (p : List ℕ × ℕ). p.0) same, ap (λ (p : List ℕ × ℕ). p.1) same)
 
 -- extents of items, of which some are found below a path
-module _ (bytes : List ℕ) (extents : List Extent) (items : Items) (text : bytes ≡ text_of_items items) (are : map extent_in extents ≡ extents_behind [] items) where
+module _ (bytes : List ℕ) (extents : List Extent) (items : Items) (text : bytes ≡ text_of_items items) (are : map extent_in extents ≡ extents_after [] items) where
   all_extents : length items ≡ length extents
-  all_extents = sym (length_behind [] items) ∙ ap length (sym are) ∙ length-map extents extent_in
+  all_extents = sym (length_after [] items) ∙ ap length (sym are) ∙ length-map extents extent_in
 
   -- all of them
   pub all_taken : (i : ℕ) → length extents ≤ i → take i items ≡ items
@@ -87,7 +87,7 @@ module _ (bytes : List ℕ) (extents : List Extent) (items : Items) (text : byte
     abbrev one : Extent
     one = get_or extents i d
 
-    here : extents_behind (last_path [] (take i items)) (drop i items) ≡ extent_in one ∷ map extent_in (drop (suc i) extents)
+    here : extents_after (last_path [] (take i items)) (drop i items) ≡ extent_in one ∷ map extent_in (drop (suc i) extents)
     here = sym (drop_extents [] i items) ∙ ap (drop i) (sym are) ∙ drop-map extent_in i extents ∙ ap (map extent_in) (drop-cons extents i d low)
 
     -- an item that is not below it
@@ -104,7 +104,7 @@ module _ (bytes : List ℕ) (extents : List Extent) (items : Items) (text : byte
     one_more on start skip first end last now is was long at ends adds =
         let (item, more, next, path, lines) = first_extent (last_path [] (take i items)) (drop i items) (extent_in one) (map extent_in (drop (suc i) extents)) here in
         let tested : above item.0 ≡ true = ap above path ∙ on in
-        let before : text_or_none last ≡ last_path [] (take i items) = was ∙ ap (λ (l : Extents). last_extent [] (take i l)) are ∙ ap (last_extent []) (take_extents [] i items) ∙ last_behind [] (take i items) in
+        let before : text_or_none last ≡ last_path [] (take i items) = was ∙ ap (λ (l : Extents). last_extent [] (take i l)) are ∙ ap (last_extent []) (take_extents [] i items) ∙ last_after [] (take i items) in
         let skipped : skip ≡ length (before_name (last_path [] (take i items)) item.0) = long ∙ (λ j. length (before_name (before j) (sym path j))) in
         let name : take (end - 1 - first) (drop first bytes) ≡ item.1 =
         ap (λ (l : List ℕ). take (end - 1 - first) (drop first l)) text ∙ name_there items i item more next start (is ∙ ap (λ (l : Extents). 18 + bytes_in (take i l)) are) skip first end skipped at (ends ∙ ap (λ n. start + n) (sym lines)) in

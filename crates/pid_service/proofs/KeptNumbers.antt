@@ -7,10 +7,10 @@ use Rattle.pid_moderation.specs.History.{History}
 use Rattle.pid_moderation.specs.Views.{views_of}
 use Rattle.pid_service.specs.declared.registry.Registry.{Registry}
 use Rattle.pid_service.specs.Histories.{Shows}
-use Rattle.pid_service.specs.KeptViews.{HoldsWaiting, kept_views, numbers_waiting}
+use Rattle.pid_service.specs.KeptViews.{HoldsPending, kept_views, numbers_pending}
 use Rattle.pid_service.specs.Registries.{HasCleanDisk}
 
 module _ {S : Type 0} (store : Ghosts S) where
   -- numbers that are kept are those of what is pending
-  pub numbers_told : (r : Registry S store) (h : History) (numbers : Vec ℕ Global) → (kept_views r).pending ≡ Some numbers → HasCleanDisk store r → Shows store r h → numbers.items ≡ numbers_waiting (views_of h)
-  numbers_told r h numbers is clean shows = subst (λ (n : Option (Vec ℕ Global)). HoldsWaiting n (views_of h)) is (shows.kept clean).pending
+  pub numbers_told : (r : Registry S store) (h : History) (numbers : Vec ℕ Global) → (kept_views r).pending ≡ Some numbers → HasCleanDisk store r → Shows store r h → numbers.items ≡ numbers_pending (views_of h)
+  numbers_told r h numbers is clean shows = subst (λ (n : Option (Vec ℕ Global)). HoldsPending n (views_of h)) is (shows.kept clean).pending

@@ -23,7 +23,7 @@ use Rattle.pid_service.specs.Asking.{MayGive}
 use Rattle.pid_service_laws.specs.declared.faults.ExportFault.{ExportFault}
 use Rattle.pid_service_laws.specs.declared.faults.ExportFault.TheVariants.{Refused, Write}
 use Rattle.pid_service.specs.Steps.Exports.{ExportsTree}
-use Rattle.pid_file.specs.Printing.{ended, header, lines_behind, print}
+use Rattle.pid_file.specs.Printing.{ended, header, lines_after, print}
 use Rattle.pid_service_laws.specs.Moderating.{ExportsText}
 use Rattle.pid_service_laws.specs.Moderating.{LooksUp}
 use Rattle.pid_service_laws.specs.WholeFronts.{IsWholeFront}
@@ -39,7 +39,7 @@ whole_items front behind =
     let rest = text_behind (last_path [] front) behind in record {
       behind = rest;
       is = ap (λ (l : List ℕ). header ++ 10 ∷ l) (text_joined [] front behind) ∙ sym (append_assoc header (10 ∷ text_behind [] front) rest);
-      whole = none_open (header ∷ lines_behind [] front);
+      whole = none_open (header ∷ lines_after [] front);
     }
 
 -- an export of a registry

@@ -47,8 +47,8 @@ step_shown s t h e (inr (inr bare)) steps = let so = steps.created bare.0 in (so
 
 -- tables at rest were judged
 pub judged_ready : {X : Type 0} (s t : State) (h : History) (r : Result X TableFault) → OnlyReads s t → AtRest s (views_of h) → IfErr r IsMemoryOrStore → MatchResult r (λ x. AtRest t (views_of h)) (λ e. IsMemoryOrStore e × ShowsOrBlank t h)
-judged_ready s t h (Ok x) reads rest untold = reads.kept (views_of h) rest
-judged_ready s t h (Err e) reads rest untold = (untold, inl (reads.kept (views_of h) rest))
+judged_ready s t h (Ok x) reads rest only_store = reads.kept (views_of h) rest
+judged_ready s t h (Err e) reads rest only_store = (only_store, inl (reads.kept (views_of h) rest))
 
 -- where there is some table: a migration before the judgement leaves them, or found a registry in schema 1
 
@@ -62,11 +62,11 @@ Now new e = IsTrue new.is_open → Explains new.now e
 abbrev IsReady : {X : Type 0} → State → State → Result X TableFault → Type 0
 IsReady old new r = MatchResult r (λ x. IsFound old.now) (λ e. Refuses old e new ⊎ (FindsVersion old.now (Some One) × Now new e))
 
-untold_explains : (d : Database) (e : TableFault) → IsMemoryOrStore e → Explains d e
-untold_explains d Memory untold = tt
-untold_explains d Store untold = tt
-untold_explains d (NewerSchema n) untold = absurd untold
-untold_explains d Damaged untold = absurd untold
+only_store_explains : (d : Database) (e : TableFault) → IsMemoryOrStore e → Explains d e
+only_store_explains d Memory only_store = tt
+only_store_explains d Store only_store = tt
+only_store_explains d (NewerSchema n) only_store = absurd only_store
+only_store_explains d Damaged only_store = absurd only_store
 
 pub seen_still : (old new : State) → (IsTrue old.is_open → old.now ≡ old.committed) → OnlyReads old new → IsTrue new.is_open → new.now ≡ old.now
 seen_still old new settled reads = (reads.same old.now (record { sees = λ opened. refl; committed = λ opened. sym (settled opened) })).sees
@@ -76,8 +76,8 @@ same_judged old new (Ok x) reads judged = (Two, judged)
 same_judged old new (Err e) reads explains = inl (Fails explains reads)
 
 shut_judged : {X : Type 0} (old new : State) (r : Result X TableFault) → OnlyReads old new → MatchResult r (λ x. ⊥) IsMemoryOrStore → IsReady old new r
-shut_judged old new (Ok x) reads untold = absurd untold
-shut_judged old new (Err e) reads untold = inl (Fails (untold_explains old.now e untold) reads)
+shut_judged old new (Ok x) reads only_store = absurd only_store
+shut_judged old new (Err e) reads only_store = inl (Fails (only_store_explains old.now e only_store) reads)
 
 moved_found : {X : Type 0} (old mid new : State) (r : Result X TableFault) → (IsTrue new.is_open → new.now ≡ mid.now) → Judged mid.now r → FindsVersion old.now (Some One) → IsReady old new r
 moved_found old mid new (Ok x) same judged found = (One, found)
@@ -173,13 +173,13 @@ module _ {S : Type 0} (store : Ghosts S) where
       told = told;
     }
 
-    pub back_behind : {X : Type 0} (step : Step) (r : Result X TableFault) → (step ≡ Already → clauses.OnlyReads store old mid)
+    pub back_after : {X : Type 0} (step : Step) (r : Result X TableFault) → (step ≡ Already → clauses.OnlyReads store old mid)
         → (clauses.HasCleanDisk store mid → HasSomeTable (clauses.seen store old).schema → tables.Brings store old step mid)
         → (clauses.HasCleanDisk store new → IfErr r (λ e. ExplainsNow store new e)) → IfErr r (λ e. tables.IsTakenBack store old new ⊎ MayHaveMade store old e new)
-    back_behind step (Ok x) already brings told = tt
-    back_behind Already (Err e) already brings told = inl (reads_back (state store old) (state store new) (reads_then (state store old) (state store mid) (state store new) (already refl) reads))
-    back_behind Created (Err e) already brings told = inr (refused_then Created e (λ is. let no : ⊥ = cc in no) brings told)
-    back_behind Moved (Err e) already brings told = inr (refused_then Moved e (λ is. let no : ⊥ = cc in no) brings told)
+    back_after step (Ok x) already brings told = tt
+    back_after Already (Err e) already brings told = inl (reads_back (state store old) (state store new) (reads_then (state store old) (state store mid) (state store new) (already refl) reads))
+    back_after Created (Err e) already brings told = inr (refused_then Created e (λ is. let no : ⊥ = cc in no) brings told)
+    back_after Moved (Err e) already brings told = inr (refused_then Moved e (λ is. let no : ⊥ = cc in no) brings told)
 
 pub explains_now : {X : Type 0} (mid new : State) (r : Result X TableFault) → (IsTrue new.is_open → new.now ≡ mid.now) → Judged mid.now r → IfErr r (λ e. Now new e)
 explains_now mid new (Ok x) same found = tt

@@ -18,7 +18,7 @@ use Rattle.pid_moderation.specs.declared.facts.State.TheVariants.{Pending as Pen
 use Rattle.pid_moderation.specs.declared.lists.Pending.{Pending}
 use Rattle.pid_moderation.specs.Changes.{FitsEffect, affected, changed, keeping}
 use Rattle.pid_moderation.specs.CheckTables.{is_pending}
-use Rattle.pid_moderation.specs.PendingPages.{standings_from, waits_above, waiting_above, pending_in, told_of}
+use Rattle.pid_moderation.specs.PendingPages.{standings_from, waits_above, pending_above, pending_in, told_of}
 use Rattle.pid_moderation.specs.Submissions.{Standing}
 use Rattle.pid_moderation.specs.Views.{Views, Submitted, submission_at}
 use Rattle.pid_tables.specs.Rows.Shows.{AreViews}
@@ -26,26 +26,26 @@ use Rattle.pid_tables.specs.Lists.Laws.{PendingGoOn, pending_number}
 use Rattle.pid_tables.specs.Lists.Pages.{last_of}
 use Rattle.pid_tables.specs.Lists.Steps.PendingRows.{AreStandingIn}
 use Rattle.pid_tables.proofs.OfLists.PendingLists.{page_in}
-use Rattle.pid_service.specs.KeptViews.{HoldsWaiting, numbers_waiting}
+use Rattle.pid_service.specs.KeptViews.{HoldsPending, numbers_pending}
 use Rattle.pid_tables.specs.Lists.ByNumber.{standings_at}
-use Rattle.pid_service.specs.Steps.Waiting.{its_number}
+use Rattle.pid_service.specs.Steps.PendingNumbers.{its_number}
 
 -- ---- what a change does
 
-abbrev waiting_from : ℕ → List Submitted → (ℕ → State) → List ℕ
-waiting_from n submits state = map pending_number (filter (waits_above 0) (standings_from n submits state))
+abbrev pending_from : ℕ → List Submitted → (ℕ → State) → List ℕ
+pending_from n submits state = map pending_number (filter (waits_above 0) (standings_from n submits state))
 
 -- a receipt changes none of it
-pub kept_waiting : (r : Option Receipt) (v : Views) → numbers_waiting (keeping r v) ≡ numbers_waiting v
-kept_waiting None v = refl
-kept_waiting (Some r) v = refl
+pub kept_pending : (r : Option Receipt) (v : Views) → numbers_pending (keeping r v) ≡ numbers_pending v
+kept_pending None v = refl
+kept_pending (Some r) v = refl
 
 -- what is right about the effect of a change is right about the change
-pub still_waiting : (change : Change) (v : Views) (numbers : Option (Vec ℕ Global)) → HoldsWaiting numbers (affected change.revision change.effect v) → HoldsWaiting numbers (changed change v)
-still_waiting change v None holds = tt
-still_waiting change v (Some numbers) holds = holds ∙ sym (kept_waiting change.receipt (affected change.revision change.effect v))
+pub still_pending : (change : Change) (v : Views) (numbers : Option (Vec ℕ Global)) → HoldsPending numbers (affected change.revision change.effect v) → HoldsPending numbers (changed change v)
+still_pending change v None holds = tt
+still_pending change v (Some numbers) holds = holds ∙ sym (kept_pending change.receipt (affected change.revision change.effect v))
 
-one_more : (n m : ℕ) (submits : List Submitted) (s : Submitted) (state : ℕ → State) → m ≡ n + length submits → 1 ≤ n → state m ≡ PendingState → waiting_from n (submits ++ s ∷ []) state ≡ waiting_from n submits state ++ m ∷ []
+one_more : (n m : ℕ) (submits : List Submitted) (s : Submitted) (state : ℕ → State) → m ≡ n + length submits → 1 ≤ n → state m ≡ PendingState → pending_from n (submits ++ s ∷ []) state ≡ pending_from n submits state ++ m ∷ []
 one_more n m [] s state is low pending =
     let same : n ≡ m = omega (arith, is) in
     let above : nat_lt 0 n ≡ true = grind (arith, nat_tests) in
@@ -62,7 +62,7 @@ one_more n m (x ∷ submits) s state is low pending =
     ]
 
 -- a submission that is made waits, after all others
-pub submitted_waits : (v : Views) (number : ℕ) (s : Submitted) → AreViews v → number ≡ length v.submits + 1 → numbers_waiting (record v { submits = v.submits ++ s ∷ [] }) ≡ numbers_waiting v ++ number ∷ []
+pub submitted_waits : (v : Views) (number : ℕ) (s : Submitted) → AreViews v → number ≡ length v.submits + 1 → numbers_pending (record v { submits = v.submits ++ s ∷ [] }) ≡ numbers_pending v ++ number ∷ []
 submitted_waits v number s views is =
     one_more 1 number v.submits s v.state (omega (arith, is)) (omega arith) (subst (λ n. v.state n ≡ PendingState) (sym is) (views.pending (length v.submits + 1) (past v.submits (length v.submits) refl)))
   where
@@ -97,35 +97,35 @@ numbers_cond : (b : Bool) (x : ℕ × Standing) (all : List (ℕ × Standing)) �
 numbers_cond true x all = refl
 numbers_cond false x all = refl
 
-decided_from : (n number : ℕ) (st : State) (submits : List Submitted) (state : ℕ → State) → is_pending st ≡ false → waiting_from n submits (λ m. if m == number then st else state m) ≡ others number (waiting_from n submits state)
+decided_from : (n number : ℕ) (st : State) (submits : List Submitted) (state : ℕ → State) → is_pending st ≡ false → pending_from n submits (λ m. if m == number then st else state m) ≡ others number (pending_from n submits state)
 decided_from n number st [] state off = refl
 decided_from n number st (x ∷ submits) state off =
     let now : ℕ → State = λ m. if m == number then st else state m in
     numbers_cond (waits_above 0 (n, record { submitted = x; state = now n })) (n, record { submitted = x; state = now n }) (filter (waits_above 0) (standings_from (n + 1) submits now))
-    ∙ one_decided (n == number) (nat_lt 0 n) n number st (state n) (waiting_from (n + 1) submits now) (waiting_from (n + 1) submits state) refl off (decided_from (n + 1) number st submits state off)
+    ∙ one_decided (n == number) (nat_lt 0 n) n number st (state n) (pending_from (n + 1) submits now) (pending_from (n + 1) submits state) refl off (decided_from (n + 1) number st submits state off)
     ∙ ap (others number) (sym (numbers_cond (waits_above 0 (n, record { submitted = x; state = state n })) (n, record { submitted = x; state = state n }) (filter (waits_above 0) (standings_from (n + 1) submits state))))
 
 -- a submission that is decided waits no more
-pub decided_waits : (v w : Views) (number : ℕ) (st : State) → is_pending st ≡ false → w.submits ≡ v.submits → w.state ≡ (λ m. if m == number then st else v.state m) → numbers_waiting w ≡ others number (numbers_waiting v)
-decided_waits v w number st off same states = (λ i. waiting_from 1 (same i) (states i)) ∙ decided_from 1 number st v.submits v.state off
+pub decided_waits : (v w : Views) (number : ℕ) (st : State) → is_pending st ≡ false → w.submits ≡ v.submits → w.state ≡ (λ m. if m == number then st else v.state m) → numbers_pending w ≡ others number (numbers_pending v)
+decided_waits v w number st off same states = (λ i. pending_from 1 (same i) (states i)) ∙ decided_from 1 number st v.submits v.state off
 
 -- the same of numbers that are kept
 
 pub submitted_holds : (effect : Effect) (number : ℕ) (author : List ℕ) (path : Path) (proposal : Proposal) (note : List ℕ) → effect ≡ Made number author path proposal note → (n : ℕ) (v : Views) (old new : List ℕ) → AreViews v → FitsEffect effect v
-    → old ≡ numbers_waiting v → new ≡ old ++ number ∷ [] → new ≡ numbers_waiting (affected n effect v)
+    → old ≡ numbers_pending v → new ≡ old ++ number ∷ [] → new ≡ numbers_pending (affected n effect v)
 submitted_holds effect number author path proposal note is n v old new views fits held added =
     let many : number ≡ length v.submits + 1 = subst (λ (e : Effect). FitsEffect e v) is fits in
-    added ∙ ap (λ l. l ++ number ∷ []) held ∙ sym (submitted_waits v number (record { author = author; path = path; proposal = proposal; note = note }) views many) ∙ ap (λ (e : Effect). numbers_waiting (affected n e v)) (sym is)
+    added ∙ ap (λ l. l ++ number ∷ []) held ∙ sym (submitted_waits v number (record { author = author; path = path; proposal = proposal; note = note }) views many) ∙ ap (λ (e : Effect). numbers_pending (affected n e v)) (sym is)
 
-pub decided_holds : (effect : Effect) (number : ℕ) (st : State) (w : Option Write) → effect ≡ Decided number st w → (n : ℕ) (v : Views) (old new : List ℕ) → old ≡ numbers_waiting v → is_pending st ≡ false → new ≡ filter (λ k. not (k == number)) old
-    → new ≡ numbers_waiting (affected n effect v)
+pub decided_holds : (effect : Effect) (number : ℕ) (st : State) (w : Option Write) → effect ≡ Decided number st w → (n : ℕ) (v : Views) (old new : List ℕ) → old ≡ numbers_pending v → is_pending st ≡ false → new ≡ filter (λ k. not (k == number)) old
+    → new ≡ numbers_pending (affected n effect v)
 decided_holds effect number st w is n v old new held off left =
-    left ∙ ap (others number) held ∙ sym (decided_waits v (affected n (Decided number st w) v) number st off refl refl) ∙ ap (λ (e : Effect). numbers_waiting (affected n e v)) (sym is)
+    left ∙ ap (others number) held ∙ sym (decided_waits v (affected n (Decided number st w) v) number st off refl refl) ∙ ap (λ (e : Effect). numbers_pending (affected n e v)) (sym is)
 
 -- ---- pages of it, one after the other
 
-abbrev pub waiting : ℕ → Views → List ℕ
-waiting after v = map pending_number (waiting_above after v)
+abbrev pub pending_past : ℕ → Views → List ℕ
+pending_past after v = map pending_number (pending_above after v)
 
 numbers_told : (page : List Pending) → map its_number page ≡ map pending_number (map told_of page)
 numbers_told [] = refl
@@ -137,34 +137,34 @@ take_short (suc n) [] low = refl
 take_short (suc n) (x ∷ xs) low = ap (λ l. x ∷ l) (take_short n xs (omega (arith, low)))
 
 -- a page that is not full has all that wait after this number
-pub last_page : (v : Views) (most after : ℕ) (page : List Pending) (before : List ℕ) → map told_of page ≡ pending_in most after v → length page < most → before ++ map its_number page ≡ before ++ waiting after v
+pub last_page : (v : Views) (most after : ℕ) (page : List Pending) (before : List ℕ) → map told_of page ≡ pending_in most after v → length page < most → before ++ map its_number page ≡ before ++ pending_past after v
 last_page v most after page before told short =
     let many : length (pending_in most after v) ≡ length page = sym (ap length told) ∙ length-map page told_of in
-    ap (λ l. before ++ l) (numbers_told page ∙ ap (map pending_number) (told ∙ take_short most (waiting_above after v) (omega (arith, many, short))))
+    ap (λ l. before ++ l) (numbers_told page ∙ ap (map pending_number) (told ∙ take_short most (pending_above after v) (omega (arith, many, short))))
 
 -- what waits after the last number of a page comes after it
 pub next_page : PendingGoOn → (v : Views) (most after : ℕ) (page : List Pending) (before : List ℕ) → map told_of page ≡ pending_in most after v
-    → (before ++ map its_number page) ++ waiting (last_of pending_number after (map told_of page)) v ≡ before ++ waiting after v
+    → (before ++ map its_number page) ++ pending_past (last_of pending_number after (map told_of page)) v ≡ before ++ pending_past after v
 next_page law v most after page before told =
-    let all = waiting_above after v in
-    let rest : waiting (last_of pending_number after (map told_of page)) v ≡ map pending_number (drop most all) = ap (λ p. waiting (last_of pending_number after p) v) told ∙ ap (map pending_number) (law most after v) in
+    let all = pending_above after v in
+    let rest : pending_past (last_of pending_number after (map told_of page)) v ≡ map pending_number (drop most all) = ap (λ p. pending_past (last_of pending_number after p) v) told ∙ ap (map pending_number) (law most after v) in
     let head : map its_number page ≡ map pending_number (take most all) = numbers_told page ∙ ap (map pending_number) told in
     (λ i. (before ++ head i) ++ rest i) ∙ append_assoc before (map pending_number (take most all)) (map pending_number (drop most all))
     ∙ ap (λ l. before ++ l) (sym (map-append pending_number (take most all) (drop most all)) ∙ ap (map pending_number) (take-append-drop most all))
 
 -- the same of their counts
 
-pub last_count : (v : Views) (most after : ℕ) (page : List Pending) (before : ℕ) → map told_of page ≡ pending_in most after v → length page < most → before + length page ≡ before + length (waiting_above after v)
+pub last_count : (v : Views) (most after : ℕ) (page : List Pending) (before : ℕ) → map told_of page ≡ pending_in most after v → length page < most → before + length page ≡ before + length (pending_above after v)
 last_count v most after page before told short =
     let many : length (pending_in most after v) ≡ length page = sym (ap length told) ∙ length-map page told_of in
-    ap (λ n. before + n) (sym many ∙ ap length (take_short most (waiting_above after v) (omega (arith, many, short))))
+    ap (λ n. before + n) (sym many ∙ ap length (take_short most (pending_above after v) (omega (arith, many, short))))
 
 pub next_count : PendingGoOn → (v : Views) (most after : ℕ) (page : List Pending) (before : ℕ) → map told_of page ≡ pending_in most after v
-    → (before + length page) + length (waiting_above (last_of pending_number after (map told_of page)) v) ≡ before + length (waiting_above after v)
+    → (before + length page) + length (pending_above (last_of pending_number after (map told_of page)) v) ≡ before + length (pending_above after v)
 next_count law v most after page before told =
-    let all = waiting_above after v in
+    let all = pending_above after v in
     let many : length page ≡ length (take most all) = sym (length-map page told_of) ∙ ap length told in
-    let rest : length (waiting_above (last_of pending_number after (map told_of page)) v) ≡ length (drop most all) = ap (λ p. length (waiting_above (last_of pending_number after p) v)) told ∙ ap length (law most after v) in
+    let rest : length (pending_above (last_of pending_number after (map told_of page)) v) ≡ length (drop most all) = ap (λ p. length (pending_above (last_of pending_number after p) v)) told ∙ ap length (law most after v) in
     let both : length all ≡ length (take most all) + length (drop most all) = sym (ap length (take-append-drop most all)) ∙ length-append (take most all) (drop most all) in
     omega (arith, many, rest, both)
 
@@ -216,10 +216,10 @@ stand_there v [] there = refl
 stand_there v (s ∷ all) there = (λ i. cons_option (option_map (λ t. (s.0, t)) (there.0 i)) (standings_at (map pending_number all) v)) ∙ ap (λ l. s ∷ l) (stand_there v all there.1)
 
 -- a page by the first numbers above this one
-pub page_numbered : (v : Views) (most after : ℕ) (numbers page : List ℕ) → numbers ≡ numbers_waiting v → page ≡ take most (filter (nat_lt after) numbers) → standings_at page v ≡ pending_in most after v
+pub page_numbered : (v : Views) (most after : ℕ) (numbers page : List ℕ) → numbers ≡ numbers_pending v → page ≡ take most (filter (nat_lt after) numbers) → standings_at page v ≡ pending_in most after v
 page_numbered v most after numbers page all is =
     let same : page ≡ map pending_number (pending_in most after v) =
-    is ∙ ap (λ l. take most (filter (nat_lt after) l)) all ∙ ap (take most) (filter_numbers after (waiting_above 0 v) ∙ ap (map pending_number) (filter_twice after (standings_from 1 v.submits v.state))) ∙ take-map pending_number most (waiting_above after v) in
+    is ∙ ap (λ l. take most (filter (nat_lt after) l)) all ∙ ap (take most) (filter_numbers after (pending_above 0 v) ∙ ap (map pending_number) (filter_twice after (standings_from 1 v.submits v.state))) ∙ take-map pending_number most (pending_above after v) in
     ap (λ l. standings_at l v) same ∙ stand_there v (pending_in most after v) (page_in v after most)
 
 -- a loop that takes the first numbers above another

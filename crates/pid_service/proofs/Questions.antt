@@ -8,7 +8,7 @@ use Rattle.sqlite.specs.Held.{Held, state}
 use Rattle.sqlite_trees.proofs.ListLemmas.{filter_none}
 use Rattle.sqlite_trees.specs.declared.store.Store.{Ghosts}
 use Rattle.pid_ident.specs.Trees.{text_cmp}
-use Rattle.pid_moderation.specs.ChangePages.{Changed, changed_behind, is_later, numbered_in}
+use Rattle.pid_moderation.specs.ChangePages.{Changed, changed_after, is_later, numbered_in}
 use Rattle.pid_moderation.specs.History.{History}
 use Rattle.pid_moderation.specs.Items.{Items}
 use Rattle.pid_moderation.specs.Views.{Views, views_of}
@@ -93,16 +93,16 @@ module _ {S : Type 0} (store : Ghosts S) where
   told_since (Ok x) old mid new Told Readable first second clean told = told
   told_since (Err fault) old mid new Told Readable first second clean told = λ readable. caused_later (state store old) (state store mid) (state store new) (λ _. ⊥) fault first.survives second.survives.counts (second.clean clean) (told readable)
 
-  pub reads_behind : {X : Type 0} (old mid new : Held S) (r : Result X TableFault) (Told : Views → X → Type 0) → clauses.OnlyReads store old mid → clauses.Reads store mid new r Told → clauses.Reads store old new r Told
-  reads_behind old mid new r Told first read = record {
+  pub reads_after : {X : Type 0} (old mid new : Held S) (r : Result X TableFault) (Told : Views → X → Type 0) → clauses.OnlyReads store old mid → clauses.Reads store mid new r Told → clauses.Reads store old new r Told
+  reads_after old mid new r Told first read = record {
     rests = reads_then (state store old) (state store mid) (state store new) first read.rests;
     told = λ clean v rest. told_since r old mid new (Told v) (IsReadable v) first read.rests clean (read.told clean v (first.kept v rest));
   }
 
   -- a fault that is passed on behind a read
-  pub faults_behind : {X : Type 0} (old mid new : Held S) (e : TableFault) (r : Result X TableFault) (Says : Views → X → Type 0) → clauses.OnlyReads store old mid → clauses.OnlyReads store mid new
+  pub faults_after : {X : Type 0} (old mid new : Held S) (e : TableFault) (r : Result X TableFault) (Says : Views → X → Type 0) → clauses.OnlyReads store old mid → clauses.OnlyReads store mid new
       → (clauses.HasCleanDisk store new → (v : Views) → clauses.AtRest store mid v → IsReadable v → clauses.IsCaused store mid new e) → IsErrAnd r (λ f. f ≡ e) → clauses.Reads store old new r Says
-  faults_behind old mid new e r Says first second cause is = record {
+  faults_after old mid new e r Says first second cause is = record {
     rests = reads_then (state store old) (state store mid) (state store new) first second;
     told = λ clean v rest.
         passed_on r e (Says v) (λ fault. IsReadable v → clauses.IsCaused store old new fault) is
@@ -211,10 +211,10 @@ module _ {S : Type 0} (store : Ghosts S) where
       }
 
   -- one that the tables answer behind another one
-  pub answers_behind : {X Y : Type 0} (old mid new : Registry S store) (y : Y) (found : Result X TableFault) (r : Result X Refusal) (Before : History → Y → Type 0) (Told : Views → X → Type 0) (Says : History → X → Type 0) → Finds store old mid (Ok y) Before → is_live new ≡ is_live mid
+  pub answers_after : {X Y : Type 0} (old mid new : Registry S store) (y : Y) (found : Result X TableFault) (r : Result X Refusal) (Before : History → Y → Type 0) (Told : Views → X → Type 0) (Says : History → X → Type 0) → Finds store old mid (Ok y) Before → is_live new ≡ is_live mid
       → kept_views new ≡ kept_views mid → clauses.Reads store (connection mid) (connection new) found Told → r ≡ answered_as found → ((h : History) → IsReached h → IsReadable (views_of h))
       → ((h : History) (x : X) → Shows store mid h → HasCleanDisk store mid → Told (views_of h) x → Says h x) → Finds store old new r Says
-  answers_behind old mid new y found r Before Told Says first same kept read is readable means =
+  answers_after old mid new y found r Before Told Says first same kept read is readable means =
       let on : is_live old ≡ true = still_live (is_live old) (λ off. answered y Failed (first.failed off).0) in
       answers_then old mid new y r Before Says first (answers_read mid new found r Told Says (first.lives ∙ on) same kept read is readable means)
 
@@ -264,5 +264,5 @@ take_none : (most : ℕ) → take {A = Changed} most [] ≡ []
 take_none most = search rules
 
 -- so nothing was named anew after it
-pub none_changed : (most since : ℕ) (after : List ℕ) (v : Views) → ((path : List ℕ) → v.since path ≤ since) → take most (changed_behind since after v) ≡ []
+pub none_changed : (most since : ℕ) (after : List ℕ) (v : Views) → ((path : List ℕ) → v.since path ≤ since) → take most (changed_after since after v) ≡ []
 none_changed most since after v within = ap (λ (items : Items). take most (map (numbered_in v) items)) (filter_none (is_later since after v) v.items (none_later since after v v.items within)) ∙ take_none most

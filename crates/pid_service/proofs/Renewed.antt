@@ -13,8 +13,8 @@ use Rattle.pid_moderation.specs.declared.change.Edit.{Edit}
 use Rattle.pid_moderation.specs.declared.change.Edit.TheVariants.{Add, Rename, Remove}
 use Rattle.pid_moderation.specs.declared.change.Write.{Write}
 use Rattle.pid_service.proofs.ItemLines.{extents_joined, last_path, text_joined}
-use Rattle.pid_service.proofs.RenewedTexts.{drop_extents, edited_parts, extents_follow, last_behind, last_there, take_extents, text_after, text_before, text_follows, text_parts}
-use Rattle.pid_service.specs.ItemTexts.{extents_behind, text_behind, text_of_items}
+use Rattle.pid_service.proofs.RenewedTexts.{drop_extents, edited_parts, extents_follow, last_after, last_there, take_extents, text_after, text_before, text_follows, text_parts}
+use Rattle.pid_service.specs.ItemTexts.{extents_after, text_behind, text_of_items}
 use Rattle.pid_service.specs.Steps.ItemTexts.{Extents}
 use Rattle.pid_service.specs.KeptViews.{IsKeptText, extent_in}
 use Rattle.pid_service.specs.Steps.Renewing.{IsPlace, OpensTheSame, PutsLines, edited_item, has_lines, last_extent, path_before, new_items}
@@ -22,7 +22,7 @@ use Rattle.pid_service.specs.Steps.TextSinks.{HasLines}
 use Rattle.pid_service.specs.declared.items_text.GrowingText.{GrowingText}
 use Rattle.pid_service.specs.declared.kept_text.Extent.{Extent}
 use Rattle.pid_service.specs.declared.kept_text.KeptText.{KeptText}
-use Rattle.pid_service.specs.declared.renewing.Place.{Place}
+use Rattle.pid_service.specs.declared.renewing.TextPlace.{TextPlace}
 
 -- the path after which what is behind comes, before the edit
 last_was : (there : Bool) (path : Path) (before : Option Path) → text_or_none (if there then Some path else before) ≡ (if there then path_text path else text_or_none before)
@@ -30,7 +30,7 @@ last_was true path before = refl
 last_was false path before = refl
 
 -- and with the edit
-last_now : (path : Path) (edit : Edit) (before : Option Path) (extents : List Extent) → map extent_in extents ≡ extents_behind (text_or_none before) (edited_item (path_text path) edit)
+last_now : (path : Path) (edit : Edit) (before : Option Path) (extents : List Extent) → map extent_in extents ≡ extents_after (text_or_none before) (edited_item (path_text path) edit)
     → text_or_none (if has_lines extents then Some path else before) ≡ last_path (text_or_none before) (edited_item (path_text path) edit)
 last_now path (Add name) before [] is = absurd (let no : ⊥ = cc in no)
 last_now path (Add name) before (e ∷ extents) is = refl
@@ -41,17 +41,17 @@ last_now path Remove before (e ∷ extents) is = absurd (let no : ⊥ = cc in no
 
 -- the lines of a name that an edit gives
 pub lines_given : (text : GrowingText) (before : List ℕ) (write : Write) (name shown : List ℕ) → (write.edit ≡ Add name) ⊎ (write.edit ≡ Rename name) → shown ≡ name
-    → HasLines text (text_behind before ((path_text write.path, shown) ∷ [])) (extents_behind before ((path_text write.path, shown) ∷ [])) → HasLines text (text_behind before (new_items write)) (extents_behind before (new_items write))
+    → HasLines text (text_behind before ((path_text write.path, shown) ∷ [])) (extents_after before ((path_text write.path, shown) ∷ [])) → HasLines text (text_behind before (new_items write)) (extents_after before (new_items write))
 lines_given text before write name shown is same has =
     let items : new_items write ≡ (path_text write.path, shown) ∷ [] =
     elim is [
       | inl e ↦ ap (edited_item (path_text write.path)) e ∙ ap (λ (n : List ℕ). (path_text write.path, n) ∷ []) (sym same)
       | inr e ↦ ap (edited_item (path_text write.path)) e ∙ ap (λ (n : List ℕ). (path_text write.path, n) ∷ []) (sym same)
     ] in
-    subst (λ (l : Items). HasLines text (text_behind before l) (extents_behind before l)) (sym items) has
+    subst (λ (l : Items). HasLines text (text_behind before l) (extents_after before l)) (sym items) has
 
-module _ (old new : KeptText) (place : Place) (write : Write) (lines : GrowingText) (items : Items) (sorted : is_sorted text_cmp items ≡ true) (kept : IsKeptText old items) (at : IsPlace place (map extent_in old.extents.items) (path_text write.path))
-    (has : HasLines lines (text_behind (text_or_none place.before) (new_items write)) (extents_behind (text_or_none place.before) (new_items write))) (puts : PutsLines old new place write.path lines) where
+module _ (old new : KeptText) (place : TextPlace) (write : Write) (lines : GrowingText) (items : Items) (sorted : is_sorted text_cmp items ≡ true) (kept : IsKeptText old items) (at : IsPlace place (map extent_in old.extents.items) (path_text write.path))
+    (has : HasLines lines (text_behind (text_or_none place.before) (new_items write)) (extents_after (text_or_none place.before) (new_items write))) (puts : PutsLines old new place write.path lines) where
   abbrev key : List ℕ
   key = path_text write.path
 
@@ -71,14 +71,14 @@ module _ (old new : KeptText) (place : Place) (write : Write) (lines : GrowingTe
   abbrev behind : List ℕ
   behind = last_path [] (take place.after items)
 
-  here : IsPlace place (extents_behind [] items) key
+  here : IsPlace place (extents_after [] items) key
   here = subst (λ (l : Extents). IsPlace place l key) kept.extents at
 
   parts : edited key write.edit items ≡ front ++ (put_items ++ rest)
   parts = edited_parts key write.edit place.there place.index place.after items sorted here.after here.below here.stands
 
   place_before : text_or_none place.before ≡ before
-  place_before = here.before ∙ ap (last_extent []) (take_extents [] place.index items) ∙ last_behind [] front
+  place_before = here.before ∙ ap (last_extent []) (take_extents [] place.index items) ∙ last_after [] front
 
   was : text_or_none (path_before place write.path place.there) ≡ behind
   was = last_was place.there write.path place.before ∙ ap (λ (l : List ℕ). if place.there then key else l) place_before ∙ sym (last_there place.there place.index place.after key items here.after here.stands)
@@ -86,10 +86,10 @@ module _ (old new : KeptText) (place : Place) (write : Write) (lines : GrowingTe
   now : text_or_none (path_before place write.path (has_lines lines.extents.items)) ≡ last_path before put_items
   now = last_now write.path write.edit place.before lines.extents.items has.extents_are ∙ ap (λ (l : List ℕ). last_path l put_items) place_before
 
-  extents_rest : map extent_in (drop place.after old.extents.items) ≡ extents_behind behind rest
+  extents_rest : map extent_in (drop place.after old.extents.items) ≡ extents_after behind rest
   extents_rest = sym (drop-map extent_in place.after old.extents.items) ∙ ap (drop place.after) kept.extents ∙ drop_extents [] place.after items
 
-  opens : OpensTheSame behind (last_path before put_items) (extents_behind behind rest)
+  opens : OpensTheSame behind (last_path before put_items) (extents_after behind rest)
   opens = subst (λ (l : Extents). OpensTheSame behind (last_path before put_items) l) extents_rest
       (subst (λ (l : List ℕ). OpensTheSame l (last_path before put_items) (map extent_in (drop place.after old.extents.items))) was
       (subst (λ (l : List ℕ). OpensTheSame (text_or_none (path_before place write.path place.there)) l (map extent_in (drop place.after old.extents.items))) now puts.opens))
@@ -103,11 +103,11 @@ module _ (old new : KeptText) (place : Place) (write : Write) (lines : GrowingTe
   bytes_new : lines.buffer.taken.items ≡ text_behind before put_items
   bytes_new = has.bytes_are ∙ ap (λ (l : List ℕ). text_behind l put_items) place_before
 
-  extents_front : map extent_in (take place.index old.extents.items) ≡ extents_behind [] front
+  extents_front : map extent_in (take place.index old.extents.items) ≡ extents_after [] front
   extents_front = sym (take-map extent_in place.index old.extents.items) ∙ ap (take place.index) kept.extents ∙ take_extents [] place.index items
 
-  extents_new : map extent_in lines.extents.items ≡ extents_behind before put_items
-  extents_new = has.extents_are ∙ ap (λ (l : List ℕ). extents_behind l put_items) place_before
+  extents_new : map extent_in lines.extents.items ≡ extents_after before put_items
+  extents_new = has.extents_are ∙ ap (λ (l : List ℕ). extents_after l put_items) place_before
 
   -- the text is that of the items after the edit
   pub renewed : IsKeptText new (edited key write.edit items)
@@ -117,5 +117,5 @@ module _ (old new : KeptText) (place : Place) (write : Write) (lines : GrowingTe
     extents = ap (map extent_in) puts.extents ∙ map-append extent_in (take place.index old.extents.items) (lines.extents.items ++ drop place.after old.extents.items)
         ∙ ap (λ (l : Extents). map extent_in (take place.index old.extents.items) ++ l) (map-append extent_in lines.extents.items (drop place.after old.extents.items))
         ∙ (λ i. extents_front i ++ (extents_new i ++ (extents_rest ∙ extents_follow behind (last_path before put_items) rest opens) i))
-        ∙ ap (λ (l : Extents). extents_behind [] front ++ l) (sym (extents_joined before put_items rest)) ∙ sym (extents_joined [] front (put_items ++ rest)) ∙ ap (extents_behind []) (sym parts);
+        ∙ ap (λ (l : Extents). extents_after [] front ++ l) (sym (extents_joined before put_items rest)) ∙ sym (extents_joined [] front (put_items ++ rest)) ∙ ap (extents_after []) (sym parts);
   }

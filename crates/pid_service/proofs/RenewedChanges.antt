@@ -14,7 +14,7 @@ use Rattle.pid_file.specs.PathTexts.{path_text}
 use Rattle.pid_file.specs.Trees.{text_cmp}
 use Rattle.pid_file.specs.declared.path.Path.{Path}
 use Rattle.pid_file.proofs.Maps.{same_texts}
-use Rattle.pid_moderation.specs.ChangePages.{Changed, changed_behind, changed_of, is_later, numbered_in}
+use Rattle.pid_moderation.specs.ChangePages.{Changed, changed_after, changed_of, is_later, numbered_in}
 use Rattle.pid_moderation.specs.Changes.{FitsEdit, FitsEffect, affected, changed, edited, keeping, renumbered, with_items}
 use Rattle.pid_moderation.specs.Items.{Items, has_name, name_at}
 use Rattle.pid_moderation.specs.Views.{Views, is_named_anew}
@@ -29,8 +29,8 @@ use Rattle.pid_moderation.specs.declared.facts.State.{State}
 use Rattle.pid_moderation.specs.declared.lists.ChangedItem.{ChangedItem}
 use Rattle.pid_moderation.proofs.Changing.{not_anew}
 use Rattle.pid_tables.proofs.OfRows.SetLemmas.{name_left, name_put}
-use Rattle.pid_service.proofs.ChangedLists.{behind_nothing, both, kept_since, same_changes}
-use Rattle.pid_service.proofs.RenewedTexts.{and_parts, below_less, edited_behind, edited_there}
+use Rattle.pid_service.proofs.ChangedLists.{after_nothing, both, kept_since, same_changes}
+use Rattle.pid_service.proofs.RenewedTexts.{and_parts, below_less, edited_after, edited_there}
 use Rattle.pid_service.specs.KeptViews.{HoldsChanges}
 use Rattle.pid_service.specs.declared.changes.KeptChanges.{KeptChanges}
 use Rattle.pid_service.specs.Steps.KeptChanges.{changed_item, is_on, on_side, with_edit}
@@ -81,7 +81,7 @@ divided key edit (e ∷ items) sorted = by_place (text_cmp key e.0) refl (divide
         edited_there key edit [] true (e ∷ items) is sorted
         ∙ sym (ap parted is ∙ (λ i. none_before key items below i ++ (edited_item key edit ++ all_after key items below i)))
     by_place Greater is rest =
-        edited_behind key edit [] (e ∷ []) items (is, tt) ∙ ap (λ (l : Items). e ∷ l) rest ∙ sym (ap parted is)
+        edited_after key edit [] (e ∷ []) items (is, tt) ∙ ap (λ (l : Items). e ∷ l) rest ∙ sym (ap parted is)
 
 -- ---- numbers of other paths, and of the one that is written
 
@@ -156,14 +156,14 @@ module _ (n s : ℕ) (path : Path) (v : Views) (less : s < n) where
       ap (map (numbered_in (after edit))) (filter-append (is_later s [] (after edit)) xs ys)
       ∙ map-append (numbered_in (after edit)) (filter (is_later s [] (after edit)) xs) (filter (is_later s [] (after edit)) ys)
 
-  told_side : (edit : Edit) (before : Bool) → told edit (side before key v.items) ≡ on_side before key (changed_behind s [] v)
+  told_side : (edit : Edit) (before : Bool) → told edit (side before key v.items) ≡ on_side before key (changed_after s [] v)
   told_side edit before = side_changed (is_on before key) s v (after edit) (λ p on. other_number n key edit v p (on_differs before key p on)) v.items
 
   told_one : (edit : Edit) (name : List ℕ) → (after edit).since key ≡ n → told edit ((key, name) ∷ []) ≡ record { path = key; name = name; since = n } ∷ []
   told_one edit name is =
       let larger : nat_lt s n ≡ true = grind (arith, nat_tests, less) in
       let above : nat_lt s ((after edit).since key) ≡ true = ap (nat_lt s) is ∙ larger in
-      ap (λ t. map (numbered_in (after edit)) (cond t ((key, name) ∷ []) [])) (both _ _ (behind_nothing path) above)
+      ap (λ t. map (numbered_in (after edit)) (cond t ((key, name) ∷ []) [])) (both _ _ (after_nothing path) above)
       ∙ ap (λ (k : ℕ). record { path = key; name = name; since = k } ∷ []) is
 
   told_item : (edit : Edit) → FitsEdit edit (name_at key v.items) → told edit (edited_item key edit) ≡ changed_item n key edit
@@ -172,7 +172,7 @@ module _ (n s : ℕ) (path : Path) (v : Views) (less : s < n) where
   told_item Remove fits = refl
 
   -- the written item has its place among what was changed
-  pub changed_with : (edit : Edit) → is_sorted text_cmp v.items ≡ true → FitsEdit edit (name_at key v.items) → changed_behind s [] (after edit) ≡ with_edit n key edit (changed_behind s [] v)
+  pub changed_with : (edit : Edit) → is_sorted text_cmp v.items ≡ true → FitsEdit edit (name_at key v.items) → changed_after s [] (after edit) ≡ with_edit n key edit (changed_after s [] v)
   changed_with edit sorted fits =
       ap (told edit) (divided key edit v.items sorted)
       ∙ told_both edit (side true key v.items) (edited_item key edit ++ side false key v.items)

@@ -10,36 +10,36 @@ use Rattle.std.specs.declared.cmp.Ordering.{Ordering}
 use Rattle.std.specs.declared.cmp.Ordering.TheVariants.{Less, Equal, Greater}
 use Rattle.std.proofs.lemmas.List.{take-append-drop}
 use Rattle.pid_file.proofs.Maps.{same_texts}
-use Rattle.pid_file.specs.Printing.{block_line, ended, header, item_line, lines_behind}
+use Rattle.pid_file.specs.Printing.{block_line, ended, header, item_line, lines_after}
 use Rattle.pid_file.specs.Trees.{text_cmp}
 use Rattle.pid_moderation.specs.Changes.{edited}
 use Rattle.pid_moderation.specs.Items.{Items}
 use Rattle.pid_moderation.specs.declared.change.Edit.{Edit}
 use Rattle.pid_moderation.specs.declared.change.Edit.TheVariants.{Add, Rename, Remove}
 use Rattle.pid_service.proofs.ItemLines.{last_path, text_first, text_joined}
-use Rattle.pid_service.specs.ItemTexts.{extents_behind, text_behind, text_of_items}
+use Rattle.pid_service.specs.ItemTexts.{extents_after, text_behind, text_of_items}
 use Rattle.pid_service.specs.Steps.ItemTexts.{Extents}
 use Rattle.pid_service.specs.Steps.Renewing.{OpensTheSame, BeginsAt, bytes_in, edited_item, last_extent}
 
 -- ---- extents
 
 -- their lengths add up to that of the text
-bytes_behind : (before : List ℕ) (items : Items) → bytes_in (extents_behind before items) ≡ length (text_behind before items)
-bytes_behind before [] = refl
-bytes_behind before (item ∷ items) =
+bytes_after : (before : List ℕ) (items : Items) → bytes_in (extents_after before items) ≡ length (text_behind before items)
+bytes_after before [] = refl
+bytes_after before (item ∷ items) =
     let one = text_behind before (item ∷ []) in
-    ap (λ n. length one + n) (bytes_behind item.0 items) ∙ sym (ap length (text_first before item items) ∙ length-append one (text_behind item.0 items))
+    ap (λ n. length one + n) (bytes_after item.0 items) ∙ sym (ap length (text_first before item items) ∙ length-append one (text_behind item.0 items))
 
-pub last_behind : (before : List ℕ) (items : Items) → last_extent before (extents_behind before items) ≡ last_path before items
-last_behind before [] = refl
-last_behind before (item ∷ items) = last_behind item.0 items
+pub last_after : (before : List ℕ) (items : Items) → last_extent before (extents_after before items) ≡ last_path before items
+last_after before [] = refl
+last_after before (item ∷ items) = last_after item.0 items
 
-pub take_extents : (before : List ℕ) (n : ℕ) (items : Items) → take n (extents_behind before items) ≡ extents_behind before (take n items)
+pub take_extents : (before : List ℕ) (n : ℕ) (items : Items) → take n (extents_after before items) ≡ extents_after before (take n items)
 take_extents before zero items = refl
 take_extents before (suc n) [] = refl
 take_extents before (suc n) (x ∷ items) = ap (λ (l : Extents). (x.0, length (text_behind before (x ∷ []))) ∷ l) (take_extents x.0 n items)
 
-pub drop_extents : (before : List ℕ) (n : ℕ) (items : Items) → drop n (extents_behind before items) ≡ extents_behind (last_path before (take n items)) (drop n items)
+pub drop_extents : (before : List ℕ) (n : ℕ) (items : Items) → drop n (extents_after before items) ≡ extents_after (last_path before (take n items)) (drop n items)
 drop_extents before zero items = refl
 drop_extents before (suc n) [] = refl
 drop_extents before (suc n) (x ∷ items) = drop_extents x.0 n items
@@ -60,9 +60,9 @@ headed front text is = omega (arith, is, length-append {A = ℕ})
 pub text_parts : (xs ys : Items) → text_of_items (xs ++ ys) ≡ text_of_items xs ++ text_behind (last_path [] xs) ys
 text_parts xs ys = ap (λ (l : List ℕ). header ++ 10 ∷ l) (text_joined [] xs ys) ∙ sym (append_assoc header (10 ∷ text_behind [] xs) (text_behind (last_path [] xs) ys))
 
-module _ (items : Items) (n at : ℕ) (is : at ≡ 18 + bytes_in (take n (extents_behind [] items))) where
+module _ (items : Items) (n at : ℕ) (is : at ≡ 18 + bytes_in (take n (extents_after [] items))) where
   pub cut_there : at ≡ length (text_of_items (take n items))
-  cut_there = is ∙ ap (λ (l : Extents). 18 + bytes_in l) (take_extents [] n items) ∙ ap (λ k. 18 + k) (bytes_behind [] (take n items)) ∙ sym (headed header (text_behind [] (take n items)) refl)
+  cut_there = is ∙ ap (λ (l : Extents). 18 + bytes_in l) (take_extents [] n items) ∙ ap (λ k. 18 + k) (bytes_after [] (take n items)) ∙ sym (headed header (text_behind [] (take n items)) refl)
 
   pub cut_whole : text_of_items items ≡ text_of_items (take n items) ++ text_behind (last_path [] (take n items)) (drop n items)
   cut_whole = ap text_of_items (sym (take-append-drop n items)) ∙ text_parts (take n items) (drop n items)
@@ -75,13 +75,13 @@ module _ (items : Items) (n at : ℕ) (is : at ≡ 18 + bytes_in (take n (extent
 
 -- ---- what comes behind another item
 
-pub text_follows : (before now : List ℕ) (items : Items) → OpensTheSame before now (extents_behind before items) → text_behind before items ≡ text_behind now items
+pub text_follows : (before now : List ℕ) (items : Items) → OpensTheSame before now (extents_after before items) → text_behind before items ≡ text_behind now items
 text_follows before now [] same = refl
-text_follows before now (item ∷ items) same = ap (λ b. ended ((if b then block_line item.0 ∷ [] else []) ++ item_line item ∷ lines_behind item.0 items)) same
+text_follows before now (item ∷ items) same = ap (λ b. ended ((if b then block_line item.0 ∷ [] else []) ++ item_line item ∷ lines_after item.0 items)) same
 
-pub extents_follow : (before now : List ℕ) (items : Items) → OpensTheSame before now (extents_behind before items) → extents_behind before items ≡ extents_behind now items
+pub extents_follow : (before now : List ℕ) (items : Items) → OpensTheSame before now (extents_after before items) → extents_after before items ≡ extents_after now items
 extents_follow before now [] same = refl
-extents_follow before now (item ∷ items) same = ap (λ b. (item.0, length (ended ((if b then block_line item.0 ∷ [] else []) ++ item_line item ∷ []))) ∷ extents_behind item.0 items) same
+extents_follow before now (item ∷ items) same = ap (λ b. (item.0, length (ended ((if b then block_line item.0 ∷ [] else []) ++ item_line item ∷ []))) ∷ extents_after item.0 items) same
 
 -- ---- what an edit of a path does to items
 
@@ -116,21 +116,21 @@ none_left_out key (e ∷ items) all =
     ap (λ o. cond (not (is_eq o)) (e ∷ without key items) (without key items)) (less_is _ parts.0) ∙ ap (λ (l : Items). e ∷ l) (none_left_out key items parts.1)
 
 -- what comes before the path stays
-pub edited_behind : (key : List ℕ) (edit : Edit) (before : List ℕ) (front rest : Items) → AllByRecursion (λ (e : List ℕ × ℕ). text_cmp key e.0 ≡ Greater) (extents_behind before front) → edited key edit (front ++ rest) ≡ front ++ edited key edit rest
-edited_behind key edit before [] rest all = refl
-edited_behind key (Add name) before (e ∷ front) rest all = ap (λ o. by_order o ((key, name) ∷ e ∷ front ++ rest) ((e.0, name) ∷ front ++ rest) (e ∷ put text_cmp key name (front ++ rest))) all.0 ∙ ap (λ (l : Items). e ∷ l) (edited_behind key (Add name) e.0 front rest all.1)
-edited_behind key (Rename name) before (e ∷ front) rest all = ap (λ o. by_order o ((key, name) ∷ e ∷ front ++ rest) ((e.0, name) ∷ front ++ rest) (e ∷ put text_cmp key name (front ++ rest))) all.0 ∙ ap (λ (l : Items). e ∷ l) (edited_behind key (Rename name) e.0 front rest all.1)
-edited_behind key Remove before (e ∷ front) rest all = ap (λ o. cond (not (is_eq o)) (e ∷ without key (front ++ rest)) (without key (front ++ rest))) all.0 ∙ ap (λ (l : Items). e ∷ l) (edited_behind key Remove e.0 front rest all.1)
+pub edited_after : (key : List ℕ) (edit : Edit) (before : List ℕ) (front rest : Items) → AllByRecursion (λ (e : List ℕ × ℕ). text_cmp key e.0 ≡ Greater) (extents_after before front) → edited key edit (front ++ rest) ≡ front ++ edited key edit rest
+edited_after key edit before [] rest all = refl
+edited_after key (Add name) before (e ∷ front) rest all = ap (λ o. by_order o ((key, name) ∷ e ∷ front ++ rest) ((e.0, name) ∷ front ++ rest) (e ∷ put text_cmp key name (front ++ rest))) all.0 ∙ ap (λ (l : Items). e ∷ l) (edited_after key (Add name) e.0 front rest all.1)
+edited_after key (Rename name) before (e ∷ front) rest all = ap (λ o. by_order o ((key, name) ∷ e ∷ front ++ rest) ((e.0, name) ∷ front ++ rest) (e ∷ put text_cmp key name (front ++ rest))) all.0 ∙ ap (λ (l : Items). e ∷ l) (edited_after key (Rename name) e.0 front rest all.1)
+edited_after key Remove before (e ∷ front) rest all = ap (λ o. cond (not (is_eq o)) (e ∷ without key (front ++ rest)) (without key (front ++ rest))) all.0 ∙ ap (λ (l : Items). e ∷ l) (edited_after key Remove e.0 front rest all.1)
 
 -- at its place the path has what the edit leaves
-put_there : (key name before : List ℕ) (there : Bool) (items : Items) → BeginsAt key there (extents_behind before items) → put text_cmp key name items ≡ (key, name) ∷ drop (cond there 1 0) items
+put_there : (key name before : List ℕ) (there : Bool) (items : Items) → BeginsAt key there (extents_after before items) → put text_cmp key name items ≡ (key, name) ∷ drop (cond there 1 0) items
 put_there key name before true [] stands = absurd stands
 put_there key name before true (e ∷ items) stands =
     ap (λ o. by_order o ((key, name) ∷ e ∷ items) ((e.0, name) ∷ items) (e ∷ put text_cmp key name items)) stands ∙ ap (λ (k : List ℕ). (k, name) ∷ items) (sym (same_texts key e.0 stands))
 put_there key name before false [] stands = refl
 put_there key name before false (e ∷ items) stands = ap (λ o. by_order o ((key, name) ∷ e ∷ items) ((e.0, name) ∷ items) (e ∷ put text_cmp key name items)) stands
 
-left_there : (key before : List ℕ) (there : Bool) (items : Items) → BeginsAt key there (extents_behind before items) → is_sorted text_cmp items ≡ true → without key items ≡ drop (cond there 1 0) items
+left_there : (key before : List ℕ) (there : Bool) (items : Items) → BeginsAt key there (extents_after before items) → is_sorted text_cmp items ≡ true → without key items ≡ drop (cond there 1 0) items
 left_there key before true [] stands sorted = absurd stands
 left_there key before true (e ∷ items) stands sorted =
     let above = (and_parts (below_all text_cmp e.0 items) (is_sorted text_cmp items) sorted).0 in
@@ -141,7 +141,7 @@ left_there key before false (e ∷ items) stands sorted =
     let above = (and_parts (below_all text_cmp e.0 items) (is_sorted text_cmp items) sorted).0 in
     none_left_out key (e ∷ items) (both _ _ (ap is_lt stands) (below_less key e.0 items stands above))
 
-pub edited_there : (key : List ℕ) (edit : Edit) (before : List ℕ) (there : Bool) (items : Items) → BeginsAt key there (extents_behind before items) → is_sorted text_cmp items ≡ true → edited key edit items ≡ edited_item key edit ++ drop (cond there 1 0) items
+pub edited_there : (key : List ℕ) (edit : Edit) (before : List ℕ) (there : Bool) (items : Items) → BeginsAt key there (extents_after before items) → is_sorted text_cmp items ≡ true → edited key edit items ≡ edited_item key edit ++ drop (cond there 1 0) items
 edited_there key (Add name) before there items stands sorted = put_there key name before there items stands
 edited_there key (Rename name) before there items stands sorted = put_there key name before there items stands
 edited_there key Remove before there items stands sorted = left_there key before there items stands sorted
@@ -162,22 +162,22 @@ drop_more (suc n) (e ∷ items) =
     let more : suc (n + 1) ≡ suc n + 1 = omega arith in
     drop_more n items ∙ ap (λ k. drop k (e ∷ items)) more
 
-behind_it : (there : Bool) (n after : ℕ) (items : Items) → after ≡ (if there then n + 1 else n) → drop (cond there 1 0) (drop n items) ≡ drop after items
-behind_it true n after items is = drop_more n items ∙ ap (λ k. drop k items) (sym is)
-behind_it false n after items is = ap (λ k. drop k items) (sym is)
+after_it : (there : Bool) (n after : ℕ) (items : Items) → after ≡ (if there then n + 1 else n) → drop (cond there 1 0) (drop n items) ≡ drop after items
+after_it true n after items is = drop_more n items ∙ ap (λ k. drop k items) (sym is)
+after_it false n after items is = ap (λ k. drop k items) (sym is)
 
 -- an edit in parts: what comes before the place, what the edit leaves, and what comes behind
 pub edited_parts : (key : List ℕ) (edit : Edit) (there : Bool) (n after : ℕ) (items : Items) → is_sorted text_cmp items ≡ true → after ≡ (if there then n + 1 else n)
-    → AllByRecursion (λ (e : List ℕ × ℕ). text_cmp key e.0 ≡ Greater) (take n (extents_behind [] items)) → BeginsAt key there (drop n (extents_behind [] items))
+    → AllByRecursion (λ (e : List ℕ × ℕ). text_cmp key e.0 ≡ Greater) (take n (extents_after [] items)) → BeginsAt key there (drop n (extents_after [] items))
     → edited key edit items ≡ take n items ++ (edited_item key edit ++ drop after items)
 edited_parts key edit there n after items sorted is below stands =
     let front = subst (λ (l : Extents). AllByRecursion (λ (e : List ℕ × ℕ). text_cmp key e.0 ≡ Greater) l) (take_extents [] n items) below in
     let here = subst (λ (l : Extents). BeginsAt key there l) (drop_extents [] n items) stands in
-    ap (edited key edit) (sym (take-append-drop n items)) ∙ edited_behind key edit [] (take n items) (drop n items) front
-    ∙ ap (λ (l : Items). take n items ++ l) (edited_there key edit (last_path [] (take n items)) there (drop n items) here (sorted_drop n items sorted) ∙ ap (λ (l : Items). edited_item key edit ++ l) (behind_it there n after items is))
+    ap (edited key edit) (sym (take-append-drop n items)) ∙ edited_after key edit [] (take n items) (drop n items) front
+    ∙ ap (λ (l : Items). take n items ++ l) (edited_there key edit (last_path [] (take n items)) there (drop n items) here (sorted_drop n items sorted) ∙ ap (λ (l : Items). edited_item key edit ++ l) (after_it there n after items is))
 
 -- the path of the last item with lines: that of the place, or the one before it
-last_more : (before : List ℕ) (n : ℕ) (key : List ℕ) (items : Items) → BeginsAt key true (drop n (extents_behind before items)) → last_path before (take (n + 1) items) ≡ key
+last_more : (before : List ℕ) (n : ℕ) (key : List ℕ) (items : Items) → BeginsAt key true (drop n (extents_after before items)) → last_path before (take (n + 1) items) ≡ key
 last_more before zero key [] stands = absurd stands
 last_more before zero key (e ∷ items) stands = sym (same_texts key e.0 stands)
 last_more before (suc n) key [] stands = absurd stands
@@ -185,6 +185,6 @@ last_more before (suc n) key (e ∷ items) stands =
     let more : suc n + 1 ≡ suc (n + 1) = omega arith in
     ap (λ k. last_path before (take k (e ∷ items))) more ∙ last_more e.0 n key items stands
 
-pub last_there : (there : Bool) (n after : ℕ) (key : List ℕ) (items : Items) → after ≡ (if there then n + 1 else n) → BeginsAt key there (drop n (extents_behind [] items)) → last_path [] (take after items) ≡ (if there then key else last_path [] (take n items))
+pub last_there : (there : Bool) (n after : ℕ) (key : List ℕ) (items : Items) → after ≡ (if there then n + 1 else n) → BeginsAt key there (drop n (extents_after [] items)) → last_path [] (take after items) ≡ (if there then key else last_path [] (take n items))
 last_there true n after key items is stands = ap (λ k. last_path [] (take k items)) is ∙ last_more [] n key items stands
 last_there false n after key items is stands = ap (λ k. last_path [] (take k items)) is

@@ -9,7 +9,7 @@ use Rattle.pid_service_laws.proofs.SessionLaws as lives
 use Rattle.pid_service.specs.declared.registry.Registry.{Registry}
 use Rattle.pid_service.specs.declared.running.RunReport.{RunReport}
 use Rattle.pid_service.specs.Histories.{FailsBetween, IsMemoryOrStore, Shows}
-use Rattle.pid_service.specs.Lives.{showing}
+use Rattle.pid_service.specs.Sessions.{showing}
 use Rattle.pid_service.specs.Running.{EndsRun, Runs}
 
 -- the next command, behind the first ones

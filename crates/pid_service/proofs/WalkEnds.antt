@@ -63,19 +63,19 @@ module _ {W : Type 0} (taken : W → Option (List ℕ)) (write_fault : W → Opt
     last_printed : (new : ExportSink W) (front : Items) → HasPrinted taken old front new → text_or_none new.before ≡ last_path [] front
     last_printed new front h = subst (λ (b : Option Path). text_or_none new.before ≡ last_path (text_or_none b) front) first h.last
 
-    behind_header : (new : ExportSink W) (front : Items) → HasPrinted taken old front new → Appends a (taken new.out.now) (text_of_items front)
-    behind_header new front h =
+    after_header : (new : ExportSink W) (front : Items) → HasPrinted taken old front new → Appends a (taken new.out.now) (text_of_items front)
+    after_header new front h =
         let text = subst (λ (b : Option Path). Appends (taken old.out.now) (taken new.out.now) (text_behind (text_or_none b) front)) first h.printed in
         Appends-then a (taken old.out.now) (taken new.out.now) (ended (header ∷ [])) (text_behind [] front) head text
 
     -- all items
     all_exported : (new : ExportSink W) (items : Items) → Took (PrintsItem taken) old (reverse (placed_from 1 items)) new → Appends a (taken new.out.now) (text_of_items items)
-    all_exported new items took = subst (λ (is : Items). Appends a (taken new.out.now) (text_of_items is)) (placed_items 1 items) (behind_header new (map item_in (placed_from 1 items)) (front_printed old new (placed_from 1 items) took))
+    all_exported new items took = subst (λ (is : Items). Appends a (taken new.out.now) (text_of_items is)) (placed_items 1 items) (after_header new (map item_in (placed_from 1 items)) (front_printed old new (placed_from 1 items) took))
 
     stopped_within : (between new : ExportSink W) (front behind : Items) (entry : Numbered) (f : WriteFault) → HasPrinted taken old front between → StopsWithin taken write_fault between entry f new
         → SendsFront a (taken new.out.now) (text_of_items (front ++ item_in entry ∷ behind))
     stopped_within between new front behind entry f h stop =
-        stopped a (taken between.out.now) (taken new.out.now) (text_of_items front) (lines_of_entry between entry) (text_behind (item_in entry).0 behind) (text_of_items (front ++ item_in entry ∷ behind)) (behind_header between front h) stop.front
+        stopped a (taken between.out.now) (taken new.out.now) (text_of_items front) (lines_of_entry between entry) (text_behind (item_in entry).0 behind) (text_of_items (front ++ item_in entry ∷ behind)) (after_header between front h) stop.front
         (text_parted (text_or_none between.before) front (item_in entry) behind (last_printed between front h))
 
     by_end : (e : EachEnd WriteFault) (new : ExportSink W) (items : Items) → Walks (PrintsItem taken) (StopsWithin taken write_fault) {X = Unit {0}} (Err e) (placed_from 1 items) old new
@@ -84,7 +84,7 @@ module _ {W : Type 0} (taken : W → Option (List ℕ)) (write_fault : W → Opt
         let whole : items ≡ map item_in w.front ++ item_in w.item ∷ map item_in w.rest = sym (placed_items 1 items) ∙ ap (map item_in) w.parts ∙ map-append item_in w.front (w.item ∷ w.rest) in
         subst (λ (is : Items). SendsFront a (taken new.out.now) (text_of_items is)) (sym whole) (stopped_within w.between new (map item_in w.front) (map item_in w.rest) w.item f (front_printed old w.between w.front w.took) w.faulted)
     by_end (Tables t) new items w =
-        (map item_in w.front, map item_in w.rest, sym (placed_items 1 items) ∙ ap (map item_in) w.parts ∙ map-append item_in w.front w.rest, behind_header new (map item_in w.front) (front_printed old new w.front w.took))
+        (map item_in w.front, map item_in w.rest, sym (placed_items 1 items) ∙ ap (map item_in) w.parts ∙ map-append item_in w.front w.rest, after_header new (map item_in w.front) (front_printed old new w.front w.took))
 
     -- the whole text or a part of it, by the end of the walk
     pub exported : (r : Result (Unit {0}) (EachEnd WriteFault)) (new : ExportSink W) (items : Items) → Walks (PrintsItem taken) (StopsWithin taken write_fault) r (placed_from 1 items) old new → WritesItems r a (taken new.out.now) items

@@ -15,7 +15,7 @@ use Rattle.pid_service_laws.specs.Calls.{Call}
 use Rattle.pid_service_laws.specs.Registries.{CallsLead}
 use Rattle.pid_service.specs.declared.registry.Registry.{Registry}
 use Rattle.pid_service.specs.Exporting.{IsExported}
-use Rattle.pid_service.specs.Lives.{IsAfterSession, ShowsPrefixes, showing}
+use Rattle.pid_service.specs.Sessions.{IsAfterSession, ShowsPrefixes, showing}
 use Rattle.pid_service.specs.LookingUp.{IsLookedUp}
 use Rattle.pid_service.specs.Opening.{OpensTo}
 use Rattle.pid_service.specs.Registries.{HasCleanDisk}

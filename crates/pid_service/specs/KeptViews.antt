@@ -2,12 +2,12 @@
 use Rattle.std.specs.Prelude.{◌≡◌, ◌<◌, ℕ, length, List, [], Option, None, IfSome, Vec, map}
 use Rattle.std.specs.declared.alloc.Global.{Global}
 use Rattle.sqlite_trees.specs.declared.store.Store.{Ghosts}
-use Rattle.pid_moderation.specs.ChangePages.{changed_behind, changed_of}
+use Rattle.pid_moderation.specs.ChangePages.{changed_after, changed_of}
 use Rattle.pid_moderation.specs.Children.{children_of}
 use Rattle.pid_moderation.specs.History.{History}
 use Rattle.pid_moderation.specs.ItemPairs.{pair_of}
 use Rattle.pid_moderation.specs.Items.{Items, name_at}
-use Rattle.pid_moderation.specs.PendingPages.{waiting_above}
+use Rattle.pid_moderation.specs.PendingPages.{pending_above}
 use Rattle.pid_moderation.specs.Submissions.{Standing}
 use Rattle.pid_moderation.specs.Views.{Views, views_of}
 use Rattle.pid_moderation.specs.declared.lists.Item.{Item}
@@ -21,7 +21,7 @@ use Rattle.pid_service.specs.declared.kept_views.KeptItems.{KeptItems}
 use Rattle.pid_service.specs.declared.kept_views.KeptViews.{KeptViews}
 use Rattle.pid_service.specs.declared.registry.Registry.{Registry}
 use Rattle.pid_tables.specs.declared.searches.numbers.Searches.TheVariants.{Unread}
-use Rattle.pid_service.specs.ItemTexts.{extents_behind, text_of_items}
+use Rattle.pid_service.specs.ItemTexts.{extents_after, text_of_items}
 use Rattle.pid_file.specs.PathTexts.{path_text}
 use Rattle.pid_tables.specs.Searches.KeptNumbers.{HoldsNumbers}
 use Rattle.pid_service.specs.Registries.{HasCleanDisk}
@@ -45,7 +45,7 @@ extent_in extent = (path_text extent.path, extent.length)
 -- this is the canonical text of the items, with the place of each
 pub record IsKeptText (kept : KeptText) (items : Items) : Type 0 where
   pub text : kept.bytes.items ≡ text_of_items items
-  pub extents : map extent_in kept.extents.items ≡ extents_behind [] items
+  pub extents : map extent_in kept.extents.items ≡ extents_after [] items
 
 -- it is, if one is kept
 abbrev pub HoldsText : Option KeptText → Items → Type 0
@@ -61,12 +61,12 @@ pub record KeepsNothing (k : KeptViews) : Type 0 where
   pub accounts : k.accounts ≡ None
 
 -- the numbers of what is pending, rising
-abbrev pub numbers_waiting : Views → List ℕ
-numbers_waiting v = map (λ (s : ℕ × Standing). s.0) (waiting_above 0 v)
+abbrev pub numbers_pending : Views → List ℕ
+numbers_pending v = map (λ (s : ℕ × Standing). s.0) (pending_above 0 v)
 
 -- these are they, if they are kept
-abbrev pub HoldsWaiting : Option (Vec ℕ Global) → Views → Type 0
-HoldsWaiting numbers v = IfSome numbers (λ kept. kept.items ≡ numbers_waiting v)
+abbrev pub HoldsPending : Option (Vec ℕ Global) → Views → Type 0
+HoldsPending numbers v = IfSome numbers (λ kept. kept.items ≡ numbers_pending v)
 
 -- the vendors and the classes
 abbrev pub top_of : Views → Items
@@ -78,7 +78,7 @@ HoldsTop top v = IfSome top (λ kept. map pair_of kept.items ≡ top_of v)
 
 -- these are all items that were changed after their number, fewer than a page
 pub record AreChanged (kept : KeptChanges) (v : Views) : Type 0 where
-  pub items : map changed_of kept.items.items ≡ changed_behind kept.since [] v
+  pub items : map changed_of kept.items.items ≡ changed_after kept.since [] v
   pub few : length kept.items.items < PAGE
 
 -- if they are kept
@@ -100,7 +100,7 @@ pub record IsRightFor (k : KeptViews) (v : Views) : Type 0 where
   -- the items that were changed last, if they are kept
   pub changes : HoldsChanges k.changes v
   -- the numbers of what is pending, if they are kept
-  pub pending : HoldsWaiting k.pending v
+  pub pending : HoldsPending k.pending v
   -- the numbers of all submissions by path and by author, if they are kept
   pub numbers : HoldsNumbers k.numbers v
   -- how many accounts there are, if that is kept

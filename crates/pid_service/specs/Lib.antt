@@ -8,8 +8,8 @@ pub mod Exporting
 pub mod Opening
 pub mod LookingUp
 pub mod Asking
-pub mod Lives
-pub mod LifeLaws
+pub mod Sessions
+pub mod SessionLaws
 pub mod Headline
 pub mod Running
 pub mod ItemTexts

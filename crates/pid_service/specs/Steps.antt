@@ -11,7 +11,7 @@ pub mod Obeying
 pub mod Renewing
 pub mod Opening
 pub mod Running
-pub mod Waiting
+pub mod PendingNumbers
 pub mod KeptChanges
 pub mod KeptItems
 pub mod KeptChildren

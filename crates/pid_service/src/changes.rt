@@ -3,7 +3,7 @@ ghost use Rattle.std.specs.Prelude.{◌≡◌, ◌∷◌, [], None, true, IfSome
 ghost use Rattle.std.specs.Ordering.{is_lt};
 ghost use Rattle.pid_file.specs.PathTexts.{path_text};
 ghost use Rattle.pid_file.specs.Trees.{text_cmp};
-ghost use Rattle.pid_moderation.specs.ChangePages.{changed_behind, changed_of, start_text};
+ghost use Rattle.pid_moderation.specs.ChangePages.{changed_after, changed_of, start_text};
 ghost use Rattle.pid_moderation.specs.Changes.{
   FitsEdit,
   FitsEffect,
@@ -12,7 +12,7 @@ ghost use Rattle.pid_moderation.specs.Changes.{
 ghost use Rattle.pid_moderation.specs.Items.{name_at};
 ghost use Rattle.pid_moderation.specs.Views.{Views};
 ghost use Rattle.pid_service.specs.KeptViews.{AreChanged, HoldsChanges};
-ghost use Rattle.pid_service.specs.Steps.KeptChanges.{IsPage, changed_item, comes_behind, later_in};
+ghost use Rattle.pid_service.specs.Steps.KeptChanges.{IsPage, changed_item, comes_after, later_in};
 ghost use Rattle.pid_service.specs.Steps.KeptChanges.{after_write, on_side, with_edit};
 ghost use Rattle.pid_service.specs.Steps.KeptChanges as steps;
 ghost use Rattle.pid_tables.specs.Lists.Steps.Adding.{Adds};
@@ -31,7 +31,7 @@ pub struct KeptChanges {
 }
 
 // Whether a path comes after another one. Without one, each does.
-fn is_behind(path: Path, after: Option<Path>) -> bool
+fn is_after(path: Path, after: Option<Path>) -> bool
     ensures { result ≡ is_lt (text_cmp (start_text after) (path_text path)) }
 {
     match after {
@@ -42,9 +42,9 @@ fn is_behind(path: Path, after: Option<Path>) -> bool
 
 // Whether the last change of an item has a number above `since`, and its path comes after that one.
 fn is_later(item: &ChangedItem, since: u64, after: Option<Path>) -> bool
-    ensures { result ≡ comes_behind since (start_text after) (changed_of item.now) }
+    ensures { result ≡ comes_after since (start_text after) (changed_of item.now) }
 {
-    is_behind(item.path, after) && since < item.since
+    is_after(item.path, after) && since < item.since
 }
 
 // Adds a copy of an item, if memory is there.
@@ -233,7 +233,7 @@ fn least_number(items: &[ChangedItem]) -> u64 {
 // All items but those that were changed first. None if they are a page still, or if memory runs
 // out.
 fn without_first(alloc: Global, since: u64, items: &[ChangedItem]) -> Option<KeptChanges>
-    ensures { (v : Views) → map changed_of items.now ≡ changed_behind since [] v
+    ensures { (v : Views) → map changed_of items.now ≡ changed_after since [] v
         → HoldsChanges result v }
 {
     let least = least_number(items);

@@ -1,7 +1,7 @@
 //! Items, printed one by one.
 ghost use Rattle.std.specs.Prelude.{◌≡◌, None};
 
-use pid_file::write_behind;
+use pid_file::write_after;
 use pid_ident::{Output, Path, WriteFault};
 use pid_reader::{Entry, Sink};
 
@@ -32,7 +32,7 @@ impl<W: Output> Sink for ExportSink<'_, W> {
     ghost faults = { StopsWithin W.taken W.write_fault };
 
     fn entry(&mut self, entry: &Entry<'_>) -> Result<(), WriteFault> {
-        write_behind(self.before, &entry.path, entry.name, self.out)?;
+        write_after(self.before, &entry.path, entry.name, self.out)?;
         self.before = Some(entry.path);
         Ok(())
     }

@@ -25,7 +25,7 @@ impl<S: Alter + Drop> Registry<S> {
     pub fn export_rows<W: Output>(&mut self, output: &mut W) -> Result<(), ExportFault>
         ensures { IsExported S.Store W.Output self.old self.new output.old output.new result }
     {
-        laws::clauses_meet_lives::<S>(); // proof only
+        laws::clauses_meet_sessions::<S>(); // proof only
         if !self.live {
             return Err(ExportFault::Refused(Refusal::Failed));
         }

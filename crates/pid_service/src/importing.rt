@@ -31,7 +31,7 @@ use pid_ident::{Account, Input, Key};
 use pid_moderation::{Act, Command, FILE_BYTES, Facts, File, Refusal, Reply};
 use pid_reader::{SkipEnd, SliceInput, skip_input};
 use pid_service_laws::ImportEnd;
-use pid_tables::{Early, Stop, bring_in, judge_import};
+use pid_tables::{Early, Stop, import_file, judge_import};
 use sqlite::Alter;
 use std::alloc::Global;
 
@@ -78,7 +78,7 @@ pub(crate) fn answer_failed<I: Input>(input: &mut I) -> Result<Reply, ImportEnd>
 }
 
 // What an import of bytes is answered: they do not fail.
-fn plain(end: Result<Reply, ImportEnd>) -> Result<Reply, Refusal>
+fn without_body_fault(end: Result<Reply, ImportEnd>) -> Result<Reply, Refusal>
     ensures same { IsPlain end result }
     ensures held { (before after : Bool) → EndStaysLive end before after
         → StaysLive result before after }
@@ -121,7 +121,7 @@ impl<S: Alter + Drop> Registry<S> {
     {
         pid_service_laws::judgements_are_outcomes(); // proof only
         self.kept.forget_items();
-        match bring_in(
+        match import_file(
             &mut self.tables.conn,
             self.alloc,
             facts,
@@ -180,7 +180,7 @@ impl<S: Alter + Drop> Registry<S> {
     {
         let mut input = SliceInput::new(file);
         let end = self.import_act(command, &mut input);
-        plain(end)
+        without_body_fault(end)
     }
 
     /// Obeys an import of these bytes, as `obey` obeys one that has them.

@@ -10,17 +10,17 @@ ghost use Rattle.std.specs.Prelude.{
   IfSome,
   Some,
 };
-ghost use Rattle.pid_service.specs.Steps.TextSinks.{AddsLines, HasLines, Lengthens, block_behind};
+ghost use Rattle.pid_service.specs.Steps.TextSinks.{AddsLines, HasLines, Lengthens, block_after};
 ghost use Rattle.pid_service.specs.Steps.ItemTexts.{IsCountedText};
 ghost use Rattle.pid_ident.specs.PathTexts.{path_text};
 ghost use Rattle.pid_tables.specs.Rows.Causes.{IsReadable};
 ghost use Rattle.pid_tables.specs.Rows.Clauses.{Reads};
 ghost use Rattle.pid_tables.specs.declared.lists.walk.EachEnd.TheVariants as walks;
-ghost use Rattle.pid_file.specs.Printing.{ended, header, label_of, lines_behind};
+ghost use Rattle.pid_file.specs.Printing.{ended, header, label_of, lines_after};
 ghost use Rattle.pid_file.specs.Steps.Printing.{text_or_none};
 
 use crate::kept_text::{Extent, FIRST, KeptText, MOST, extent_of};
-use pid_file::{opened_block, write_behind, write_header};
+use pid_file::{opened_block, write_after, write_header};
 use pid_ident::{Output, Path, WriteFault};
 use pid_reader::{Entry, Never, Sink};
 use pid_tables::{EachEnd, TableFault, Tables};
@@ -44,7 +44,7 @@ pub(crate) fn label_length(path: Path) -> u64
 
 /// The length of the line before an item, if it opens a block after this path or as the first.
 pub(crate) fn block_length(before: Option<Path>, path: Path) -> u64
-    ensures { result ≡ length (ended (block_behind (text_or_none before) (path_text path))) }
+    ensures { result ≡ length (ended (block_after (text_or_none before) (path_text path))) }
 {
     match opened_block(before, path) {
         Some(_) => BLOCK,
@@ -54,7 +54,7 @@ pub(crate) fn block_length(before: Option<Path>, path: Path) -> u64
 
 // The length of the lines of an item that follows another or is the first.
 fn lines_length(before: Option<Path>, path: Path, name: &str) -> u64
-    ensures { result ≡ length (ended (lines_behind (text_or_none before)
+    ensures { result ≡ length (ended (lines_after (text_or_none before)
         ((path_text path, name.now) ∷ []))) }
 {
     block_length(before, path) + label_length(path) + name.len() as u64 + 3
@@ -115,7 +115,7 @@ impl GrowingText {
     {
         match extent_of(*path, lines_length(before, *path, name)) {
             Some(extent) => {
-                write_behind(before, path, name, &mut self.buffer).is_ok()
+                write_after(before, path, name, &mut self.buffer).is_ok()
                     && self.extents.push(extent).is_ok()
             }
             None => false,

@@ -27,7 +27,7 @@ ghost use Rattle.pid_tables.specs.Lists.Steps.Adding.{Adds};
 use crate::items_text::{block_length, label_length};
 use crate::kept_text::{FIRST, KeptText, MOST};
 use crate::laws;
-use crate::reading::or_refusal;
+use crate::reading::fault_as_refusal;
 use crate::registry::Registry;
 use pid_ident::{Name, NameText, Path};
 use pid_moderation::{Item, Refusal};
@@ -130,6 +130,6 @@ impl<S: Alter + Drop> Registry<S> {
                 return Ok(items);
             }
         }
-        or_refusal(self.tables.children(self.alloc, above))
+        fault_as_refusal(self.tables.children(self.alloc, above))
     }
 }

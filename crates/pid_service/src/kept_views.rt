@@ -3,15 +3,15 @@ ghost use Rattle.std.specs.Prelude.{◌≡◌, ℕ, false, IfOk};
 ghost use Rattle.pid_moderation.specs.Changes.{FitsEffect, FitsViews, affected, changed};
 ghost use Rattle.pid_moderation.specs.Views.{Views};
 ghost use Rattle.pid_tables.specs.Rows.Shows.{AreViews};
-ghost use Rattle.pid_service.specs.KeptViews.{HoldsWaiting, IsRightFor, KeepsNothing, nothing};
+ghost use Rattle.pid_service.specs.KeptViews.{HoldsPending, IsRightFor, KeepsNothing, nothing};
 ghost use Rattle.pid_service.specs.Steps.KeptItems.{LeavesTheRest};
 
 use crate::accounts::accounts_after;
 use crate::changes::{KeptChanges, changes_after};
 use crate::kept_text::KeptText;
+use crate::pending_numbers::add_number;
 use crate::renewing::text_after;
 use crate::top::top_after;
-use crate::waiting::add_number;
 use pid_lookup::NameCache;
 use pid_moderation::{Change, Effect, Item, State};
 use pid_tables::searches::{Searches, numbers_after};
@@ -59,9 +59,9 @@ fn writes_items(effect: &Effect) -> bool
 }
 
 // The numbers of what is pending after a change.
-fn waiting_after(numbers: Option<Vec<u32>>, effect: &Effect) -> Option<Vec<u32>>
+fn pending_after(numbers: Option<Vec<u32>>, effect: &Effect) -> Option<Vec<u32>>
     ensures { (n : ℕ) (v : Views) → AreViews v → FitsEffect effect.now v
-        → HoldsWaiting numbers v → HoldsWaiting result (affected n effect.now v) }
+        → HoldsPending numbers v → HoldsPending result (affected n effect.now v) }
 {
     let mut numbers = numbers?;
     match effect {
@@ -75,7 +75,7 @@ fn waiting_after(numbers: Option<Vec<u32>>, effect: &Effect) -> Option<Vec<u32>>
         Effect::Decided { number, state, .. } => match state {
             State::Pending => None,
             State::Approved { .. } | State::Rejected { .. } | State::Withdrawn => {
-                numbers.retain(|waiting| *waiting != *number);
+                numbers.retain(|pending| *pending != *number);
                 Some(numbers)
             }
         },
@@ -146,7 +146,7 @@ impl KeptViews {
             → IsRightFor self.new (changed change.now v) }
     {
         let numbers = self.pending.take();
-        self.pending = waiting_after(numbers, &change.effect);
+        self.pending = pending_after(numbers, &change.effect);
         let kept = replace(&mut self.numbers, Searches::Lacking);
         self.numbers = numbers_after(alloc, kept, &change.effect);
         self.accounts = accounts_after(self.accounts, &change.effect);

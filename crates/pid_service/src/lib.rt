@@ -4,7 +4,6 @@
 mod accounts;
 mod changes;
 mod closing;
-mod consulted;
 mod export_sink;
 mod exporting;
 mod importing;
@@ -15,24 +14,25 @@ mod kept_children;
 mod kept_text;
 mod kept_views;
 pub mod laws;
-mod lives;
-mod moderated;
 mod names;
 mod obeying;
 mod opening;
 mod pending;
+mod pending_numbers;
 mod preparing;
 mod reading;
 mod registry;
+mod registry_calls;
+mod registry_queries;
+mod registry_status;
 mod renewing;
 mod running;
-mod status;
+mod sessions;
 mod top;
-mod waiting;
 mod writing;
 
 pub use laws::{
-    clauses_meet_lives, commands_lead_on, first_openings_show_what_is_there, histories_are_kept,
+    clauses_meet_sessions, commands_lead_on, first_openings_show_what_is_there, histories_are_kept,
     histories_are_kept_between, items_print_as_their_tree, migrations_find_histories,
     openings_find_histories, pages_tell_a_hundred, reached_histories_are_kept,
     reopened_registries_show_prefixes, repeats_end_doubts, taken_histories_are_reached,
@@ -52,5 +52,5 @@ pub use pid_moderation::{
     Listed, Pending, Proposal, Queued, Rank, Refusal, Reply, State, Status, Submission,
     SubmissionPage, Verb, command_of, reply_line,
 };
-pub use pid_service_laws::{Consulted, ExportFault, ImportEnd, Moderated};
+pub use pid_service_laws::{ExportFault, ImportEnd, RegistryCalls, RegistryQueries};
 pub use pid_tables::{Step, TableFault};

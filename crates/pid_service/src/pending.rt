@@ -3,12 +3,12 @@ ghost use Rattle.std.specs.Prelude.{◌≡◌, false, map};
 ghost use Rattle.pid_moderation.specs.PendingPages.{pending_in, told_of};
 ghost use Rattle.pid_moderation.specs.QueuePages.{queue_in, queued_of};
 ghost use Rattle.pid_tables.specs.Rows.Clauses.{Reads};
-ghost use Rattle.pid_service.specs.KeptViews.{HoldsWaiting};
+ghost use Rattle.pid_service.specs.KeptViews.{HoldsPending};
 ghost use Rattle.pid_service.specs.Steps.Asking.{Finds};
 
 use crate::laws;
+use crate::pending_numbers::{numbers_above, read_pending_numbers};
 use crate::registry::Registry;
-use crate::waiting::{numbers_above, waiting_numbers};
 use pid_moderation::{PAGE, Pending, Queued, Refusal};
 use pid_tables::{TableFault, Tables, refusal_of};
 use sqlite::Alter;
@@ -23,7 +23,7 @@ pub(crate) fn pending_by<S: Alter + Drop>(
 ) -> Result<Vec<Pending>, TableFault>
     requires { tables.old.conn.in_transaction ≡ false }
     ensures { Reads S.Store tables.old.conn tables.new.conn result
-        (λ v page. HoldsWaiting numbers.now v
+        (λ v page. HoldsPending numbers.now v
         → map told_of page.items ≡ pending_in PAGE after v) }
 {
     let Some(numbers) = numbers else {
@@ -44,7 +44,7 @@ pub(crate) fn queue_by<S: Alter + Drop>(
 ) -> Result<Vec<Queued>, TableFault>
     requires { tables.old.conn.in_transaction ≡ false }
     ensures { Reads S.Store tables.old.conn tables.new.conn result
-        (λ v queue. HoldsWaiting numbers.now v
+        (λ v queue. HoldsPending numbers.now v
         → map queued_of queue.items ≡ queue_in PAGE after v) }
 {
     let Some(numbers) = numbers else {
@@ -72,7 +72,7 @@ impl<S: Alter + Drop> Registry<S> {
         if self.kept.pending_read {
             return Ok(());
         }
-        match waiting_numbers(&mut self.tables, self.alloc) {
+        match read_pending_numbers(&mut self.tables, self.alloc) {
             Ok(numbers) => {
                 self.kept.pending = numbers;
                 self.kept.pending_read = true;

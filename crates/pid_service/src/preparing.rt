@@ -5,7 +5,7 @@ ghost use Rattle.pid_service.specs.Steps.Asking.{Finds};
 
 use crate::registry::Registry;
 use pid_moderation::Refusal;
-use pid_service_laws::Consulted;
+use pid_service_laws::RegistryQueries;
 use sqlite::Alter;
 
 // How many commands change fewer items than a page has, if none is an import.

@@ -10,7 +10,7 @@ use pid_tables::{TableFault, refusal_of};
 use sqlite::Alter;
 
 /// What was found in the tables, or the refusal that their fault is answered as.
-pub(crate) fn or_refusal<T>(found: Result<T, TableFault>) -> Result<T, Refusal>
+pub(crate) fn fault_as_refusal<T>(found: Result<T, TableFault>) -> Result<T, Refusal>
     ensures { result ≡ answered_as found }
 {
     match found {

@@ -34,7 +34,7 @@ use std::cmp::Ordering;
 
 // Where the lines of a path are in the text, or would be.
 #[derive(Clone, Copy)]
-struct Place {
+struct TextPlace {
     // Whether the path has lines.
     there: bool,
     // How many items come before it, and how many with it.
@@ -48,7 +48,7 @@ struct Place {
 }
 
 // The place of a path. None if the text is longer than one that is kept.
-fn place_of(extents: &[Extent], path: Path) -> Option<Place>
+fn place_of(extents: &[Extent], path: Path) -> Option<TextPlace>
     ensures { IfSome result (λ place. IsPlace place (map extent_in extents.now) (path_text path)) }
 {
     let mut start = FIRST;
@@ -64,7 +64,7 @@ fn place_of(extents: &[Extent], path: Path) -> Option<Place>
                 before = Some(extent.path);
             }
             Ordering::Equal => {
-                return Some(Place {
+                return Some(TextPlace {
                     there: true,
                     index,
                     after: index + 1,
@@ -74,7 +74,7 @@ fn place_of(extents: &[Extent], path: Path) -> Option<Place>
                 });
             }
             Ordering::Less => {
-                return Some(Place {
+                return Some(TextPlace {
                     there: false,
                     index,
                     after: index,
@@ -86,7 +86,7 @@ fn place_of(extents: &[Extent], path: Path) -> Option<Place>
         }
     }
     let index = extents.len();
-    Some(Place {
+    Some(TextPlace {
         there: false,
         index,
         after: index,
@@ -156,7 +156,7 @@ fn put<T: Copy + Drop>(
 }
 
 // The path before what follows a place: that of the place, if it has lines.
-fn path_before(place: &Place, path: Path, has_lines: bool) -> Option<Path>
+fn path_before(place: &TextPlace, path: Path, has_lines: bool) -> Option<Path>
     ensures { result ≡ (if has_lines then Some path else place.now.before) }
 {
     if has_lines { Some(path) } else { place.before }
@@ -167,7 +167,7 @@ fn path_before(place: &Place, path: Path, has_lines: bool) -> Option<Path>
 fn put_lines(
     alloc: Global,
     text: &mut KeptText,
-    place: &Place,
+    place: &TextPlace,
     path: Path,
     new: &GrowingText,
 ) -> bool

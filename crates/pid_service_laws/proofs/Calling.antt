@@ -1,4 +1,4 @@
--- From the calls on a registry to lives.
+-- From the calls on a registry to sessions.
 use Rattle.std.proofs.Common.{◌≡◌, ◌⊎◌, ◌<◌, ◌≤◌, ◌+◌, ℕ, suc, Bool, true, false, cond, List, [], ◌∷◌, ◌++◌, length, take, Option, Some, None, Result, Ok, Err, refl, sym, ap, subst, ◌∙◌, inl, inr, arith}
 use Rattle.std.specs.Prelude.{IsErrAnd, IsSomeAnd, nat_le, not, ◌&&◌, slice_get}
 use Rattle.std.specs.List.{AllZip, flat_map}
@@ -12,14 +12,14 @@ use Rattle.pid_moderation.specs.Keys.{times_under}
 use Rattle.pid_moderation.specs.Laws.{KeysStandOnce}
 use Rattle.pid_moderation.specs.Views.{views_of}
 use Rattle.pid_service_laws.specs.Outcomes.{IsMemoryOrStore, is_fault, is_outcome}
-use Rattle.pid_service_laws.specs.Lives.{Sent, NoDoubt, InDoubt, Life, AreJudged, AreLives, after_life, after_lives, after_sent, commands_in, prefix_of}
-use Rattle.pid_service_laws.specs.Calls.{AreNothing, Call, IsLifeOf, StopsAt, life_of, nothing_sent, obeyed, paired, ran, refusal_answered, sent_in, stopped_by}
-use Rattle.pid_service_laws.specs.CallLaws.{CallsAreALife}
-use Rattle.pid_service_laws.proofs.SessionLaws.{DoubtsEndWhenSentAgain, ListLeaves, LookingDoes, NoLifeIsAPrefix, ObeyingDoes, OneLifeMore, RunningDoes, SaysLive}
+use Rattle.pid_service_laws.specs.Sessions.{Sent, NoDoubt, InDoubt, Session, AreJudged, AreSessions, after_session, after_sessions, after_sent, commands_in, prefix_of}
+use Rattle.pid_service_laws.specs.Calls.{AreNothing, Call, IsSessionOf, StopsAt, session_of, nothing_sent, obeyed, paired, ran, refusal_answered, sent_in, stopped_by}
+use Rattle.pid_service_laws.specs.CallLaws.{CallsAreASession}
+use Rattle.pid_service_laws.proofs.SessionLaws.{DoubtsEndWhenSentAgain, ListLeaves, LookingDoes, NoSessionIsAPrefix, ObeyingDoes, OneSessionMore, RunningDoes, SaysLive}
 use Rattle.pid_service_laws.specs.CrashPrefix.{IsAfterPrefixes}
 use Rattle.pid_service_laws.specs.Doubts.{left_at_stop}
 use Rattle.pid_service_laws.specs.Registries.{CallsLead, Does, CallLeaves, CommandLeaves, Showing}
-use Rattle.pid_service_laws.proofs.Joining.{after_more, after_parts, joined, joins, lives_hold, lives_keep}
+use Rattle.pid_service_laws.proofs.Joining.{after_more, after_parts, joined, joins, sessions_hold, sessions_keep}
 use Rattle.pid_service_laws.proofs.Keeping.{OwnKept, each_own}
 use Rattle.pid_service_laws.proofs.Judging.{outcome_of}
 use Rattle.pid_service_laws.proofs.Settling.{doubt_settled}
@@ -159,7 +159,7 @@ module _ {R : Type 0} (w : Showing R) where
     failed = λ h next f. (refl, failed h next f);
   }
 
-  -- THE CALLS OF ONE LIFE
+  -- THE CALLS OF ONE SESSION
 
   calls_clean : (calls : List Call) (old new : R) → CallsLead w old calls new → w.is_clean new → w.is_clean old
   calls_clean [] old new same k = subst (λ r. w.is_clean r) same k
@@ -217,24 +217,24 @@ module _ {R : Type 0} (w : Showing R) where
       let l = does.live (calls_clean calls between new rest k) h s in
       one_call call calls between new h rest (λ g shown. calls_end calls between new g shown rest k) l.0 l.1
 
-  as_life : (calls : List Call) (new : R) (h : History)
+  as_session : (calls : List Call) (new : R) (h : History)
       → w.shows new (after_sent h (sent_in calls))
       ⊎ ((c : Asked) × StopsAt c calls × w.fails_between new (left_at_stop (after_sent h (sent_in calls)) c false) (left_at_stop (after_sent h (sent_in calls)) c true))
-      → w.shows new (after_life h (life_of calls NoDoubt))
-      ⊎ ((c : Asked) × StopsAt c calls × w.fails_between new (after_life h (life_of calls (InDoubt c false))) (after_life h (life_of calls (InDoubt c true))))
-  as_life calls new h (inl s) = inl (subst (λ g. w.shows new g) (sym (after_parts h (life_of calls NoDoubt))) s)
-  as_life calls new h (inr (c, stops, f)) =
+      → w.shows new (after_session h (session_of calls NoDoubt))
+      ⊎ ((c : Asked) × StopsAt c calls × w.fails_between new (after_session h (session_of calls (InDoubt c false))) (after_session h (session_of calls (InDoubt c true))))
+  as_session calls new h (inl s) = inl (subst (λ g. w.shows new g) (sym (after_parts h (session_of calls NoDoubt))) s)
+  as_session calls new h (inr (c, stops, f)) =
       inr (
         c,
         stops,
-        subst (λ g. w.fails_between new g (after_life h (life_of calls (InDoubt c true)))) (sym (after_parts h (life_of calls (InDoubt c false))))
-            (subst (λ g. w.fails_between new (after_sent h (sent_in calls)) g) (sym (after_parts h (life_of calls (InDoubt c true)))) f),
+        subst (λ g. w.fails_between new g (after_session h (session_of calls (InDoubt c true)))) (sym (after_parts h (session_of calls (InDoubt c false))))
+            (subst (λ g. w.fails_between new (after_sent h (sent_in calls)) g) (sym (after_parts h (session_of calls (InDoubt c true)))) f),
       )
 
-  pub life_ends : CallsAreALife w
-  life_ends old new h calls s lead k =
+  pub session_ends : CallsAreASession w
+  session_ends old new h calls s lead k =
       let e = calls_end calls old new h s lead k in
-      record { judged = e.judged; ends = as_life calls new h e.ends }
+      record { judged = e.judged; ends = as_session calls new h e.ends }
 
   -- SENT AGAIN
 
@@ -263,81 +263,81 @@ module _ {R : Type 0} (w : Showing R) where
       not_empty : (s : Sent) → s ∷ [] ≡ [] → ⊥
       not_empty s e = cc
 
-  judged_behind : (between last : R) (g : History) (c : Asked) (result : Result Reply Refusal) (live : Bool) → is_outcome result ≡ true → w.is_clean last → Does w between (obeyed c result live) last
+  judged_after : (between last : R) (g : History) (c : Asked) (result : Result Reply Refusal) (live : Bool) → is_outcome result ≡ true → w.is_clean last → Does w between (obeyed c result live) last
       → w.shows between g ⊎ ((next : History) × w.fails_between between g next) → Judges g c result last
-  judged_behind between last g c result live is k does (inl s) =
+  judged_after between last g c result live is k does (inl s) =
       one_judged last g c result (subst (λ (call : Call). CallLeaves w call last g) (obeyed-outcome c result live is) (does.live k g s))
-  judged_behind between last g c result live is k does (inr (next, f)) = absurd (something_sent c result live is (does.failed g next f).0)
+  judged_after between last g c result live is k does (inr (next, f)) = absurd (something_sent c result live is (does.failed g next f).0)
 
   settled_by : (h : History) (c : Asked) (key : List ℕ) (stands : Bool) (result : Result Reply Refusal) (last : R) → c.key ≡ Some key → Judges (left_at_stop h c stands) c result last → (result ≡ answer (judge (views_of h) c)) × w.shows last (after h c)
   settled_by h c key stands result last keyed j =
       let s = doubt_settled h c key stands keyed in
       (j.outcome ∙ s.outcome, subst (λ g. w.shows last g) s.history j.shown)
 
--- LIVES
+-- SESSIONS
 
-lives_more : (ls : List Life) (h : History) (life : Life) → AreLives h ls → AreJudged (after_lives h ls) life.sent → AreLives h (ls ++ life ∷ [])
-lives_more [] h life a j = (j, tt)
-lives_more (l ∷ ls) h life a j = (a.0, lives_more ls (after_life h l) life a.1 j)
+sessions_more : (ls : List Session) (h : History) (session : Session) → AreSessions h ls → AreJudged (after_sessions h ls) session.sent → AreSessions h (ls ++ session ∷ [])
+sessions_more [] h session a j = (j, tt)
+sessions_more (l ∷ ls) h session a j = (a.0, sessions_more ls (after_session h l) session a.1 j)
 
-after_one_more : (ls : List Life) (h : History) (life : Life) → after_lives h (ls ++ life ∷ []) ≡ after_life (after_lives h ls) life
-after_one_more [] h life = refl
-after_one_more (l ∷ ls) h life = after_one_more ls (after_life h l) life
+after_one_more : (ls : List Session) (h : History) (session : Session) → after_sessions h (ls ++ session ∷ []) ≡ after_session (after_sessions h ls) session
+after_one_more [] h session = refl
+after_one_more (l ∷ ls) h session = after_one_more ls (after_session h l) session
 
-zip_more : (cs : List (List Call)) (ls : List Life) (calls : List Call) (life : Life) → AllZip IsLifeOf cs ls → IsLifeOf calls life → AllZip IsLifeOf (cs ++ calls ∷ []) (ls ++ life ∷ [])
-zip_more [] [] calls life z is = (is, tt)
-zip_more [] (l ∷ ls) calls life z is = absurd z
-zip_more (c ∷ cs) [] calls life z is = absurd z
-zip_more (c ∷ cs) (l ∷ ls) calls life z is = (z.0, zip_more cs ls calls life z.1 is)
+zip_more : (cs : List (List Call)) (ls : List Session) (calls : List Call) (session : Session) → AllZip IsSessionOf cs ls → IsSessionOf calls session → AllZip IsSessionOf (cs ++ calls ∷ []) (ls ++ session ∷ [])
+zip_more [] [] calls session z is = (is, tt)
+zip_more [] (l ∷ ls) calls session z is = absurd z
+zip_more (c ∷ cs) [] calls session z is = absurd z
+zip_more (c ∷ cs) (l ∷ ls) calls session z is = (z.0, zip_more cs ls calls session z.1 is)
 
 abbrev KeepMarks : Type 0
 KeepMarks = (h : History) (cs : List Asked) → mark_of (after_all h cs) ≡ mark_of h
 
--- what any lives leave of a start
-led_by : KeysStandOnce → KeepMarks → (mark : ℕ) (before : List Asked) (calls : List (List Call)) (lives : List Life) → let start = after_all (Begins mark) before in
-    AllZip IsLifeOf calls lives → AreLives start lives → IsAfterPrefixes start calls (after_lives start lives)
-led_by at_most_once same_mark mark before calls lives are judged =
+-- what any sessions leave of a start
+led_by : KeysStandOnce → KeepMarks → (mark : ℕ) (before : List Asked) (calls : List (List Call)) (sessions : List Session) → let start = after_all (Begins mark) before in
+    AllZip IsSessionOf calls sessions → AreSessions start sessions → IsAfterPrefixes start calls (after_sessions start sessions)
+led_by at_most_once same_mark mark before calls sessions are judged =
     let start = after_all (Begins mark) before in
-    let behind = flat_map prefix_of lives in
+    let behind = flat_map prefix_of sessions in
     record {
-      lives = lives;
+      sessions = sessions;
       are_of = are;
       judged = judged;
-      joined = joined lives start;
-      marked = ap mark_of (joined lives start) ∙ same_mark start behind;
-      holds = lives_hold lives start judged;
-      once = λ account key. joins (λ h. times_under account key h ≤ 1) mark before lives (at_most_once mark (before ++ behind) account key);
-      kept = lives_keep lives start judged;
-      own = joins OwnKept mark before lives (each_own mark (before ++ behind));
+      joined = joined sessions start;
+      marked = ap mark_of (joined sessions start) ∙ same_mark start behind;
+      holds = sessions_hold sessions start judged;
+      once = λ account key. joins (λ h. times_under account key h ≤ 1) mark before sessions (at_most_once mark (before ++ behind) account key);
+      kept = sessions_keep sessions start judged;
+      own = joins OwnKept mark before sessions (each_own mark (before ++ behind));
     }
 
-pub no_life : KeysStandOnce → KeepMarks → NoLifeIsAPrefix
-no_life at_most_once same_mark mark before = led_by at_most_once same_mark mark before [] [] tt tt
+pub no_session : KeysStandOnce → KeepMarks → NoSessionIsAPrefix
+no_session at_most_once same_mark mark before = led_by at_most_once same_mark mark before [] [] tt tt
 
--- one life more behind lives that led to the history
-one_more : KeysStandOnce → KeepMarks → (mark : ℕ) (before : List Asked) (lives : List (List Call)) (h : History) (calls : List Call) (life : Life) → let start = after_all (Begins mark) before in
-    IsAfterPrefixes start lives h → IsLifeOf calls life → AreJudged h life.sent → IsAfterPrefixes start (lives ++ calls ∷ []) (after_life h life)
-one_more at_most_once same_mark mark before lives h calls life p is judged =
+-- one session more after sessions that led to the history
+one_more : KeysStandOnce → KeepMarks → (mark : ℕ) (before : List Asked) (sessions : List (List Call)) (h : History) (calls : List Call) (session : Session) → let start = after_all (Begins mark) before in
+    IsAfterPrefixes start sessions h → IsSessionOf calls session → AreJudged h session.sent → IsAfterPrefixes start (sessions ++ calls ∷ []) (after_session h session)
+one_more at_most_once same_mark mark before sessions h calls session p is judged =
     let start = after_all (Begins mark) before in
-    let all = p.lives ++ life ∷ [] in
-    let so_far : h ≡ after_lives start p.lives = p.joined ∙ sym (joined p.lives start) in
-    let ends : after_lives start all ≡ after_life h life = after_one_more p.lives start life ∙ ap (λ x. after_life x life) (sym so_far) in
-    let are : AreLives start all = lives_more p.lives start life p.judged (subst (λ x. AreJudged x life.sent) so_far judged) in
-    subst (λ x. IsAfterPrefixes start (lives ++ calls ∷ []) x) ends (led_by at_most_once same_mark mark before (lives ++ calls ∷ []) all (zip_more lives p.lives calls life p.are_of is) are)
+    let all = p.sessions ++ session ∷ [] in
+    let so_far : h ≡ after_sessions start p.sessions = p.joined ∙ sym (joined p.sessions start) in
+    let ends : after_sessions start all ≡ after_session h session = after_one_more p.sessions start session ∙ ap (λ x. after_session x session) (sym so_far) in
+    let are : AreSessions start all = sessions_more p.sessions start session p.judged (subst (λ x. AreJudged x session.sent) so_far judged) in
+    subst (λ x. IsAfterPrefixes start (sessions ++ calls ∷ []) x) ends (led_by at_most_once same_mark mark before (sessions ++ calls ∷ []) all (zip_more sessions p.sessions calls session p.are_of is) are)
 
 module _ {R T : Type 0} (w : Showing R) (u : Showing T) where
-  pub life_more : KeysStandOnce → KeepMarks → OneLifeMore w u
-  life_more at_most_once same_mark mark before opened ended next h lives calls shows p lead again k =
-      let e = life_ends w opened ended h calls shows lead (again.clean k) in
+  pub session_more : KeysStandOnce → KeepMarks → OneSessionMore w u
+  session_more at_most_once same_mark mark before opened ended next h sessions calls shows p lead again k =
+      let e = session_ends w opened ended h calls shows lead (again.clean k) in
       let start = after_all (Begins mark) before in
-      let led : (life : Life) → IsLifeOf calls life → AreJudged h life.sent → u.shows next (after_life h life) → (g : History) × u.shows next g × IsAfterPrefixes start (lives ++ calls ∷ []) g =
-      λ life is judged shown. (after_life h life, shown, one_more at_most_once same_mark mark before lives h calls life p is judged) in
+      let led : (session : Session) → IsSessionOf calls session → AreJudged h session.sent → u.shows next (after_session h session) → (g : History) × u.shows next g × IsAfterPrefixes start (sessions ++ calls ∷ []) g =
+      λ session is judged shown. (after_session h session, shown, one_more at_most_once same_mark mark before sessions h calls session p is judged) in
       elim e.ends [
-        | inl s ↦ led (life_of calls NoDoubt) (refl, tt) e.judged (again.shown k (after_life h (life_of calls NoDoubt)) s)
+        | inl s ↦ led (session_of calls NoDoubt) (refl, tt) e.judged (again.shown k (after_session h (session_of calls NoDoubt)) s)
         | inr (c, stops, f) ↦
-            elim (again.either k (after_life h (life_of calls (InDoubt c false))) (after_life h (life_of calls (InDoubt c true))) f) [
-              | inl s ↦ led (life_of calls (InDoubt c false)) (refl, stops) e.judged s
-              | inr s ↦ led (life_of calls (InDoubt c true)) (refl, stops) e.judged s
+            elim (again.either k (after_session h (session_of calls (InDoubt c false))) (after_session h (session_of calls (InDoubt c true))) f) [
+              | inl s ↦ led (session_of calls (InDoubt c false)) (refl, stops) e.judged s
+              | inr s ↦ led (session_of calls (InDoubt c true)) (refl, stops) e.judged s
             ]
       ]
 
@@ -349,7 +349,7 @@ module _ {R T : Type 0} (w : Showing R) (u : Showing T) where
       over stands s =
           let g = left_at_stop h c stands in
           settled_by u h c key stands result last keyed
-          (judged_behind u between last g c result live is k does (sent_nothing u calls between g none (calls_end u calls opened between g s lead (does.clean k))))
+          (judged_after u between last g c result live is k does (sent_nothing u calls between g none (calls_end u calls opened between g s lead (does.clean k))))
 
       by_found : u.shows opened h ⊎ u.shows opened (after h c) → (result ≡ answer (judge (views_of h) c)) × u.shows last (after h c)
       by_found (inl s) = over false s

@@ -10,7 +10,7 @@ use Rattle.pid_moderation.specs.History.{Asked, Accepted, Begins, More, History}
 use Rattle.pid_moderation.specs.Judgement.{Outcome, Refused, Repeated, Accepts, judge, answer, added, after, after_all}
 use Rattle.pid_moderation.specs.Views.{views_of, kept_of, receipted}
 use Rattle.pid_service_laws.specs.Acknowledged.{IsAcceptedIn, IsIn, HoldsReply, HoldsOutcome, HoldsAll}
-use Rattle.pid_service_laws.specs.Lives.{Sent, AreJudged, after_sent, commands_in}
+use Rattle.pid_service_laws.specs.Sessions.{Sent, AreJudged, after_sent, commands_in}
 use Rattle.pid_service_laws.proofs.Judging.{entry, old_key}
 use Rattle.pid_service_laws.proofs.Staying.{stay}
 

@@ -2,7 +2,7 @@
 use Rattle.std.proofs.Common.{◌≡◌, ℕ, Bool, true, false, cond, List, Option, Some, None, Result, Ok, Err, refl, sym, ap, ◌∙◌}
 use Rattle.pid_moderation.specs.declared.command.Reply.{Reply}
 use Rattle.pid_moderation.specs.declared.facts.Facts.{Facts}
-use Rattle.pid_moderation.specs.declared.facts.Named.{Named}
+use Rattle.pid_moderation.specs.declared.facts.NamedSubmission.{NamedSubmission}
 use Rattle.pid_moderation.specs.declared.refusal.Refusal.{Refusal}
 use Rattle.pid_moderation.specs.declared.refusal.Refusal.TheVariants.{BadText}
 use Rattle.pid_moderation.specs.CheckTables.{checks, first_failing, is_ill_formed, reply_by_facts}
@@ -22,7 +22,7 @@ entry c reply = record { asked = c; reply = reply }
 
 -- THE KEPT REPLY
 
-with_item-kept : (v : Views) (o : Option Named) (f : Facts) → (with_item_facts v o f).kept ≡ f.kept
+with_item-kept : (v : Views) (o : Option NamedSubmission) (f : Facts) → (with_item_facts v o f).kept ≡ f.kept
 with_item-kept v None f = refl
 with_item-kept v (Some s) f = refl
 

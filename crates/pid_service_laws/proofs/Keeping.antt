@@ -11,7 +11,7 @@ use Rattle.pid_moderation.specs.Judgement.{Outcome, Refused, Repeated, Accepts, 
 use Rattle.pid_moderation.specs.Views.{views_of, kept_of, receipted}
 use Rattle.pid_service_laws.specs.Acknowledged.{IsAcceptedIn}
 use Rattle.pid_service_laws.specs.KeptReplies.{IsKept, KeepsOutcome, KeepsSent}
-use Rattle.pid_service_laws.specs.Lives.{Sent, AreJudged, after_sent, commands_in}
+use Rattle.pid_service_laws.specs.Sessions.{Sent, AreJudged, after_sent, commands_in}
 use Rattle.pid_service_laws.proofs.Judging.{asks, entry, old_key}
 use Rattle.pid_service_laws.proofs.Staying.{stay}
 

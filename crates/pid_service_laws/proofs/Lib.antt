@@ -6,5 +6,5 @@ pub mod Joining
 pub mod Settling
 pub mod SessionLaws
 pub mod Calling
-pub mod WorkedLives
+pub mod WorkedSessions
 pub mod WorkedRegistry

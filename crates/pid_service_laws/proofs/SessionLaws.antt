@@ -65,22 +65,22 @@ module _ {R : Type 0} (w : Showing R) where
       → Does w old nothing_sent new
 
 -- Without a session the history is that of the start.
-abbrev pub NoLifeIsAPrefix : Type 0
-NoLifeIsAPrefix = (mark : ℕ) (before : List Asked) → let start = after_all (Begins mark) before in
+abbrev pub NoSessionIsAPrefix : Type 0
+NoSessionIsAPrefix = (mark : ℕ) (before : List Asked) → let start = after_all (Begins mark) before in
     IsAfterPrefixes start [] start
 
 module _ {R T : Type 0} (w : Showing R) (u : Showing T) where
   -- One session more. A registry shows the history after earlier ones. After its calls another is
   -- opened, which shows again what it showed: that shows the history after one session more.
-  abbrev pub OneLifeMore : Type 0
-  OneLifeMore = (mark : ℕ) (before : List Asked) (opened ended : R) (next : T) (h : History)
-      (lives : List (List Call)) (calls : List Call) → let start = after_all (Begins mark) before in
+  abbrev pub OneSessionMore : Type 0
+  OneSessionMore = (mark : ℕ) (before : List Asked) (opened ended : R) (next : T) (h : History)
+      (sessions : List (List Call)) (calls : List Call) → let start = after_all (Begins mark) before in
       w.shows opened h
-      → IsAfterPrefixes start lives h
+      → IsAfterPrefixes start sessions h
       → CallsLead w opened calls ended
       → ShowsAgain w u ended next
       → u.is_clean next
-      → (g : History) × u.shows next g × IsAfterPrefixes start (lives ++ calls ∷ []) g
+      → (g : History) × u.shows next g × IsAfterPrefixes start (sessions ++ calls ∷ []) g
 
   -- A command under a key met a fault by which the registry failed. After the next opening, and
   -- calls that sent nothing, it is sent again and has an outcome: that of the judgement before.

@@ -7,7 +7,7 @@ use Rattle.pid_moderation.specs.History.{Asked, More, History}
 use Rattle.pid_moderation.specs.Judgement.{Outcome, Refused, Repeated, Accepts, judge, answer, added}
 use Rattle.pid_moderation.specs.Views.{views_of}
 use Rattle.pid_service_laws.specs.Doubts.{left_at_stop}
-use Rattle.pid_service_laws.specs.LifeLaws.{EndsAlike}
+use Rattle.pid_service_laws.specs.SessionLaws.{EndsAlike}
 use Rattle.pid_service_laws.proofs.Judging.{asks, entry, formed, repeats, same_form}
 use Rattle.pid_service_laws.proofs.Keeping.{own_kept}
 

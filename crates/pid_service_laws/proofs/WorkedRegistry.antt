@@ -5,13 +5,13 @@ use Rattle.pid_moderation.specs.declared.command.Reply.TheVariants.{Done}
 use Rattle.pid_moderation.specs.declared.refusal.Refusal.TheVariants.{Memory, NoSubmission, Store}
 use Rattle.pid_moderation.specs.History.{History, Approves, new_history}
 use Rattle.pid_moderation.specs.Judgement.{after}
-use Rattle.pid_service_laws.proofs.SessionLaws.{OneLifeMore}
+use Rattle.pid_service_laws.proofs.SessionLaws.{OneSessionMore}
 use Rattle.pid_service_laws.specs.CrashPrefix.{IsAfterPrefixes}
 use Rattle.pid_service_laws.specs.Calls.{Call, nothing_sent, obeyed}
 use Rattle.pid_service_laws.specs.Doubts.{left_at_stop}
-use Rattle.pid_service_laws.specs.Lives.{after_lives}
+use Rattle.pid_service_laws.specs.Sessions.{after_sessions}
 use Rattle.pid_service_laws.specs.Registries.{CallsLead, Does, ShowsAgain, CallLeaves, Showing}
-use Rattle.pid_service_laws.proofs.WorkedLives.{alice, approval, by, first_calls, lives, second_calls, submission, welcome}
+use Rattle.pid_service_laws.proofs.WorkedSessions.{alice, approval, by, first_calls, sessions, second_calls, submission, welcome}
 
 data Registry : Type 0 where
   Live : History → Registry
@@ -102,11 +102,11 @@ second_lead : (stands : Bool) → CallsLead model (Live (left_at_stop welcomed s
 second_lead true = (Live ended, live_does (after welcomed submission) _ (Live ended) ((refl, (refl, tt)), inl (refl, refl)), refl)
 second_lead false = (Live ended, live_does welcomed _ (Live ended) ((refl, (refl, tt)), inl (refl, refl)), refl)
 
--- the two lives of the worked example, whichever way the doubt went
-lives_lead : OneLifeMore model model → (stands : Bool) → IsAfterPrefixes new_history [] new_history
+-- the two sessions of the worked example, whichever way the doubt went
+sessions_lead : OneSessionMore model model → (stands : Bool) → IsAfterPrefixes new_history [] new_history
     → (g : History) × model.shows (Live (left_at_stop welcomed submission stands)) g × IsAfterPrefixes new_history (first_calls ∷ []) g
-lives_lead more true none = more 0 [] (Live new_history) _ _ new_history [] first_calls (refl, refl) none first_lead (torn_found welcomed (after welcomed submission) true) tt
-lives_lead more false none = more 0 [] (Live new_history) _ _ new_history [] first_calls (refl, refl) none first_lead (torn_found welcomed (after welcomed submission) false) tt
+sessions_lead more true none = more 0 [] (Live new_history) _ _ new_history [] first_calls (refl, refl) none first_lead (torn_found welcomed (after welcomed submission) true) tt
+sessions_lead more false none = more 0 [] (Live new_history) _ _ new_history [] first_calls (refl, refl) none first_lead (torn_found welcomed (after welcomed submission) false) tt
 
-ended_after_lives : after_lives new_history (lives true) ≡ ended
-ended_after_lives = refl
+ended_after_sessions : after_sessions new_history (sessions true) ≡ ended
+ended_after_sessions = refl

@@ -5,7 +5,7 @@ use Rattle.std.specs.List.{AllByRecursion}
 use Rattle.pid_moderation.specs.declared.command.Reply.{Reply}
 use Rattle.pid_moderation.specs.declared.refusal.Refusal.{Refusal}
 use Rattle.pid_moderation.specs.History.{Asked, Accepted, Begins, More, History}
-use Rattle.pid_service_laws.specs.Lives.{Sent, Life}
+use Rattle.pid_service_laws.specs.Sessions.{Sent, Session}
 
 -- it is one of the accepted commands
 abbrev pub IsAcceptedIn : Accepted → History → Type 0
@@ -39,5 +39,5 @@ abbrev pub HoldsAll : History → List Sent → Type 0
 HoldsAll h sent = AllByRecursion (λ s. HoldsOutcome h s.command s.outcome) sent
 
 -- every acknowledged command of the sessions
-abbrev pub HoldsLives : History → List Life → Type 0
-HoldsLives h lives = AllByRecursion (λ life. HoldsAll h life.sent) lives
+abbrev pub HoldsSessions : History → List Session → Type 0
+HoldsSessions h sessions = AllByRecursion (λ session. HoldsAll h session.sent) sessions

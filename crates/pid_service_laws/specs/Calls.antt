@@ -6,7 +6,7 @@ use Rattle.pid_moderation.specs.declared.command.Reply.{Reply}
 use Rattle.pid_moderation.specs.declared.refusal.Refusal.{Refusal}
 use Rattle.pid_moderation.specs.History.{Asked}
 use Rattle.pid_service_laws.specs.Outcomes.{is_fault, is_outcome}
-use Rattle.pid_service_laws.specs.Lives.{Sent, Doubt, NoDoubt, InDoubt, Life}
+use Rattle.pid_service_laws.specs.Sessions.{Sent, Doubt, NoDoubt, InDoubt, Session}
 
 -- what a call came to
 pub record Call : Type 0 where
@@ -69,8 +69,8 @@ StopsAt c [] = ⊥
 StopsAt c (call ∷ calls) = ((call.stopped ≡ Some c) × AreNothing calls) ⊎ StopsAt c calls
 
 -- the session that the calls are, with this doubt
-abbrev pub life_of : List Call → Doubt → Life
-life_of calls doubt = record { sent = sent_in calls; doubt = doubt }
+abbrev pub session_of : List Call → Doubt → Session
+session_of calls doubt = record { sent = sent_in calls; doubt = doubt }
 
 -- The command in doubt is the one at which the calls stopped. If none is named, nothing is asked: a
 -- command in doubt that was not written may be left out, as the prefix of the session is the same.
@@ -79,5 +79,5 @@ IsDoubtOf calls NoDoubt = Unit {0}
 IsDoubtOf calls (InDoubt c stands) = StopsAt c calls
 
 -- these are the calls of that session: it has exactly their outcomes, in order
-abbrev pub IsLifeOf : List Call → Life → Type 0
-IsLifeOf calls life = (life.sent ≡ sent_in calls) × IsDoubtOf calls life.doubt
+abbrev pub IsSessionOf : List Call → Session → Type 0
+IsSessionOf calls session = (session.sent ≡ sent_in calls) × IsDoubtOf calls session.doubt

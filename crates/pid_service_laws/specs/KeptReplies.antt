@@ -6,7 +6,7 @@ use Rattle.pid_moderation.specs.declared.command.Reply.{Reply}
 use Rattle.pid_moderation.specs.declared.refusal.Refusal.{Refusal}
 use Rattle.pid_moderation.specs.History.{History}
 use Rattle.pid_moderation.specs.Views.{kept_of}
-use Rattle.pid_service_laws.specs.Lives.{Sent, Life}
+use Rattle.pid_service_laws.specs.Sessions.{Sent, Session}
 
 -- the reply is the one that is kept for the account under the key; without a key nothing is kept
 abbrev pub IsKept : History → List ℕ → Option (List ℕ) → Reply → Type 0
@@ -24,5 +24,5 @@ KeepsSent h sent = AllByRecursion
     (λ s. KeepsOutcome h s.command.account s.command.key s.outcome) sent
 
 -- every reply of the sessions
-abbrev pub KeepsLives : History → List Life → Type 0
-KeepsLives h lives = AllByRecursion (λ life. KeepsSent h life.sent) lives
+abbrev pub KeepsSessions : History → List Session → Type 0
+KeepsSessions h sessions = AllByRecursion (λ session. KeepsSent h session.sent) sessions

@@ -1,12 +1,12 @@
 pub mod Outcomes
-pub mod Lives
+pub mod Sessions
 pub mod Acknowledged
 pub mod KeptReplies
 pub mod Doubts
 pub mod Calls
 pub mod Registries
 pub mod CrashPrefix
-pub mod LifeLaws
+pub mod SessionLaws
 pub mod CallLaws
 pub mod Questions
 pub mod Searching

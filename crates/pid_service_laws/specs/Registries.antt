@@ -12,8 +12,8 @@ use Rattle.pid_moderation.specs.History.{Asked, History}
 use Rattle.pid_moderation.specs.Judgement.{answer, judge, after}
 use Rattle.pid_moderation.specs.Views.{views_of}
 use Rattle.pid_service_laws.specs.Outcomes.{IsMemoryOrStore}
-use Rattle.pid_service_laws.specs.Lives.{after_sent, AreJudged, NoDoubt, InDoubt, after_life}
-use Rattle.pid_service_laws.specs.Calls.{Call, nothing_sent, sent_in, StopsAt, life_of}
+use Rattle.pid_service_laws.specs.Sessions.{after_sent, AreJudged, NoDoubt, InDoubt, after_session}
+use Rattle.pid_service_laws.specs.Calls.{Call, nothing_sent, sent_in, StopsAt, session_of}
 use Rattle.pid_service_laws.specs.Doubts.{left_at_stop}
 
 -- the relations by which a registry is described
@@ -70,12 +70,12 @@ module _ {R : Type 0} (w : Showing R) where
   -- After the calls of a session: each outcome is that of the judgement, and the registry shows the
   -- history after the session, without a doubt. Or it has failed at a command: then it shows the
   -- history after the session with that command or without it.
-  pub record EndsLife (h : History) (calls : List Call) (ended : R) : Type 0 where
+  pub record EndsSession (h : History) (calls : List Call) (ended : R) : Type 0 where
     pub judged : AreJudged h (sent_in calls)
-    pub ends : w.shows ended (after_life h (life_of calls NoDoubt))
+    pub ends : w.shows ended (after_session h (session_of calls NoDoubt))
         ⊎ ((c : Asked) × StopsAt c calls
-        × w.fails_between ended (after_life h (life_of calls (InDoubt c false)))
-        (after_life h (life_of calls (InDoubt c true))))
+        × w.fails_between ended (after_session h (session_of calls (InDoubt c false)))
+        (after_session h (session_of calls (InDoubt c true))))
 
 module _ {R T : Type 0} (w : Showing R) (u : Showing T) where
   -- A later opening, maybe over another store, shows what the registry showed; if that had

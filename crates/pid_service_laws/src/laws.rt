@@ -6,10 +6,10 @@ ghost use Rattle.pid_moderation.specs.Judgement.{after, answer, judge};
 ghost use Rattle.pid_moderation.specs.Sound.{IsSound};
 ghost use Rattle.pid_moderation.specs.Views.{Views};
 ghost use Rattle.pid_moderation.specs.WellMade.{AreWellMade};
-ghost use Rattle.pid_service_laws.specs.Acknowledged.{HoldsLives};
+ghost use Rattle.pid_service_laws.specs.Acknowledged.{HoldsSessions};
 ghost use Rattle.pid_service_laws.specs.Doubts.{left_at_stop};
-ghost use Rattle.pid_service_laws.specs.KeptReplies.{KeepsLives};
-ghost use Rattle.pid_service_laws.specs.LifeLaws.{
+ghost use Rattle.pid_service_laws.specs.KeptReplies.{KeepsSessions};
+ghost use Rattle.pid_service_laws.specs.SessionLaws.{
   HasKey,
   IsOutcomesAndDoubt,
   IsRefusedOver,
@@ -18,7 +18,7 @@ ghost use Rattle.pid_service_laws.specs.LifeLaws.{
   all_prefixes,
   history_left,
 };
-ghost use Rattle.pid_service_laws.specs.Lives.{AreLives, Life, prefix_of};
+ghost use Rattle.pid_service_laws.specs.Sessions.{AreSessions, Session, prefix_of};
 ghost use Rattle.pid_service_laws.specs.Outcomes.{is_outcome};
 
 /// The history that the next opening finds is the one after the prefixes of all sessions, joined in
@@ -27,16 +27,16 @@ ghost use Rattle.pid_service_laws.specs.Outcomes.{is_outcome};
 /// command that was not sent. It has at most one of an account under a key, and every reply that
 /// was answered there is that command's. If the commands are well made, the history has a tree of
 /// names, and what tables ask of it.
-pub fn lives_are_prefixes()
-    ensures prefix { (life : Life) → IsOutcomesAndDoubt life (prefix_of life) }
-    ensures joined { (mark : ℕ) (lives : List Life)
-        → JoinsPrefixes mark lives (history_left mark lives) }
-    ensures holds { (mark : ℕ) (lives : List Life)
-        → AreLives (Begins mark) lives → HoldsLives (history_left mark lives) lives }
-    ensures kept { (mark : ℕ) (lives : List Life)
-        → AreLives (Begins mark) lives → KeepsLives (history_left mark lives) lives }
-    ensures sound { (mark : ℕ) (lives : List Life)
-        → AreWellMade (all_prefixes lives) → IsSound (history_left mark lives) }
+pub fn sessions_are_prefixes()
+    ensures prefix { (session : Session) → IsOutcomesAndDoubt session (prefix_of session) }
+    ensures joined { (mark : ℕ) (sessions : List Session)
+        → JoinsPrefixes mark sessions (history_left mark sessions) }
+    ensures holds { (mark : ℕ) (sessions : List Session)
+        → AreSessions (Begins mark) sessions → HoldsSessions (history_left mark sessions) sessions }
+    ensures kept { (mark : ℕ) (sessions : List Session)
+        → AreSessions (Begins mark) sessions → KeepsSessions (history_left mark sessions) sessions }
+    ensures sound { (mark : ℕ) (sessions : List Session)
+        → AreWellMade (all_prefixes sessions) → IsSound (history_left mark sessions) }
 {
     pid_moderation::laws::histories_are_sound(); // proof only
     pid_moderation::laws::keys_stand_once(); // proof only

@@ -126,12 +126,12 @@ module _ {S X E : Type 0} (g : Ghosts S) (old mid end : Held S) (r : Result X E)
 
     pub commit_at_once : {Y : Type 0} (ends : Result Y TableFault) → (state g end).in_transaction ≡ false → (HasCleanDisk (state g end) → OnErr ends (IsUndone (state g mid) (state g end)))
         → (HasCleanDisk (state g end) → IfErr ends IsMemoryOrStore) → WritesAtOnce (state g old) (state g end) ends
-    commit_at_once ends ended undone untold = record {
+    commit_at_once ends ended undone only_store = record {
       settled = ended;
       clean = λ clean. earlier (state g old) (state g end) whole clean;
       once = committed_once;
       back = commit_back ends undone;
-      unchanged = λ clean. never_told (OnlyReads (state g old) (state g end)) ends (untold clean);
+      unchanged = λ clean. never_told (OnlyReads (state g old) (state g end)) ends (only_store clean);
     }
 
     -- where there was no table: one may be left that shows the history of a new registry

@@ -65,11 +65,11 @@ module _ {S : Type 0} (g : Ghosts S) (old new : Held S) (found : Option Version)
 pub none_there : {P : Type 0} (s : State) → HasNoTable no_schema → RestsBare s → (s.is_open ≡ false → P) → (HasNoTable s.now.schema → P) → P
 none_there s none bare shut there = elim (cases_Bool s.is_open) [ inl opened ↦ there (subst HasNoTable (sym (bare.empty opened).schema) none) | inr closed ↦ shut closed ]
 
-pub untold_making : (e : TableFault) → IsMemoryOrStore e → IsNotNewerSchema e
-untold_making Memory h = tt
-untold_making Store h = tt
-untold_making (NewerSchema n) h = absurd h
-untold_making Damaged h = absurd h
+pub only_store_making : (e : TableFault) → IsMemoryOrStore e → IsNotNewerSchema e
+only_store_making Memory h = tt
+only_store_making Store h = tt
+only_store_making (NewerSchema n) h = absurd h
+only_store_making Damaged h = absurd h
 
 -- where there is none, the step is that they are made
 pub made_alone : (found : Option Version) (r : Result Step TableFault) → found ≡ None → IfOk r (λ step. step ≡ step_for found) → IfErr r IsNotNewerSchema → MatchResult r (λ step. step ≡ Created) IsNotNewerSchema
@@ -132,9 +132,9 @@ pub left_alone : {S : Type 0} (g : Ghosts S) (old : State) (mid end : Held S) (f
 left_alone g old mid end found (Ok x) reads two step h = (step ∙ ap step_for two, subst (λ c. OnlyReads old (state g c)) (sym h) reads)
 left_alone g old mid end found (Err e) reads two step h = h
 
-pub or_untold : (P : Step → Type 0) (Q : TableFault → Type 0) (r : Result Step TableFault) → MatchResult r P (λ _. ⊥) → MatchResult r P Q
-or_untold P Q (Ok x) h = h
-or_untold P Q (Err e) h = absurd h
+pub or_only_store : (P : Step → Type 0) (Q : TableFault → Type 0) (r : Result Step TableFault) → MatchResult r P (λ _. ⊥) → MatchResult r P Q
+or_only_store P Q (Ok x) h = h
+or_only_store P Q (Err e) h = absurd h
 
 -- ---- tables of schema 1
 

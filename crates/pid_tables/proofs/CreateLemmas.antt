@@ -92,8 +92,8 @@ one_more ts text table it tables old new count made h =
 pub made_one : {X : Type 0} (ts : List Table) (text : List ℕ) (table : Table) (r : Result X TableFault) (old new : State) → Creates ts text table → (making ts).tables ≡ ts → GoesOn old new r
     → (HasCleanDisk new → IsTrue old.in_transaction → OnOk r ((count : ℕ) × Executes text [] old new (Ok count)))
     → (HasCleanDisk new → (schema : Schema) → (IsTrue old.is_open → old.now.schema ≡ schema) → IsWriteAs text (understood schema text) → IfErr r IsMemoryOrStore) → Makes old new r ts (ts ++ table ∷ [])
-made_one ts text table (Ok x) old new it tables goes ran untold clean inside made = let h = ran clean inside in one_more ts text table it tables old new h.0 (made (goes.was_open clean (goes.going clean inside).0)) h.1
-made_one ts text table (Err e) old new it tables goes ran untold clean inside made = untold clean (making ts) (λ opened. (made opened).schema) (create_writes (making ts) text _ (command_is text _ it.known) (plain_is text _ it.known) (whole_is text _ it.known) it.defined)
+made_one ts text table (Ok x) old new it tables goes ran only_store clean inside made = let h = ran clean inside in one_more ts text table it tables old new h.0 (made (goes.was_open clean (goes.going clean inside).0)) h.1
+made_one ts text table (Err e) old new it tables goes ran only_store clean inside made = only_store clean (making ts) (λ opened. (made opened).schema) (create_writes (making ts) text _ (command_is text _ it.known) (plain_is text _ it.known) (whole_is text _ it.known) it.defined)
 
 -- ---- the first rows
 

@@ -20,7 +20,7 @@ use Rattle.pid_tables.specs.Rows.Steps.Turns.{GoesOn}
 use Rattle.pid_tables.specs.Rows.Shows.{Shows, ShowsIn}
 use Rattle.pid_tables.proofs.OfRows.GoingLemmas.{earlier, goes_then}
 use Rattle.pid_tables.proofs.OfRows.LeaveLemmas.{shows_found}
-use Rattle.pid_tables.proofs.OfCheck.Later.{untold_never}
+use Rattle.pid_tables.proofs.OfCheck.Later.{only_store_never}
 use Rattle.pid_tables.specs.Creation.{IsUndone}
 
 -- a commit that failed gives back what was committed
@@ -60,20 +60,20 @@ failed_rests g version old mid end r (Err e) v law rest goes shows ended survive
 
 -- ---- faults
 
-pub caused_untold : (old new : State) (e : TableFault) → IsCaused old new e → IsMemoryOrStore e
-caused_untold old new Memory h = tt
-caused_untold old new Store h = tt
-caused_untold old new (NewerSchema n) h = h
-caused_untold old new Damaged h = h
+pub caused_only_store : (old new : State) (e : TableFault) → IsCaused old new e → IsMemoryOrStore e
+caused_only_store old new Memory h = tt
+caused_only_store old new Store h = tt
+caused_only_store old new (NewerSchema n) h = h
+caused_only_store old new Damaged h = h
 
 -- a fault that has a cause says nothing of the tables
-pub all_untold : {X : Type 0} (old new : State) (r : Result X TableFault) → IfErr r (IsCaused old new) → IfErr r IsMemoryOrStore
-all_untold old new (Ok x) h = tt
-all_untold old new (Err e) h = caused_untold old new e h
+pub all_only_store : {X : Type 0} (old new : State) (r : Result X TableFault) → IfErr r (IsCaused old new) → IfErr r IsMemoryOrStore
+all_only_store old new (Ok x) h = tt
+all_only_store old new (Err e) h = caused_only_store old new e h
 
 pub all_never : {X : Type 0} (r : Result X TableFault) → IfErr r IsMemoryOrStore → IfErr r IsNotNewerSchema
 all_never (Ok x) h = tt
-all_never (Err e) h = untold_never e h
+all_never (Err e) h = only_store_never e h
 
 pub all_err : {X : Type 0} {P : TableFault → Type 0} (r : Result X TableFault) → ((e : TableFault) → P e) → IfErr r P
 all_err (Ok x) f = tt

@@ -68,11 +68,11 @@ shown_second db n is shows = subst (ShowsNumber db (codes "schema")) (eqb-true n
 
 -- ---- what is told of the label, whatever the schema
 
-pub untold_damage : (This : Type 0) (e : TableFault) → IsMemoryOrStore e → IsDamageOf This e
-untold_damage This Memory h = tt
-untold_damage This Store h = tt
-untold_damage This (NewerSchema n) h = h
-untold_damage This Damaged h = absurd h
+pub only_store_damage : (This : Type 0) (e : TableFault) → IsMemoryOrStore e → IsDamageOf This e
+only_store_damage This Memory h = tt
+only_store_damage This Store h = tt
+only_store_damage This (NewerSchema n) h = h
+only_store_damage This Damaged h = absurd h
 
 pub good_of : {X E : Type 0} (P : X → Type 0) (Q : E → Type 0) (r : Result X E) → MatchResult r P Q → IfOk r P
 good_of P Q (Ok x) h = h

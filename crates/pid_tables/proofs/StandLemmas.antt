@@ -37,21 +37,21 @@ seen_still old new settled reads = (reads.same old.now (record { sees = λ opene
 
 -- ---- what the check tells
 
-pub untold_explains : (db : Database) (e : TableFault) → IsMemoryOrStore e → Explains db e
-untold_explains db Memory h = tt
-untold_explains db Store h = tt
-untold_explains db (NewerSchema n) h = absurd h
-untold_explains db Damaged h = absurd h
+pub only_store_explains : (db : Database) (e : TableFault) → IsMemoryOrStore e → Explains db e
+only_store_explains db Memory h = tt
+only_store_explains db Store h = tt
+only_store_explains db (NewerSchema n) h = absurd h
+only_store_explains db Damaged h = absurd h
 
-pub untold_told : {X : Type 0} (P : X → Type 0) (Q : TableFault → Type 0) (db : Database) (r : Result X TableFault) → MatchResult r P (λ fault. IsMemoryOrStore fault × Q fault) → IfErr r (Explains db)
-untold_told P Q db (Ok x) h = tt
-untold_told P Q db (Err e) h = untold_explains db e h.0
+pub only_store_told : {X : Type 0} (P : X → Type 0) (Q : TableFault → Type 0) (db : Database) (r : Result X TableFault) → MatchResult r P (λ fault. IsMemoryOrStore fault × Q fault) → IfErr r (Explains db)
+only_store_told P Q db (Ok x) h = tt
+only_store_told P Q db (Err e) h = only_store_explains db e h.0
 
 -- what it tells behind reads is so of what was before them
 pub told_before : (old mid : State) (r : Result (Option Version) TableFault) → (IsTrue mid.is_open → mid.now ≡ old.now) → (mid.is_open ≡ false → MatchResult r (λ _. ⊥) IsMemoryOrStore)
     → MatchResult r (FindsVersion mid.now) (Explains mid.now) → MatchResult r (FindsVersion old.now) (Explains old.now)
 told_before old mid (Ok x) same shut told = elim (cases_Bool mid.is_open) [ inl opened ↦ subst (λ (d : Database). FindsVersion d x) (same opened) told | inr closed ↦ absurd (shut closed) ]
-told_before old mid (Err e) same shut told = elim (cases_Bool mid.is_open) [ inl opened ↦ subst (λ (d : Database). Explains d e) (same opened) told | inr closed ↦ untold_explains old.now e (shut closed) ]
+told_before old mid (Err e) same shut told = elim (cases_Bool mid.is_open) [ inl opened ↦ subst (λ (d : Database). Explains d e) (same opened) told | inr closed ↦ only_store_explains old.now e (shut closed) ]
 
 pub as_standing : (db : Database) (r : Result (Option Version) TableFault) → MatchResult r (FindsVersion db) (Explains db) → MatchResult r (IsStanding db) (Explains db)
 as_standing db (Ok x) told = Found told

@@ -74,7 +74,7 @@ IsNameTaken s = (name : List ℕ) × Has table_names name × (is_used s.now.sche
 -- nothing of the rows.
 pub record MakesNew {X : Type 0} (old new : State) (result : Result X TableFault) : Type 0 where
   pub made : RestsBare old → OnOk result (AtRest new (views_of new_history))
-  pub untold : HasCleanDisk new → RestsBare old → IfErr result IsMemoryOrStore
+  pub only_store : HasCleanDisk new → RestsBare old → IfErr result IsMemoryOrStore
   pub bare : RestsBare old → OnErr result (RestsBare new)
 
 -- If a name is taken, or a fault has shut the connection, nothing is made.

@@ -22,5 +22,5 @@ pub record PutsName (old new : State) (result : Result Put TableFault) (n : ℕ)
   -- it answers what the name was to the item that was there
   pub told : HasCleanDisk new → (c : Counts) (v w : Views) → Within c old v w
       → IfOk result (λ put. put ≡ put_over item.1 (name_at item.0 w.items))
-  pub untold : HasCleanDisk new → IsTrue old.is_open → (c : Counts) (v w : Views)
+  pub only_store : HasCleanDisk new → IsTrue old.is_open → (c : Counts) (v w : Views)
       → Within c old v w → IfErr result IsMemoryOrStore

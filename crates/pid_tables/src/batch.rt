@@ -46,7 +46,7 @@ use crate::putting::{Put, put_text};
 use crate::rows::TableFault;
 use crate::rows::account::set_rank;
 use crate::rows::item::{add_item, remove_item, rename_item};
-use crate::rows::meta::{count_items, count_submissions, set_revision, touch};
+use crate::rows::meta::{count_items, count_submissions, probe_transaction, set_revision};
 use crate::rows::receipt::keep_reply;
 use crate::rows::remark::add_remark;
 use crate::rows::submission::{add_submission, decide};
@@ -146,7 +146,7 @@ fn write_effect<S: Alter>(
         (turn_of effect.now (affected revision effect.now)) }
 {
     match effect {
-        Effect::Nothing => touch(batch),
+        Effect::Nothing => probe_transaction(batch),
         Effect::Ranked { who, rank, is_new } => set_rank(batch, who, *rank, *is_new),
         Effect::Submitted {
             number,
@@ -235,7 +235,7 @@ pub fn apply<S: Alter>(
         → CountsFit change.now.effect c w → FitsViews change.now w
         → OnOk result (Written S.Store batch.new.conn.now (counts_of (changed change.now w)) v
         (changed change.now w)) }
-    ensures untold { HasCleanDisk S.Store batch.new.conn.now
+    ensures only_store { HasCleanDisk S.Store batch.new.conn.now
         → IsTrue (is_open S.Store batch.old.conn.now) → (c : Counts) (v w : Views)
         → Within S.Store batch.old.conn.now c v w
         → CountsFit change.now.effect c w → FitsViews change.now w → IfErr result IsMemoryOrStore }

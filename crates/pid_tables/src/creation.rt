@@ -172,7 +172,7 @@ fn add_labels<S: Alter>(tx: &mut Transaction<'_, S>) -> Result<(), TableFault>
     add_label(tx, "schema", LATEST)
 }
 
-fn fill<S: Alter>(tx: &mut Transaction<'_, S>) -> Result<(), TableFault>
+fn make_registry<S: Alter>(tx: &mut Transaction<'_, S>) -> Result<(), TableFault>
     ensures same_reference { tx.new.conn.ghost_name ≡ tx.old.conn.ghost_name }
     ensures goes { GoesOn S.Store tx.old.conn.now tx.new.conn.now result }
     ensures filled { MakesRegistry S.Store tx.old.conn.now tx.new.conn.now result }
@@ -215,6 +215,6 @@ pub fn create<S: Alter>(conn: &mut Connection<S>) -> Result<(), TableFault>
     ensures spares { MakesNothing S.Store conn.old conn.new result }
 {
     let mut batch = conn.transaction();
-    fill(&mut batch)?;
+    make_registry(&mut batch)?;
     commit(batch)
 }

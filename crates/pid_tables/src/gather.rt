@@ -23,7 +23,7 @@ use crate::rows::remark::remark_count;
 use crate::rows::submission::standing;
 use crate::tables::Tables;
 use pid_ident::{Account, Key, Name, Path, PathText};
-use pid_moderation::{Facts, Named, Rank, Reply, Rows};
+use pid_moderation::{Facts, NamedSubmission, Rank, Reply, Rows};
 use sqlite::Alter;
 use std::alloc::Global;
 
@@ -40,7 +40,7 @@ fn plain_facts(
     known: KnownFacts,
     who: Option<Rank>,
     submissions: u32,
-    named: Option<Named>,
+    named: Option<NamedSubmission>,
 ) -> Facts
     ensures { result ≡ record (bare known) { who = who; submissions = submissions; named = named } }
 {
@@ -62,7 +62,7 @@ fn plain_facts(
 
 // What the item at the path of a submission is, and how many items there are.
 #[derive(Drop)]
-struct Place {
+struct ItemPlace {
     items: u32,
     present: Option<Name>,
     has_parent: bool,
@@ -71,7 +71,11 @@ struct Place {
 
 impl<S: Alter + Drop> Tables<S> {
     // What is known of every command of the account under the key.
-    fn known(&mut self, account: &Account, key: &Option<Key>) -> Result<KnownFacts, TableFault>
+    fn known_facts(
+        &mut self,
+        account: &Account,
+        key: &Option<Key>,
+    ) -> Result<KnownFacts, TableFault>
         requires { self.old.conn.in_transaction ≡ false }
         ensures { Reads S.Store self.old.conn self.new.conn result
             (λ v known. bare known ≡ known_of v account.now key.now) }
@@ -93,13 +97,17 @@ impl<S: Alter + Drop> Tables<S> {
         })
     }
 
-    fn named(&mut self, alloc: Global, number: u32) -> Result<Option<Named>, TableFault>
+    fn submission_facts(
+        &mut self,
+        alloc: Global,
+        number: u32,
+    ) -> Result<Option<NamedSubmission>, TableFault>
         requires { self.old.conn.in_transaction ≡ false }
         ensures { Reads S.Store self.old.conn self.new.conn result (λ v named. named ≡ named_in v number) }
     {
         match standing(&mut self.conn, alloc, number) {
             Ok(None) => Ok(None),
-            Ok(Some(found)) => Ok(Some(Named {
+            Ok(Some(found)) => Ok(Some(NamedSubmission {
                 author: found.author,
                 path: found.path,
                 proposal: found.proposal,
@@ -133,7 +141,7 @@ impl<S: Alter + Drop> Tables<S> {
         }
     }
 
-    fn place_at(&mut self, alloc: Global, path: Path) -> Result<Place, TableFault>
+    fn place_at(&mut self, alloc: Global, path: Path) -> Result<ItemPlace, TableFault>
         requires { self.old.conn.in_transaction ≡ false }
         ensures { Reads S.Store self.old.conn self.new.conn result
             (λ v place. AllItems v.items → HoldsParents v.items
@@ -148,7 +156,7 @@ impl<S: Alter + Drop> Tables<S> {
         let has_parent = self.has_parent(alloc, path)?;
         let has_children = has_children(&mut self.conn, alloc, path)?;
         match self.item(alloc, &path) {
-            Ok(present) => Ok(Place {
+            Ok(present) => Ok(ItemPlace {
                 items,
                 present,
                 has_parent,
@@ -170,7 +178,7 @@ impl<S: Alter + Drop> Tables<S> {
             (λ v facts. facts ≡ looked_at v (RemarksOf number) (bare known)) }
     {
         let remarks = remark_count(&mut self.conn, number)?;
-        match self.named(alloc, number) {
+        match self.submission_facts(alloc, number) {
             Ok(named) => {
                 let mut facts = plain_facts(known, None, 0, named);
                 facts.remarks = remarks;
@@ -192,7 +200,7 @@ impl<S: Alter + Drop> Tables<S> {
             (λ v facts. AllItems v.items → HoldsParents v.items
             → facts ≡ with_item_facts v (named_in v number) (bare known)) }
     {
-        match self.named(alloc, number)? {
+        match self.submission_facts(alloc, number)? {
             None => Ok(plain_facts(known, None, 0, None)),
             Some(named) => match self.place_at(alloc, named.path) {
                 Ok(place) => Ok(Facts {
@@ -239,7 +247,7 @@ impl<S: Alter + Drop> Tables<S> {
                 Ok(plain_facts(known, None, submissions, None))
             }
             Rows::Submission(number) => {
-                let named = self.named(alloc, number)?;
+                let named = self.submission_facts(alloc, number)?;
                 Ok(plain_facts(known, None, 0, named))
             }
             Rows::Remarks(number) => self.remark_facts(alloc, number, known),
@@ -264,7 +272,7 @@ impl<S: Alter + Drop> Tables<S> {
             (λ v facts. AllItems v.items → HoldsParents v.items
             → facts ≡ facts_at v account.now key.now (wanted_by rows.entry)) }
     {
-        let known = self.known(account, key)?;
+        let known = self.known_facts(account, key)?;
         self.with_rows(alloc, rows, known)
     }
 }

@@ -25,7 +25,7 @@ pub use faults::refusal_of;
 pub use judging::{Early, judge_import};
 pub use lists::EachEnd;
 pub use migration::Step;
-pub use put_file::{Stop, bring_in};
+pub use put_file::{Stop, import_file};
 pub use putting::Put;
 pub use rows::{TableFault, Version};
 pub use tables::Tables;

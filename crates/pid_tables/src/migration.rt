@@ -72,7 +72,7 @@ fn is_current<S: Alter>(conn: &mut Connection<S>) -> Result<bool, TableFault>
         → IfOk result (λ is. is ≡ true → NamesLatest (seen S.Store conn.old)) }
     ensures was_open { HasCleanDisk S.Store conn.new
         → OnOk result (IsTrue (is_open S.Store conn.old)) }
-    ensures untold { IfErr result IsMemoryOrStore }
+    ensures only_store { IfErr result IsMemoryOrStore }
 {
     crate::check::laws::schemas_have_tables(); // proof only
     if !has_some_table(conn)? {
@@ -93,8 +93,8 @@ fn move_up<S: Alter>(conn: &mut Connection<S>) -> Result<(), TableFault>
         → OnOk result (AtRest S.Store conn.new v) }
     ensures kept { (v : Views) → RestsIn S.Store One conn.old v
         → OnErr result (RestsIn S.Store One conn.new v) }
-    ensures untold { HasCleanDisk S.Store conn.new → (v : Views) → RestsIn S.Store One conn.old v
-        → IfErr result IsMemoryOrStore }
+    ensures only_store { HasCleanDisk S.Store conn.new → (v : Views)
+        → RestsIn S.Store One conn.old v → IfErr result IsMemoryOrStore }
     ensures never { HasCleanDisk S.Store conn.new → IfErr result IsNotNewerSchema }
     ensures statements { Carries S.Store move_statements conn.old conn.new result }
 {
@@ -104,7 +104,7 @@ fn move_up<S: Alter>(conn: &mut Connection<S>) -> Result<(), TableFault>
 }
 
 // Moves what is there to schema 2.
-fn bring<S: Alter>(conn: &mut Connection<S>, found: Option<Version>) -> Result<Step, TableFault>
+fn upgrade<S: Alter>(conn: &mut Connection<S>, found: Option<Version>) -> Result<Step, TableFault>
     requires { conn.old.in_transaction ≡ false }
     ensures at_once { WritesAtOnce S.Store conn.old conn.new result }
     ensures step { IfOk result (λ step. step ≡ step_for found) }
@@ -165,6 +165,6 @@ impl<S: Alter + Drop> Tables<S> {
     {
         crate::check::laws::schemas_have_tables(); // proof only
         let found = self.schema_found(alloc)?;
-        bring(&mut self.conn, found)
+        upgrade(&mut self.conn, found)
     }
 }

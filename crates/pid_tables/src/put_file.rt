@@ -152,7 +152,7 @@ fn apply_file<S: Alter>(
 /// `facts` and `items` are those of `judge_import`, if the import depends on its file. The input is
 /// read to its end, or until its text is too long: then one byte more than a file may have was
 /// read. The file that the command has is not looked at.
-pub fn bring_in<S: Alter, I: Input>(
+pub fn import_file<S: Alter, I: Input>(
     conn: &mut Connection<S>,
     alloc: Global,
     facts: &mut Facts,

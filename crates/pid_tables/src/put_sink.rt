@@ -86,7 +86,7 @@ impl<'k, K: Putter> PutSink<'k, K, Global> {
     }
 }
 
-fn one_more(count: u32) -> Result<u32, TableFault>
+fn checked_next(count: u32) -> Result<u32, TableFault>
     ensures { IfOk result (λ n. n ≡ count + 1) }
 {
     match count.checked_add(1) {
@@ -101,9 +101,9 @@ fn tally_with(put: Put, tally: Tally) -> Result<Tally, TableFault>
 {
     let mut tally = tally;
     match put {
-        Put::Added => tally.added = one_more(tally.added)?,
-        Put::Renamed => tally.renamed = one_more(tally.renamed)?,
-        Put::Same => tally.same = one_more(tally.same)?,
+        Put::Added => tally.added = checked_next(tally.added)?,
+        Put::Renamed => tally.renamed = checked_next(tally.renamed)?,
+        Put::Same => tally.same = checked_next(tally.same)?,
     }
     Ok(tally)
 }

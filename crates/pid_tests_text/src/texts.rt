@@ -1,6 +1,6 @@
 //! Texts tidied and checked: their ends, and readers and writers that fail.
 use pid_doubles::{FaultyInput, FaultyOutput};
-use pid_file::{TextEnd, check, count_input, tell_unread, tidy};
+use pid_file::{TextEnd, check, count_input, report_unread, tidy};
 use pid_ident::{LineKind, WriteFault};
 use std::alloc::Global;
 
@@ -45,7 +45,7 @@ pub fn is_within(alloc: Global, limit: usize, want: &str) -> bool {
     let Err(unread) = count_input(alloc, limit, &mut input) else {
         return false;
     };
-    let end = tell_unread(unread, &mut faults);
+    let end = report_unread(unread, &mut faults);
     is_end_of(end, want, &faults.taken)
 }
 

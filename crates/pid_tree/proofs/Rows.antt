@@ -3,7 +3,7 @@ use Rattle.std.proofs.Common.{◌≡◌, ℕ, List, [], ◌∷◌, ◌++◌, ref
 use Rattle.std.specs.Prelude.{codes}
 use Rattle.std.specs.FinMap.{from_sorted, entries-from_sorted}
 use Rattle.pid_file.specs.Trees.{text_cmp}
-use Rattle.pid_file.specs.Printing.{block_line, ended, header, item_line, lines_behind, opens_block, print}
+use Rattle.pid_file.specs.Printing.{block_line, ended, header, item_line, lines_after, opens_block, print}
 
 abbrev Items : Type 0
 Items = List (List ℕ × List ℕ)
@@ -43,12 +43,12 @@ first_of_vendor = refl
 next_of_vendor : opens_block (codes "PS/1af4/0001") (codes "PS/1af4/1100") ≡ false
 next_of_vendor = refl
 
-device_behind_vendor : opens_block (codes "PC/1af4") (codes "PC/1af4/1100") ≡ false
-device_behind_vendor = refl
+device_after_vendor : opens_block (codes "PC/1af4") (codes "PC/1af4/1100") ≡ false
+device_after_vendor = refl
 
 -- whole texts
 empty_text : print (from_sorted {R = text_cmp} []) ≡ codes "# PCI ID registry" ++ 10 ∷ []
-empty_text = ap (λ (items : Items). ended (header ∷ lines_behind [] items)) (entries-from_sorted text_cmp [] tt)
+empty_text = ap (λ (items : Items). ended (header ∷ lines_after [] items)) (entries-from_sorted text_cmp [] tt)
 
 blocks : Items
 blocks = (codes "PC/1af4", codes "Red Hat") ∷ (codes "PC/8086", codes "I") ∷ (codes "PD/01", codes "Mass") ∷ (codes "PS/1af4/0001", codes "Net") ∷ (codes "PS/1af4/0002", codes "Blk") ∷ (codes "PS/1af4/1100", codes "Qemu") ∷ []
@@ -56,4 +56,4 @@ blocks = (codes "PC/1af4", codes "Red Hat") ∷ (codes "PC/8086", codes "I") ∷
 blocks_text : print (from_sorted {R = text_cmp} blocks)
     ≡ codes "# PCI ID registry" ++ 10 ∷ codes "1af4  Red Hat" ++ 10 ∷ codes "8086  I" ++ 10 ∷ codes "C 01  Mass" ++ 10 ∷ codes "S 1af4" ++ 10 ∷ 9 ∷ codes "0001  Net" ++ 10 ∷ 9 ∷ codes "0002  Blk" ++ 10 ∷ 9 ∷ codes "1100  Qemu" ++ 10 ∷ []
 unfolding blocks
-blocks_text = ap (λ (items : Items). ended (header ∷ lines_behind [] items)) (entries-from_sorted text_cmp blocks tt)
+blocks_text = ap (λ (items : Items). ended (header ∷ lines_after [] items)) (entries-from_sorted text_cmp blocks tt)

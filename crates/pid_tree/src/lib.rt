@@ -8,7 +8,7 @@ mod tree_items;
 
 pub use laws::labels_are_of_paths;
 pub use pid_file::{
-    Tree, opened_block, write_behind, write_block, write_canonical, write_header, write_item,
+    Tree, opened_block, write_after, write_block, write_canonical, write_header, write_item,
 };
 pub use refusal::TreeRefusal;
 pub use tree_items::TreeItems;

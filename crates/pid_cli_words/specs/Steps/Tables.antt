@@ -3,9 +3,9 @@ use Rattle.std.specs.List.{fold}
 use Rattle.clap.specs.Words.{App, new_app, with_subcommand}
 use Rattle.pid_cli_words.specs.Commands.{Connections, Needed, Operand, Parameter, Port, Spare}
 use Rattle.pid_cli_words.specs.Commands.{with_parameter}
-use Rattle.pid_cli_words.specs.declared.command.Argument.{Argument}
-use Rattle.pid_cli_words.specs.declared.command.Argument.TheVariants as arguments
-use Rattle.pid_cli_words.specs.declared.command.Row.{Row}
+use Rattle.pid_cli_words.specs.declared.subcommand.Argument.{Argument}
+use Rattle.pid_cli_words.specs.declared.subcommand.Argument.TheVariants as arguments
+use Rattle.pid_cli_words.specs.declared.subcommand.Row.{Row}
 
 -- an argument, and a subcommand
 abbrev pub parameter_of : Argument → Parameter

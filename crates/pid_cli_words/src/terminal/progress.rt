@@ -65,13 +65,13 @@ impl<'r> Progress<'r> {
         self.lines = self.lines.saturating_add(ends_in(bytes));
         if let Ok(now) = Instant::now(self.rt) {
             if now >= due {
-                self.tell();
+                self.report();
                 self.due = instant_after(self.rt, PAUSE);
             }
         }
     }
 
-    fn tell(&mut self) {
+    fn report(&mut self) {
         let lines = grouped(self.lines);
         say(self.rt, &["\r", self.job, ": ", lines.as_str(), " lines"]);
         self.is_shown = true;

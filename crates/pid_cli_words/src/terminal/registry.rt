@@ -39,7 +39,7 @@ impl<'s> RegistryFile<'s> {
     }
 
     /// Says once that the file was made, if it was.
-    pub fn tell_made(&self) {
+    pub fn report_made(&self) {
         if !self.is_awaited.get() || is_missing(self.rt, self.path) {
             return;
         }

@@ -48,6 +48,6 @@ impl Looks for Replies<'_> {
         if self.lines.is_counted {
             self.line = count(self.lines, self.line, bytes);
         }
-        self.file.tell_made();
+        self.file.report_made();
     }
 }

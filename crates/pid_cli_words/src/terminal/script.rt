@@ -62,7 +62,7 @@ impl Lines {
     }
 
     /// Says how many lines were refused, and which was the first one.
-    pub fn tell_refused(&self, rt: &HostRuntime) {
+    pub fn report_refused(&self, rt: &HostRuntime) {
         let Some(first) = self.first.get() else {
             return;
         };
@@ -71,17 +71,17 @@ impl Lines {
         let number = numbered.format(first.number.unwrap_or(0));
         let why = first.reply.refusal().unwrap_or("");
         if first.number.is_none() {
-            tell(rt, "lines refused: ", count, ", the first one: ", "", why);
+            report(rt, "lines refused: ", count, ", the first one: ", "", why);
         } else if self.refused.get() == 1 {
-            tell(rt, "line ", number, " was refused: ", "", why);
+            report(rt, "line ", number, " was refused: ", "", why);
         } else {
             let many = " lines were refused, the first is line ";
-            tell(rt, count, many, number, ": ", why);
+            report(rt, count, many, number, ": ", why);
         }
     }
 }
 
-fn tell<'a>(rt: &HostRuntime, a: &'a str, b: &'a str, c: &'a str, d: &'a str, why: &'a str) {
+fn report<'a>(rt: &HostRuntime, a: &'a str, b: &'a str, c: &'a str, d: &'a str, why: &'a str) {
     say(rt, &["pciids: ", a, b, c, d, why, "\n"]);
 }
 

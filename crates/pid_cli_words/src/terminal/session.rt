@@ -13,7 +13,7 @@ use crate::terminal::say::say_of;
 use crate::terminal::script::{Lines, ScriptInput, buffered};
 use crate::terminal::seen::Seen;
 use crate::terminal::values::{explain_lookup, explain_sender};
-use pid_cli_help::{Met, Noted, explain_streams, is_for_a_person, tell_input};
+use pid_cli_help::{Met, Noted, explain_streams, is_for_a_person, report_input};
 use std::cell::Cell;
 use std::io::{Stderr, Stdin, Stdout};
 
@@ -36,7 +36,7 @@ impl<'r> Session<'r> {
     pub fn begin(rt: &'r HostRuntime, job: Job<'r>) -> Session<'r> {
         let is_told = is_for_a_person(rt);
         if is_told {
-            tell_reading(rt, job);
+            report_reading(rt, job);
         }
         let files = files_of(job);
         // An export may make a new registry.
@@ -86,9 +86,9 @@ impl<'r> Session<'r> {
         match self.fault.get() {
             Some(Fault::Store | Fault::Damaged | Fault::Unopened) => {}
             Some(Fault::AnotherJournal | Fault::SegmentsMissing | Fault::Journal) => {
-                self.file(None).tell_made();
+                self.file(None).report_made();
             }
-            _ => self.file(self.files.journal).tell_made(),
+            _ => self.file(self.files.journal).report_made(),
         }
     }
 
@@ -135,7 +135,7 @@ impl<'r> Session<'r> {
         let refusal = first.reply.refusal().unwrap_or("");
         let is_bad_text = refusal == "3 BadText";
         match self.job {
-            Job::Script { .. } => self.lines.tell_refused(self.rt),
+            Job::Script { .. } => self.lines.report_refused(self.rt),
             Job::Lookup(words) if is_bad_text => explain_lookup(self.rt, &words),
             Job::Import(words) if is_bad_text => {
                 explain_sender(self.rt, &words);
@@ -155,10 +155,10 @@ const ANOTHER: &str = "is the journal of another registry: nothing was changed";
 
 const MISSING: &str = "begins after the registry, or lacks a file in between";
 
-fn tell_reading(rt: &HostRuntime, job: Job<'_>) {
+fn report_reading(rt: &HostRuntime, job: Job<'_>) {
     match job {
-        Job::Tidy | Job::Check => tell_input(rt, "a pci.ids file"),
-        Job::Script { .. } => tell_input(rt, "commands"),
+        Job::Tidy | Job::Check => report_input(rt, "a pci.ids file"),
+        Job::Script { .. } => report_input(rt, "commands"),
         _ => {}
     }
 }

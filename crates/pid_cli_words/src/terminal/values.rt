@@ -1,12 +1,12 @@
 //! Which values of the arguments break their rules.
 
-use crate::job::{ImportWords, LookupWords};
+use crate::job::{ImportArgs, LookupArgs};
 use crate::terminal::say::say;
 use pid_form::numeral;
 use pid_ident::{is_account, is_key};
 
 /// Says which values of a lookup break their rules.
-pub fn explain_lookup(rt: &HostRuntime, words: &LookupWords<'_>) {
+pub fn explain_lookup(rt: &HostRuntime, words: &LookupArgs<'_>) {
     if numeral(words.flags, 16, 1, 8).is_none() {
         explain_hex(rt, "flags", "1 to 8", words.flags);
     }
@@ -46,7 +46,7 @@ fn explain_hex(rt: &HostRuntime, name: &str, digits: &str, value: &str) {
 }
 
 /// Says whether the account or the key of an import breaks its rule.
-pub fn explain_sender(rt: &HostRuntime, words: &ImportWords<'_>) {
+pub fn explain_sender(rt: &HostRuntime, words: &ImportArgs<'_>) {
     if !is_account(words.account) {
         let rule = "1 to 32 of a to z, 0 to 9 and -";
         explain(rt, "account", rule, "", words.account);

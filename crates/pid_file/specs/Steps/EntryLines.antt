@@ -1,6 +1,7 @@
 -- What is wrong with the columns of a line, and what a line names, except for its own digits.
 -- Serves private functions alone; no promise rests on it.
-use Rattle.std.specs.Prelude.{◌≡◌, ◌<◌, ℕ, true, not, List, [], ◌∷◌, ◌++◌, if◌then◌else◌, Option, Some, None}
+use Rattle.std.specs.Prelude.{◌≡◌, ◌<◌, ℕ, true, not, List, [], ◌∷◌, ◌++◌, if◌then◌else◌, Option}
+use Rattle.std.specs.Prelude.{Some, None}
 use Rattle.pid_file.specs.declared.fault_kind.LineKind.{LineKind}
 use Rattle.pid_file.specs.declared.fault_kind.LineKind.TheVariants.{BadId, NoName, BadName}
 use Rattle.pid_file.specs.declared.path.Path.{Path}
@@ -10,9 +11,10 @@ use Rattle.pid_file.specs.Words.{is_name}
 use Rattle.pid_file.specs.Identifiers.{hex4, hex2}
 use Rattle.pid_file.specs.Marks.{trim_blanks}
 use Rattle.pid_file.specs.Columns.{begins_with_ids, digits_in, name_in}
-use Rattle.pid_file.specs.declared.entry_line.Place.{Place}
-use Rattle.pid_file.specs.declared.entry_line.Place.TheVariants.{Vendor, Device, Subsystem, Class}
-use Rattle.pid_file.specs.declared.entry_line.Place.TheVariants.{Subclass, ProgIf, Generic}
+use Rattle.pid_file.specs.declared.entry_line.EntryKind.{EntryKind}
+use Rattle.pid_file.specs.declared.entry_line.EntryKind.TheVariants.{Vendor, Device, Subsystem}
+use Rattle.pid_file.specs.declared.entry_line.EntryKind.TheVariants.{Class}
+use Rattle.pid_file.specs.declared.entry_line.EntryKind.TheVariants.{Subclass, ProgIf, Generic}
 
 abbrev pub name_fault : List ℕ → Option LineKind
 name_fault name = if is_empty name then Some NoName else
@@ -24,7 +26,7 @@ columns_fault ws bytes = if not (begins_with_ids ws bytes) then Some BadId else 
     (name_in ws bytes)
 
 -- the digits of each identifier
-abbrev pub widths_of : Place → List ℕ
+abbrev pub widths_of : EntryKind → List ℕ
 widths_of Vendor = 4 ∷ []
 widths_of (Device v) = 4 ∷ []
 widths_of (Subsystem v d) = 4 ∷ 4 ∷ []
@@ -34,7 +36,7 @@ widths_of (ProgIf c s) = 2 ∷ []
 widths_of (Generic v) = 4 ∷ []
 
 -- the path of a place, with these digits as its own
-abbrev pub IsPathAt : Place → Path → List ℕ → Type 0
+abbrev pub IsPathAt : EntryKind → Path → List ℕ → Type 0
 IsPathAt Vendor (paths.Vendor v) digits = digits ≡ hex4 v
 IsPathAt (Device v) (paths.Device w d) digits = (w ≡ v) × (digits ≡ hex4 d)
 IsPathAt (Subsystem v d) (paths.Subsystem w e s t) digits = (w ≡ v) × (e ≡ d)
@@ -46,7 +48,7 @@ IsPathAt (Generic v) (paths.Generic w d) digits = (w ≡ v) × (digits ≡ hex4 
 IsPathAt _ _ digits = ⊥
 
 -- below what the first of a place's own numbers is
-abbrev pub bound_of : Place → ℕ
+abbrev pub bound_of : EntryKind → ℕ
 bound_of Vendor = 65536
 bound_of (Device v) = 65536
 bound_of (Subsystem v d) = 65536
@@ -56,7 +58,7 @@ bound_of (ProgIf c s) = 256
 bound_of (Generic v) = 65536
 
 -- the digits of a place's own numbers: one, or two of a subsystem
-abbrev pub digits_of : Place → ℕ → ℕ → List ℕ
+abbrev pub digits_of : EntryKind → ℕ → ℕ → List ℕ
 digits_of Vendor a b = hex4 a
 digits_of (Device v) a b = hex4 a
 digits_of (Subsystem v d) a b = hex4 a ++ hex4 b
@@ -66,7 +68,8 @@ digits_of (ProgIf c s) a b = hex2 a
 digits_of (Generic v) a b = hex4 a
 
 -- the numbers that the bytes begin with, and what follows them
-pub record AreIds (place : Place) (bytes : List ℕ) (first second : ℕ) (rest : List ℕ) : Type 0 where
+pub record AreIds (place : EntryKind) (bytes : List ℕ) (first second : ℕ) (rest : List ℕ)
+    : Type 0 where
   pub small : first < bound_of place
   pub begins : begins_with_ids (widths_of place) bytes ≡ true
   pub says : digits_in (widths_of place) bytes ≡ digits_of place first second

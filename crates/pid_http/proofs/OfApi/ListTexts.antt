@@ -17,14 +17,14 @@ has_rows (x ∷ xs) = true
 regrouped : (a b c d : List ℕ) → a ++ (b ++ (c ++ d)) ≡ (a ++ (b ++ c)) ++ d
 regrouped a b c d = simp append_assoc refl
 
-behind_rows : (rows : List Data) (row : Data) → rows_text true (rows ++ row ∷ []) ≡ rows_text true rows ++ 44 ∷ compact_text row
-behind_rows [] row = rw (append-nil (compact_text row)) refl
-behind_rows (x ∷ xs) row = rw (behind_rows xs row) (regrouped (44 ∷ []) (compact_text x) (rows_text true xs) (44 ∷ compact_text row))
+after_rows : (rows : List Data) (row : Data) → rows_text true (rows ++ row ∷ []) ≡ rows_text true rows ++ 44 ∷ compact_text row
+after_rows [] row = rw (append-nil (compact_text row)) refl
+after_rows (x ∷ xs) row = rw (after_rows xs row) (regrouped (44 ∷ []) (compact_text x) (rows_text true xs) (44 ∷ compact_text row))
 
 -- one row more
 pub row_more : (rows : List Data) (row : Data) → rows_text false (rows ++ row ∷ []) ≡ rows_text false rows ++ (comma_if (has_rows rows) ++ compact_text row)
 row_more [] row = append-nil (compact_text row)
-row_more (x ∷ xs) row = rw (behind_rows xs row) (regrouped [] (compact_text x) (rows_text true xs) (44 ∷ compact_text row))
+row_more (x ∷ xs) row = rw (after_rows xs row) (regrouped [] (compact_text x) (rows_text true xs) (44 ∷ compact_text row))
 
 -- the list behind its last row
 pub rows_closed : (later : Bool) (rows : List Data) → items_text later (items_of rows) ≡ rows_text later rows ++ codes "]"

@@ -20,11 +20,11 @@ use Rattle.pid_http_stream.specs.declared.reply_head.Content.TheVariants.{Json, 
 use Rattle.pid_http_stream.specs.declared.reply_head.Content.TheVariants.{AllowBoth}
 use Rattle.pid_http.specs.Api.Replying.{answer_in}
 use Rattle.pid_http.specs.declared.api.format.Format.{Format}
-use Rattle.pid_http.specs.declared.api.early.Early.{Early}
+use Rattle.pid_http.specs.declared.api.early.RefusedEarly.{RefusedEarly}
 use Rattle.pid_ident.specs.LineKinds as line_kinds
 use Rattle.pid_http.specs.declared.api.format.Format.TheVariants as formats
 use Rattle.pid_moderation.specs.declared.refusal.Refusal.TheVariants as refusals
-use Rattle.pid_http.specs.declared.api.early.Early.TheVariants as early
+use Rattle.pid_http.specs.declared.api.early.RefusedEarly.TheVariants as early
 
 -- ill-formed; not allowed to this account; not there; against how things stand; a faulty file;
 -- full, or failed
@@ -101,7 +101,7 @@ abbrev pub missing_answer : Format → Answer
 missing_answer format = answer_in format 404 (unanswered_data NoItem) (unanswered_line NoItem)
 
 -- the methods of the route; or the refusal
-abbrev pub early_answer : Early → Answer
+abbrev pub early_answer : RefusedEarly → Answer
 early_answer early.AnotherMethod = answer_with 405 AllowBoth []
 early_answer early.WantsGet = answer_with 405 AllowGet []
 early_answer early.WantsPost = answer_with 405 AllowPost []

@@ -15,10 +15,11 @@ use Rattle.pid_moderation.specs.CheckTables.{most_revision}
 use Rattle.pid_moderation.specs.Fields.{Fields, value, text_at}
 use Rattle.pid_moderation.specs.Forms.{number_in}
 use Rattle.pid_moderation.specs.declared.refusal.Refusal.TheVariants.{BadPath, BadText}
-use Rattle.pid_http.specs.declared.api.early.Early.{Early}
-use Rattle.pid_http.specs.declared.api.early.Early.TheVariants.{BadQuery, BadValue, AnotherMethod}
-use Rattle.pid_http.specs.declared.api.early.Early.TheVariants.{BadTarget, NoRoute, WantsGet}
-use Rattle.pid_http.specs.declared.api.early.Early.TheVariants.{WantsPost}
+use Rattle.pid_http.specs.declared.api.early.RefusedEarly.{RefusedEarly}
+use Rattle.pid_http.specs.declared.api.early.RefusedEarly.TheVariants.{BadQuery, BadValue}
+use Rattle.pid_http.specs.declared.api.early.RefusedEarly.TheVariants.{AnotherMethod}
+use Rattle.pid_http.specs.declared.api.early.RefusedEarly.TheVariants.{BadTarget, NoRoute, WantsGet}
+use Rattle.pid_http.specs.declared.api.early.RefusedEarly.TheVariants.{WantsPost}
 use Rattle.pid_http.specs.declared.api.format.Format.{Format}
 use Rattle.pid_http.specs.declared.api.format.Format.TheVariants.{Json, Text}
 use Rattle.form_urlencoded.specs.Form.{split_once}
@@ -39,7 +40,7 @@ use Rattle.pid_http.specs.declared.api.question.Question.TheVariants as question
 
 -- what is said, or how it is refused
 abbrev pub Said : Type 0 → Type 0
-Said X = Result X Early
+Said X = Result X RefusedEarly
 
 -- what is made of what is said
 abbrev pub on_said : {X Y : Type 0} → (X → Y) → Said X → Said Y

@@ -5,7 +5,7 @@ use Rattle.serde_json.specs.Data.{Data, array}
 use Rattle.serde_json.specs.View.{items_of}
 use Rattle.serde_json.specs.Written.{compact_text}
 use Rattle.pid_http_stream.specs.Replies.{Answer, answer_with}
-use Rattle.pid_http_stream.specs.declared.handler.Reply.{Reply}
+use Rattle.pid_http_stream.specs.declared.handler.HttpReply.{HttpReply}
 use Rattle.pid_http_stream.specs.declared.handler.ReplyBody.{ReplyBody}
 use Rattle.pid_http_stream.specs.declared.handler.ReplyBody.TheVariants.{Bytes, Written}
 use Rattle.pid_http_stream.specs.declared.reply_head.Content.TheVariants as contents
@@ -41,9 +41,9 @@ IsBodyOf head (Bytes body) answer = answer_with head.status head.content body.it
 IsBodyOf head (Written told) answer = ⊥
 
 -- the reply is the answer
-abbrev pub IsReplyOf : Reply → Answer → Type 0
+abbrev pub IsReplyOf : HttpReply → Answer → Type 0
 IsReplyOf reply answer = IsBodyOf reply.head reply.body answer
 
 -- the reply, if there was memory for it, is the answer
-abbrev pub MakesReply : {E : Type 0} → Result Reply E → Answer → Type 0
+abbrev pub MakesReply : {E : Type 0} → Result HttpReply E → Answer → Type 0
 MakesReply result answer = IfOk result (λ reply. IsReplyOf reply answer)

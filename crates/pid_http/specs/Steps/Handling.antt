@@ -1,7 +1,7 @@
 -- What the service says of itself as a handler.
 use Rattle.std.specs.Prelude.{◌≡◌, ◌+◌, ℕ, List, [], ◌∷◌, ◌++◌}
 use Rattle.std.proofs.Common.{sym, ap, arith, subst, ◌∙◌, append_assoc, length-append}
-use Rattle.pid_service_laws.specs.declared.moderated.Moderated.{Ghosts}
+use Rattle.pid_service_laws.specs.declared.registry_calls.RegistryCalls.{Ghosts}
 use Rattle.pid_service_laws.specs.Calls.{AreNothing, Call}
 use Rattle.pid_moderation.specs.History.{History}
 use Rattle.pid_moderation.specs.Writes.{tree_of}
@@ -10,9 +10,9 @@ use Rattle.pid_http_stream.specs.Replies.{answer_after, answer_with}
 use Rattle.pid_http_stream.specs.Requests.{Request}
 use Rattle.pid_http_stream.specs.declared.reply_head.Content.TheVariants.{Text}
 use Rattle.pid_http_stream.specs.declared.reply_head.ReplyHead.{ReplyHead}
-use Rattle.pid_http.specs.Answering.{answer_over, Errand, errand_of}
+use Rattle.pid_http.specs.Answering.{answer_over, RequestMeaning, meaning_of}
 use Rattle.pid_http.specs.Known.{Known, Live, Between, Down, Told, ByCalls}
-use Rattle.pid_http.specs.Serving.{AreQuestions, IsErrandMet, AnsweredOver, IsPromised}
+use Rattle.pid_http.specs.Serving.{AreQuestions, IsMeaningMet, AnsweredOver, IsPromised}
 use Rattle.pid_http.specs.Serving.{IsTextHead, serving}
 
 -- the text of the history that is shown
@@ -48,19 +48,20 @@ questions_then m n calls more p q = (
   omega (arith, p.1, q.1, length-append calls more),
 )
 
-text_met : (a : Known) (errand : Errand) (head : ReplyHead) (told : ℕ) (calls : List Call)
+text_met : (a : Known) (meaning : RequestMeaning) (head : ReplyHead) (told : ℕ) (calls : List Call)
     (b : Known) (body : List ℕ) (more : List Call) (c : Known)
-    → IsPromised a errand head told calls b → AreQuestions 1 more → WritesOver b body c
-    → IsErrandMet a errand (answer_after head told body) (calls ++ more) c
+    → IsPromised a meaning head told calls b → AreQuestions 1 more → WritesOver b body c
+    → IsMeaningMet a meaning (answer_after head told body) (calls ++ more) c
 unfolding answer_over
-text_met (Live h) errand head told calls b body more c (asked, is, none, same) none_more writes =
+text_met (Live h) meaning head told calls b body more c (asked, is, none, same) none_more writes =
     let w : WritesOver (Live h) body c = subst (λ k. WritesOver k body c) same writes in
-    subst (λ x. IsErrandMet (Live h) x (answer_after head told body) (calls ++ more) c) (sym asked.1)
+    subst (λ x. IsMeaningMet (Live h) x (answer_after head told body) (calls ++ more) c)
+    (sym asked.1)
     (AnsweredOver (same_answer h head told body is w.0)
     (questions_then 1 1 calls more none none_more) w.1)
-text_met (Between before behind) errand head told calls b body more c promised none_more writes =
+text_met (Between before behind) meaning head told calls b body more c promised none_more writes =
     absurd promised
-text_met Down errand head told calls b body more c promised none_more writes = absurd promised
+text_met Down meaning head told calls b body more c promised none_more writes = absurd promised
 
 -- what was promised and then written is the answer
 pub exports_text : {R : Type 0} {registry : Ghosts R} (a : Told registry) (request : Request)
@@ -68,12 +69,12 @@ pub exports_text : {R : Type 0} {registry : Ghosts R} (a : Told registry) (reque
     → (serving registry).promises a request head told b → WritesText registry b body c
     → (serving registry).answers a request (answer_after head told body) c
 exports_text a request head told b body c p w = record {
-  same_life = w.same_life ∙ p.same_life;
+  same_session = w.same_session ∙ p.same_session;
   more = p.more ++ w.more;
   joined = w.joined ∙ ap (λ (l : List Call). l
       ++ w.more) p.joined ∙ append_assoc a.calls p.more w.more;
   holds = text_met a.known
-      (errand_of request) head told p.more b.known body w.more c.known p.holds w.holds.0 w.holds.1;
+      (meaning_of request) head told p.more b.known body w.more c.known p.holds w.holds.0 w.holds.1;
 }
 
 -- what stayed the same twice stayed the same

@@ -3,7 +3,7 @@ use Rattle.std.specs.Prelude.{◌≡◌, ◌≤◌, ◌⊎◌, ℕ, true, false,
 use Rattle.std.specs.Prelude.{Option, Some, Result}
 use Rattle.std.specs.Prelude.{Ok, Err, IsErrAnd, MatchResult}
 use Rattle.std.specs.Io.KnownBytes.{IsAtEnd}
-use Rattle.pid_service_laws.specs.declared.moderated.Moderated.{Ghosts}
+use Rattle.pid_service_laws.specs.declared.registry_calls.RegistryCalls.{Ghosts}
 use Rattle.pid_service_laws.specs.Calls.{Call, obeyed}
 use Rattle.pid_moderation.specs.History.{Asked}
 use Rattle.pid_moderation.specs.Judgement.{answer, judge, after}
@@ -14,16 +14,16 @@ use Rattle.pid_moderation.specs.declared.refusal.Refusal.TheVariants as refusals
 use Rattle.pid_service_laws.specs.Outcomes.{IsMemoryOrStore}
 use Rattle.pid_http_stream.specs.declared.limits.TheConstants.{LONGEST_BODY}
 use Rattle.pid_http_stream.specs.Replies.{Answer, answer_with}
-use Rattle.pid_http_stream.specs.declared.handler.Reply.{Reply}
+use Rattle.pid_http_stream.specs.declared.handler.HttpReply.{HttpReply}
 use Rattle.pid_http_stream.specs.declared.handler.ReplyBody.{ReplyBody}
 use Rattle.pid_http_stream.specs.declared.handler.ReplyBody.TheVariants.{Bytes, Written}
 use Rattle.pid_http_stream.specs.declared.reply_head.ReplyHead.{ReplyHead}
 use Rattle.pid_http.specs.declared.api.format.Format.{Format}
 use Rattle.pid_http.specs.Api.Outcomes.{outcome_answer}
-use Rattle.pid_http.specs.Answering.{Errand}
+use Rattle.pid_http.specs.Answering.{RequestMeaning}
 use Rattle.pid_http.specs.Known.{Known, Live, Between, Down}
 use Rattle.pid_http.specs.Steps.Going.{Goes}
-use Rattle.pid_http.specs.Serving.{AreQuestions, IsErrandMet, IsPromised, most_questions}
+use Rattle.pid_http.specs.Serving.{AreQuestions, IsMeaningMet, IsPromised, most_questions}
 
 -- the answer with what was found, or with the refusal
 abbrev pub answer_or : {X : Type 0} → Format → (X → Answer) → Result X Refusal → Answer
@@ -43,37 +43,38 @@ IsCommandMet c Down result calls k = (result ≡ Err refusals.Failed) × AreQues
     × (k ≡ Down)
 
 -- the body is that of an answer, or is promised
-abbrev pub IsBodyMet : Known → Errand → ReplyHead → ReplyBody → List Call → Known → Type 0
-IsBodyMet k errand head (Bytes body) calls now = IsErrandMet k errand
+abbrev pub IsBodyMet : Known → RequestMeaning → ReplyHead → ReplyBody → List Call → Known → Type 0
+IsBodyMet k meaning head (Bytes body) calls now = IsMeaningMet k meaning
     (answer_with head.status head.content body.items) calls now
-IsBodyMet k errand head (Written told) calls now = IsPromised k errand head told calls now
+IsBodyMet k meaning head (Written told) calls now = IsPromised k meaning head told calls now
 
 -- the reply is an answer; or memory ran out for it, and what it is a reply to was done
-abbrev pub IsMetBy : {E : Type 0} → Known → Errand → Result Reply E → List Call → Known → Type 0
-IsMetBy k errand result calls now = MatchResult result
-    (λ reply. IsBodyMet k errand reply.head reply.body calls now)
-    (λ _. (given : Answer) × IsErrandMet k errand given calls now)
+abbrev pub IsMetBy : {E : Type 0} → Known → RequestMeaning → Result HttpReply E → List Call → Known
+    → Type 0
+IsMetBy k meaning result calls now = MatchResult result
+    (λ reply. IsBodyMet k meaning reply.head reply.body calls now)
+    (λ _. (given : Answer) × IsMeaningMet k meaning given calls now)
 
 -- The same if the body is read as it comes: it may have been given up, and memory ran out only
 -- with the body at its end.
-abbrev pub IsMetBehind : {E : Type 0} → Known → Errand → Result Reply E → Option (List ℕ)
+abbrev pub IsMetAfter : {E : Type 0} → Known → RequestMeaning → Result HttpReply E → Option (List ℕ)
     → List Call → Known → Type 0
-IsMetBehind k errand result left calls now =
+IsMetAfter k meaning result left calls now =
     MatchResult result
-    (λ reply. IsBodyMet k errand reply.head reply.body calls now)
-    (λ _. (AreQuestions (most_questions errand) calls × (k ≡ now))
-    ⊎ (IsAtEnd left × ((given : Answer) × IsErrandMet k errand given calls now)))
+    (λ reply. IsBodyMet k meaning reply.head reply.body calls now)
+    (λ _. (AreQuestions (most_questions meaning) calls × (k ≡ now))
+    ⊎ (IsAtEnd left × ((given : Answer) × IsMeaningMet k meaning given calls now)))
 
 -- what comes of it
 abbrev pub Replies : {R E : Type 0} → (registry : Ghosts R) → R → R
-    → Errand → Result Reply E → Type 0
-Replies registry old new errand result = Goes registry old new
-    (λ k calls now. IsMetBy k errand result calls now)
+    → RequestMeaning → Result HttpReply E → Type 0
+Replies registry old new meaning result = Goes registry old new
+    (λ k calls now. IsMetBy k meaning result calls now)
 
 -- what comes of it if the body is a file that is read as it comes, known and not too long
 abbrev pub RepliesToFile : {R E : Type 0} → (registry : Ghosts R) → R
-    → R → Option (List ℕ) → Option (List ℕ) → (List ℕ → Errand) → Result Reply E
+    → R → Option (List ℕ) → Option (List ℕ) → (List ℕ → RequestMeaning) → Result HttpReply E
     → Type 0
-RepliesToFile registry old new to_come left errand result = Goes registry old new
+RepliesToFile registry old new to_come left meaning result = Goes registry old new
     (λ k calls now. (file : List ℕ) → to_come ≡ Some file → length file ≤ LONGEST_BODY
-    → IsMetBehind k (errand file) result left calls now)
+    → IsMetAfter k (meaning file) result left calls now)

@@ -8,13 +8,13 @@ use crate::api::Format;
 use crate::api::outcome::{refusal_reply, refused_reply};
 use crate::api::reply::reply_with;
 use http::StatusCode;
-use pid_http_stream::{Content, Reply};
+use pid_http_stream::{Content, HttpReply};
 use pid_moderation::Refusal;
 use std::alloc::{AllocError, Global};
 
 /// Why a request is refused before the registry is asked.
 #[derive(Clone, Copy)]
-pub enum Early {
+pub enum RefusedEarly {
     /// Its method is neither GET nor POST.
     AnotherMethod,
     /// Its route is one of GET.
@@ -35,18 +35,18 @@ pub enum Early {
 #[derive(Clone, Copy)]
 pub enum Unasked {
     /// It is refused.
-    Early(Early),
+    Early(RefusedEarly),
     /// There is no memory to read it.
     Memory,
 }
 
-impl From<Early> for Unasked {
+impl From<RefusedEarly> for Unasked {
     ghost use Rattle.std.specs.Prelude.{◌≡◌};
     ghost use Rattle.pid_http.specs.declared.api.early.Unasked.TheVariants as unasked;
 
     ghost from_gives = { λ early e. e ≡ unasked.Early early };
 
-    fn from(early: Early) -> Unasked {
+    fn from(early: RefusedEarly) -> Unasked {
         Unasked::Early(early)
     }
 }
@@ -63,7 +63,7 @@ impl From<AllocError> for Unasked {
 }
 
 // The reply with the methods that are allowed, which has no body.
-fn allow_reply(alloc: Global, content: Content) -> Reply
+fn allow_reply(alloc: Global, content: Content) -> HttpReply
     ensures { IsReplyOf result (answer_with 405 content []) }
 {
     reply_with(StatusCode::METHOD_NOT_ALLOWED, content, Vec::new(alloc))
@@ -71,16 +71,16 @@ fn allow_reply(alloc: Global, content: Content) -> Reply
 
 /// The reply to a request that comes to no call. One of another method gets the list of those that
 /// are allowed, with no body; any other has a refusal, which is JSON but for a bad value.
-pub fn early_reply(alloc: Global, early: Early) -> Result<Reply, AllocError>
+pub fn early_reply(alloc: Global, early: RefusedEarly) -> Result<HttpReply, AllocError>
     ensures { MakesReply result (early_answer early) }
 {
     match early {
-        Early::AnotherMethod => Ok(allow_reply(alloc, Content::AllowBoth)),
-        Early::WantsGet => Ok(allow_reply(alloc, Content::AllowGet)),
-        Early::WantsPost => Ok(allow_reply(alloc, Content::AllowPost)),
-        Early::BadTarget => refused_reply(alloc, StatusCode::BAD_REQUEST, 28, "BadTarget"),
-        Early::NoRoute => refused_reply(alloc, StatusCode::NOT_FOUND, 24, "NoRoute"),
-        Early::BadQuery => refusal_reply(alloc, Format::Json, Refusal::BadText),
-        Early::BadValue(refusal, format) => refusal_reply(alloc, format, refusal),
+        RefusedEarly::AnotherMethod => Ok(allow_reply(alloc, Content::AllowBoth)),
+        RefusedEarly::WantsGet => Ok(allow_reply(alloc, Content::AllowGet)),
+        RefusedEarly::WantsPost => Ok(allow_reply(alloc, Content::AllowPost)),
+        RefusedEarly::BadTarget => refused_reply(alloc, StatusCode::BAD_REQUEST, 28, "BadTarget"),
+        RefusedEarly::NoRoute => refused_reply(alloc, StatusCode::NOT_FOUND, 24, "NoRoute"),
+        RefusedEarly::BadQuery => refusal_reply(alloc, Format::Json, Refusal::BadText),
+        RefusedEarly::BadValue(refusal, format) => refusal_reply(alloc, format, refusal),
     }
 }

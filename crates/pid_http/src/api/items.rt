@@ -12,7 +12,7 @@ use crate::api::reply::{json_reply, text_reply};
 use crate::api::shown::Shown;
 use crate::api::text::push_line;
 use http::StatusCode;
-use pid_http_stream::Reply;
+use pid_http_stream::HttpReply;
 use pid_ident::{Name, Path, PathText};
 use pid_moderation::Item;
 use serde_json::{Map, Value};
@@ -32,7 +32,7 @@ pub fn item_reply(
     format: Format,
     path: &Path,
     name: &Name,
-) -> Result<Reply, AllocError>
+) -> Result<HttpReply, AllocError>
     ensures { MakesReply result (item_answer format (path_text path.now, name.now)) }
 {
     match format {

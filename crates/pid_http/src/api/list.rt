@@ -12,7 +12,7 @@ use crate::api::outcome::refusal_reply;
 use crate::api::reply::{json_text_reply, printed, text_reply};
 use crate::api::shown::Shown;
 use http::StatusCode;
-use pid_http_stream::Reply;
+use pid_http_stream::HttpReply;
 use pid_moderation::Refusal;
 use serde_json::Value;
 use std::alloc::{AllocError, Global};
@@ -90,7 +90,7 @@ pub(crate) fn push_lines<R: Shown>(
 }
 
 // The reply with the rows, in their order.
-fn rows_reply<R: Shown>(alloc: Global, format: Format, rows: &[R]) -> Result<Reply, AllocError>
+fn rows_reply<R: Shown>(alloc: Global, format: Format, rows: &[R]) -> Result<HttpReply, AllocError>
     ensures { MakesReply result (list_answer R.json R.lines format (map R.seen rows.now)) }
 {
     let mut text = String::new(alloc);
@@ -111,7 +111,7 @@ pub(crate) fn list_reply<R: Shown + Drop>(
     alloc: Global,
     format: Format,
     found: Result<Vec<R>, Refusal>,
-) -> Result<Reply, AllocError>
+) -> Result<HttpReply, AllocError>
     ensures { MakesReply result (answer_or format
         (λ rows. list_answer R.json R.lines format (map R.seen rows.items)) found) }
 {

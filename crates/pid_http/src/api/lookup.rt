@@ -7,7 +7,7 @@ use crate::api::Format;
 use crate::api::outcome::{refusal_reply, unanswered_reply};
 use crate::api::reply::reply_with;
 use http::StatusCode;
-use pid_http_stream::{Content, Reply};
+use pid_http_stream::{Content, HttpReply};
 use pid_lookup::{Answer, LookupRefusal, Unanswered};
 use pid_moderation::Refusal;
 use std::alloc::{AllocError, Global};
@@ -17,7 +17,7 @@ use std::alloc::{AllocError, Global};
 pub fn lookup_reply(
     alloc: Global,
     outcome: Result<Answer, LookupRefusal<Refusal>>,
-) -> Result<Reply, AllocError>
+) -> Result<HttpReply, AllocError>
     ensures { MakesReply result (lookup_answer outcome) }
 {
     match outcome {

@@ -12,7 +12,7 @@ use crate::api::Format;
 use crate::api::members::{object_of, with_text, with_value};
 use crate::api::reply::{json_reply, text_reply};
 use http::StatusCode;
-use pid_http_stream::Reply as HttpReply;
+use pid_http_stream::HttpReply;
 use pid_lookup::Unanswered;
 use pid_moderation::{FileFault, Refusal, Reply, reply_line};
 use serde_json::{Map, Value};

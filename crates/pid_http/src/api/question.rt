@@ -11,11 +11,11 @@ ghost use Rattle.pid_http.specs.Api.Questions.{then_said, topic_asked};
 ghost use Rattle.pid_http.specs.Api.Steps.Making.{MakesSaid};
 ghost use Rattle.pid_http.specs.declared.api.question.Question.TheVariants as questions;
 
-use crate::api::early::{Early, Unasked};
-use crate::api::format::Format;
-use crate::api::query::{
+use crate::api::early::{RefusedEarly, Unasked};
+use crate::api::field_values::{
     account_named, author_named, number_named, path_named, revision_named, submission_named,
 };
+use crate::api::format::Format;
 use crate::api::route::{Pages, Topic, Whole};
 use pid_form::{text_at, value};
 use pid_ident::{Account, Path, PathText};
@@ -77,28 +77,28 @@ fn item_of(path: &str, format: Format) -> Result<Question, Unasked>
 {
     match Path::parse(rest_after(path, "/read/")) {
         Some(path) => Ok(Question::Read(path)),
-        None => Err(Unasked::Early(Early::BadValue(Refusal::BadPath, format))),
+        None => Err(Unasked::Early(RefusedEarly::BadValue(Refusal::BadPath, format))),
     }
 }
 
 fn number_of(path: &str, format: Format) -> Result<Question, Unasked>
     ensures { MakesSaid result (on_said questions.Submission (ok_or
         (number_in (rest_of (codes "/submission/") path.now))
-        (Early.BadValue Refusal.BadText format))) }
+        (RefusedEarly.BadValue Refusal.BadText format))) }
 {
     match submission_number(rest_after(path, "/submission/")) {
         Some(number) => Ok(Question::Submission(number)),
-        None => Err(Unasked::Early(Early::BadValue(Refusal::BadText, format))),
+        None => Err(Unasked::Early(RefusedEarly::BadValue(Refusal::BadText, format))),
     }
 }
 
 fn lookup_of(fields: &[(String, String)]) -> Result<Question, Unasked>
     ensures { MakesSaid result (on_said lookup_asked
-        (ok_or (lookup_from (texts_of fields.now)) Early.BadQuery)) }
+        (ok_or (lookup_from (texts_of fields.now)) RefusedEarly.BadQuery)) }
 {
     match args_of(fields) {
         Ok((flags, args, size)) => Ok(Question::Lookup { flags, args, size }),
-        Err(_) => Err(Unasked::Early(Early::BadQuery)),
+        Err(_) => Err(Unasked::Early(RefusedEarly::BadQuery)),
     }
 }
 

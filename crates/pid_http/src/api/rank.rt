@@ -11,7 +11,7 @@ use crate::api::reply::{json_reply, text_reply};
 use crate::api::text::push_line;
 use http::StatusCode;
 use itoa::Buffer;
-use pid_http_stream::Reply;
+use pid_http_stream::HttpReply;
 use pid_ident::Account;
 use pid_moderation::Rank;
 use serde_json::{Map, Value};
@@ -37,7 +37,7 @@ pub fn rank_reply(
     format: Format,
     who: &Account,
     rank: Option<Rank>,
-) -> Result<Reply, AllocError>
+) -> Result<HttpReply, AllocError>
     ensures { MakesReply result (rank_answer format who.now rank) }
 {
     let Some(rank) = rank else {

@@ -8,23 +8,23 @@ ghost use Rattle.pid_http_stream.specs.HttpStatuses.{allows_body};
 ghost use Rattle.pid_http.specs.Api.Replying.{IsReplyOf, MakesReply};
 
 use http::StatusCode;
-use pid_http_stream::{Content, Reply, ReplyBody, ReplyHead};
+use pid_http_stream::{Content, HttpReply, ReplyBody, ReplyHead};
 use serde_json::Value;
 use std::alloc::{AllocError, Global};
 
 /// The reply with this body.
-pub(crate) fn reply_with(status: StatusCode, content: Content, body: Vec<u8>) -> Reply
+pub(crate) fn reply_with(status: StatusCode, content: Content, body: Vec<u8>) -> HttpReply
     requires { IsTrue (allows_body status) }
     ensures { IsReplyOf result (answer_with status content body.items) }
 {
-    Reply {
+    HttpReply {
         head: ReplyHead { status, content },
         body: ReplyBody::Bytes(body),
     }
 }
 
 /// The reply with a line or more of text.
-pub(crate) fn text_reply(status: StatusCode, text: String) -> Reply
+pub(crate) fn text_reply(status: StatusCode, text: String) -> HttpReply
     requires { IsTrue (allows_body status) }
     ensures { IsReplyOf result (answer_with status Content.Text (string_bytes text)) }
 {
@@ -32,7 +32,7 @@ pub(crate) fn text_reply(status: StatusCode, text: String) -> Reply
 }
 
 /// The reply with a text that is JSON.
-pub(crate) fn json_text_reply(status: StatusCode, text: String) -> Reply
+pub(crate) fn json_text_reply(status: StatusCode, text: String) -> HttpReply
     requires { IsTrue (allows_body status) }
     ensures { IsReplyOf result (answer_with status Content.Json (string_bytes text)) }
 {
@@ -52,7 +52,7 @@ pub(crate) fn json_reply(
     alloc: Global,
     status: StatusCode,
     value: Value,
-) -> Result<Reply, AllocError>
+) -> Result<HttpReply, AllocError>
     requires { IsTrue (allows_body status) }
     ensures { (json : Data) → view value ≡ json → has_float json ≡ false
         → MakesReply result (answer_with status Content.Json (compact_text json)) }

@@ -5,9 +5,9 @@ ghost use Rattle.pid_http.specs.Api.Questions.{asked_by, get_asked, is_target, p
 ghost use Rattle.pid_http.specs.Api.Questions.{question, target_asked};
 ghost use Rattle.pid_http.specs.Api.Steps.Making.{MakesSaid};
 
-use crate::api::early::{Early, Unasked};
+use crate::api::early::{RefusedEarly, Unasked};
+use crate::api::field_values::format_of;
 use crate::api::format::Format;
-use crate::api::query::format_of;
 use crate::api::question::{Question, ask_topic};
 use crate::api::route::{Payload, Route};
 use crate::api::routes::Routes;
@@ -21,7 +21,7 @@ use std::alloc::{AllocError, Global};
 #[derive(Drop)]
 pub enum Request {
     /// Nothing: it is refused before the registry is asked.
-    Refused(Early),
+    Refused(RefusedEarly),
     /// An answer, in a format.
     Asks(Question, Format),
     /// That a command is obeyed, whose fields are the body, with the reply in a format.
@@ -56,7 +56,7 @@ fn get(alloc: Global, route: Route, path: &str, query: &str) -> Result<Request, 
     ensures { MakesSaid result (get_asked route.0 path.now query.now) }
 {
     let Some((topic, allowed)) = route.0 else {
-        return Err(Unasked::Early(Early::WantsPost));
+        return Err(Unasked::Early(RefusedEarly::WantsPost));
     };
     let fields = fields_of(alloc, query)?;
     let format = format_of(&fields, allowed.names())?;
@@ -69,7 +69,7 @@ fn post(alloc: Global, route: Route, query: &str) -> Result<Wanted<Request, Form
     ensures { MakesSaid result (post_asked route.1 query.now) }
 {
     let Some(payload) = route.1 else {
-        return Err(Unasked::Early(Early::WantsGet));
+        return Err(Unasked::Early(RefusedEarly::WantsGet));
     };
     let fields = fields_of(alloc, query)?;
     let format = format_of(&fields, &["format"])?;
@@ -91,7 +91,7 @@ fn ask(
 {
     let (path, query) = split_target(target);
     let Some(route) = routes.route_of(path) else {
-        return Err(Unasked::Early(Early::NoRoute));
+        return Err(Unasked::Early(RefusedEarly::NoRoute));
     };
     if is_get {
         let request = get(alloc, route, path, query)?;
@@ -111,10 +111,10 @@ fn judge(
 {
     let is_get = method == b"GET".as_slice();
     if !is_get && method != b"POST".as_slice() {
-        return Err(Unasked::Early(Early::AnotherMethod));
+        return Err(Unasked::Early(RefusedEarly::AnotherMethod));
     }
     let Some(target) = text_of_target(target) else {
-        return Err(Unasked::Early(Early::BadTarget));
+        return Err(Unasked::Early(RefusedEarly::BadTarget));
     };
     ask(alloc, routes, is_get, target)
 }

@@ -10,7 +10,7 @@ use crate::api::format::Format;
 use crate::api::outcome::refusal_reply;
 use crate::api::reply::{json_reply, text_reply};
 use http::StatusCode;
-use pid_http_stream::Reply;
+use pid_http_stream::HttpReply;
 use pid_moderation::Refusal;
 use serde_json::Value;
 use std::alloc::{AllocError, Global};
@@ -45,7 +45,7 @@ pub(crate) trait Shown {
 }
 
 // The reply with what is shown.
-fn shown_reply<T: Shown>(alloc: Global, format: Format, shown: &T) -> Result<Reply, AllocError>
+fn shown_reply<T: Shown>(alloc: Global, format: Format, shown: &T) -> Result<HttpReply, AllocError>
     ensures { MakesReply result (shown_answer T.json T.lines format (T.seen shown.now)) }
 {
     match format {
@@ -66,7 +66,7 @@ pub(crate) fn found_reply<T: Shown + Drop>(
     alloc: Global,
     format: Format,
     found: Result<T, Refusal>,
-) -> Result<Reply, AllocError>
+) -> Result<HttpReply, AllocError>
     ensures { MakesReply result (answer_or format
         (λ shown. shown_answer T.json T.lines format (T.seen shown)) found) }
 {

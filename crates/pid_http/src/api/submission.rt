@@ -21,7 +21,7 @@ use crate::api::shown::Shown;
 use crate::api::text::{push_line, push_word};
 use http::StatusCode;
 use itoa::Buffer;
-use pid_http_stream::Reply;
+use pid_http_stream::HttpReply;
 use pid_ident::PathText;
 use pid_moderation::{Comment, Discussion, Proposal, State, Submission};
 use serde_json::{Map, Value};
@@ -178,7 +178,7 @@ pub fn submission_reply(
     format: Format,
     number: u32,
     discussion: &Discussion,
-) -> Result<Reply, AllocError>
+) -> Result<HttpReply, AllocError>
     ensures { MakesReply result (submission_answer format number (discussion_of discussion.now)) }
 {
     match format {

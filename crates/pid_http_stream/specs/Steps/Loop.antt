@@ -22,7 +22,7 @@ use Rattle.pid_http_stream.specs.declared.body_input.BodyFault.{BodyFault}
 use Rattle.pid_http_stream.specs.declared.body_input.BodyFault.TheVariants as faults
 use Rattle.pid_http_stream.specs.declared.handler.BodyStop.{BodyStop}
 use Rattle.pid_http_stream.specs.declared.handler.BodyStop.TheVariants.{Writer, Store}
-use Rattle.pid_http_stream.specs.declared.handler.Reply.{Reply}
+use Rattle.pid_http_stream.specs.declared.handler.HttpReply.{HttpReply}
 use Rattle.pid_http_stream.specs.declared.head.Head.{Head}
 use Rattle.pid_http_stream.specs.declared.reply_head.ReplyHead.{ReplyHead}
 use Rattle.pid_http_stream.specs.declared.one_request.Asked.{Asked}
@@ -244,7 +244,7 @@ stop_end stops.TurnsSpent = ends.TurnsSpent
 stop_end stops.Memory = ends.Memory
 
 -- what a handler's result is if the body is whole
-abbrev pub whole_so : {E : Type 0} → Result Reply E → Asked
+abbrev pub whole_so : {E : Type 0} → Result HttpReply E → Asked
 whole_so (Ok reply) = asked.Reply reply
 whole_so (Err e) = asked.NoMemory
 
@@ -254,7 +254,7 @@ broken_so None = asked.NoMemory
 broken_so (Some fault) = asked.Broken fault
 
 -- what came of asking it, by how much of the body is still wanted
-abbrev pub asked_so : {E : Type 0} → Result Reply E → ℕ → Option BodyFault → Asked
+abbrev pub asked_so : {E : Type 0} → Result HttpReply E → ℕ → Option BodyFault → Asked
 asked_so result wanted fault = if wanted == 0 then whole_so result else broken_so fault
 
 -- how many replies were written, with the one that ends the stream

@@ -7,7 +7,7 @@ ghost use Rattle.pid_ident.specs.PathReading.{
   four_at as four_digits_at,
 };
 ghost use Rattle.pid_ident.specs.Steps.Shapes.{
-  fits as has_shape,
+  fits,
   fits_mark as is_marked,
   device_path as device_of,
   class_path as class_of,
@@ -28,18 +28,18 @@ pub fn read_path(text: &[u8]) -> Option<Path>
 fn device_path(text: &[u8]) -> Option<Path>
     ensures { result ≡ device_of text.now }
 {
-    if fits(text, b"PC/####") {
+    if has_shape(text, b"PC/####") {
         return Some(Path::Vendor {
             vendor: four_at(text, 3),
         });
     }
-    if fits(text, b"PC/####/####") {
+    if has_shape(text, b"PC/####/####") {
         return Some(Path::Device {
             vendor: four_at(text, 3),
             device: four_at(text, 8),
         });
     }
-    if fits(text, b"PC/####/####/########") {
+    if has_shape(text, b"PC/####/####/########") {
         return Some(Path::Subsystem {
             vendor: four_at(text, 3),
             device: four_at(text, 8),
@@ -53,18 +53,18 @@ fn device_path(text: &[u8]) -> Option<Path>
 fn class_path(text: &[u8]) -> Option<Path>
     ensures { result ≡ class_of text.now }
 {
-    if fits(text, b"PD/##") {
+    if has_shape(text, b"PD/##") {
         return Some(Path::Class {
             class: two_at(text, 3),
         });
     }
-    if fits(text, b"PD/##/##") {
+    if has_shape(text, b"PD/##/##") {
         return Some(Path::Subclass {
             class: two_at(text, 3),
             subclass: two_at(text, 6),
         });
     }
-    if fits(text, b"PD/##/##/##") {
+    if has_shape(text, b"PD/##/##/##") {
         return Some(Path::ProgIf {
             class: two_at(text, 3),
             subclass: two_at(text, 6),
@@ -77,7 +77,7 @@ fn class_path(text: &[u8]) -> Option<Path>
 fn generic_path(text: &[u8]) -> Option<Path>
     ensures { result ≡ generic_of text.now }
 {
-    if fits(text, b"PS/####/####") {
+    if has_shape(text, b"PS/####/####") {
         return Some(Path::Generic {
             vendor: four_at(text, 3),
             device: four_at(text, 8),
@@ -87,8 +87,8 @@ fn generic_path(text: &[u8]) -> Option<Path>
 }
 
 // Whether a text has a shape, in which `#` stands for a lower-case hex digit.
-fn fits(text: &[u8], shape: &[u8]) -> bool
-    ensures { result ≡ has_shape text.now shape.now }
+fn has_shape(text: &[u8], shape: &[u8]) -> bool
+    ensures { result ≡ fits text.now shape.now }
 {
     let mut rest = text;
     let mut marks = shape;

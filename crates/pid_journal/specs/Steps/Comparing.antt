@@ -10,7 +10,7 @@ use Rattle.pid_journal.specs.declared.folder.JournalFolder as folders
 use Rattle.pid_journal.specs.declared.open_fault.OpenFault.{OpenFault}
 use Rattle.pid_journal.specs.declared.open_fault.OpenFault.TheVariants.{Another, Missing, Newer}
 use Rattle.pid_journal.specs.declared.placing.Place.{Place}
-use Rattle.pid_journal.specs.declared.placing.Said.{Said}
+use Rattle.pid_journal.specs.declared.placing.LineCounts.{LineCounts}
 use Rattle.pid_journal.specs.declared.placing.Step.{Step}
 use Rattle.pid_journal.specs.declared.placing.Step.TheVariants.{Here, Behind, Nowhere}
 use Rattle.pid_journal.specs.Journals.{counts_held}
@@ -28,7 +28,7 @@ ComparesOn (Behind place) now told line lines = (next : Option Counts) × IsOlde
     × (compared now told (line ∷ lines) ≡ compared now next lines)
 ComparesOn Nowhere now told line lines = Unit {0}
 
-abbrev pub ComparesLine : Said → Counts → Place → Step → Type 0
+abbrev pub ComparesLine : LineCounts → Counts → Place → Step → Type 0
 ComparesLine said now place step = (told : Option Counts) (line : List ℕ) (lines : List (List ℕ))
     → IsSaid line said → IsOlderAt told now place → ComparesOn step now told line lines
 

@@ -5,7 +5,7 @@ use Rattle.pid_service_laws.specs.Registries.{Showing}
 use Rattle.pid_journal.specs.declared.counts.Counts.{Counts}
 use Rattle.pid_journal.specs.declared.file.JournalFile as files
 use Rattle.pid_journal.specs.declared.journaled.Journaled.{Journaled}
-use Rattle.pid_service_laws.specs.declared.moderated.Moderated.{Ghosts}
+use Rattle.pid_service_laws.specs.declared.registry_calls.RegistryCalls.{Ghosts}
 use Rattle.pid_moderation.specs.declared.refusal.Refusal.{Refusal}
 use Rattle.pid_moderation.specs.declared.refusal.Refusal.TheVariants.{Failed}
 use Rattle.pid_journal.specs.Journals.{counts_held}

@@ -10,8 +10,8 @@ use Rattle.pid_script.specs.ScriptLines.{is_idle_line}
 use Rattle.pid_journal.specs.declared.counts.Counts.{Counts}
 use Rattle.pid_journal.specs.declared.open_fault.OpenFault.{OpenFault}
 use Rattle.pid_journal.specs.declared.placing.Place.{Place}
-use Rattle.pid_journal.specs.declared.placing.Said.{Said}
-use Rattle.pid_journal.specs.declared.placing.Said.TheVariants.{Holds, Nothing, Other}
+use Rattle.pid_journal.specs.declared.placing.LineCounts.{LineCounts}
+use Rattle.pid_journal.specs.declared.placing.LineCounts.TheVariants.{Holds, Nothing, Other}
 use Rattle.pid_journal.specs.declared.placing.Step.{Step}
 use Rattle.pid_journal.specs.declared.placing.Step.TheVariants.{Here, Behind, Nowhere}
 use Rattle.pid_journal.specs.Journals.{counts_held, counts_said}
@@ -31,7 +31,7 @@ pub record IsOpenEnd (text rest : List ℕ) : Type 0 where
   pub torn : ended_pieces rest ≡ []
 
 -- a line says this
-abbrev pub IsSaid : List ℕ → Said → Type 0
+abbrev pub IsSaid : List ℕ → LineCounts → Type 0
 IsSaid line (Holds counts) = counts_said line ≡ Some counts
 IsSaid line Nothing = (counts_said line ≡ None) × (is_idle_line line ≡ true)
 IsSaid line Other = is_idle_line line ≡ false
@@ -48,7 +48,7 @@ LeadsToPlace Here shown h line lines = after_line h line ≡ shown
 LeadsToPlace (Behind place) shown h line lines = IsPlaced shown (after_line h line) place lines
 LeadsToPlace Nowhere shown h line lines = ⊥
 
-abbrev pub IsNextPlace : Said → Counts → Place → Step → Type 0
+abbrev pub IsNextPlace : LineCounts → Counts → Place → Step → Type 0
 IsNextPlace said now place step = (shown h : History) (line : List ℕ) (lines : List (List ℕ))
     → counts_held shown ≡ now → IsSaid line said → IsPlaced shown h place (line ∷ lines)
     → LeadsToPlace step shown h line lines

@@ -16,13 +16,13 @@ use Rattle.pid_moderation.specs.ReplyLines.{refused_line, outcome_line}
 use Rattle.pid_moderation.specs.declared.command.Reply.{Reply}
 use Rattle.pid_script.specs.declared.line_end.LineEnd.{LineEnd}
 use Rattle.pid_script.specs.declared.line_end.LineEnd.TheVariants.{Stopped, WriteFault, TooLong}
-use Rattle.pid_service_laws.specs.declared.moderated.Moderated.{Ghosts}
+use Rattle.pid_service_laws.specs.declared.registry_calls.RegistryCalls.{Ghosts}
 use Rattle.pid_script.specs.Calling.{CallsSend, CallsSendEither}
 use Rattle.pid_script.specs.ScriptLines as lines
 use Rattle.pid_script.specs.ScriptLines.{Ask}
 use Rattle.pid_script.specs.Replies.{BAD_FLAGS, answer_line, name_line, line_reply, command_of}
 use Rattle.pid_script.specs.Replies.{calls_for, is_call}
-use Rattle.pid_script.specs.RegistryStates.{Becomes, BecomesEither, OverStanding, StopsBehind}
+use Rattle.pid_script.specs.RegistryStates.{Becomes, BecomesEither, OverStanding, StopsAfter}
 use Rattle.pid_script.specs.StopLines.{is_stop, IsStopInPlace, IsStopText}
 
 -- the most bytes that are held
@@ -159,26 +159,26 @@ pub data Unfit (end : LineEnd) (bytes : List ℕ) (old new : Out) : Type 0 where
 
 module _ {R : Type 0} (registry : Ghosts R) where
   -- the line was answered, and nothing is held any more if it was a command
-  pub record GoesBehind (r : R) (h : History) (new : R) (ask : Ask) (left : Out) : Type 0 where
+  pub record GoesAfter (r : R) (h : History) (new : R) (ask : Ask) (left : Out) : Type 0 where
     pub becomes : Becomes registry r h new (after_all h (command_of ask))
     pub lives : registry.is_live r ≡ false → is_call ask ≡ false
     pub flushed : (command_of ask ≡ []) ⊎ (left.held ≡ [])
     pub fits : ask ≡ lines.TooLong → ⊥
 
   -- the line was too long
-  pub record EndsBehind (r : R) (h : History) (new : R) (ask : Ask) : Type 0 where
+  pub record EndsAfter (r : R) (h : History) (new : R) (ask : Ask) : Type 0 where
     pub becomes : Becomes registry r h new h
     pub long : ask ≡ lines.TooLong
 
   -- the line was stopped, and is not too long
   pub record IsStoppedAt (r : R) (h : History) (new : R) (ask : Ask) : Type 0 where
-    pub stops : StopsBehind registry r h new h (command_of ask)
+    pub stops : StopsAfter registry r h new h (command_of ask)
     pub fits : ask ≡ lines.TooLong → ⊥
 
   -- what is left of the registry
   abbrev pub LeavesAfter : Result (Unit {0}) LineEnd → R → History → R → Ask → Out → Type 0
-  LeavesAfter (Ok x) r h new ask left = GoesBehind r h new ask left
-  LeavesAfter (Err TooLong) r h new ask left = EndsBehind r h new ask
+  LeavesAfter (Ok x) r h new ask left = GoesAfter r h new ask left
+  LeavesAfter (Err TooLong) r h new ask left = EndsAfter r h new ask
   LeavesAfter (Err Stopped) r h new ask left = IsStoppedAt r h new ask
   LeavesAfter (Err WriteFault) r h new ask left = BecomesEither registry r h new h
       (after_all h (command_of ask))

@@ -5,13 +5,13 @@ use Rattle.std.specs.Io.KnownBytes.{Appends}
 use Rattle.pid_ident.specs.Sending.{SendsFront}
 use Rattle.pid_file.specs.declared.io.WriteFault.{WriteFault}
 use Rattle.pid_reader.specs.Numbered.{Numbered, item_in}
-use Rattle.pid_file.specs.Printing.{ended, lines_behind}
+use Rattle.pid_file.specs.Printing.{ended, lines_after}
 use Rattle.pid_file.specs.Steps.Printing.{text_or_none}
 use Rattle.pid_service.specs.declared.export_sink.ExportSink.{ExportSink}
 
 -- the lines of an entry, after those of the entry before
 abbrev pub lines_of_entry : {W : Type 0} → ExportSink W → Numbered → List ℕ
-lines_of_entry s entry = ended (lines_behind (text_or_none s.before) (item_in entry ∷ []))
+lines_of_entry s entry = ended (lines_after (text_or_none s.before) (item_in entry ∷ []))
 
 -- one entry is printed through the same borrow, and is now the one before
 pub record PrintsItem {W : Type 0} (taken : W → Option (List ℕ)) (s : ExportSink W)

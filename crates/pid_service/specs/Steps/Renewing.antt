@@ -17,7 +17,7 @@ use Rattle.pid_service.specs.KeptViews.{extent_in}
 use Rattle.pid_service.specs.declared.items_text.GrowingText.{GrowingText}
 use Rattle.pid_service.specs.declared.kept_text.Extent.{Extent}
 use Rattle.pid_service.specs.declared.kept_text.KeptText.{KeptText}
-use Rattle.pid_service.specs.declared.renewing.Place.{Place}
+use Rattle.pid_service.specs.declared.renewing.TextPlace.{TextPlace}
 
 -- the item that an edit leaves at its path
 abbrev pub edited_item : List ℕ → Edit → Items
@@ -51,7 +51,7 @@ OpensTheSame before now [] = Unit {0}
 OpensTheSame before now (e ∷ extents) = opens_block before e.0 ≡ opens_block now e.0
 
 -- a place in a list of extents: what comes before the path, and what comes from there on
-pub record IsPlace (place : Place) (extents : Extents) (path : List ℕ) : Type 0 where
+pub record IsPlace (place : TextPlace) (extents : Extents) (path : List ℕ) : Type 0 where
   pub within : place.after ≤ length extents
   pub after : place.after ≡ (if place.there then place.index + 1 else place.index)
   pub start : place.start ≡ 18 + bytes_in (take place.index extents)
@@ -62,7 +62,7 @@ pub record IsPlace (place : Place) (extents : Extents) (path : List ℕ) : Type 
   pub stands : BeginsAt path place.there (drop place.index extents)
 
 -- the path before what follows a place: that of the place, if there are lines at it
-abbrev pub path_before : Place → Path → Bool → Option Path
+abbrev pub path_before : TextPlace → Path → Bool → Option Path
 path_before place path has_lines = if has_lines then Some path else place.before
 
 abbrev pub has_lines : List Extent → Bool
@@ -70,7 +70,7 @@ has_lines [] = false
 has_lines (e ∷ extents) = true
 
 -- lines are put in the place of others
-pub record PutsLines (old new : KeptText) (place : Place) (path : Path)
+pub record PutsLines (old new : KeptText) (place : TextPlace) (path : Path)
     (lines : GrowingText) : Type 0 where
   pub bytes : new.bytes.items ≡ take place.start old.bytes.items
       ++ (lines.buffer.taken.items ++ drop place.end old.bytes.items)

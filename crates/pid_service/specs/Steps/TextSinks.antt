@@ -5,15 +5,15 @@ use Rattle.pid_reader.specs.Numbered.{Numbered, item_in}
 use Rattle.pid_file.specs.Printing.{block_line, opens_block}
 use Rattle.pid_file.specs.Steps.Printing.{text_or_none}
 use Rattle.pid_moderation.specs.Items.{Items}
-use Rattle.pid_service.specs.ItemTexts.{extents_behind, text_behind}
+use Rattle.pid_service.specs.ItemTexts.{extents_after, text_behind}
 use Rattle.pid_service.specs.Steps.ItemTexts.{Extents}
 use Rattle.pid_service.specs.KeptViews.{extent_in}
 use Rattle.pid_service.specs.declared.items_text.GrowingText.{GrowingText}
 use Rattle.pid_service.specs.declared.items_text.TextSink.{TextSink}
 
 -- the line that comes between two items, if one does
-abbrev pub block_behind : List ℕ → List ℕ → List (List ℕ)
-block_behind before path = if opens_block before path then block_line path ∷ [] else []
+abbrev pub block_after : List ℕ → List ℕ → List (List ℕ)
+block_after before path = if opens_block before path then block_line path ∷ [] else []
 
 -- the bytes and the extents of a text
 pub record HasLines (text : GrowingText) (bytes : List ℕ) (extents : Extents) : Type 0 where
@@ -22,12 +22,12 @@ pub record HasLines (text : GrowingText) (bytes : List ℕ) (extents : Extents) 
 
 -- they are those of these items, which come after a path
 abbrev pub HasItems : GrowingText → List ℕ → Items → Type 0
-HasItems text before items = HasLines text (text_behind before items) (extents_behind before items)
+HasItems text before items = HasLines text (text_behind before items) (extents_after before items)
 
 -- the lines of these items were added
 abbrev pub AddsLines : (old new : GrowingText) → List ℕ → Items → Type 0
 AddsLines old new before items = (bytes : List ℕ) (extents : Extents) → HasLines old bytes extents
-    → HasLines new (bytes ++ text_behind before items) (extents ++ extents_behind before items)
+    → HasLines new (bytes ++ text_behind before items) (extents ++ extents_after before items)
 
 -- what is kept now was kept before, with the lines of these items after it
 abbrev pub Lengthens : Option GrowingText → Option GrowingText → List ℕ → Items → Type 0

@@ -25,11 +25,11 @@ pub not_not : (b : Bool) → not b ≡ false → b ≡ true
 not_not true off = refl
 not_not false off = absurd cc
 
-pub untold_damage : (version : Version) (d : Database) (e : TableFault) → IsMemoryOrStore e → TellsDamage version d e
-untold_damage version d Memory h = tt
-untold_damage version d Store h = tt
-untold_damage version d (NewerSchema n) h = absurd h
-untold_damage version d Damaged h = absurd h
+pub only_store_damage : (version : Version) (d : Database) (e : TableFault) → IsMemoryOrStore e → TellsDamage version d e
+only_store_damage version d Memory h = tt
+only_store_damage version d Store h = tt
+only_store_damage version d (NewerSchema n) h = absurd h
+only_store_damage version d Damaged h = absurd h
 
 numbered : (version : Version) (n : ℕ) (t : Rows) → AreDated version n t.items t.sinces → AreNumbered version n t
 numbered One n t good = tt

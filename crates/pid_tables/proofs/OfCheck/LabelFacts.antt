@@ -13,8 +13,8 @@ use Rattle.pid_tables.specs.declared.rows.version.Version.TheVariants.{One, Two}
 use Rattle.pid_tables.specs.Check.Conditions.{labels, label_row, AreLabels}
 use Rattle.pid_tables.specs.Check.Steps.Labels.{HasLabelRow, IsLabel, IsLater, IsToldOfLabel, IsToldOfSchema, TakesLabels}
 use Rattle.pid_tables.specs.declared.check.meta.Labels.{Labels}
-use Rattle.pid_tables.specs.declared.check.meta.Told.{Told}
-use Rattle.pid_tables.specs.declared.check.meta.Told.TheVariants.{Never, Once, Several}
+use Rattle.pid_tables.specs.declared.check.meta.Occurrence.{Occurrence}
+use Rattle.pid_tables.specs.declared.check.meta.Occurrence.TheVariants.{Never, Once, Several}
 use Rattle.pid_tables.proofs.OfCheck.ItemFacts.{split, before, last, texts_same}
 
 pub label_first : (r : Row) (label : List ℕ) (n : ℕ) → r ≡ label_row (label, n) → column r 0 ≡ Text label
@@ -48,7 +48,7 @@ module _ (label : List ℕ) (rows : List Row) (r : Row) where
   here : (n : ℕ) → r ≡ label_row (label, n) → HasLabelRow (rows ++ r ∷ []) label n
   here n is = subst (Has (rows ++ r ∷ [])) is (last rows r)
 
-  pub told_skipped : ((n : ℕ) → r ≡ label_row (label, n) → ⊥) → (told : Told) → IsToldOfLabel label rows told → IsToldOfLabel label (rows ++ r ∷ []) told
+  pub told_skipped : ((n : ℕ) → r ≡ label_row (label, n) → ⊥) → (told : Occurrence) → IsToldOfLabel label rows told → IsToldOfLabel label (rows ++ r ∷ []) told
   told_skipped none Never was = λ n has. elim (split rows r _ has) [ inl there ↦ was n there | inr same ↦ none n (sym same) ]
   told_skipped none (Once one) was = λ n. (λ has. elim (split rows r _ has) [ inl there ↦ (was n).0 there | inr same ↦ absurd (none n (sym same)) ], λ same. early n ((was n).1 same))
   told_skipped none Several was = (was.0, was.1, was.2, early was.0 was.3, early was.1 was.4)
@@ -70,12 +70,12 @@ module _ (label : List ℕ) (rows : List Row) (r : Row) where
 
 -- ---- what is told, and the number that the label has
 
-only_never : (label : List ℕ) (rows : List Row) (told : Told) → IsToldOfLabel label rows told → ((n : ℕ) → HasLabelRow rows label n → ⊥) → told ≡ Never
+only_never : (label : List ℕ) (rows : List Row) (told : Occurrence) → IsToldOfLabel label rows told → ((n : ℕ) → HasLabelRow rows label n → ⊥) → told ≡ Never
 only_never label rows Never is none = refl
 only_never label rows (Once one) is none = absurd (none one ((is one).1 refl))
 only_never label rows Several is none = absurd (none is.0 is.3)
 
-only_once : (label : List ℕ) (rows : List Row) (n : ℕ) (told : Told) → IsToldOfLabel label rows told → HasLabelRow rows label n → ((m : ℕ) → HasLabelRow rows label m → m ≡ n) → told ≡ Once n
+only_once : (label : List ℕ) (rows : List Row) (n : ℕ) (told : Occurrence) → IsToldOfLabel label rows told → HasLabelRow rows label n → ((m : ℕ) → HasLabelRow rows label m → m ≡ n) → told ≡ Once n
 only_once label rows n Never is has only = absurd (is n has)
 only_once label rows n (Once one) is has only = ap Once (only one ((is one).1 refl))
 only_once label rows n Several is has only = absurd (is.2 (only is.0 is.3 ∙ sym (only is.1 is.4)))
@@ -178,17 +178,17 @@ module _ (items submissions revision : ℕ) (rows : List Row) (it : Labels) (are
   told_of_schema Two good = (schema_of Two good, revision_of good)
 
   -- a label with one number
-  once : (label : List ℕ) (n : ℕ) (told : Told) → IsToldOfLabel label rows told → told ≡ Once n → (m : ℕ) → HasLabelRow rows label m ↔ (m ≡ n)
+  once : (label : List ℕ) (n : ℕ) (told : Occurrence) → IsToldOfLabel label rows told → told ≡ Once n → (m : ℕ) → HasLabelRow rows label m ↔ (m ≡ n)
   once label n told is same = subst (IsToldOfLabel label rows) same is
 
-  never : (label : List ℕ) (told : Told) → IsToldOfLabel label rows told → told ≡ Never → (m : ℕ) → HasLabelRow rows label m → ⊥
+  never : (label : List ℕ) (told : Occurrence) → IsToldOfLabel label rows told → told ≡ Never → (m : ℕ) → HasLabelRow rows label m → ⊥
   never label told is same = subst (IsToldOfLabel label rows) same is
 
-  row_there : (label : List ℕ) (n : ℕ) (told : Told) → IsToldOfLabel label rows told → told ≡ Once n → (e : List ℕ × ℕ) → e ≡ (label, n) → Has rows (label_row e)
+  row_there : (label : List ℕ) (n : ℕ) (told : Occurrence) → IsToldOfLabel label rows told → told ≡ Once n → (e : List ℕ × ℕ) → e ≡ (label, n) → Has rows (label_row e)
   row_there label n told is same e at = subst (λ (x : List ℕ × ℕ). Has rows (label_row x)) (sym at) ((once label n told is same n).1 refl)
 
   -- a row of a label with one number
-  listed : (label : List ℕ) (n : ℕ) (told : Told) → IsToldOfLabel label rows told → told ≡ Once n → (r : Row) → Has rows r → (m : ℕ) → r ≡ label_row (label, m) → r ≡ label_row (label, n)
+  listed : (label : List ℕ) (n : ℕ) (told : Occurrence) → IsToldOfLabel label rows told → told ≡ Once n → (r : Row) → Has rows r → (m : ℕ) → r ≡ label_row (label, m) → r ≡ label_row (label, n)
   listed label n told is same r h m row = row ∙ ap (λ k. label_row (label, k)) ((once label n told is same m).0 (subst (Has rows) row h))
 
   module _ (good : IsTrue it.good) (of_items : it.items ≡ Once items) (of_submissions : it.submissions ≡ Once submissions) where

@@ -5,14 +5,14 @@ use Rattle.pid_tables.specs.declared.rows.fault.TableFault.TheVariants.{Memory, 
 use Rattle.pid_tables.specs.Rows.Faults.{IsMemoryOrStore, IsNotNewerSchema}
 use Rattle.pid_tables.specs.Check.Steps.Lacking.{ExplainsLater}
 
-pub untold_never : (e : TableFault) → IsMemoryOrStore e → IsNotNewerSchema e
-untold_never Memory h = tt
-untold_never Store h = tt
-untold_never (NewerSchema n) h = h
-untold_never Damaged h = tt
+pub only_store_never : (e : TableFault) → IsMemoryOrStore e → IsNotNewerSchema e
+only_store_never Memory h = tt
+only_store_never Store h = tt
+only_store_never (NewerSchema n) h = h
+only_store_never Damaged h = tt
 
-pub untold_later : (db : Database) (e : TableFault) → IsMemoryOrStore e → ExplainsLater db e
-untold_later db Memory h = tt
-untold_later db Store h = tt
-untold_later db (NewerSchema n) h = absurd h
-untold_later db Damaged h = absurd h
+pub only_store_later : (db : Database) (e : TableFault) → IsMemoryOrStore e → ExplainsLater db e
+only_store_later db Memory h = tt
+only_store_later db Store h = tt
+only_store_later db (NewerSchema n) h = absurd h
+only_store_later db Damaged h = absurd h

@@ -14,7 +14,7 @@ use Rattle.pid_tables.specs.Rows.TableRows.{number}
 use Rattle.pid_tables.specs.Check.Conditions.{HasRemark, AreRemarks}
 use Rattle.pid_tables.specs.Check.Steps.PlaceSets.{pair_cmp, ArePlacesOf, FollowEach, FollowsPlace, IsRemark}
 use Rattle.pid_tables.specs.Check.Steps.Keeping.{AreEach, IsPartJudged, TakesRemarks}
-use Rattle.pid_tables.specs.declared.check.remark.RemarkKeeper.{RemarkKeeper}
+use Rattle.pid_tables.specs.declared.check.remark.RemarkFold.{RemarkFold}
 use Rattle.pid_tables.proofs.OfCheck.ItemFacts.{split, before, last, both}
 
 pub numbers_same : (m n : ℕ) → number m ≡ number n → m ≡ n
@@ -148,7 +148,7 @@ remarks_alone rows good r h = let it = good r h in record { num = it.num; place 
 pub no_places : (places : BTreeSet (ℕ × ℕ)) → places.keys ≡ [] → ArePlacesOf places []
 no_places places none num place = (λ there. absurd (let bad : false ≡ true = sym (ap (λ (ks : List (ℕ × ℕ)). list_any (λ k. is_eq (pair_cmp (num, place) k)) ks) none) ∙ there in cc), λ it. absurd it.1)
 
-pub remarks_judged : (rows : List Row) (it : RemarkKeeper) (follow : Bool) → TakesRemarks rows it → (IsTrue follow ↔ FollowEach it.places) → IsPartJudged AreRemarks rows (it.good && follow)
+pub remarks_judged : (rows : List Row) (it : RemarkFold) (follow : Bool) → TakesRemarks rows it → (IsTrue follow ↔ FollowEach it.places) → IsPartJudged AreRemarks rows (it.good && follow)
 remarks_judged rows it follow taken follows = (
   λ yes. let of = (both it.good follow).0 yes in remarks_made it.places rows taken.places (taken.good.0 of.0) (follows.0 of.1),
   λ good. (both it.good follow).1 (taken.good.1 (remarks_alone rows good), follows.1 (follow_of it.places rows taken.places good)),

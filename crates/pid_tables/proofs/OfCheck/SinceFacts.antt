@@ -8,7 +8,7 @@ use Rattle.pid_tables.specs.Rows.TableRows.{number}
 use Rattle.pid_tables.specs.Check.Conditions.{IsSinceRow, AreSinces}
 use Rattle.pid_tables.specs.Check.Steps.PathSets.{ArePathsOf, HasPath}
 use Rattle.pid_tables.specs.Check.Steps.Keeping.{AreEach, GoWith, TakesSinces}
-use Rattle.pid_tables.specs.declared.check.since.SinceKeeper.{SinceKeeper}
+use Rattle.pid_tables.specs.declared.check.since.SinceFold.{SinceFold}
 use Rattle.pid_tables.proofs.OfCheck.ItemFacts.{both, two, path_known, path_listed}
 
 module _ (revision : ℕ) (r : Row) where
@@ -36,7 +36,7 @@ module _ (revision : ℕ) (items sinces : List Row) (all paths : BTreeSet Path) 
       let it = (have path).0 there in
       (are path).1 (it.0, it.1, it.2, good.there it.0 it.1 it.3)
 
-pub sinces_judged : (first : SinceKeeper) (rows : List Row) (it : SinceKeeper) (all : BTreeSet Path) (among : Bool) → TakesSinces first rows it → (IsTrue among ↔ IsSubset path_cmp all it.paths) → GoWith all first.revision rows (it.good && among)
+pub sinces_judged : (first : SinceFold) (rows : List Row) (it : SinceFold) (all : BTreeSet Path) (among : Bool) → TakesSinces first rows it → (IsTrue among ↔ IsSubset path_cmp all it.paths) → GoWith all first.revision rows (it.good && among)
 sinces_judged first rows it all among taken subset = subst (λ revision. GoWith all revision rows (it.good && among)) taken.revision (λ items have. (
   λ yes. let of = (both it.good among).0 yes in sinces_made it.revision items rows all it.paths have taken.paths (taken.good.0 of.0) (subset.0 of.1),
   λ good. (both it.good among).1 (taken.good.1 good.each, subset.1 (subset_of it.revision items rows all it.paths have taken.paths good)),

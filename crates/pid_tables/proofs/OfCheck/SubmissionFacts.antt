@@ -23,7 +23,7 @@ use Rattle.pid_tables.specs.Check.Steps.NamesRead.{IsAmong, IsDecidedAmong, IsSu
 use Rattle.pid_tables.specs.Check.Steps.NameSets.{AreNamesOf}
 use Rattle.sqlite_rules.specs.Lists.{Has}
 use Rattle.pid_tables.specs.Check.Steps.Keeping.{AreFit, AreOfAccounts, TakesSubmissions}
-use Rattle.pid_tables.specs.declared.check.submission.SubmissionKeeper.{SubmissionKeeper}
+use Rattle.pid_tables.specs.declared.check.submission.SubmissionFold.{SubmissionFold}
 use Rattle.pid_tables.specs.declared.check.submission.Fit.{Fit}
 use Rattle.pid_tables.specs.Check.Steps.NumberSets.{CountFromOne}
 use Rattle.pid_tables.proofs.OfCheck.ItemFacts.{split, before, last, texts_same, both}
@@ -268,7 +268,7 @@ module _ (names : BTreeSet (String Global)) (rows : List Row) (fit : Fit) (count
   pub fit_of : AreSubmissions accounts rows → IsTrue fit.good × (fit.greatest ≤ count)
   fit_of all = (are count).1 (subst (λ k. (r : Row) → Has rows r → IsSubmissionAmong names k r) (sym is) (submissions_among accounts good names listed rows all))
 
-pub submissions_judged : (first : SubmissionKeeper) (rows : List Row) (it : SubmissionKeeper) (counted : Bool) → TakesSubmissions first rows it → (IsTrue counted ↔ CountFromOne rows)
+pub submissions_judged : (first : SubmissionFold) (rows : List Row) (it : SubmissionFold) (counted : Bool) → TakesSubmissions first rows it → (IsTrue counted ↔ CountFromOne rows)
     → AreOfAccounts first.names.now rows ((it.fit.good && nat_le it.fit.greatest it.count) && counted)
 submissions_judged first rows it counted taken counts =
     let fits = it.fit.good && nat_le it.fit.greatest it.count in

@@ -26,11 +26,11 @@ use Rattle.pid_tables.proofs.OfCheck.ItemFacts.{texts_same}
 use Rattle.pid_tables.proofs.OfCheck.Stored.{stored, registry_stored, never_damaged}
 use Rattle.pid_tables.proofs.OfCheck.WholeTexts.{meta_is}
 
-pub untold : (d : Database) (e : TableFault) → IsMemoryOrStore e → Explains d e
-untold d Memory h = tt
-untold d Store h = tt
-untold d (NewerSchema n) h = absurd h
-untold d Damaged h = absurd h
+pub only_store : (d : Database) (e : TableFault) → IsMemoryOrStore e → Explains d e
+only_store d Memory h = tt
+only_store d Store h = tt
+only_store d (NewerSchema n) h = absurd h
+only_store d Damaged h = absurd h
 
 -- the tables are those of one schema alone
 both : (a b : Version) (schema : Schema) → HasTables a schema → HasTables b schema → a ≡ b

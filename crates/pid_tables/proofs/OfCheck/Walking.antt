@@ -13,7 +13,7 @@ use Rattle.pid_tables.specs.Rows.Faults.{IsMemoryOrStore}
 use Rattle.pid_tables.specs.Rows.Steps.Faults.{fault_of_sql}
 use Rattle.pid_tables.specs.Rows.Leaves.{OnlyReads}
 use Rattle.pid_tables.specs.declared.rows.fault.TableFault.{TableFault}
-use Rattle.pid_tables.proofs.OfRows.FaultLemmas.{untold}
+use Rattle.pid_tables.proofs.OfRows.FaultLemmas.{only_store}
 use Rattle.pid_tables.proofs.OfRows.GoingLemmas.{earlier}
 use Rattle.pid_tables.proofs.OfRows.OnlyReading.{Keeps, keeps_same, keeps_back, keeps_then, rests_on}
 use Rattle.pid_tables.proofs.OfRows.ReadLemmas.{fails_to_query}
@@ -40,7 +40,7 @@ module _ {S : Type 0} (g : Ghosts S) (table : Table) where
 
   -- a query that can be asked is no damage
   fault_told : (old new : State) (e : Error) (d : Database) → old.now ≡ d → CanBeAsked d.schema sql → FailsToQuery sql [] old new e → IsMemoryOrStore (fault_of_sql e)
-  fault_told old new e d is asked h = untold sql [] old new (ap (λ (x : Database). x.schema) is) (asked_plain table d.schema asked) e (inl h)
+  fault_told old new e d is asked h = only_store sql [] old new (ap (λ (x : Database). x.schema) is) (asked_plain table d.schema asked) e (inl h)
 
   -- a query that did not begin
   pub refused : {X : Type 0} (text : List ℕ) (old new : Held S) (r : Result X Error) (e : Error) → text ≡ sql → r ≡ Err e → (IsTrue (state g new).is_open → HasCleanDisk (state g new)) → old.in_transaction ≡ false → OnErr r (IsRefused g text [] old r new)

@@ -23,7 +23,7 @@ use Rattle.pid_moderation.specs.Items.{Items, is_parent}
 use Rattle.sqlite.specs.Order.{Row, column}
 use Rattle.sqlite.specs.declared.types.Value.TheVariants.{Text}
 use Rattle.pid_tables.specs.Rows.Steps.Answers.{item_shown}
-use Rattle.pid_tables.specs.Rows.Steps.Unread.{IsUnreadable}
+use Rattle.pid_tables.specs.Rows.Steps.Unread.{IsDamagedRow}
 use Rattle.pid_tables.specs.Lists.Steps.Children.{children_among}
 use Rattle.pid_moderation.specs.ItemPairs.{pair_of}
 use Rattle.pid_moderation.specs.declared.lists.Item.{Item}
@@ -195,9 +195,9 @@ module _ (path : Path) (e : List ℕ × List ℕ) (row : Row) (is : row ≡ item
 
 -- an element was added where it is one of those that are kept, or there was no memory
 pub kept_child : (Written : Type 0) (was now : List Item) (x : Item) (more : Items) (r : Result (Unit {0}) TableFault) → OnOk r (now ≡ was ++ x ∷ []) → IfErr r (λ fault. fault ≡ Memory) → pair_of x ∷ [] ≡ more
-    → MatchResult r (λ _. map pair_of now ≡ map pair_of was ++ more) (IsUnreadable Written)
+    → MatchResult r (λ _. map pair_of now ≡ map pair_of was ++ more) (IsDamagedRow Written)
 kept_child Written was now x more (Ok u) added full same = ap (map pair_of) added ∙ map-append pair_of was (x ∷ []) ∙ ap (λ l. map pair_of was ++ l) same
-kept_child Written was now x more (Err fault) added full same = subst (IsUnreadable Written) (sym full) tt
+kept_child Written was now x more (Err fault) added full same = subst (IsDamagedRow Written) (sym full) tt
 
 -- ---- what is kept in turn
 

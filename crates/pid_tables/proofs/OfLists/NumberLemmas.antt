@@ -9,7 +9,7 @@ use Rattle.sqlite_rules.specs.Lists.{Has}
 use Rattle.pid_moderation.specs.Submissions.{Standing, standing_in}
 use Rattle.pid_moderation.specs.Views.{Views}
 use Rattle.pid_tables.specs.Rows.Causes.{IsCaused, IsReadable}
-use Rattle.pid_tables.specs.Rows.Steps.Unread.{IsUnreadable}
+use Rattle.pid_tables.specs.Rows.Steps.Unread.{IsDamagedRow}
 use Rattle.pid_tables.specs.declared.rows.fault.TableFault.{TableFault}
 use Rattle.pid_tables.specs.declared.rows.fault.TableFault.TheVariants.{Memory}
 use Rattle.pid_tables.specs.Lists.ByNumber.{standing_at, standings_at}
@@ -45,9 +45,9 @@ kept_one f was now x more (Err e) old new v added full same = λ readable. subst
 
 -- the same of an element that a row stands for
 pub kept_row : {X Y : Type 0} (Written : Type 0) (f : X → Y) (was now : List X) (x : X) (y : Y) (r : Result (Unit {0}) TableFault) → OnOk r (now ≡ was ++ x ∷ []) → IfErr r (λ fault. fault ≡ Memory) → f x ≡ y
-    → MatchResult r (λ _. map f now ≡ map f was ++ y ∷ []) (IsUnreadable Written)
+    → MatchResult r (λ _. map f now ≡ map f was ++ y ∷ []) (IsDamagedRow Written)
 kept_row Written f was now x y (Ok u) added full same = ap (map f) added ∙ map-append f was (x ∷ []) ∙ ap (λ z. map f was ++ z ∷ []) same
-kept_row Written f was now x y (Err e) added full same = subst (IsUnreadable Written) (sym full) tt
+kept_row Written f was now x y (Err e) added full same = subst (IsDamagedRow Written) (sym full) tt
 
 -- what there is by one number
 pub by_number : (v : Views) (number : ℕ) (found : Option Standing) → found ≡ standing_in v number → cons_option (option_map (λ (s : Standing). (number, s)) found) [] ≡ standings_at (number ∷ []) v

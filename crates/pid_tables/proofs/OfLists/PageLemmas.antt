@@ -17,10 +17,10 @@ use Rattle.pid_moderation.specs.Views.{Views, Submitted}
 use Rattle.pid_moderation.specs.declared.facts.State.{State}
 use Rattle.pid_moderation.specs.CheckTables.{is_pending}
 use Rattle.pid_moderation.specs.Submissions.{Standing}
-use Rattle.pid_moderation.specs.ChangePages.{Changed, numbered_in, is_later, changes_in, changed_behind}
+use Rattle.pid_moderation.specs.ChangePages.{Changed, numbered_in, is_later, changes_in, changed_after}
 use Rattle.pid_tables.specs.Lists.Laws.{pending_number, changed_path}
 use Rattle.pid_tables.specs.Lists.Pages.{last_of, pages_after}
-use Rattle.pid_moderation.specs.PendingPages.{standings_from, waiting_above}
+use Rattle.pid_moderation.specs.PendingPages.{standings_from, pending_above}
 use Rattle.pid_tables.proofs.OfLists.ItemLists.{less_is}
 
 -- two fronts, one behind the other, are one
@@ -41,13 +41,13 @@ module _ {X K : Type 0} (key : X → K) (all : K → List X) (next : (asked : K)
   goes_on (suc m) asked = one_page m asked (all asked) refl (λ k. goes_on m k)
 
   module _ (m : ℕ) (page : K → List X) (is : (k : K) → page k ≡ take m (all k)) where
-    pub behind_page : (asked : K) → all (last_of key asked (page asked)) ≡ drop m (all asked)
-    behind_page asked = ap (λ p. all (last_of key asked p)) (is asked) ∙ goes_on m asked
+    pub after_page : (asked : K) → all (last_of key asked (page asked)) ≡ drop m (all asked)
+    after_page asked = ap (λ p. all (last_of key asked p)) (is asked) ∙ goes_on m asked
 
     pub joined : (count : ℕ) (asked : K) → pages_after key page count asked ≡ take (count * m) (all asked)
     joined zero asked = ap (λ n. take n (all asked)) (sym (zero-mul m))
     joined (suc count) asked =
-        let rest = joined count (last_of key asked (page asked)) ∙ ap (take (count * m)) (behind_page asked) in
+        let rest = joined count (last_of key asked (page asked)) ∙ ap (take (count * m)) (after_page asked) in
         let more : m + count * m ≡ suc count * m = omega (arith, suc-mul count m) in
         (λ i. is asked i ++ rest i) ∙ fronts m (count * m) (all asked) ∙ ap (λ n. take n (all asked)) more
 
@@ -113,19 +113,19 @@ standings_rise : (n : ℕ) (submits : List Submitted) (state : ℕ → State) �
 standings_rise n [] state = tt
 standings_rise n (s ∷ submits) state = (above_all n (n + 1) submits state (omega arith), standings_rise (n + 1) submits state)
 
-pub next_waiting : (v : Views) (after : ℕ) (s : ℕ × Standing) (more : List (ℕ × Standing)) → waiting_above after v ≡ s ∷ more → waiting_above (pending_number s) v ≡ more
-next_waiting v = next_one pending_number nat_lt numbers_strict waits (standings_from 1 v.submits v.state) (standings_rise 1 v.submits v.state)
+pub next_pending : (v : Views) (after : ℕ) (s : ℕ × Standing) (more : List (ℕ × Standing)) → pending_above after v ≡ s ∷ more → pending_above (pending_number s) v ≡ more
+next_pending v = next_one pending_number nat_lt numbers_strict waits (standings_from 1 v.submits v.state) (standings_rise 1 v.submits v.state)
 
 -- ---- changes
 
 abbrev pub path_lt : List ℕ → List ℕ → Bool
 path_lt a b = is_lt (text_cmp a b)
 
-never_behind_itself : (a b : List ℕ) → text_cmp a b ≡ Less → text_cmp b a ≡ Less → ⊥
-never_behind_itself a b first second = let bad : ◌≡◌ {A = Ordering} Equal Less = sym (tied_itself nat_list_cmp_total a) ∙ nat_list_cmp_total.trans a b a first second in cc
+never_after_itself : (a b : List ℕ) → text_cmp a b ≡ Less → text_cmp b a ≡ Less → ⊥
+never_after_itself a b first second = let bad : ◌≡◌ {A = Ordering} Equal Less = sym (tied_itself nat_list_cmp_total a) ∙ nat_list_cmp_total.trans a b a first second in cc
 
 not_less : (a b : List ℕ) (o : Ordering) → text_cmp b a ≡ o → text_cmp a b ≡ Less → is_lt o ≡ false
-not_less a b Less is less = absurd (never_behind_itself a b less is)
+not_less a b Less is less = absurd (never_after_itself a b less is)
 not_less a b Equal is less = refl
 not_less a b Greater is less = refl
 
@@ -149,16 +149,16 @@ module _ (v : Views) (since : ℕ) where
   items_rise (i ∷ items) h = let parts = and_parts (below_all text_cmp i.0 items) (is_sorted text_cmp items) h in (items_above i.0 items parts.0, items_rise items parts.1)
 
   next_mapped : (sorted : is_sorted text_cmp v.items ≡ true) (after : List ℕ) (found : Items) → filter (is_later since after v) v.items ≡ found
-      → (item : Changed) (more : List Changed) → map (numbered_in v) found ≡ item ∷ more → changed_behind since item.path v ≡ more
+      → (item : Changed) (more : List Changed) → map (numbered_in v) found ≡ item ∷ more → changed_after since item.path v ≡ more
   next_mapped sorted after [] is item more same = absurd (let bad : ⊥ = cc in bad)
   next_mapped sorted after (x ∷ found) is item more same =
       let first : numbered_in v x ≡ item = cc in
       let others : map (numbered_in v) found ≡ more = cc in
-      subst (λ (y : Changed). changed_behind since y.path v ≡ more) first
+      subst (λ (y : Changed). changed_after since y.path v ≡ more) first
       (ap (map (numbered_in v)) (next_one (λ (e : List ℕ × List ℕ). e.0) path_lt paths_strict is_new v.items (items_rise v.items sorted) after x found is) ∙ others)
 
-  pub next_changed : is_sorted text_cmp v.items ≡ true → (after : List ℕ) (item : Changed) (more : List Changed) → changed_behind since after v ≡ item ∷ more → changed_behind since (changed_path item) v ≡ more
+  pub next_changed : is_sorted text_cmp v.items ≡ true → (after : List ℕ) (item : Changed) (more : List Changed) → changed_after since after v ≡ item ∷ more → changed_after since (changed_path item) v ≡ more
   next_changed sorted after item more is = next_mapped sorted after (filter (is_later since after v) v.items) refl item more is
 
-  pub changes_front : (most : ℕ) (after : List ℕ) → (changes_in most since after v).items ≡ take most (changed_behind since after v)
+  pub changes_front : (most : ℕ) (after : List ℕ) → (changes_in most since after v).items ≡ take most (changed_after since after v)
   changes_front most after = refl

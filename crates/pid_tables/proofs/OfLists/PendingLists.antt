@@ -121,8 +121,8 @@ open_state (states.Approved decider) = refl
 open_state (states.Rejected decider reason) = refl
 open_state states.Withdrawn = refl
 
-hits_waiting : (after : ℕ) (id : ℤ) (n : ℕ) (s : Standing) → hits waiting (number after ∷ []) (submission_row id n s) ≡ waits_above after (n, s)
-hits_waiting after id n s =
+hits_pending : (after : ℕ) (id : ℤ) (n : ℕ) (s : Standing) → hits waiting (number after ∷ []) (submission_row id n s) ≡ waits_above after (n, s)
+hits_pending after id n s =
     (λ i. zero_state (state_number s.state) i && (higher n after i && true)) ∙ turned (Rattle.std.specs.Prelude.◌==◌ (state_number s.state) 0) (nat_lt after n)
     ∙ ap (λ b. nat_lt after n && b) (open_state s.state)
 
@@ -209,12 +209,12 @@ module _ (db : Database) (c : Counts) (v : Views) (shows : ShowsCounting c db v)
     each = λ r h.
         let kept = has_filtered (hits waiting params) (db.trees 6) r h in
         let pair = shows.submissions.sound r kept.0 in
-        let is : waits_above after (pair.key, pair.value) ≡ true = sym (hits_waiting after pair.id pair.key pair.value) ∙ subst (λ x. hits waiting params x ≡ true) pair.is kept.1 in
+        let is : waits_above after (pair.key, pair.value) ≡ true = sym (hits_pending after pair.id pair.key pair.value) ∙ subst (λ x. hits waiting params x ≡ true) pair.is kept.1 in
         ((pair.key, pair.value), has_kept (waits_above after) _ (pair.key, pair.value) (stands_in v pair.key pair.value pair.maps) is, ap (out 6 waiting as_it_stands by_number a_hundred params) pair.is);
     there = λ e h.
         let kept = has_filtered (waits_above after) (standings_from 1 v.submits v.state) e h in
         let pair = shows.submissions.complete e.0 e.1 (in_standing v e kept.0) in
-        (submission_row pair.0 e.0 e.1, has_kept (hits waiting params) (db.trees 6) (submission_row pair.0 e.0 e.1) pair.1 (hits_waiting after pair.0 e.0 e.1 ∙ kept.1), refl);
+        (submission_row pair.0 e.0 e.1, has_kept (hits waiting params) (db.trees 6) (submission_row pair.0 e.0 e.1) pair.1 (hits_pending after pair.0 e.0 e.1 ∙ kept.1), refl);
     apart = finer_distinct rowid (out 6 waiting as_it_stands by_number a_hundred params) (passing waiting params (db.trees 6)) (λ x y same. ap (λ (o : Output). column o.0 0) same)
         (kept_distinct rowid (hits waiting params) (db.trees 6) (rowids_apart (db.trees 6) shows.submissions.ordered));
     rises = numbers_rise params (waits_above after) 1 v.submits v.state;

@@ -4,7 +4,7 @@ use Rattle.sqlite.specs.State.{State}
 use Rattle.pid_moderation.specs.Views.{Views}
 use Rattle.pid_tables.specs.declared.rows.fault.TableFault.{TableFault}
 use Rattle.pid_tables.specs.Rows.Causes.{IsCaused, IsReadable}
-use Rattle.pid_tables.specs.Rows.Steps.Unread.{IsUnreadable}
+use Rattle.pid_tables.specs.Rows.Steps.Unread.{IsDamagedRow}
 use Rattle.pid_tables.proofs.OfRows.UnreadLemmas.{caused_unread}
 use Rattle.sqlite.specs.Order.{Row}
 use Rattle.sqlite_rules.specs.Lists.{Has}
@@ -35,7 +35,7 @@ module _ {X : Type 0} (f : X → Row) where
   next_of xs rows i d is low = let h = found xs rows i d is low in record { it = h.0; there = h.1; is = h.2; more = ap (λ k. take k xs) (add-one i) ∙ h.3 }
 
 -- what rows that can be read do not tell, has a cause
-pub read_or_caused : {X W : Type 0} (old new : State) (v : Views) (r : Result X TableFault) (P Q : X → Type 0) → (IsReadable v → W) → ((x : X) → P x → Q x) → MatchResult r P (IsUnreadable W) → MatchResult r Q (λ fault. IsReadable v → IsCaused old new fault)
+pub read_or_caused : {X W : Type 0} (old new : State) (v : Views) (r : Result X TableFault) (P Q : X → Type 0) → (IsReadable v → W) → ((x : X) → P x → Q x) → MatchResult r P (IsDamagedRow W) → MatchResult r Q (λ fault. IsReadable v → IsCaused old new fault)
 read_or_caused old new v (Ok x) P Q written more h = more x h
 read_or_caused old new v (Err e) P Q written more h = λ readable. caused_unread old new e (written readable) h
 

@@ -26,7 +26,7 @@ use Rattle.pid_tables.specs.Rows.Causes.{IsCaused, IsReadable}
 use Rattle.pid_tables.specs.Rows.Steps.Faults.{fault_of_sql}
 use Rattle.pid_tables.specs.Rows.Leaves.{AtRest, OnlyReads}
 use Rattle.pid_tables.specs.Rows.Schema.{pid_schema}
-use Rattle.pid_tables.specs.Rows.Steps.Unread.{IsUnreadable, ReadsAsItem}
+use Rattle.pid_tables.specs.Rows.Steps.Unread.{IsDamagedRow, ReadsAsItem}
 use Rattle.pid_ident.specs.Words.{is_name}
 use Rattle.sqlite.specs.declared.types.Value.TheVariants.{Text}
 use Rattle.pid_tables.specs.Rows.Steps.Unread.{IsPathText, IsWord}
@@ -94,7 +94,7 @@ name_broken row good name at broken =
     false≢true (sym broken ∙ ap is_name same ∙ good.2.1)
 
 -- a row that is not read ends the walk
-pub unread_end : {X F : Type 0} (r : Result X (EachEnd F)) (fault : TableFault) (Written : Type 0) → IsErrAnd r (λ y. y ≡ Tables fault) → IsUnreadable Written fault → IfErr r (IsUnreadEnd Written)
+pub unread_end : {X F : Type 0} (r : Result X (EachEnd F)) (fault : TableFault) (Written : Type 0) → IsErrAnd r (λ y. y ≡ Tables fault) → IsDamagedRow Written fault → IfErr r (IsUnreadEnd Written)
 unread_end (Ok x) fault Written h unread = absurd h
 unread_end (Err y) fault Written h unread = subst (IsUnreadEnd Written) (sym h) unread
 
@@ -103,8 +103,8 @@ unread_end (Err y) fault Written h unread = subst (IsUnreadEnd Written) (sym h) 
 head : (a b : Row) (xs ys : List Row) → a ∷ xs ≡ b ∷ ys → a ≡ b
 head a b xs ys e = cc
 
-behind_head : (a b : Row) (xs ys : List Row) → a ∷ xs ≡ b ∷ ys → xs ≡ ys
-behind_head a b xs ys e = cc
+after_head : (a b : Row) (xs ys : List Row) → a ∷ xs ≡ b ∷ ys → xs ≡ ys
+after_head a b xs ys e = cc
 
 -- the row of the item behind so many, and that item with its place
 pub record IsNext (items : Items) (placed : List Numbered) (row : Row) (n place : ℕ) : Type 0 where
@@ -124,7 +124,7 @@ next_item first place [] row tail (i ∷ items) at is =
     record { item = i; is = head row (item_shown i) tail (map item_shown items) is; there = inl refl; behind = placed_from (first + 1) items; parts = ap (λ p. (p, i) ∷ placed_from (first + 1) items) (sym same); more = ap (λ p. (p, i) ∷ []) (sym same) }
 next_item first place (r ∷ given) row tail (i ∷ items) at is =
     let later : place ≡ (first + 1) + length given = omega (arith, at) in
-    let more = next_item (first + 1) place given row tail items later (behind_head r (item_shown i) ((given ++ row ∷ []) ++ tail) (map item_shown items) is) in
+    let more = next_item (first + 1) place given row tail items later (after_head r (item_shown i) ((given ++ row ∷ []) ++ tail) (map item_shown items) is) in
     record { item = more.item; is = more.is; there = inr more.there; behind = more.behind; parts = ap (λ l. (first, i) ∷ l) more.parts; more = ap (λ l. (first, i) ∷ l) more.more }
 
 pub placed_count : (first : ℕ) (items : Items) → length (placed_from first items) ≡ length items

@@ -75,11 +75,11 @@ from_the_first = refl
 a_page_of_one : pending_in 1 0 views ≡ waiting 1 ∷ []
 a_page_of_one = refl
 
-behind_the_first : pending_in 100 1 views ≡ waiting 3 ∷ []
-behind_the_first = refl
+after_the_first : pending_in 100 1 views ≡ waiting 3 ∷ []
+after_the_first = refl
 
-behind_the_last : pending_in 100 3 views ≡ []
-behind_the_last = refl
+after_the_last : pending_in 100 3 views ≡ []
+after_the_last = refl
 
 -- one that was decided is read too, and a number that no submission has is passed over
 read_by_numbers : standings_at (3 ∷ 9 ∷ 2 ∷ []) views ≡ waiting 3 ∷ (2, record { submitted = by_bob 2; state = Withdrawn }) ∷ []
@@ -128,13 +128,13 @@ unfolding changed_bridge
 one_change = refl
 
 -- a page begins behind a path, whether an item is there or not
-changes_behind : changes_in 100 0 (start_text (Some (Device 32902 4663))) views ≡ record { revision = 9; items = changed_storage ∷ [] }
+changes_after : changes_in 100 0 (start_text (Some (Device 32902 4663))) views ≡ record { revision = 9; items = changed_storage ∷ [] }
 unfolding changed_storage
-changes_behind = refl
+changes_after = refl
 
-changes_behind_no_item : changes_in 100 0 (start_text (Some (Device 32902 4662))) views ≡ record { revision = 9; items = changed_bridge ∷ changed_storage ∷ [] }
+changes_after_no_item : changes_in 100 0 (start_text (Some (Device 32902 4662))) views ≡ record { revision = 9; items = changed_bridge ∷ changed_storage ∷ [] }
 unfolding changed_bridge changed_storage
-changes_behind_no_item = refl
+changes_after_no_item = refl
 
 no_changes : changes_in 100 9 (start_text None) views ≡ record { revision = 9; items = [] }
 no_changes = refl

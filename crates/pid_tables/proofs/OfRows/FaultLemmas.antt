@@ -68,11 +68,11 @@ module _ {schema : Schema} (sql : List ℕ) (params : Row) (old new : State) (ha
   known : IsPlain (understood old.now.schema sql)
   known = subst (λ x. IsPlain (understood x sql)) (sym has) plain
 
-  pub untold : FailsToQuery sql params old new e ⊎ IsTooLate sql params old new e → IsMemoryOrStore (fault_of_sql e)
+  pub only_store : FailsToQuery sql params old new e ⊎ IsTooLate sql params old new e → IsMemoryOrStore (fault_of_sql e)
   unfolding FailsToQuery
-  untold (inl (inl h)) = not_run sql params old new e (λ opened fault is. never_bad _ fault known is) h
-  untold (inl (inr h)) =
+  only_store (inl (inl h)) = not_run sql params old new e (λ opened fault is. never_bad _ fault known is) h
+  only_store (inl (inr h)) =
       let none = (subst IsPlain h.1.is known).0 in
       let it = subst (FailsToShow old new sql h.0 (timed params h.0.formats h.1.now) e) none h.2 in
       read_refused old.step_limit h.0.command it.0 (timed params h.0.formats h.1.now) e it.2
-  untold (inr late) = moved e _ late.4 (failed code.TransactionState)
+  only_store (inr late) = moved e _ late.4 (failed code.TransactionState)

@@ -31,7 +31,7 @@ use Rattle.pid_tables.specs.declared.rows.fault.TableFault.TheVariants.{Memory, 
 use Rattle.pid_tables.specs.Rows.Faults.{IsMemoryOrStore, IsNotNewerSchema}
 use Rattle.pid_tables.specs.Rows.LabelRows.{ExplainsNumber, HasLabel, IsDamageOf, LacksNumber, ShowsNoNumber, ShowsNumber, ShowsValues, value_text}
 use Rattle.pid_tables.specs.Rows.Steps.LabelRows.{IsMetaFirst}
-use Rattle.pid_tables.specs.Rows.Steps.Unread.{IsUnreadable}
+use Rattle.pid_tables.specs.Rows.Steps.Unread.{IsDamagedRow}
 use Rattle.pid_tables.specs.Rows.LabelRows.{IsNumber}
 use Rattle.pid_tables.specs.Rows.TableRows.{number}
 use Rattle.pid_tables.proofs.OfRows.KeyTexts.{by_first}
@@ -61,12 +61,12 @@ number_shown db label rows x shows is (Ok n) read = (rows, shows, x, sym is, rea
 number_shown db label rows x shows is (Err e) read = tt
 
 -- the first row's value is no number
-pub number_refused : (db : Database) (label : List ℕ) (rows : List Row) (x : Row) → ShowsValues db label rows → Some x ≡ slice_get rows 0 → (r : Result ℕ TableFault) → IfErr r (IsUnreadable (IsNumber (column x 0)))
+pub number_refused : (db : Database) (label : List ℕ) (rows : List Row) (x : Row) → ShowsValues db label rows → Some x ≡ slice_get rows 0 → (r : Result ℕ TableFault) → IfErr r (IsDamagedRow (IsNumber (column x 0)))
     → IfErr r (IsDamageOf (ShowsNoNumber db label))
 number_refused db label rows x shows is (Ok n) h = tt
 number_refused db label rows x shows is (Err e) h = go e h
   where
-    go : (e : TableFault) → IsUnreadable (IsNumber (column x 0)) e → IsDamageOf (ShowsNoNumber db label) e
+    go : (e : TableFault) → IsDamagedRow (IsNumber (column x 0)) e → IsDamageOf (ShowsNoNumber db label) e
     go Memory h = tt
     go Store h = tt
     go (NewerSchema n) h = h
@@ -78,12 +78,12 @@ none_shown db label rows shows none = inr (rows, shows, λ y there. absurd (let 
 
 -- the query was refused
 pub query_refused : (db : Database) (label : List ℕ) (e : TableFault) → ((query : Compiled) → understood db.schema value_text ≡ Ok query → IsMemoryOrStore e) → IsNotNewerSchema e → IsDamageOf (ShowsNoNumber db label) e
-query_refused db label Memory untold never = tt
-query_refused db label Store untold never = tt
-query_refused db label (NewerSchema n) untold never = never
-query_refused db label Damaged untold never = inl untold
+query_refused db label Memory only_store never = tt
+query_refused db label Store only_store never = tt
+query_refused db label (NewerSchema n) only_store never = never
+query_refused db label Damaged only_store never = inl only_store
 
-pub unread_never : (Written : Type 0) (r : Result ℕ TableFault) → IfErr r (IsUnreadable Written) → IfErr r IsNotNewerSchema
+pub unread_never : (Written : Type 0) (r : Result ℕ TableFault) → IfErr r (IsDamagedRow Written) → IfErr r IsNotNewerSchema
 unread_never Written (Ok n) h = tt
 unread_never Written (Err Memory) h = tt
 unread_never Written (Err Store) h = tt

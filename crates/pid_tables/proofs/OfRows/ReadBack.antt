@@ -20,7 +20,7 @@ use Rattle.pid_tables.specs.Rows.Shows.{Counts, labels_of, more_labels, counts_o
 use Rattle.pid_tables.specs.Rows.Steps.Shows.{meta_of}
 use Rattle.pid_moderation.specs.Submissions.{standing_in, Standing}
 use Rattle.pid_tables.specs.Rows.TableRows.{number}
-use Rattle.pid_tables.specs.Rows.Steps.Unread.{IsUnreadable, IsWholeNumber, ReadsAsStanding}
+use Rattle.pid_tables.specs.Rows.Steps.Unread.{IsDamagedRow, IsWholeNumber, ReadsAsStanding}
 use Rattle.pid_tables.specs.Rows.LabelRows.{IsNumber}
 use Rattle.pid_tables.specs.Rows.Steps.Unread.{IsWord, IsReplyRow}
 use Rattle.pid_tables.proofs.OfRows.DecodeLemmas.{some_row, number_same, mapped_some, all_at}
@@ -29,18 +29,18 @@ use Rattle.pid_tables.proofs.OfRows.UnreadLemmas.{caused_unread}
 
 -- a number in a row of its own
 module _ (old new : State) (v : Views) (row : Row) (r : Result ℕ TableFault) where
-  pub number_read : (n : ℕ) → row ≡ value_row n → (IsReadable v → n < 2 ^ 32) → IfOk r (λ m. column row 0 ≡ number m) → IfErr r (IsUnreadable (IsNumber (column row 0)))
+  pub number_read : (n : ℕ) → row ≡ value_row n → (IsReadable v → n < 2 ^ 32) → IfOk r (λ m. column row 0 ≡ number m) → IfErr r (IsDamagedRow (IsNumber (column row 0)))
       → MatchResult r (λ m. m ≡ n) (λ fault. IsReadable v → IsCaused old new fault)
   number_read n is small = go r
     where
       at : column row 0 ≡ number n
       at = ap (λ x. column x 0) is
 
-      go : (r : Result ℕ TableFault) → IfOk r (λ m. column row 0 ≡ number m) → IfErr r (IsUnreadable (IsNumber (column row 0))) → MatchResult r (λ m. m ≡ n) (λ fault. IsReadable v → IsCaused old new fault)
+      go : (r : Result ℕ TableFault) → IfOk r (λ m. column row 0 ≡ number m) → IfErr r (IsDamagedRow (IsNumber (column row 0))) → MatchResult r (λ m. m ≡ n) (λ fault. IsReadable v → IsCaused old new fault)
       go (Ok m) read unread = number_same m n (sym read ∙ at)
       go (Err e) read unread = λ readable. caused_unread old new e (n, small readable, at) unread
 
-  pub value_read : (o : Option ℕ) → Some row ≡ option_map value_row o → (IsReadable v → (n : ℕ) → o ≡ Some n → n < 2 ^ 32) → IfOk r (λ m. column row 0 ≡ number m) → IfErr r (IsUnreadable (IsNumber (column row 0)))
+  pub value_read : (o : Option ℕ) → Some row ≡ option_map value_row o → (IsReadable v → (n : ℕ) → o ≡ Some n → n < 2 ^ 32) → IfOk r (λ m. column row 0 ≡ number m) → IfErr r (IsDamagedRow (IsNumber (column row 0)))
       → MatchResult r (λ m. Some m ≡ o) (λ fault. IsReadable v → IsCaused old new fault)
   value_read o first small read unread =
       let it = some_row value_row o row first in
@@ -59,7 +59,7 @@ no_only rows n first (inl none) = sym none.1
 no_only rows n first (inr one) = absurd (let e = first ∙ ap (λ l. slice_get l 0) one in let bad : ⊥ = cc in bad)
 
 -- a whole number in a row of its own
-pub whole_read : (old new : State) (v : Views) (row : Row) (r : Result ℕ TableFault) (n : ℕ) → row ≡ value_row n → IfOk r (λ m. column row 0 ≡ number m) → IfErr r (IsUnreadable (IsWholeNumber (column row 0)))
+pub whole_read : (old new : State) (v : Views) (row : Row) (r : Result ℕ TableFault) (n : ℕ) → row ≡ value_row n → IfOk r (λ m. column row 0 ≡ number m) → IfErr r (IsDamagedRow (IsWholeNumber (column row 0)))
     → MatchResult r (λ m. m ≡ n) (λ fault. IsReadable v → IsCaused old new fault)
 whole_read old new v row (Ok m) n is read unread = number_same m n (sym read ∙ ap (λ x. column x 0) is)
 whole_read old new v row (Err e) n is read unread = λ readable. caused_unread old new e (n, ap (λ x. column x 0) is) unread

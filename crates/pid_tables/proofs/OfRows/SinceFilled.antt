@@ -68,9 +68,9 @@ are_unnumbered (a ∷ answer) each =
     let one : cast_row item_since a ≡ unnumbered (second a) = ap (cast_row item_since) it.1 ∙ unnumbered_cast it.0 ∙ sym (ap (λ r. unnumbered (second r)) it.1) in
     λ i. one i ∷ are_unnumbered answer (λ b h. each b (inr h)) i
 
-some_behind : (o : Option (List ℕ)) (v : ℕ) → option_map (λ _. 0) o ≡ Some v → (name : List ℕ) × (o ≡ Some name) × (v ≡ 0)
-some_behind None v h = absurd (let bad : ⊥ = cc in bad)
-some_behind (Some name) v h = (name, refl, cc)
+some_after : (o : Option (List ℕ)) (v : ℕ) → option_map (λ _. 0) o ≡ Some v → (name : List ℕ) × (o ≡ Some name) × (v ≡ 0)
+some_after None v h = absurd (let bad : ⊥ = cc in bad)
+some_after (Some name) v h = (name, refl, cc)
 
 pub record Filled (old new : State) (items : Map (List ℕ) (List ℕ)) : Type 0 where
   pub schema : new.now.schema ≡ schema_of Two
@@ -113,7 +113,7 @@ filled old new items has are empty count h =
           | inr was ↦ absurd (subst (λ xs. Has xs x) empty was.0)
         ];
         complete = λ p v maps.
-            let name = some_behind (items p) v maps in
+            let name = some_after (items p) v maps in
             let there = are.complete p name.0 name.1 in
             let out = mapped_has (shown copied []) (passing [] [] stored) (item_row there.0 p name.0) (has_kept (hits [] []) stored (item_row there.0 p name.0) there.1 refl) in
             let text : Has texts p = mapped_has second answer (unnumbered p) (permuted (map (shown copied []) (passing [] [] stored)) answer (unnumbered p) same out) in

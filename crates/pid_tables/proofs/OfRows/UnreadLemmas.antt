@@ -15,16 +15,16 @@ use Rattle.pid_file.specs.declared.path.Path.TheVariants.{Vendor, Device, Subsys
 use Rattle.pid_tables.specs.declared.rows.fault.TableFault.{TableFault}
 use Rattle.pid_tables.specs.declared.rows.fault.TableFault.TheVariants.{Memory, Store, NewerSchema, Damaged}
 use Rattle.pid_tables.specs.Rows.Causes.{IsCaused}
-use Rattle.pid_tables.specs.Rows.Steps.Unread.{IsUnreadable}
+use Rattle.pid_tables.specs.Rows.Steps.Unread.{IsDamagedRow}
 
 -- what is written as it should be is read
-pub caused_unread : {Written : Type 0} (old new : State) (e : TableFault) → Written → IsUnreadable Written e → IsCaused old new e
+pub caused_unread : {Written : Type 0} (old new : State) (e : TableFault) → Written → IsDamagedRow Written e → IsCaused old new e
 caused_unread old new Memory good h = tt
 caused_unread old new Store good h = absurd h
 caused_unread old new (NewerSchema n) good h = absurd h
 caused_unread old new Damaged good h = absurd (h good)
 
-pub unread_more : {Less More : Type 0} (e : TableFault) → (Less → More) → IsUnreadable More e → IsUnreadable Less e
+pub unread_more : {Less More : Type 0} (e : TableFault) → (Less → More) → IsDamagedRow More e → IsDamagedRow Less e
 unread_more Memory f h = tt
 unread_more Store f h = h
 unread_more (NewerSchema n) f h = h

@@ -51,7 +51,7 @@ no_value : {A : Type 0} {Q : Type 0} (stop : Option Error) (a : A) → ◌≡◌
 no_value stop a h = absurd (let bad : ⊥ = cc in bad)
 
 refused : {A : Type 0} (e f : Error) → ◌≡◌ {A = Result A (Option Error)} (Err (Some e)) (Err (Some f)) → IsMemoryOrStore (fault_of_sql f) → IsMemoryOrStore (fault_of_sql e)
-refused e f h untold = let same : e ≡ f = cc in moved e f same untold
+refused e f h only_store = let same : e ≡ f = cc in moved e f same only_store
 
 either : {P Q U : Type 0} (b : Bool) → (P → U) → (Q → U) → MatchBool b P Q → U
 either true p q h = p h
@@ -218,9 +218,9 @@ module _ (schema : Schema) (sql : List ℕ) (params : Row) (old new : State) (ha
     | inr writes ↦ ran h.0 (timed params h.0.formats h.1.now) h.1.is (rw writes at h.2)
   ]
 
-  pub write_untold : ExecutesInside 0 sql params old new (Err e) → IsMemoryOrStore (fault_of_sql e)
-  write_untold (inl h) = runs h.0
-  write_untold (inr h) = moved e _ h.1 (failed code.TransactionState)
+  pub write_only_store : ExecutesInside 0 sql params old new (Err e) → IsMemoryOrStore (fault_of_sql e)
+  write_only_store (inl h) = runs h.0
+  write_only_store (inr h) = moved e _ h.1 (failed code.TransactionState)
 
 -- ---- which texts write
 
@@ -243,8 +243,8 @@ create_writes schema sql table is plain whole defined = known_text sql _ _ is pl
 
 -- the write leads on, or its fault tells nothing
 pub led : {X : Type 0} {P Q : Type 0} (r : Result X TableFault) → (P → Q) → OnOk r P → IfErr r IsMemoryOrStore → MatchResult r (λ _. Q) IsMemoryOrStore
-led (Ok x) f h untold = f h
-led (Err e) f h untold = untold
+led (Ok x) f h only_store = f h
+led (Err e) f h only_store = only_store
 
 -- the same of a call that says at once what became of it
 pub led_on : {X : Type 0} {P Q : Type 0} (r : Result X TableFault) → (P → Q) → MatchResult r (λ _. P) IsMemoryOrStore → MatchResult r (λ _. Q) IsMemoryOrStore

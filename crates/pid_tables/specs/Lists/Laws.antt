@@ -5,10 +5,10 @@ use Rattle.std.specs.FinMap.Entries.{is_sorted}
 use Rattle.pid_ident.specs.Trees.{text_cmp}
 use Rattle.pid_moderation.specs.Views.{Views}
 use Rattle.pid_moderation.specs.Submissions.{Standing}
-use Rattle.pid_moderation.specs.ChangePages.{Changed, changes_in, changed_behind}
+use Rattle.pid_moderation.specs.ChangePages.{Changed, changes_in, changed_after}
 use Rattle.pid_moderation.specs.SubmissionPages.{Search, Listing, sought_in, submissions_of}
 use Rattle.pid_tables.specs.Lists.Pages.{last_of, pages_after, pages_down}
-use Rattle.pid_moderation.specs.PendingPages.{pending_in, waiting_above}
+use Rattle.pid_moderation.specs.PendingPages.{pending_in, pending_above}
 
 -- what a page of pending submissions goes on from
 abbrev pub pending_number : ℕ × Standing → ℕ
@@ -22,39 +22,39 @@ changed_path item = item.path
 -- begins with it
 abbrev pub PendingGoOn : Type 0
 PendingGoOn = (most after : ℕ) (v : Views)
-    → waiting_above (last_of pending_number after (pending_in most after v)) v
-    ≡ drop most (waiting_above after v)
+    → pending_above (last_of pending_number after (pending_in most after v)) v
+    ≡ drop most (pending_above after v)
 
 -- pages one after the other are the first of all that wait: each once, in order
 abbrev pub PendingPagesJoin : Type 0
 PendingPagesJoin = (most count after : ℕ) (v : Views)
     → pages_after pending_number (λ behind. pending_in most behind v) count after
-    ≡ take (count * most) (waiting_above after v)
+    ≡ take (count * most) (pending_above after v)
 
 -- so many pages as have room for them are all of them
 abbrev pub PendingPagesAreAll : Type 0
 PendingPagesAreAll = (most count after : ℕ) (v : Views)
-    → length (waiting_above after v) ≤ count * most
+    → length (pending_above after v) ≤ count * most
     → pages_after pending_number (λ behind. pending_in most behind v) count after
-    ≡ waiting_above after v
+    ≡ pending_above after v
 
 -- what was changed and comes after the last path of a page is all that the page left out
 abbrev pub ChangesGoOn : Type 0
 ChangesGoOn = (most since : ℕ) (after : List ℕ) (v : Views) → is_sorted text_cmp v.items ≡ true
-    → changed_behind since (last_of changed_path after (changes_in most since after v).items) v
-    ≡ drop most (changed_behind since after v)
+    → changed_after since (last_of changed_path after (changes_in most since after v).items) v
+    ≡ drop most (changed_after since after v)
 
 abbrev pub ChangePagesJoin : Type 0
 ChangePagesJoin = (most since count : ℕ) (after : List ℕ) (v : Views)
     → is_sorted text_cmp v.items ≡ true
     → pages_after changed_path (λ behind. (changes_in most since behind v).items) count after
-    ≡ take (count * most) (changed_behind since after v)
+    ≡ take (count * most) (changed_after since after v)
 
 abbrev pub ChangePagesAreAll : Type 0
 ChangePagesAreAll = (most since count : ℕ) (after : List ℕ) (v : Views)
-    → is_sorted text_cmp v.items ≡ true → length (changed_behind since after v) ≤ count * most
+    → is_sorted text_cmp v.items ≡ true → length (changed_after since after v) ≤ count * most
     → pages_after changed_path (λ behind. (changes_in most since behind v).items) count after
-    ≡ changed_behind since after v
+    ≡ changed_after since after v
 
 -- the same search below another number
 abbrev pub search_below : Search → ℕ → Search

@@ -6,7 +6,7 @@ ghost use Rattle.pid_tables.specs.Check.Steps.Clauses.{KeepsTable};
 ghost use Rattle.pid_tables.specs.Check.Steps.Keeping.{KeepsAccounts};
 ghost use Rattle.pid_tables.specs.declared.check.shape.Table.TheVariants as table;
 
-use crate::check::read::{Keeper, keep_rows};
+use crate::check::read::{RowFold, fold_rows};
 use crate::check::shape::Table;
 use crate::check::value::{is_number_at, is_within, text_at};
 use crate::rows::TableFault;
@@ -38,7 +38,7 @@ pub(crate) struct Accounts {
     pub(crate) names: BTreeSet<String>,
 }
 
-impl Keeper for Accounts {
+impl RowFold for Accounts {
     ghost use Rattle.pid_tables.specs.Check.Steps.Keeping.{TakesAccounts};
 
     ghost keeps = { λ first rows it. TakesAccounts rows it };
@@ -74,7 +74,7 @@ pub(crate) fn read_accounts<S: Alter>(
         administrator: false,
         names: BTreeSet::new(alloc),
     };
-    keep_rows(conn, Table::Account, &mut accounts)?;
+    fold_rows(conn, Table::Account, &mut accounts)?;
     accounts.good &= accounts.names.contains("root") & accounts.administrator;
     Ok(accounts)
 }

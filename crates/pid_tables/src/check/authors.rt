@@ -62,7 +62,7 @@ fn place_in(names: &BTreeMap<String, u32>, name: &str) -> Option<u32>
 // The place of a name, which is kept from now on.
 fn place_of(names: &mut BTreeMap<String, u32>, alloc: Global, name: &str) -> Result<u32, TableFault>
     ensures placed { IfOk result (PlacesName names.old names.new name.now) }
-    ensures untold { IfErr result IsMemoryOrStore }
+    ensures only_store { IfErr result IsMemoryOrStore }
 {
     if let Some(place) = place_in(names, name) {
         return Ok(place);
@@ -86,7 +86,7 @@ fn insert_place(
 ) -> Result<(), TableFault>
     ensures added { (n k : ℕ) → OnOk result (HasPlace turn.new.items others.new n k
         ↔ (HasPlace turn.old.items others.old n k ⊎ ((submission ≡ n) × (place ≡ k)))) }
-    ensures untold { IfErr result IsMemoryOrStore }
+    ensures only_store { IfErr result IsMemoryOrStore }
 {
     if submission > 0 && submission - 1 == turn.len() as u64 {
         let pushed = turn.push(place).is_ok();
@@ -105,7 +105,7 @@ fn insert_place(
 pub(crate) fn add_author(authors: &mut Authors, alloc: Global, row: &Row) -> Result<(), TableFault>
     ensures added { (rows : List Values) → AreAuthorsOf authors.old rows
         → OnOk result (AreAuthorsOf authors.new (rows ++ row.now ∷ [])) }
-    ensures untold { IfErr result IsMemoryOrStore }
+    ensures only_store { IfErr result IsMemoryOrStore }
 {
     let Some(submission) = number_at(row, 0) else {
         return Ok(());

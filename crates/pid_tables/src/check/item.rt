@@ -30,7 +30,7 @@ ghost use Rattle.pid_tables.specs.Check.Steps.Keeping.{KeepsItems};
 ghost use Rattle.pid_tables.specs.declared.check.shape.Table.TheVariants as table;
 ghost use Rattle.pid_tables.specs.Rows.Faults.{IsMemoryOrStore};
 
-use crate::check::read::{Keeper, keep_rows, one_more};
+use crate::check::read::{RowFold, checked_next, fold_rows};
 use crate::check::shape::Table;
 use crate::check::words::{has_name, path_at};
 use crate::rows::TableFault;
@@ -45,7 +45,7 @@ pub(crate) fn add_path(paths: &mut BTreeSet<Path>, row: &Row) -> Result<bool, Ta
     ensures added { (rows : List Values) → ArePathsOf paths.old rows
         → OnOk result (ArePathsOf paths.new (rows ++ row.now ∷ [])) }
     ensures there { IfOk result (λ there. IsTrue there ↔ HasPath row.now) }
-    ensures untold { IfErr result IsMemoryOrStore }
+    ensures only_store { IfErr result IsMemoryOrStore }
 {
     match path_at(row, 0) {
         None => Ok(false),
@@ -100,13 +100,13 @@ pub(crate) struct Items {
     pub(crate) paths: BTreeSet<Path>,
 }
 
-impl Keeper for Items {
+impl RowFold for Items {
     ghost use Rattle.pid_tables.specs.Check.Steps.Keeping.{TakesItems};
 
     ghost keeps = { λ first rows it. TakesItems rows it };
 
     fn keep(&mut self, row: &Row) -> Result<(), TableFault> {
-        self.count = one_more(self.count)?;
+        self.count = checked_next(self.count)?;
         let has_path = add_path(&mut self.paths, row)?;
         self.good &= is_item_row(row, has_path);
         Ok(())
@@ -128,7 +128,7 @@ pub(crate) fn read_items<S: Alter>(
         count: 0,
         paths: BTreeSet::new(alloc),
     };
-    keep_rows(conn, Table::Item, &mut items)?;
+    fold_rows(conn, Table::Item, &mut items)?;
     items.good &= (items.count <= ITEMS as u64) & hold_parents(&items.paths);
     Ok(items)
 }

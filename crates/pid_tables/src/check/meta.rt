@@ -27,10 +27,10 @@ ghost use Rattle.pid_tables.specs.Check.Steps.Labels.{
   IsToldOfLabel,
   TakesLabels,
 };
-ghost use Rattle.pid_tables.specs.declared.check.meta.Told.TheVariants.{Never, Once};
+ghost use Rattle.pid_tables.specs.declared.check.meta.Occurrence.TheVariants.{Never, Once};
 ghost use Rattle.pid_tables.specs.declared.check.shape.Table.TheVariants as table;
 
-use crate::check::read::{Keeper, keep_rows};
+use crate::check::read::{RowFold, fold_rows};
 use crate::check::shape::Table;
 use crate::check::value::{is_text_at, number_at};
 use crate::rows::{LATEST, TableFault, Version};
@@ -71,14 +71,14 @@ fn later_so_far(found: Option<u64>, row: &Row) -> Option<u64>
 
 /// What rows say of a label: no number, one, or several.
 #[derive(Clone, Copy)]
-pub(crate) enum Told {
+pub(crate) enum Occurrence {
     Never,
     Once(u64),
     Several,
 }
 
 // What the rows say of a label, with one more.
-fn told_so_far(told: Told, label: &str, row: &Row) -> Told
+fn occurrence_so_far(told: Occurrence, label: &str, row: &Row) -> Occurrence
     ensures { (rows : List Values) → IsToldOfLabel label.now rows told
         → IsToldOfLabel label.now (rows ++ row.now ∷ []) result }
 {
@@ -86,33 +86,33 @@ fn told_so_far(told: Told, label: &str, row: &Row) -> Told
         return told;
     };
     match told {
-        Told::Never => Told::Once(number),
-        Told::Once(one) => if one == number {
-            Told::Once(one)
+        Occurrence::Never => Occurrence::Once(number),
+        Occurrence::Once(one) => if one == number {
+            Occurrence::Once(one)
         } else {
-            Told::Several
+            Occurrence::Several
         },
-        Told::Several => Told::Several,
+        Occurrence::Several => Occurrence::Several,
     }
 }
 
-fn is_never(told: Told) -> bool
+fn is_never(told: Occurrence) -> bool
     ensures { IsTrue result ↔ (told ≡ Never) }
 {
     match told {
-        Told::Never => true,
-        Told::Once(_) => false,
-        Told::Several => false,
+        Occurrence::Never => true,
+        Occurrence::Once(_) => false,
+        Occurrence::Several => false,
     }
 }
 
-fn is_once(told: Told, number: u64) -> bool
+fn is_once(told: Occurrence, number: u64) -> bool
     ensures { IsTrue result ↔ (told ≡ Once number) }
 {
     match told {
-        Told::Never => false,
-        Told::Once(one) => one == number,
-        Told::Several => false,
+        Occurrence::Never => false,
+        Occurrence::Once(one) => one == number,
+        Occurrence::Several => false,
     }
 }
 
@@ -140,13 +140,13 @@ fn is_label(row: &Row) -> bool
 pub(crate) struct Labels {
     good: bool,
     pub(crate) later: Option<u64>,
-    schema: Told,
-    items: Told,
-    submissions: Told,
-    revision: Told,
+    schema: Occurrence,
+    items: Occurrence,
+    submissions: Occurrence,
+    revision: Occurrence,
 }
 
-impl Keeper for Labels {
+impl RowFold for Labels {
     ghost use Rattle.pid_tables.specs.Check.Steps.Labels.{TakesLabels};
 
     ghost keeps = { λ first rows it. TakesLabels rows it };
@@ -154,10 +154,10 @@ impl Keeper for Labels {
     fn keep(&mut self, row: &Row) -> Result<(), TableFault> {
         self.good &= is_label(row);
         self.later = later_so_far(self.later, row);
-        self.schema = told_so_far(self.schema, "schema", row);
-        self.items = told_so_far(self.items, "items", row);
-        self.submissions = told_so_far(self.submissions, "submissions", row);
-        self.revision = told_so_far(self.revision, "revision", row);
+        self.schema = occurrence_so_far(self.schema, "schema", row);
+        self.items = occurrence_so_far(self.items, "items", row);
+        self.submissions = occurrence_so_far(self.submissions, "submissions", row);
+        self.revision = occurrence_so_far(self.revision, "revision", row);
         Ok(())
     }
 }
@@ -172,12 +172,12 @@ pub(crate) fn read_labels<S: Alter>(conn: &mut Connection<S>) -> Result<Labels, 
     let mut labels = Labels {
         good: true,
         later: None,
-        schema: Told::Never,
-        items: Told::Never,
-        submissions: Told::Never,
-        revision: Told::Never,
+        schema: Occurrence::Never,
+        items: Occurrence::Never,
+        submissions: Occurrence::Never,
+        revision: Occurrence::Never,
     };
-    keep_rows(conn, Table::Meta, &mut labels)?;
+    fold_rows(conn, Table::Meta, &mut labels)?;
     Ok(labels)
 }
 
@@ -187,9 +187,9 @@ pub(crate) fn revision_told(labels: Labels) -> u64
     ensures told { (n : ℕ) → n ≤ most_revision → labels.revision ≡ Once n → result ≡ n }
 {
     match labels.revision {
-        Told::Never => 0,
-        Told::Once(number) => { if number <= REVISIONS { number } else { 0 } }
-        Told::Several => 0,
+        Occurrence::Never => 0,
+        Occurrence::Once(number) => { if number <= REVISIONS { number } else { 0 } }
+        Occurrence::Several => 0,
     }
 }
 

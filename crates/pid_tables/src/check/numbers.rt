@@ -42,7 +42,7 @@ pub(crate) fn no_numbers(alloc: Global) -> Numbers
 pub(crate) fn add_number(numbers: &mut Numbers, row: &Row) -> Result<(), TableFault>
     ensures added { (rows : List Values) → AreNumbersOf numbers.old rows
         → OnOk result (AreNumbersOf numbers.new (rows ++ row.now ∷ [])) }
-    ensures untold { IfErr result IsMemoryOrStore }
+    ensures only_store { IfErr result IsMemoryOrStore }
 {
     let Some(num) = number_at(row, 0) else {
         return Ok(());

@@ -10,7 +10,7 @@ use crate::rows::TableFault;
 use sqlite::{Alter, Connection, Row};
 
 /// Keeps of rows what judging them needs.
-pub(crate) trait Keeper {
+pub(crate) trait RowFold {
     ghost use Rattle.std.specs.Prelude.{List};
     ghost use Rattle.sqlite.specs.Order.{Row as Values};
 
@@ -21,11 +21,11 @@ pub(crate) trait Keeper {
     fn keep(&mut self, row: &Row) -> Result<(), TableFault>
         ensures kept { (first : Self) (rows : List Values) → keeps first rows self.old
             → OnOk result (keeps first (rows ++ row.now ∷ []) self.new) }
-        ensures untold { IfErr result IsMemoryOrStore };
+        ensures only_store { IfErr result IsMemoryOrStore };
 }
 
 /// Hands each row of a table to a keeper, in some order: no list of them is made.
-pub(crate) fn keep_rows<S: Alter, K: Keeper>(
+pub(crate) fn fold_rows<S: Alter, K: RowFold>(
     conn: &mut Connection<S>,
     table: Table,
     keeper: &mut K,
@@ -49,9 +49,9 @@ pub(crate) fn keep_rows<S: Alter, K: Keeper>(
 }
 
 /// The count of rows with one more.
-pub(crate) fn one_more(count: u64) -> Result<u64, TableFault>
+pub(crate) fn checked_next(count: u64) -> Result<u64, TableFault>
     ensures next { IfOk result (λ next. next ≡ suc count) }
-    ensures untold { IfErr result IsMemoryOrStore }
+    ensures only_store { IfErr result IsMemoryOrStore }
 {
     match count.checked_add(1) {
         Some(next) => Ok(next),

@@ -17,7 +17,7 @@ ghost use Rattle.pid_tables.specs.Check.Steps.AuthorSets.{
 };
 
 use crate::check::authors::{Authors, is_by};
-use crate::check::read::{Keeper, keep_rows};
+use crate::check::read::{RowFold, fold_rows};
 use crate::check::shape::Table;
 use crate::check::value::{is_number_at, number_at, text_at};
 use crate::rows::TableFault;
@@ -25,7 +25,7 @@ use pid_ident::{is_account, is_key};
 use pid_moderation::ITEMS;
 use sqlite::{Alter, Connection, Row};
 
-fn fits(added: u64, renamed: u64, same: u64) -> bool
+fn sums_within_limit(added: u64, renamed: u64, same: u64) -> bool
     ensures { IsTrue result ↔ (added + renamed + same ≤ 100000) }
 {
     let most = ITEMS as u64;
@@ -41,7 +41,7 @@ fn has_counts(row: &Row) -> bool
             None => false,
             Some(renamed) => match number_at(row, 5) {
                 None => false,
-                Some(same) => fits(added, renamed, same),
+                Some(same) => sums_within_limit(added, renamed, same),
             },
         },
     }
@@ -116,12 +116,12 @@ fn is_receipt_row(row: &Row, authors: &Authors) -> bool
 
 // Whether the receipts so far go with the authors.
 #[derive(Drop)]
-struct ReceiptKeeper<'a> {
+struct ReceiptFold<'a> {
     authors: &'a Authors,
     good: bool,
 }
 
-impl Keeper for ReceiptKeeper<'_> {
+impl RowFold for ReceiptFold<'_> {
     ghost use Rattle.pid_tables.specs.Check.Steps.Keeping.{TakesReceipts};
 
     ghost keeps = { TakesReceipts };
@@ -143,10 +143,10 @@ pub(crate) fn read_receipts<S: Alter>(
     ensures keeps { KeepsTable S.Store conn.old conn.new result table.Receipt
         (AreOfAuthors authors.now) }
 {
-    let mut keeper = ReceiptKeeper {
+    let mut keeper = ReceiptFold {
         authors,
         good: true,
     };
-    keep_rows(conn, Table::Receipt, &mut keeper)?;
+    fold_rows(conn, Table::Receipt, &mut keeper)?;
     Ok(keeper.good)
 }

@@ -14,7 +14,7 @@ ghost use Rattle.pid_tables.specs.Check.Steps.PlaceSets.{
 };
 ghost use Rattle.pid_tables.specs.Rows.Faults.{IsMemoryOrStore};
 
-use crate::check::read::{Keeper, keep_rows};
+use crate::check::read::{RowFold, fold_rows};
 use crate::check::shape::Table;
 use crate::check::value::{has_number, has_words, number_at};
 use crate::check::words::has_filled_text;
@@ -28,7 +28,7 @@ use std::collections::BTreeSet;
 fn add_place(places: &mut BTreeSet<(u64, u64)>, row: &Row) -> Result<(), TableFault>
     ensures added { (rows : List Values) → ArePlacesOf places.old rows
         → OnOk result (ArePlacesOf places.new (rows ++ row.now ∷ [])) }
-    ensures untold { IfErr result IsMemoryOrStore }
+    ensures only_store { IfErr result IsMemoryOrStore }
 {
     let Some(submission) = number_at(row, 0) else {
         return Ok(());
@@ -87,12 +87,12 @@ fn is_remark_row(row: &Row) -> bool
 
 // What judging the remarks takes of the rows so far: `good` says whether each alone is a remark's.
 #[derive(Drop)]
-struct RemarkKeeper {
+struct RemarkFold {
     good: bool,
     places: BTreeSet<(u64, u64)>,
 }
 
-impl Keeper for RemarkKeeper {
+impl RowFold for RemarkFold {
     ghost use Rattle.pid_tables.specs.Check.Steps.Keeping.{TakesRemarks};
 
     ghost keeps = { λ first rows it. TakesRemarks rows it };
@@ -114,10 +114,10 @@ pub(crate) fn read_remarks<S: Alter>(
     ensures keeps { KeepsTable S.Store conn.old conn.new result table.Remark
         (IsPartJudged AreRemarks) }
 {
-    let mut keeper = RemarkKeeper {
+    let mut keeper = RemarkFold {
         good: true,
         places: BTreeSet::new(alloc),
     };
-    keep_rows(conn, Table::Remark, &mut keeper)?;
+    fold_rows(conn, Table::Remark, &mut keeper)?;
     Ok(keeper.good & follow_each(&keeper.places))
 }

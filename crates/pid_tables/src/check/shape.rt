@@ -40,7 +40,7 @@ use sqlite::{Alter, Connection, Error};
 // No text is refused as damage but one that is not understood.
 fn unasked(error: Error) -> Result<bool, TableFault>
     ensures refused { IfOk result (λ asked. (asked ≡ false) × (fault_of_sql error ≡ Damaged)) }
-    ensures untold { IfErr result IsMemoryOrStore }
+    ensures only_store { IfErr result IsMemoryOrStore }
     ensures told { IfErr result (λ fault. fault ≡ fault_of_sql error) }
 {
     match TableFault::from(error) {
@@ -59,7 +59,7 @@ pub(crate) fn can_ask<S: Alter>(conn: &mut Connection<S>, sql: &str) -> Result<b
         → IfOk result (λ asked. IsTrue asked ↔ CanBeAsked (seen S.Store conn.old).schema sql.now) }
     ensures was_open { HasCleanDisk S.Store conn.new
         → OnOk result (IsTrue (is_open S.Store conn.old)) }
-    ensures untold { IfErr result IsMemoryOrStore }
+    ensures only_store { IfErr result IsMemoryOrStore }
     ensures caused { HasCleanDisk S.Store conn.new → (v : Views) → AtRest S.Store conn.old v
         → IsQuery pid_schema sql.now [] → IfErr result (IsCaused S.Store conn.old conn.new) }
 {
@@ -137,7 +137,7 @@ pub(crate) fn some_can<S: Alter>(
         tables.now) }
     ensures was_open { HasCleanDisk S.Store conn.new → 0 < length tables.now
         → OnOk result (IsTrue (is_open S.Store conn.old)) }
-    ensures untold { IfErr result IsMemoryOrStore }
+    ensures only_store { IfErr result IsMemoryOrStore }
     ensures caused { HasCleanDisk S.Store conn.new → (v : Views) → AtRest S.Store conn.old v
         → IfErr result (IsCaused S.Store conn.old conn.new) }
 {
@@ -167,7 +167,7 @@ pub(crate) fn tables_of<S: Alter>(conn: &mut Connection<S>) -> Result<Option<Ver
         → IfOk result (λ found. (seen S.Store conn.new) ≡ (seen S.Store conn.old)) }
     ensures found { HasCleanDisk S.Store conn.new → HasEachTable (seen S.Store conn.old).schema
         → IfOk result (λ found. HasTablesOf found (seen S.Store conn.old).schema) }
-    ensures untold { IfErr result IsMemoryOrStore }
+    ensures only_store { IfErr result IsMemoryOrStore }
 {
     if !can_ask(conn, ANY_SINCE)? {
         return Ok(Some(Version::One));

@@ -8,7 +8,7 @@ ghost use Rattle.pid_tables.specs.Check.Steps.Keeping.{GoWith};
 ghost use Rattle.pid_tables.specs.declared.check.shape.Table.TheVariants as table;
 
 use crate::check::item::add_path;
-use crate::check::read::{Keeper, keep_rows};
+use crate::check::read::{RowFold, fold_rows};
 use crate::check::shape::Table;
 use crate::check::value::is_within;
 use crate::rows::TableFault;
@@ -32,13 +32,13 @@ fn is_since_row(row: &Row, has_path: bool, revision: u64) -> bool
 
 // What judging the numbers takes of the rows so far.
 #[derive(Drop)]
-struct SinceKeeper {
+struct SinceFold {
     revision: u64,
     good: bool,
     paths: BTreeSet<Path>,
 }
 
-impl Keeper for SinceKeeper {
+impl RowFold for SinceFold {
     ghost use Rattle.pid_tables.specs.Check.Steps.Keeping.{TakesSinces};
 
     ghost keeps = { TakesSinces };
@@ -63,11 +63,11 @@ pub(crate) fn read_sinces<S: Alter>(
     ensures keeps { KeepsTable S.Store conn.old conn.new result table.Since
         (GoWith items.now revision) }
 {
-    let mut keeper = SinceKeeper {
+    let mut keeper = SinceFold {
         revision,
         good: true,
         paths: BTreeSet::new(alloc),
     };
-    keep_rows(conn, Table::Since, &mut keeper)?;
+    fold_rows(conn, Table::Since, &mut keeper)?;
     Ok(keeper.good & items.is_subset(&keeper.paths))
 }

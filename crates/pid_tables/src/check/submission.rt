@@ -28,7 +28,7 @@ ghost use Rattle.pid_tables.specs.declared.check.shape.Table.TheVariants as tabl
 
 use crate::check::authors::{Authors, add_author, no_authors};
 use crate::check::numbers::{Numbers, add_number, count_from_one, no_numbers};
-use crate::check::read::{Keeper, keep_rows, one_more};
+use crate::check::read::{RowFold, checked_next, fold_rows};
 use crate::check::shape::Table;
 use crate::check::value::{is_text_at, number_at, text_at};
 use crate::check::words::{has_filled_text, has_name, has_path, has_text};
@@ -130,7 +130,7 @@ fn fit_row(fit: Fit, row: &Row, names: &BTreeSet<String>) -> Fit
 
 // What judging the submissions takes of the rows so far.
 #[derive(Drop)]
-struct SubmissionKeeper<'a> {
+struct SubmissionFold<'a> {
     names: &'a BTreeSet<String>,
     alloc: Global,
     count: u64,
@@ -139,13 +139,13 @@ struct SubmissionKeeper<'a> {
     authors: Authors,
 }
 
-impl Keeper for SubmissionKeeper<'_> {
+impl RowFold for SubmissionFold<'_> {
     ghost use Rattle.pid_tables.specs.Check.Steps.Keeping.{TakesSubmissions};
 
     ghost keeps = { TakesSubmissions };
 
     fn keep(&mut self, row: &Row) -> Result<(), TableFault> {
-        self.count = one_more(self.count)?;
+        self.count = checked_next(self.count)?;
         self.fit = fit_row(self.fit, row, self.names);
         add_number(&mut self.numbers, row)?;
         add_author(&mut self.authors, self.alloc, row)?;
@@ -173,7 +173,7 @@ pub(crate) fn read_submissions<S: Alter>(
     ensures keeps { KeepsTable S.Store conn.old conn.new result table.Submission
         (KeepsSubmissions names.now) }
 {
-    let mut keeper = SubmissionKeeper {
+    let mut keeper = SubmissionFold {
         names,
         alloc,
         count: 0,
@@ -184,7 +184,7 @@ pub(crate) fn read_submissions<S: Alter>(
         numbers: no_numbers(alloc),
         authors: no_authors(alloc),
     };
-    keep_rows(conn, Table::Submission, &mut keeper)?;
+    fold_rows(conn, Table::Submission, &mut keeper)?;
     let fits = keeper.fit.good & (keeper.fit.greatest <= keeper.count);
     Ok(Submissions {
         good: fits & count_from_one(&keeper.numbers, keeper.count),

@@ -5,7 +5,7 @@ ghost use Rattle.pid_tables.specs.declared.rows.fault.TableFault.TheVariants as 
 use crate::rows::TableFault;
 
 // Adds an element after the last one.
-pub(crate) fn put_last<T: Drop>(list: &mut Vec<T>, element: T) -> Result<(), TableFault>
+pub(crate) fn push_last<T: Drop>(list: &mut Vec<T>, element: T) -> Result<(), TableFault>
     ensures items { OnOk result (list.new.items ≡ list.old.items ++ element ∷ []) }
     ensures full { IfErr result (λ fault. fault ≡ faults.Memory) }
 {

@@ -28,7 +28,7 @@ ghost use Rattle.pid_tables.specs.Lists.Steps.ChangeRows.{
   held as held_number,
 };
 
-use crate::lists::adding::put_last;
+use crate::lists::adding::push_last;
 use crate::lists::paths::text_or_empty;
 use crate::rows::TableFault;
 use crate::rows::run::read_rows;
@@ -41,7 +41,7 @@ use sqlite::{Alter, Row};
 use std::alloc::Global;
 
 // A number as a query asks for it: for one that SQLite does not hold, the greatest that it holds.
-fn held<'a>(whole: u64) -> ValueRef<'a>
+fn clamp_to_i64<'a>(whole: u64) -> ValueRef<'a>
     ensures { owned result ≡ number (held_number whole) }
 {
     match i64::try_from(whole) {
@@ -67,7 +67,7 @@ impl<S: Alter + Drop> Tables<S> {
         let path = path_at(row, 0)?;
         let since = whole_at(row, 1)?;
         match self.item(alloc, &path)? {
-            Some(name) => put_last(items, ChangedItem { path, name, since }),
+            Some(name) => push_last(items, ChangedItem { path, name, since }),
             None => Err(TableFault::Damaged),
         }
     }
@@ -108,7 +108,7 @@ impl<S: Alter + Drop> Tables<S> {
         let revision = self.revision()?;
         let start = text_or_empty(alloc, after)?;
         let after = start.as_str().to_sql();
-        let since = held(since);
+        let since = clamp_to_i64(since);
         let rows = read_rows(
             &mut self.conn,
             "SELECT path, since FROM item_since WHERE path > ?1 AND since > ?2 ORDER BY path LIMIT 100",

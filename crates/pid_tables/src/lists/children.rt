@@ -18,7 +18,7 @@ ghost use Rattle.pid_moderation.specs.WellMade.{IsItem, AllItems};
 ghost use Rattle.pid_reader.specs.LookingBack.{Item as Pair};
 ghost use Rattle.pid_tables.specs.Rows.Steps.Answers.{item_shown};
 ghost use Rattle.pid_moderation.specs.ItemPairs.{pair_of};
-ghost use Rattle.pid_tables.specs.Rows.Steps.Unread.{IsUnreadable};
+ghost use Rattle.pid_tables.specs.Rows.Steps.Unread.{IsDamagedRow};
 ghost use Rattle.pid_tables.specs.Rows.Shows.{AreViews};
 ghost use Rattle.pid_moderation.specs.Children.{children_of};
 ghost use Rattle.pid_tables.specs.Lists.Steps.Adding.{Adds};
@@ -26,7 +26,7 @@ ghost use Rattle.pid_tables.specs.Lists.Steps.Children.{children_among, under};
 ghost use Rattle.pid_tables.specs.Lists.Children.{AreChildren};
 ghost use Rattle.pid_tables.specs.Rows.Clauses.{Reads};
 
-use crate::lists::adding::put_last;
+use crate::lists::adding::push_last;
 use crate::lists::walk::EachEnd;
 use crate::rows::TableFault;
 use crate::rows::item::{item_of, range_below};
@@ -52,11 +52,11 @@ fn is_child(item: Path, path: Path) -> bool
 fn add_child(kept: &mut Vec<Item>, row: &Row, alloc: Global, path: Path) -> Result<(), TableFault>
     ensures { (e : Pair) → row.now ≡ item_shown e → MatchResult result
         (λ _. Adds pair_of kept.old.items kept.new.items (children_among path (e ∷ [])))
-        (IsUnreadable (IsItem e.0 e.1)) }
+        (IsDamagedRow (IsItem e.0 e.1)) }
 {
     let item = item_of(row, alloc)?;
     if is_child(item.path, path) {
-        put_last(kept, item)
+        push_last(kept, item)
     } else {
         Ok(())
     }
@@ -70,7 +70,7 @@ fn add_children(
 ) -> Result<(), TableFault>
     ensures { (items : Items) → rows.now ≡ map item_shown items → MatchResult result
         (λ _. Adds pair_of kept.old.items kept.new.items (children_among path items))
-        (IsUnreadable (AllItems items)) }
+        (IsDamagedRow (AllItems items)) }
 {
     for row in rows {
         add_child(kept, row, alloc, path)?;
@@ -131,7 +131,7 @@ impl Sink for Tops {
             None => {
                 let name = Name::of_checked(self.alloc, entry.name)?;
                 let path = entry.path;
-                put_last(&mut self.kept, Item { path, name })
+                push_last(&mut self.kept, Item { path, name })
             }
         }
     }

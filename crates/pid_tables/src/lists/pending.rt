@@ -12,7 +12,7 @@ ghost use Rattle.std.specs.Prelude.{
 ghost use Rattle.std.specs.List.{AllByRecursion};
 ghost use Rattle.sqlite.specs.Held.{state};
 ghost use Rattle.pid_moderation.specs.Views.{Views};
-ghost use Rattle.pid_tables.specs.Rows.Steps.Unread.{IsUnreadable};
+ghost use Rattle.pid_tables.specs.Rows.Steps.Unread.{IsDamagedRow};
 ghost use Rattle.pid_moderation.specs.Submissions.{Standing};
 ghost use Rattle.pid_moderation.specs.PendingPages.{pending_in, told_of};
 ghost use Rattle.pid_tables.specs.Lists.ByNumber.{standings_at};
@@ -24,7 +24,7 @@ ghost use Rattle.pid_tables.specs.Lists.Steps.PendingRows.{
 };
 ghost use Rattle.pid_tables.specs.Rows.Clauses.{Reads};
 
-use crate::lists::adding::put_last;
+use crate::lists::adding::push_last;
 use crate::rows::TableFault;
 use crate::rows::run::read_rows;
 use crate::rows::submission::{standing, submission_of};
@@ -38,18 +38,18 @@ use std::alloc::Global;
 fn add_pending(page: &mut Vec<Pending>, row: &Row, alloc: Global) -> Result<(), TableFault>
     ensures { (v : Views) (s : ℕ × Standing) → IsPendingIn v s row.now → MatchResult result
         (λ _. Adds told_of page.old.items page.new.items (s ∷ []))
-        (IsUnreadable (IsReadablePending s)) }
+        (IsDamagedRow (IsReadablePending s)) }
 {
     pid_ident::laws::texts_have_one_path(); // proof only
     let number = number_at(row, 8)?;
     let submission = submission_of(row, alloc)?;
-    put_last(page, Pending { number, submission })
+    push_last(page, Pending { number, submission })
 }
 
 fn page_of(rows: &[Row], alloc: Global) -> Result<Vec<Pending>, TableFault>
     ensures { (v : Views) (all : List (ℕ × Standing)) → ArePendingIn v all rows.now
         → MatchResult result (λ page. map told_of page.items ≡ all)
-        (IsUnreadable (AllByRecursion IsReadablePending all)) }
+        (IsDamagedRow (AllByRecursion IsReadablePending all)) }
 {
     let mut page = Vec::new(alloc);
     for row in rows {
@@ -71,7 +71,7 @@ fn add_numbered<S: Alter>(
 {
     match standing(conn, alloc, number)? {
         None => Ok(()),
-        Some(submission) => put_last(page, Pending { number, submission }),
+        Some(submission) => push_last(page, Pending { number, submission }),
     }
 }
 

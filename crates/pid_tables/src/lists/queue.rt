@@ -6,7 +6,7 @@ ghost use Rattle.pid_tables.specs.Rows.Clauses.{Reads};
 ghost use Rattle.pid_tables.specs.Lists.ByNumber.{standings_at};
 ghost use Rattle.pid_tables.specs.Lists.Steps.Adding.{Adds};
 
-use crate::lists::adding::put_last;
+use crate::lists::adding::push_last;
 use crate::rows::TableFault;
 use crate::rows::remark::remark_count;
 use crate::tables::Tables;
@@ -44,7 +44,7 @@ impl<S: Alter + Drop> Tables<S> {
                         now,
                         remarks,
                     };
-                    put_last(queue, queued)
+                    push_last(queue, queued)
                 }
             },
         }

@@ -19,12 +19,12 @@ ghost use Rattle.pid_moderation.specs.RemarkPages.{
   remark_page_in,
   remark_page_of,
 };
-ghost use Rattle.pid_tables.specs.Rows.Steps.Unread.{IsUnreadable};
+ghost use Rattle.pid_tables.specs.Rows.Steps.Unread.{IsDamagedRow};
 ghost use Rattle.pid_tables.specs.Rows.Clauses.{Reads};
 ghost use Rattle.pid_tables.specs.Lists.Steps.Adding.{Adds};
 ghost use Rattle.pid_tables.specs.Lists.Steps.RemarkRows.{IsReadablePlaced, placed_row};
 
-use crate::lists::adding::put_last;
+use crate::lists::adding::push_last;
 use crate::rows::TableFault;
 use crate::rows::remark::{comment_of, remark_count};
 use crate::rows::run::read_rows;
@@ -39,17 +39,17 @@ use std::alloc::Global;
 fn add_remark(page: &mut Vec<PlacedRemark>, row: &Row, alloc: Global) -> Result<(), TableFault>
     ensures { (p : ℕ × Remark) → row.now ≡ placed_row p → MatchResult result
         (λ _. Adds placed_of page.old.items page.new.items (p ∷ []))
-        (IsUnreadable (IsReadablePlaced p)) }
+        (IsDamagedRow (IsReadablePlaced p)) }
 {
     let place = number_at(row, 2)?;
     let remark = comment_of(row, alloc)?;
-    put_last(page, PlacedRemark { place, remark })
+    push_last(page, PlacedRemark { place, remark })
 }
 
 fn remarks_of(rows: &[Row], alloc: Global) -> Result<Vec<PlacedRemark>, TableFault>
     ensures { (all : List (ℕ × Remark)) → rows.now ≡ map placed_row all
         → MatchResult result (λ page. map placed_of page.items ≡ all)
-        (IsUnreadable (AllByRecursion IsReadablePlaced all)) }
+        (IsDamagedRow (AllByRecursion IsReadablePlaced all)) }
 {
     let mut page = Vec::new(alloc);
     for row in rows {

@@ -5,11 +5,11 @@ ghost use Rattle.pid_moderation.specs.Views.{Remark};
 ghost use Rattle.pid_tables.specs.Rows.Steps.Answers.{remark_shown};
 ghost use Rattle.pid_tables.specs.Rows.Causes.{IsReadableRemark};
 ghost use Rattle.pid_moderation.specs.Submissions.{remark_of, discussion_in, discussion_of};
-ghost use Rattle.pid_tables.specs.Rows.Steps.Unread.{IsUnreadable};
+ghost use Rattle.pid_tables.specs.Rows.Steps.Unread.{IsDamagedRow};
 ghost use Rattle.pid_tables.specs.Rows.Clauses.{Reads};
 ghost use Rattle.pid_tables.specs.Lists.Steps.Adding.{Adds};
 
-use crate::lists::adding::put_last;
+use crate::lists::adding::push_last;
 use crate::rows::TableFault;
 use crate::rows::remark::comment_of;
 use crate::rows::run::read_rows;
@@ -23,16 +23,16 @@ use std::alloc::Global;
 fn add_comment(comments: &mut Vec<Comment>, row: &Row, alloc: Global) -> Result<(), TableFault>
     ensures { (remark : Remark) → row.now ≡ remark_shown remark
         → MatchResult result (λ _. Adds remark_of comments.old.items comments.new.items
-        (remark ∷ [])) (IsUnreadable (IsReadableRemark remark)) }
+        (remark ∷ [])) (IsDamagedRow (IsReadableRemark remark)) }
 {
     let comment = comment_of(row, alloc)?;
-    put_last(comments, comment)
+    push_last(comments, comment)
 }
 
 fn comments_of(rows: &[Row], alloc: Global) -> Result<Vec<Comment>, TableFault>
     ensures { (remarks : List Remark) → rows.now ≡ map remark_shown remarks
         → MatchResult result (λ comments. map remark_of comments.items ≡ remarks)
-        (IsUnreadable (AllByRecursion IsReadableRemark remarks)) }
+        (IsDamagedRow (AllByRecursion IsReadableRemark remarks)) }
 {
     let mut comments = Vec::new(alloc);
     for row in rows {

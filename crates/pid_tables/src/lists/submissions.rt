@@ -21,7 +21,7 @@ ghost use Rattle.pid_tables.specs.Lists.Steps.SubmissionRows.{
   numbers_among,
 };
 
-use crate::lists::adding::put_last;
+use crate::lists::adding::push_last;
 use crate::lists::paths::text_or_empty;
 use crate::rows::TableFault;
 use crate::rows::remark::remark_count;
@@ -89,7 +89,7 @@ fn add_listed<S: Alter>(
                 submission,
                 remarks,
             };
-            put_last(page, found)
+            push_last(page, found)
         }
     }
 }

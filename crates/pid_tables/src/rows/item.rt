@@ -13,7 +13,7 @@ ghost use Rattle.pid_tables.specs.Rows.TableRows.{number};
 ghost use Rattle.pid_ident.specs.PathTexts.{path_text};
 ghost use Rattle.pid_moderation.specs.WellMade.{AllItems, HoldsParents};
 ghost use Rattle.pid_tables.specs.Rows.Shows.{AreViews};
-ghost use Rattle.pid_tables.specs.Rows.Steps.Unread.{IsUnreadable, ReadsAsItem};
+ghost use Rattle.pid_tables.specs.Rows.Steps.Unread.{IsDamagedRow, ReadsAsItem};
 ghost use Rattle.pid_tables.specs.Rows.Writes.{with_name};
 ghost use Rattle.pid_tables.specs.Rows.Steps.Writes.{without_item};
 ghost use Rattle.pid_tables.specs.Rows.Clauses.{Reads};
@@ -203,7 +203,7 @@ pub fn has_children<S: Alter>(
 pub fn item_of(row: &Row, alloc: Global) -> Result<Item, TableFault>
     ensures path { IfOk result (λ item. column row.now 0 ≡ TextValue (path_text item.path)) }
     ensures name { IfOk result (λ item. column row.now 1 ≡ TextValue item.name) }
-    ensures unread { IfErr result (IsUnreadable (ReadsAsItem row.now)) }
+    ensures unread { IfErr result (IsDamagedRow (ReadsAsItem row.now)) }
 {
     let path = path_at(row, 0)?;
     let name = name_at(row, alloc, 1)?;

@@ -97,7 +97,7 @@ pub fn set_revision<S: Alter>(tx: &mut Transaction<'_, S>, revision: u64) -> Res
 
 /// Reads one row and drops it: an answer of `Ok` means that the connection is open and the
 /// transaction goes on.
-pub fn touch<S: Alter>(tx: &mut Transaction<'_, S>) -> Result<(), TableFault>
+pub fn probe_transaction<S: Alter>(tx: &mut Transaction<'_, S>) -> Result<(), TableFault>
     ensures same_reference { tx.new.conn.ghost_name ≡ tx.old.conn.ghost_name }
     ensures goes { GoesOn S.Store tx.old.conn.now tx.new.conn.now result }
     ensures shows { ChangesTo S.Store tx.old.conn.now tx.new.conn.now result (λ v. Unit {0})
@@ -115,7 +115,7 @@ fn value_rows<S: Alter>(conn: &mut Connection<S>, label: &str) -> Result<Vec<Row
         ≡ option_map value_row (meta_of (counts_of v) v.revision label.now)) }
     ensures shows { HasCleanDisk S.Store conn.new
         → IfOk result (λ rows. ShowsValues (seen S.Store conn.old) label.now rows.items) }
-    ensures untold { HasCleanDisk S.Store conn.new → (query : Compiled)
+    ensures only_store { HasCleanDisk S.Store conn.new → (query : Compiled)
         → understood (seen S.Store conn.old).schema value_text ≡ Ok query
         → IfErr result IsMemoryOrStore }
     ensures never { IfErr result IsNotNewerSchema }

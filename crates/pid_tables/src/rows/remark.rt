@@ -2,7 +2,7 @@
 ghost use Rattle.std.specs.Prelude.{◌≡◌, ◌+◌, false, length, IfOk, IfErr};
 ghost use Rattle.sqlite.specs.Order.{column};
 ghost use Rattle.sqlite.specs.declared.types.Value.TheVariants.{Text as TextValue};
-ghost use Rattle.pid_tables.specs.Rows.Steps.Unread.{IsUnreadable, ReadsAsRemark};
+ghost use Rattle.pid_tables.specs.Rows.Steps.Unread.{IsDamagedRow, ReadsAsRemark};
 ghost use Rattle.pid_tables.specs.Rows.Steps.Writes.{with_remark};
 ghost use Rattle.pid_tables.specs.Rows.Clauses.{Reads};
 ghost use Rattle.pid_tables.specs.Rows.Steps.Clauses.{ChangesTo, GoesOn};
@@ -67,7 +67,7 @@ pub fn remark_count<S: Alter>(conn: &mut Connection<S>, number: u32) -> Result<u
 pub fn comment_of(row: &Row, alloc: Global) -> Result<Comment, TableFault>
     ensures author { IfOk result (λ comment. column row.now 0 ≡ TextValue comment.author) }
     ensures text { IfOk result (λ comment. column row.now 1 ≡ TextValue comment.text) }
-    ensures unread { IfErr result (IsUnreadable (ReadsAsRemark row.now)) }
+    ensures unread { IfErr result (IsDamagedRow (ReadsAsRemark row.now)) }
 {
     let author = account_at(row, alloc, 0)?;
     let text = words_at(row, alloc, 1)?;

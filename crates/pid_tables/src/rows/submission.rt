@@ -15,7 +15,7 @@ ghost use Rattle.pid_moderation.specs.Views.{submission_at};
 ghost use Rattle.pid_tables.specs.Rows.TableRows.{form_of, name_of, state_number};
 ghost use Rattle.pid_moderation.specs.Submissions.{decider_of, reason_of, standing_in, standing_of};
 ghost use Rattle.pid_tables.specs.Rows.Steps.Standings.{ReadsTo};
-ghost use Rattle.pid_tables.specs.Rows.Steps.Unread.{IsUnreadable, ReadsAsStanding};
+ghost use Rattle.pid_tables.specs.Rows.Steps.Unread.{IsDamagedRow, ReadsAsStanding};
 ghost use Rattle.pid_tables.specs.Rows.Steps.Writes.{with_submission, with_state};
 ghost use Rattle.pid_tables.specs.Rows.Clauses.{Reads};
 ghost use Rattle.pid_tables.specs.Rows.Steps.Clauses.{ChangesTo, GoesOn};
@@ -80,7 +80,7 @@ pub fn add_submission<'x, S: Alter>(
 }
 
 // The number of a state, who decided and for what reason.
-fn parts(state: &State) -> (u32, &str, &str)
+fn state_columns(state: &State) -> (u32, &str, &str)
     ensures number { result.0 ≡ state_number state.now }
     ensures decider { result.1.now ≡ decider_of [] state.now }
     ensures reason { result.2.now ≡ reason_of state.now }
@@ -114,7 +114,7 @@ pub fn decide<S: Alter>(
         );
     }
     let number = number.to_sql();
-    let (told, decider, reason) = parts(state);
+    let (told, decider, reason) = state_columns(state);
     let told = told.to_sql();
     let decider = decider.to_sql();
     let reason = reason.to_sql();
@@ -130,7 +130,7 @@ pub fn decide<S: Alter>(
 /// breaks its rule, the row is `Damaged`.
 pub fn submission_of(row: &Row, alloc: Global) -> Result<Submission, TableFault>
     ensures read { IfOk result (ReadsTo row.now) }
-    ensures unread { IfErr result (IsUnreadable (ReadsAsStanding row.now)) }
+    ensures unread { IfErr result (IsDamagedRow (ReadsAsStanding row.now)) }
 {
     let author = account_at(row, alloc, 0)?;
     let path = path_at(row, 1)?;

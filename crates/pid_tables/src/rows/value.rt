@@ -13,7 +13,7 @@ ghost use Rattle.pid_ident.specs.Words.{
 ghost use Rattle.pid_moderation.specs.declared.rank.Rank.{Rank as RankValue};
 ghost use Rattle.pid_moderation.specs.Ranks.{rank_number};
 ghost use Rattle.pid_tables.specs.Rows.Faults.{IsMemoryOrStore};
-ghost use Rattle.pid_tables.specs.Rows.Steps.Unread.{IsUnreadable, IsMistold, IsWholeNumber};
+ghost use Rattle.pid_tables.specs.Rows.Steps.Unread.{IsDamagedRow, IsWrongText, IsWholeNumber};
 ghost use Rattle.pid_tables.specs.Rows.LabelRows.{IsNumber};
 ghost use Rattle.pid_tables.specs.Rows.Steps.Unread.{
   IsWord,
@@ -37,7 +37,7 @@ use std::alloc::Global;
 /// The whole number below 2 to the 32 in a column, counted from 0. Any other value is `Damaged`.
 pub fn number_at(row: &Row, at: usize) -> Result<u32, TableFault>
     ensures read { IfOk result (λ n. column row.now at ≡ number n) }
-    ensures unread { IfErr result (IsUnreadable (IsNumber (column row.now at))) }
+    ensures unread { IfErr result (IsDamagedRow (IsNumber (column row.now at))) }
 {
     let number = row.get(at)?;
     Ok(number)
@@ -46,7 +46,7 @@ pub fn number_at(row: &Row, at: usize) -> Result<u32, TableFault>
 /// The whole number in a column, counted from 0. Any other value is `Damaged`.
 pub fn whole_at(row: &Row, at: usize) -> Result<u64, TableFault>
     ensures read { IfOk result (λ n. column row.now at ≡ number n) }
-    ensures unread { IfErr result (IsUnreadable (IsWholeNumber (column row.now at))) }
+    ensures unread { IfErr result (IsDamagedRow (IsWholeNumber (column row.now at))) }
 {
     let whole = row.get(at)?;
     Ok(whole)
@@ -66,7 +66,7 @@ pub(crate) fn stored<'a>(whole: u64) -> Result<ValueRef<'a>, TableFault>
 /// is not UTF-8, is `Damaged`.
 pub fn text_at(row: &Row, at: usize) -> Result<&str, TableFault>
     ensures read { IfOk result (λ text. column row.now at ≡ TextValue text.now) }
-    ensures unread { IfErr result (IsUnreadable (IsWord is_utf8 (column row.now at))) }
+    ensures unread { IfErr result (IsDamagedRow (IsWord is_utf8 (column row.now at))) }
 {
     match row.get_ref(at)? {
         ValueRef::Text(bytes) => match str::from_utf8(bytes) {
@@ -82,7 +82,7 @@ pub fn text_at(row: &Row, at: usize) -> Result<&str, TableFault>
 pub fn is_text_at(row: &Row, at: usize, text: &str) -> Result<bool, TableFault>
     ensures read { IfOk result (λ is_it. (stored : List ℕ) × (column row.now at ≡ TextValue stored)
         × (is_it ≡ bytes_eq stored text.now)) }
-    ensures no_text { IfErr result (IsMistold
+    ensures no_text { IfErr result (IsWrongText
         ((stored : List ℕ) × (column row.now at ≡ TextValue stored))) }
 {
     match row.get_ref(at)? {
@@ -93,7 +93,7 @@ pub fn is_text_at(row: &Row, at: usize, text: &str) -> Result<bool, TableFault>
 
 pub(crate) fn name_at(row: &Row, alloc: Global, at: usize) -> Result<Name, TableFault>
     ensures read { IfOk result (λ name. column row.now at ≡ TextValue name) }
-    ensures unread { IfErr result (IsUnreadable (IsWord name_rule (column row.now at))) }
+    ensures unread { IfErr result (IsDamagedRow (IsWord name_rule (column row.now at))) }
 {
     let text = text_at(row, at)?;
     Ok(Name::of(alloc, text)?)
@@ -101,7 +101,7 @@ pub(crate) fn name_at(row: &Row, alloc: Global, at: usize) -> Result<Name, Table
 
 pub(crate) fn account_at(row: &Row, alloc: Global, at: usize) -> Result<Account, TableFault>
     ensures read { IfOk result (λ account. column row.now at ≡ TextValue account) }
-    ensures unread { IfErr result (IsUnreadable (IsWord account_rule (column row.now at))) }
+    ensures unread { IfErr result (IsDamagedRow (IsWord account_rule (column row.now at))) }
 {
     let text = text_at(row, at)?;
     Ok(Account::of(alloc, text)?)
@@ -109,7 +109,7 @@ pub(crate) fn account_at(row: &Row, alloc: Global, at: usize) -> Result<Account,
 
 pub(crate) fn words_at(row: &Row, alloc: Global, at: usize) -> Result<Text, TableFault>
     ensures read { IfOk result (λ words. column row.now at ≡ TextValue words) }
-    ensures unread { IfErr result (IsUnreadable (IsWord text_rule (column row.now at))) }
+    ensures unread { IfErr result (IsDamagedRow (IsWord text_rule (column row.now at))) }
 {
     let text = text_at(row, at)?;
     Ok(Text::of(alloc, text)?)
@@ -119,7 +119,7 @@ pub(crate) fn words_at(row: &Row, alloc: Global, at: usize) -> Result<Text, Tabl
 pub fn path_at(row: &Row, at: usize) -> Result<Path, TableFault>
     ensures read { IfOk result (λ path. IsPath path
         × (column row.now at ≡ TextValue (path_text path))) }
-    ensures unread { IfErr result (IsUnreadable (IsPathText (column row.now at))) }
+    ensures unread { IfErr result (IsDamagedRow (IsPathText (column row.now at))) }
 {
     let text = text_at(row, at)?;
     match Path::parse(text) {
@@ -130,7 +130,7 @@ pub fn path_at(row: &Row, at: usize) -> Result<Path, TableFault>
 
 pub(crate) fn rank_at(row: &Row, at: usize) -> Result<Rank, TableFault>
     ensures read { IfOk result (λ rank. column row.now at ≡ number (rank_number rank)) }
-    ensures unread { IfErr result (IsUnreadable
+    ensures unread { IfErr result (IsDamagedRow
         ((rank : RankValue) × (column row.now at ≡ number (rank_number rank)))) }
 {
     match number_at(row, at)? {
@@ -145,7 +145,7 @@ pub(crate) fn rank_at(row: &Row, at: usize) -> Result<Rank, TableFault>
 // The value is this text.
 fn check_text(row: &Row, at: usize, text: &str) -> Result<(), TableFault>
     ensures read { OnOk result (column row.now at ≡ TextValue text.now) }
-    ensures other { IfErr result (IsMistold (column row.now at ≡ TextValue text.now)) }
+    ensures other { IfErr result (IsWrongText (column row.now at ≡ TextValue text.now)) }
 {
     if is_text_at(row, at, text)? {
         Ok(())
@@ -162,7 +162,7 @@ pub(crate) fn proposal_at(
     name: usize,
 ) -> Result<Proposal, TableFault>
     ensures read { IfOk result (IsProposalOf (column row.now form) (column row.now name)) }
-    ensures unread { IfErr result (IsUnreadable
+    ensures unread { IfErr result (IsDamagedRow
         (IsProposal (column row.now form) (column row.now name))) }
 {
     match number_at(row, form)? {
@@ -180,7 +180,7 @@ pub(crate) fn proposal_at(
 pub(crate) fn state_at(row: &Row, alloc: Global, author: &Account) -> Result<State, TableFault>
     ensures read { IfOk result
         (IsStateOf author.now (column row.now 5) (column row.now 6) (column row.now 7)) }
-    ensures unread { IfErr result (IsUnreadable
+    ensures unread { IfErr result (IsDamagedRow
         (IsState author.now (column row.now 5) (column row.now 6) (column row.now 7))) }
 {
     match number_at(row, 5)? {
@@ -212,7 +212,7 @@ pub(crate) fn state_at(row: &Row, alloc: Global, author: &Account) -> Result<Sta
 /// A reply by its kind and its three numbers.
 pub(crate) fn reply_at(row: &Row) -> Result<Reply, TableFault>
     ensures read { IfOk result (IsReplyIn row.now) }
-    ensures unread { IfErr result (IsUnreadable (IsReplyRow row.now)) }
+    ensures unread { IfErr result (IsDamagedRow (IsReplyRow row.now)) }
 {
     let kind = number_at(row, 0)?;
     let a = number_at(row, 1)?;

@@ -25,7 +25,7 @@ ghost use Rattle.pid_tables.specs.Rows.Clauses.{Reads};
 ghost use Rattle.pid_tables.specs.Searches.Steps.Among.{found_among};
 ghost use Rattle.pid_tables.specs.Searches.KeptNumbers.{HoldsNumbers};
 
-use crate::lists::adding::put_last;
+use crate::lists::adding::push_last;
 use crate::lists::submissions::next_of;
 use crate::rows::TableFault;
 use crate::rows::remark::remark_count;
@@ -95,7 +95,7 @@ fn add_sought<S: Alter>(
                         submission,
                         remarks,
                     };
-                    put_last(page, found)
+                    push_last(page, found)
                 }
                 Err(fault) => {
                     drop(submission);

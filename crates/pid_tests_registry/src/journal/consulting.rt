@@ -4,7 +4,7 @@ use crate::journal::faults::root_of;
 use crate::journal::paper::on_paper;
 use pid_doubles::FaultyInput;
 use pid_moderation::Refusal;
-use pid_service_laws::{Consulted, ImportEnd};
+use pid_service_laws::{ImportEnd, RegistryQueries};
 use std::process::Abort;
 use std::test::Fail;
 

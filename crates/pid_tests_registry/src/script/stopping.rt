@@ -3,7 +3,7 @@ use pid_doubles::{FaultyInput, FaultyOutput};
 use pid_ident::{Name, Output, Path, write_all};
 use pid_lookup::{Answer, Args, LookupRefusal};
 use pid_moderation::{Command, Refusal, Reply};
-use pid_script::{Moderated, ScriptEnd, run_script};
+use pid_script::{RegistryCalls, ScriptEnd, run_script};
 use pid_service::ExportFault;
 use std::alloc::Global;
 use std::process::Abort;
@@ -18,7 +18,7 @@ pub struct Refusing {
     pub lines: &'static [u8],
 }
 
-impl Moderated for Refusing {
+impl RegistryCalls for Refusing {
     ghost use Rattle.std.specs.Prelude.{true};
 
     ghost showing = { record {

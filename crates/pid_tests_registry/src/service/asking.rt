@@ -11,7 +11,7 @@ use pid_lookup::{Answer, LookupRefusal, args_of};
 use pid_moderation::{
     Changes, Discussion, Pending, Proposal, Refusal, Reply, State, Submission, reply_line,
 };
-use pid_service::{Consulted, ExportFault, ImportEnd, Moderated, Registry, open};
+use pid_service::{ExportFault, ImportEnd, Registry, RegistryCalls, RegistryQueries, open};
 use sqlite::{Alter, Connection, MemStore};
 use std::alloc::Global;
 use std::process::Abort;

@@ -3,7 +3,7 @@ use crate::service::asking::{expect_line, expect_told, halves, line_of, new_in_m
 use crate::service::rows::command_in;
 use pid_ident::Text;
 use pid_moderation::{Act, Command, Refusal, Reply};
-use pid_service::{Moderated, Registry};
+use pid_service::{Registry, RegistryCalls};
 use sqlite::Alter;
 use std::alloc::Global;
 use std::process::Abort;

@@ -79,11 +79,7 @@ impl<'a> Incoming<FaultyOutput> for Account<'a> {
 
     ghost joins = { λ a b c p q. tt };
 
-    fn read_behind(
-        &mut self,
-        output: &FaultyOutput,
-        buffer: &mut [u8],
-    ) -> Result<usize, ReadFault> {
+    fn read_after(&mut self, output: &FaultyOutput, buffer: &mut [u8]) -> Result<usize, ReadFault> {
         self.reads = self.reads.saturating_add(1);
         self.note(output);
         let count = buffer.len().min(self.rest.len()).min(1);

@@ -6,8 +6,8 @@ ghost use Rattle.pid_http_stream.specs.HttpStatuses.{allows_body};
 use http::StatusCode;
 use pid_doubles::{FaultyInput, FaultyOutput};
 use pid_http_stream::{
-    BodyStop, Content, Handler, Head, LONGEST_BODY, NoReply, Reply, ReplyBody, ReplyHead, Served,
-    Wanted, serve_stream,
+    BodyStop, Content, Handler, Head, HttpReply, LONGEST_BODY, NoReply, ReplyBody, ReplyHead,
+    Served, Wanted, serve_stream,
 };
 use pid_ident::{Input, Output, write_all};
 use pid_reader::skip_input;
@@ -21,12 +21,17 @@ pub struct Desk {
     pub store_fails: bool,
 }
 
-fn reply(alloc: Global, status: StatusCode, content: Content, body: &[u8]) -> Result<Reply, NoReply>
+fn reply(
+    alloc: Global,
+    status: StatusCode,
+    content: Content,
+    body: &[u8],
+) -> Result<HttpReply, NoReply>
     requires { IsTrue (allows_body status) }
 {
     match Vec::from_slice(alloc, body) {
         Err(_) => Err(NoReply),
-        Ok(body) => Ok(Reply {
+        Ok(body) => Ok(HttpReply {
             head: ReplyHead { status, content },
             body: ReplyBody::Bytes(body),
         }),
@@ -99,9 +104,9 @@ impl Handler for Desk {
         }
     }
 
-    fn answer(&mut self, page: Page, _head: &Head<'_>, _body: &[u8]) -> Result<Reply, NoReply> {
+    fn answer(&mut self, page: Page, _head: &Head<'_>, _body: &[u8]) -> Result<HttpReply, NoReply> {
         match page {
-            Page::Text => Ok(Reply {
+            Page::Text => Ok(HttpReply {
                 head: ReplyHead {
                     status: StatusCode::OK,
                     content: Content::Text,
@@ -120,7 +125,7 @@ impl Handler for Desk {
         _drain: Drain,
         _head: &Head<'_>,
         body: &mut B,
-    ) -> Result<Reply, NoReply> {
+    ) -> Result<HttpReply, NoReply> {
         match skip_input(LONGEST_BODY, body) {
             Ok(()) => reply(self.alloc, StatusCode::OK, Content::Text, b"taken\n"),
             Err(_) => Err(NoReply),

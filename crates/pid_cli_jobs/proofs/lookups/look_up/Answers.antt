@@ -9,15 +9,15 @@ returns-in-Ok g c =
     Answered c.in-Ok.found c.in-Ok.ensures.bad_flags c.in-Ok.ensures.answer c.print_answer.ensures
 
 pub returns-in-ReadFault : goal.returns-in-ReadFault
-returns-in-ReadFault g c = Unread c.tell_unread.result c.tell_unread.ensures.not_done
-    c.tell_unread.ensures.reports
-    (IfSome_then (g.I.Input.to_come c.args.input.now) c.in-Err.ensures.answer c.tell_unread.ensures.told) refl
+returns-in-ReadFault g c = Unread c.report_unread.result c.report_unread.ensures.not_done
+    c.report_unread.ensures.reports
+    (IfSome_then (g.I.Input.to_come c.args.input.now) c.in-Err.ensures.answer c.report_unread.ensures.told) refl
     (inl (c.in-ReadFault.is, refl))
 
 pub returns-in_default : goal.returns-in_default
-returns-in_default g c = Unread c.tell_unread.result c.tell_unread.ensures.not_done
-    c.tell_unread.ensures.reports
-    (IfSome_then (g.I.Input.to_come c.args.input.now) c.in-Err.ensures.answer c.tell_unread.ensures.told) refl
+returns-in_default g c = Unread c.report_unread.result c.report_unread.ensures.not_done
+    c.report_unread.ensures.reports
+    (IfSome_then (g.I.Input.to_come c.args.input.now) c.in-Err.ensures.answer c.report_unread.ensures.told) refl
     (inr (
       λ is. elim is [
         | inl read ↦ c.in_default.not-ReadFault read

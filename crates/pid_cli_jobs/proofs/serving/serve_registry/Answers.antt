@@ -24,5 +24,5 @@ returns-in_default-new-clause-offers g c = Unrouted (refl, c.report_memory.ensur
 pub returns-clause-offers : goal.returns-clause-offers
 returns-clause-offers g c =
     let name = c.give_streams.ensures.goes.0 in
-    handed_back g.M.Machine.port_of g.M.Machine.is_serving g.G.Registry.Moderated.is_live c.args.port _ _ _ _ _
+    handed_back g.M.Machine.port_of g.M.Machine.is_serving g.G.Registry.RegistryCalls.is_live c.args.port _ _ _ _ _
     (search rules) c.give_streams.ensures.offers

@@ -1,6 +1,6 @@
 use Rattle.std.proofs.Common.{◌∙◌, sym}
 use Rattle.std.proofs.lemmas.Result.{err_from_is_err_and}
-use Rattle.pid_file.specs.declared.entry_line.Place.TheVariants.{Vendor, Class}
+use Rattle.pid_file.specs.declared.entry_line.EntryKind.TheVariants.{Vendor, Class}
 use Rattle.pid_file.proofs.LineSays.{entry_read, fault_read, block_says, block_fault, unknown_says}
 use Rattle.pid_file.proofs.open_levels.read_head.Goals as goal
 

@@ -1,7 +1,7 @@
 use Rattle.std.proofs.Common.{◌∙◌, sym, ap, arith, length}
 use Rattle.std.proofs.lemmas.Bool.Decides.{nat_tests}
 use Rattle.pid_file.specs.WholeLines.{ended_pieces}
-use Rattle.pid_file.proofs.Cuts.{no_lf, nowhere_lf, parts_behind, take_whole}
+use Rattle.pid_file.proofs.Cuts.{no_lf, nowhere_lf, parts_after, take_whole}
 use Rattle.pid_file.proofs.pieces.split_line.Goals as goal
 
 pub returns-in_err-end-clause-parts : goal.returns-in_err-end-clause-parts
@@ -12,4 +12,4 @@ returns-in_err-end-clause-parts c =
 pub returns-clause-parts : goal.returns-clause-parts
 returns-clause-parts c =
     let found = c.in_ok-end.ensures in
-    (parts_behind c.args.text.now c.in_ok-end.end found.0.high (grind (arith, nat_tests)), no_lf c.args.text.now c.in_ok-end.end (omega arith) (nowhere_lf c.args.text.now c.in_ok-end.end found.0.before))
+    (parts_after c.args.text.now c.in_ok-end.end found.0.high (grind (arith, nat_tests)), no_lf c.args.text.now c.in_ok-end.end (omega arith) (nowhere_lf c.args.text.now c.in_ok-end.end found.0.before))

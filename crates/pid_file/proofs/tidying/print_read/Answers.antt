@@ -22,12 +22,12 @@ pub returns-in-Err-printed-clause-read_fault : goal.returns-in-Err-printed-claus
 returns-in-Err-printed-clause-read_fault g c = (λ e. absurd cc, λ e. absurd (true≢false (ap is_ok (sym c.in-Ok.is ∙ e))))
 
 pub returns-in-Err-clause-tidied : goal.returns-in-Err-clause-tidied
-returns-in-Err-clause-tidied g c text h = told_tidied c.tell_unread.result text _ (Keeps-itself _) (c.tell_unread.ensures.told text (rw c.in-Err.is at h))
+returns-in-Err-clause-tidied g c text h = told_tidied c.report_unread.result text _ (Keeps-itself _) (c.report_unread.ensures.told text (rw c.in-Err.is at h))
 
 pub returns-in-Err-clause-read_fault : goal.returns-in-Err-clause-read_fault
 returns-in-Err-clause-read_fault g c =
-    let same = c.tell_unread.ensures.read_fault in
+    let same = c.report_unread.ensures.read_fault in
     (λ e. c.in-Err.is ∙ ap Err (same.0 e), λ e. same.1 (let is : c.in-Err.end ≡ ReadFault = cc (c.in-Err.is, e) in is))
 
 pub returns-in-Err-clause-nothing_printed : goal.returns-in-Err-clause-nothing_printed
-returns-in-Err-clause-nothing_printed g c = nothing_printed c.tell_unread.result _ _ (Keeps-itself _)
+returns-in-Err-clause-nothing_printed g c = nothing_printed c.report_unread.result _ _ (Keeps-itself _)

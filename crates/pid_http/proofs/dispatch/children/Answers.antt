@@ -42,17 +42,17 @@ below path under e name h items is told =
 
 pub returns-in-Ok-None : goal.returns-in-Ok-None
 returns-in-Ok-None g c =
-    rw c.in-Some.is (replied _ _ _ _ _ _ c.missing_reply.ensures (question_met _ g.met.R.Moderated.lives _ _ (Ok tt) _ _ _ _ (missing c.in-Some.path c.args.format)
+    rw c.in-Some.is (replied _ _ _ _ _ _ c.missing_reply.ensures (question_met _ g.met.R.RegistryCalls.lives _ _ (Ok tt) _ _ _ _ (missing c.in-Some.path c.args.format)
     (answers_so _ _ _ None tt _ _ (λ h is. ap (λ (n : Option (List ℕ)). option_map (λ (x : List ℕ). children_of (Some (path_text c.in-Some.path)) (items_of h)) n) is) (rw c.in-Ok-None.field-0-is at c.in-Ok-None.ensures))))
 
 pub returns-in-Err : goal.returns-in-Err
 returns-in-Err g c =
     let q = question (Some c.in-Some.path) c.args.format in
-    rw c.in-Some.is (replied _ _ _ _ _ _ c.refusal_reply.ensures (refused_call _ g.met.R.Moderated.lives _ _ _ _ c.args.format (Asks (questions.Children (Some c.in-Some.path)) c.args.format) q.refused q.no_command c.in-Err.ensures))
+    rw c.in-Some.is (replied _ _ _ _ _ _ c.refusal_reply.ensures (refused_call _ g.met.R.RegistryCalls.lives _ _ _ _ c.args.format (Asks (questions.Children (Some c.in-Some.path)) c.args.format) q.refused q.no_command c.in-Err.ensures))
 
 pub returns : goal.returns
 returns g c = elim c.match-above.branch [
-  | in-None w ↦ (rw w.in-None.is (replied _ _ _ _ _ _ c.list_reply.ensures (question_met _ g.met.R.Moderated.lives _ _ _ _ _ _ _ (question None c.args.format) (answers_by _ _ _ _ _ _ (at_top c.match-above.above (w.above-is ∙ w.in-None.is)) (rw w.registry-is at c.children.ensures)))))
+  | in-None w ↦ (rw w.in-None.is (replied _ _ _ _ _ _ c.list_reply.ensures (question_met _ g.met.R.RegistryCalls.lives _ _ _ _ _ _ _ (question None c.args.format) (answers_by _ _ _ _ _ _ (at_top c.match-above.above (w.above-is ∙ w.in-None.is)) (rw w.registry-is at c.children.ensures)))))
   | in-Some+in-Ok-Some w ↦ (rw w.in-Some.is (replied _ _ _ _ _ _ c.list_reply.ensures
-      (question_then _ g.met.R.Moderated.lives _ _ _ _ _ _ _ _ _ _ _ (question (Some w.in-Some.path) c.args.format) (omega arith) (below w.in-Some.path c.match-above.above w.above-is _) (rw w.in-Ok-Some.field-0-is at w.in-Ok-Some.ensures) (rw w.registry-is at c.children.ensures))))
+      (question_then _ g.met.R.RegistryCalls.lives _ _ _ _ _ _ _ _ _ _ _ (question (Some w.in-Some.path) c.args.format) (omega arith) (below w.in-Some.path c.match-above.above w.above-is _) (rw w.in-Ok-Some.field-0-is at w.in-Ok-Some.ensures) (rw w.registry-is at c.children.ensures))))
 ]

@@ -13,7 +13,7 @@ use Rattle.pid_moderation.specs.declared.refusal.Refusal.{Refusal}
 use Rattle.pid_moderation.specs.declared.refusal.Refusal.TheVariants.{Memory, Failed as HasFailed}
 use Rattle.pid_service_laws.specs.Moderating.{LooksUp}
 use Rattle.pid_http.specs.Api.LookupAnswers.{lookup_answer}
-use Rattle.pid_http.specs.Answering.{answer_over, IsErrandRefused, Asks}
+use Rattle.pid_http.specs.Answering.{answer_over, IsMeaningRefused, Asks}
 use Rattle.pid_http.specs.declared.api.question.Question.TheVariants as questions
 use Rattle.pid_http.specs.declared.api.format.Format.{Format}
 use Rattle.pid_http.specs.Serving.{IsMetOver, AnsweredOver, NotDone, Refused}
@@ -35,14 +35,14 @@ over l format h (Err lookups.BadFlags) bad = AnsweredOver (ap lookup_answer (by_
 over l format h (Err (lookups.Names f)) fault = NotDone f fault (refl, refl) one_question refl
 over l format h (Err lookups.Memory) told = NotDone Memory (inl refl) (refl, refl) one_question refl
 
-failed : (l : Lookup) (format : Format) (result : Result Found (LookupRefusal Refusal)) → result ≡ Err (lookups.Names HasFailed) → IsErrandRefused (Asks (questions.Lookup l.flags l.args l.size) format) HasFailed (lookup_answer result)
+failed : (l : Lookup) (format : Format) (result : Result Found (LookupRefusal Refusal)) → result ≡ Err (lookups.Names HasFailed) → IsMeaningRefused (Asks (questions.Lookup l.flags l.args l.size) format) HasFailed (lookup_answer result)
 failed l format result e = (refl, ap lookup_answer e)
 
 pub returns : goal.returns
 returns g c format =
     let l : Lookup = record { flags = c.args.flags; args = c.args.args; size = c.args.size } in
     let e = c.lookup-found.ensures in
-    replied _ _ _ _ _ _ c.lookup_reply.ensures (from_call _ g.met.R.Moderated.lives _ _ _ (lookup_answer c.lookup-found.result)
+    replied _ _ _ _ _ _ c.lookup_reply.ensures (from_call _ g.met.R.RegistryCalls.lives _ _ _ (lookup_answer c.lookup-found.result)
     (one_call _ _ _ nothing_sent e.calls (λ off. (e.failed off).1)) e.honest
     (λ clean h shows. (Live h, e.kept.shown clean h shows, over l format h c.lookup-found.result (e.told clean h shows)))
     (λ off. Refused (failed l format c.lookup-found.result (e.failed off).0) one_question))

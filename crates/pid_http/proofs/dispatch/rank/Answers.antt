@@ -12,7 +12,7 @@ question : (who : List ℕ) (format : Format) → IsQuestion format (λ (rank : 
 question who format = shows format (rank_answer format who) (λ rank. rank) (rank_of who) (questions.Rank who) (λ h. refl) refl
 
 pub returns-in-Ok : goal.returns-in-Ok
-returns-in-Ok g c = replied _ _ _ _ _ _ c.rank_reply.ensures (question_met _ g.met.R.Moderated.lives _ _ _ _ _ _ _ (question c.args.who.now c.args.format) c.in-Ok.ensures)
+returns-in-Ok g c = replied _ _ _ _ _ _ c.rank_reply.ensures (question_met _ g.met.R.RegistryCalls.lives _ _ _ _ _ _ _ (question c.args.who.now c.args.format) c.in-Ok.ensures)
 
 pub returns-in-Err : goal.returns-in-Err
-returns-in-Err g c = replied _ _ _ _ _ _ c.refusal_reply.ensures (question_met _ g.met.R.Moderated.lives _ _ _ _ _ _ _ (question c.args.who.now c.args.format) c.in-Err.ensures)
+returns-in-Err g c = replied _ _ _ _ _ _ c.refusal_reply.ensures (question_met _ g.met.R.RegistryCalls.lives _ _ _ _ _ _ _ (question c.args.who.now c.args.format) c.in-Err.ensures)

@@ -21,12 +21,12 @@ question path format = shows format (item_or_missing path format) (λ name. name
 
 pub returns-in-Ok-Some : goal.returns-in-Ok-Some
 returns-in-Ok-Some g c =
-    replied _ _ _ _ _ _ c.item_reply.ensures (question_met _ g.met.R.Moderated.lives _ _ _ _ _ _ _ (question c.args.path c.args.format) (rw c.in-Ok-Some.field-0-is at c.in-Ok-Some.ensures))
+    replied _ _ _ _ _ _ c.item_reply.ensures (question_met _ g.met.R.RegistryCalls.lives _ _ _ _ _ _ _ (question c.args.path c.args.format) (rw c.in-Ok-Some.field-0-is at c.in-Ok-Some.ensures))
 
 pub returns-in-Ok-None : goal.returns-in-Ok-None
 returns-in-Ok-None g c =
-    replied _ _ _ _ _ _ c.missing_reply.ensures (question_met _ g.met.R.Moderated.lives _ _ _ _ _ _ _ (question c.args.path c.args.format) (rw c.in-Ok-None.field-0-is at c.in-Ok-None.ensures))
+    replied _ _ _ _ _ _ c.missing_reply.ensures (question_met _ g.met.R.RegistryCalls.lives _ _ _ _ _ _ _ (question c.args.path c.args.format) (rw c.in-Ok-None.field-0-is at c.in-Ok-None.ensures))
 
 pub returns-in-Err : goal.returns-in-Err
 returns-in-Err g c =
-    replied _ _ _ _ _ _ c.refusal_reply.ensures (question_met _ g.met.R.Moderated.lives _ _ _ _ _ _ _ (question c.args.path c.args.format) c.in-Err.ensures)
+    replied _ _ _ _ _ _ c.refusal_reply.ensures (question_met _ g.met.R.RegistryCalls.lives _ _ _ _ _ _ _ (question c.args.path c.args.format) c.in-Err.ensures)

@@ -13,7 +13,7 @@ asks : (number : ℕ) (format : Format) → IsQuestionIfThere format (λ (d : Di
 asks number format = shows_there format (submission_answer format number) discussion_of (λ h. discussion_in (views_of h) number) (questions.Submission number) (λ h. refl) refl
 
 pub returns-in-Ok : goal.returns-in-Ok
-returns-in-Ok g c = replied _ _ _ _ _ _ c.submission_reply.ensures (if_there_met _ g.met.R.Moderated.lives _ _ _ _ _ _ _ _ (asks c.args.number c.args.format) c.in-Ok.ensures)
+returns-in-Ok g c = replied _ _ _ _ _ _ c.submission_reply.ensures (if_there_met _ g.met.R.RegistryCalls.lives _ _ _ _ _ _ _ _ (asks c.args.number c.args.format) c.in-Ok.ensures)
 
 pub returns-in-Err : goal.returns-in-Err
-returns-in-Err g c = replied _ _ _ _ _ _ c.refusal_reply.ensures (if_there_met _ g.met.R.Moderated.lives _ _ _ _ _ _ _ _ (asks c.args.number c.args.format) c.in-Err.ensures)
+returns-in-Err g c = replied _ _ _ _ _ _ c.refusal_reply.ensures (if_there_met _ g.met.R.RegistryCalls.lives _ _ _ _ _ _ _ _ (asks c.args.number c.args.format) c.in-Err.ensures)

@@ -8,17 +8,17 @@ use Rattle.pid_http.proofs.importing.take_in.Goals as goal
 pub returns-in-Ok-clause-replied : goal.returns-in-Ok-clause-replied
 returns-in-Ok-clause-replied g c =
     let e = c.in-Ok.ensures in
-    accepted _ g.met.R.Moderated.lives _ _ c.in-Ok.reply c.args.account c.args.key c.args.format _ _ c.reply_with.result e.failed e.obeyed c.reply_with.ensures
+    accepted _ g.met.R.RegistryCalls.lives _ _ c.in-Ok.reply c.args.account c.args.key c.args.format _ _ c.reply_with.result e.failed e.obeyed c.reply_with.ensures
 
 pub returns-in-Err-Refused-clause-replied : goal.returns-in-Err-Refused-clause-replied
 returns-in-Err-Refused-clause-replied g c =
     let e = c.in-Err-Refused.ensures in
-    refused _ g.met.R.Moderated.lives _ _ c.in-Err-Refused.field-0 c.in-Err-Refused.refusal c.args.account c.args.key c.args.format _ _ _ c.refuse.result c.in-Err-Refused.field-0-is e.failed e.obeyed c.refuse.ensures.ended c.refuse.ensures.replied
+    refused _ g.met.R.RegistryCalls.lives _ _ c.in-Err-Refused.field-0 c.in-Err-Refused.refusal c.args.account c.args.key c.args.format _ _ _ c.refuse.result c.in-Err-Refused.field-0-is e.failed e.obeyed c.refuse.ensures.ended c.refuse.ensures.replied
 
 pub returns-in-Err-Body-clause-replied : goal.returns-in-Err-Body-clause-replied
 returns-in-Err-Body-clause-replied g c =
     let e = c.in-Err-Body.ensures in
-    gave_up _ g.met.R.Moderated.lives _ _ c.in-Err-Body.field-0 c.args.account c.args.key _ _ (λ file. Obeys (import_of c.args.account c.args.key (file_reading file)) c.args.format) (λ file. omega arith) c.in-Err-Body.field-0-is e.failed e.obeyed
+    gave_up _ g.met.R.RegistryCalls.lives _ _ c.in-Err-Body.field-0 c.args.account c.args.key _ _ (λ file. Obeys (import_of c.args.account c.args.key (file_reading file)) c.args.format) (λ file. omega arith) c.in-Err-Body.field-0-is e.failed e.obeyed
 
 pub returns-in-Ok-clause-goes : goal.returns-in-Ok-clause-goes
 returns-in-Ok-clause-goes g c = c.in-Ok.ensures.reads.goes

@@ -12,12 +12,12 @@ returns-clause-served g c =
     let l = c.serve_stream.ensures.served in
     let end = c.serve_stream.new.handler in
     let name = c.serve_stream.ensures.becomes.0 in
-    let told : Leads g.R.Moderated.showing.is_clean (IsToldOf g.R.Moderated) c.args.registry.now end.registry.now (λ t u. IfSome (g.I.Incoming.to_come c.args.reader.now) (λ stream. IsServed (serving g.R.Moderated)
+    let told : Leads g.R.RegistryCalls.showing.is_clean (IsToldOf g.R.RegistryCalls) c.args.registry.now end.registry.now (λ t u. IfSome (g.I.Incoming.to_come c.args.reader.now) (λ stream. IsServed (serving g.R.RegistryCalls)
     (outside t u (g.W.Output.taken c.args.writer.now) (g.W.Output.taken c.serve_stream.new.output))
     stream (g.I.Incoming.to_come c.serve_stream.new.input) c.serve_stream.result.end c.serve_stream.result.answered)) =
     record { good = l.good; leads = λ good t is. l.leads good t is } in
     let same : c.serve_stream.new.handler.registry.now ≡ c.registry-1.given.0 = search rules in
-    subst (λ registry. Leads g.R.Moderated.showing.is_clean (IsToldOf g.R.Moderated) c.args.registry.now registry (λ t u. IfSome (g.I.Incoming.to_come c.args.reader.now) (λ stream. IsServed (serving g.R.Moderated)
+    subst (λ registry. Leads g.R.RegistryCalls.showing.is_clean (IsToldOf g.R.RegistryCalls) c.args.registry.now registry (λ t u. IfSome (g.I.Incoming.to_come c.args.reader.now) (λ stream. IsServed (serving g.R.RegistryCalls)
     (outside t u (g.W.Output.taken c.args.writer.now) (g.W.Output.taken c.serve_stream.new.output))
     stream (g.I.Incoming.to_come c.serve_stream.new.input) c.serve_stream.result.end c.serve_stream.result.answered))) same told
 
@@ -26,16 +26,16 @@ returns-clause-caught_up g c =
     let l = c.serve_stream.ensures.caught_up in
     let end = c.serve_stream.new.handler in
     let name = c.serve_stream.ensures.becomes.0 in
-    let told : Leads g.R.Moderated.showing.is_clean (IsToldOf g.R.Moderated) c.args.registry.now end.registry.now (λ t _. IfSome (g.I.Incoming.to_come c.args.reader.now) (λ stream.
-    AllSince (IsCaughtUp (serving g.R.Moderated) t (g.W.Output.taken c.args.writer.now) stream) (g.I.Incoming.moments c.args.reader.now) (g.I.Incoming.moments c.serve_stream.new.input))) =
+    let told : Leads g.R.RegistryCalls.showing.is_clean (IsToldOf g.R.RegistryCalls) c.args.registry.now end.registry.now (λ t _. IfSome (g.I.Incoming.to_come c.args.reader.now) (λ stream.
+    AllSince (IsCaughtUp (serving g.R.RegistryCalls) t (g.W.Output.taken c.args.writer.now) stream) (g.I.Incoming.moments c.args.reader.now) (g.I.Incoming.moments c.serve_stream.new.input))) =
     record { good = l.good; leads = λ good t is. l.leads good t is } in
     let same : c.serve_stream.new.handler.registry.now ≡ c.registry-1.given.0 = search rules in
-    subst (λ registry. Leads g.R.Moderated.showing.is_clean (IsToldOf g.R.Moderated) c.args.registry.now registry (λ t _. IfSome (g.I.Incoming.to_come c.args.reader.now) (λ stream.
-    AllSince (IsCaughtUp (serving g.R.Moderated) t (g.W.Output.taken c.args.writer.now) stream) (g.I.Incoming.moments c.args.reader.now) (g.I.Incoming.moments c.serve_stream.new.input)))) same told
+    subst (λ registry. Leads g.R.RegistryCalls.showing.is_clean (IsToldOf g.R.RegistryCalls) c.args.registry.now registry (λ t _. IfSome (g.I.Incoming.to_come c.args.reader.now) (λ stream.
+    AllSince (IsCaughtUp (serving g.R.RegistryCalls) t (g.W.Output.taken c.args.writer.now) stream) (g.I.Incoming.moments c.args.reader.now) (g.I.Incoming.moments c.serve_stream.new.input)))) same told
 
 pub returns-clause-lives : goal.returns-clause-lives
 returns-clause-lives g c =
     let end = c.serve_stream.new.handler in
     let name = c.serve_stream.ensures.becomes.0 in
-    let told : LivesOn g.R.Moderated c.args.registry.now end.registry.now = c.serve_stream.ensures.becomes.1 in
+    let told : LivesOn g.R.RegistryCalls c.args.registry.now end.registry.now = c.serve_stream.ensures.becomes.1 in
     search rules

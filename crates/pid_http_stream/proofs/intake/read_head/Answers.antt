@@ -54,7 +54,7 @@ pub returns-in-End-clause-turns : goal.returns-in-End-clause-turns
 returns-in-End-clause-turns g c = rw c.judge_end.ensures.idle (more_turns 1 _ _ _ c.reading.invariant.turns c.in-End.ensures.turns)
 
 pub returns-in-End-clause-head : goal.returns-in-End-clause-head
-returns-in-End-clause-head g c = subst (λ l. IsHeadRead l c.reading.fields (g.I.Incoming.to_come c.fill.new.input) c.judge_end.result) c.deref-in-End.ensures.value (c.judge_end.ensures.judged _ _ c.in-End.ensures.stays.1)
+returns-in-End-clause-head g c = subst (λ l. IsHeadRead l c.reading.fields (g.I.Incoming.to_come c.read_more.new.input) c.judge_end.result) c.deref-in-End.ensures.value (c.judge_end.ensures.judged _ _ c.in-End.ensures.stays.1)
 
 pub returns-in-End-clause-stopped : goal.returns-in-End-clause-stopped
 returns-in-End-clause-stopped g c = stops_never c.judge_end.result _ _ _ _ c.judge_end.ensures.stopped c.in-End.ensures.stopped c.reading.invariant.failed
@@ -129,16 +129,16 @@ returns-in-Err-clause-stopped g c = c.reading.invariant.failed
 pub returns-in-Err-clause-goes : goal.returns-in-Err-clause-goes
 returns-in-Err-clause-goes g c = c.reading.invariant.goes
 
-pub fill-requires : goal.fill-requires
-fill-requires g c = record { waits = inl (judged_none c.reading.held.items c.reading.fields _ _ c.in-Ok.is c.in-None.is c.reading.invariant.judged) }
+pub read_more-requires : goal.read_more-requires
+read_more-requires g c = record { waits = inl (judged_none c.reading.held.items c.reading.fields _ _ c.in-Ok.is c.in-None.is c.reading.invariant.judged) }
 
 pub judge_more-judged-requires-clause-wants : goal.judge_more-judged-requires-clause-wants
 judge_more-judged-requires-clause-wants g c =
-    still_wants c.reading.held.items c.fill.new.held.items c.deref-in-Piece.result.now c.len-before.result _ _ c.deref-in-Piece.ensures.value c.in-Piece.ensures.comes (c.len-before.ensures ∙ search rules) (judged_none c.reading.held.items c.reading.fields _ _ c.in-Ok.is c.in-None.is c.reading.invariant.judged)
+    still_wants c.reading.held.items c.read_more.new.held.items c.deref-in-Piece.result.now c.len-before.result _ _ c.deref-in-Piece.ensures.value c.in-Piece.ensures.comes (c.len-before.ensures ∙ search rules) (judged_none c.reading.held.items c.reading.fields _ _ c.in-Ok.is c.in-None.is c.reading.invariant.judged)
 
 pub judge_more-judged-requires-clause-before : goal.judge_more-judged-requires-clause-before
 judge_more-judged-requires-clause-before g c =
-    still_fits c.reading.held.items c.fill.new.held.items c.deref-in-Piece.result.now c.len-before.result _ _ c.deref-in-Piece.ensures.value c.in-Piece.ensures.comes (c.len-before.ensures ∙ search rules)
+    still_fits c.reading.held.items c.read_more.new.held.items c.deref-in-Piece.result.now c.len-before.result _ _ c.deref-in-Piece.ensures.value c.in-Piece.ensures.comes (c.len-before.ensures ∙ search rules)
 
 pub judge_more-judged-requires-clause-room : goal.judge_more-judged-requires-clause-room
 judge_more-judged-requires-clause-room g c = c.reading.invariant.room

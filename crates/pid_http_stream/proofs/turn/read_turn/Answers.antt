@@ -20,31 +20,31 @@ returns-then-turns_left-eq0-clause-goes g c = g.met.I.Incoming.stays _
 pub returns-in-Err-clause-read : goal.returns-in-Err-clause-read
 returns-in-Err-clause-read g c = record {
   brings = (keeps_nil _ _ c.in-Err.ensures.bytes, some_told _ _ c.in-Err.ensures.fault, inr refl);
-  turns = last_turn _ _ c.args.turns_left.now _ (some_of _ c.if-turns_left-eq0.false) c.read_behind.ensures.count (keeps_nil _ _ c.in-Err.ensures.bytes) c.in-Err.ensures.noted;
+  turns = last_turn _ _ c.args.turns_left.now _ (some_of _ c.if-turns_left-eq0.false) c.read_after.ensures.count (keeps_nil _ _ c.in-Err.ensures.bytes) c.in-Err.ensures.noted;
   noted = since_noted _ _ _ _ c.in-Err.ensures.noted;
 }
 
 pub returns-in-Err-clause-goes : goal.returns-in-Err-clause-goes
-returns-in-Err-clause-goes g c = c.read_behind.ensures.goes
+returns-in-Err-clause-goes g c = c.read_after.ensures.goes
 
 pub returns-in-Ok-eq0-clause-read : goal.returns-in-Ok-eq0-clause-read
 returns-in-Ok-eq0-clause-read g c =
     let none = rw c.in-Ok-eq0.field-0-test at c.in-Ok-eq0.ensures.bytes.0 in record {
       brings = (none, c.in-Ok-eq0.ensures.bytes.1 c.in-Ok-eq0.field-0-test (search rules), inl (still_good _ _ _ c.in-Ok-eq0.ensures.kept c.in-Ok-eq0.ensures.fault));
-      turns = last_turn _ _ c.args.turns_left.now _ (some_of _ c.if-turns_left-eq0.false) c.read_behind.ensures.count none c.in-Ok-eq0.ensures.noted;
+      turns = last_turn _ _ c.args.turns_left.now _ (some_of _ c.if-turns_left-eq0.false) c.read_after.ensures.count none c.in-Ok-eq0.ensures.noted;
       noted = since_noted _ _ _ _ c.in-Ok-eq0.ensures.noted;
     }
 
 pub returns-in-Ok-eq0-clause-goes : goal.returns-in-Ok-eq0-clause-goes
-returns-in-Ok-eq0-clause-goes g c = c.read_behind.ensures.goes
+returns-in-Ok-eq0-clause-goes g c = c.read_after.ensures.goes
 
 pub returns-in-Ok-clause-read : goal.returns-in-Ok-clause-read
 returns-in-Ok-clause-read g c = record {
   brings = (c.in-Ok.ensures.bytes.0, some_of c.in-Ok.count c.in-Ok.count-test.1, c.in-Ok.ensures.room, still_good _ _ _ c.in-Ok.ensures.kept c.in-Ok.ensures.fault, one_less c.args.turns_left.now c.if-turns_left-eq0.false);
-  turns = one_turn _ _ c.args.turns_left.now _ (take c.in-Ok.count c.read_behind.new.buffer) (some_of _ c.if-turns_left-eq0.false) c.read_behind.ensures.count c.in-Ok.ensures.bytes.0 (some_taken c.in-Ok.count c.read_behind.new.buffer c.in-Ok.count-test.1 c.in-Ok.ensures.room)
+  turns = one_turn _ _ c.args.turns_left.now _ (take c.in-Ok.count c.read_after.new.buffer) (some_of _ c.if-turns_left-eq0.false) c.read_after.ensures.count c.in-Ok.ensures.bytes.0 (some_taken c.in-Ok.count c.read_after.new.buffer c.in-Ok.count-test.1 c.in-Ok.ensures.room)
       c.in-Ok.ensures.noted;
   noted = since_noted _ _ _ _ c.in-Ok.ensures.noted;
 }
 
 pub returns-in-Ok-clause-goes : goal.returns-in-Ok-clause-goes
-returns-in-Ok-clause-goes g c = c.read_behind.ensures.goes
+returns-in-Ok-clause-goes g c = c.read_after.ensures.goes

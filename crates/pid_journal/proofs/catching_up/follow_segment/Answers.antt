@@ -33,17 +33,17 @@ returns-then-now-begin-clause-followed g c clean names known h shown marked begi
 
 -- a fault before any line was obeyed
 pub returns-in-Err-clause-followed : goal.returns-in-Err-clause-followed
-returns-in-Err-clause-followed g c clean names known h shown marked begins shows way = (tt, stops_at g.R.Moderated.showing _ _ shown (c.in-Err.ensures.told clean shown shows).1 (way_along h shown false _ way))
+returns-in-Err-clause-followed g c clean names known h shown marked begins shows way = (tt, stops_at g.R.RegistryCalls.showing _ _ shown (c.in-Err.ensures.told clean shown shows).1 (way_along h shown false _ way))
 
 pub returns-in-Err-segment-clause-followed : goal.returns-in-Err-segment-clause-followed
-returns-in-Err-segment-clause-followed g c clean names known h shown marked begins shows way = (tt, stops_at g.R.Moderated.showing _ _ shown (c.in-Ok.ensures.told clean shown shows).1 (way_along h shown false _ way))
+returns-in-Err-segment-clause-followed g c clean names known h shown marked begins shows way = (tt, stops_at g.R.RegistryCalls.showing _ _ shown (c.in-Ok.ensures.told clean shown shows).1 (way_along h shown false _ way))
 
 -- the registry has no place in the segment
 pub returns-in-Err-find_place-clause-followed : goal.returns-in-Err-find_place-clause-followed
 returns-in-Err-find_place-clause-followed g c clean names known h shown marked begins shows way =
     let told = c.in-Ok.ensures.told clean shown shows in
     let found = text_whole g.F.JournalFolder c.args.folder.now c.new-text.result c.args.begin (λ bytes all. FindsPlace {X = Unit {0}} bytes c.counts_of-now.result c.args.begin (Err c.in-Err-find_place.fault) (λ x. left_in c.find_place.new.text all)) c.new-text.ensures.begin c.new-text.ensures.left c.in-Err-find_place.ensures.found names known in
-    (found h shown marked begins (counted_status _ shown told.0 ∙ sym c.counts_of-now.ensures) way, stops_at g.R.Moderated.showing _ _ shown told.1 (way_along h shown false _ way))
+    (found h shown marked begins (counted_status _ shown told.0 ∙ sym c.counts_of-now.ensures) way, stops_at g.R.RegistryCalls.showing _ _ shown told.1 (way_along h shown false _ way))
 
 pub returns-in-Err-find_place-clause-stays : goal.returns-in-Err-find_place-clause-stays
 returns-in-Err-find_place-clause-stays g c = inr ((λ clean h shown. (c.in-Ok.ensures.told clean h shown).1), c.find_place.ensures.reads.quiet)
@@ -59,10 +59,10 @@ returns-in-Ok-obey_rest-clause-followed g c clean names known h shown marked beg
     let at : IsAt h shown text rest = found h shown marked begins (counted_status _ shown told.0 ∙ sym c.counts_of-now.ensures) way in
     let leads = leads_on h shown text rest at in
     let opened = if_opened (g.F.JournalFolder.names c.find_place.new.folder) names _ _ (reads.same.0 ∙ known) c.in-Ok-segment.ensures.opened ∙ ap (λ (t : ℕ → List ℕ). Some (t c.args.begin)) reads.same.1 in
-    let obeyed = text_at g.F.JournalFolder c.args.folder.now c.segment.new.self c.find_place.new.text c.args.begin (λ all. ObeysRest g.R.Moderated.showing c.status.new.self c.obey_rest.new.registry (g.F.Segment.JournalFile.safe c.in-Ok-segment.segment) (g.F.Segment.JournalFile.safe c.obey_rest.new.journal) all (left_in c.find_place.new.text all))
+    let obeyed = text_at g.F.JournalFolder c.args.folder.now c.segment.new.self c.find_place.new.text c.args.begin (λ all. ObeysRest g.R.RegistryCalls.showing c.status.new.self c.obey_rest.new.registry (g.F.Segment.JournalFile.safe c.in-Ok-segment.segment) (g.F.Segment.JournalFile.safe c.obey_rest.new.journal) all (left_in c.find_place.new.text all))
     ((c.segment.ensures.same.0 ∙ reads.same.0), (c.segment.ensures.same.1 ∙ reads.same.1)) (reads.begin ∙ c.new-text.ensures.begin) c.in-Ok-obey_rest.ensures.obeyed names known clean shown told.1 in
-    segment_ended g.R.Moderated g.F.Segment.JournalFile h shown text c.obey_rest.new.registry c.in-Ok-segment.segment c.obey_rest.new.journal opened
-    (subst (λ (x : History). g.R.Moderated.showing.shows c.obey_rest.new.registry x) leads obeyed.0)
+    segment_ended g.R.RegistryCalls g.F.Segment.JournalFile h shown text c.obey_rest.new.registry c.in-Ok-segment.segment c.obey_rest.new.journal opened
+    (subst (λ (x : History). g.R.RegistryCalls.showing.shows c.obey_rest.new.registry x) leads obeyed.0)
     way (subst (λ (x : History). IsEnded x text (g.F.Segment.JournalFile.safe c.in-Ok-segment.segment) (g.F.Segment.JournalFile.safe c.obey_rest.new.journal)) leads obeyed.1)
 
 -- a fault at one of the lines
@@ -74,9 +74,9 @@ returns-clause-followed g c clean names known h shown marked begins shows way =
     let told = c.in-Ok.ensures.told (c.obey_rest.ensures.honest clean) shown shows in
     let found = text_whole g.F.JournalFolder c.args.folder.now c.new-text.result c.args.begin (λ bytes all. FindsPlace {X = Unit {0}} bytes c.counts_of-now.result c.args.begin (Ok tt) (λ x. left_in c.find_place.new.text all)) c.new-text.ensures.begin c.new-text.ensures.left c.in-Ok-find_place.ensures.found names known in
     let at : IsAt h shown text rest = found h shown marked begins (counted_status _ shown told.0 ∙ sym c.counts_of-now.ensures) way in
-    let stops = text_at g.F.JournalFolder c.args.folder.now c.segment.new.self c.find_place.new.text c.args.begin (λ all. StopsAlong g.R.Moderated.showing c.status.new.self c.obey_rest.new.registry (left_in c.find_place.new.text all))
+    let stops = text_at g.F.JournalFolder c.args.folder.now c.segment.new.self c.find_place.new.text c.args.begin (λ all. StopsAlong g.R.RegistryCalls.showing c.status.new.self c.obey_rest.new.registry (left_in c.find_place.new.text all))
     ((c.segment.ensures.same.0 ∙ reads.same.0), (c.segment.ensures.same.1 ∙ reads.same.1)) (reads.begin ∙ c.new-text.ensures.begin) c.in-Err-obey_rest.ensures.fault.1 names known clean shown told.1 in
-    (c.in-Err-obey_rest.ensures.fault.0, stops_as g.R.Moderated.showing c.obey_rest.new.registry _ _ (λ x along. along_rest h shown x text rest at along) stops)
+    (c.in-Err-obey_rest.ensures.fault.0, stops_as g.R.RegistryCalls.showing c.obey_rest.new.registry _ _ (λ x along. along_rest h shown x text rest at along) stops)
 
 -- WHAT IS COMPARED
 

@@ -2,7 +2,7 @@ use Rattle.std.proofs.Common.{◌-◌, [], length}
 use Rattle.pid_file.specs.WholeLines.{whole_lines}
 use Rattle.pid_script.specs.Replies.{history_after}
 use Rattle.pid_journal.specs.Steps.Reads.{left_in}
-use Rattle.pid_journal.proofs.Along.{stops_behind}
+use Rattle.pid_journal.proofs.Along.{stops_after}
 use Rattle.pid_journal.proofs.Resuming.{ends_text}
 use Rattle.pid_journal.proofs.SegmentLines.{left_torn, left_up_to}
 use Rattle.pid_journal.proofs.catching_up.obey_rest.Goals as goal
@@ -20,7 +20,7 @@ returns-clause-obeyed g c names known clean h shown =
     let ended = c.in-Ok.ensures.ended names known in
     let up = left_up_to text c.args.text.now c.follow.new.text c.left.result (c.requires.end names known) ended.0 ended.1 c.left.ensures in (
       c.mark_last.ensures.kept clean end all,
-      ends_text g.R.Moderated.showing c.follow.new.registry c.mark_last.new.registry end (g.F.Segment.JournalFile.safe c.args.journal.now) (g.F.Segment.JournalFile.safe c.follow.new.journal) (g.F.Segment.JournalFile.safe c.cut_torn.new.journal) (g.F.Segment.JournalFile.safe c.mark_last.new.journal) text (length text - c.left.result)
+      ends_text g.R.RegistryCalls.showing c.follow.new.registry c.mark_last.new.registry end (g.F.Segment.JournalFile.safe c.args.journal.now) (g.F.Segment.JournalFile.safe c.follow.new.journal) (g.F.Segment.JournalFile.safe c.cut_torn.new.journal) (g.F.Segment.JournalFile.safe c.mark_last.new.journal) text (length text - c.left.result)
           up c.follow.ensures.same (c.in-Ok-cut_torn.ensures text) c.mark_last.ensures.marked clean all,
     )
 
@@ -32,5 +32,5 @@ returns-in-Err-clause-fault g c = (tt, c.in-Err.ensures.obeyed)
 pub returns-in-Err-cut_torn-clause-fault : goal.returns-in-Err-cut_torn-clause-fault
 returns-in-Err-cut_torn-clause-fault g c = (
   c.in-Err-cut_torn.ensures [],
-  λ names known clean h shown. stops_behind g.R.Moderated.showing c.follow.new.registry h (whole_lines (left_in c.args.text.now (g.F.JournalFolder.text_in c.args.folder.now c.args.text.now.begin))) (c.in-Ok.ensures.obeyed names known clean h shown),
+  λ names known clean h shown. stops_after g.R.RegistryCalls.showing c.follow.new.registry h (whole_lines (left_in c.args.text.now (g.F.JournalFolder.text_in c.args.folder.now c.args.text.now.begin))) (c.in-Ok.ensures.obeyed names known clean h shown),
 )

@@ -8,9 +8,9 @@ use Rattle.pid_journal.proofs.opening.find_segment.Goals.{in-Ok-begin_segment, i
 pub returns-in-Ok-segment_after-clause-found : goal.returns-in-Ok-segment_after-clause-found
 returns-in-Ok-segment_after-clause-found g c clean names known start marked shows =
     let is = c.as_slice.ensures.value ∙ read_names (g.F.JournalFolder.names c.args.folder.now) names c.in-Ok.begins.items known c.in-Ok.ensures.read in
-    let follows = at_folder g.R.Moderated g.F.Segment.JournalFile g.F.JournalFolder c.args.registry.now c.follow_all.new.registry c.args.folder.now c.begins.new.self names c.as_slice.result.now (Ok c.in-Ok-follow_all.last) c.begins.ensures.same is c.in-Ok-follow_all.ensures.followed in (
+    let follows = at_folder g.R.RegistryCalls g.F.Segment.JournalFile g.F.JournalFolder c.args.registry.now c.follow_all.new.registry c.args.folder.now c.begins.new.self names c.as_slice.result.now (Ok c.in-Ok-follow_all.last) c.begins.ensures.same is c.in-Ok-follow_all.ensures.followed in (
       refl,
-      found g.R.Moderated g.F.Segment.JournalFile g.F.JournalFolder c.args.registry.now c.follow_all.new.registry c.segment_after.new.registry c.args.folder.now c.follow_all.new.folder c.segment_after.new.folder names c.in-Ok-follow_all.last c.in-Ok-segment_after.segment
+      found g.R.RegistryCalls g.F.Segment.JournalFile g.F.JournalFolder c.args.registry.now c.follow_all.new.registry c.segment_after.new.registry c.args.folder.now c.follow_all.new.folder c.segment_after.new.folder names c.in-Ok-follow_all.last c.in-Ok-segment_after.segment
           c.segment_after.ensures.honest follows c.segment_after.ensures.kept (c.follow_all.ensures.same.0 ∙ c.begins.ensures.same.0) c.in-Ok-segment_after.ensures.goes clean known start marked shows,
     )
 
@@ -20,8 +20,8 @@ pub returns-in-Err-Newer-clause-gap : goal.returns-in-Err-Newer-clause-gap
 returns-in-Err-Newer-clause-gap g c =
     elim c.match-begin_segment.branch [
       | in-Ok-begin_segment w ↦
-          rw w.result-is (λ gap. gap_found g.R.Moderated g.F.Segment.JournalFile g.F.JournalFolder c.args.registry.now c.follow_all.new.registry c.begin_segment.new.registry c.args.folder.now c.follow_all.new.folder c.begin_segment.new.folder c.as_slice.result.now w.in-Ok-begin_segment.segment
-          (let stays = rw c.in-Err-Newer.field-0-is at c.in-Err-Newer.ensures.stays in both_quiet g.R.Moderated.showing g.F.JournalFolder c.args.registry.now c.args.registry.now c.follow_all.new.registry c.args.folder.now c.begins.new.self c.follow_all.new.folder c.follow_all.ensures.honest ((λ clean h shown. shown), c.begins.ensures.unopened) (quiet_newer stays))
+          rw w.result-is (λ gap. gap_found g.R.RegistryCalls g.F.Segment.JournalFile g.F.JournalFolder c.args.registry.now c.follow_all.new.registry c.begin_segment.new.registry c.args.folder.now c.follow_all.new.folder c.begin_segment.new.folder c.as_slice.result.now w.in-Ok-begin_segment.segment
+          (let stays = rw c.in-Err-Newer.field-0-is at c.in-Err-Newer.ensures.stays in both_quiet g.R.RegistryCalls.showing g.F.JournalFolder c.args.registry.now c.args.registry.now c.follow_all.new.registry c.args.folder.now c.begins.new.self c.follow_all.new.folder c.follow_all.ensures.honest ((λ clean h shown. shown), c.begins.ensures.unopened) (quiet_newer stays))
           c.begin_segment.ensures.honest (c.follow_all.ensures.same.0 ∙ c.begins.ensures.same.0) w.in-Ok-begin_segment.ensures.begun
           (λ names known. c.as_slice.ensures.value ∙ read_names (g.F.JournalFolder.names c.args.folder.now) names c.in-Ok.begins.items known c.in-Ok.ensures.read)
           ((rw c.in-Err-Newer.field-0-is at c.in-Err-Newer.ensures.come) refl))
@@ -31,32 +31,32 @@ returns-in-Err-Newer-clause-gap g c =
 -- WHAT A FAULT LEAVES
 
 pub returns-in-Err-clause-found : goal.returns-in-Err-clause-found
-returns-in-Err-clause-found g c clean names known start marked shows = (tt, stops_at g.R.Moderated.showing _ _ shows.shown shows.shows (segments_along (g.F.JournalFolder.text_in c.args.folder.now) start shows.shown names shows.way))
+returns-in-Err-clause-found g c clean names known start marked shows = (tt, stops_at g.R.RegistryCalls.showing _ _ shows.shown shows.shows (segments_along (g.F.JournalFolder.text_in c.args.folder.now) start shows.shown names shows.way))
 
 pub returns-clause-found : goal.returns-clause-found
 returns-clause-found g c clean names known start marked shows =
     let is = c.as_slice.ensures.value ∙ read_names (g.F.JournalFolder.names c.args.folder.now) names c.in-Ok.begins.items known c.in-Ok.ensures.read in
-    let follows = at_folder g.R.Moderated g.F.Segment.JournalFile g.F.JournalFolder c.args.registry.now c.follow_all.new.registry c.args.folder.now c.begins.new.self names c.as_slice.result.now (Ok c.in-Ok-follow_all.last) c.begins.ensures.same is c.in-Ok-follow_all.ensures.followed in
-    fault_found g.R.Moderated g.F.Segment.JournalFile g.F.JournalFolder c.args.registry.now c.follow_all.new.registry c.segment_after.new.registry c.args.folder.now names c.in-Ok-follow_all.last c.in-Err-segment_after.fault
+    let follows = at_folder g.R.RegistryCalls g.F.Segment.JournalFile g.F.JournalFolder c.args.registry.now c.follow_all.new.registry c.args.folder.now c.begins.new.self names c.as_slice.result.now (Ok c.in-Ok-follow_all.last) c.begins.ensures.same is c.in-Ok-follow_all.ensures.followed in
+    fault_found g.R.RegistryCalls g.F.Segment.JournalFile g.F.JournalFolder c.args.registry.now c.follow_all.new.registry c.segment_after.new.registry c.args.folder.now names c.in-Ok-follow_all.last c.in-Err-segment_after.fault
     c.in-Err-segment_after.ensures.fault.0 c.segment_after.ensures.honest c.segment_after.ensures.kept follows clean known start marked shows
 
 -- WHAT IS COMPARED
 
 pub returns-in-Err-clause-compared : goal.returns-in-Err-clause-compared
-returns-in-Err-clause-compared g c names known = finds_refused g.R.Moderated.showing g.F.JournalFolder _ _ c.args.folder.now names _ tt
+returns-in-Err-clause-compared g c names known = finds_refused g.R.RegistryCalls.showing g.F.JournalFolder _ _ c.args.folder.now names _ tt
 
 pub returns-in-Ok-segment_after-clause-compared : goal.returns-in-Ok-segment_after-clause-compared
 returns-in-Ok-segment_after-clause-compared g c names known =
-    finds_same g.R.Moderated.showing g.F.JournalFolder c.args.registry.now c.follow_all.new.registry c.segment_after.new.registry c.args.folder.now c.begins.new.self names c.as_slice.result.now c.begins.ensures.same (c.as_slice.ensures.value ∙ read_names (g.F.JournalFolder.names c.args.folder.now) names c.in-Ok.begins.items known c.in-Ok.ensures.read)
+    finds_same g.R.RegistryCalls.showing g.F.JournalFolder c.args.registry.now c.follow_all.new.registry c.segment_after.new.registry c.args.folder.now c.begins.new.self names c.as_slice.result.now c.begins.ensures.same (c.as_slice.ensures.value ∙ read_names (g.F.JournalFolder.names c.args.folder.now) names c.in-Ok.begins.items known c.in-Ok.ensures.read)
     c.segment_after.ensures.honest c.in-Ok-follow_all.ensures.compared
 
 pub returns-in-Err-Newer-clause-compared : goal.returns-in-Err-Newer-clause-compared
 returns-in-Err-Newer-clause-compared g c names known =
     elim c.match-begin_segment.branch [
       | in-Ok-begin_segment w ↦
-          rw w.result-is (finds_newer g.R.Moderated.showing g.F.JournalFolder c.args.registry.now c.follow_all.new.registry c.begin_segment.new.registry c.args.folder.now c.begins.new.self names c.as_slice.result.now c.begins.ensures.same
+          rw w.result-is (finds_newer g.R.RegistryCalls.showing g.F.JournalFolder c.args.registry.now c.follow_all.new.registry c.begin_segment.new.registry c.args.folder.now c.begins.new.self names c.as_slice.result.now c.begins.ensures.same
           (c.as_slice.ensures.value ∙ read_names (g.F.JournalFolder.names c.args.folder.now) names c.in-Ok.begins.items known c.in-Ok.ensures.read) c.begin_segment.ensures.honest (rw c.in-Err-Newer.field-0-is at c.in-Err-Newer.ensures.compared))
-      | in-Err-begin_segment w ↦ rw w.result-is (finds_refused g.R.Moderated.showing g.F.JournalFolder c.args.registry.now c.begin_segment.new.registry c.args.folder.now names w.in-Err-begin_segment.fault w.in-Err-begin_segment.ensures.fault.0)
+      | in-Err-begin_segment w ↦ rw w.result-is (finds_refused g.R.RegistryCalls.showing g.F.JournalFolder c.args.registry.now c.begin_segment.new.registry c.args.folder.now names w.in-Err-begin_segment.fault w.in-Err-begin_segment.ensures.fault.0)
     ]
 
 -- THE FIRST SEGMENT HAS BEGUN
@@ -64,7 +64,7 @@ returns-in-Err-Newer-clause-compared g c names known =
 pub returns-in-Ok-segment_after-clause-begun : goal.returns-in-Ok-segment_after-clause-begun
 returns-in-Ok-segment_after-clause-begun g c names known =
     let is = c.as_slice.ensures.value ∙ read_names (g.F.JournalFolder.names c.args.folder.now) names c.in-Ok.begins.items known c.in-Ok.ensures.read in
-    first_found g.R.Moderated.showing c.args.registry.now c.follow_all.new.registry c.segment_after.new.registry names c.as_slice.result.now is c.segment_after.ensures.honest
+    first_found g.R.RegistryCalls.showing c.args.registry.now c.follow_all.new.registry c.segment_after.new.registry names c.as_slice.result.now is c.segment_after.ensures.honest
     (c.in-Ok-follow_all.ensures.begun (rw c.as_slice.ensures.value c.in-Ok.ensures.ascending))
 
 pub returns-in-Err-Newer-clause-begun : goal.returns-in-Err-Newer-clause-begun
@@ -73,7 +73,7 @@ returns-in-Err-Newer-clause-begun g c =
       | in-Ok-begin_segment w ↦
           rw w.result-is (λ names known.
           let is = c.as_slice.ensures.value ∙ read_names (g.F.JournalFolder.names c.args.folder.now) names c.in-Ok.begins.items known c.in-Ok.ensures.read in
-          first_found g.R.Moderated.showing c.args.registry.now c.follow_all.new.registry c.begin_segment.new.registry names c.as_slice.result.now is c.begin_segment.ensures.honest
+          first_found g.R.RegistryCalls.showing c.args.registry.now c.follow_all.new.registry c.begin_segment.new.registry names c.as_slice.result.now is c.begin_segment.ensures.honest
           ((rw c.in-Err-Newer.field-0-is at c.in-Err-Newer.ensures.begun) (rw c.as_slice.ensures.value c.in-Ok.ensures.ascending) refl))
       | in-Err-begin_segment w ↦ rw w.result-is tt
     ]

@@ -17,8 +17,8 @@ returns-in-Ok g c = record {
               found.0,
               record {
                 front = found.1.front;
-                last = last_of g.R.Moderated g.F.Segment.JournalFile text start names _ _ _ found.1;
-                named = named_of g.R.Moderated g.F.Segment.JournalFile text start names _ _ _ on.0 found.1;
+                last = last_of g.R.RegistryCalls g.F.Segment.JournalFile text start names _ _ _ found.1;
+                named = named_of g.R.RegistryCalls g.F.Segment.JournalFile text start names _ _ _ on.0 found.1;
                 shows = record { shown = found.1.shown; settled = refl; text = found.1.kept; safe = found.1.safe; leads = found.1.leads };
                 more = found.1.more;
                 grows = found.1.grows;
@@ -45,7 +45,7 @@ returns-in-Err g c = record {
       record {
         obeyed = λ start marked on.
             let faults = c.in-Err.ensures.found clean names known start marked (record { shown = h; shows = shown; way = in_segments text start h names on }) in
-            (faults.0, stops_as g.R.Moderated.showing _ _ _ (λ x along. along_segments text start x names on.0 along) faults.1);
+            (faults.0, stops_as g.R.RegistryCalls.showing _ _ _ (λ x along. along_segments text start x names on.0 along) faults.1);
         gap = tt;
         begun = tt;
         compares = λ front name is begun. c.in-Err.ensures.compared names known clean front name is known h shown begun;

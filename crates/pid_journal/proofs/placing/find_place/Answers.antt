@@ -4,7 +4,7 @@ use Rattle.pid_file.specs.WholeLines.{whole_lines}
 use Rattle.pid_journal.specs.Steps.Places.{IsSaid}
 use Rattle.pid_journal.specs.Steps.Reads.{IsAllRead, IsLine, left_in}
 use Rattle.pid_journal.proofs.Comparing.{compares_all, compares_first, compares_here, compares_on, compares_other}
-use Rattle.pid_journal.proofs.Places.{end_more, found_behind, found_end, found_first, found_on, line_first, placed_at}
+use Rattle.pid_journal.proofs.Places.{end_more, found_after, found_end, found_first, found_on, line_first, placed_at}
 use Rattle.pid_journal.proofs.Resuming.{if_ok}
 use Rattle.pid_journal.proofs.SegmentLines.{open_end, reads_both, reads_none, text_then}
 use Rattle.pid_journal.proofs.placing.find_place.Goals as goal
@@ -70,7 +70,7 @@ returns-in-Here-clause-found g c names known start shown marked begins is way =
     let line = c.take_line.new.line.items in
     let taken = text_then g.F.JournalFolder c.args.folder.now c.loop-turn.folder c.args.text.now c.loop-turn.text (λ x. IsLine (left_in c.loop-turn.text x) line (left_in c.take_line.new.self x)) c.loop-turn.invariant.reads (c.in-Ok.ensures.taken c.if-not-whole.false) names known in
     let r = (c.loop-turn.invariant.finds names known).0.reached start shown marked begins is way in
-    found_behind start shown (left_in c.args.text.now all) rest line behind c.loop-turn.place r taken.parts taken.one
+    found_after start shown (left_in c.args.text.now all) rest line behind c.loop-turn.place r taken.parts taken.one
     (c.in-Here.ensures.next shown r.here (drop_cr line) (whole_lines behind) is (subst (λ (l : List ℕ). IsSaid l c.in-Ok-said_by.said) (c.without_cr.ensures ∙ ap drop_cr c.deref.ensures.value) c.in-Ok-said_by.ensures) (placed_at shown r.here c.loop-turn.place rest line behind taken.parts taken.one r.placed))
 
 pub returns-in-Here-clause-compared : goal.returns-in-Here-clause-compared

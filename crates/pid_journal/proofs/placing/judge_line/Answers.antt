@@ -3,7 +3,7 @@ use Rattle.std.proofs.lemmas.Bool.Decides.{nat_tests}
 use Rattle.std.specs.Prelude.{◌==◌, ◌&&◌}
 use mathlib.Core.Bool.{false≢true}
 use Rattle.pid_journal.specs.declared.counts.Counts.{Counts}
-use Rattle.pid_journal.specs.declared.placing.Said.{Said}
+use Rattle.pid_journal.specs.declared.placing.LineCounts.{LineCounts}
 use Rattle.pid_journal.specs.Steps.Places.{IsSaid}
 use Rattle.pid_journal.proofs.Comparing.{told_here, told_no_more, told_older, told_still}
 use Rattle.pid_journal.proofs.Places.{command_passed, holds_here, holds_older, holds_other, not_older, nothing_said}
@@ -20,45 +20,45 @@ never_false k now same off =
 -- a comment that is older than the registry
 pub returns-then-counts-now-clause-next : goal.returns-then-counts-now-clause-next
 returns-then-counts-now-clause-next c shown h line lines is said placed =
-    holds_older shown h c.args.place line lines c.args.now c.in-Holds.counts is (subst (λ (s : Said). IsSaid line s) c.in-Holds.is said) placed c.if-counts-now.true
+    holds_older shown h c.args.place line lines c.args.now c.in-Holds.counts is (subst (λ (s : LineCounts). IsSaid line s) c.in-Holds.is said) placed c.if-counts-now.true
 
 pub returns-then-eq-clause-next : goal.returns-then-eq-clause-next
 returns-then-eq-clause-next c shown h line lines is said placed =
-    holds_here shown h c.args.place line lines c.args.now c.in-Holds.counts is (subst (λ (s : Said). IsSaid line s) c.in-Holds.is said) placed (search rules)
+    holds_here shown h c.args.place line lines c.args.now c.in-Holds.counts is (subst (λ (s : LineCounts). IsSaid line s) c.in-Holds.is said) placed (search rules)
 
 pub returns-else-eq-clause-next : goal.returns-else-eq-clause-next
 returns-else-eq-clause-next c shown h line lines is said placed =
-    holds_other shown h c.args.place line lines c.args.now c.in-Holds.counts is (subst (λ (s : Said). IsSaid line s) c.in-Holds.is said) placed c.if-counts-now.false (λ same. never_false c.in-Holds.counts c.args.now same c.if-eq.ensures)
+    holds_other shown h c.args.place line lines c.args.now c.in-Holds.counts is (subst (λ (s : LineCounts). IsSaid line s) c.in-Holds.is said) placed c.if-counts-now.false (λ same. never_false c.in-Holds.counts c.args.now same c.if-eq.ensures)
 
 pub returns-in-Nothing-clause-next : goal.returns-in-Nothing-clause-next
 returns-in-Nothing-clause-next c shown h line lines is said placed =
-    let none = subst (λ (s : Said). IsSaid line s) c.in-Nothing.is said in
+    let none = subst (λ (s : LineCounts). IsSaid line s) c.in-Nothing.is said in
     nothing_said shown h c.args.place line lines none.0 none.1 placed
 
 -- a command
 pub returns-then-now-place-clause-next : goal.returns-then-now-place-clause-next
 returns-then-now-place-clause-next c shown h line lines is said placed =
-    not_older shown h c.args.place line lines c.args.now is (subst (λ (s : Said). IsSaid line s) c.in-Other.is said) c.if-now-place.true placed
+    not_older shown h c.args.place line lines c.args.now is (subst (λ (s : LineCounts). IsSaid line s) c.in-Other.is said) c.if-now-place.true placed
 
 pub returns-else-now-place-clause-next : goal.returns-else-now-place-clause-next
 returns-else-now-place-clause-next c shown h line lines is said placed =
-    command_passed shown h c.args.place line lines (subst (λ (s : Said). IsSaid line s) c.in-Other.is said) placed
+    command_passed shown h c.args.place line lines (subst (λ (s : LineCounts). IsSaid line s) c.in-Other.is said) placed
 
 -- WHAT IS COMPARED
 
 pub returns-then-counts-now-clause-compared : goal.returns-then-counts-now-clause-compared
 returns-then-counts-now-clause-compared c told line lines is told_so =
-    (Some c.in-Holds.counts, (refl, c.if-counts-now.true), told_older c.args.now c.in-Holds.counts told c.args.place line lines told_so (subst (λ (s : Said). IsSaid line s) c.in-Holds.is is))
+    (Some c.in-Holds.counts, (refl, c.if-counts-now.true), told_older c.args.now c.in-Holds.counts told c.args.place line lines told_so (subst (λ (s : LineCounts). IsSaid line s) c.in-Holds.is is))
 
 pub returns-then-eq-clause-compared : goal.returns-then-eq-clause-compared
 returns-then-eq-clause-compared c told line lines is told_so =
     let same : c.in-Holds.counts ≡ c.args.now = search rules in
-    told_here c.args.now c.in-Holds.counts told c.args.place line lines told_so (subst (λ (s : Said). IsSaid line s) c.in-Holds.is is) c.if-counts-now.false ∙ ap (λ (k : Counts). Some k) same
+    told_here c.args.now c.in-Holds.counts told c.args.place line lines told_so (subst (λ (s : LineCounts). IsSaid line s) c.in-Holds.is is) c.if-counts-now.false ∙ ap (λ (k : Counts). Some k) same
 
 pub returns-in-Nothing-clause-compared : goal.returns-in-Nothing-clause-compared
 returns-in-Nothing-clause-compared c told line lines is told_so =
-    let none = subst (λ (s : Said). IsSaid line s) c.in-Nothing.is is in
+    let none = subst (λ (s : LineCounts). IsSaid line s) c.in-Nothing.is is in
     (told, told_so, told_still c.args.now told c.args.place line lines told_so none.0 none.1)
 
 pub returns-else-now-place-clause-compared : goal.returns-else-now-place-clause-compared
-returns-else-now-place-clause-compared c told line lines is told_so = (None, tt, told_no_more c.args.now told c.args.place line lines told_so (subst (λ (s : Said). IsSaid line s) c.in-Other.is is))
+returns-else-now-place-clause-compared c told line lines is told_so = (None, tt, told_no_more c.args.now told c.args.place line lines told_so (subst (λ (s : LineCounts). IsSaid line s) c.in-Other.is is))

@@ -8,7 +8,7 @@ use Rattle.pid_moderation.specs.declared.command.Expected.{Expected}
 use Rattle.pid_moderation.specs.declared.command.Reply.{Reply}
 use Rattle.pid_moderation.specs.declared.command.Reply.TheVariants.{Done}
 use Rattle.pid_moderation.specs.declared.facts.Facts.{Facts}
-use Rattle.pid_moderation.specs.declared.facts.Named.{Named}
+use Rattle.pid_moderation.specs.declared.facts.NamedSubmission.{NamedSubmission}
 use Rattle.pid_moderation.specs.declared.facts.State.TheVariants.{Approved}
 use Rattle.pid_moderation.specs.declared.refusal.Refusal.{Refusal}
 use Rattle.pid_moderation.specs.declared.refusal.Refusal.TheVariants.{NoAccount, NoSubmission}
@@ -20,29 +20,29 @@ use Rattle.pid_moderation.proofs.Passing.{all_pass}
 use Rattle.pid_moderation.proofs.policy.approve.Goals as goal
 
 -- the checks of a decision, before those of the item
-abbrev earlier : List ℕ → Facts → Named → Checks
+abbrev earlier : List ℕ → Facts → NamedSubmission → Checks
 earlier account f s = (is_none f.rank, NoAccount) ∷ decision_checks account f.rank s
 
 -- the checks of an approval, and those where the submission is there
 abbrev asked_checks : List ℕ → Facts → ℕ → Expected → Checks
 asked_checks account f n e = (is_none f.rank, NoAccount) ∷ later_checks account f (Approves n e)
 
-abbrev its_checks : List ℕ → Facts → Expected → Named → Checks
+abbrev its_checks : List ℕ → Facts → Expected → NamedSubmission → Checks
 its_checks account f e s = (is_none f.rank, NoAccount) ∷ approval_checks account f e s
 
 is_absent : (account : List ℕ) (f : Facts) (n : ℕ) (e : Expected) (refusal : Refusal) → f.named ≡ None
     → first_failing ((is_none f.rank, NoAccount) ∷ (true, NoSubmission) ∷ []) ≡ Some refusal → first_failing (asked_checks account f n e) ≡ Some refusal
 is_absent account f n e refusal none h = rw none h
 
-is_refused : (account : List ℕ) (f : Facts) (n : ℕ) (e : Expected) (s : Named) (refusal : Refusal) → f.named ≡ Some s
+is_refused : (account : List ℕ) (f : Facts) (n : ℕ) (e : Expected) (s : NamedSubmission) (refusal : Refusal) → f.named ≡ Some s
     → first_failing (its_checks account f e s) ≡ Some refusal → first_failing (asked_checks account f n e) ≡ Some refusal
 is_refused account f n e s refusal is h = rw is h
 
-passes : (account : List ℕ) (f : Facts) (n : ℕ) (e : Expected) (s : Named) → f.named ≡ Some s
+passes : (account : List ℕ) (f : Facts) (n : ℕ) (e : Expected) (s : NamedSubmission) → f.named ≡ Some s
     → first_failing (its_checks account f e s) ≡ None → first_failing (asked_checks account f n e) ≡ None
 passes account f n e s is h = rw is h
 
-decides : (account decider : List ℕ) (f : Facts) (n : ℕ) (e : Expected) (s : Named) (w : Write) → f.named ≡ Some s → decider ≡ account → w ≡ write_of f s
+decides : (account decider : List ℕ) (f : Facts) (n : ℕ) (e : Expected) (s : NamedSubmission) (w : Write) → f.named ≡ Some s → decider ≡ account → w ≡ write_of f s
     → ◌≡◌ {A = Effect × Reply} (Decided n (Approved decider) (Some w), Done) (effect_of account f (Approves n e), Done)
 decides account decider f n e s w is who what =
     rw is (ap (λ (d : List ℕ). (Decided n (Approved d) (Some w), Done)) who ∙ ap (λ (x : Write). (Decided n (Approved account) (Some x), Done)) what)
@@ -51,7 +51,7 @@ pub returns-in_default : goal.returns-in_default
 returns-in_default c = λ _. is_absent c.args.account.now c.args.facts.now c.args.number c.args.expected.now c.absent.result c.in_default.is c.absent.ensures
 
 -- what the two kinds of checks leave is what all of them leave
-both : (account : List ℕ) (f : Facts) (e : Expected) (s : Named) (first then all : Option Refusal) → first ≡ first_failing (earlier account f s) → then ≡ first_failing (item_checks f e s)
+both : (account : List ℕ) (f : Facts) (e : Expected) (s : NamedSubmission) (first then all : Option Refusal) → first ≡ first_failing (earlier account f s) → then ≡ first_failing (item_checks f e s)
     → all ≡ option_or first then → first_failing (its_checks account f e s) ≡ all
 both account f e s first then all is_first is_then is_all =
     joined (earlier account f s) (item_checks f e s) ∙ sym (is_all ∙ (λ i. option_or (is_first i) (is_then i)))

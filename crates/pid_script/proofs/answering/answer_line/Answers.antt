@@ -6,36 +6,36 @@ use Rattle.pid_script.proofs.Asked.{err_fault}
 use Rattle.pid_script.proofs.answering.answer_line.Goals as goal
 
 pub returns-in-Export-clause-ends : goal.returns-in-Export-clause-ends
-returns-in-Export-clause-ends g c = λ honest h stands. subst (λ a. AnswersLine g.R.Moderated c.export.result a h c.args.registry.now (out (g.O.Output.taken c.args.output.now) c.args.held.now.items) c.export.new.registry (out (g.O.Output.taken c.export.new.output) c.export.new.held.items)) c.in-Export.ensures (c.export.ensures.ends honest h stands)
+returns-in-Export-clause-ends g c = λ honest h stands. subst (λ a. AnswersLine g.R.RegistryCalls c.export.result a h c.args.registry.now (out (g.O.Output.taken c.args.output.now) c.args.held.now.items) c.export.new.registry (out (g.O.Output.taken c.export.new.output) c.export.new.held.items)) c.in-Export.ensures (c.export.ensures.ends honest h stands)
 
 pub returns-in-Unclear-clause-ends : goal.returns-in-Unclear-clause-ends
-returns-in-Unclear-clause-ends g c = λ honest h stands. subst (λ a. AnswersLine g.R.Moderated c.send_bad_text.result a h c.args.registry.now (out (g.O.Output.taken c.args.output.now) c.args.held.now.items) c.args.registry.now (out (g.O.Output.taken c.send_bad_text.new.output) c.send_bad_text.new.held.items)) c.in-Unclear.ensures
-    (unclear g.R.Moderated c.send_bad_text.result h c.args.registry.now (out (g.O.Output.taken c.args.output.now) c.args.held.now.items) (out (g.O.Output.taken c.send_bad_text.new.output) c.send_bad_text.new.held.items) c.send_bad_text.ensures.told c.send_bad_text.ensures.end)
+returns-in-Unclear-clause-ends g c = λ honest h stands. subst (λ a. AnswersLine g.R.RegistryCalls c.send_bad_text.result a h c.args.registry.now (out (g.O.Output.taken c.args.output.now) c.args.held.now.items) c.args.registry.now (out (g.O.Output.taken c.send_bad_text.new.output) c.send_bad_text.new.held.items)) c.in-Unclear.ensures
+    (unclear g.R.RegistryCalls c.send_bad_text.result h c.args.registry.now (out (g.O.Output.taken c.args.output.now) c.args.held.now.items) (out (g.O.Output.taken c.send_bad_text.new.output) c.send_bad_text.new.held.items) c.send_bad_text.ensures.told c.send_bad_text.ensures.end)
 
 pub returns-in-TooLong-clause-ends : goal.returns-in-TooLong-clause-ends
-returns-in-TooLong-clause-ends g c = λ honest h stands. subst (λ a. AnswersLine g.R.Moderated (Err c.refuse_long.result) a h c.args.registry.now (out (g.O.Output.taken c.args.output.now) c.args.held.now.items) c.args.registry.now (out (g.O.Output.taken c.refuse_long.new.output) c.refuse_long.new.held.items)) c.in-TooLong.ensures
-    (long g.R.Moderated c.refuse_long.result h c.args.registry.now (out (g.O.Output.taken c.args.output.now) c.args.held.now.items) (out (g.O.Output.taken c.refuse_long.new.output) c.refuse_long.new.held.items) c.refuse_long.ensures.told)
+returns-in-TooLong-clause-ends g c = λ honest h stands. subst (λ a. AnswersLine g.R.RegistryCalls (Err c.refuse_long.result) a h c.args.registry.now (out (g.O.Output.taken c.args.output.now) c.args.held.now.items) c.args.registry.now (out (g.O.Output.taken c.refuse_long.new.output) c.refuse_long.new.held.items)) c.in-TooLong.ensures
+    (long g.R.RegistryCalls c.refuse_long.result h c.args.registry.now (out (g.O.Output.taken c.args.output.now) c.args.held.now.items) (out (g.O.Output.taken c.refuse_long.new.output) c.refuse_long.new.held.items) c.refuse_long.ensures.told)
 
 pub returns-in-Nothing-clause-calls : goal.returns-in-Nothing-clause-calls
-returns-in-Nothing-clause-calls g c = go_still g.R.Moderated.showing c.args.registry.now
+returns-in-Nothing-clause-calls g c = go_still g.R.RegistryCalls.showing c.args.registry.now
 
 pub returns-in-Unclear-clause-calls : goal.returns-in-Unclear-clause-calls
-returns-in-Unclear-clause-calls g c = go_still g.R.Moderated.showing c.args.registry.now
+returns-in-Unclear-clause-calls g c = go_still g.R.RegistryCalls.showing c.args.registry.now
 
 pub returns-in-TooLong-clause-calls : goal.returns-in-TooLong-clause-calls
-returns-in-TooLong-clause-calls g c = go_still g.R.Moderated.showing c.args.registry.now
+returns-in-TooLong-clause-calls g c = go_still g.R.RegistryCalls.showing c.args.registry.now
 
 pub returns-in-Nothing-clause-ends : goal.returns-in-Nothing-clause-ends
-returns-in-Nothing-clause-ends g c = λ honest h stands. subst (λ a. AnswersLine g.R.Moderated (Ok tt) a h c.args.registry.now (out (g.O.Output.taken c.args.output.now) c.args.held.now.items) c.args.registry.now (out (g.O.Output.taken c.args.output.now) c.args.held.now.items)) c.in-Nothing.ensures (idle g.R.Moderated h c.args.registry.now (g.O.Output.taken c.args.output.now) c.args.held.now.items)
+returns-in-Nothing-clause-ends g c = λ honest h stands. subst (λ a. AnswersLine g.R.RegistryCalls (Ok tt) a h c.args.registry.now (out (g.O.Output.taken c.args.output.now) c.args.held.now.items) c.args.registry.now (out (g.O.Output.taken c.args.output.now) c.args.held.now.items)) c.in-Nothing.ensures (idle g.R.RegistryCalls h c.args.registry.now (g.O.Output.taken c.args.output.now) c.args.held.now.items)
 
 pub returns-in-Command-clause-ends : goal.returns-in-Command-clause-ends
-returns-in-Command-clause-ends g c = λ honest h stands. subst (λ a. AnswersLine g.R.Moderated c.obey.result a h c.args.registry.now (out (g.O.Output.taken c.args.output.now) c.args.held.now.items) c.obey.new.registry (out (g.O.Output.taken c.obey.new.output) c.obey.new.held.items)) c.in-Command.ensures (c.obey.ensures.ends honest h stands)
+returns-in-Command-clause-ends g c = λ honest h stands. subst (λ a. AnswersLine g.R.RegistryCalls c.obey.result a h c.args.registry.now (out (g.O.Output.taken c.args.output.now) c.args.held.now.items) c.obey.new.registry (out (g.O.Output.taken c.obey.new.output) c.obey.new.held.items)) c.in-Command.ensures (c.obey.ensures.ends honest h stands)
 
 pub returns-in-Read-clause-ends : goal.returns-in-Read-clause-ends
-returns-in-Read-clause-ends g c = λ honest h stands. subst (λ a. AnswersLine g.R.Moderated c.read.result a h c.args.registry.now (out (g.O.Output.taken c.args.output.now) c.args.held.now.items) c.read.new.registry (out (g.O.Output.taken c.read.new.output) c.read.new.held.items)) c.in-Read.ensures (c.read.ensures.ends honest h stands)
+returns-in-Read-clause-ends g c = λ honest h stands. subst (λ a. AnswersLine g.R.RegistryCalls c.read.result a h c.args.registry.now (out (g.O.Output.taken c.args.output.now) c.args.held.now.items) c.read.new.registry (out (g.O.Output.taken c.read.new.output) c.read.new.held.items)) c.in-Read.ensures (c.read.ensures.ends honest h stands)
 
 pub returns-in-Lookup-clause-ends : goal.returns-in-Lookup-clause-ends
-returns-in-Lookup-clause-ends g c = λ honest h stands. subst (λ a. AnswersLine g.R.Moderated c.lookup.result a h c.args.registry.now (out (g.O.Output.taken c.args.output.now) c.args.held.now.items) c.lookup.new.registry (out (g.O.Output.taken c.lookup.new.output) c.lookup.new.held.items)) c.in-Lookup.ensures (c.lookup.ensures.ends honest h stands)
+returns-in-Lookup-clause-ends g c = λ honest h stands. subst (λ a. AnswersLine g.R.RegistryCalls c.lookup.result a h c.args.registry.now (out (g.O.Output.taken c.args.output.now) c.args.held.now.items) c.lookup.new.registry (out (g.O.Output.taken c.lookup.new.output) c.lookup.new.held.items)) c.in-Lookup.ensures (c.lookup.ensures.ends honest h stands)
 
 pub returns-in-Command-clause-calls : goal.returns-in-Command-clause-calls
 returns-in-Command-clause-calls g c = c.obey.ensures.calls

@@ -19,9 +19,9 @@ returns-in_default-write_reply_line-clause-told g c = λ reply is.
     told_broken _ c.args.answer reply old new refl
     (front-then (g.O.Output.taken c.args.output.now) (g.O.Output.taken c.flush.new.output) (g.O.Output.taken c.write_reply_line.new.out) c.args.held.now.items (outcome_line c.args.answer) c.in_default.ensures.sent c.in_default-write_reply_line.ensures.sent) is
 
-pub returns-then-stops-clause-told : goal.returns-then-stops-clause-told
-returns-then-stops-clause-told g c = λ reply is.
-    let stop = c.stops.ensures.true_at c.if-stops.true in
+pub returns-then-ends_script-clause-told : goal.returns-then-ends_script-clause-told
+returns-then-ends_script-clause-told g c = λ reply is.
+    let stop = c.ends_script.ensures.true_at c.if-ends_script.true in
     told_stopped c.args.answer reply stop.0 (out (g.O.Output.taken c.args.output.now) c.args.held.now.items) (out (g.O.Output.taken c.write_reply_line.new.out) c.flush.new.held.items)
     (Appends-then (g.O.Output.taken c.args.output.now) (g.O.Output.taken c.flush.new.output) (g.O.Output.taken c.write_reply_line.new.out) c.args.held.now.items (outcome_line c.args.answer) c.in_default.ensures.sent c.in-Ok.ensures.sent) stop.1 stop.2
 
@@ -29,10 +29,10 @@ pub returns-clause-told : goal.returns-clause-told
 returns-clause-told g c = λ reply is.
     told_whole c.args.answer reply (out (g.O.Output.taken c.args.output.now) c.args.held.now.items) (out (g.O.Output.taken c.write_reply_line.new.out) c.flush.new.held.items)
     (Appends-then (g.O.Output.taken c.args.output.now) (g.O.Output.taken c.flush.new.output) (g.O.Output.taken c.write_reply_line.new.out) c.args.held.now.items (outcome_line c.args.answer) c.in_default.ensures.sent c.in-Ok.ensures.sent)
-    c.in_default.ensures.empty (c.stops.ensures.false_at c.if-stops.false) is
+    c.in_default.ensures.empty (c.ends_script.ensures.false_at c.if-ends_script.false) is
 
 pub returns-clause-goes_on : goal.returns-clause-goes_on
-returns-clause-goes_on g c = whole_goes c.args.answer (c.stops.ensures.false_at c.if-stops.false)
+returns-clause-goes_on g c = whole_goes c.args.answer (c.ends_script.ensures.false_at c.if-ends_script.false)
 
 pub returns-clause-empty : goal.returns-clause-empty
 returns-clause-empty g c = c.in_default.ensures.empty

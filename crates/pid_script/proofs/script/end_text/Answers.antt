@@ -8,29 +8,29 @@ use Rattle.pid_script.proofs.script.end_text.Goals as goal
 pub returns-then-is_empty-clause-ends : goal.returns-then-is_empty-clause-ends
 returns-then-is_empty-clause-ends g c = λ honest h start first text stands a.
     let old = out (g.O.Output.taken c.args.output.now) c.args.held.now.items in
-    end_on g.R.Moderated c.flush.result h start first c.args.registry.now old (out (g.O.Output.taken c.flush.new.output) c.flush.new.held.items) text
-    (at_end g.R.Moderated h start first c.args.registry.now old c.args.kept.now text a (nothing_left c.args.kept.now c.if-is_empty.ensures)) c.flush.ensures.end c.flush.ensures.sent c.flush.ensures.front
+    end_on g.R.RegistryCalls c.flush.result h start first c.args.registry.now old (out (g.O.Output.taken c.flush.new.output) c.flush.new.held.items) text
+    (at_end g.R.RegistryCalls h start first c.args.registry.now old c.args.kept.now text a (nothing_left c.args.kept.now c.if-is_empty.ensures)) c.flush.ensures.end c.flush.ensures.sent c.flush.ensures.front
 
 pub returns-in-Err-clause-ends : goal.returns-in-Err-clause-ends
 returns-in-Err-clause-ends g c = λ honest h start first text stands a.
     let old = out (g.O.Output.taken c.args.output.now) c.args.held.now.items in
     let new = out (g.O.Output.taken c.answer_line.new.output) c.answer_line.new.held.items in
-    stop_last g.R.Moderated (Err c.in-Err.end) h start first c.args.registry.now c.answer_line.new.registry old new c.args.kept.now text a
+    stop_last g.R.RegistryCalls (Err c.in-Err.end) h start first c.args.registry.now c.answer_line.new.registry old new c.args.kept.now text a
     (something_left c.args.kept.now c.if-is_empty.ensures) stands
-    (λ k shown. subst (λ l. AnswersLine g.R.Moderated (Err c.in-Err.end) (ask_of l) k c.args.registry.now old c.answer_line.new.registry new) c.without_cr.ensures (c.in-Err.ensures.ends honest k shown))
+    (λ k shown. subst (λ l. AnswersLine g.R.RegistryCalls (Err c.in-Err.end) (ask_of l) k c.args.registry.now old c.answer_line.new.registry new) c.without_cr.ensures (c.in-Err.ensures.ends honest k shown))
 
 pub returns-clause-ends : goal.returns-clause-ends
 returns-clause-ends g c = λ honest h start first text stands a.
     let old = out (g.O.Output.taken c.args.output.now) c.args.held.now.items in
     let mid = out (g.O.Output.taken c.answer_line.new.output) c.answer_line.new.held.items in
-    end_on g.R.Moderated c.flush-2.result h start first c.answer_line.new.registry mid (out (g.O.Output.taken c.flush-2.new.output) c.flush-2.new.held.items) text
-    (at_last g.R.Moderated (Ok tt) h start first c.args.registry.now c.answer_line.new.registry old mid c.args.kept.now text a
+    end_on g.R.RegistryCalls c.flush-2.result h start first c.answer_line.new.registry mid (out (g.O.Output.taken c.flush-2.new.output) c.flush-2.new.held.items) text
+    (at_last g.R.RegistryCalls (Ok tt) h start first c.args.registry.now c.answer_line.new.registry old mid c.args.kept.now text a
     (something_left c.args.kept.now c.if-is_empty.ensures) stands
-    (λ k shown. subst (λ l. AnswersLine g.R.Moderated (Ok tt) (ask_of l) k c.args.registry.now old c.answer_line.new.registry mid) c.without_cr.ensures (c.in_default.ensures.ends honest k shown)))
+    (λ k shown. subst (λ l. AnswersLine g.R.RegistryCalls (Ok tt) (ask_of l) k c.args.registry.now old c.answer_line.new.registry mid) c.without_cr.ensures (c.in_default.ensures.ends honest k shown)))
     c.flush-2.ensures.end c.flush-2.ensures.sent c.flush-2.ensures.front
 
 pub returns-then-is_empty-clause-calls : goal.returns-then-is_empty-clause-calls
-returns-then-is_empty-clause-calls g c = go_still g.R.Moderated.showing c.args.registry.now
+returns-then-is_empty-clause-calls g c = go_still g.R.RegistryCalls.showing c.args.registry.now
 
 pub returns-then-is_empty-clause-fault : goal.returns-then-is_empty-clause-fault
 returns-then-is_empty-clause-fault g c = c.flush.ensures.fault

@@ -1,7 +1,7 @@
 use Rattle.std.proofs.Common.{◌≡◌, filter, map, take}
 use Rattle.pid_moderation.specs.ChangePages.{changed_of, start_text}
-use Rattle.pid_service.specs.Steps.KeptChanges.{comes_behind}
+use Rattle.pid_service.specs.Steps.KeptChanges.{comes_after}
 use Rattle.pid_service.proofs.changes.later_items.Given as goal
 
 abbrev pub invariant-loop-item : goal.invariant-loop-item
-invariant-loop-item l = map changed_of l.page.items ≡ filter (comes_behind l.since (start_text l.after)) (map changed_of (take l.item-index l.items))
+invariant-loop-item l = map changed_of l.page.items ≡ filter (comes_after l.since (start_text l.after)) (map changed_of (take l.item-index l.items))

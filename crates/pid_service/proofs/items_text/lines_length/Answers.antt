@@ -2,7 +2,7 @@ use Rattle.std.proofs.Common.{arith, refl}
 use Rattle.pid_ident.specs.PathTexts.{path_text}
 use Rattle.pid_file.specs.Printing.{label_of}
 use Rattle.pid_file.specs.Steps.Printing.{text_or_none}
-use Rattle.pid_service.specs.Steps.TextSinks.{block_behind}
+use Rattle.pid_service.specs.Steps.TextSinks.{block_after}
 use Rattle.pid_service.proofs.CountedLines.{added_up, block_short, label_short}
 use Rattle.pid_service.proofs.items_text.lines_length.Goals as goal
 
@@ -25,4 +25,4 @@ overflow_add-result-3 c =
     omega (arith, block, label)
 
 pub returns : goal.returns
-returns c = added_up (block_behind (text_or_none c.args.before) (path_text c.args.path)) (label_of (path_text c.args.path)) c.args.name.now _ _ _ c.block_length.ensures c.label_length.ensures refl
+returns c = added_up (block_after (text_or_none c.args.before) (path_text c.args.path)) (label_of (path_text c.args.path)) c.args.name.now _ _ _ c.block_length.ensures c.label_length.ensures refl

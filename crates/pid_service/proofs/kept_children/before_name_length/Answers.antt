@@ -3,7 +3,7 @@ use Rattle.std.specs.Prelude.{codes}
 use Rattle.pid_ident.specs.PathTexts.{path_text}
 use Rattle.pid_file.specs.Printing.{ended, label_of}
 use Rattle.pid_file.specs.Steps.Printing.{text_or_none}
-use Rattle.pid_service.specs.Steps.TextSinks.{block_behind}
+use Rattle.pid_service.specs.Steps.TextSinks.{block_after}
 use Rattle.pid_service.proofs.CountedLines.{block_short, label_short}
 use Rattle.pid_service.proofs.kept_children.before_name_length.Goals as goal
 
@@ -24,7 +24,7 @@ overflow_add-result-2 c =
 
 pub returns-clause-exact : goal.returns-clause-exact
 returns-clause-exact c =
-    counted (ended (block_behind (text_or_none c.args.before) (path_text c.args.path))) (label_of (path_text c.args.path)) (codes "  ") _ _ refl c.block_length.ensures c.label_length.ensures
+    counted (ended (block_after (text_or_none c.args.before) (path_text c.args.path))) (label_of (path_text c.args.path)) (codes "  ") _ _ refl c.block_length.ensures c.label_length.ensures
 
 pub returns-clause-few : goal.returns-clause-few
 returns-clause-few c =

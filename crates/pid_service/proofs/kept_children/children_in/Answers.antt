@@ -7,7 +7,7 @@ use Rattle.pid_moderation.specs.ItemPairs.{pair_of}
 use Rattle.pid_moderation.specs.declared.lists.Item.{Item}
 use Rattle.pid_service.proofs.KeptNames.{all_taken, none_more, one_more}
 use Rattle.pid_service.proofs.Places.{before_more, start_more}
-use Rattle.pid_service.specs.ItemTexts.{extents_behind, text_of_items}
+use Rattle.pid_service.specs.ItemTexts.{extents_after, text_of_items}
 use Rattle.pid_service.specs.KeptViews.{extent_in}
 use Rattle.pid_service.proofs.kept_children.children_in.Goals as goal
 use Rattle.pid_service.proofs.kept_children.children_in.Goals.{then-is_below+else-not-add_child, else-is_below}
@@ -23,7 +23,7 @@ loop-extent-preserved c =
       before = before_more extents c.loop-extent.extent-index _ c.loop-extent-test.true;
       found = λ items kept.
           let text : bytes ≡ text_of_items items = c.as_slice-bytes.ensures.value ∙ kept.text in
-          let are : map extent_in extents ≡ extents_behind [] items = ap (map extent_in) c.as_slice-extents.ensures.value ∙ kept.extents in
+          let are : map extent_in extents ≡ extents_after [] items = ap (map extent_in) c.as_slice-extents.ensures.value ∙ kept.extents in
           elim c.if-is_below.branch [
             | then-is_below+else-not-add_child w ↦
                 ap (λ (v : Vec Item Global). map pair_of v.items) w.found-is
@@ -38,5 +38,5 @@ loop-extent-preserved c =
 pub returns : goal.returns
 returns c items kept =
     let text : c.as_slice-bytes.result.now ≡ text_of_items items = c.as_slice-bytes.ensures.value ∙ kept.text in
-    let are : map extent_in c.as_slice-extents.result.now ≡ extents_behind [] items = ap (map extent_in) c.as_slice-extents.ensures.value ∙ kept.extents in
+    let are : map extent_in c.as_slice-extents.result.now ≡ extents_after [] items = ap (map extent_in) c.as_slice-extents.ensures.value ∙ kept.extents in
     c.loop-extent.invariant.found items kept ∙ ap (children_of (option_map path_text c.args.above)) (all_taken c.as_slice-bytes.result.now c.as_slice-extents.result.now items text are c.loop-extent.extent-index (omega (arith, c.loop-extent-test.false)))

@@ -6,7 +6,7 @@ use Rattle.pid_tables.specs.Rows.Faults.{IsNotNewerSchema}
 use Rattle.pid_tables.specs.Check.Checking.{Explains}
 use Rattle.pid_tables.proofs.OfRows.LeaveLemmas.{rests_in_two}
 use Rattle.pid_tables.proofs.OfRows.OnlyReading.{reads_then}
-use Rattle.pid_service.proofs.Opened.{back_behind, brought_reads, committed_then_reads, explained_now, explains_now, judged_now, judged_ready, kept_ok, made_then_reads, moved_then_reads, once_then_reads, refused_reads, step_shown, step_rests, still_views, told_then}
+use Rattle.pid_service.proofs.Opened.{back_after, brought_reads, committed_then_reads, explained_now, explains_now, judged_now, judged_ready, kept_ok, made_then_reads, moved_then_reads, once_then_reads, refused_reads, step_shown, step_rests, still_views, told_then}
 use Rattle.pid_service.proofs.opening.make_ready.Goals as goal
 
 -- ---- a migration that failed
@@ -58,7 +58,7 @@ returns-in-Ok-clause-at_once g c =
       settled = c.judge_tables.ensures.rests.settled;
       clean = λ clean. c.migrate.ensures.at_once.clean (c.judge_tables.ensures.rests.clean clean);
       once = once_then_reads old mid new c.in-Ok.ensures.at_once.once c.judge_tables.ensures.rests;
-      back = back_behind g.S.Store c.args.tables.now.conn c.migrate.new.self.conn c.judge_tables.new.tables.conn c.judge_tables.ensures.rests (λ clean version v rest. c.in-Ok.ensures.shown.kept clean version v rest) c.in-Ok.field-0 c.judge_tables.result
+      back = back_after g.S.Store c.args.tables.now.conn c.migrate.new.self.conn c.judge_tables.new.tables.conn c.judge_tables.ensures.rests (λ clean version v rest. c.in-Ok.ensures.shown.kept clean version v rest) c.in-Ok.field-0 c.judge_tables.result
           c.in-Ok.ensures.judged.only_read c.in-Ok.ensures.judged.found (λ clean. explains_now mid new c.judge_tables.result c.judge_tables.ensures.same (c.judge_tables.ensures.told clean));
       made = λ none. made_then_reads _ old mid new (c.migrate.ensures.none.made none) c.judge_tables.ensures.rests;
       done = λ clean none.

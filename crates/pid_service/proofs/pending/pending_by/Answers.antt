@@ -1,5 +1,5 @@
 use Rattle.std.proofs.Common.{◌≡◌, subst, ◌∙◌}
-use Rattle.pid_service.specs.KeptViews.{HoldsWaiting, numbers_waiting}
+use Rattle.pid_service.specs.KeptViews.{HoldsPending, numbers_pending}
 use Rattle.pid_service.proofs.PendingNumbers.{page_numbered}
 use Rattle.pid_service.proofs.Questions.{reads_as}
 use Rattle.pid_service.proofs.pending.pending_by.Goals as goal
@@ -11,6 +11,6 @@ pub returns-in-Some-numbers_above : goal.returns-in-Some-numbers_above
 returns-in-Some-numbers_above g c =
     reads_as g.S.Store c.args.tables.now.conn c.pending_at.new.self.conn c.pending_at.result _ _
     (λ v page told holds.
-    let held : c.in-Some.numbers.items ≡ numbers_waiting v = subst (λ o. HoldsWaiting o v) c.in-Some.is holds in
+    let held : c.in-Some.numbers.items ≡ numbers_pending v = subst (λ o. HoldsPending o v) c.in-Some.is holds in
     told ∙ page_numbered v 100 c.args.after c.as_slice.result.now c.as_slice-in-Some-numbers_above.result.now (c.as_slice.ensures.value ∙ held) (c.as_slice-in-Some-numbers_above.ensures.value ∙ c.in-Some-numbers_above.ensures))
     c.pending_at.ensures

@@ -1,6 +1,6 @@
 use Rattle.std.proofs.Common.{◌≡◌, map, ap, subst, ◌∙◌}
 use Rattle.pid_moderation.specs.QueuePages.{entry_in}
-use Rattle.pid_service.specs.KeptViews.{HoldsWaiting, numbers_waiting}
+use Rattle.pid_service.specs.KeptViews.{HoldsPending, numbers_pending}
 use Rattle.pid_service.proofs.PendingNumbers.{page_numbered}
 use Rattle.pid_service.proofs.Questions.{reads_as}
 use Rattle.pid_service.proofs.pending.queue_by.Goals as goal
@@ -12,7 +12,7 @@ pub returns-in-Some-numbers_above : goal.returns-in-Some-numbers_above
 returns-in-Some-numbers_above g c =
     reads_as g.S.Store c.args.tables.now.conn c.queue_at.new.self.conn c.queue_at.result _ _
     (λ v queue told holds.
-    let held : c.in-Some.numbers.items ≡ numbers_waiting v = subst (λ o. HoldsWaiting o v) c.in-Some.is holds in
+    let held : c.in-Some.numbers.items ≡ numbers_pending v = subst (λ o. HoldsPending o v) c.in-Some.is holds in
     told
     ∙ ap (map (entry_in v)) (page_numbered v 100 c.args.after c.as_slice.result.now c.as_slice-in-Some-numbers_above.result.now (c.as_slice.ensures.value ∙ held) (c.as_slice-in-Some-numbers_above.ensures.value ∙ c.in-Some-numbers_above.ensures)))
     c.queue_at.ensures

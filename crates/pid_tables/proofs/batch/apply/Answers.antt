@@ -18,7 +18,7 @@ returns-clause-applied g c counts v w within counted fits =
     within_on (state g.S.Store c.args.batch.now.conn.now) (state g.S.Store new) c.write_change.result counts (counts_of after) v w after (clean_if_open (g.S.Store.view new.store) (g.met.S.Store.shut_if_dirty new.store)) c.write_change.ensures.goes within
     (λ clean inside shows. succeeds _ _ c.write_change.result (c.write_change.ensures.shows clean inside counts w shows counted fits))
 
-pub returns-clause-untold : goal.returns-clause-untold
-returns-clause-untold g c clean opened counts v w within counted fits =
+pub returns-clause-only_store : goal.returns-clause-only_store
+returns-clause-only_store g c clean opened counts v w within counted fits =
     let early = earlier (state g.S.Store c.args.batch.now.conn.now) (state g.S.Store c.write_change.new.batch.conn.now) c.write_change.ensures.goes.survives clean in
     faults _ _ c.write_change.result (c.write_change.ensures.shows clean (within.inside early) counts w (within.shows opened) counted fits)

@@ -19,7 +19,7 @@ returns-clause-puts g c =
           within_on before (state g.S.Store new) c.put_text.result counts counts v w (with_name c.args.revision (path_text c.args.path.now) c.args.name.now w) law c.put_text.ensures.goes within
           (λ clean inside now. succeeds _ _ c.put_text.result (shows clean inside counts w now tt));
       told = λ clean counts v w within. told_within before (state g.S.Store new) c.put_text.result counts v w _ c.put_text.ensures.goes within clean (λ now. told clean counts w now);
-      untold = λ clean opened counts v w within.
+      only_store = λ clean opened counts v w within.
           let early = earlier before (state g.S.Store new) c.put_text.ensures.goes.survives clean in
           faults _ _ c.put_text.result (shows clean (within.inside early) counts w (within.shows opened) tt);
     }

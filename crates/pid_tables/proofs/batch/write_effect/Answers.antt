@@ -18,10 +18,10 @@ returns-in-Decided-clause-shows g c = rw c.in-Decided.is (λ clean inside counts
 -- ---- what the transaction goes on with
 
 pub returns-in-Nothing-clause-goes : goal.returns-in-Nothing-clause-goes
-returns-in-Nothing-clause-goes g c = c.touch.ensures.goes
+returns-in-Nothing-clause-goes g c = c.probe_transaction.ensures.goes
 
 pub returns-in-Nothing-clause-same_reference : goal.returns-in-Nothing-clause-same_reference
-returns-in-Nothing-clause-same_reference g c = c.touch.ensures.same_reference
+returns-in-Nothing-clause-same_reference g c = c.probe_transaction.ensures.same_reference
 
 pub returns-in-Ranked-clause-goes : goal.returns-in-Ranked-clause-goes
 returns-in-Ranked-clause-goes g c = c.set_rank.ensures.goes

@@ -15,7 +15,7 @@ pub returns-clause-added : goal.returns-clause-added
 returns-clause-added g c clean inside m has none =
     led c.write_one.result (label_added (state g.S.Store c.args.tx.now.conn.now) (state g.S.Store c.write_one.new.tx.conn.now) m c.args.label.now c.args.value has none)
     (rw (c.to_sql-label.ensures, c.to_sql-value.ensures) at (c.write_one.ensures.runs.ran clean inside))
-    (c.write_one.ensures.runs.untold clean pid_schema (λ opened. has.schema) (insert_writes (insert_meta_is Two)))
+    (c.write_one.ensures.runs.only_store clean pid_schema (λ opened. has.schema) (insert_writes (insert_meta_is Two)))
 
 pub returns-clause-carried : goal.returns-clause-carried
 returns-clause-carried g c clean inside =

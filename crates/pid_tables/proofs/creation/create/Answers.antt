@@ -14,7 +14,7 @@ use Rattle.pid_tables.proofs.OfRows.LeaveLemmas.{on_err}
 use Rattle.pid_tables.proofs.OfRows.GoingLemmas.{earlier}
 use Rattle.pid_tables.proofs.OfRows.OnlyReading.{reads_begun}
 use Rattle.pid_tables.proofs.MetLemmas.{reads_if_never}
-use Rattle.pid_tables.proofs.MoveLemmas.{all_never, all_untold, not_on_ok}
+use Rattle.pid_tables.proofs.MoveLemmas.{all_never, all_only_store, not_on_ok}
 use Rattle.pid_tables.proofs.AtOnceLemmas.{reads_at_once, reads_never, commit_at_once, commit_bare, committed_as, kept_as, still_bare}
 use Rattle.pid_tables.specs.AtOnce.{WritesAtOnce}
 use Rattle.pid_tables.specs.Creation.{IsNameTaken, MakesNew, MakesNothing}
@@ -31,43 +31,43 @@ same_ended g c = search rules
 
 -- ---- a call fails, and all is given up
 
-pub returns-in_err-fill-clause-at_once : goal.returns-in_err-fill-clause-at_once
-returns-in_err-fill-clause-at_once g c =
+pub returns-in_err-make_registry-clause-at_once : goal.returns-in_err-make_registry-clause-at_once
+returns-in_err-make_registry-clause-at_once g c =
     let old = state g.S.Store c.args.conn.now in
     let end = c.drop-batch.new.self.0 in
     let same = same_undone g c in
-    let first = c.fill.new.tx.conn.now in
-    let goes = rw c.transaction-batch.ensures.begun at c.fill.ensures.goes in
+    let first = c.make_registry.new.tx.conn.now in
+    let goes = rw c.transaction-batch.ensures.begun at c.make_registry.ensures.goes in
     subst (λ h. WritesAtOnce old (state g.S.Store h) c.from_residual.result) same
-    (reads_at_once old (state g.S.Store end) c.from_residual.result (reads_begun g.S.Store c.args.conn.now first end c.fill.result (clean_if_open (g.S.Store.view first.store) (g.met.S.Store.shut_if_dirty first.store))
+    (reads_at_once old (state g.S.Store end) c.from_residual.result (reads_begun g.S.Store c.args.conn.now first end c.make_registry.result (clean_if_open (g.S.Store.view first.store) (g.met.S.Store.shut_if_dirty first.store))
     (clean_if_open (g.S.Store.view end.store) (g.met.S.Store.shut_if_dirty end.store)) goes c.drop-batch.ensures.ended c.drop-batch.ensures.undone c.drop-batch.ensures.survives))
 
-pub returns-in_err-fill-clause-statements : goal.returns-in_err-fill-clause-statements
-returns-in_err-fill-clause-statements g c =
+pub returns-in_err-make_registry-clause-statements : goal.returns-in_err-make_registry-clause-statements
+returns-in_err-make_registry-clause-statements g c =
     let old = state g.S.Store c.args.conn.now in
     let end = c.drop-batch.new.self.0 in
     let same = same_undone g c in
-    let first = c.fill.new.tx.conn.now in
-    let goes = rw c.transaction-batch.ensures.begun at c.fill.ensures.goes in
+    let first = c.make_registry.new.tx.conn.now in
+    let goes = rw c.transaction-batch.ensures.begun at c.make_registry.ensures.goes in
     let made = IsMadeBy g.S.Store registry_statements c.args.conn.now in
     subst (λ h. Carries g.S.Store registry_statements c.args.conn.now h c.from_residual.result) same (record {
-      survives = reads_never made old (state g.S.Store end) (reads_begun g.S.Store c.args.conn.now first end c.fill.result (clean_if_open (g.S.Store.view first.store) (g.met.S.Store.shut_if_dirty first.store))
+      survives = reads_never made old (state g.S.Store end) (reads_begun g.S.Store c.args.conn.now first end c.make_registry.result (clean_if_open (g.S.Store.view first.store) (g.met.S.Store.shut_if_dirty first.store))
           (clean_if_open (g.S.Store.view end.store) (g.met.S.Store.shut_if_dirty end.store)) goes c.drop-batch.ensures.ended c.drop-batch.ensures.undone c.drop-batch.ensures.survives);
       done = λ clean. not_on_ok c.from_residual.result _ _ c.from_residual.ensures.1;
     })
 
-pub returns-in_err-fill-clause-makes : goal.returns-in_err-fill-clause-makes
-returns-in_err-fill-clause-makes g c =
+pub returns-in_err-make_registry-clause-makes : goal.returns-in_err-make_registry-clause-makes
+returns-in_err-make_registry-clause-makes g c =
     let old = state g.S.Store c.args.conn.now in
     let end = c.drop-batch.new.self.0 in
     let same = same_undone g c in
-    let first = c.fill.new.tx.conn.now in
-    let goes = rw c.transaction-batch.ensures.begun at c.fill.ensures.goes in
-    let filled = rw c.transaction-batch.ensures.begun at c.in_err-fill.ensures.filled in
+    let first = c.make_registry.new.tx.conn.now in
+    let goes = rw c.transaction-batch.ensures.begun at c.make_registry.ensures.goes in
+    let filled = rw c.transaction-batch.ensures.begun at c.in_err-make_registry.ensures.filled in
     subst (λ h. MakesNew old (state g.S.Store h) c.from_residual.result) same (record {
       made = λ rest. not_on_ok c.from_residual.result _ _ c.from_residual.ensures.1;
-      untold = λ clean rest. passed_from c.from_residual.result _ IsMemoryOrStore c.from_residual.ensures.1 (filled (earlier (state g.S.Store first) (state g.S.Store end) c.drop-batch.ensures.survives clean) refl rest.empty);
-      bare = λ rest. on_err c.from_residual.result (still_bare old (state g.S.Store end) (reads_begun g.S.Store c.args.conn.now first end c.fill.result (clean_if_open (g.S.Store.view first.store) (g.met.S.Store.shut_if_dirty first.store))
+      only_store = λ clean rest. passed_from c.from_residual.result _ IsMemoryOrStore c.from_residual.ensures.1 (filled (earlier (state g.S.Store first) (state g.S.Store end) c.drop-batch.ensures.survives clean) refl rest.empty);
+      bare = λ rest. on_err c.from_residual.result (still_bare old (state g.S.Store end) (reads_begun g.S.Store c.args.conn.now first end c.make_registry.result (clean_if_open (g.S.Store.view first.store) (g.met.S.Store.shut_if_dirty first.store))
           (clean_if_open (g.S.Store.view end.store) (g.met.S.Store.shut_if_dirty end.store)) goes c.drop-batch.ensures.ended c.drop-batch.ensures.undone c.drop-batch.ensures.survives) rest);
     })
 
@@ -75,17 +75,17 @@ returns-in_err-fill-clause-makes g c =
 never_open : (s : Bool) → s ≡ false → IsTrue s → ⊥
 never_open s closed opened = true≢false (sym opened ∙ closed)
 
-pub returns-in_err-fill-clause-spares : goal.returns-in_err-fill-clause-spares
-returns-in_err-fill-clause-spares g c =
+pub returns-in_err-make_registry-clause-spares : goal.returns-in_err-make_registry-clause-spares
+returns-in_err-make_registry-clause-spares g c =
     let old = state g.S.Store c.args.conn.now in
     let end = c.drop-batch.new.self.0 in
     let same = same_undone g c in
-    let first = c.fill.new.tx.conn.now in
-    let goes = rw c.transaction-batch.ensures.begun at c.fill.ensures.goes in
-    let filled = rw c.transaction-batch.ensures.begun at c.in_err-fill.ensures.filled in
-    let refused = rw c.transaction-batch.ensures.begun at c.in_err-fill.ensures.refused in
-    let never = rw c.transaction-batch.ensures.begun at c.in_err-fill.ensures.never in
-    let reads = (reads_begun g.S.Store c.args.conn.now first end c.fill.result (clean_if_open (g.S.Store.view first.store) (g.met.S.Store.shut_if_dirty first.store))
+    let first = c.make_registry.new.tx.conn.now in
+    let goes = rw c.transaction-batch.ensures.begun at c.make_registry.ensures.goes in
+    let filled = rw c.transaction-batch.ensures.begun at c.in_err-make_registry.ensures.filled in
+    let refused = rw c.transaction-batch.ensures.begun at c.in_err-make_registry.ensures.refused in
+    let never = rw c.transaction-batch.ensures.begun at c.in_err-make_registry.ensures.never in
+    let reads = (reads_begun g.S.Store c.args.conn.now first end c.make_registry.result (clean_if_open (g.S.Store.view first.store) (g.met.S.Store.shut_if_dirty first.store))
     (clean_if_open (g.S.Store.view end.store) (g.met.S.Store.shut_if_dirty end.store)) goes c.drop-batch.ensures.ended c.drop-batch.ensures.undone c.drop-batch.ensures.survives) in
     subst (λ h. MakesNothing old (state g.S.Store h) c.from_residual.result) same (record {
       rests = λ met. reads;
@@ -100,23 +100,23 @@ returns-in_err-fill-clause-spares g c =
 
 pub returns-clause-at_once : goal.returns-clause-at_once
 returns-clause-at_once g c =
-    let first = c.fill.new.tx.conn.now in
+    let first = c.make_registry.new.tx.conn.now in
     let end = c.commit.new.batch.0 in
     let same = same_ended g c in
-    let goes = rw c.transaction-batch.ensures.begun at c.in_ok-fill.ensures.goes in
+    let goes = rw c.transaction-batch.ensures.begun at c.in_ok-make_registry.ensures.goes in
     subst (λ h. WritesAtOnce (state g.S.Store c.args.conn.now) (state g.S.Store h) c.commit.result) same
-    (commit_at_once g.S.Store c.args.conn.now first end (Ok c.in_ok-fill.field-0) goes c.commit.ensures.survives (clean_if_open (g.S.Store.view end.store) (g.met.S.Store.shut_if_dirty end.store)) c.commit.result c.commit.ensures.ended
+    (commit_at_once g.S.Store c.args.conn.now first end (Ok c.in_ok-make_registry.field-0) goes c.commit.ensures.survives (clean_if_open (g.S.Store.view end.store) (g.met.S.Store.shut_if_dirty end.store)) c.commit.result c.commit.ensures.ended
     (λ clean. c.commit.ensures.ends.undone clean (goes.going (earlier (state g.S.Store first) (state g.S.Store end) c.commit.ensures.survives clean) refl).1)
-    (λ clean. all_untold (state g.S.Store first) (state g.S.Store end) c.commit.result (c.commit.ensures.ends.caused clean (goes.going (earlier (state g.S.Store first) (state g.S.Store end) c.commit.ensures.survives clean) refl).1)))
+    (λ clean. all_only_store (state g.S.Store first) (state g.S.Store end) c.commit.result (c.commit.ensures.ends.caused clean (goes.going (earlier (state g.S.Store first) (state g.S.Store end) c.commit.ensures.survives clean) refl).1)))
 
 pub returns-clause-statements : goal.returns-clause-statements
 returns-clause-statements g c =
     let old = c.args.conn.now in
-    let first = c.fill.new.tx.conn.now in
+    let first = c.make_registry.new.tx.conn.now in
     let end = c.commit.new.batch.0 in
     let same = same_ended g c in
-    let goes = rw c.transaction-batch.ensures.begun at c.in_ok-fill.ensures.goes in
-    let carried = rw c.transaction-batch.ensures.begun at c.in_ok-fill.ensures.carried in
+    let goes = rw c.transaction-batch.ensures.begun at c.in_ok-make_registry.ensures.goes in
+    let carried = rw c.transaction-batch.ensures.begun at c.in_ok-make_registry.ensures.carried in
     let made = IsMadeBy g.S.Store registry_statements old in
     let is_made : HasCleanDisk (state g.S.Store first) → made (seen g.S.Store first).trees = λ clean. record {
       was_open = goes.was_open clean (goes.going clean refl).0;
@@ -127,7 +127,7 @@ returns-clause-statements g c =
       made = refl;
     } in
     subst (λ h. Carries g.S.Store registry_statements old h c.commit.result) same (record {
-      survives = committed_as g.S.Store old first end (Ok c.in_ok-fill.field-0) goes c.commit.ensures.survives made is_made;
+      survives = committed_as g.S.Store old first end (Ok c.in_ok-make_registry.field-0) goes c.commit.ensures.survives made is_made;
       done = λ clean.
           kept_as made (seen g.S.Store first).trees (state g.S.Store end) c.commit.result (is_made (earlier (state g.S.Store first) (state g.S.Store end) c.commit.ensures.survives clean)) (c.commit.ensures.ends.done clean);
     })
@@ -135,17 +135,17 @@ returns-clause-statements g c =
 pub returns-clause-makes : goal.returns-clause-makes
 returns-clause-makes g c =
     let old = state g.S.Store c.args.conn.now in
-    let first = c.fill.new.tx.conn.now in
+    let first = c.make_registry.new.tx.conn.now in
     let end = c.commit.new.batch.0 in
     let same = same_ended g c in
-    let goes = rw c.transaction-batch.ensures.begun at c.in_ok-fill.ensures.goes in
-    let shows = rw c.transaction-batch.ensures.begun at c.in_ok-fill.ensures.filled in
+    let goes = rw c.transaction-batch.ensures.begun at c.in_ok-make_registry.ensures.goes in
+    let shows = rw c.transaction-batch.ensures.begun at c.in_ok-make_registry.ensures.filled in
     subst (λ h. MakesNew old (state g.S.Store h) c.commit.result) same (record {
       made = λ rest. c.commit.ensures.stands (views_of new_history) (λ clean. ((goes.going clean refl).0, shows clean refl rest.empty));
-      untold = λ clean rest.
-          all_untold (state g.S.Store first) (state g.S.Store end) c.commit.result (c.commit.ensures.ends.caused clean (goes.going (earlier (state g.S.Store first) (state g.S.Store end) c.commit.ensures.survives clean) refl).1);
+      only_store = λ clean rest.
+          all_only_store (state g.S.Store first) (state g.S.Store end) c.commit.result (c.commit.ensures.ends.caused clean (goes.going (earlier (state g.S.Store first) (state g.S.Store end) c.commit.ensures.survives clean) refl).1);
       bare = λ rest.
-          commit_bare g.S.Store c.args.conn.now first end (Ok c.in_ok-fill.field-0) goes c.commit.ensures.survives (clean_if_open (g.S.Store.view end.store) (g.met.S.Store.shut_if_dirty end.store)) c.commit.result
+          commit_bare g.S.Store c.args.conn.now first end (Ok c.in_ok-make_registry.field-0) goes c.commit.ensures.survives (clean_if_open (g.S.Store.view end.store) (g.met.S.Store.shut_if_dirty end.store)) c.commit.result
           c.commit.ensures.ended (λ clean. c.commit.ensures.ends.undone clean (goes.going (earlier (state g.S.Store first) (state g.S.Store end) c.commit.ensures.survives clean) refl).1) (λ clean. shows clean refl rest.empty) rest;
     })
 
@@ -153,12 +153,12 @@ returns-clause-makes g c =
 pub returns-clause-spares : goal.returns-clause-spares
 returns-clause-spares g c =
     let old = state g.S.Store c.args.conn.now in
-    let first = c.fill.new.tx.conn.now in
+    let first = c.make_registry.new.tx.conn.now in
     let mid = state g.S.Store first in
     let end = c.commit.new.batch.0 in
     let same = same_ended g c in
-    let goes = rw c.transaction-batch.ensures.begun at c.in_ok-fill.ensures.goes in
-    let refused = rw c.transaction-batch.ensures.begun at c.in_ok-fill.ensures.refused in
+    let goes = rw c.transaction-batch.ensures.begun at c.in_ok-make_registry.ensures.goes in
+    let refused = rw c.transaction-batch.ensures.begun at c.in_ok-make_registry.ensures.refused in
     let begun = state g.S.Store (record c.args.conn.now { in_transaction = true }) in
     let reads : (IsTrue old.is_open → IsNameTaken old) → OnlyReads old (state g.S.Store end) = λ met.
     reads_if_never old (state g.S.Store end) (λ db. db ≡ mid.now.trees)
@@ -175,5 +175,5 @@ returns-clause-spares g c =
           absurd (never_open _ closed (goes.was_open early (goes.going early refl).0));
       never = λ clean.
           let early = earlier mid (state g.S.Store end) c.commit.ensures.survives clean in
-          all_never c.commit.result (all_untold mid (state g.S.Store end) c.commit.result (c.commit.ensures.ends.caused clean (goes.going early refl).1));
+          all_never c.commit.result (all_only_store mid (state g.S.Store end) c.commit.result (c.commit.ensures.ends.caused clean (goes.going early refl).1));
     })

@@ -7,7 +7,7 @@ use Rattle.pid_tables.proofs.creation.make_table.Goals as goal
 
 pub returns-clause-made : goal.returns-clause-made
 returns-clause-made g c before table it tables =
-    made_one before c.args.sql.now table c.write_one.result (state g.S.Store c.args.tx.now.conn.now) (state g.S.Store c.write_one.new.tx.conn.now) it tables c.write_one.ensures.goes c.write_one.ensures.runs.ran c.write_one.ensures.runs.untold
+    made_one before c.args.sql.now table c.write_one.result (state g.S.Store c.args.tx.now.conn.now) (state g.S.Store c.write_one.new.tx.conn.now) it tables c.write_one.ensures.goes c.write_one.ensures.runs.ran c.write_one.ensures.runs.only_store
 
 pub returns-clause-takes : goal.returns-clause-takes
 returns-clause-takes g c name it clean inside =

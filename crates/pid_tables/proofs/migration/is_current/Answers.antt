@@ -62,8 +62,8 @@ returns-in_err-has_some_table-clause-named g c clean = not_ok c.from_residual.re
 pub returns-in_err-has_some_table-clause-was_open : goal.returns-in_err-has_some_table-clause-was_open
 returns-in_err-has_some_table-clause-was_open g c clean = not_on_ok c.from_residual.result _ _ c.from_residual.ensures.1
 
-pub returns-in_err-has_some_table-clause-untold : goal.returns-in_err-has_some_table-clause-untold
-returns-in_err-has_some_table-clause-untold g c = passed_from c.from_residual.result _ IsMemoryOrStore c.from_residual.ensures.1 c.in_err-has_some_table.ensures.found.untold
+pub returns-in_err-has_some_table-clause-only_store : goal.returns-in_err-has_some_table-clause-only_store
+returns-in_err-has_some_table-clause-only_store g c = passed_from c.from_residual.result _ IsMemoryOrStore c.from_residual.ensures.1 c.in_err-has_some_table.ensures.found.only_store
 
 pub returns-then-not-branch-clause-rests : goal.returns-then-not-branch-clause-rests
 returns-then-not-branch-clause-rests g c = c.has_some_table.ensures.reads.rests
@@ -109,11 +109,11 @@ returns-in-Err-clause-was_open g c clean = tt
 pub returns-in-Err-clause-bare : goal.returns-in-Err-clause-bare
 returns-in-Err-clause-bare g c clean none = tt
 
-pub returns-in-Ok-clause-untold : goal.returns-in-Ok-clause-untold
-returns-in-Ok-clause-untold g c = tt
+pub returns-in-Ok-clause-only_store : goal.returns-in-Ok-clause-only_store
+returns-in-Ok-clause-only_store g c = tt
 
-pub returns-in-Err-Damaged-clause-untold : goal.returns-in-Err-Damaged-clause-untold
-returns-in-Err-Damaged-clause-untold g c = tt
+pub returns-in-Err-Damaged-clause-only_store : goal.returns-in-Err-Damaged-clause-only_store
+returns-in-Err-Damaged-clause-only_store g c = tt
 
-pub returns-then-not-branch-clause-untold : goal.returns-then-not-branch-clause-untold
-returns-then-not-branch-clause-untold g c = tt
+pub returns-then-not-branch-clause-only_store : goal.returns-then-not-branch-clause-only_store
+returns-then-not-branch-clause-only_store g c = tt

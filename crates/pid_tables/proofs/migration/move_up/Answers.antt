@@ -12,7 +12,7 @@ use Rattle.pid_tables.proofs.OfRows.GoingLemmas.{earlier}
 use Rattle.pid_tables.proofs.OfRows.LeaveLemmas.{on_err}
 use Rattle.pid_tables.proofs.OfRows.OnlyReading.{reads_begun, rests_in_still}
 use Rattle.pid_tables.proofs.AtOnceLemmas.{reads_at_once, reads_never, commit_at_once, committed_as, kept_as}
-use Rattle.pid_tables.proofs.MoveLemmas.{failed_rests, all_never, all_untold, not_on_ok}
+use Rattle.pid_tables.proofs.MoveLemmas.{failed_rests, all_never, all_only_store, not_on_ok}
 use Rattle.pid_tables.specs.AtOnce.{WritesAtOnce}
 use Rattle.pid_tables.specs.Statements.{Carries, IsMadeBy, move_statements}
 use Rattle.pid_tables.proofs.migration.move_up.Given.{Over}
@@ -57,8 +57,8 @@ returns-clause-kept g c v rest =
     rest goes (λ clean. shows clean refl (counts_of v) v rest.shows) c.commit.ensures.ended c.commit.ensures.survives
     (λ clean. c.commit.ensures.ends.undone clean (goes.going (earlier (state g.S.Store first) (state g.S.Store end) c.commit.ensures.survives clean) refl).1))
 
-pub returns-in_err-move_tables-clause-untold : goal.returns-in_err-move_tables-clause-untold
-returns-in_err-move_tables-clause-untold g c clean v rest =
+pub returns-in_err-move_tables-clause-only_store : goal.returns-in_err-move_tables-clause-only_store
+returns-in_err-move_tables-clause-only_store g c clean v rest =
     let end = c.drop-batch.new.self.0 in
     let same = same_undone g c in
     let late = subst (λ h. HasCleanDisk (state g.S.Store h)) (sym same) clean in
@@ -66,14 +66,14 @@ returns-in_err-move_tables-clause-untold g c clean v rest =
     let shows = rw c.transaction-batch.ensures.begun at c.in_err-move_tables.ensures.shows in
     passed_from c.from_residual.result _ IsMemoryOrStore c.from_residual.ensures.1 (shows mid refl (counts_of v) v rest.shows)
 
-pub returns-clause-untold : goal.returns-clause-untold
-returns-clause-untold g c clean v rest =
+pub returns-clause-only_store : goal.returns-clause-only_store
+returns-clause-only_store g c clean v rest =
     let first = c.move_tables.new.tx.conn.now in
     let end = c.commit.new.batch.0 in
     let same = same_ended g c in
     let late = subst (λ h. HasCleanDisk (state g.S.Store h)) (sym same) clean in
     let goes = rw c.transaction-batch.ensures.begun at c.in_ok-move_tables.ensures.goes in
-    all_untold (state g.S.Store first) (state g.S.Store end) c.commit.result
+    all_only_store (state g.S.Store first) (state g.S.Store end) c.commit.result
     (c.commit.ensures.ends.caused late (goes.going (earlier (state g.S.Store first) (state g.S.Store end) c.commit.ensures.survives late) refl).1)
 
 -- ---- whatever the database
@@ -99,7 +99,7 @@ returns-clause-at_once g c =
     subst (λ h. WritesAtOnce (state g.S.Store c.args.conn.now) (state g.S.Store h) c.commit.result) same
     (commit_at_once g.S.Store c.args.conn.now first end (Ok c.in_ok-move_tables.field-0) goes c.commit.ensures.survives (clean_if_open (g.S.Store.view end.store) (g.met.S.Store.shut_if_dirty end.store)) c.commit.result c.commit.ensures.ended
     (λ clean. c.commit.ensures.ends.undone clean (goes.going (earlier (state g.S.Store first) (state g.S.Store end) c.commit.ensures.survives clean) refl).1)
-    (λ clean. all_untold (state g.S.Store first) (state g.S.Store end) c.commit.result (c.commit.ensures.ends.caused clean (goes.going (earlier (state g.S.Store first) (state g.S.Store end) c.commit.ensures.survives clean) refl).1)))
+    (λ clean. all_only_store (state g.S.Store first) (state g.S.Store end) c.commit.result (c.commit.ensures.ends.caused clean (goes.going (earlier (state g.S.Store first) (state g.S.Store end) c.commit.ensures.survives clean) refl).1)))
 
 pub returns-in_err-move_tables-clause-never : goal.returns-in_err-move_tables-clause-never
 returns-in_err-move_tables-clause-never g c clean = passed_from c.from_residual.result _ IsNotNewerSchema c.from_residual.ensures.1 c.in_err-move_tables.ensures.never
@@ -111,7 +111,7 @@ returns-clause-never g c clean =
     let same = same_ended g c in
     let late = subst (λ h. HasCleanDisk (state g.S.Store h)) (sym same) clean in
     let goes = rw c.transaction-batch.ensures.begun at c.in_ok-move_tables.ensures.goes in
-    all_never c.commit.result (all_untold (state g.S.Store first) (state g.S.Store end) c.commit.result
+    all_never c.commit.result (all_only_store (state g.S.Store first) (state g.S.Store end) c.commit.result
     (c.commit.ensures.ends.caused late (goes.going (earlier (state g.S.Store first) (state g.S.Store end) c.commit.ensures.survives late) refl).1))
 
 -- ---- what was carried out

@@ -37,12 +37,12 @@ returns-clause-shows g c clean inside counts v shows =
     let added = rw (c.to_sql-revision.ensures, c.to_sql-none.ensures) at (three.runs.ran third in_two) in
     led c.write_one-4.result (labels_raised b d end counts v between added)
     (rw (c.to_sql-schema.ensures, c.to_sql-latest.ensures) at (c.write_one-4.ensures.runs.ran clean (three.goes.going third in_two).1))
-    (c.write_one-4.ensures.runs.untold clean (schema_of Two) (λ opened. between_schema b d end counts v between added) (update_writes (update_meta_is Two)))
+    (c.write_one-4.ensures.runs.only_store clean (schema_of Two) (λ opened. between_schema b d end counts v between added) (update_writes (update_meta_is Two)))
 
 pub returns-in_err-write_one-clause-shows : goal.returns-in_err-write_one-clause-shows
 returns-in_err-write_one-clause-shows g c clean inside counts v shows =
     passed_on c.from_residual.result _ _ IsMemoryOrStore c.from_residual.ensures.1
-    (c.in_err-write_one.ensures.runs.untold clean (schema_of One) (λ opened. (shows opened).schema) (create_writes (schema_of One) create_since _ create_is create_plain create_whole create_defined))
+    (c.in_err-write_one.ensures.runs.only_store clean (schema_of One) (λ opened. (shows opened).schema) (create_writes (schema_of One) create_since _ create_is create_plain create_whole create_defined))
 
 pub returns-in_err-write_one-2-clause-shows : goal.returns-in_err-write_one-2-clause-shows
 returns-in_err-write_one-2-clause-shows g c clean inside counts v shows =
@@ -52,7 +52,7 @@ returns-in_err-write_one-2-clause-shows g c clean inside counts v shows =
     let one = c.in_ok-write_one.ensures in
     let there = shows (one.goes.was_open first (one.goes.going first inside).0) in
     passed_on c.from_residual-in_err-write_one-2.result _ _ IsMemoryOrStore c.from_residual-in_err-write_one-2.ensures.1
-    (c.in_err-write_one-2.ensures.runs.untold clean (schema_of Two) (λ opened. (table_made start a there.schema (one.runs.ran first inside)).schema) fill_writes)
+    (c.in_err-write_one-2.ensures.runs.only_store clean (schema_of Two) (λ opened. (table_made start a there.schema (one.runs.ran first inside)).schema) fill_writes)
 
 pub returns-in_err-write_one-3-clause-shows : goal.returns-in_err-write_one-3-clause-shows
 returns-in_err-write_one-3-clause-shows g c clean inside counts v shows =
@@ -66,7 +66,7 @@ returns-in_err-write_one-3-clause-shows g c clean inside counts v shows =
     let there = shows (one.goes.was_open first (one.goes.going first inside).0) in
     let between = table_added start a b counts v there (one.runs.ran first inside) (two.runs.ran second (one.goes.going first inside).1) in
     passed_on c.from_residual-in_err-write_one-3.result _ _ IsMemoryOrStore c.from_residual-in_err-write_one-3.ensures.1
-    (c.in_err-write_one-3.ensures.runs.untold clean (schema_of Two) (λ opened. between.schema) (insert_writes (insert_meta_is Two)))
+    (c.in_err-write_one-3.ensures.runs.only_store clean (schema_of Two) (λ opened. between.schema) (insert_writes (insert_meta_is Two)))
 
 pub returns-in_err-write_one-clause-never : goal.returns-in_err-write_one-clause-never
 returns-in_err-write_one-clause-never g c = passed_on c.from_residual.result _ _ IsNotNewerSchema c.from_residual.ensures.1 c.in_err-write_one.ensures.never

@@ -40,7 +40,7 @@ returns-clause-goes g c = goes_still (state g.S.Store c.args.batch.now.conn.now)
 
 pub returns-in_err-rows-clause-shows : goal.returns-in_err-rows-clause-shows
 returns-in_err-rows-clause-shows g c clean inside counts v shows _ =
-    passed_on c.from_residual.result _ _ IsMemoryOrStore c.from_residual.ensures.1 (c.in_err-rows.ensures.faults.untold clean pid_schema shows.schema (select_item_is Two).plain)
+    passed_on c.from_residual.result _ _ IsMemoryOrStore c.from_residual.ensures.1 (c.in_err-rows.ensures.faults.only_store clean pid_schema shows.schema (select_item_is Two).plain)
 
 pub returns-in_err-rows-clause-goes : goal.returns-in_err-rows-clause-goes
 returns-in_err-rows-clause-goes g c = goes_fault (state g.S.Store c.args.batch.now.conn.now) (state g.S.Store c.read_inside.new.tx.conn.now) _ c.from_residual.result c.from_residual.ensures.1 c.in_err-rows.ensures.goes

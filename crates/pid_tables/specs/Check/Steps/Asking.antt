@@ -18,4 +18,4 @@ module _ {S : Type 0} (store : Ghosts S) where
     -- and sees the same as before
     pub same : HasCleanDisk store new → IfOk result (λ some. seen store new ≡ seen store old)
     -- a fault says nothing of the tables
-    pub untold : IfErr result IsMemoryOrStore
+    pub only_store : IfErr result IsMemoryOrStore

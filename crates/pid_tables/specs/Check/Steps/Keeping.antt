@@ -11,12 +11,12 @@ use Rattle.pid_tables.specs.declared.rows.version.Version.TheVariants.{One, Two}
 use Rattle.pid_tables.specs.Rows.TableRows.{number}
 use Rattle.pid_tables.specs.declared.check.account.Accounts.{Accounts}
 use Rattle.pid_tables.specs.declared.check.authors.Authors.{Authors}
-use Rattle.pid_tables.specs.declared.check.receipt.ReceiptKeeper.{ReceiptKeeper}
+use Rattle.pid_tables.specs.declared.check.receipt.ReceiptFold.{ReceiptFold}
 use Rattle.pid_tables.specs.declared.check.item.Items.{Items}
-use Rattle.pid_tables.specs.declared.check.remark.RemarkKeeper.{RemarkKeeper}
-use Rattle.pid_tables.specs.declared.check.since.SinceKeeper.{SinceKeeper}
+use Rattle.pid_tables.specs.declared.check.remark.RemarkFold.{RemarkFold}
+use Rattle.pid_tables.specs.declared.check.since.SinceFold.{SinceFold}
 use Rattle.pid_tables.specs.declared.check.submission.Fit.{Fit}
-use Rattle.pid_tables.specs.declared.check.submission.SubmissionKeeper.{SubmissionKeeper}
+use Rattle.pid_tables.specs.declared.check.submission.SubmissionFold.{SubmissionFold}
 use Rattle.pid_tables.specs.declared.check.submission.Submissions.{Submissions}
 use Rattle.pid_tables.specs.declared.check.tables.Part.{Part}
 use Rattle.pid_tables.specs.declared.check.tables.Judged.{Judged}
@@ -64,7 +64,7 @@ pub record KeepsItems (rows : List Row) (it : Items) : Type 0 where
   pub paths : ArePathsOf it.paths rows
   pub good : IsPartJudged AreItems rows it.good
 
-pub record TakesSinces (first : SinceKeeper) (rows : List Row) (it : SinceKeeper) : Type 0 where
+pub record TakesSinces (first : SinceFold) (rows : List Row) (it : SinceFold) : Type 0 where
   pub revision : it.revision ≡ first.revision
   pub good : IsPartJudged (AreEach (IsSinceRow it.revision)) rows it.good
   pub paths : ArePathsOf it.paths rows
@@ -84,8 +84,8 @@ abbrev pub AreFit : BTreeSet (String Global) → List Row → Fit → Type 0
 AreFit names rows fit = (count : ℕ) → (IsTrue fit.good × (fit.greatest ≤ count))
     ↔ ((r : Row) → Has rows r → IsSubmissionAmong names count r)
 
-pub record TakesSubmissions (first : SubmissionKeeper) (rows : List Row)
-    (it : SubmissionKeeper) : Type 0 where
+pub record TakesSubmissions (first : SubmissionFold) (rows : List Row)
+    (it : SubmissionFold) : Type 0 where
   pub names : it.names.now ≡ first.names.now
   pub count : it.count ≡ length rows
   pub fit : AreFit it.names.now rows it.fit
@@ -103,11 +103,11 @@ abbrev pub AreOfAuthors : Authors → List Row → Bool → Type 0
 AreOfAuthors authors rows good = (submissions : List Row) → AreAuthorsOf authors submissions
     → IsPartJudged (AreReceipts submissions) rows good
 
-pub record TakesRemarks (rows : List Row) (it : RemarkKeeper) : Type 0 where
+pub record TakesRemarks (rows : List Row) (it : RemarkFold) : Type 0 where
   pub good : IsPartJudged (AreEach IsRemark) rows it.good
   pub places : ArePlacesOf it.places rows
 
-pub record TakesReceipts (first : ReceiptKeeper) (rows : List Row) (it : ReceiptKeeper) : Type 0 where
+pub record TakesReceipts (first : ReceiptFold) (rows : List Row) (it : ReceiptFold) : Type 0 where
   pub authors : it.authors.now ≡ first.authors.now
   pub good : AreOfAuthors it.authors.now rows it.good
 

@@ -7,8 +7,8 @@ use Rattle.pid_tables.specs.declared.rows.version.Version.{Version}
 use Rattle.pid_tables.specs.declared.rows.version.Version.TheVariants.{One, Two}
 use Rattle.pid_tables.specs.Rows.Schema.{version_number}
 use Rattle.pid_tables.specs.declared.check.meta.Labels.{Labels}
-use Rattle.pid_tables.specs.declared.check.meta.Told.{Told}
-use Rattle.pid_tables.specs.declared.check.meta.Told.TheVariants.{Never, Once, Several}
+use Rattle.pid_tables.specs.declared.check.meta.Occurrence.{Occurrence}
+use Rattle.pid_tables.specs.declared.check.meta.Occurrence.TheVariants.{Never, Once, Several}
 use Rattle.pid_tables.specs.declared.check.shape.Table.TheVariants.{Meta}
 use Rattle.pid_tables.specs.Check.Conditions.{label_row, IsNewer}
 use Rattle.pid_tables.specs.Check.Queries.{query_of}
@@ -28,7 +28,7 @@ abbrev pub HasLabelRow : List Row → List ℕ → ℕ → Type 0
 HasLabelRow rows label n = Has rows (label_row (label, n))
 
 -- the rows have the label with no number, with this one alone, or with two numbers at least
-abbrev pub IsToldOfLabel : List ℕ → List Row → Told → Type 0
+abbrev pub IsToldOfLabel : List ℕ → List Row → Occurrence → Type 0
 IsToldOfLabel label rows Never = (n : ℕ) → ¬ (HasLabelRow rows label n)
 IsToldOfLabel label rows (Once one) = (n : ℕ) → HasLabelRow rows label n ↔ (n ≡ one)
 IsToldOfLabel label rows Several = (m : ℕ) × (n : ℕ) × (m ≢ n) × HasLabelRow rows label m
@@ -53,7 +53,7 @@ abbrev pub ShowsLabels : Database → Labels → Type 0
 ShowsLabels d it = (rows : List Row) × ShowsRows d (query_of Meta) rows × TakesLabels rows it
 
 -- schema 1 has no revision
-abbrev pub IsRevision : Version → ℕ → Told → Type 0
+abbrev pub IsRevision : Version → ℕ → Occurrence → Type 0
 IsRevision One revision told = told ≡ Never
 IsRevision Two revision told = told ≡ Once revision
 

@@ -26,7 +26,7 @@ module _ {S : Type 0} (store : Ghosts S) where
     pub ran : HasCleanDisk store new → IsTrue old.in_transaction
         → OnOk result ((count : ℕ) × Executes store sql params old new (Ok count))
     -- a text that writes in the schema is not damage
-    pub untold : HasCleanDisk store new → (schema : Schema)
+    pub only_store : HasCleanDisk store new → (schema : Schema)
         → (IsTrue (is_open store old) → (seen store old).schema ≡ schema)
         → IsWriteAs sql (understood schema sql) → IfErr result IsMemoryOrStore
 
@@ -34,7 +34,7 @@ module _ {S : Type 0} (store : Ghosts S) where
   pub record FaultsQuery {X : Type 0} (sql : List ℕ) (params : Row) (old new : Held S)
       (result : Result X TableFault) : Type 0 where
     -- a text that is understood in the schema is not damage
-    pub untold : HasCleanDisk store new → (schema : Schema) → (seen store old).schema ≡ schema
+    pub only_store : HasCleanDisk store new → (schema : Schema) → (seen store old).schema ≡ schema
         → IsPlain (understood schema sql) → IfErr result IsMemoryOrStore
     -- a query on its tables faults for a cause
     pub caused : HasCleanDisk store new → (schema : Schema)

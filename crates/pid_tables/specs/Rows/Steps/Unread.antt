@@ -58,15 +58,15 @@ abbrev pub IsReplyRow : Row → Type 0
 IsReplyRow row = (reply : Reply) × IsReadableReply reply × IsReplyIn row reply
 
 -- There was no memory, or the row is not written as one of these is.
-abbrev pub IsUnreadable : Type 0 → TableFault → Type 0
-IsUnreadable Written Memory = Unit {0}
-IsUnreadable Written Store = ⊥
-IsUnreadable Written (NewerSchema n) = ⊥
-IsUnreadable Written Damaged = ¬ Written
+abbrev pub IsDamagedRow : Type 0 → TableFault → Type 0
+IsDamagedRow Written Memory = Unit {0}
+IsDamagedRow Written Store = ⊥
+IsDamagedRow Written (NewerSchema n) = ⊥
+IsDamagedRow Written Damaged = ¬ Written
 
 -- the row is not written as one of these is
-abbrev pub IsMistold : Type 0 → TableFault → Type 0
-IsMistold Written fault = (fault ≡ Damaged) × ¬ Written
+abbrev pub IsWrongText : Type 0 → TableFault → Type 0
+IsWrongText Written fault = (fault ≡ Damaged) × ¬ Written
 
 -- a whole number, however large
 abbrev pub IsWholeNumber : Value → Type 0

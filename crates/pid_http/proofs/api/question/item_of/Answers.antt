@@ -3,7 +3,7 @@ use Rattle.pid_ident.specs.PathReading.{path_of}
 use Rattle.std.specs.Prelude.{ok_or}
 use Rattle.pid_moderation.specs.declared.refusal.Refusal.TheVariants.{BadPath}
 use Rattle.pid_http.specs.Api.Questions.{on_said}
-use Rattle.pid_http.specs.declared.api.early.Early.TheVariants.{BadValue}
+use Rattle.pid_http.specs.declared.api.early.RefusedEarly.TheVariants.{BadValue}
 use Rattle.pid_http.specs.declared.api.question.Question.TheVariants.{Read}
 use Rattle.pid_http.proofs.api.question.item_of.Goals as goal
 

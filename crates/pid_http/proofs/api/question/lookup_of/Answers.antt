@@ -2,7 +2,7 @@ use Rattle.std.proofs.Common.{cond, None, Some, refl, ap}
 use Rattle.std.specs.Prelude.{ok_or}
 use Rattle.pid_lookup.specs.Fields.{bytes_of, lookup_from, lookup_said}
 use Rattle.pid_http.specs.Api.Questions.{lookup_asked, on_said}
-use Rattle.pid_http.specs.declared.api.early.Early.TheVariants.{BadQuery}
+use Rattle.pid_http.specs.declared.api.early.RefusedEarly.TheVariants.{BadQuery}
 use Rattle.pid_http.proofs.api.question.lookup_of.Goals as goal
 
 pub returns-in-Ok : goal.returns-in-Ok

@@ -3,7 +3,7 @@ use Rattle.std.specs.Prelude.{ok_or}
 use Rattle.pid_moderation.specs.Forms.{number_in}
 use Rattle.pid_moderation.specs.declared.refusal.Refusal.TheVariants.{BadText}
 use Rattle.pid_http.specs.Api.Questions.{on_said}
-use Rattle.pid_http.specs.declared.api.early.Early.TheVariants.{BadValue}
+use Rattle.pid_http.specs.declared.api.early.RefusedEarly.TheVariants.{BadValue}
 use Rattle.pid_http.specs.declared.api.question.Question.TheVariants.{Submission}
 use Rattle.pid_http.proofs.api.question.number_of.Goals as goal
 

@@ -1,6 +1,6 @@
 use Rattle.std.proofs.Common.{refl, sym, ◌∙◌}
 use Rattle.pid_http_stream.specs.declared.handler.Wanted.TheVariants.{Buffered}
-use Rattle.pid_http.proofs.Handled.{asked_ok, asked_err, errand_is}
+use Rattle.pid_http.proofs.Handled.{asked_ok, asked_err, meaning_is}
 use Rattle.pid_http.proofs.Meeting.{told_of}
 use Rattle.pid_http.proofs.handling.ServiceHandler.answer.Goals as goal
 
@@ -14,7 +14,7 @@ returns-in-Ok-clause-answered g c =
             x.0,
             x.1,
             λ request at asked body. asked_ok _ t x.0 request _ c.in-Ok.reply
-                (c.sender_for-sender.ensures request.head at _ ∙ errand_is request (Buffered c.args.request) _ _ asked refl (sym body)) x.2,
+                (c.sender_for-sender.ensures request.head at _ ∙ meaning_is request (Buffered c.args.request) _ _ asked refl (sym body)) x.2,
           );
     }
 
@@ -28,6 +28,6 @@ returns-clause-answered g c =
             x.0,
             x.1,
             λ request at asked body. asked_err _ t x.0 request _
-                (c.sender_for-sender.ensures request.head at _ ∙ errand_is request (Buffered c.args.request) _ _ asked refl (sym body)) x.2,
+                (c.sender_for-sender.ensures request.head at _ ∙ meaning_is request (Buffered c.args.request) _ _ asked refl (sym body)) x.2,
           );
     }

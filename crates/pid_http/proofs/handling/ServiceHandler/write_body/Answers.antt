@@ -11,8 +11,8 @@ returns-in-Ok-clause-written g c =
     let e = c.in-Ok.ensures in
     let taken = g.W.Output.taken c.args.out.now in
     let after = g.W.Output.taken c.export.new.out in
-    let lives = one_call g.R.Moderated c.args.self.now.registry.now c.export.new.self nothing_sent e.calls (λ off. (e.failed off).1) in
-    let l = written g.R.Moderated g.met.R.Moderated.lives c.args.self.now.registry.now c.export.new.self (λ b. Appends taken after b) lives one_question e.calls.clean e.kept.shown e.told
+    let lives = one_call g.R.RegistryCalls c.args.self.now.registry.now c.export.new.self nothing_sent e.calls (λ off. (e.failed off).1) in
+    let l = written g.R.RegistryCalls g.met.R.RegistryCalls.lives c.args.self.now.registry.now c.export.new.self (λ b. Appends taken after b) lives one_question e.calls.clean e.kept.shown e.told
     (λ off. not_all (Appends taken after []) _ (e.failed off).0) in
     record { good = l.good; leads = λ good t is. l.leads good t is }
 
@@ -21,8 +21,8 @@ returns-in-Err-Write-clause-written g c =
     let e = c.in-Err-Write.ensures in
     let taken = g.W.Output.taken c.args.out.now in
     let after = g.W.Output.taken c.export.new.out in
-    let lives = one_call g.R.Moderated c.args.self.now.registry.now c.export.new.self nothing_sent e.calls (λ off. (e.failed off).1) in
-    let l = written g.R.Moderated g.met.R.Moderated.lives c.args.self.now.registry.now c.export.new.self (λ b. WritesFront taken after b) lives one_question e.calls.clean e.kept.shown
+    let lives = one_call g.R.RegistryCalls c.args.self.now.registry.now c.export.new.self nothing_sent e.calls (λ off. (e.failed off).1) in
+    let l = written g.R.RegistryCalls g.met.R.RegistryCalls.lives c.args.self.now.registry.now c.export.new.self (λ b. WritesFront taken after b) lives one_question e.calls.clean e.kept.shown
     (λ good h shows. exported_front (Unit {0}) taken after _ c.in-Err-Write.field-0 c.in-Err-Write.field-0-0 c.in-Err-Write.field-0-is (e.told good h shows)) (λ off. nothing_written taken after (e.failed off).2) in
     record { good = l.good; leads = λ good t is. l.leads good t is }
 
@@ -31,8 +31,8 @@ returns-in-Err-Refused-clause-written g c =
     let e = c.in-Err-Refused.ensures in
     let taken = g.W.Output.taken c.args.out.now in
     let after = g.W.Output.taken c.export.new.out in
-    let lives = one_call g.R.Moderated c.args.self.now.registry.now c.export.new.self nothing_sent e.calls (λ off. (e.failed off).1) in
-    let l = written g.R.Moderated g.met.R.Moderated.lives c.args.self.now.registry.now c.export.new.self (λ b. WritesFront taken after b) lives one_question e.calls.clean e.kept.shown
+    let lives = one_call g.R.RegistryCalls c.args.self.now.registry.now c.export.new.self nothing_sent e.calls (λ off. (e.failed off).1) in
+    let l = written g.R.RegistryCalls g.met.R.RegistryCalls.lives c.args.self.now.registry.now c.export.new.self (λ b. WritesFront taken after b) lives one_question e.calls.clean e.kept.shown
     (λ good h shows. exported_lines (Unit {0}) taken after _ c.in-Err-Refused.field-0 c.in-Err-Refused.field-0-0 c.in-Err-Refused.field-0-is (e.told good h shows)) (λ off. nothing_written taken after (e.failed off).2) in
     record { good = l.good; leads = λ good t is. l.leads good t is }
 

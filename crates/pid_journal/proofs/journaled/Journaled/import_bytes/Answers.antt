@@ -7,4 +7,4 @@ use Rattle.pid_journal.proofs.journaled.Journaled.import_bytes.Goals as goal
 
 pub returns-clause-obeyed : goal.returns-clause-obeyed
 returns-clause-obeyed g c clean start h shows =
-    subst (λ (l : List ℕ). CommandLeaves (pair_showing_from g.R.Moderated g.J.JournalFile start) c.obey.result c.obey.new.self h (import_of c.args.account c.args.key (file_reading l))) c.new-file.ensures (c.obey.ensures.obeyed clean start h shows)
+    subst (λ (l : List ℕ). CommandLeaves (pair_showing_from g.R.RegistryCalls g.J.JournalFile start) c.obey.result c.obey.new.self h (import_of c.args.account c.args.key (file_reading l))) c.new-file.ensures (c.obey.ensures.obeyed clean start h shows)

@@ -24,31 +24,31 @@ returns-then-self-clause-obeyed g c clean start h shows = absurd (not_both c.arg
 pub returns-in_err-status-clause-obeyed : goal.returns-in_err-status-clause-obeyed
 returns-in_err-status-clause-obeyed g c clean start h shows =
     let t = c.in_err-status.ensures.told clean h shows.shown in
-    inr (fault_of c.from_residual.result c.in_err-status.field-0.0 c.from_residual.ensures.1 t.0, inl (still_shows g.R.Moderated g.J.JournalFile start h c.args.self.now c.status.new.self shows t.1))
+    inr (fault_of c.from_residual.result c.in_err-status.field-0.0 c.from_residual.ensures.1 t.0, inl (still_shows g.R.RegistryCalls g.J.JournalFile start h c.args.self.now c.status.new.self shows t.1))
 
 pub returns-in_err-status-clause-failed : goal.returns-in_err-status-clause-failed
 returns-in_err-status-clause-failed g c off =
-    let f = c.in_err-status.ensures.failed (registry_off c.args.self.now.failed (g.R.Moderated.is_live c.args.self.now.registry) c.if-self.false off) in
-    (is_error c.from_residual.result c.in_err-status.field-0.0 c.from_residual.ensures.1 ∙ ap (λ (r : Result Status Refusal). Err (refusal_or r Failed)) f.0, ap (with_registry g.R.Moderated g.J.JournalFile c.args.self.now) f.1)
+    let f = c.in_err-status.ensures.failed (registry_off c.args.self.now.failed (g.R.RegistryCalls.is_live c.args.self.now.registry) c.if-self.false off) in
+    (is_error c.from_residual.result c.in_err-status.field-0.0 c.from_residual.ensures.1 ∙ ap (λ (r : Result Status Refusal). Err (refusal_or r Failed)) f.0, ap (with_registry g.R.RegistryCalls g.J.JournalFile c.args.self.now) f.1)
 
 pub returns-then-breaks_form-clause-obeyed : goal.returns-then-breaks_form-clause-obeyed
 returns-then-breaks_form-clause-obeyed g c clean start h shows =
     let t = c.in_ok-status.ensures.told clean h shows.shown in
     let stays = broken_stays h (asks c.args.command) (c.breaks_form.ensures.refused (views_of h) (reading_of c.args.command.act) (tells_any c.args.command.act) c.if-breaks_form.true) in
-    inl (stays.0, subst (PairShows g.R.Moderated g.J.JournalFile start (with_registry g.R.Moderated g.J.JournalFile c.args.self.now c.status.new.self)) stays.1 (still_shows g.R.Moderated g.J.JournalFile start h c.args.self.now c.status.new.self shows t.1))
+    inl (stays.0, subst (PairShows g.R.RegistryCalls g.J.JournalFile start (with_registry g.R.RegistryCalls g.J.JournalFile c.args.self.now c.status.new.self)) stays.1 (still_shows g.R.RegistryCalls g.J.JournalFile start h c.args.self.now c.status.new.self shows t.1))
 
 pub returns-then-breaks_form-clause-failed : goal.returns-then-breaks_form-clause-failed
 returns-then-breaks_form-clause-failed g c off =
-    let f = c.in_ok-status.ensures.failed (registry_off c.args.self.now.failed (g.R.Moderated.is_live c.args.self.now.registry) c.if-self.false off) in absurd (let no : ⊥ = cc (f.0) in no)
+    let f = c.in_ok-status.ensures.failed (registry_off c.args.self.now.failed (g.R.RegistryCalls.is_live c.args.self.now.registry) c.if-self.false off) in absurd (let no : ⊥ = cc (f.0) in no)
 
 pub returns-in_err-entry-clause-obeyed : goal.returns-in_err-entry-clause-obeyed
 returns-in_err-entry-clause-obeyed g c clean start h shows =
     let t = c.in_ok-status.ensures.told clean h shows.shown in
-    inr (fault_of c.from_residual-in_err-entry.result c.in_err-entry.field-0.0 c.from_residual-in_err-entry.ensures.1 c.in_err-entry.ensures.fault, inl (still_shows g.R.Moderated g.J.JournalFile start h c.args.self.now c.status.new.self shows t.1))
+    inr (fault_of c.from_residual-in_err-entry.result c.in_err-entry.field-0.0 c.from_residual-in_err-entry.ensures.1 c.in_err-entry.ensures.fault, inl (still_shows g.R.RegistryCalls g.J.JournalFile start h c.args.self.now c.status.new.self shows t.1))
 
 pub returns-in_err-entry-clause-failed : goal.returns-in_err-entry-clause-failed
 returns-in_err-entry-clause-failed g c off =
-    let f = c.in_ok-status.ensures.failed (registry_off c.args.self.now.failed (g.R.Moderated.is_live c.args.self.now.registry) c.if-self.false off) in absurd (let no : ⊥ = cc (f.0) in no)
+    let f = c.in_ok-status.ensures.failed (registry_off c.args.self.now.failed (g.R.RegistryCalls.is_live c.args.self.now.registry) c.if-self.false off) in absurd (let no : ⊥ = cc (f.0) in no)
 
 pub returns-clause-honest : goal.returns-clause-honest
 returns-clause-honest g c clean = c.in_ok-status.ensures.calls.clean (c.obey_noted.ensures.honest clean)
@@ -56,19 +56,19 @@ returns-clause-honest g c clean = c.in_ok-status.ensures.calls.clean (c.obey_not
 pub returns-clause-obeyed : goal.returns-clause-obeyed
 returns-clause-obeyed g c clean start h shows =
     let t = c.in_ok-status.ensures.told (c.obey_noted.ensures.honest clean) h shows.shown in
-    c.obey_noted.ensures.obeyed clean start h (still_shows g.R.Moderated g.J.JournalFile start h c.args.self.now c.status.new.self shows t.1)
+    c.obey_noted.ensures.obeyed clean start h (still_shows g.R.RegistryCalls g.J.JournalFile start h c.args.self.now c.status.new.self shows t.1)
     (entry_at _ _ _ h (asks c.args.command) c.as_bytes.ensures.value t.0 c.in_ok-entry.ensures.reads_back)
 
 pub returns-clause-failed : goal.returns-clause-failed
 returns-clause-failed g c off =
-    let f = c.in_ok-status.ensures.failed (registry_off c.args.self.now.failed (g.R.Moderated.is_live c.args.self.now.registry) c.if-self.false off) in absurd (let no : ⊥ = cc (f.0) in no)
+    let f = c.in_ok-status.ensures.failed (registry_off c.args.self.now.failed (g.R.RegistryCalls.is_live c.args.self.now.registry) c.if-self.false off) in absurd (let no : ⊥ = cc (f.0) in no)
 
 -- a file that is not UTF-8
 pub returns-then-branch-clause-obeyed : goal.returns-then-branch-clause-obeyed
 returns-then-branch-clause-obeyed g c clean start h shows =
     let t = c.in_ok-status.ensures.told (c.obey.ensures.honest clean) h shows.shown in
-    unnoted g.R.Moderated g.J.JournalFile start h (with_registry g.R.Moderated g.J.JournalFile c.args.self.now c.status.new.self) c.obey.new.self c.obey.result (asks c.args.command)
-    (still_shows g.R.Moderated g.J.JournalFile start h c.args.self.now c.status.new.self shows t.1) (c.in_ok-has_no_line.ensures.never c.if-branch.true h) (c.obey.ensures.obeys clean h t.1)
+    unnoted g.R.RegistryCalls g.J.JournalFile start h (with_registry g.R.RegistryCalls g.J.JournalFile c.args.self.now c.status.new.self) c.obey.new.self c.obey.result (asks c.args.command)
+    (still_shows g.R.RegistryCalls g.J.JournalFile start h c.args.self.now c.status.new.self shows t.1) (c.in_ok-has_no_line.ensures.never c.if-branch.true h) (c.obey.ensures.obeys clean h t.1)
 
 pub obey_noted-requires : goal.obey_noted-requires
 obey_noted-requires g c = subst IsUnmarked (sym c.as_bytes.ensures.value) (unmarked _ _ _ c.in_ok-entry.ensures.reads_back)

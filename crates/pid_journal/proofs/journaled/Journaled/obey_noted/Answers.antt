@@ -11,7 +11,7 @@ use Rattle.pid_journal.proofs.journaled.Journaled.obey_noted.Goals as goal
 
 -- the entry was not written whole
 pub returns-in-Err-clause-honest : goal.returns-in-Err-clause-honest
-returns-in-Err-clause-honest g c clean = subst g.R.Moderated.showing.is_clean c.take_back-in-Err.ensures.same clean
+returns-in-Err-clause-honest g c clean = subst g.R.RegistryCalls.showing.is_clean c.take_back-in-Err.ensures.same clean
 
 pub returns-in-Err-clause-obeyed : goal.returns-in-Err-clause-obeyed
 returns-in-Err-clause-obeyed g c clean start h shows is =
@@ -20,8 +20,8 @@ returns-in-Err-clause-obeyed g c clean start h shows is =
     let count = counted (g.J.JournalFile.safe c.args.self.now.journal) shows.text c.count-count.result shows.safe c.count-count.ensures in
     inr (
       inr refl,
-      taken_back g.R.Moderated g.J.JournalFile start h mid c.take_back-in-Err.new.self shows.text c.args.entry.now part.part part.gone (asks c.args.command) shows.leads is part.parts
-          (shows_same g.R.Moderated g.J.JournalFile _ _ h c.take_back-in-Err.ensures.same shows.shown) part.left shows.settled
+      taken_back g.R.RegistryCalls g.J.JournalFile start h mid c.take_back-in-Err.new.self shows.text c.args.entry.now part.part part.gone (asks c.args.command) shows.leads is part.parts
+          (shows_same g.R.RegistryCalls g.J.JournalFile _ _ h c.take_back-in-Err.ensures.same shows.shown) part.left shows.settled
           (subst (IsCutBack g.J.JournalFile mid c.take_back-in-Err.new.self) (sym count) c.take_back-in-Err.ensures.taken),
     )
 
@@ -35,7 +35,7 @@ returns-then-not-is_fault-clause-obeyed g c clean start h shows is =
     elim (c.obey-answer.ensures.obeys (c.mark_end.ensures.honest clean) h shows.shown) [
       | inl told ↦ inl (
         told.0,
-        judged g.R.Moderated g.J.JournalFile start h c.obey-answer.new.self new shows.text c.args.entry.now (asks c.args.command) (g.J.JournalFile.safe c.append.new.self) shows.leads is clean told.1 c.mark_end.ensures.kept
+        judged g.R.RegistryCalls g.J.JournalFile start h c.obey-answer.new.self new shows.text c.args.entry.now (asks c.args.command) (g.J.JournalFile.safe c.append.new.self) shows.leads is clean told.1 c.mark_end.ensures.kept
             (c.in-Ok.ensures.appended shows.text shows.safe) c.mark_end.ensures.marked shows.settled,
       )
       | inr fault ↦ absurd (c.is_fault.ensures.no c.if-not-is_fault.true fault.0)
@@ -53,27 +53,27 @@ returns-then-not-is_answering-clause-obeyed g c clean start h shows is =
     let end = c.obey-answer.ensures.obeys (probe.clean clean) h shows.shown in
     elim (done h (asks c.args.command) c.obey-answer.result (c.judgements_are_outcomes.ensures (views_of h) (asks c.args.command)) fault end) [
       | inl shown ↦ absurd (not_both c.is_answering.result (probe.shown clean h shown).0 c.if-not-is_answering.true)
-      | inr fails ↦ inr (fault, inr (fallen g.R.Moderated g.J.JournalFile start h new shows.text c.args.entry.now (asks c.args.command) shows.leads is (probe.fallen h (after h (asks c.args.command)) fails).1 (c.in-Ok.ensures.appended shows.text shows.safe)))
+      | inr fails ↦ inr (fault, inr (fallen g.R.RegistryCalls g.J.JournalFile start h new shows.text c.args.entry.now (asks c.args.command) shows.leads is (probe.fallen h (after h (asks c.args.command)) fails).1 (c.in-Ok.ensures.appended shows.text shows.safe)))
     ]
 
 -- it was not obeyed
 pub returns-else-not-is_answering-clause-honest : goal.returns-else-not-is_answering-clause-honest
-returns-else-not-is_answering-clause-honest g c clean = c.obey-answer.ensures.honest (c.is_answering.ensures.clean (subst g.R.Moderated.showing.is_clean c.take_back.ensures.same clean))
+returns-else-not-is_answering-clause-honest g c clean = c.obey-answer.ensures.honest (c.is_answering.ensures.clean (subst g.R.RegistryCalls.showing.is_clean c.take_back.ensures.same clean))
 
 pub returns-else-not-is_answering-clause-obeyed : goal.returns-else-not-is_answering-clause-obeyed
 returns-else-not-is_answering-clause-obeyed g c clean start h shows is =
     let mid = record c.args.self.now { registry = c.is_answering.new.registry; journal = c.append.new.self } in
     let same = c.take_back.ensures.same in
     let probe = c.is_answering.ensures in
-    let asked = subst g.R.Moderated.showing.is_clean same clean in
+    let asked = subst g.R.RegistryCalls.showing.is_clean same clean in
     let fault = c.is_fault.ensures.yes c.if-not-is_fault.false in
     let end = c.obey-answer.ensures.obeys (probe.clean asked) h shows.shown in
     let count = counted (g.J.JournalFile.safe c.args.self.now.journal) shows.text c.count-count.result shows.safe c.count-count.ensures in
     elim (done h (asks c.args.command) c.obey-answer.result (c.judgements_are_outcomes.ensures (views_of h) (asks c.args.command)) fault end) [
       | inl shown ↦ inr (
         fault,
-        taken_back g.R.Moderated g.J.JournalFile start h mid c.take_back.new.self shows.text c.args.entry.now c.args.entry.now [] (asks c.args.command) shows.leads is (sym (append-nil c.args.entry.now))
-            (shows_same g.R.Moderated g.J.JournalFile _ _ h same (probe.shown asked h shown).1) (c.in-Ok.ensures.appended shows.text shows.safe) shows.settled
+        taken_back g.R.RegistryCalls g.J.JournalFile start h mid c.take_back.new.self shows.text c.args.entry.now c.args.entry.now [] (asks c.args.command) shows.leads is (sym (append-nil c.args.entry.now))
+            (shows_same g.R.RegistryCalls g.J.JournalFile _ _ h same (probe.shown asked h shown).1) (c.in-Ok.ensures.appended shows.text shows.safe) shows.settled
             (subst (IsCutBack g.J.JournalFile mid c.take_back.new.self) (sym count) c.take_back.ensures.taken),
       )
       | inr fails ↦ absurd (not_both c.is_answering.result c.if-not-is_answering.false (probe.fallen h (after h (asks c.args.command)) fails).0)
@@ -92,7 +92,7 @@ take_back-requires-in-Err g c =
 
 pub returns-then-not-is_fault-clause-added : goal.returns-then-not-is_fault-clause-added
 returns-then-not-is_fault-clause-added g c counts is =
-    added_marked g.R.Moderated.showing c.obey-answer.new.self c.mark_end.new.registry (g.J.JournalFile.safe c.args.self.now.journal) (g.J.JournalFile.safe c.append.new.self) (g.J.JournalFile.safe c.mark_end.new.journal) c.args.entry.now counts (asks c.args.command) c.obey-answer.result is
+    added_marked g.R.RegistryCalls.showing c.obey-answer.new.self c.mark_end.new.registry (g.J.JournalFile.safe c.args.self.now.journal) (g.J.JournalFile.safe c.append.new.self) (g.J.JournalFile.safe c.mark_end.new.journal) c.args.entry.now counts (asks c.args.command) c.obey-answer.result is
     c.in-Ok.ensures.appended c.mark_end.ensures.marked
 
 pub returns-then-not-is_answering-clause-added : goal.returns-then-not-is_answering-clause-added

@@ -8,13 +8,13 @@ use Rattle.pid_moderation.specs.Items.{Items, name_at}
 use Rattle.pid_moderation.specs.Views.{Views}
 use Rattle.pid_moderation.specs.declared.lists.Item.{Item}
 use Rattle.pid_tables.specs.Searches.KeptNumbers.{HoldsNumbers}
-use Rattle.pid_service.specs.KeptViews.{HoldsChanges, HoldsText, HoldsTop, HoldsWaiting}
+use Rattle.pid_service.specs.KeptViews.{HoldsChanges, HoldsText, HoldsTop, HoldsPending}
 use Rattle.pid_tables.specs.declared.searches.numbers.Searches.{Searches}
 use Rattle.pid_service.proofs.AccountCounts.{still_accounts}
 use Rattle.pid_service.specs.declared.changes.KeptChanges.{KeptChanges}
 use Rattle.pid_service.specs.declared.kept_text.KeptText.{KeptText}
 use Rattle.pid_service.proofs.Keeping.{same_items}
-use Rattle.pid_service.proofs.PendingNumbers.{still_waiting}
+use Rattle.pid_service.proofs.PendingNumbers.{still_pending}
 use Rattle.pid_service.proofs.RenewedChanges.{still_changes}
 use Rattle.pid_service.proofs.ChangedLists.{kept_since, same_changes}
 use Rattle.pid_tables.proofs.OfSearches.NumberLists.{still_numbers}
@@ -43,7 +43,7 @@ returns-then-not-writes_items c v views fits right =
       text = items.1;
       top = still_top change v _ (c.top_after.ensures change.revision v (subst (λ (o : Option (Vec Item Global)). HoldsTop o v) (sym held) right.top));
       changes = same_changes c.args.self.now.changes v (changed change v) same since right.changes;
-      pending = still_waiting change v _ (c.waiting_after.ensures change.revision v views fits.0 (subst (λ (o : Option (Vec ℕ Global)). HoldsWaiting o v) (sym taken) right.pending));
+      pending = still_pending change v _ (c.pending_after.ensures change.revision v views fits.0 (subst (λ (o : Option (Vec ℕ Global)). HoldsPending o v) (sym taken) right.pending));
       numbers = still_numbers change v _ (c.numbers_after.ensures change.revision v fits.0 (subst (λ (n : Searches). HoldsNumbers n v) (sym numbers) right.numbers));
       accounts = still_accounts change v _ (c.accounts_after-self.ensures change.revision v fits.0 right.accounts);
     }
@@ -61,7 +61,7 @@ returns c v views fits right =
       text = still_text change v _ (c.text_after.ensures change.revision v views (subst (λ (o : Option KeptText). HoldsText o v.items) (sym text) right.text));
       top = still_top change v _ (c.top_after.ensures change.revision v (subst (λ (o : Option (Vec Item Global)). HoldsTop o v) (sym held) right.top));
       changes = still_changes change v _ (c.changes_after.ensures v views fits.0 (subst (λ (o : Option KeptChanges). HoldsChanges o v) (sym changes) right.changes));
-      pending = still_waiting change v _ (c.waiting_after.ensures change.revision v views fits.0 (subst (λ (o : Option (Vec ℕ Global)). HoldsWaiting o v) (sym taken) right.pending));
+      pending = still_pending change v _ (c.pending_after.ensures change.revision v views fits.0 (subst (λ (o : Option (Vec ℕ Global)). HoldsPending o v) (sym taken) right.pending));
       numbers = still_numbers change v _ (c.numbers_after.ensures change.revision v fits.0 (subst (λ (n : Searches). HoldsNumbers n v) (sym numbers) right.numbers));
       accounts = still_accounts change v _ (c.accounts_after-self.ensures change.revision v fits.0 right.accounts);
     }

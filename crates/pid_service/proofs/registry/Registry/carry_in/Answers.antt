@@ -17,7 +17,7 @@ returns-in-Ok-clause-obeyed g c = let r = c.in-Ok.ensures.stops in
       text = r.0;
       consumed = r.1;
       read = r.2;
-      holds = λ clean h w. ok_obeyed g.S.Store c.args.self.now _ h (asked c.args.command.now (file_reading r.0)) c.in-Ok.reply w.shows refl w.reached (λ clean. c.forget_items.ensures (views_of h) _ (import_leaves h c.args.command.now (file_reading r.0) w.import) (w.shows.kept (c.bring_in.ensures.ends.clean clean))) (r.3 clean h w.shows.tables w.shows.history.marked w.import w.waits w.many);
+      holds = λ clean h w. ok_obeyed g.S.Store c.args.self.now _ h (asked c.args.command.now (file_reading r.0)) c.in-Ok.reply w.shows refl w.reached (λ clean. c.forget_items.ensures (views_of h) _ (import_leaves h c.args.command.now (file_reading r.0) w.import) (w.shows.kept (c.import_file.ensures.ends.clean clean))) (r.3 clean h w.shows.tables w.shows.history.marked w.import w.waits w.many);
     }
 
 pub returns-in-Err-Body-clause-obeyed : goal.returns-in-Err-Body-clause-obeyed
@@ -29,7 +29,7 @@ returns-in-Err-Body-clause-obeyed g c =
       consumed = r.1;
       read = body_read c.in-Err-Body.field-0 _ r.0 is r.2;
       holds = λ clean h w.
-          body_carried g.S.Store c.args.self.now _ h (asked c.args.command.now (file_reading r.0)) c.in-Err-Body.field-0 is w.shows refl (λ clean. c.forget_items.ensures (views_of h) (views_of h) (all_left (views_of h)) (w.shows.kept (c.bring_in.ensures.ends.clean clean)))
+          body_carried g.S.Store c.args.self.now _ h (asked c.args.command.now (file_reading r.0)) c.in-Err-Body.field-0 is w.shows refl (λ clean. c.forget_items.ensures (views_of h) (views_of h) (all_left (views_of h)) (w.shows.kept (c.import_file.ensures.ends.clean clean)))
           (r.3 clean h w.shows.tables w.shows.history.marked w.import w.waits w.many);
     }
 
@@ -42,7 +42,7 @@ returns-in-Err-Refused-clause-obeyed g c =
       consumed = r.1;
       read = refused_read c.in-Err-Refused.field-0 c.in-Err-Refused.refusal _ r.0 is r.2;
       holds = λ clean h w.
-          refused_carried g.S.Store c.args.self.now _ h (asked c.args.command.now (file_reading r.0)) c.in-Err-Refused.field-0 c.in-Err-Refused.refusal is w.shows refl (λ clean. c.forget_items.ensures (views_of h) (views_of h) (all_left (views_of h)) (w.shows.kept (c.bring_in.ensures.ends.clean clean)))
+          refused_carried g.S.Store c.args.self.now _ h (asked c.args.command.now (file_reading r.0)) c.in-Err-Refused.field-0 c.in-Err-Refused.refusal is w.shows refl (λ clean. c.forget_items.ensures (views_of h) (views_of h) (all_left (views_of h)) (w.shows.kept (c.import_file.ensures.ends.clean clean)))
           (r.3 clean h w.shows.tables w.shows.history.marked w.import w.waits w.many);
     }
 
@@ -65,7 +65,7 @@ pub returns-in-Err-Refused-clause-caused : goal.returns-in-Err-Refused-clause-ca
 returns-in-Err-Refused-clause-caused g c clean h shows marked import waits many =
     let is : c.in-Err-Refused.field-0 ≡ stops.Refused c.in-Err-Refused.refusal = search rules in
     let r = c.in-Err-Refused.ensures.stops in
-    refused_stays g.S.Store c.judgements_are_outcomes.ensures c.bring_in.new.conn c.args.self.now.live h (asked c.args.command.now (file_reading r.0)) c.in-Err-Refused.field-0 c.in-Err-Refused.refusal is shows.lives (r.3 clean h shows.tables marked import waits many)
+    refused_stays g.S.Store c.judgements_are_outcomes.ensures c.import_file.new.conn c.args.self.now.live h (asked c.args.command.now (file_reading r.0)) c.in-Err-Refused.field-0 c.in-Err-Refused.refusal is shows.lives (r.3 clean h shows.tables marked import waits many)
 
 pub returns-in-Err-Failed-clause-caused : goal.returns-in-Err-Failed-clause-caused
 returns-in-Err-Failed-clause-caused g c clean h shows marked import waits many fault = inr refl
@@ -74,17 +74,17 @@ returns-in-Err-Failed-clause-caused g c clean h shows marked import waits many f
 
 pub returns-in-Ok-clause-reads : goal.returns-in-Ok-clause-reads
 returns-in-Ok-clause-reads g c =
-    record { goes = c.bring_in.ensures.goes; fault = λ body. ok_not c.in-Ok.reply imports.Body body; fault_first = λ some. ok_not c.in-Ok.reply stops.Body (c.in-Ok.ensures.read_fault.first some) }
+    record { goes = c.import_file.ensures.goes; fault = λ body. ok_not c.in-Ok.reply imports.Body body; fault_first = λ some. ok_not c.in-Ok.reply stops.Body (c.in-Ok.ensures.read_fault.first some) }
 
 pub returns-in-Ok-clause-held : goal.returns-in-Ok-clause-held
 returns-in-Ok-clause-held g c =
     refl
 
 pub returns-in-Ok-clause-clean : goal.returns-in-Ok-clause-clean
-returns-in-Ok-clause-clean g c = c.bring_in.ensures.ends.clean
+returns-in-Ok-clause-clean g c = c.import_file.ensures.ends.clean
 
 pub returns-in-Ok-clause-limit : goal.returns-in-Ok-clause-limit
-returns-in-Ok-clause-limit g c = c.bring_in.ensures.ends.limit
+returns-in-Ok-clause-limit g c = c.import_file.ensures.ends.limit
 
 pub returns-in-Ok-clause-caused : goal.returns-in-Ok-clause-caused
 returns-in-Ok-clause-caused g c clean h shows marked import waits many = tt
@@ -92,17 +92,17 @@ returns-in-Ok-clause-caused g c clean h shows marked import waits many = tt
 pub returns-in-Err-Body-clause-reads : goal.returns-in-Err-Body-clause-reads
 returns-in-Err-Body-clause-reads g c =
     let is : c.in-Err-Body.field-0 ≡ stops.Body = search rules in
-    record { goes = c.bring_in.ensures.goes; fault = λ body. c.in-Err-Body.ensures.read_fault.told (ap Err is); fault_first = λ some. refl }
+    record { goes = c.import_file.ensures.goes; fault = λ body. c.in-Err-Body.ensures.read_fault.told (ap Err is); fault_first = λ some. refl }
 
 pub returns-in-Err-Body-clause-held : goal.returns-in-Err-Body-clause-held
 returns-in-Err-Body-clause-held g c =
     refl
 
 pub returns-in-Err-Body-clause-clean : goal.returns-in-Err-Body-clause-clean
-returns-in-Err-Body-clause-clean g c = c.bring_in.ensures.ends.clean
+returns-in-Err-Body-clause-clean g c = c.import_file.ensures.ends.clean
 
 pub returns-in-Err-Body-clause-limit : goal.returns-in-Err-Body-clause-limit
-returns-in-Err-Body-clause-limit g c = c.bring_in.ensures.ends.limit
+returns-in-Err-Body-clause-limit g c = c.import_file.ensures.ends.limit
 
 pub returns-in-Err-Body-clause-caused : goal.returns-in-Err-Body-clause-caused
 returns-in-Err-Body-clause-caused g c clean h shows marked import waits many = tt
@@ -110,7 +110,7 @@ returns-in-Err-Body-clause-caused g c clean h shows marked import waits many = t
 pub returns-in-Err-Refused-clause-reads : goal.returns-in-Err-Refused-clause-reads
 returns-in-Err-Refused-clause-reads g c =
     let is : c.in-Err-Refused.field-0 ≡ stops.Refused c.in-Err-Refused.refusal = search rules in
-    record { goes = c.bring_in.ensures.goes; fault = λ body. refusal_not c.in-Err-Refused.refusal body; fault_first = λ some. stop_not c.in-Err-Refused.field-0 c.in-Err-Refused.refusal is (c.in-Err-Refused.ensures.read_fault.first some) }
+    record { goes = c.import_file.ensures.goes; fault = λ body. refusal_not c.in-Err-Refused.refusal body; fault_first = λ some. stop_not c.in-Err-Refused.field-0 c.in-Err-Refused.refusal is (c.in-Err-Refused.ensures.read_fault.first some) }
 
 pub returns-in-Err-Refused-clause-held : goal.returns-in-Err-Refused-clause-held
 returns-in-Err-Refused-clause-held g c =
@@ -118,22 +118,22 @@ returns-in-Err-Refused-clause-held g c =
     (refused_alive c.in-Err-Refused.field-0 c.in-Err-Refused.refusal is c.in-Err-Refused.ensures.alive, inr refl)
 
 pub returns-in-Err-Refused-clause-clean : goal.returns-in-Err-Refused-clause-clean
-returns-in-Err-Refused-clause-clean g c = c.bring_in.ensures.ends.clean
+returns-in-Err-Refused-clause-clean g c = c.import_file.ensures.ends.clean
 
 pub returns-in-Err-Refused-clause-limit : goal.returns-in-Err-Refused-clause-limit
-returns-in-Err-Refused-clause-limit g c = c.bring_in.ensures.ends.limit
+returns-in-Err-Refused-clause-limit g c = c.import_file.ensures.ends.limit
 
 pub returns-in-Err-Failed-clause-reads : goal.returns-in-Err-Failed-clause-reads
 returns-in-Err-Failed-clause-reads g c =
     let is : c.in-Err-Failed.field-0 ≡ stops.Failed c.in-Err-Failed.refusal = search rules in
-    record { goes = c.bring_in.ensures.goes; fault = λ body. refusal_not c.stopping.result body; fault_first = λ some. failure_not c.in-Err-Failed.field-0 c.in-Err-Failed.refusal is (c.in-Err-Failed.ensures.read_fault.first some) }
+    record { goes = c.import_file.ensures.goes; fault = λ body. refusal_not c.stopping.result body; fault_first = λ some. failure_not c.in-Err-Failed.field-0 c.in-Err-Failed.refusal is (c.in-Err-Failed.ensures.read_fault.first some) }
 
 pub returns-in-Err-Failed-clause-held : goal.returns-in-Err-Failed-clause-held
 returns-in-Err-Failed-clause-held g c =
     (fault_alive c.stopping.result c.stopping.ensures.fault, inl c.stopping.ensures.fault)
 
 pub returns-in-Err-Failed-clause-clean : goal.returns-in-Err-Failed-clause-clean
-returns-in-Err-Failed-clause-clean g c = c.bring_in.ensures.ends.clean
+returns-in-Err-Failed-clause-clean g c = c.import_file.ensures.ends.clean
 
 pub returns-in-Err-Failed-clause-limit : goal.returns-in-Err-Failed-clause-limit
-returns-in-Err-Failed-clause-limit g c = c.bring_in.ensures.ends.limit
+returns-in-Err-Failed-clause-limit g c = c.import_file.ensures.ends.limit

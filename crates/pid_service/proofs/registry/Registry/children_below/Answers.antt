@@ -12,5 +12,5 @@ returns-in-Some-children_in g c =
 
 pub returns : goal.returns
 returns g c =
-    answers_read g.S.Store c.args.self.now _ c.children.result c.or_refusal.result _ _ c.requires refl refl c.children.ensures c.or_refusal.ensures c.reached_histories_are_kept.ensures.readable
+    answers_read g.S.Store c.args.self.now _ c.children.result c.fault_as_refusal.result _ _ c.requires refl refl c.children.ensures c.fault_as_refusal.ensures c.reached_histories_are_kept.ensures.readable
     (λ h items shows clean told. told (c.reached_histories_are_kept.ensures.items h shows.history).0)

@@ -15,7 +15,7 @@ returns-then-self g c = answered_here g.S.Store c.args.self.now _ _ c.if-not-sel
 
 pub returns-in-Ok : goal.returns-in-Ok
 returns-in-Ok g c =
-    let rests = c.waiting_numbers.ensures.rests in
+    let rests = c.read_pending_numbers.ensures.rests in
     record {
       failed = true_not c.args.self.now.live c.if-not-self.false;
       fault = tt;
@@ -29,7 +29,7 @@ returns-in-Ok g c =
 
 pub returns-in-Err-Memory : goal.returns-in-Err-Memory
 returns-in-Err-Memory g c =
-    let rests = c.waiting_numbers.ensures.rests in
+    let rests = c.read_pending_numbers.ensures.rests in
     record {
       failed = true_not c.args.self.now.live c.if-not-self.false;
       fault = tt;
@@ -43,7 +43,7 @@ returns-in-Err-Memory g c =
 
 pub returns-in-Err : goal.returns-in-Err
 returns-in-Err g c =
-    answers_fault g.S.Store c.args.self.now _ c.in-Err.fault c.refusal_of.result _ c.if-not-self.false refl refl c.waiting_numbers.ensures.rests c.refusal_of.ensures.same c.refusal_of.ensures.fault
+    answers_fault g.S.Store c.args.self.now _ c.in-Err.fault c.refusal_of.result _ c.if-not-self.false refl refl c.read_pending_numbers.ensures.rests c.refusal_of.ensures.same c.refusal_of.ensures.fault
     (λ clean h shows. c.in-Err.ensures.told clean (views_of h) shows.tables (c.reached_histories_are_kept.ensures.readable h shows.history))
 
 -- ---- the numbers were read before

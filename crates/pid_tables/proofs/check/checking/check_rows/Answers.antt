@@ -2,13 +2,13 @@ use Rattle.std.proofs.Common.{refl}
 use Rattle.std.proofs.lemmas.Bool.{false≢true}
 use Rattle.pid_tables.proofs.OfRows.CauseLemmas.{passed_on}
 use Rattle.pid_tables.specs.Check.Steps.Reading.{TellsDamage}
-use Rattle.pid_tables.proofs.OfCheck.Judged.{untold_damage, registry_shown, damage_shown, not_both, not_not}
+use Rattle.pid_tables.proofs.OfCheck.Judged.{only_store_damage, registry_shown, damage_shown, not_both, not_not}
 use Rattle.pid_tables.proofs.OfCheck.LabelFacts.{revision_of}
 use Rattle.pid_tables.proofs.check.checking.check_rows.Goals as goal
 
 pub returns-in_err-judged-clause-told : goal.returns-in_err-judged-clause-told
 returns-in_err-judged-clause-told g c clean d is has =
-    passed_on c.from_residual.result _ _ (TellsDamage c.args.version d) c.from_residual.ensures.1 (untold_damage c.args.version d _ (c.in_err-judged.ensures.told clean d is has.0))
+    passed_on c.from_residual.result _ _ (TellsDamage c.args.version d) c.from_residual.ensures.1 (only_store_damage c.args.version d _ (c.in_err-judged.ensures.told clean d is has.0))
 
 pub returns-then-not-judged-clause-told : goal.returns-then-not-judged-clause-told
 returns-then-not-judged-clause-told g c clean d is has =

@@ -7,20 +7,20 @@ use Rattle.pid_tables.specs.Check.Checking.{Explains}
 use Rattle.pid_tables.specs.Check.Shapes.{HasTables, ShowsLater}
 use Rattle.pid_tables.specs.Check.Steps.Shapes.{HasTablesOf}
 use Rattle.pid_tables.proofs.OfCheck.Labels.{later_shown}
-use Rattle.pid_tables.proofs.OfCheck.Telling.{untold, damage_explained, neither_schema}
+use Rattle.pid_tables.proofs.OfCheck.Telling.{only_store, damage_explained, neither_schema}
 use Rattle.pid_tables.proofs.check.checking.check_tables.Goals as goal
 
 pub returns-in_err-found-clause-told : goal.returns-in_err-found-clause-told
 returns-in_err-found-clause-told g c clean each =
     let d = (state g.S.Store c.args.conn.now).now in
-    passed_on c.from_residual.result _ _ (Explains d) c.from_residual.ensures.1 (untold d _ c.in_err-found.ensures.untold)
+    passed_on c.from_residual.result _ _ (Explains d) c.from_residual.ensures.1 (only_store d _ c.in_err-found.ensures.only_store)
 
 pub returns-in_err-labels-clause-told : goal.returns-in_err-labels-clause-told
 returns-in_err-labels-clause-told g c clean each =
     let d = (state g.S.Store c.args.conn.now).now in
     let mid = c.in_err-labels.ensures.rests.clean clean in
     passed_on c.from_residual-in_err-labels.result _ _ (Explains d) c.from_residual-in_err-labels.ensures.1
-    (untold d _ (c.in_err-labels.ensures.keeps clean d (c.in_ok-found.ensures.same mid) (each _ (inl refl))))
+    (only_store d _ (c.in_err-labels.ensures.keeps clean d (c.in_ok-found.ensures.same mid) (each _ (inl refl))))
 
 pub returns-in-Some-clause-told : goal.returns-in-Some-clause-told
 returns-in-Some-clause-told g c clean each =

@@ -5,7 +5,7 @@ use Rattle.pid_tables.proofs.OfRows.OnlyReading.{reads_then}
 use Rattle.pid_tables.specs.Check.Shapes.{CanBeAsked, ShowsLater}
 use Rattle.pid_tables.specs.Check.Steps.Lacking.{ExplainsLater}
 use Rattle.pid_tables.proofs.OfCheck.Labels.{later_shown}
-use Rattle.pid_tables.proofs.OfCheck.Later.{untold_later}
+use Rattle.pid_tables.proofs.OfCheck.Later.{only_store_later}
 use Rattle.pid_tables.proofs.OfCheck.Telling.{off_on}
 use Rattle.pid_tables.proofs.check.lacking.check_lacking.Goals as goal
 
@@ -14,7 +14,7 @@ returns-in_err-labels-clause-told g c clean =
     let d = (state g.S.Store c.args.conn.now).now in
     let mid = c.in_err-labels.ensures.rests.clean clean in
     let asked = subst (CanBeAsked d.schema) c.query.ensures ((c.in_ok-can_ask.ensures.asked mid).0 c.if-not-branch.false) in
-    passed_on c.from_residual-in_err-labels.result _ _ (ExplainsLater d) c.from_residual-in_err-labels.ensures.1 (untold_later d _ (c.in_err-labels.ensures.keeps clean d (c.in_ok-can_ask.ensures.same mid) asked))
+    passed_on c.from_residual-in_err-labels.result _ _ (ExplainsLater d) c.from_residual-in_err-labels.ensures.1 (only_store_later d _ (c.in_err-labels.ensures.keeps clean d (c.in_ok-can_ask.ensures.same mid) asked))
 
 pub returns-in-Some-clause-told : goal.returns-in-Some-clause-told
 returns-in-Some-clause-told g c clean =
@@ -34,7 +34,7 @@ returns-in-None-clause-told g c clean can =
 pub returns-in_err-can_ask-clause-told : goal.returns-in_err-can_ask-clause-told
 returns-in_err-can_ask-clause-told g c clean =
     let d = (state g.S.Store c.args.conn.now).now in
-    passed_on c.from_residual.result _ _ (ExplainsLater d) c.from_residual.ensures.1 (untold_later d _ c.in_err-can_ask.ensures.untold)
+    passed_on c.from_residual.result _ _ (ExplainsLater d) c.from_residual.ensures.1 (only_store_later d _ c.in_err-can_ask.ensures.only_store)
 
 pub returns-then-not-branch-clause-told : goal.returns-then-not-branch-clause-told
 returns-then-not-branch-clause-told g c clean asked =

@@ -17,7 +17,7 @@ returns-clause-found g c = record {
   asked = λ clean. if_ok c.some_can.result (λ asked judged. some_table c.args.conn.now.schema asked judged) (c.some_can.ensures.asked clean);
   was_open = λ clean. c.some_can.ensures.was_open clean (omega arith);
   same = c.some_can.ensures.same;
-  untold = c.some_can.ensures.untold;
+  only_store = c.some_can.ensures.only_store;
 }
 
 -- where views are shown some table is there

@@ -20,6 +20,6 @@ returns-in-Damaged-clause-refused c = (refl, sym c.in-Damaged.ensures)
 pub returns-in_default : goal.returns-in_default
 returns-in_default c = record {
   refused = tt;
-  untold = other c.args.error c.from.result c.from.ensures c.in_default.not-Damaged;
+  only_store = other c.args.error c.from.result c.from.ensures c.in_default.not-Damaged;
   told = c.from.ensures;
 }

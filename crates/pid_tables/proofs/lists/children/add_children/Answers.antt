@@ -4,7 +4,7 @@ use Rattle.std.proofs.lemmas.List.Elements.{filter-append}
 use Rattle.pid_ident.specs.PathTexts.{path_text}
 use Rattle.pid_tables.specs.Rows.Steps.Answers.{item_shown}
 use Rattle.pid_moderation.specs.ItemPairs.{pair_of}
-use Rattle.pid_tables.specs.Rows.Steps.Unread.{IsUnreadable}
+use Rattle.pid_tables.specs.Rows.Steps.Unread.{IsDamagedRow}
 use Rattle.pid_tables.proofs.OfRows.CauseLemmas.{passed_on}
 use Rattle.pid_tables.proofs.OfRows.ReadBack.{among}
 use Rattle.pid_tables.proofs.OfRows.UnreadLemmas.{unread_more}
@@ -24,7 +24,7 @@ loop-row-preserved c items is =
 pub returns-in_err-add_child : goal.returns-in_err-add_child
 returns-in_err-add_child c items is =
     let next = next_of item_shown items c.args.rows.now c.loop-row.row-index c.row-item.result is c.loop-row-test.true in
-    passed_on c.from_residual.result _ _ (IsUnreadable (AllItems items)) c.from_residual.ensures.1
+    passed_on c.from_residual.result _ _ (IsDamagedRow (AllItems items)) c.from_residual.ensures.1
     (unread_more c.in_err-add_child.field-0.0 (λ all. among items next.it all next.there) (c.in_err-add_child.ensures next.it (c.row-item.is ∙ next.is)))
 
 pub loop-row-init : goal.loop-row-init

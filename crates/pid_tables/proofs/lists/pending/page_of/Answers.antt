@@ -2,7 +2,7 @@ use Rattle.std.proofs.Common.{ℕ, ◌≡◌, ◌∷◌, ◌++◌, [], Some, ap,
 use Rattle.std.proofs.lemmas.List.{length-map}
 use Rattle.std.specs.List.{AllByRecursion}
 use Rattle.sqlite_rules.proofs.ListLemmas.{all_has}
-use Rattle.pid_tables.specs.Rows.Steps.Unread.{IsUnreadable}
+use Rattle.pid_tables.specs.Rows.Steps.Unread.{IsDamagedRow}
 use Rattle.pid_tables.proofs.OfRows.CauseLemmas.{passed_on}
 use Rattle.pid_tables.proofs.OfRows.UnreadLemmas.{unread_more}
 use Rattle.pid_moderation.specs.Submissions.{standing_in, Standing}
@@ -20,7 +20,7 @@ pub returns-in_err-add_pending : goal.returns-in_err-add_pending
 returns-in_err-add_pending c v all (views, are, is) =
     let next = next_of pending_row all c.args.rows.now c.loop-row.row-index c.row-item.result is c.loop-row-test.true in
     let stands = all_has (λ (s : ℕ × Standing). standing_in v s.0 ≡ Some s.1) all next.it are next.there in
-    passed_on c.from_residual.result _ _ (IsUnreadable (AllByRecursion IsReadablePending all)) c.from_residual.ensures.1
+    passed_on c.from_residual.result _ _ (IsDamagedRow (AllByRecursion IsReadablePending all)) c.from_residual.ensures.1
     (unread_more c.in_err-add_pending.field-0.0 (λ good. all_has IsReadablePending all next.it good next.there) (c.in_err-add_pending.ensures v next.it (views, (stands, tt), c.row-item.is ∙ next.is)))
 
 pub returns : goal.returns

@@ -43,7 +43,7 @@ returns-in-Some-clause-told g c clean v more rest is =
     let count = one.told (two.rests.clean clean) v rest in
     let number : c.in_ok-number.number ≡ is.number = same_number _ _ (sym c.in_ok-number.ensures.read ∙ ap (λ r. column r 0) is.shown) in
     let some = by_number v c.in_ok-number.number (Some stands) (rw c.in-Some.is at (two.told clean v (one.rests.kept v rest))) in
-    kept_one listed_of c.args.page.now.items c.put_last.new.list.items _ more c.put_last.result (state g.S.Store c.args.conn.now) (state g.S.Store c.standing.new.conn) v c.put_last.ensures.items c.put_last.ensures.full
+    kept_one listed_of c.args.page.now.items c.push_last.new.list.items _ more c.push_last.result (state g.S.Store c.args.conn.now) (state g.S.Store c.standing.new.conn) v c.push_last.ensures.items c.push_last.ensures.full
     ((λ i. record { number = c.in_ok-number.number; standing = stands; remarks = count i } ∷ []) ∙ ap (map (listing_in v)) (some ∙ ap (λ n. standings_at (n ∷ []) v) number) ∙ sym is.is)
 
 pub returns-in_err-standing-clause-rests : goal.returns-in_err-standing-clause-rests

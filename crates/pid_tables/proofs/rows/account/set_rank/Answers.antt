@@ -26,10 +26,10 @@ returns-clause-shows g c clean inside counts v shows fits =
           let text = c.ranking.ensures.new is_new in
           led c.write_one.result (account_added old new counts v shows who c.args.rank (none_there (v.rank who) (sym fits ∙ is_new)))
           (rw (text, c.to_sql-name.ensures, c.to_sql-rank.ensures, c.as_str.ensures.text, c.from.ensures, c.number.ensures) at (c.write_one.ensures.runs.ran clean inside))
-          (c.write_one.ensures.runs.untold clean pid_schema (λ opened. shows.schema) (subst (λ t. IsWriteAs t (understood pid_schema t)) (sym text) (insert_writes (insert_account_is Two))))
+          (c.write_one.ensures.runs.only_store clean pid_schema (λ opened. shows.schema) (subst (λ t. IsWriteAs t (understood pid_schema t)) (sym text) (insert_writes (insert_account_is Two))))
       | inr known ↦
           let text = c.ranking.ensures.known known in
           led c.write_one.result (rank_changed old new counts v shows who c.args.rank (some_there (v.rank who) (sym fits ∙ known)))
           (rw (text, c.to_sql-name.ensures, c.to_sql-rank.ensures, c.as_str.ensures.text, c.from.ensures, c.number.ensures) at (c.write_one.ensures.runs.ran clean inside))
-          (c.write_one.ensures.runs.untold clean pid_schema (λ opened. shows.schema) (subst (λ t. IsWriteAs t (understood pid_schema t)) (sym text) (update_writes (update_account_is Two))))
+          (c.write_one.ensures.runs.only_store clean pid_schema (λ opened. shows.schema) (subst (λ t. IsWriteAs t (understood pid_schema t)) (sym text) (update_writes (update_account_is Two))))
     ]

@@ -41,7 +41,7 @@ pub returns-in_err-rows-clause-refused : goal.returns-in_err-rows-clause-refused
 returns-in_err-rows-clause-refused g c clean =
     let db = (state g.S.Store c.args.conn.now).now in
     passed_from c.from_residual.result _ (IsDamageOf (ShowsNoNumber db c.args.label.now)) c.from_residual.ensures.1
-    (query_refused db c.args.label.now _ (c.in_err-rows.ensures.untold clean) c.in_err-rows.ensures.never)
+    (query_refused db c.args.label.now _ (c.in_err-rows.ensures.only_store clean) c.in_err-rows.ensures.never)
 
 pub returns-in-Some-clause-never : goal.returns-in-Some-clause-never
 returns-in-Some-clause-never g c = unread_never _ c.number_at.result c.number_at.ensures.unread

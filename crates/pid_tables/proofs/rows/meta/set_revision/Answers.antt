@@ -13,7 +13,7 @@ returns-clause-shows g c clean inside counts v shows fits =
     let old = state g.S.Store c.args.tx.now.conn.now in
     let new = state g.S.Store c.write_one.new.tx.conn.now in
     led c.write_one.result (revision_written old new counts v shows c.args.revision)
-    (rw (c.to_sql-label.ensures, c.in_ok-value.ensures) at (c.write_one.ensures.runs.ran clean inside)) (c.write_one.ensures.runs.untold clean pid_schema (λ opened. shows.schema) (update_writes (update_meta_is Two)))
+    (rw (c.to_sql-label.ensures, c.in_ok-value.ensures) at (c.write_one.ensures.runs.ran clean inside)) (c.write_one.ensures.runs.only_store clean pid_schema (λ opened. shows.schema) (update_writes (update_meta_is Two)))
 
 pub returns-in_err-value-clause-shows : goal.returns-in_err-value-clause-shows
 returns-in_err-value-clause-shows g c clean inside counts v shows fits = passed_on c.from_residual.result _ _ IsMemoryOrStore c.from_residual.ensures.1 c.in_err-value.ensures

@@ -22,8 +22,8 @@ pub returns-clause-shows : goal.returns-clause-shows
 returns-clause-shows g c clean =
     values_shown g.S.Store c.args.label.now (state g.S.Store (record c.args.conn.now { in_transaction = true })) c.read_rows.result (rw (c.to_sql-label.ensures) at (c.read_rows.ensures.shown clean))
 
-pub returns-clause-untold : goal.returns-clause-untold
-returns-clause-untold g c clean query is = c.read_rows.ensures.faults.untold clean _ refl (asked_plain _ query is)
+pub returns-clause-only_store : goal.returns-clause-only_store
+returns-clause-only_store g c clean query is = c.read_rows.ensures.faults.only_store clean _ refl (asked_plain _ query is)
 
 pub returns-clause-never : goal.returns-clause-never
 returns-clause-never g c = c.read_rows.ensures.faults.never

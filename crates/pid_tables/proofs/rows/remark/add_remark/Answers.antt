@@ -11,4 +11,4 @@ returns-clause-shows g c clean inside counts v shows fits =
     let old = state g.S.Store c.args.tx.now.conn.now in
     let new = state g.S.Store c.write_one.new.tx.conn.now in
     led c.write_one.result (remark_added old new counts v shows c.args.number c.args.place (record { author = c.args.author.now; text = c.args.text.now }) fits)
-    (rw (c.to_sql-number.ensures, c.to_sql-place.ensures, c.to_sql-author.ensures, c.to_sql-text.ensures, c.as_str.ensures.text, c.as_str-2.ensures.text) at (c.write_one.ensures.runs.ran clean inside)) (c.write_one.ensures.runs.untold clean pid_schema (λ opened. shows.schema) (insert_writes (insert_remark_is Two)))
+    (rw (c.to_sql-number.ensures, c.to_sql-place.ensures, c.to_sql-author.ensures, c.to_sql-text.ensures, c.as_str.ensures.text, c.as_str-2.ensures.text) at (c.write_one.ensures.runs.ran clean inside)) (c.write_one.ensures.runs.only_store clean pid_schema (λ opened. shows.schema) (insert_writes (insert_remark_is Two)))

@@ -6,7 +6,7 @@ use Rattle.pid_tables.specs.Rows.Faults.{IsMemoryOrStore, IsNotNewerSchema}
 use Rattle.sqlite.specs.Held.{state}
 use Rattle.pid_tables.specs.Rows.Causes.{IsCaused}
 use Rattle.pid_tables.proofs.OfRows.CauseLemmas.{caused}
-use Rattle.pid_tables.proofs.OfRows.FaultLemmas.{untold, not_later}
+use Rattle.pid_tables.proofs.OfRows.FaultLemmas.{only_store, not_later}
 use Rattle.pid_tables.proofs.rows.run.read_inside.Goals as goal
 
 pub returns-in_err-query_all-clause-goes : goal.returns-in_err-query_all-clause-goes
@@ -36,10 +36,10 @@ returns-in_err-query_all-clause-faults g c =
     let old = state g.S.Store c.args.tx.now.conn.now in
     let new = state g.S.Store c.query_all.new.self.conn.now in
     record {
-      untold = λ clean schema has plain. subst (λ r. IfErr r IsMemoryOrStore) (sym p.1) (subst IsMemoryOrStore (sym p.2) (untold c.args.sql.now (bound c.args.params.now) _ _ has plain _ (c.in_err-query_all.ensures.err clean)));
+      only_store = λ clean schema has plain. subst (λ r. IfErr r IsMemoryOrStore) (sym p.1) (subst IsMemoryOrStore (sym p.2) (only_store c.args.sql.now (bound c.args.params.now) _ _ has plain _ (c.in_err-query_all.ensures.err clean)));
       caused = λ clean schema has query. subst (λ r. IfErr r (IsCaused old new)) (sym p.1) (subst (IsCaused old new) (sym p.2) (caused c.args.sql.now (bound c.args.params.now) old new has query _ (c.in_err-query_all.ensures.err clean)));
       never = subst (λ r. IfErr r IsNotNewerSchema) (sym p.1) (subst IsNotNewerSchema (sym p.2) (not_later _));
     }
 
 pub returns-clause-faults : goal.returns-clause-faults
-returns-clause-faults g c = record { untold = λ clean schema has plain. tt; caused = λ clean schema has query. tt; never = tt }
+returns-clause-faults g c = record { only_store = λ clean schema has plain. tt; caused = λ clean schema has query. tt; never = tt }

@@ -52,7 +52,7 @@ module _ {S : Type 0} (g : Ghosts S) {X : Type 0} (sql : List ℕ) (params : Row
 
   faults_later : FaultsQuery g sql params (record old { in_transaction = true }) mid r → FaultsQuery g sql params old end r
   faults_later h = record {
-    untold = λ clean schema has plain. h.untold (before clean) schema has plain;
+    only_store = λ clean schema has plain. h.only_store (before clean) schema has plain;
     caused = λ clean schema has query. later r (h.caused (before clean) schema has query);
     never = h.never;
   }

@@ -9,7 +9,7 @@ use Rattle.sqlite.specs.declared.error.Error.TheVariants.{SqliteFailure}
 use Rattle.pid_tables.specs.Rows.Faults.{IsMemoryOrStore, IsNotNewerSchema}
 use Rattle.pid_tables.specs.Rows.Steps.Faults.{fault_of_sql}
 use Rattle.pid_tables.proofs.OfRows.FaultLemmas.{failed, moved, not_later}
-use Rattle.pid_tables.proofs.OfRows.WriteFaults.{write_untold}
+use Rattle.pid_tables.proofs.OfRows.WriteFaults.{write_only_store}
 use Rattle.pid_tables.proofs.rows.run.write_one.Goals as goal
 
 pub returns-in_err-execute-clause-runs : goal.returns-in_err-execute-clause-runs
@@ -19,9 +19,9 @@ returns-in_err-execute-clause-runs g c =
     let new = state g.S.Store c.execute.new.self.conn.now in
     record {
       ran = λ clean inside. subst (λ r. OnOk r ((count : ℕ) × Executes c.args.sql.now (bound c.args.params.now) old new (Ok count))) (sym p.1) tt;
-      untold = λ clean schema has write.
+      only_store = λ clean schema has write.
           let told : IsMemoryOrStore (fault_of_sql c.in_err-execute.field-0.0) = elim (cases_Bool old.in_transaction) [
-            | inl inside ↦ write_untold schema c.args.sql.now (bound c.args.params.now) old _ has write _ (c.in_err-execute.ensures.runs clean inside)
+            | inl inside ↦ write_only_store schema c.args.sql.now (bound c.args.params.now) old _ has write _ (c.in_err-execute.ensures.runs clean inside)
             | inr ended ↦ moved c.in_err-execute.field-0.0 (SqliteFailure code.TransactionState) (let is = (c.in_err-execute.ensures.ended ended).0 in cc) (failed code.TransactionState)
           ] in
           subst (λ r. IfErr r IsMemoryOrStore) (sym p.1) (subst IsMemoryOrStore (sym p.2) told);

@@ -1,6 +1,6 @@
 use Rattle.sqlite.specs.Order.{column}
 use Rattle.pid_ident.specs.Words.{is_account}
-use Rattle.pid_tables.specs.Rows.Steps.Unread.{IsUnreadable}
+use Rattle.pid_tables.specs.Rows.Steps.Unread.{IsDamagedRow}
 use Rattle.pid_tables.specs.Rows.Steps.Unread.{IsWord}
 use Rattle.pid_tables.proofs.OfRows.CauseLemmas.{passed_from}
 use Rattle.pid_tables.proofs.OfRows.UnreadLemmas.{unread_more, account_utf8}
@@ -8,4 +8,4 @@ use Rattle.pid_tables.proofs.rows.value.account_at.Goals as goal
 
 pub returns-in_err-text-clause-unread : goal.returns-in_err-text-clause-unread
 returns-in_err-text-clause-unread c =
-    passed_from c.from_residual.result _ (IsUnreadable (IsWord is_account (column c.args.row.now c.args.at))) c.from_residual.ensures.1 (unread_more c.in_err-text.field-0.0 (λ good. (good.0, account_utf8 good.0 good.1, good.2)) c.in_err-text.ensures.unread)
+    passed_from c.from_residual.result _ (IsDamagedRow (IsWord is_account (column c.args.row.now c.args.at))) c.from_residual.ensures.1 (unread_more c.in_err-text.field-0.0 (λ good. (good.0, account_utf8 good.0 good.1, good.2)) c.in_err-text.ensures.unread)

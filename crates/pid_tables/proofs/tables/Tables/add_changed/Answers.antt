@@ -25,7 +25,7 @@ returns-in-Some-clause-told g c clean v item rest (named, is) =
     let old = state g.S.Store c.args.self.now.conn in
     let new = state g.S.Store c.item.new.self.conn in
     let found = rw c.in-Some.is at (c.in_ok-name.ensures.told clean v rest) in
-    kept_one changed_of c.args.items.now.items c.put_last.new.list.items _ (item ∷ []) c.put_last.result old new v c.put_last.ensures.items c.put_last.ensures.full
+    kept_one changed_of c.args.items.now.items c.push_last.new.list.items _ (item ∷ []) c.push_last.result old new v c.push_last.ensures.items c.push_last.ensures.full
     (ap (λ x. x ∷ []) (change_read v item c.args.row.now named is _ _ c.in-Some.name c.in_ok-path.ensures.read.1 c.in_ok-since.ensures.read found))
 
 pub returns-in-None-clause-told : goal.returns-in-None-clause-told

@@ -33,6 +33,6 @@ returns-in-Ok-item g c =
       told = λ clean v rest.
           let count = one.told (two.rests.clean clean) v rest in
           let name = two.told clean v (one.rests.kept v rest) in
-          kept_one queued_of c.args.queue.now.items c.put_last.new.list.items _ (entry_in v (told_of c.args.pending) ∷ []) c.put_last.result (state g.S.Store c.args.self.now.conn) (state g.S.Store c.item.new.self.conn) v
-          c.put_last.ensures.items c.put_last.ensures.full (λ i. record { number = c.args.pending.number; standing = standing_of c.args.pending.submission; now = name i; remarks = count i } ∷ []);
+          kept_one queued_of c.args.queue.now.items c.push_last.new.list.items _ (entry_in v (told_of c.args.pending) ∷ []) c.push_last.result (state g.S.Store c.args.self.now.conn) (state g.S.Store c.item.new.self.conn) v
+          c.push_last.ensures.items c.push_last.ensures.full (λ i. record { number = c.args.pending.number; standing = standing_of c.args.pending.submission; now = name i; remarks = count i } ∷ []);
     }

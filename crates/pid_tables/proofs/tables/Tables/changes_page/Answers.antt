@@ -38,7 +38,7 @@ returns g c =
           let later = three.rests.clean clean in
           let then = one.rests.kept v rest in
           let text = c.as_str.ensures.value ∙ c.in_ok-start.ensures in
-          let found = asked g.S.Store c.revision.new.self.conn v floor c.as_str.result.now c.in_ok-rows.rows.items then (rw (c.to_sql-after.ensures, c.held-since.ensures) at (two.shown later)) in
+          let found = asked g.S.Store c.revision.new.self.conn v floor c.as_str.result.now c.in_ok-rows.rows.items then (rw (c.to_sql-after.ensures, c.clamp_to_i64-since.ensures) at (two.shown later)) in
           let all = three.told clean v (changes_in 100 floor c.as_str.result.now v).items (two.rests.kept v then) (found.0, c.as_slice.ensures.value ∙ found.1) ∙ ap (λ t. (changes_in 100 floor t v).items) text in
           let revision = one.told (two.rests.clean later) v rest in
           (λ i. record { revision = revision i; items = all i }) ∙ changes_held v 100 c.args.since start low;
@@ -58,7 +58,7 @@ returns-in_err-items g c =
       rests = reads_then _ _ _ both three.rests;
       told = λ clean v rest.
           let later = three.rests.clean clean in
-          let found = asked g.S.Store c.revision.new.self.conn v floor c.as_str.result.now c.in_ok-rows.rows.items (one.rests.kept v rest) (rw (c.to_sql-after.ensures, c.held-since.ensures) at (two.shown later)) in
+          let found = asked g.S.Store c.revision.new.self.conn v floor c.as_str.result.now c.in_ok-rows.rows.items (one.rests.kept v rest) (rw (c.to_sql-after.ensures, c.clamp_to_i64-since.ensures) at (two.shown later)) in
           passed_on c.from_residual-in_err-items.result _ _ (λ fault. IsReadable v → IsCaused old new fault) c.from_residual-in_err-items.ensures.1
           (λ readable. caused_later old mid new (λ _. ⊥) c.in_err-items.field-0.0 both.survives three.rests.survives.counts later
           (three.told clean v (changes_in 100 floor c.as_str.result.now v).items (both.kept v rest) (found.0, c.as_slice.ensures.value ∙ found.1) readable));
@@ -76,5 +76,5 @@ returns-in_err-rows g c =
       told = λ clean v rest.
           passed_on c.from_residual-in_err-rows.result _ _ (λ fault. IsReadable v → IsCaused old new fault) c.from_residual-in_err-rows.ensures.1
           (λ readable. caused_later old mid new (λ _. ⊥) c.in_err-rows.field-0.0 one.rests.survives two.rests.survives.counts (two.rests.clean clean)
-          ((rw (c.to_sql-after.ensures, c.held-since.ensures) at (two.faults.caused clean pid_schema (λ opened. ((one.rests.kept v rest).shows opened).schema))) (changes_query c.as_str.result.now (held c.args.since))));
+          ((rw (c.to_sql-after.ensures, c.clamp_to_i64-since.ensures) at (two.faults.caused clean pid_schema (λ opened. ((one.rests.kept v rest).shows opened).schema))) (changes_query c.as_str.result.now (held c.args.since))));
     }

@@ -10,7 +10,7 @@ use Rattle.pid_tables.specs.Check.Steps.Lacking.{ExplainsLater}
 use Rattle.pid_tables.specs.Check.Shapes.{HasEachTable, HasSomeTable}
 use Rattle.pid_tables.proofs.OfCheck.Asking.{each_table}
 use Rattle.pid_tables.proofs.OfCheck.Judged.{not_both}
-use Rattle.pid_tables.proofs.OfCheck.Telling.{lacked, told_stored, untold, off_on}
+use Rattle.pid_tables.proofs.OfCheck.Telling.{lacked, told_stored, only_store, off_on}
 use Rattle.pid_tables.proofs.StandLemmas.{good_found}
 use Rattle.pid_tables.specs.Rows.Faults.{IsMemoryOrStore}
 use Rattle.pid_tables.proofs.tables.Tables.check.Goals as goal
@@ -52,7 +52,7 @@ returns-then-branch-clause-told g c clean =
 pub returns-in_err-some_can-clause-told : goal.returns-in_err-some_can-clause-told
 returns-in_err-some_can-clause-told g c clean =
     let a = (state g.S.Store c.args.self.now.conn).now in
-    passed_on c.from_residual.result _ _ (Explains a) c.from_residual.ensures.1 (untold a _ c.in_err-some_can.ensures.untold)
+    passed_on c.from_residual.result _ _ (Explains a) c.from_residual.ensures.1 (only_store a _ c.in_err-some_can.ensures.only_store)
 
 pub returns-in_err-has_some_table-clause-rests : goal.returns-in_err-has_some_table-clause-rests
 returns-in_err-has_some_table-clause-rests g c =
@@ -64,7 +64,7 @@ returns-in_err-has_some_table-clause-shut g c clean shut = absurd (off_on _ shut
 pub returns-in_err-has_some_table-clause-told : goal.returns-in_err-has_some_table-clause-told
 returns-in_err-has_some_table-clause-told g c clean =
     let a = (state g.S.Store c.args.self.now.conn).now in
-    passed_on c.from_residual-in_err-has_some_table.result _ _ (Explains a) c.from_residual-in_err-has_some_table.ensures.1 (untold a _ c.in_err-has_some_table.ensures.found.untold)
+    passed_on c.from_residual-in_err-has_some_table.result _ _ (Explains a) c.from_residual-in_err-has_some_table.ensures.1 (only_store a _ c.in_err-has_some_table.ensures.found.only_store)
 
 pub returns-clause-rests : goal.returns-clause-rests
 returns-clause-rests g c =
@@ -94,7 +94,7 @@ returns-clause-good g c clean h sound within schema rest =
     good_found schema s (views_of h) (Ok None) rest (c.sound_histories_are_registries.ensures h sound within schema s.now) (returns-clause-shut g c clean) (told_stored s.now (Ok None) (returns-clause-told g c clean))
 
 pub returns-in_err-some_can-clause-good : goal.returns-in_err-some_can-clause-good
-returns-in_err-some_can-clause-good g c clean h sound within schema rest = passed_on c.from_residual.result _ _ IsMemoryOrStore c.from_residual.ensures.1 c.in_err-some_can.ensures.untold
+returns-in_err-some_can-clause-good g c clean h sound within schema rest = passed_on c.from_residual.result _ _ IsMemoryOrStore c.from_residual.ensures.1 c.in_err-some_can.ensures.only_store
 
 pub returns-in_err-has_some_table-clause-good : goal.returns-in_err-has_some_table-clause-good
-returns-in_err-has_some_table-clause-good g c clean h sound within schema rest = passed_on c.from_residual-in_err-has_some_table.result _ _ IsMemoryOrStore c.from_residual-in_err-has_some_table.ensures.1 c.in_err-has_some_table.ensures.found.untold
+returns-in_err-has_some_table-clause-good g c clean h sound within schema rest = passed_on c.from_residual-in_err-has_some_table.result _ _ IsMemoryOrStore c.from_residual-in_err-has_some_table.ensures.1 c.in_err-has_some_table.ensures.found.only_store

@@ -1,26 +1,26 @@
 use Rattle.std.proofs.Common.{Err, Some, Option, refl, sym, ap, ◌∙◌}
 use Rattle.pid_moderation.specs.FactsOfViews.{with_item_facts}
-use Rattle.pid_moderation.specs.declared.facts.Named.{Named}
+use Rattle.pid_moderation.specs.declared.facts.NamedSubmission.{NamedSubmission}
 use Rattle.pid_tables.specs.Steps.Gathering.{bare}
 use Rattle.pid_tables.proofs.ThenReads.{fault_after, fault_first, value_after}
 use Rattle.pid_tables.proofs.tables.Tables.item_facts.Goals as goal
 
-pub returns-in_err-named : goal.returns-in_err-named
-returns-in_err-named g c = fault_first g.S.Store c.args.self.now.conn c.named.new.self.conn c.in_err-named.field-0.0 c.from_residual.result c.from_residual.ensures.1 c.in_err-named.ensures
+pub returns-in_err-submission_facts : goal.returns-in_err-submission_facts
+returns-in_err-submission_facts g c = fault_first g.S.Store c.args.self.now.conn c.submission_facts.new.self.conn c.in_err-submission_facts.field-0.0 c.from_residual.result c.from_residual.ensures.1 c.in_err-submission_facts.ensures
 
 pub returns-in-None : goal.returns-in-None
 returns-in-None g c = record {
-  rests = c.named.ensures.rests;
-  told = λ clean v rest all parents. c.plain_facts.ensures ∙ ap (λ (o : Option Named). with_item_facts v o (bare c.args.known)) (sym c.in-None.is ∙ c.in_ok-named.ensures.told clean v rest);
+  rests = c.submission_facts.ensures.rests;
+  told = λ clean v rest all parents. c.plain_facts.ensures ∙ ap (λ (o : Option NamedSubmission). with_item_facts v o (bare c.args.known)) (sym c.in-None.is ∙ c.in_ok-submission_facts.ensures.told clean v rest);
 }
 
 pub returns-in-Ok : goal.returns-in-Ok
 returns-in-Ok g c =
-    value_after g.S.Store c.args.self.now.conn c.named.new.self.conn c.place_at.new.self.conn c.named.ensures.rests _ _ c.in-Ok.ensures
+    value_after g.S.Store c.args.self.now.conn c.submission_facts.new.self.conn c.place_at.new.self.conn c.submission_facts.ensures.rests _ _ c.in-Ok.ensures
     (λ clean v rest says all parents.
     let it = says all parents in
     (λ i. record (bare c.args.known) { items = (it i).items; named = Some c.in-Some.named; present = (it i).present; has_parent = (it i).has_parent; has_children = (it i).has_children })
-    ∙ ap (λ (o : Option Named). with_item_facts v o (bare c.args.known)) (sym c.in-Some.is ∙ c.in_ok-named.ensures.told clean v rest))
+    ∙ ap (λ (o : Option NamedSubmission). with_item_facts v o (bare c.args.known)) (sym c.in-Some.is ∙ c.in_ok-submission_facts.ensures.told clean v rest))
 
 pub returns-in-Err : goal.returns-in-Err
-returns-in-Err g c = fault_after g.S.Store c.args.self.now.conn c.named.new.self.conn c.place_at.new.self.conn c.named.ensures.rests c.in-Err.fault (Err c.in-Err.fault) refl c.in-Err.ensures
+returns-in-Err g c = fault_after g.S.Store c.args.self.now.conn c.submission_facts.new.self.conn c.place_at.new.self.conn c.submission_facts.ensures.rests c.in-Err.fault (Err c.in-Err.fault) refl c.in-Err.ensures

@@ -10,7 +10,7 @@ use Rattle.pid_tables.proofs.OfRows.OnlyReading.{reads_then, rests_in_still}
 use Rattle.pid_tables.specs.Check.Checking.{Explains}
 use Rattle.pid_tables.proofs.OfCheck.Telling.{told_stored}
 use Rattle.pid_tables.specs.Steps.Bringing.{Named}
-use Rattle.pid_tables.proofs.StandLemmas.{seen_still, untold_explains, told_before, as_standing, none_found, none_within, good_found}
+use Rattle.pid_tables.proofs.StandLemmas.{seen_still, only_store_explains, told_before, as_standing, none_found, none_within, good_found}
 use Rattle.pid_tables.proofs.tables.Tables.schema_found.Goals as goal
 
 -- ---- all reads see the same
@@ -34,10 +34,10 @@ returns-clause-same g c =
 
 pub returns-in_err-is_current-clause-shown : goal.returns-in_err-is_current-clause-shown
 returns-in_err-is_current-clause-shown g c = record {
-  shut = λ clean closed. passed_on c.from_residual.result _ _ IsMemoryOrStore c.from_residual.ensures.1 c.in_err-is_current.ensures.untold;
-  bare = λ clean none. passed_on c.from_residual.result _ _ IsMemoryOrStore c.from_residual.ensures.1 c.in_err-is_current.ensures.untold;
-  earlier = λ clean h sound rest. passed_on c.from_residual.result _ _ IsMemoryOrStore c.from_residual.ensures.1 c.in_err-is_current.ensures.untold;
-  latest = λ clean v rest. passed_on c.from_residual.result _ _ IsMemoryOrStore c.from_residual.ensures.1 c.in_err-is_current.ensures.untold;
+  shut = λ clean closed. passed_on c.from_residual.result _ _ IsMemoryOrStore c.from_residual.ensures.1 c.in_err-is_current.ensures.only_store;
+  bare = λ clean none. passed_on c.from_residual.result _ _ IsMemoryOrStore c.from_residual.ensures.1 c.in_err-is_current.ensures.only_store;
+  earlier = λ clean h sound rest. passed_on c.from_residual.result _ _ IsMemoryOrStore c.from_residual.ensures.1 c.in_err-is_current.ensures.only_store;
+  latest = λ clean v rest. passed_on c.from_residual.result _ _ IsMemoryOrStore c.from_residual.ensures.1 c.in_err-is_current.ensures.only_store;
 }
 
 -- the labels name schema 2
@@ -70,7 +70,7 @@ returns-clause-shown g c =
 pub returns-in_err-is_current-clause-told : goal.returns-in_err-is_current-clause-told
 returns-in_err-is_current-clause-told g c clean =
     let db = (state g.S.Store c.args.self.now.conn).now in
-    passed_on c.from_residual.result _ _ (Explains db) c.from_residual.ensures.1 (untold_explains db _ c.in_err-is_current.ensures.untold)
+    passed_on c.from_residual.result _ _ (Explains db) c.from_residual.ensures.1 (only_store_explains db _ c.in_err-is_current.ensures.only_store)
 
 pub returns-then-branch-clause-told : goal.returns-then-branch-clause-told
 returns-then-branch-clause-told g c clean = Named refl (c.in_ok-is_current.ensures.named clean c.if-branch.true)

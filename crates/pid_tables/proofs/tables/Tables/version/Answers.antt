@@ -9,11 +9,11 @@ use Rattle.pid_tables.specs.Rows.LabelRows.{ExplainsNumber, HasLabel, IsDamageOf
 use Rattle.pid_tables.specs.Rows.Shows.{ShowsIn}
 use Rattle.pid_tables.proofs.OfRows.CauseLemmas.{passed_from, passed_on}
 use Rattle.pid_tables.proofs.OfRows.OnlyReading.{reads_then}
-use Rattle.pid_tables.proofs.OfCheck.Later.{untold_never}
+use Rattle.pid_tables.proofs.OfCheck.Later.{only_store_never}
 use Rattle.pid_tables.proofs.OfCheck.Complete.{complete, complete_first, each_some}
 use Rattle.pid_tables.specs.Check.Shapes.{IsMadeFirst}
 use Rattle.pid_tables.proofs.MoveLemmas.{known, not_ok, not_on_ok}
-use Rattle.pid_tables.proofs.SchemaNumbers.{bad_of, caused_all, good_of, number_told, untold_damage}
+use Rattle.pid_tables.proofs.SchemaNumbers.{bad_of, caused_all, good_of, number_told, only_store_damage}
 use Rattle.pid_tables.proofs.StandLemmas.{exactly_first, meta_first}
 use Rattle.pid_tables.proofs.tables.Tables.version.Goals as goal
 
@@ -30,15 +30,15 @@ pub returns-in_err-has_some_table-clause-shown : goal.returns-in_err-has_some_ta
 returns-in_err-has_some_table-clause-shown g c =
     let lacks = LacksNumber (state g.S.Store c.args.self.now.conn).now.trees (codes "schema") in
     let hides = ShowsNoNumber (state g.S.Store c.args.self.now.conn).now (codes "schema") in
-    let untold = c.in_err-has_some_table.ensures.found.untold in
+    let only_store = c.in_err-has_some_table.ensures.found.only_store in
     record {
-      earlier = λ clean v rest. passed_on c.from_residual.result _ _ IsMemoryOrStore c.from_residual.ensures.1 untold;
-      none = λ clean none. passed_on c.from_residual.result _ _ IsMemoryOrStore c.from_residual.ensures.1 untold;
-      shown = λ clean some. passed_on c.from_residual.result _ _ (IsDamageOf hides) c.from_residual.ensures.1 (untold_damage hides _ untold);
+      earlier = λ clean v rest. passed_on c.from_residual.result _ _ IsMemoryOrStore c.from_residual.ensures.1 only_store;
+      none = λ clean none. passed_on c.from_residual.result _ _ IsMemoryOrStore c.from_residual.ensures.1 only_store;
+      shown = λ clean some. passed_on c.from_residual.result _ _ (IsDamageOf hides) c.from_residual.ensures.1 (only_store_damage hides _ only_store);
       labelled = λ clean version first. not_ok c.from_residual.result _ _ c.from_residual.ensures.1;
-      refused = λ clean version first. passed_from c.from_residual.result _ (IsDamageOf lacks) c.from_residual.ensures.1 (untold_damage lacks _ untold);
+      refused = λ clean version first. passed_from c.from_residual.result _ (IsDamageOf lacks) c.from_residual.ensures.1 (only_store_damage lacks _ only_store);
       was_open = λ clean. not_on_ok c.from_residual.result _ _ c.from_residual.ensures.1;
-      never = passed_from c.from_residual.result _ IsNotNewerSchema c.from_residual.ensures.1 (untold_never _ untold);
+      never = passed_from c.from_residual.result _ IsNotNewerSchema c.from_residual.ensures.1 (only_store_never _ only_store);
     }
 
 -- some table is there

@@ -21,7 +21,7 @@ returns-in_ok-submissions-in-Submissions g c = rw c.in-Submissions.is (record {
 
 pub returns-in_ok-named-in-Submission : goal.returns-in_ok-named-in-Submission
 returns-in_ok-named-in-Submission g c = rw c.in-Submission.is (record {
-  rests = c.named.ensures.rests;
+  rests = c.submission_facts.ensures.rests;
   told = λ clean v rest all parents. c.plain_facts-in-Submission.ensures ∙ (λ i. record (bare c.args.known) { named = c.in_ok-named-in-Submission.ensures.told clean v rest i });
 })
 
@@ -46,4 +46,4 @@ returns-in_err-submissions-in-Submissions g c =
 
 pub returns-in_err-named-in-Submission : goal.returns-in_err-named-in-Submission
 returns-in_err-named-in-Submission g c =
-    fault_first g.S.Store c.args.self.now.conn c.named.new.self.conn c.in_err-named-in-Submission.field-0.0 c.from_residual-in_err-named-in-Submission.result c.from_residual-in_err-named-in-Submission.ensures.1 c.in_err-named-in-Submission.ensures
+    fault_first g.S.Store c.args.self.now.conn c.submission_facts.new.self.conn c.in_err-named-in-Submission.field-0.0 c.from_residual-in_err-named-in-Submission.result c.from_residual-in_err-named-in-Submission.ensures.1 c.in_err-named-in-Submission.ensures

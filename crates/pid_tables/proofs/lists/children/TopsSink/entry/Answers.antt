@@ -16,7 +16,7 @@ pub returns-in_ok-name-in-None-clause-taken : goal.returns-in_ok-name-in-None-cl
 returns-in_ok-name-in-None-clause-taken c =
     let path = c.args.entry.now.path in
     let top = parent_texts path ∙ ap (option_map path_text) (sym c.parent.ensures.parent ∙ c.in-None.is) in
-    top_taken (path_text path, c.args.entry.now.name.now) c.args.self.now.kept.items c.put_last.new.list.items _ c.put_last.result c.put_last.ensures.items (λ i. (path_text path, c.in_ok-name-in-None.ensures i)) top
+    top_taken (path_text path, c.args.entry.now.name.now) c.args.self.now.kept.items c.push_last.new.list.items _ c.push_last.result c.push_last.ensures.items (λ i. (path_text path, c.in_ok-name-in-None.ensures i)) top
 
 pub returns-in_ok-name-in-None-clause-fault : goal.returns-in_ok-name-in-None-clause-fault
-returns-in_ok-name-in-None-clause-fault c = c.put_last.ensures.full
+returns-in_ok-name-in-None-clause-fault c = c.push_last.ensures.full

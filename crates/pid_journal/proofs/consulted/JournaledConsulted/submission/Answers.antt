@@ -1,8 +1,0 @@
-use Rattle.pid_journal.proofs.Pairing.{asked_off, asked_on}
-use Rattle.pid_journal.proofs.consulted.JournaledConsulted.submission.Goals as goal
-
-pub returns-then-self : goal.returns-then-self
-returns-then-self g c = asked_off g.R.Moderated g.J.JournalFile c.args.self.now _ _ c.if-self.true
-
-pub returns : goal.returns
-returns g c = asked_on g.R.Moderated g.J.JournalFile c.args.self.now c.submission.new.self c.submission.result _ _ c.submission.ensures c.if-self.false

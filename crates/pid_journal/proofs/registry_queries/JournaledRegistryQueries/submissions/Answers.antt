@@ -1,0 +1,8 @@
+use Rattle.pid_journal.proofs.Pairing.{asked_off, asked_on}
+use Rattle.pid_journal.proofs.registry_queries.JournaledRegistryQueries.submissions.Goals as goal
+
+pub returns-then-self : goal.returns-then-self
+returns-then-self g c = asked_off g.R.RegistryCalls g.J.JournalFile c.args.self.now _ _ c.if-self.true
+
+pub returns : goal.returns
+returns g c = asked_on g.R.RegistryCalls g.J.JournalFile c.args.self.now c.submissions.new.self c.submissions.result _ _ c.submissions.ensures c.if-self.false

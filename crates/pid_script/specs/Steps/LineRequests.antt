@@ -1,0 +1,23 @@
+-- What a line asks, by the code's value of it.
+use Rattle.std.specs.Prelude.{ℕ, List, Option}
+use Rattle.std.specs.Option.{option_map}
+use Rattle.std.specs.Borrow.{Bor}
+use Rattle.pid_script.specs.ScriptLines as asks
+use Rattle.pid_script.specs.ScriptLines.{Ask}
+use Rattle.pid_script.specs.declared.line.LineRequest.{LineRequest}
+use Rattle.pid_script.specs.declared.line.LineRequest.TheVariants.{Nothing, Command, Export, Read}
+use Rattle.pid_script.specs.declared.line.LineRequest.TheVariants.{Lookup, Unclear, TooLong}
+
+-- the same as an ask of scripts
+abbrev pub ask_told : LineRequest → Ask
+ask_told Nothing = asks.AsksNothing
+ask_told (Command verb account form) = asks.AsksCommand verb account.now form.now
+ask_told Export = asks.AsksExport
+ask_told (Read form) = asks.AsksName form.now
+ask_told (Lookup form) = asks.AsksLookup form.now
+ask_told Unclear = asks.Unclear
+ask_told TooLong = asks.TooLong
+
+-- two texts by their bytes
+abbrev pub parts_told : Option (Bor (List ℕ) × Bor (List ℕ)) → Option (List ℕ × List ℕ)
+parts_told pair = option_map (λ p. (p.0.now, p.1.now)) pair

@@ -1,6 +1,0 @@
-use Rattle.std.proofs.Common.{sym}
-use Rattle.pid_service.proofs.ChangedLists.{behind_nothing}
-use Rattle.pid_service.proofs.changes.is_behind.Goals as goal
-
-pub returns-in-None : goal.returns-in-None
-returns-in-None c = rw c.in-None.is (sym (behind_nothing c.args.path))

@@ -1,0 +1,17 @@
+use Rattle.std.proofs.Common.{◌≡◌, false, rules, subst}
+use Rattle.std.proofs.lemmas.Fn.{filter_same}
+use Rattle.pid_moderation.specs.CheckTables.{is_pending}
+use Rattle.pid_service.specs.KeptViews.{HoldsPending, numbers_pending}
+use Rattle.pid_service.proofs.PendingNumbers.{decided_holds, submitted_holds}
+use Rattle.pid_service.proofs.kept_views.pending_after.Goals as goal
+
+pub returns-then-add_number : goal.returns-then-add_number
+returns-then-add_number c n v views fits holds =
+    let held : c.in_ok-numbers.numbers.items ≡ numbers_pending v = subst (λ o. HoldsPending o v) c.in_ok-numbers.was holds in
+    submitted_holds c.args.effect.now _ _ _ _ _ c.in-Submitted.is n v c.in_ok-numbers.numbers.items c.add_number.new.numbers.items views fits held (c.add_number.ensures c.if-add_number.true)
+
+pub returns-in-Approved : goal.returns-in-Approved
+returns-in-Approved c n v views fits holds =
+    let held : c.in_ok-numbers.numbers.items ≡ numbers_pending v = subst (λ o. HoldsPending o v) c.in_ok-numbers.was holds in
+    let off : is_pending c.in-Decided.state ≡ false = search rules in
+    decided_holds c.args.effect.now _ _ _ c.in-Decided.is n v c.in_ok-numbers.numbers.items _ held off (filter_same _ _ _ (λ x b f' k. search rules) _ _ c.retain.ensures.filtered)

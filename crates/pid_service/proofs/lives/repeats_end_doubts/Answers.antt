@@ -1,7 +1,0 @@
-use Rattle.pid_service_laws.proofs.Calling.{sent_again}
-use Rattle.pid_service.specs.Histories.{showing}
-use Rattle.pid_service.specs.Registries.{is_live}
-use Rattle.pid_service.proofs.lives.repeats_end_doubts.Goals as goal
-
-pub returns : goal.returns
-returns g c ended opened between last h asked key calls result = sent_again (showing g.S.Store) (showing g.T.Store) ended opened between last h asked key calls result (is_live last)

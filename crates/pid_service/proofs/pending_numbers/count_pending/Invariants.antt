@@ -1,0 +1,10 @@
+use Rattle.std.proofs.Common.{◌≡◌, ◌+◌, length}
+use Rattle.pid_moderation.specs.PendingPages.{pending_above}
+use Rattle.pid_moderation.specs.Views.{Views}
+use Rattle.pid_tables.specs.Rows.Clauses.{AtRest, HasCleanDisk, OnlyReads}
+use Rattle.pid_service.proofs.pending_numbers.count_pending.Given as goal
+
+abbrev pub invariant-loop : goal.invariant-loop
+invariant-loop g l =
+    OnlyReads g.S.Store l.initial.tables.conn l.tables.conn
+    × (HasCleanDisk g.S.Store l.tables.conn → (v : Views) → AtRest g.S.Store l.initial.tables.conn v → l.count + length (pending_above l.after v) ≡ length (pending_above 0 v))

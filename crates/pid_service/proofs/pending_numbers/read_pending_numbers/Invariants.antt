@@ -1,0 +1,11 @@
+use Rattle.std.proofs.Common.{◌≡◌, ◌++◌}
+use Rattle.pid_moderation.specs.Views.{Views}
+use Rattle.pid_tables.specs.Rows.Clauses.{AtRest, HasCleanDisk, OnlyReads}
+use Rattle.pid_service.specs.KeptViews.{numbers_pending}
+use Rattle.pid_service.proofs.PendingNumbers.{pending_past}
+use Rattle.pid_service.proofs.pending_numbers.read_pending_numbers.Given as goal
+
+abbrev pub invariant-loop : goal.invariant-loop
+invariant-loop g l =
+    OnlyReads g.S.Store l.initial.tables.conn l.tables.conn
+    × (HasCleanDisk g.S.Store l.tables.conn → (v : Views) → AtRest g.S.Store l.initial.tables.conn v → l.numbers.items ++ pending_past l.after v ≡ numbers_pending v)

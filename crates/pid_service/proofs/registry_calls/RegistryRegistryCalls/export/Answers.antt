@@ -1,0 +1,5 @@
+use Rattle.pid_service.proofs.Consulting.{exported_then}
+use Rattle.pid_service.proofs.registry_calls.RegistryRegistryCalls.export.Goals as goal
+
+pub returns : goal.returns
+returns g c = exported_then g.S.Store g.O.Output c.args.self.now c.export_length.new.self c.export_rows.new.self _ _ c.export_length.result c.export_rows.result _ c.export_length.ensures c.export_rows.ensures

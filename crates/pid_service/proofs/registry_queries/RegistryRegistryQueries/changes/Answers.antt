@@ -1,0 +1,111 @@
+use Rattle.std.proofs.Common.{◌≡◌, ◌≤◌, ℕ, List, map, take, Err, Option, refl, rules, arith, ap, subst, sym, ◌∙◌}
+use Rattle.std.specs.Option.{option_copied}
+use Rattle.pid_file.specs.declared.path.Path.{Path}
+use Rattle.pid_moderation.specs.ChangePages.{ChangePage, Changed, changed_after, changed_of, start_text}
+use Rattle.pid_moderation.specs.declared.lists.ChangedItem.{ChangedItem}
+use Rattle.pid_moderation.specs.Views.{since_of, views_of}
+use Rattle.pid_moderation.specs.declared.lists.TheConstants.{PAGE}
+use Rattle.pid_tables.proofs.OfRows.OnlyReading.{reads_then}
+use Rattle.pid_service.specs.KeptViews.{HoldsChanges}
+use Rattle.pid_service.specs.declared.changes.KeptChanges.{KeptChanges}
+use Rattle.pid_service.proofs.Keeping.{true_not}
+use Rattle.pid_service.proofs.Obeyed.{only_read}
+use Rattle.pid_service.proofs.Consulting.{promised}
+use Rattle.pid_service.proofs.Questions.{answers_fault, failed_here, none_changed, reads_after}
+use Rattle.pid_service.proofs.registry_queries.RegistryRegistryQueries.changes.Goals as goal
+
+page_with : (revision now : ℕ) (told : List ChangedItem) (items : List Changed) → revision ≡ now → map changed_of told ≡ items
+    → ◌≡◌ {A = ChangePage} (record { revision = revision; items = map changed_of told }) (record { revision = now; items = items })
+page_with revision now told items same is = ap (λ (l : List Changed). record { revision = revision; items = l }) is ∙ ap (λ (n : ℕ). record { revision = n; items = items }) same
+
+pub returns-then-not-self : goal.returns-then-not-self
+returns-then-not-self g c =
+    promised g.S.Store c.args.self.now _ _ _
+    (failed_here g.S.Store c.args.self.now _ c.if-not-self.true c.args.self.now.settled)
+
+pub returns-in-Err : goal.returns-in-Err
+returns-in-Err g c =
+    promised g.S.Store c.args.self.now _ _ _
+    (answers_fault g.S.Store c.args.self.now _ c.in-Err.fault c.refusal_of.result _ c.if-not-self.false refl refl c.revision.ensures.rests c.refusal_of.ensures.same c.refusal_of.ensures.fault
+    (λ clean h shows. c.in-Err.ensures.told clean (views_of h) shows.tables (c.reached_histories_are_kept.ensures.readable h shows.history)))
+
+-- ---- no command was accepted after the number
+
+pub returns-then-revision-since : goal.returns-then-revision-since
+returns-then-revision-since g c =
+    promised g.S.Store c.args.self.now _ _ _
+    (record {
+      failed = true_not c.args.self.now.live c.if-not-self.false;
+      fault = tt;
+      lives = refl;
+      rests = c.revision.ensures.rests;
+      told = λ clean h shows.
+          let now : c.in-Ok.revision ≡ (views_of h).revision = c.in-Ok.ensures.told clean (views_of h) shows.tables in
+          let past : c.in-Ok.revision ≤ c.args.since = c.if-revision-since.true in
+          let within : (path : List ℕ) → since_of path h ≤ c.args.since = λ path. (let one : since_of path h ≤ (views_of h).revision = c.sinces_are_last_changes.ensures.within h path in let most : since_of path h ≤ c.args.since = omega (arith, one, now, past) in most) in (
+            page_with c.in-Ok.revision (views_of h).revision c.new-items.result.items _ now (ap (map changed_of) c.new-items.ensures.items ∙ sym (none_changed PAGE c.args.since (start_text (option_copied c.args.after)) (views_of h) within)),
+            only_read g.S.Store c.args.self.now _ h refl c.revision.ensures.rests refl shows,
+          );
+      caused = λ clean h shows. tt;
+    })
+
+-- ---- the items are kept
+
+pub returns-in-Some : goal.returns-in-Some
+returns-in-Some g c =
+    promised g.S.Store c.args.self.now _ _ _
+    (record {
+      failed = true_not c.args.self.now.live c.if-not-self.false;
+      fault = tt;
+      lives = refl;
+      rests = c.revision.ensures.rests;
+      told = λ clean h shows.
+          let now : c.in-Ok.revision ≡ (views_of h).revision = c.in-Ok.ensures.told clean (views_of h) shows.tables in
+          let page = c.in-Some.ensures (views_of h) (shows.kept (c.revision.ensures.rests.clean clean)).changes ∙ ap (λ (start : Option Path). take PAGE (changed_after c.args.since (start_text start) (views_of h))) c.copied-start.ensures in
+          (page_with c.in-Ok.revision (views_of h).revision c.in-Some.items.items _ now page, only_read g.S.Store c.args.self.now _ h refl c.revision.ensures.rests refl shows);
+      caused = λ clean h shows. tt;
+    })
+
+-- ---- they are read
+
+pub returns-in-Ok-changes_page : goal.returns-in-Ok-changes_page
+returns-in-Ok-changes_page g c =
+    promised g.S.Store c.args.self.now _ _ _
+    (let first = c.revision.ensures.rests in
+    let second = c.changes_page.ensures.rests in
+    let taken : c.take-kept.result ≡ c.args.self.now.kept.changes = search rules in
+    record {
+      failed = true_not c.args.self.now.live c.if-not-self.false;
+      fault = tt;
+      lives = refl;
+      rests = reads_then _ _ _ first second;
+      told = λ clean h shows.
+          let kept = shows.kept (first.clean (second.clean clean)) in
+          let told = c.in-Ok-changes_page.ensures.told clean (views_of h) (first.kept (views_of h) shows.tables) (c.reached_histories_are_kept.ensures.held h shows.history) in
+          let page : map changed_of c.in-Ok-changes_page.changes.items.items ≡ take PAGE (changed_after c.args.since (start_text (option_copied c.args.after)) (views_of h)) = ap (λ (p : ChangePage). p.items) told in
+          let asked = page ∙ sym (ap (λ (start : Option Path). take PAGE (changed_after c.args.since (start_text start) (views_of h))) c.copied-start.ensures) in (
+            told,
+            record {
+              lives = shows.lives;
+              history = shows.history;
+              tables = second.kept (views_of h) (first.kept (views_of h) shows.tables);
+              kept = λ still. record {
+                names = kept.names;
+                text = kept.text;
+                top = kept.top;
+                changes = c.kept_after.ensures (views_of h) (subst (λ (k : Option KeptChanges). HoldsChanges k (views_of h)) (sym taken) kept.changes) (ap (map changed_of) c.as_slice-page.ensures.value ∙ asked);
+                pending = kept.pending;
+                numbers = kept.numbers;
+                accounts = kept.accounts;
+              };
+            },
+          );
+      caused = λ clean h shows. tt;
+    })
+
+pub returns-in-Err-changes_page : goal.returns-in-Err-changes_page
+returns-in-Err-changes_page g c =
+    promised g.S.Store c.args.self.now _ _ _
+    (let read = reads_after g.S.Store c.args.self.now.tables.conn c.revision.new.self.conn c.changes_page.new.self.conn (Err c.in-Err-changes_page.fault) _ c.revision.ensures.rests c.in-Err-changes_page.ensures in
+    answers_fault g.S.Store c.args.self.now _ c.in-Err-changes_page.fault c.refusal_of-in-Err-changes_page.result _ c.if-not-self.false refl refl read.rests c.refusal_of-in-Err-changes_page.ensures.same c.refusal_of-in-Err-changes_page.ensures.fault
+    (λ clean h shows. read.told clean (views_of h) shows.tables (c.reached_histories_are_kept.ensures.readable h shows.history)))

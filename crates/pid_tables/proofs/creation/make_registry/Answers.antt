@@ -1,0 +1,117 @@
+use Rattle.std.proofs.Common.{[], ◌∷◌, ◌++◌, codes, refl, ◌∙◌}
+use Rattle.sqlite.specs.Held.{state}
+use Rattle.sqlite.specs.declared.types.Value.TheVariants.{Text}
+use Rattle.pid_moderation.specs.declared.rank.Rank.TheVariants.{Administrator}
+use Rattle.pid_tables.specs.declared.rows.version.Version.TheVariants.{Two}
+use Rattle.pid_tables.specs.Rows.Faults.{IsNotNewerSchema}
+use Rattle.pid_tables.specs.Rows.Schema.{pid_schema}
+use Rattle.pid_tables.specs.Rows.TableRows.{number}
+use Rattle.pid_tables.proofs.OfRows.CauseLemmas.{passed_on, passed_from}
+use Rattle.pid_tables.proofs.OfRows.GoingLemmas.{earlier, goes_then}
+use Rattle.pid_tables.proofs.OfRows.KeyTexts.{insert_account_is}
+use Rattle.pid_tables.proofs.OfRows.WriteFaults.{led, insert_writes}
+use Rattle.pid_tables.proofs.OfRows.WriteRows.{account_added}
+use Rattle.pid_tables.specs.Statements.{new_account_text}
+use Rattle.pid_tables.specs.Steps.Making.{all_statements, label_statements, root_statement}
+use Rattle.pid_tables.proofs.Carrying.{carried_both, carried_one, carried_then}
+use Rattle.pid_tables.proofs.CreateLemmas.{all_made, shows_nothing, nothing_yet}
+use Rattle.pid_tables.proofs.MoveLemmas.{goes_fault, goes_fault_after, not_on_ok}
+use Rattle.pid_tables.proofs.MetLemmas.{none_met}
+use Rattle.pid_tables.proofs.creation.make_registry.Goals as goal
+
+pub returns-clause-filled : goal.returns-clause-filled
+returns-clause-filled g c clean inside made =
+    let b = state g.S.Store c.make_tables.new.tx.conn.now in
+    let d = state g.S.Store c.add_labels.new.tx.conn.now in
+    let second = earlier d (state g.S.Store c.write_one.new.tx.conn.now) c.write_one.ensures.goes.survives clean in
+    let first = earlier b d c.add_labels.ensures.goes.survives second in
+    let one = c.in_ok-make_tables.ensures in
+    let two = c.in_ok-add_labels.ensures in
+    let within = (one.goes.going first inside).1 in
+    let has = two.added second within (all_made b.now (one.made first inside made)) in
+    let shown = shows_nothing d.now has in
+    led c.write_one.result (account_added d (state g.S.Store c.write_one.new.tx.conn.now) _ nothing_yet shown (codes "root") Administrator refl)
+    (rw (c.to_sql-name.ensures, c.to_sql-rank.ensures, c.from.ensures, c.number.ensures) at (c.write_one.ensures.runs.ran clean (two.goes.going second within).1))
+    (c.write_one.ensures.runs.only_store clean pid_schema (λ opened. shown.schema) (insert_writes (insert_account_is Two)))
+
+-- ---- where a name is taken
+
+pub returns-in_err-make_tables-clause-refused : goal.returns-in_err-make_tables-clause-refused
+returns-in_err-make_tables-clause-refused g c clean inside met = passed_on c.from_residual.result _ _ IsNotNewerSchema c.from_residual.ensures.1 (c.in_err-make_tables.ensures.takes clean inside)
+
+pub returns-in_err-add_labels-clause-refused : goal.returns-in_err-add_labels-clause-refused
+returns-in_err-add_labels-clause-refused g c clean inside met =
+    let b = state g.S.Store c.make_tables.new.tx.conn.now in
+    let first = earlier b (state g.S.Store c.add_labels.new.tx.conn.now) c.add_labels.ensures.goes.survives clean in
+    let one = c.in_ok-make_tables.ensures in
+    absurd (none_met _ _ (one.takes first inside) (met (one.goes.was_open first (one.goes.going first inside).0)))
+
+pub returns-clause-refused : goal.returns-clause-refused
+returns-clause-refused g c clean inside met =
+    let b = state g.S.Store c.make_tables.new.tx.conn.now in
+    let d = state g.S.Store c.add_labels.new.tx.conn.now in
+    let second = earlier d (state g.S.Store c.write_one.new.tx.conn.now) c.write_one.ensures.goes.survives clean in
+    let first = earlier b d c.add_labels.ensures.goes.survives second in
+    let one = c.in_ok-make_tables.ensures in
+    absurd (none_met _ _ (one.takes first inside) (met (one.goes.was_open first (one.goes.going first inside).0)))
+
+-- ---- no fault tells a later schema
+
+pub returns-in_err-make_tables-clause-never : goal.returns-in_err-make_tables-clause-never
+returns-in_err-make_tables-clause-never g c clean inside = passed_from c.from_residual.result _ IsNotNewerSchema c.from_residual.ensures.1 (c.in_err-make_tables.ensures.takes clean inside)
+
+pub returns-in_err-add_labels-clause-never : goal.returns-in_err-add_labels-clause-never
+returns-in_err-add_labels-clause-never g c clean inside = passed_from c.from_residual-in_err-add_labels.result _ IsNotNewerSchema c.from_residual-in_err-add_labels.ensures.1 c.in_err-add_labels.ensures.never
+
+-- ---- what was carried out
+
+pub returns-clause-carried : goal.returns-clause-carried
+returns-clause-carried g c clean inside =
+    let a = c.args.tx.now.conn.now in
+    let b = c.make_tables.new.tx.conn.now in
+    let d = c.add_labels.new.tx.conn.now in
+    let e = c.write_one.new.tx.conn.now in
+    let second = earlier (state g.S.Store d) (state g.S.Store e) c.write_one.ensures.goes.survives clean in
+    let first = earlier (state g.S.Store b) (state g.S.Store d) c.add_labels.ensures.goes.survives second in
+    let one = c.in_ok-make_tables.ensures in
+    let two = c.in_ok-add_labels.ensures in
+    let within = (one.goes.going first inside).1 in
+    carried_then g.S.Store (all_statements ++ label_statements) (root_statement ∷ []) a d e c.write_one.result
+    (carried_both g.S.Store all_statements label_statements a b d (one.carried first inside) (two.carried second within))
+    (carried_one g.S.Store new_account_text (Text (codes "root") ∷ number 3 ∷ []) d e c.write_one.result
+    (rw (c.to_sql-name.ensures, c.to_sql-rank.ensures, c.from.ensures, c.number.ensures) at (c.write_one.ensures.runs.ran clean (two.goes.going second within).1)))
+
+-- ---- what the transaction goes on with
+
+pub returns-in_err-make_tables-clause-goes : goal.returns-in_err-make_tables-clause-goes
+returns-in_err-make_tables-clause-goes g c =
+    goes_fault (state g.S.Store c.args.tx.now.conn.now) (state g.S.Store c.make_tables.new.tx.conn.now) _ c.from_residual.result c.from_residual.ensures.1 c.in_err-make_tables.ensures.goes
+
+pub returns-in_err-add_labels-clause-goes : goal.returns-in_err-add_labels-clause-goes
+returns-in_err-add_labels-clause-goes g c =
+    goes_fault_after (state g.S.Store c.args.tx.now.conn.now) (state g.S.Store c.make_tables.new.tx.conn.now) (state g.S.Store c.add_labels.new.tx.conn.now) _ _
+    c.from_residual-in_err-add_labels.result c.from_residual-in_err-add_labels.ensures.1 c.in_ok-make_tables.ensures.goes c.in_err-add_labels.ensures.goes
+
+pub returns-clause-goes : goal.returns-clause-goes
+returns-clause-goes g c =
+    let b = state g.S.Store c.make_tables.new.tx.conn.now in
+    let e = state g.S.Store c.write_one.new.tx.conn.now in
+    goes_then (state g.S.Store c.args.tx.now.conn.now) b e _ c.write_one.result c.in_ok-make_tables.ensures.goes
+    (goes_then b (state g.S.Store c.add_labels.new.tx.conn.now) e _ c.write_one.result c.in_ok-add_labels.ensures.goes c.write_one.ensures.goes)
+
+pub returns-in_err-make_tables-clause-carried : goal.returns-in_err-make_tables-clause-carried
+returns-in_err-make_tables-clause-carried g c clean inside = not_on_ok c.from_residual.result _ _ c.from_residual.ensures.1
+
+pub returns-in_err-add_labels-clause-carried : goal.returns-in_err-add_labels-clause-carried
+returns-in_err-add_labels-clause-carried g c clean inside = not_on_ok c.from_residual-in_err-add_labels.result _ _ c.from_residual-in_err-add_labels.ensures.1
+
+-- ---- the connection is lent on
+
+pub returns-in_err-make_tables-clause-same_reference : goal.returns-in_err-make_tables-clause-same_reference
+returns-in_err-make_tables-clause-same_reference g c = c.make_tables.ensures.same_reference
+
+pub returns-in_err-add_labels-clause-same_reference : goal.returns-in_err-add_labels-clause-same_reference
+returns-in_err-add_labels-clause-same_reference g c = c.add_labels.ensures.same_reference ∙ c.make_tables.ensures.same_reference
+
+pub returns-clause-same_reference : goal.returns-clause-same_reference
+returns-clause-same_reference g c = c.write_one.ensures.same_reference ∙ (c.add_labels.ensures.same_reference ∙ c.make_tables.ensures.same_reference)

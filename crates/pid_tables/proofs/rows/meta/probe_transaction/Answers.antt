@@ -1,0 +1,17 @@
+use Rattle.sqlite.specs.Held.{state}
+use Rattle.pid_tables.specs.Rows.Faults.{IsMemoryOrStore}
+use Rattle.pid_tables.proofs.OfRows.CauseLemmas.{passed_on}
+use Rattle.pid_tables.proofs.OfRows.KeyTexts.{select_meta_is}
+use Rattle.pid_tables.proofs.OfRows.StatementTexts.{select_meta}
+use Rattle.pid_tables.proofs.OfRows.ReadLemmas.{shows_still}
+use Rattle.pid_tables.specs.declared.rows.version.Version.TheVariants.{Two}
+use Rattle.pid_tables.specs.Rows.Schema.{pid_schema}
+use Rattle.pid_tables.proofs.rows.meta.probe_transaction.Goals as goal
+
+pub returns-clause-shows : goal.returns-clause-shows
+returns-clause-shows g c clean inside counts v shows _ =
+    shows_still select_meta _ (state g.S.Store c.args.tx.now.conn.now) (state g.S.Store c.read_inside.new.tx.conn.now) c.in_ok-read_inside.field-0.items counts v (select_meta_is Two).plain shows (c.in_ok-read_inside.ensures.shown clean)
+
+pub returns-in_err-read_inside-clause-shows : goal.returns-in_err-read_inside-clause-shows
+returns-in_err-read_inside-clause-shows g c clean inside counts v shows _ =
+    passed_on c.from_residual.result _ _ IsMemoryOrStore c.from_residual.ensures.1 (c.in_err-read_inside.ensures.faults.only_store clean pid_schema shows.schema (select_meta_is Two).plain)
