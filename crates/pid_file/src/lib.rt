@@ -57,10 +57,10 @@ pub use print::{
 };
 pub use process::{FAILED, report_failed, report_text_end, run_check, run_tidy};
 pub use refusal::ReadRefusal;
+pub use report::report_unread;
 pub use sink::{CutEnd, Entry, Sink};
 pub use text_end::{LARGEST, TextEnd, end_of};
 pub use tidying::tidy;
-pub use told::report_unread;
 pub use tree::Tree;
 pub use tree_sink::{TreeFault, TreeSink};
 pub use watched::Watched;

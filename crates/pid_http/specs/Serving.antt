@@ -21,7 +21,8 @@ use Rattle.pid_http_stream.specs.declared.reply_head.Content.TheVariants.{Text}
 use Rattle.pid_http_stream.specs.declared.reply_head.ReplyHead.{ReplyHead}
 use Rattle.pid_http.specs.Api.Questions.{Asking, question}
 use Rattle.pid_http.specs.Api.Senders.{Sending, sender}
-use Rattle.pid_http.specs.Answering.{answer_over, IsMeaningRefused, LacksForm, RequestMeaning, Answered}
+use Rattle.pid_http.specs.Answering.{answer_over, IsMeaningRefused, LacksForm, RequestMeaning}
+use Rattle.pid_http.specs.Answering.{Answered}
 use Rattle.pid_http.specs.Answering.{Denied, Asks, command_sent, meaning_of, known_answer}
 use Rattle.pid_http.specs.declared.api.format.Format.{Format}
 use Rattle.pid_http.specs.declared.api.question.Question.TheVariants.{Whole, Children}
@@ -56,13 +57,15 @@ AreUndone (Some command) fault most calls = calls ≡ obeyed command (Err fault)
 
 -- How a live registry that shows this history meets what a request comes to: its answer, the calls
 -- that it got, and what is known of it then.
-pub data IsMetOver (h : History) (meaning : RequestMeaning) (given : Answer) (calls : List Call) (k : Known)
+pub data IsMetOver (h : History) (meaning : RequestMeaning) (given : Answer) (calls : List Call)
+    (k : Known)
     : Type 0 where
   -- it is answered over the history, and the registry shows the one after it, to which only a
   -- command that is accepted adds
   AnsweredOver : given ≡ answer_over h meaning
       → AreCallsOver h (command_sent meaning) (most_questions meaning) calls
-      → k ≡ Live (option_map_or (after h) (command_sent meaning) h) → IsMetOver h meaning given calls k
+      → k ≡ Live (option_map_or (after h) (command_sent meaning) h)
+      → IsMetOver h meaning given calls k
   -- out of memory before the registry was asked
   NotAsked : LacksForm meaning given → calls ≡ [] → k ≡ Live h → IsMetOver h meaning given calls k
   -- memory or the store failed, and nothing was done
@@ -77,7 +80,8 @@ pub data IsMetOver (h : History) (meaning : RequestMeaning) (given : Answer) (ca
       → k ≡ Between h (after h command) → IsMetOver h meaning given calls k
 
 -- the answer of a registry that has failed, and the calls that it got, which send nothing
-pub data IsFailedAnswer (meaning : RequestMeaning) (given : Answer) (calls : List Call) : Type 0 where
+pub data IsFailedAnswer (meaning : RequestMeaning) (given : Answer) (calls : List Call)
+    : Type 0 where
   -- what it is asked, by one call at most, it refuses for that
   Refused : IsMeaningRefused meaning Failed given → AreQuestions 1 calls
       → IsFailedAnswer meaning given calls

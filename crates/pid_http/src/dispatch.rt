@@ -64,8 +64,8 @@ fn read<R: RegistryQueries>(
     path: Path,
     format: Format,
 ) -> Result<HttpReply, AllocError>
-    ensures { Replies R.RegistryCalls registry.old registry.new (meanings.Asks (questions.Read path) format)
-        result }
+    ensures { Replies R.RegistryCalls registry.old registry.new
+        (meanings.Asks (questions.Read path) format) result }
 {
     match registry.read(&path) {
         Ok(Some(name)) => item_reply(alloc, format, &path, &name),
@@ -81,8 +81,8 @@ fn children<R: RegistryQueries>(
     above: Option<Path>,
     format: Format,
 ) -> Result<HttpReply, AllocError>
-    ensures { Replies R.RegistryCalls registry.old registry.new (meanings.Asks (questions.Children above) format)
-        result }
+    ensures { Replies R.RegistryCalls registry.old registry.new
+        (meanings.Asks (questions.Children above) format) result }
 {
     match above {
         None => {}
@@ -133,8 +133,8 @@ fn rank<R: RegistryQueries>(
     who: &Account,
     format: Format,
 ) -> Result<HttpReply, AllocError>
-    ensures { Replies R.RegistryCalls registry.old registry.new (meanings.Asks (questions.Rank who.now) format)
-        result }
+    ensures { Replies R.RegistryCalls registry.old registry.new
+        (meanings.Asks (questions.Rank who.now) format) result }
 {
     match registry.rank(who) {
         Ok(rank) => rank_reply(alloc, format, who, rank),

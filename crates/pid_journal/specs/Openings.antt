@@ -43,7 +43,7 @@ abbrev pub registry_left : {R J : Type 0} → Result (Opened R J) (R × OpenFaul
 registry_left (Ok opened) = opened.registry.registry
 registry_left (Err back) = back.0
 
--- `registry` is `R.RegistryCalls`, `folder` is `F.JournalFolder`, and `file` is that of its segments
+-- `registry` is `R.RegistryCalls`, `folder` is `F.JournalFolder`, and `file` that of its segments
 module _ {R F J : Type 0} (registry : Ghosts R) (folder : folders.Ghosts F J) (file : files.Ghosts J) where
   -- The registry shows the history of all lines. The journal goes on in the last segment, or in a new
   -- one after it, named by the revision at which it begins; it has all lines that it had, and maybe a mark.

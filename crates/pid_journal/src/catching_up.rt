@@ -121,8 +121,8 @@ pub(crate) fn follow_segment<R: RegistryQueries, F: JournalFolder>(
 ) -> Result<F::Segment, OpenFault>
     ensures honest { StaysClean R.showing registry.old registry.new }
     ensures same { IsSameFolder F.JournalFolder folder.old folder.new }
-    ensures followed { FollowsSegment R.RegistryCalls F.Segment.JournalFile F.JournalFolder registry.old
-        registry.new folder.old begin result }
+    ensures followed { FollowsSegment R.RegistryCalls F.Segment.JournalFile F.JournalFolder
+        registry.old registry.new folder.old begin result }
     ensures stays { StaysOrMoved R.showing F.JournalFolder registry.old registry.new folder.old
         folder.new result }
     ensures compared { ComparesSegment R.showing F.JournalFolder registry.old registry.new folder.old

@@ -70,7 +70,8 @@ impl<R: RegistryQueries, J: JournalFile> Journaled<R, J> {
     /// The refusal, or that the registry has failed.
     pub(crate) fn unless_failed(&mut self, refusal: Refusal) -> Refusal
         ensures honest { StaysClean (pair_showing R.RegistryCalls J.JournalFile) self.old self.new }
-        ensures told { RefusesNothing R.RegistryCalls J.JournalFile self.old self.new refusal result }
+        ensures told { RefusesNothing R.RegistryCalls J.JournalFile self.old self.new refusal
+            result }
         ensures failed { pair_is_live R.RegistryCalls J.JournalFile self.old ≡ false
             → (result ≡ Refusal.Failed) × (self.new ≡ self.old) }
     {

@@ -82,8 +82,8 @@ impl<R: RegistryQueries, J: JournalFile> Journaled<R, J> {
         ensures obeyed { R.showing.is_clean self.new.registry → (start h : History)
             → PairShows R.RegistryCalls J.JournalFile start self.old h
             → IsEntry entry.now (counts_held h) (asks command)
-            → CommandLeaves (pair_showing_from R.RegistryCalls J.JournalFile start) result self.new h
-            (asks command) }
+            → CommandLeaves (pair_showing_from R.RegistryCalls J.JournalFile start) result self.new
+            h (asks command) }
     {
         pid_service_laws::judgements_are_outcomes(); // proof only
         let count = self.journal.count();
@@ -120,7 +120,8 @@ impl<R: RegistryQueries, J: JournalFile> Journaled<R, J> {
     pub fn obey(&mut self, command: Command) -> Result<Reply, Refusal>
         ensures honest { StaysClean (pair_showing R.RegistryCalls J.JournalFile) self.old self.new }
         // It shows the history to which its journal leads.
-        ensures obeyed { ObeysAnywhere R.RegistryCalls J.JournalFile self.old (asks command) result self.new }
+        ensures obeyed { ObeysAnywhere R.RegistryCalls J.JournalFile self.old (asks command) result
+            self.new }
         ensures failed { pair_is_live R.RegistryCalls J.JournalFile self.old ≡ false
             → (result ≡ Err Refusal.Failed) × (self.new ≡ self.old) }
         // What its journal has stays, and the entry of the command comes to it.

@@ -149,7 +149,8 @@ pub fn open_journal<R: RegistryQueries, F: JournalFolder>(
     folder: &mut F,
     longest: u64,
 ) -> Result<Opened<R, F::Segment>, (R, OpenFault)>
-    ensures { OpensJournal R.RegistryCalls F.JournalFolder F.Segment.JournalFile registry folder.old folder.new result }
+    ensures { OpensJournal R.RegistryCalls F.JournalFolder F.Segment.JournalFile registry folder.old
+        folder.new result }
 {
     match find_segment(alloc, &mut registry, folder, longest) {
         Ok((journal, gap)) => {

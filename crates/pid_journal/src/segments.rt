@@ -97,8 +97,8 @@ fn pass_segment<R: RegistryQueries, F: JournalFolder>(
 ) -> Result<bool, OpenFault>
     ensures honest { StaysClean R.showing registry.old registry.new }
     ensures same { IsSameFolder F.JournalFolder folder.old folder.new }
-    ensures passed { PassesSegment R.RegistryCalls F.Segment.JournalFile F.JournalFolder registry.old
-        registry.new folder.old begin next result }
+    ensures passed { PassesSegment R.RegistryCalls F.Segment.JournalFile F.JournalFolder
+        registry.old registry.new folder.old begin next result }
     ensures stays { StaysOrPassed R.showing F.JournalFolder registry.old registry.new folder.old
         folder.new result }
     ensures late { SkipsLate R.showing registry.old registry.new next result }

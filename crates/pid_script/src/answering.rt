@@ -29,8 +29,8 @@ fn obey<R: RegistryCalls, O: Output>(
     form: &str,
 ) -> Result<(), LineEnd>
     ensures calls { CallsGo R.showing registry.old registry.new }
-    ensures ends { AnswersOver R.RegistryCalls result (asks.AsksCommand verb account.now form.now) registry.old
-        (out (O.taken output.old) held.old.items) registry.new
+    ensures ends { AnswersOver R.RegistryCalls result (asks.AsksCommand verb account.now form.now)
+        registry.old (out (O.taken output.old) held.old.items) registry.new
         (out (O.taken output.new) held.new.items) }
     ensures fault { result ≡ Err LineEnd.WriteFault → IsSome (O.write_fault output.new) }
 {

@@ -219,7 +219,8 @@ pub fn run_script<R: RegistryCalls, I: Incoming<O>, O: Output>(
     // Whenever the text was read, the lines that had come whole had got their replies.
     ensures caught_up { OverText R.RegistryCalls (passage registry.old registry.new
         (O.taken output.old) (O.taken output.new)) (I.to_come input.old) (λ h p text.
-        AllSince (IsUpToDate R.RegistryCalls h p text) (I.moments input.old) (I.moments input.new)) }
+        AllSince (IsUpToDate R.RegistryCalls h p text) (I.moments input.old)
+        (I.moments input.new)) }
     // A fault that it ended by is kept, and no read but the last one found nothing to come.
     ensures ended { EndsWith result (reader_and_writer I.Incoming O.Output
         input.old input.new output.new turns) }

@@ -8,7 +8,7 @@ use Rattle.pid_moderation.specs.Revisions.{IsMarked}
 use Rattle.pid_moderation.specs.Views.{views_of}
 use Rattle.pid_moderation.specs.WellMade.{AreWellMade}
 use Rattle.pid_service_laws.specs.Registries.{Showing}
-use Rattle.pid_service_laws.specs.declared.registry_calls.RegistryCalls as moderated
+use Rattle.pid_service_laws.specs.declared.registry_calls.RegistryCalls as registry_calls
 use Rattle.pid_tables.specs.Rows.Clauses.{AtRest, LeavesEither}
 use Rattle.pid_service.specs.declared.registry.Registry.{Registry}
 use Rattle.pid_service.specs.Registries.{HasCleanDisk, connection, is_live}
@@ -58,5 +58,5 @@ module _ {S : Type 0} (store : Ghosts S) where
   }
 
   -- how scripts and HTTP ask it
-  abbrev pub as_calls : moderated.Ghosts (Registry S store)
+  abbrev pub as_calls : registry_calls.Ghosts (Registry S store)
   as_calls = record { showing = showing; is_live = is_live }

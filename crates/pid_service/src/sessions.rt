@@ -2,12 +2,12 @@
 //! does nothing of its own, and follows from the proofs of `pid_service_laws`, which hold of any
 //! type of registries.
 //!
-//! The calls of a session each do what `clauses_meet_sessions` says of their clauses. From the end of
-//! a session to the next opening leads `openings_find_histories`, over stops, failed openings and
-//! migrations that come between (`histories_are_kept_between`), and into a store that may be of
+//! The calls of a session each do what `clauses_meet_sessions` says of their clauses. From the end
+//! of a session to the next opening leads `openings_find_histories`, over stops, failed openings
+//! and migrations that come between (`histories_are_kept_between`), and into a store that may be of
 //! another type. `first_openings_show_what_is_there` is of the first opening, and
-//! `reopened_registries_show_prefixes` says what each opening shows; `openings_tell_prefixes` is the
-//! headline.
+//! `reopened_registries_show_prefixes` says what each opening shows; `openings_tell_prefixes` is
+//! the headline.
 ghost use Rattle.pid_service.specs.Headline.{OpeningsTellPrefixes};
 ghost use Rattle.pid_service.specs.SessionLaws.{
   CallsMeetSessions,

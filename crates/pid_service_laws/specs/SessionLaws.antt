@@ -8,12 +8,14 @@ use Rattle.pid_moderation.specs.Keys.{times_under}
 use Rattle.pid_moderation.specs.Views.{views_of}
 use Rattle.pid_service_laws.specs.Acknowledged.{IsIn, IsAcceptedIn}
 use Rattle.pid_service_laws.specs.KeptReplies.{IsKept}
-use Rattle.pid_service_laws.specs.Sessions.{InDoubt, Session, after_sessions, commands_in, prefix_of}
+use Rattle.pid_service_laws.specs.Sessions.{InDoubt, Session, after_sessions, commands_in}
+use Rattle.pid_service_laws.specs.Sessions.{prefix_of}
 
 -- these are the commands with an outcome, and the one in doubt if it was written
 abbrev pub IsOutcomesAndDoubt : Session → List Asked → Type 0
 IsOutcomesAndDoubt session commands = (commands ≡ commands_in session.sent)
-    ⊎ ((c : Asked) × (session.doubt ≡ InDoubt c true) × (commands ≡ commands_in session.sent ++ c ∷ []))
+    ⊎ ((c : Asked) × (session.doubt ≡ InDoubt c true)
+    × (commands ≡ commands_in session.sent ++ c ∷ []))
 
 -- the prefixes of all sessions, joined in order
 abbrev pub all_prefixes : List Session → List Asked

@@ -78,4 +78,5 @@ AreJudged h (s ∷ sent) = (s.outcome ≡ answer (judge (views_of h) s.command))
 -- session before it left
 abbrev pub AreSessions : History → List Session → Type 0
 AreSessions h [] = Unit {0}
-AreSessions h (session ∷ sessions) = AreJudged h session.sent × AreSessions (after_session h session) sessions
+AreSessions h (session ∷ sessions) = AreJudged h session.sent
+    × AreSessions (after_session h session) sessions

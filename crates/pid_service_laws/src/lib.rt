@@ -1,6 +1,6 @@
-//! What a registry under moderation promises to scripts and to HTTP (`RegistryCalls`, `RegistryQueries`),
-//! and its sessions, from one opening to the next, over stops at any place, with the laws that hold
-//! over them.
+//! What a registry under moderation promises to scripts and to HTTP (`RegistryCalls`,
+//! `RegistryQueries`), and its sessions, from one opening to the next, over stops at any place,
+//! with the laws that hold over them.
 //!
 //! `specs/Registries` says what each call of a registry does. From there `calls` leads to sessions,
 //! and `laws` from sessions to the crash prefix: an opening finds the history after a prefix of the

@@ -93,8 +93,8 @@ fn move_up<S: Alter>(conn: &mut Connection<S>) -> Result<(), TableFault>
         → OnOk result (AtRest S.Store conn.new v) }
     ensures kept { (v : Views) → RestsIn S.Store One conn.old v
         → OnErr result (RestsIn S.Store One conn.new v) }
-    ensures only_store { HasCleanDisk S.Store conn.new → (v : Views) → RestsIn S.Store One conn.old v
-        → IfErr result IsMemoryOrStore }
+    ensures only_store { HasCleanDisk S.Store conn.new → (v : Views)
+        → RestsIn S.Store One conn.old v → IfErr result IsMemoryOrStore }
     ensures never { HasCleanDisk S.Store conn.new → IfErr result IsNotNewerSchema }
     ensures statements { Carries S.Store move_statements conn.old conn.new result }
 {

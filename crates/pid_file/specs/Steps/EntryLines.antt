@@ -1,6 +1,7 @@
 -- What is wrong with the columns of a line, and what a line names, except for its own digits.
 -- Serves private functions alone; no promise rests on it.
-use Rattle.std.specs.Prelude.{◌≡◌, ◌<◌, ℕ, true, not, List, [], ◌∷◌, ◌++◌, if◌then◌else◌, Option, Some, None}
+use Rattle.std.specs.Prelude.{◌≡◌, ◌<◌, ℕ, true, not, List, [], ◌∷◌, ◌++◌, if◌then◌else◌, Option}
+use Rattle.std.specs.Prelude.{Some, None}
 use Rattle.pid_file.specs.declared.fault_kind.LineKind.{LineKind}
 use Rattle.pid_file.specs.declared.fault_kind.LineKind.TheVariants.{BadId, NoName, BadName}
 use Rattle.pid_file.specs.declared.path.Path.{Path}
@@ -11,7 +12,8 @@ use Rattle.pid_file.specs.Identifiers.{hex4, hex2}
 use Rattle.pid_file.specs.Marks.{trim_blanks}
 use Rattle.pid_file.specs.Columns.{begins_with_ids, digits_in, name_in}
 use Rattle.pid_file.specs.declared.entry_line.EntryKind.{EntryKind}
-use Rattle.pid_file.specs.declared.entry_line.EntryKind.TheVariants.{Vendor, Device, Subsystem, Class}
+use Rattle.pid_file.specs.declared.entry_line.EntryKind.TheVariants.{Vendor, Device, Subsystem}
+use Rattle.pid_file.specs.declared.entry_line.EntryKind.TheVariants.{Class}
 use Rattle.pid_file.specs.declared.entry_line.EntryKind.TheVariants.{Subclass, ProgIf, Generic}
 
 abbrev pub name_fault : List ℕ → Option LineKind
@@ -66,7 +68,8 @@ digits_of (ProgIf c s) a b = hex2 a
 digits_of (Generic v) a b = hex4 a
 
 -- the numbers that the bytes begin with, and what follows them
-pub record AreIds (place : EntryKind) (bytes : List ℕ) (first second : ℕ) (rest : List ℕ) : Type 0 where
+pub record AreIds (place : EntryKind) (bytes : List ℕ) (first second : ℕ) (rest : List ℕ)
+    : Type 0 where
   pub small : first < bound_of place
   pub begins : begins_with_ids (widths_of place) bytes ≡ true
   pub says : digits_in (widths_of place) bytes ≡ digits_of place first second

@@ -16,7 +16,8 @@ use Rattle.pid_moderation.specs.Fields.{Fields, value, text_at}
 use Rattle.pid_moderation.specs.Forms.{number_in}
 use Rattle.pid_moderation.specs.declared.refusal.Refusal.TheVariants.{BadPath, BadText}
 use Rattle.pid_http.specs.declared.api.early.RefusedEarly.{RefusedEarly}
-use Rattle.pid_http.specs.declared.api.early.RefusedEarly.TheVariants.{BadQuery, BadValue, AnotherMethod}
+use Rattle.pid_http.specs.declared.api.early.RefusedEarly.TheVariants.{BadQuery, BadValue}
+use Rattle.pid_http.specs.declared.api.early.RefusedEarly.TheVariants.{AnotherMethod}
 use Rattle.pid_http.specs.declared.api.early.RefusedEarly.TheVariants.{BadTarget, NoRoute, WantsGet}
 use Rattle.pid_http.specs.declared.api.early.RefusedEarly.TheVariants.{WantsPost}
 use Rattle.pid_http.specs.declared.api.format.Format.{Format}

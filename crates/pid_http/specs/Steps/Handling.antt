@@ -55,7 +55,8 @@ text_met : (a : Known) (meaning : RequestMeaning) (head : ReplyHead) (told : ℕ
 unfolding answer_over
 text_met (Live h) meaning head told calls b body more c (asked, is, none, same) none_more writes =
     let w : WritesOver (Live h) body c = subst (λ k. WritesOver k body c) same writes in
-    subst (λ x. IsMeaningMet (Live h) x (answer_after head told body) (calls ++ more) c) (sym asked.1)
+    subst (λ x. IsMeaningMet (Live h) x (answer_after head told body) (calls ++ more) c)
+    (sym asked.1)
     (AnsweredOver (same_answer h head told body is w.0)
     (questions_then 1 1 calls more none none_more) w.1)
 text_met (Between before behind) meaning head told calls b body more c promised none_more writes =

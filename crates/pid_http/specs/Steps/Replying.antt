@@ -49,7 +49,8 @@ IsBodyMet k meaning head (Bytes body) calls now = IsMeaningMet k meaning
 IsBodyMet k meaning head (Written told) calls now = IsPromised k meaning head told calls now
 
 -- the reply is an answer; or memory ran out for it, and what it is a reply to was done
-abbrev pub IsMetBy : {E : Type 0} → Known → RequestMeaning → Result HttpReply E → List Call → Known → Type 0
+abbrev pub IsMetBy : {E : Type 0} → Known → RequestMeaning → Result HttpReply E → List Call → Known
+    → Type 0
 IsMetBy k meaning result calls now = MatchResult result
     (λ reply. IsBodyMet k meaning reply.head reply.body calls now)
     (λ _. (given : Answer) × IsMeaningMet k meaning given calls now)
