@@ -10,13 +10,13 @@ returns-in-Err-clause-steps c items left =
     left_fault c.loop-piece.self _ items c.in-Some.piece.now c.in-Some.rest.now c.without_cr.result.now c.in-Err.kind _ (c.loop-piece.invariant.left items left) c.in-Some.ensures.parts c.without_cr.ensures c.in-Err.ensures.fault none refl refl refl
 
 pub returns-in-Entry-clause-steps : goal.returns-in-Entry-clause-steps
-returns-in-Entry-clause-steps c items left = left_entry c.loop-piece.self _ items c.in-Some.piece.now c.without_cr.result.now c.in-Ok.said _ _ (c.loop-piece.invariant.left items left) c.in-Some.ensures.parts c.without_cr.ensures c.in-Ok.ensures.says (ap items_of c.in-Entry.is) c.behind-self.ensures refl refl
+returns-in-Entry-clause-steps c items left = left_entry c.loop-piece.self _ items c.in-Some.piece.now c.without_cr.result.now c.in-Ok.said _ _ (c.loop-piece.invariant.left items left) c.in-Some.ensures.parts c.without_cr.ensures c.in-Ok.ensures.says (ap items_of c.in-Entry.is) c.after-self.ensures refl refl
 
 pub loop-piece-preserved : goal.loop-piece-preserved
 loop-piece-preserved c =
     let h = c.in_default-said in
     record {
-      left = λ items left. left_quiet c.loop-piece.self _ items c.in-Some.piece.now c.without_cr.result.now c.in-Ok.said (c.loop-piece.invariant.left items left) c.in-Some.ensures.parts c.without_cr.ensures c.in-Ok.ensures.says (no_items c.in-Ok.said h.not-Entry) c.behind-self.ensures refl;
+      left = λ items left. left_quiet c.loop-piece.self _ items c.in-Some.piece.now c.without_cr.result.now c.in-Ok.said (c.loop-piece.invariant.left items left) c.in-Some.ensures.parts c.without_cr.ensures c.in-Ok.ensures.says (no_items c.in-Ok.said h.not-Entry) c.after-self.ensures refl;
       shorter = omega (arith, c.in-Some.ensures.shorter, c.loop-piece.invariant.shorter);
     }
 
