@@ -1,10 +1,10 @@
 //! `pciids`: checks and prints pci.ids files, and keeps a moderated registry of PCI IDs.
 #![tactic(auto)]
 
+use pid_cli_args::terminal::Session;
+use pid_cli_args::{job_of, report_no_job};
 use pid_cli_help::Met;
 use pid_cli_registry::run_on_host;
-use pid_cli_words::terminal::Session;
-use pid_cli_words::{job_of, report_no_job};
 use pid_file::report_no_words;
 use sqlite_disk::Unknown;
 use std::process::ExitCode;

@@ -45,9 +45,9 @@ use Rattle.pid_script.specs.EndStatus.{script_status}
 use Rattle.pid_script.specs.Scripts.{EndsWith, IsScript, IsUpToDate, OverText, passage}
 use Rattle.pid_script.specs.declared.script_end.ScriptEnd.{ScriptEnd}
 use Rattle.pid_script.specs.declared.script_end.ScriptEnd.TheVariants as scripts
-use Rattle.pid_cli_words.specs.Jobs.{text_given}
-use Rattle.pid_cli_words.specs.declared.job.ImportArgs.{ImportArgs}
-use Rattle.pid_cli_words.specs.declared.job.LookupArgs.{LookupArgs}
+use Rattle.pid_cli_args.specs.Jobs.{text_given}
+use Rattle.pid_cli_args.specs.declared.job.ImportArgs.{ImportArgs}
+use Rattle.pid_cli_args.specs.declared.job.LookupArgs.{LookupArgs}
 use Rattle.pid_cli_jobs.specs.Lines.{FailsSilently, IsUnprinted, IsUnreported, PrintsAnswer}
 use Rattle.pid_cli_jobs.specs.Lines.{PrintsOnly, PrintsReply, ReportsMemory, ReportsOnly}
 use Rattle.pid_cli_jobs.specs.Lines.{ReportsUnopened, Streams, count_line}

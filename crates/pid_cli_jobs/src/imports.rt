@@ -1,7 +1,7 @@
 //! The import of a pci.ids file into the registry at a path.
 ghost use Rattle.std.specs.Prelude.{◌≡◌, IfOk, IsErrOf};
 ghost use Rattle.pid_file.specs.Writing.{use_of};
-ghost use Rattle.pid_cli_words.specs.Jobs.{text_given};
+ghost use Rattle.pid_cli_args.specs.Jobs.{text_given};
 ghost use Rattle.pid_cli_jobs.specs.Jobs.{BringsFile, Imports, IsBadSender, ReportsImport};
 ghost use Rattle.pid_cli_jobs.specs.Lines.{streams};
 
@@ -10,8 +10,8 @@ use crate::lines::{print_reply, report_unopened};
 use crate::machine::{Databases, Machine};
 use crate::registries::Registries;
 use crate::unopened::Unopened;
-use pid_cli_words::ImportArgs;
-use pid_cli_words::terminal::{Counted, Progress, Seen};
+use pid_cli_args::ImportArgs;
+use pid_cli_args::terminal::{Counted, Progress, Seen};
 use pid_ident::{Account, Input, Key, Output, Plain, WordFault};
 use pid_moderation::{Refusal, Reply};
 use pid_service_laws::{ImportEnd, RegistryQueries};

@@ -2,7 +2,7 @@
 ghost use Rattle.std.specs.Prelude.{◌≡◌, ◌++◌, [], IfOk, OnOk};
 ghost use Rattle.pid_file.specs.Writing.{use_of};
 ghost use Rattle.pid_lookup.specs.Fields.{bytes_of};
-ghost use Rattle.pid_cli_words.specs.Jobs.{text_given};
+ghost use Rattle.pid_cli_args.specs.Jobs.{text_given};
 ghost use Rattle.pid_cli_jobs.specs.Jobs.{
   IsReadFrom,
   LooksUpInFile,
@@ -15,7 +15,7 @@ ghost use Rattle.pid_cli_jobs.specs.Lines.{streams};
 use crate::job_end::{JobEnd, report_memory};
 use crate::lines::{print_answer, print_reply};
 use crate::machine::Machine;
-use pid_cli_words::LookupArgs;
+use pid_cli_args::LookupArgs;
 use pid_file::{LARGEST, TextEnd, report_unread};
 use pid_ident::{Input, Output, Plain};
 use pid_lookup::{Args, BadField, args_of, lookup_in};

@@ -1,5 +1,5 @@
 //! A segment of a journal as a file of the process.
-use pid_cli_words::terminal::Progress;
+use pid_cli_args::terminal::Progress;
 use pid_ident::WriteFault;
 use pid_journal::JournalFile;
 use std::fs::File;

@@ -2,12 +2,12 @@
 use crate::alone::Alone;
 use crate::exporting::export;
 use crate::migrating::migrate;
+use pid_cli_args::terminal::{Counted, Progress, Seen};
+use pid_cli_args::{ImportArgs, Job};
 use pid_cli_jobs::{
     Databases, Host, HostFolders, InMemory, JobEnd, Journaling, Journals, Machine, Port, Unopened,
     answer_lookup, import, report_end, report_unopened, script, serve,
 };
-use pid_cli_words::terminal::{Counted, Progress, Seen};
-use pid_cli_words::{ImportArgs, Job};
 use pid_file::{TextEnd, Watched, report_text_end, run_check, run_tidy};
 use pid_ident::{Output, Plain};
 use sqlite_disk::Start;

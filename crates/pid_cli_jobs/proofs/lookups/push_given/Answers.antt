@@ -2,7 +2,7 @@ use Rattle.std.specs.Prelude.{◌≡◌, ℕ, List, [], ◌∷◌, ◌++◌, Opt
 use Rattle.std.proofs.Common.{ap, sym, ◌∙◌}
 use Rattle.std.proofs.lemmas.List.{map-append}
 use Rattle.pid_lookup.specs.Fields.{bytes_of}
-use Rattle.pid_cli_words.specs.Jobs.{text_given}
+use Rattle.pid_cli_args.specs.Jobs.{text_given}
 use Rattle.pid_cli_jobs.specs.Jobs.{field_given}
 use Rattle.pid_cli_jobs.proofs.lookups.push_given.Goals as goal
 
