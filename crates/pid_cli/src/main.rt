@@ -11,28 +11,23 @@ use std::process::ExitCode;
 use std::{env, io};
 
 fn main(rt: HostRuntime) -> ExitCode {
-    ExitCode::from(match words_given(&rt) {
-        Ok(words) => run(&rt, words.as_slice()),
-        Err(error) => report_no_words(error.kind(), rt.stderr()),
-    })
-}
-
-fn words_given(rt: &HostRuntime) -> io::Result<Vec<String>> {
-    Ok(env::args(rt)?.collect(rt.alloc())?)
-}
-
-// Does the job of the words, and says more where a person reads standard error.
-fn run(rt: &HostRuntime, words: &[String]) -> u8 {
+    let words = match words_given(&rt) {
+        Ok(words) => words,
+        Err(error) => return ExitCode::from(report_no_words(error.kind(), rt.stderr())),
+    };
+    let words = words.as_slice();
     let job = match job_of(rt.alloc(), words) {
         Ok(job) => job,
         Err(error) => {
-            return report_no_job(&error, words, &mut rt.stdout(), &mut rt.stderr());
+            let (output, faults) = (&mut rt.stdout(), &mut rt.stderr());
+            return ExitCode::from(report_no_job(&error, words, output, faults));
         }
     };
-    let session = Session::begin(rt, job);
+    // A person who reads standard error is told more.
+    let session = Session::begin(&rt, job);
     let (mut read, mut written) = (Met::new(), Met::new());
     let status = run_on_host(
-        rt,
+        &rt,
         Unknown,
         job,
         &mut session.input(&mut read),
@@ -40,5 +35,9 @@ fn run(rt: &HostRuntime, words: &[String]) -> u8 {
         &mut session.faults(),
     );
     session.end(status, &read, &written);
-    status
+    ExitCode::from(status)
+}
+
+fn words_given(rt: &HostRuntime) -> io::Result<Vec<String>> {
+    Ok(env::args(rt)?.collect(rt.alloc())?)
 }

@@ -41,16 +41,11 @@ fn import_file<D: Databases, G: Registries<D>, I: Input>(
         (G.is_unopened registries.old path.now) G.is_closed sender
         (I.to_come input.old) (I.to_come input.new) (I.read_fault input.new) result }
 {
-    match registries.open(databases, path) {
-        Ok(registry) => {
-            let mut registry = registry;
-            let (account, key) = sender;
-            let result = registry.import_from(account, key, input);
-            registries.close(databases, registry);
-            Ok(result)
-        }
-        Err(why) => Err(why),
-    }
+    let mut registry = registries.open(databases, path)?;
+    let (account, key) = sender;
+    let result = registry.import_from(account, key, input);
+    registries.close(databases, registry);
+    Ok(result)
 }
 
 fn report_import<O: Output, F: Output>(

@@ -58,10 +58,7 @@ impl<D: Databases, G: Registries<D>, F: ReportingFolder> Registries<D> for Journ
         databases: &mut D,
         path: &str,
     ) -> Result<Journaled<G::Registry, F::Segment>, Unopened> {
-        let registry = match self.registries.open(databases, path) {
-            Ok(registry) => registry,
-            Err(why) => return Err(why),
-        };
+        let registry = self.registries.open(databases, path)?;
         match open_journal(databases.alloc(), registry, &mut self.folder, LONGEST) {
             Ok(opened) => {
                 let Opened { registry, gap } = opened;

@@ -22,15 +22,13 @@ impl<D: Databases> Registries<D> for Alone {
     ghost is_closed = { λ registry. IsTrue (is_live registry) → D.is_closed (connection registry) };
 
     fn open(&mut self, databases: &mut D, path: &str) -> Result<Registry<D::Kept>, Unopened> {
-        match databases.open(path) {
-            Ok(conn) => match open(databases.alloc(), conn) {
-                Ok(registry) => Ok(registry),
-                Err((fault, refused)) => {
-                    drop(refused);
-                    Err(of_tables(fault))
-                }
-            },
-            Err(why) => Err(why),
+        let conn = databases.open(path)?;
+        match open(databases.alloc(), conn) {
+            Ok(registry) => Ok(registry),
+            Err((fault, refused)) => {
+                drop(refused);
+                Err(of_tables(fault))
+            }
         }
     }
 

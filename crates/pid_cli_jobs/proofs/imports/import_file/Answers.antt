@@ -5,15 +5,15 @@ use Rattle.pid_moderation.specs.Files.{file_reading}
 use Rattle.pid_service_laws.specs.Imports.{import_sent}
 use Rattle.pid_cli_jobs.proofs.imports.import_file.Goals as goal
 
-pub returns-in-Ok : goal.returns-in-Ok
-returns-in-Ok g c =
+pub returns : goal.returns
+returns g c =
     let new = c.import_from-result.new.self in
     let i = c.import_from-result.ensures in
     let asked = import_of c.args.sender.0 c.args.sender.1 (file_reading i.obeyed.text) in (
       (i.reads.fault, i.reads.fault_first),
       record {
-        opened = c.in-Ok.registry;
-        opens = c.in-Ok.ensures.opened;
+        opened = c.in_ok-registry.registry;
+        opens = c.in_ok-registry.ensures.opened;
         ended = new;
         goes = record {
           calls = import_sent asked c.import_from-result.result (g.G.Registry.RegistryCalls.is_live new) ∷ [];
@@ -24,5 +24,5 @@ returns-in-Ok g c =
       },
     )
 
-pub returns-in-Err : goal.returns-in-Err
-returns-in-Err g c = c.in-Err.ensures.unopened
+pub returns-in_err-registry : goal.returns-in_err-registry
+returns-in_err-registry g c = rw c.from_residual.ensures c.in_err-registry.ensures.unopened

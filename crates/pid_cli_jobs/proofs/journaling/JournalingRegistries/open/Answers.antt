@@ -1,14 +1,14 @@
 use Rattle.pid_cli_jobs.specs.Journaling.{Refused}
 use Rattle.pid_cli_jobs.proofs.journaling.JournalingRegistries.open.Goals as goal
 
-pub returns-in-Err-open_journal-clause-unopened : goal.returns-in-Err-open_journal-clause-unopened
-returns-in-Err-open_journal-clause-unopened g c = Refused c.in-Err-open_journal.fault
+pub returns-in-Err-clause-unopened : goal.returns-in-Err-clause-unopened
+returns-in-Err-clause-unopened g c = Refused c.in-Err.fault
     (record {
-      alone = c.in-Ok.registry;
-      opens = c.in-Ok.ensures.opened;
-      back = c.in-Err-open_journal.registry;
+      alone = c.in_ok-registry.registry;
+      opens = c.in_ok-registry.ensures.opened;
+      back = c.in-Err.registry;
       after = c.open_journal.new.folder;
-      leaves = c.in-Err-open_journal.ensures;
+      leaves = c.in-Err.ensures;
       closed = c.close.ensures;
     })
     c.reason.ensures
