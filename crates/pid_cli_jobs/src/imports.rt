@@ -6,10 +6,10 @@ ghost use Rattle.pid_cli_jobs.specs.Jobs.{BringsFile, Imports, IsBadSender, Repo
 ghost use Rattle.pid_cli_jobs.specs.Lines.{streams};
 
 use crate::job_end::{JobEnd, report_memory};
-use crate::lines::{print_reply, report_unopened};
+use crate::lines::print_reply;
 use crate::machine::{Databases, Machine};
 use crate::registries::Registries;
-use crate::unopened::Unopened;
+use crate::unopened::{Unopened, report_unopened};
 use pid_cli_args::ImportArgs;
 use pid_cli_args::terminal::{Counted, Progress, Seen};
 use pid_ident::{Account, Input, Key, Output, Plain, WordFault};

@@ -6,19 +6,15 @@ ghost use Rattle.pid_moderation.specs.ReplyLines.{outcome_line};
 ghost use Rattle.pid_cli_jobs.specs.Lines.{
   PrintsAnswer,
   PrintsLine,
-  Reports,
   count_line,
   reply_status,
   streams,
-  unopened_line,
-  unopened_word,
 };
 
 use crate::job_end::{JobEnd, print_line, report_memory};
-use crate::unopened::Unopened;
 use itoa::Buffer;
 use pid_file::FAILED;
-use pid_ident::{Output, WriteFault, write_all, write_parts};
+use pid_ident::{Output, WriteFault, write_parts};
 use pid_lookup::{Answer, LookupRefusal, Unanswered};
 use pid_moderation::{Refusal, Reply, write_reply_line};
 use std::alloc::AllocError;
@@ -71,41 +67,6 @@ pub fn print_answer<O: Output, F: Output>(
         }
         Err(LookupRefusal::Memory | LookupRefusal::Names(_)) => report_memory(faults),
     }
-}
-
-fn unopened_reason(fault: Unopened) -> &'static str
-    ensures { result.now ≡ unopened_word fault }
-{
-    match fault {
-        Unopened::Memory => "open: Memory\n",
-        Unopened::Store => "open: Store\n",
-        Unopened::Damaged => "open: Damaged\n",
-        Unopened::NewerSchema(_) => "open: NewerSchema ",
-        Unopened::AnotherJournal => "journal: Another\n",
-        Unopened::SegmentsMissing => "journal: Missing\n",
-        Unopened::JournalFailed => "journal: failed\n",
-    }
-}
-
-fn write_unopened<F: Output>(fault: Unopened, faults: &mut F) -> Result<(), WriteFault>
-    ensures sent { Sends result (F.taken faults.old) (F.taken faults.new) (unopened_line fault) }
-    ensures fault { IfErr result (λ f. F.write_fault faults.new ≡ Some f) }
-{
-    let reason = unopened_reason(fault).as_bytes();
-    let Unopened::NewerSchema(schema) = fault else {
-        return write_all(faults, reason);
-    };
-    let mut digits = Buffer::new();
-    let schema = digits.format(schema).as_bytes();
-    write_parts(faults, &[reason, schema, b"\n"])
-}
-
-/// Reports why a registry was not opened.
-pub fn report_unopened<F: Output>(fault: Unopened, faults: &mut F) -> JobEnd
-    ensures { Reports (unopened_line fault) (use_of F.Output faults.old faults.new) result }
-{
-    let _ = write_unopened(fault, faults);
-    JobEnd::Exited(FAILED)
 }
 
 /// Prints a word and a count, as a line.

@@ -6,9 +6,9 @@ ghost use Rattle.pid_cli_jobs.specs.Lines.{streams};
 ghost use Rattle.pid_cli_jobs.specs.Sessions.{Works};
 
 use crate::job_end::JobEnd;
-use crate::lines::report_unopened;
 use crate::machine::Databases;
 use crate::registries::Registries;
+use crate::unopened::report_unopened;
 use pid_ident::{Incoming, Output};
 use pid_script::{ScriptEnd, run_script};
 

@@ -6,9 +6,10 @@ ghost use Rattle.pid_cli_jobs.specs.Lines.{Reports, streams};
 ghost use Rattle.pid_cli_jobs.specs.Sessions.{IsPartOfSession, Works};
 
 use crate::job_end::{JobEnd, report_memory};
-use crate::lines::{report_unopened, write_count};
+use crate::lines::write_count;
 use crate::machine::{Databases, Machine};
 use crate::registries::Registries;
+use crate::unopened::report_unopened;
 use pid_file::FAILED;
 use pid_http::{Routes, serve_with};
 use pid_http_stream::Served;

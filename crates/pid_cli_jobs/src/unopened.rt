@@ -1,4 +1,13 @@
-//! Why no registry was opened.
+//! Why no registry was opened, and the line that says so.
+ghost use Rattle.std.specs.Prelude.{◌≡◌, Some, IfErr};
+ghost use Rattle.pid_file.specs.Sending.{Sends};
+ghost use Rattle.pid_file.specs.Writing.{use_of};
+ghost use Rattle.pid_cli_jobs.specs.Lines.{Reports, unopened_line, unopened_word};
+
+use crate::job_end::JobEnd;
+use itoa::Buffer;
+use pid_file::FAILED;
+use pid_ident::{Output, WriteFault, write_all, write_parts};
 
 /// Why no registry was opened.
 #[derive(Clone, Copy)]
@@ -16,4 +25,39 @@ pub enum Unopened {
     SegmentsMissing,
     /// The folder of the journal failed, or a file in it.
     JournalFailed,
+}
+
+fn unopened_reason(fault: Unopened) -> &'static str
+    ensures { result.now ≡ unopened_word fault }
+{
+    match fault {
+        Unopened::Memory => "open: Memory\n",
+        Unopened::Store => "open: Store\n",
+        Unopened::Damaged => "open: Damaged\n",
+        Unopened::NewerSchema(_) => "open: NewerSchema ",
+        Unopened::AnotherJournal => "journal: Another\n",
+        Unopened::SegmentsMissing => "journal: Missing\n",
+        Unopened::JournalFailed => "journal: failed\n",
+    }
+}
+
+fn write_unopened<F: Output>(fault: Unopened, faults: &mut F) -> Result<(), WriteFault>
+    ensures sent { Sends result (F.taken faults.old) (F.taken faults.new) (unopened_line fault) }
+    ensures fault { IfErr result (λ f. F.write_fault faults.new ≡ Some f) }
+{
+    let reason = unopened_reason(fault).as_bytes();
+    let Unopened::NewerSchema(schema) = fault else {
+        return write_all(faults, reason);
+    };
+    let mut digits = Buffer::new();
+    let schema = digits.format(schema).as_bytes();
+    write_parts(faults, &[reason, schema, b"\n"])
+}
+
+/// Reports why a registry was not opened.
+pub fn report_unopened<F: Output>(fault: Unopened, faults: &mut F) -> JobEnd
+    ensures { Reports (unopened_line fault) (use_of F.Output faults.old faults.new) result }
+{
+    let _ = write_unopened(fault, faults);
+    JobEnd::Exited(FAILED)
 }
