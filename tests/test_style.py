@@ -137,3 +137,12 @@ def test_layout(cases, folder):
         with open(os.path.join(folder, name), encoding="utf-8") as file:
             other += [name] if file.read() != text_of(name) else []
     cases.equal("files that rt fmt lays out otherwise", other, [])
+
+
+def test_library_names(cases):
+    """No item has the name of a library. The gate refuses it as well, at its end."""
+    uses = "".join(it.partition(":")[2] for it in text_of("crates.txt").splitlines())
+    item = re.compile(r"\b(?:mod|struct|enum|trait|type) (\w+)")
+    found = [f"{name}: {it}" for name in files("crates/*/src/**/*.rt")
+             for it in item.findall(text_of(name)) if it in {"core", "std", *uses.split()}]
+    cases.equal("items with the name of a library", found, [])
