@@ -23,7 +23,7 @@ fn main(rt: HostRuntime) -> ExitCode {
             return ExitCode::from(report_no_job(&error, words, output, faults));
         }
     };
-    // A person who reads standard error is told more.
+    // Where a person reads standard error, it says more.
     let session = Session::begin(&rt, job);
     let (mut read, mut written) = (Met::new(), Met::new());
     let status = run_on_host(
