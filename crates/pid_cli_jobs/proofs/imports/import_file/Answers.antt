@@ -1,5 +1,6 @@
 use Rattle.std.specs.Prelude.{[], ◌∷◌}
 use Rattle.std.proofs.Common.{refl}
+use Rattle.std.proofs.lemmas.Result.{err_from_is_err_and}
 use Rattle.pid_moderation.specs.BeforeFile.{import_of}
 use Rattle.pid_moderation.specs.Files.{file_reading}
 use Rattle.pid_service_laws.specs.Imports.{import_sent}
@@ -25,4 +26,6 @@ returns g c =
     )
 
 pub returns-in_err-registry : goal.returns-in_err-registry
-returns-in_err-registry g c = rw c.from_residual.ensures c.in_err-registry.ensures.unopened
+returns-in_err-registry g c =
+    let p = err_from_is_err_and c.from_residual.result c.from_residual.ensures.1 in
+    rw p.1 (rw p.2 c.in_err-registry.ensures.unopened)

@@ -1,9 +1,12 @@
 use Rattle.std.proofs.Common.{subst}
+use Rattle.std.proofs.lemmas.Result.{err_from_is_err_and}
 use Rattle.pid_cli_registry.specs.Openings.{IsOpening, Refused, Unconnected}
 use Rattle.pid_cli_registry.proofs.alone.AloneRegistries.open.Goals as goal
 
 pub returns-in_err-conn-clause-unopened : goal.returns-in_err-conn-clause-unopened
-returns-in_err-conn-clause-unopened g c = rw c.from_residual.ensures (Unconnected c.in_err-conn.ensures.unopened)
+returns-in_err-conn-clause-unopened g c =
+    let p = err_from_is_err_and c.from_residual.result c.from_residual.ensures.1 in
+    rw p.1 (rw p.2 (Unconnected c.in_err-conn.ensures.unopened))
 
 pub returns-in-Err-clause-unopened : goal.returns-in-Err-clause-unopened
 returns-in-Err-clause-unopened g c = Refused c.in_ok-conn.conn c.in-Err.refused
