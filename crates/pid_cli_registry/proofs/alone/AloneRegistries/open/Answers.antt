@@ -12,9 +12,9 @@ pub returns-in-Err-clause-unopened : goal.returns-in-Err-clause-unopened
 returns-in-Err-clause-unopened g c = Refused c.in_ok-conn.conn c.in-Err.refused
     c.in-Err.fault c.in_ok-conn.ensures.opened c.in_ok-conn.ensures.fresh
     (subst (λ r. IsOpening g.D.Kept.Store c.in_ok-conn.conn r) c.in-Err.is (record {
-      history = c.open-in-Ok.ensures.history;
-      registry = c.open-in-Ok.ensures.registry;
-      at_once = c.open-in-Ok.ensures.at_once;
-      explains = c.open-in-Ok.ensures.explains;
+      history = c.open-2.ensures.history;
+      registry = c.open-2.ensures.registry;
+      at_once = c.open-2.ensures.at_once;
+      explains = c.open-2.ensures.explains;
     }))
     c.of_tables.ensures
