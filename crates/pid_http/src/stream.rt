@@ -27,7 +27,7 @@ use std::alloc::Global;
 ///
 /// # How it ends
 ///
-/// - `Clean`, `Closed`, `HeadFault`, `BodyFault`: all requests of the stream were answered, and
+/// - `Clean`, `Closed`, `Refused`: all requests of the stream were answered, and
 ///   then what is no request was refused.
 /// - `ReadFault`, `TurnsSpent`: the requests that came whole were answered.
 /// - `Memory`: the requests before were answered; the next may have been obeyed, and what came of

@@ -1,5 +1,5 @@
 -- The laws that lead from one call, opening or migration of registries to the next, and so to the
--- crash prefix: each is the contract of a function of `lives`. A choice of this project.
+-- crash prefix: each is the contract of a function of `sessions`. A choice of this project.
 use Rattle.std.specs.Prelude.{◌≡◌, ℕ, true, false, List, [], ◌∷◌, ◌++◌, Some, Ok, Err, Result}
 use Rattle.sqlite.specs.Held.{Held}
 use Rattle.sqlite_trees.specs.declared.store.Store.{Ghosts}

@@ -24,7 +24,7 @@ use pid_ident::{Name, Output, Path};
 use pid_lookup::{Answer, Args, LookupRefusal};
 use pid_moderation::{Command, Refusal, Reply};
 
-/// A registry under moderation, as scripts ask it.
+/// A registry under moderation, as scripts call it.
 ///
 /// What it answers and shows holds if its store returned what was written to it, as the call
 /// ends. A registry that has failed answers `Failed` to all and stays as it is.
