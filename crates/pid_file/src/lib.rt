@@ -1,8 +1,8 @@
 //! A file of PCI identifiers: its bytes, its entries, its tree, and its canonical text.
 //!
-//! This is all that the first program needs: `tidy`, `check`, and what it does with its arguments,
-//! help and version. Code that only a registry needs is in other crates. `pid_ident`, `pid_tree`
-//! and `pid_reader` hand this crate on to those above.
+//! This is all that the first program does: `tidy`, `check`, and to print a page. What it says of
+//! its arguments is in `pid_cli_help`, code that only a registry needs in other crates. `pid_ident`,
+//! `pid_tree` and `pid_reader` hand this crate on to those above.
 #![tactic(auto)]
 
 mod bytes;
