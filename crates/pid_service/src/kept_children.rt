@@ -25,7 +25,7 @@ ghost use Rattle.pid_service.specs.Steps.KeptChildren.{before_name};
 ghost use Rattle.pid_tables.specs.Lists.Steps.Adding.{Adds};
 
 use crate::items_text::{block_length, label_length};
-use crate::kept_text::{FIRST, KeptText, MOST};
+use crate::kept_text::{Extent, FIRST, KeptText, MOST};
 use crate::laws;
 use crate::reading::fault_as_refusal;
 use crate::registry::Registry;
@@ -116,9 +116,36 @@ pub(crate) fn children_in(alloc: Global, text: &KeptText, above: Option<Path>) -
     Some(found)
 }
 
+// Up to so many items below a path are sooner read from their rows than found in the text, which is
+// walked over whole.
+const FEW: usize = 256;
+
+// Whether a path is below another one, at any depth.
+fn is_within(path: Path, above: Path) -> bool {
+    match path.parent() {
+        Some(parent) if parent == above => true,
+        Some(parent) => parent.parent() == Some(above),
+        None => false,
+    }
+}
+
+// Whether to look for what is below a path in the text, and not in the rows. What is found is the
+// same. Where all have their own rows, a row costs as much as a walk over some 128 of them.
+fn is_sooner_in_text(extents: &[Extent], above: Option<Path>) -> bool {
+    let Some(above) = above else {
+        return true;
+    };
+    let few = FEW.max(extents.len() / 128);
+    let first = extents.partition_point(|extent| extent.path <= above);
+    match extents.get(first.saturating_add(few)) {
+        Some(extent) => is_within(extent.path, above),
+        None => false,
+    }
+}
+
 impl<S: Alter + Drop> Registry<S> {
     /// The items directly below a path, or at the top, of a live registry: from the text, if it is
-    /// kept, or from the rows of items.
+    /// kept and they are many, or from the rows of items.
     pub(crate) fn children_below(&mut self, above: Option<Path>) -> Result<Vec<Item>, Refusal>
         requires { self.old.live ≡ true }
         ensures { Finds S.Store self.old self.new result (λ h items.
@@ -126,8 +153,10 @@ impl<S: Alter + Drop> Registry<S> {
     {
         laws::reached_histories_are_kept(); // proof only
         if let Some(text) = &self.kept.items.text {
-            if let Some(items) = children_in(self.alloc, text, above) {
-                return Ok(items);
+            if is_sooner_in_text(text.extents.as_slice(), above) {
+                if let Some(items) = children_in(self.alloc, text, above) {
+                    return Ok(items);
+                }
             }
         }
         fault_as_refusal(self.tables.children(self.alloc, above))
