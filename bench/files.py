@@ -31,7 +31,7 @@ def libpci(room, path):
 
 
 def time(ours, other, path):
-    return Figures(*in_turn([ours, other], path))
+    return Figures(*in_turn([ours, other], path, 100))
 
 
 def memory(ours, other, path):

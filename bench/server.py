@@ -284,30 +284,35 @@ def submit_time(room):
 
 FORMS = [f"path=PC/{at:04x}&name=renamed" for at in range(200)]
 
+# The function of the program that answers a line of a script.
+LINE = "::answer_line::"
 
-def beside_obey(profile, count):
-    """The instructions of submissions, beside what of them is in the registry's call that obeys
-    them."""
-    within = profile.within("::RegistryRegistryCalls::obey::")
-    return Figures(count / len(FORMS), within / len(FORMS), "instructions")
+
+def line_profile(room):
+    lines = "".join(f"submit root {form}\n" for form in FORMS).encode()
+    words = room.script(room.copy(small(room)))
+    return Profile(room.folder, words, lambda process: process.stdin.write(lines))
 
 
 def submit_instructions(room):
+    """The instructions of submissions by requests and by lines, without the kernel's."""
+
     def talk(client):
         for form in FORMS:
             client.sendall(posted("/submit", "root", form.encode()))
             whole_reply(client)
 
     idle = profiled(room, room.copy(small(room)), lambda client: None)
-    profile = profiled(room, room.copy(small(room)), talk)
-    return beside_obey(profile, profile.total - idle.total)
+    count = profiled(room, room.copy(small(room)), talk).total - idle.total
+    lines = line_profile(room).within(LINE)
+    return Figures(count / len(FORMS), lines / len(FORMS), "instructions")
 
 
 def line_instructions(room):
-    lines = "".join(f"submit root {form}\n" for form in FORMS).encode()
-    words = room.script(room.copy(small(room)))
-    profile = Profile(room.folder, words, lambda process: process.stdin.write(lines))
-    return beside_obey(profile, profile.within("::answer_line::"))
+    """The instructions of lines, and those in the registry's call that obeys their commands."""
+    profile = line_profile(room)
+    counts = profile.within(LINE), profile.within("::RegistryRegistryCalls::obey::")
+    return Figures(*(count / len(FORMS) for count in counts), "instructions")
 
 
 def import_time(room):
@@ -416,9 +421,8 @@ ROWS = [
     Row("read-at-once", f"`GET {READ}`, a hundred sent at once / one at a time", OURS,
         at_once(READ)),
     Row("lookup-at-once", "`GET /lookup`, so", OURS, at_once(LOOK_UP)),
-    Row("submit", "`POST /submit` / a script's line of the same", OURS, submit_time, 1.3),
-    Row("submit-obey", "`POST /submit`, instructions / `obey` within it", OURS,
-        submit_instructions),
+    Row("submit", "`POST /submit` / a script's line of the same", OURS, submit_time),
+    Row("submit-count", "the same, instructions", OURS, submit_instructions, 1.3),
     Row("line-obey", "a script's line of the same, instructions / `obey` within it", OURS,
         line_instructions),
     Row("post-import", "`POST /import`, Debian's file / `import`, whole processes", OURS,
