@@ -25,8 +25,6 @@ use Rattle.pid_http.specs.Api.Outcomes.{outcome_answer}
 use Rattle.pid_http.specs.Api.Replying.{IsReplyOf, IsBodyOf}
 use Rattle.pid_http.specs.Answering.{answer_over, IsMeaningRefused, LacksForm, RequestMeaning, Answered, Denied, Obeys, Asks, command_sent, command_meaning, import_meaning, known_answer, answer_to, format_of}
 use Rattle.pid_http.specs.declared.api.question.Question.{Question}
-use Rattle.pid_http.specs.declared.api.question.Question.TheVariants.{Children, Whole}
-use Rattle.pid_http.specs.declared.api.route.Whole.TheVariants.{Export, Status}
 use Rattle.pid_http.specs.Known.{Known, Live, Between, Down, IsKnownOf, LivesOn, IsToldOf, ByCalls}
 use Rattle.pid_http.specs.Steps.Going.{Goes, calls_join}
 use Rattle.pid_http.specs.Steps.Replying.{IsCommandMet, IsBodyMet, IsMetBy, answer_or}
@@ -94,10 +92,6 @@ takes_one : (meaning : RequestMeaning) → known_answer meaning ≡ None → 1 �
 takes_one (Answered given) none = absurd cc
 takes_one (Denied refusal format) none = absurd cc
 takes_one (Obeys command format) none = omega arith
-takes_one (Asks (Whole Export) format) none = omega arith
-takes_one (Asks (Whole Status) format) none = omega arith
-takes_one (Asks (Children None) format) none = omega arith
-takes_one (Asks (Children (Some path)) format) none = omega arith
 takes_one (Asks question format) none = omega arith
 
 asked_once : (meaning : RequestMeaning) → known_answer meaning ≡ None → AreQuestions (most_questions meaning) (nothing_sent ∷ [])

@@ -1,6 +1,6 @@
 -- How a registry answers the requests of a stream: what is promised of the whole stream is
 -- `IsServed` over these steps.
-use Rattle.std.specs.Prelude.{◌≡◌, ◌≤◌, ℕ, true, false, List, [], ◌∷◌, length}
+use Rattle.std.specs.Prelude.{◌≡◌, ◌≤◌, ℕ, ◌+◌, true, false, List, [], ◌∷◌, length}
 use Rattle.std.specs.Prelude.{Option, None, Some, Err}
 use Rattle.std.specs.Option.{option_map_or}
 use Rattle.pid_service_laws.specs.declared.registry_calls.RegistryCalls.{Ghosts}
@@ -22,9 +22,10 @@ use Rattle.pid_http_stream.specs.declared.reply_head.ReplyHead.{ReplyHead}
 use Rattle.pid_http.specs.Api.Questions.{Asking, question}
 use Rattle.pid_http.specs.Api.Senders.{Sending, sender}
 use Rattle.pid_http.specs.Answering.{answer_over, IsMeaningRefused, LacksForm, RequestMeaning}
-use Rattle.pid_http.specs.Answering.{Answered}
+use Rattle.pid_http.specs.Answering.{Answered, Obeys}
 use Rattle.pid_http.specs.Answering.{Denied, Asks, command_sent, meaning_of, known_answer}
 use Rattle.pid_http.specs.declared.api.format.Format.{Format}
+use Rattle.pid_http.specs.declared.api.question.Question.{Question}
 use Rattle.pid_http.specs.declared.api.question.Question.TheVariants.{Whole, Children}
 use Rattle.pid_http.specs.declared.api.route.Whole.TheVariants.{Export}
 use Rattle.pid_http.specs.Known.{Known, Live, Between, Told, ByCalls}
@@ -33,14 +34,19 @@ use Rattle.pid_http.specs.Known.{Known, Live, Between, Told, ByCalls}
 abbrev pub AreQuestions : ℕ → List Call → Type 0
 AreQuestions most calls = AreNothing calls × (length calls ≤ most)
 
--- How many questions a request takes at most. Before the items below a path the item at the path is
--- asked for, and before the text of all items its length.
+-- How many are asked before a question. Before the items below a path the item at the path is asked
+-- for, and before the text of all items its length.
+abbrev pub asked_before : Question → ℕ
+asked_before (Whole Export) = 1
+asked_before (Children (Some path)) = 1
+asked_before question = 0
+
+-- how many questions a request takes at most
 abbrev pub most_questions : RequestMeaning → ℕ
 most_questions (Answered given) = 0
 most_questions (Denied refusal format) = 0
-most_questions (Asks (Whole Export) format) = 2
-most_questions (Asks (Children (Some path)) format) = 2
-most_questions meaning = 1
+most_questions (Obeys command format) = 1
+most_questions (Asks question format) = asked_before question + 1
 
 -- The calls for a request that was answered over the history: by them a command was sent once, and
 -- has the outcome of the judgement; what is no command sends nothing, by at most so many calls.

@@ -42,7 +42,7 @@ pub use outcome::{missing_reply, outcome_reply, refusal_reply};
 pub use question::Question;
 pub use rank::rank_reply;
 pub use request::{Request, question_of};
-pub use route::{Pages, Payload, Query, ROUTES, Route, Topic, Whole};
+pub use route::{Pages, Payload, ROUTES, Route, Topic, Whole};
 pub use routes::Routes;
 pub use sender::{Sender, sender_of};
 pub(crate) use shown::found_reply;

@@ -1,6 +1,8 @@
 -- The parts of a target.
-use Rattle.std.proofs.Common.{◌≡◌, ℕ, Bool, true, false, List, [], length, drop, Option, Some, None, Result, Ok, Err, refl, sym, ap, subst, ◌∙◌}
-use Rattle.std.specs.Prelude.{MatchOption, MatchResult, IsUtf8, if◌then◌else◌, unwrap_or}
+use Rattle.std.proofs.Common.{◌≡◌, ◌≤◌, ◌<◌, ℕ, Bool, true, false, List, [], length, drop, get_or, map, Option, Some, None, Result, Ok, Err, refl, sym, ap, subst, ◌∙◌}
+use Rattle.std.specs.Prelude.{MatchOption, MatchResult, IsUtf8, if◌then◌else◌, option_map, unwrap_or}
+use Rattle.std.specs.List.{slice_get}
+use Rattle.std.proofs.lemmas.Option.{slice_get-get_or, slice_get-map, slice_get_past}
 use Rattle.std.specs.Result.{result_ok}
 use Rattle.std.specs.Borrow.{Bor}
 use Rattle.std.specs.Str.{IsCharBoundary, is_utf8}
@@ -8,16 +10,25 @@ use Rattle.std.proofs.lemmas.Str.{is_utf8-from_IsUtf8, IsUtf8-from_is_utf8}
 use Rattle.std.specs.Str.Pattern.{FindsTextPrefix, StripsPrefix}
 use Rattle.std.proofs.lemmas.Str.Pattern.{starts_text}
 use Rattle.matchit.specs.Rows.{RowsOf}
-use Rattle.matchit.specs.Router.{RouteOf, map_key}
+use Rattle.matchit.specs.Router.{RouteOf}
 use Rattle.matchit.specs.Seek.{first}
 use Rattle.pid_http.specs.Api.Questions.{rest_after}
-use Rattle.pid_http.specs.Api.Routes.{all_routes, Route, route_at, with_all}
+use Rattle.pid_http.specs.Api.Routes.{all_routes, paths, Route, route_at, route_found, with_all}
+use Rattle.pid_http.specs.Api.Steps.Inserting.{Entry, row_of}
 
 -- the route of a path, by what a router answers
-pub route_found : (path : List ℕ) (routes : RowsOf (RouteOf Route)) → routes ≡ with_all all_routes [] → (found : Option (RouteOf Route)) → first routes path ≡ found → map_key (λ found. found.value) found ≡ route_at path
+pub at_path : (path : List ℕ) (routes : RowsOf (RouteOf ℕ)) → routes ≡ with_all (paths all_routes) 0 [] → (found : Option (RouteOf ℕ)) → first routes path ≡ found → route_found found ≡ route_at path
 unfolding route_at
-route_found path routes same found is =
-    ap (λ (o : Option (RouteOf Route)). map_key (λ found. found.value) o) (sym is) ∙ ap (λ (rows : RowsOf (RouteOf Route)). map_key (λ found. found.value) (first rows path)) same
+at_path path routes same found is =
+    ap route_found (sym is) ∙ ap (λ (rows : RowsOf (RouteOf ℕ)). route_found (first rows path)) same
+
+-- and the row of the table at its place
+pub row_found : (rows : List Entry) (place : ℕ) (found : Option (Bor Entry)) → map row_of rows ≡ all_routes → MatchOption found (length rows ≤ place) (λ x. (place < length rows) × ((d : Entry) → x.now ≡ get_or rows place d))
+    → option_map (λ row. row_of row.now) found ≡ slice_get all_routes place
+row_found rows place None all past =
+    sym (ap (λ (l : List Route). slice_get l place) (sym all) ∙ slice_get-map row_of rows place ∙ ap (option_map row_of) (slice_get_past rows place past))
+row_found rows place (Some x) all (within, is) =
+    sym (ap (λ (l : List Route). slice_get l place) (sym all) ∙ slice_get-map row_of rows place ∙ ap (option_map row_of) (slice_get-get_or rows place x.now within) ∙ ap (λ (row : Entry). Some (row_of row)) (sym (is x.now)))
 
 -- what stands behind a front
 pub rest_found : (front path : List ℕ) (rest : Option (Bor (List ℕ))) (other : Bor (List ℕ)) → other.now ≡ [] → MatchOption rest (FindsTextPrefix front path None) (λ x. StripsPrefix (FindsTextPrefix front) path x.now)

@@ -24,8 +24,7 @@ use Rattle.pid_http.specs.declared.api.format.Format.{Format}
 use Rattle.pid_http.specs.declared.api.format.Format.TheVariants.{Json, Text}
 use Rattle.form_urlencoded.specs.Form.{split_once}
 use Rattle.pid_form.specs.FormFields.{fields_in}
-use Rattle.pid_http.specs.Api.Routes.{names_of, Route, route_at}
-use Rattle.pid_http.specs.declared.api.route.Query.{Query}
+use Rattle.pid_http.specs.Api.Routes.{Route, route_at}
 use Rattle.pid_http.specs.declared.api.route.Payload.{Payload}
 use Rattle.pid_http.specs.declared.api.route.Topic.{Topic}
 use Rattle.pid_http.specs.declared.api.question.Question.{Question}
@@ -150,11 +149,11 @@ payload_as (payloads.Command verb) format = Buffered (Obeys verb format)
 payload_as payloads.Import format = Streamed format
 
 -- by GET: the names of the fields, their format, and then what they say of the topic
-abbrev pub get_asked : Option (Topic × Query) → List ℕ → List ℕ → Said Request
-get_asked None path query = Err WantsPost
-get_asked (Some (topic, allowed)) path query = then_said (λ format. on_said
+abbrev pub get_asked : Route → List ℕ → List ℕ → Said Request
+get_asked (route, names, None, payload) path query = Err WantsPost
+get_asked (route, names, Some topic, payload) path query = then_said (λ format. on_said
     (λ asked. Asks asked format) (topic_asked topic path (fields_in query) format))
-    (format_in (names_of allowed) (fields_in query))
+    (format_in names (fields_in query))
 
 -- by POST: a format alone
 abbrev pub post_asked : Option Payload → List ℕ → Said Asking
@@ -165,8 +164,8 @@ post_asked (Some payload) query = on_said (payload_as payload)
 -- at a route, by GET or else by POST
 abbrev pub route_asked : Bool → Option Route → List ℕ → List ℕ → Said Asking
 route_asked is_get None path query = Err NoRoute
-route_asked true (Some route) path query = on_said Buffered (get_asked route.0 path query)
-route_asked false (Some route) path query = post_asked route.1 query
+route_asked true (Some route) path query = on_said Buffered (get_asked route path query)
+route_asked false (Some route) path query = post_asked route.3 query
 
 -- the first byte is `/`
 abbrev pub begins_slash : List ℕ → Bool

@@ -3,6 +3,7 @@ ghost use Rattle.std.specs.Prelude.{◌≡◌, true, false, IfOk, MatchOption};
 ghost use Rattle.form_urlencoded.specs.Form.{split_once as split_bytes};
 ghost use Rattle.pid_http.specs.Api.Questions.{asked_by, get_asked, is_target, post_asked};
 ghost use Rattle.pid_http.specs.Api.Questions.{question, target_asked};
+ghost use Rattle.pid_http.specs.Api.Steps.Inserting.{row_of};
 ghost use Rattle.pid_http.specs.Api.Steps.Making.{MakesSaid};
 
 use crate::api::early::{RefusedEarly, Unasked};
@@ -52,23 +53,27 @@ fn text_of_target(target: &[u8]) -> Option<&str>
 }
 
 // What a GET asks for at a route, by its path and its query.
-fn get(alloc: Global, route: Route, path: &str, query: &str) -> Result<Request, Unasked>
-    ensures { MakesSaid result (get_asked route.0 path.now query.now) }
+fn get(alloc: Global, route: &Route, path: &str, query: &str) -> Result<Request, Unasked>
+    ensures { MakesSaid result (get_asked (row_of route.now) path.now query.now) }
 {
-    let Some((topic, allowed)) = route.0 else {
+    let Some(topic) = route.2 else {
         return Err(Unasked::Early(RefusedEarly::WantsPost));
     };
     let fields = fields_of(alloc, query)?;
-    let format = format_of(&fields, allowed.names())?;
+    let format = format_of(&fields, route.1)?;
     let question = ask_topic(alloc, topic, path, &fields, format)?;
     Ok(Request::Asks(question, format))
 }
 
-// What a POST asks for at a route, by its query.
-fn post(alloc: Global, route: Route, query: &str) -> Result<Wanted<Request, Format>, Unasked>
-    ensures { MakesSaid result (post_asked route.1 query.now) }
+// What a POST asks for at a route that takes this, by its query.
+fn post(
+    alloc: Global,
+    payload: Option<Payload>,
+    query: &str,
+) -> Result<Wanted<Request, Format>, Unasked>
+    ensures { MakesSaid result (post_asked payload query.now) }
 {
-    let Some(payload) = route.1 else {
+    let Some(payload) = payload else {
         return Err(Unasked::Early(RefusedEarly::WantsGet));
     };
     let fields = fields_of(alloc, query)?;
@@ -97,7 +102,7 @@ fn ask(
         let request = get(alloc, route, path, query)?;
         return Ok(Wanted::Buffered(request));
     }
-    post(alloc, route, query)
+    post(alloc, route.3, query)
 }
 
 // The same, by a method and a target.

@@ -1,6 +1,4 @@
 //! The table of routes: a path, the methods that it takes, and what each of them asks for.
-ghost use Rattle.std.specs.Prelude.{◌≡◌, map};
-ghost use Rattle.pid_http.specs.Api.Routes.{names_of};
 
 use pid_moderation::Verb;
 
@@ -46,101 +44,93 @@ pub enum Payload {
     Import,
 }
 
-/// The fields that a query may have besides `format`, which `Empty` and `Lookup` have not.
-#[derive(Clone, Copy)]
-pub enum Query {
-    Empty,
-    Format,
-    Of,
-    Lookup,
-    After,
-    SinceAfter,
-    PathAuthorBefore,
-    Who,
-    NumAfter,
-}
+/// A path, as a router reads it; the names of the fields that the query of a GET may have there, and
+/// what it asks about; and what a POST sends, whose query may have a format alone.
+pub type Route = (
+    &'static str,
+    &'static [&'static str],
+    Option<Topic>,
+    Option<Payload>,
+);
 
-/// What a path takes: what a GET asks about there, with the fields that its query may have; and what
-/// a POST sends, whose query may have a format alone.
-pub type Route = (Option<(Topic, Query)>, Option<Payload>);
-
-/// Each path, as a router reads it, and what it takes.
-pub const ROUTES: [(&str, Route); 19] = [
+/// All routes.
+pub const ROUTES: &[Route] = &[
+    ("/pci.ids", &[], Some(Topic::Whole(Whole::Export)), None),
+    ("/read/{*path}", &["format"], Some(Topic::Read), None),
+    ("/children", &["format", "of"], Some(Topic::Children), None),
     (
-        "/pci.ids",
-        (Some((Topic::Whole(Whole::Export), Query::Empty)), None),
+        "/lookup",
+        &[
+            "flags",
+            "size",
+            "vendor",
+            "device",
+            "subvendor",
+            "subdevice",
+            "class",
+            "progif",
+        ],
+        Some(Topic::Lookup),
+        None,
     ),
-    ("/read/{*path}", (Some((Topic::Read, Query::Format)), None)),
-    ("/children", (Some((Topic::Children, Query::Of)), None)),
-    ("/lookup", (Some((Topic::Lookup, Query::Lookup)), None)),
     (
         "/submission/{num}",
-        (Some((Topic::Submission, Query::Format)), None),
+        &["format"],
+        Some(Topic::Submission),
+        None,
     ),
-    ("/remarks", (Some((Topic::Remarks, Query::NumAfter)), None)),
+    (
+        "/remarks",
+        &["format", "num", "after"],
+        Some(Topic::Remarks),
+        None,
+    ),
     (
         "/pending",
-        (Some((Topic::Pages(Pages::Pending), Query::After)), None),
+        &["format", "after"],
+        Some(Topic::Pages(Pages::Pending)),
+        None,
     ),
     (
         "/changes",
-        (Some((Topic::Changes, Query::SinceAfter)), None),
+        &["format", "since", "after"],
+        Some(Topic::Changes),
+        None,
     ),
     (
         "/queue",
-        (Some((Topic::Pages(Pages::Queue), Query::After)), None),
+        &["format", "after"],
+        Some(Topic::Pages(Pages::Queue)),
+        None,
     ),
     (
         "/submissions",
-        (Some((Topic::Submissions, Query::PathAuthorBefore)), None),
+        &["format", "path", "author", "before"],
+        Some(Topic::Submissions),
+        None,
     ),
     (
         "/status",
-        (Some((Topic::Whole(Whole::Status), Query::Format)), None),
+        &["format"],
+        Some(Topic::Whole(Whole::Status)),
+        None,
     ),
     (
         "/account",
-        (
-            Some((Topic::Rank, Query::Who)),
-            Some(Payload::Command(Verb::Account)),
-        ),
+        &["format", "who"],
+        Some(Topic::Rank),
+        Some(Payload::Command(Verb::Account)),
     ),
-    ("/submit", (None, Some(Payload::Command(Verb::Submit)))),
-    ("/comment", (None, Some(Payload::Command(Verb::Comment)))),
-    ("/withdraw", (None, Some(Payload::Command(Verb::Withdraw)))),
-    ("/approve", (None, Some(Payload::Command(Verb::Approve)))),
-    ("/confirm", (None, Some(Payload::Command(Verb::Confirm)))),
-    ("/reject", (None, Some(Payload::Command(Verb::Reject)))),
-    ("/import", (None, Some(Payload::Import))),
+    ("/submit", &[], None, Some(Payload::Command(Verb::Submit))),
+    ("/comment", &[], None, Some(Payload::Command(Verb::Comment))),
+    (
+        "/withdraw",
+        &[],
+        None,
+        Some(Payload::Command(Verb::Withdraw)),
+    ),
+    ("/approve", &[], None, Some(Payload::Command(Verb::Approve))),
+    ("/confirm", &[], None, Some(Payload::Command(Verb::Confirm))),
+    ("/reject", &[], None, Some(Payload::Command(Verb::Reject))),
+    ("/import", &[], None, Some(Payload::Import)),
 ];
-
-// The fields of a look-up.
-const LOOKUP: [&str; 8] = [
-    "flags",
-    "size",
-    "vendor",
-    "device",
-    "subvendor",
-    "subdevice",
-    "class",
-    "progif",
-];
-
-impl Query {
-    // The names of the fields.
-    pub(crate) fn names(self) -> &'static [&'static str]
-        ensures { map (λ name. name.now) result.now ≡ names_of self }
-    {
-        match self {
-            Query::Empty => &[],
-            Query::Format => &["format"],
-            Query::Of => &["format", "of"],
-            Query::Lookup => &LOOKUP,
-            Query::After => &["format", "after"],
-            Query::SinceAfter => &["format", "since", "after"],
-            Query::PathAuthorBefore => &["format", "path", "author", "before"],
-            Query::Who => &["format", "who"],
-            Query::NumAfter => &["format", "num", "after"],
-        }
-    }
-}

@@ -1,27 +1,32 @@
--- Rows that come into a router one after another.
-use Rattle.std.specs.Prelude.{List, [], ◌∷◌, map, Bool, true, false, ◌&&◌, is_none, Result, Ok, Err}
+-- Rows of the table, whose paths come into a router one after another.
+use Rattle.std.specs.Prelude.{ℕ, ◌+◌, List, [], ◌∷◌, map, Bool, true, false, ◌&&◌, is_none, Option}
+use Rattle.std.specs.Prelude.{Result, Ok, Err}
 use Rattle.std.specs.Borrow.{Bor}
-use Rattle.std.specs.Prelude.{ℕ}
 use Rattle.matchit.specs.Route.{Scan, parse_route}
 use Rattle.matchit.specs.Router.{RouteOf, nearest}
 use Rattle.matchit.specs.Rows.{RowsOf}
 use Rattle.matchit.specs.declared.error.InsertError.{InsertError}
-use Rattle.pid_http.specs.Api.Routes.{Given, Route, with_read}
+use Rattle.pid_http.specs.declared.api.route.Payload.{Payload}
+use Rattle.pid_http.specs.declared.api.route.Topic.{Topic}
+use Rattle.pid_http.specs.Api.Routes.{Route, paths, with_read}
 
--- a path and its route, as the table has them, and by its text
+-- a row as the table has it, and by the bytes of its texts
 abbrev pub Entry : Type 0
-Entry = Bor (List ℕ) × Route
+Entry = Bor (List ℕ) × Bor (List (Bor (List ℕ))) × Option Topic × Option Payload
 
-abbrev pub texts : List Entry → List Given
-texts entries = map (λ entry. (entry.0.now, entry.1)) entries
+abbrev pub row_of : Entry → Route
+row_of row = (row.0.now, map (λ name. name.now) row.1.now, row.2, row.3)
 
--- the path of a route can be read, and no row conflicts with it
-abbrev pub reads_new : Result Scan InsertError → RowsOf (RouteOf Route) → Bool
+abbrev pub paths_of : List Entry → List (List ℕ)
+paths_of rows = paths (map row_of rows)
+
+-- a path can be read, and no row conflicts with it
+abbrev pub reads_new : Result Scan InsertError → RowsOf (RouteOf ℕ) → Bool
 reads_new (Ok scan) rows = is_none (nearest scan.pattern rows)
 reads_new (Err error) rows = false
 
--- these routes come in, one after another, and none conflicts with those before
-unfoldable pub all_new : List Given → RowsOf (RouteOf Route) → Bool
-all_new [] rows = true
-all_new (entry ∷ rest) rows = reads_new (parse_route entry.0) rows
-    && all_new rest (with_read (parse_route entry.0) entry.1 rows)
+-- these paths come in, one after another, and none conflicts with those before
+unfoldable pub all_new : List (List ℕ) → ℕ → RowsOf (RouteOf ℕ) → Bool
+all_new [] place rows = true
+all_new (path ∷ rest) place rows = reads_new (parse_route path) rows
+    && all_new rest (place + 1) (with_read (parse_route path) place rows)

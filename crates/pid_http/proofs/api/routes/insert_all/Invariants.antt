@@ -1,8 +1,10 @@
 use Rattle.std.proofs.Common.{◌≡◌, drop, true}
 use Rattle.pid_http.specs.Api.Routes.{with_all}
-use Rattle.pid_http.specs.Api.Steps.Inserting.{all_new, texts}
+use Rattle.pid_http.specs.Api.Steps.Inserting.{all_new, paths_of}
 use Rattle.pid_http.proofs.api.routes.insert_all.Given as goal
 
 -- the rows still to come lead to the same, and none of them conflicts if none did at first
-abbrev pub invariant-loop-row : goal.invariant-loop-row
-invariant-loop-row l = (with_all (texts (drop l.row-index l.rows)) l.router ≡ with_all (texts l.rows) l.fn.router) × (all_new (texts l.rows) l.fn.router ≡ true → all_new (texts (drop l.row-index l.rows)) l.router ≡ true)
+abbrev pub invariant-loop-place : goal.invariant-loop-place
+invariant-loop-place l =
+    (with_all (paths_of (drop l.place l.rows)) l.place l.router ≡ with_all (paths_of l.rows) 0 l.fn.router)
+    × (all_new (paths_of l.rows) 0 l.fn.router ≡ true → all_new (paths_of (drop l.place l.rows)) l.place l.router ≡ true)
