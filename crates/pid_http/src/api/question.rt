@@ -162,6 +162,7 @@ fn rank_of(alloc: Global, fields: &[(String, String)]) -> Result<Question, Unask
 
 // The question about a topic, by the path of its target and the fields of its query, whose names
 // are good and which say this format.
+#[tactic(auto, unfolding(crate::specs::Api::Questions::topic_asked))]
 pub(crate) fn ask_topic(
     alloc: Global,
     topic: Topic,
