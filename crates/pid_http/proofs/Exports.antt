@@ -24,14 +24,14 @@ use Rattle.pid_http.specs.declared.api.format.Format.{Format}
 use Rattle.pid_http.specs.declared.api.question.Question.TheVariants.{Whole}
 use Rattle.pid_http.specs.declared.api.route.Whole.TheVariants.{Export}
 use Rattle.pid_http.specs.Steps.Handling.{WritesText, WritesOver}
-use Rattle.pid_http.specs.Known.{Known, Live, Between, Down, IsKnownOf, LivesOn, Told, IsToldOf}
+use Rattle.pid_http.specs.Known.{Known, Live, Between, Down, IsKnownOf, LivesOn, SessionState, IsStateOf}
 use Rattle.pid_http.specs.Steps.Going.{Goes, calls_join}
 use Rattle.pid_http.specs.Serving.{AreQuestions, IsPromised}
 
--- the length of the text was told
-pub length_told : {R : Type 0} (registry : Ghosts R) → ShowsWhileLive registry.showing registry.is_live → (old new : R) (n : ℕ) (format : Format) (head : ReplyHead) (lives : LivesOn registry old new) → head.status ≡ 200 → head.content ≡ Text
+-- the length of the text was answered
+pub length_answered : {R : Type 0} (registry : Ghosts R) → ShowsWhileLive registry.showing registry.is_live → (old new : R) (n : ℕ) (format : Format) (head : ReplyHead) (lives : LivesOn registry old new) → head.status ≡ 200 → head.content ≡ Text
     → IsAnswered registry.showing registry.is_live old new (Ok n) (λ h n. n ≡ length (print (tree_of h))) → AreQuestions 1 lives.calls → Goes registry old new (λ k calls now. IsPromised k (Asks (Whole Export) format) head n calls now)
-length_told registry alive old new n format head lives status content a nothing = record { lives = lives; served = record { good = a.calls.clean; leads = leads } }
+length_answered registry alive old new n format head lives status content a nothing = record { lives = lives; served = record { good = a.calls.clean; leads = leads } }
   where
     leads : registry.showing.is_clean new → (k : Known) → IsKnownOf registry old k → (now : Known) × IsKnownOf registry new now × IsPromised k (Asks (Whole Export) format) head n lives.calls now
     leads good (Live h) shows = let t = a.told good h shows in (Live h, t.1, ((format, refl), record { status = status; content = content; length_is = t.0 }, nothing, refl))
@@ -40,7 +40,7 @@ length_told registry alive old new n format head lives status content a nothing 
 
 -- an export that was refused: whole lines are a front of the text
 pub exported_lines : (X : Type 0) (old new : Option (List ℕ)) (text : List ℕ) (end : ExportFault) (e : Refusal) → end ≡ Refused e → ExportsText {X = X} (Err end) old new text → WritesFront old new text
-exported_lines X old new text end e is told = lines (subst (λ x. ExportsText {X = X} (Err x) old new text) is told)
+exported_lines X old new text end e is says = lines (subst (λ x. ExportsText {X = X} (Err x) old new text) is says)
   where
     lines : ExportsText {X = X} (Err (Refused e)) old new text → WritesFront old new text
     lines (fault, took) =
@@ -51,7 +51,7 @@ exported_lines X old new text end e is told = lines (subst (λ x. ExportsText {X
         )
 
 front_short : (old new : Option (List ℕ)) (bytes : List ℕ) → SendsFront old new bytes → WritesFront old new bytes
-front_short old new bytes (n, less, told) = (n, omega (arith, less), told)
+front_short old new bytes (n, less, appends) = (n, omega (arith, less), appends)
 
 pub exported_front : (X : Type 0) (old new : Option (List ℕ)) (text : List ℕ) (end : ExportFault) (f : WriteFault) → end ≡ Write f → ExportsText {X = X} (Err end) old new text → WritesFront old new text
 exported_front X old new text end f is sent = front_short old new text (subst (λ x. ExportsText {X = X} (Err x) old new text) is sent)
@@ -66,7 +66,7 @@ not_all P x is = absurd cc
 -- the text was written, so far
 pub written : {R : Type 0} (registry : Ghosts R) → ShowsWhileLive registry.showing registry.is_live → (old new : R) (Took : List ℕ → Type 0) (lives : LivesOn registry old new) → AreQuestions 1 lives.calls → (registry.showing.is_clean new → registry.showing.is_clean old)
     → (registry.showing.is_clean new → (h : History) → registry.showing.shows old h → registry.showing.shows new h) → (registry.showing.is_clean new → (h : History) → registry.showing.shows old h → Took (print (tree_of h))) → (registry.is_live old ≡ false → Took [])
-    → Leads registry.showing.is_clean (IsToldOf registry) old new (λ t u. (body : List ℕ) × WritesText registry t body u × Took body)
+    → Leads registry.showing.is_clean (IsStateOf registry) old new (λ t u. (body : List ℕ) × WritesText registry t body u × Took body)
 written registry alive old new Took lives nothing clean shown body off_body = record { good = clean; leads = leads }
   where
     over : registry.showing.is_clean new → (k : Known) → IsKnownOf registry old k → (now : Known) × IsKnownOf registry new now × ((b : List ℕ) × WritesOver k b now × Took b)
@@ -74,7 +74,7 @@ written registry alive old new Took lives nothing clean shown body off_body = re
     over good (Between before behind) fails = (Between before behind, subst (λ x. registry.showing.fails_between x before behind) (sym (lives.rests (alive.fallen old before behind fails))) fails, ([], refl, off_body (alive.fallen old before behind fails)))
     over good Down off = (Down, subst (λ x. registry.is_live x ≡ false) (sym (lives.rests off)) off, ([], refl, off_body off))
 
-    leads : registry.showing.is_clean new → (t : Told registry) → IsToldOf registry old t → (u : Told registry) × IsToldOf registry new u × ((b : List ℕ) × WritesText registry t b u × Took b)
+    leads : registry.showing.is_clean new → (t : SessionState registry) → IsStateOf registry old t → (u : SessionState registry) × IsStateOf registry new u × ((b : List ℕ) × WritesText registry t b u × Took b)
     leads good t is =
         let x = over good t.known is.is_known in (
           record { start = t.start; calls = t.calls ++ lives.calls; known = x.0 },

@@ -17,7 +17,7 @@ use Rattle.pid_http.specs.Api.Questions.{Asking, question}
 use Rattle.pid_http.specs.Api.Senders.{Sending, sender}
 use Rattle.pid_http.specs.declared.api.format.Format.{Format}
 use Rattle.pid_http.specs.Answering.{RequestMeaning, meaning_asked, meaning_of, import_meaning}
-use Rattle.pid_http.specs.Known.{Told, ByCalls}
+use Rattle.pid_http.specs.Known.{SessionState, ByCalls}
 use Rattle.pid_http.specs.Steps.Replying.{IsBodyMet, IsMetAfter}
 use Rattle.pid_http.specs.Serving.{AreQuestions, IsMeaningMet, most_given_up, most_questions, serving}
 
@@ -37,25 +37,25 @@ pub given_up_most : (request : Request) (format : Format) (file : List ℕ) (s :
 given_up_most request format file s asked sends = import_most format s file ∙ (λ i. most_given_up (asked i) (sends i))
 
 module _ {R : Type 0} (registry : Ghosts R) where
-  body_for : (t u : Told registry) (request : Request) (head : ReplyHead) (body : ReplyBody) → ByCalls registry t u (λ calls. IsBodyMet t.known (meaning_of request) head body calls u.known) → IsBodyFor (serving registry) t request head body u
+  body_for : (t u : SessionState registry) (request : Request) (head : ReplyHead) (body : ReplyBody) → ByCalls registry t u (λ calls. IsBodyMet t.known (meaning_of request) head body calls u.known) → IsBodyFor (serving registry) t request head body u
   body_for t u request head (Bytes body) m = m
-  body_for t u request head (Written told) m = m
+  body_for t u request head (Written content_length) m = m
 
   -- what holds of the calls, said otherwise
-  pub by_calls : (t u : Told registry) (P Q : List Call → Type 0) → ((calls : List Call) → P calls → Q calls) → ByCalls registry t u P → ByCalls registry t u Q
+  pub by_calls : (t u : SessionState registry) (P Q : List Call → Type 0) → ((calls : List Call) → P calls → Q calls) → ByCalls registry t u P → ByCalls registry t u Q
   by_calls t u P Q f b = record { same_session = b.same_session; more = b.more; joined = b.joined; holds = f b.more b.holds }
 
   -- a reply was made
-  pub asked_ok : (t u : Told registry) (request : Request) (meaning : RequestMeaning) (reply : HttpReply) → meaning ≡ meaning_of request → ByCalls registry t u (λ calls. IsBodyMet t.known meaning reply.head reply.body calls u.known) → MayReply (serving registry) t request reply u
+  pub asked_ok : (t u : SessionState registry) (request : Request) (meaning : RequestMeaning) (reply : HttpReply) → meaning ≡ meaning_of request → ByCalls registry t u (λ calls. IsBodyMet t.known meaning reply.head reply.body calls u.known) → MayReply (serving registry) t request reply u
   asked_ok t u request meaning reply same m =
       body_for t u request reply.head reply.body (by_calls t u _ _ (λ calls h. subst (λ c. IsBodyMet t.known c reply.head reply.body calls u.known) same h) m)
 
   -- and where memory lacked for it
-  pub asked_err : (t u : Told registry) (request : Request) (meaning : RequestMeaning) → meaning ≡ meaning_of request → ByCalls registry t u (λ calls. (given : Answer) × IsMeaningMet t.known meaning given calls u.known)
+  pub asked_err : (t u : SessionState registry) (request : Request) (meaning : RequestMeaning) → meaning ≡ meaning_of request → ByCalls registry t u (λ calls. (given : Answer) × IsMeaningMet t.known meaning given calls u.known)
       → StandsStill (serving registry) t request.head u ⊎ (IsAtEnd (Some []) × (serving registry).leaves t request u)
   asked_err t u request meaning same m = inr (refl, by_calls t u _ _ (λ calls h. (h.0, subst (λ c. IsMeaningMet t.known c h.0 calls u.known) same h.1)) m)
 
-  pub asked_after : {E : Type 0} (t u : Told registry) (request : Request) (meaning : RequestMeaning) (result : Result HttpReply E) (left : Option (List ℕ)) → meaning ≡ meaning_of request
+  pub asked_after : {E : Type 0} (t u : SessionState registry) (request : Request) (meaning : RequestMeaning) (result : Result HttpReply E) (left : Option (List ℕ)) → meaning ≡ meaning_of request
       → most_questions meaning ≡ most_given_up (question request.head.method request.head.target) (sender (fields_of request.head)) → ByCalls registry t u (λ calls. IsMetAfter t.known meaning result left calls u.known) → IsHandled (serving registry) t request result left u
   asked_after {E} t u request meaning (Ok reply) left same most m = asked_ok t u request meaning reply same m
   asked_after {E} t u request meaning (Err e) left same most m = by_case m.holds

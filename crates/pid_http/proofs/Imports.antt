@@ -68,7 +68,7 @@ by_cause end refusal is (inr e) = absurd (never end refusal is e)
     never end refusal is e = cc
 
 module _ {R : Type 0} (registry : Ghosts R) where
-  -- what is told of a call that obeys an import, by the text that it read
+  -- what is said of a call that obeys an import, by the text that it read
   abbrev Holds : R → R → Result Outcome ImportEnd → List ℕ → Option (List ℕ) → List ℕ → Type 0
   Holds old new result account key text = ObeysFile registry.showing registry.is_live old new result (import_of account key (file_reading text))
 
@@ -129,10 +129,10 @@ module _ {R : Type 0} (registry : Ghosts R) where
       by_reply (Err e) is k file = inl (not_asked (most_questions (meaning file)), refl)
 
   -- by the words of the sender
-  pub of_owner : {E : Type 0} (old new : R) (account said : List ℕ) (key told : Option (List ℕ)) (format : Format) (result : Result HttpReply E) (to_come left : Option (List ℕ)) → account ≡ said → key ≡ told
+  pub of_owner : {E : Type 0} (old new : R) (account said : List ℕ) (key named : Option (List ℕ)) (format : Format) (result : Result HttpReply E) (to_come left : Option (List ℕ)) → account ≡ said → key ≡ named
       → Goes registry old new (λ k calls now. (file : List ℕ) → to_come ≡ Some file → length file ≤ LONGEST_BODY → IsMetAfter k (Obeys (import_of account key (file_reading file)) format) result left calls now)
-      → Goes registry old new (λ k calls now. (file : List ℕ) → to_come ≡ Some file → length file ≤ LONGEST_BODY → IsMetAfter k (Obeys (import_of said told (file_reading file)) format) result left calls now)
-  of_owner old new account said key told format result to_come left e f goes =
+      → Goes registry old new (λ k calls now. (file : List ℕ) → to_come ≡ Some file → length file ≤ LONGEST_BODY → IsMetAfter k (Obeys (import_of said named (file_reading file)) format) result left calls now)
+  of_owner old new account said key named format result to_come left e f goes =
       turned registry old new (λ k calls now behind file known fits. subst (λ (c : Asked). IsMetAfter k (Obeys c format) result left calls now) (λ i. import_of (e i) (f i) (file_reading file)) (behind file known fits)) goes
 
   -- the input failed

@@ -25,7 +25,7 @@ use Rattle.pid_http.specs.Api.Outcomes.{outcome_answer}
 use Rattle.pid_http.specs.Api.Replying.{IsReplyOf, IsBodyOf}
 use Rattle.pid_http.specs.Answering.{answer_over, IsMeaningRefused, LacksForm, RequestMeaning, Answered, Denied, Obeys, Asks, command_sent, command_meaning, import_meaning, known_answer, answer_to, format_of}
 use Rattle.pid_http.specs.declared.api.question.Question.{Question}
-use Rattle.pid_http.specs.Known.{Known, Live, Between, Down, IsKnownOf, LivesOn, IsToldOf, ByCalls}
+use Rattle.pid_http.specs.Known.{Known, Live, Between, Down, IsKnownOf, LivesOn, IsStateOf, ByCalls}
 use Rattle.pid_http.specs.Steps.Going.{Goes, calls_join}
 use Rattle.pid_http.specs.Steps.Replying.{IsCommandMet, IsBodyMet, IsMetBy, answer_or}
 use Rattle.pid_http.specs.Serving.{IsMeaningMet, IsMetOver, AnsweredOver, NotAsked, NotDone, InDoubt, AreCallsOver, AreQuestions, AreUndone, IsFailedAnswer, Refused, AsEver, Short, most_questions}
@@ -47,9 +47,9 @@ pub record IsQuestionIfThere {X Y : Type 0} (format : Format) (found : X → Ans
 pub shows : {X Y : Type 0} (format : Format) (found : Y → Answer) (sees : X → Y) (view : History → Y) (question : Question) → ((h : History) → found (view h) ≡ answer_to h question format) → format_of (Asks question format) ≡ format
     → IsQuestion format (λ (x : X). found (sees x)) (λ h (x : X). sees x ≡ view h) (Asks question format)
 unfolding answer_over
-shows format found sees view question same told = record {
+shows format found sees view question same formatted = record {
   over = λ h x e. ap found e ∙ same h;
-  refused = λ e. (refl, ap (λ (f : Format). outcome_answer f (Err e)) (sym told));
+  refused = λ e. (refl, ap (λ (f : Format). outcome_answer f (Err e)) (sym formatted));
   no_command = refl;
 }
 
@@ -59,10 +59,10 @@ or_missing format found there = option_map_or found there (outcome_answer format
 pub shows_there : {X Y : Type 0} (format : Format) (found : Y → Answer) (means : X → Y) (there : History → Option Y) (question : Question) → ((h : History) → or_missing format found (there h) ≡ answer_to h question format) → format_of (Asks question format) ≡ format
     → IsQuestionIfThere format (λ (x : X). found (means x)) there means (Asks question format)
 unfolding answer_over
-shows_there format found means there question same told = record {
+shows_there format found means there question same formatted = record {
   over = λ h x is. sym (ap (or_missing format found) is) ∙ same h;
   missing = λ h none. sym (ap (or_missing format found) none) ∙ same h;
-  refused = λ e. (refl, ap (λ (f : Format). outcome_answer f (Err e)) (sym told));
+  refused = λ e. (refl, ap (λ (f : Format). outcome_answer f (Err e)) (sym formatted));
   no_command = refl;
 }
 
@@ -100,7 +100,7 @@ asked_once meaning none = ((refl, tt), takes_one meaning none)
 -- the reply is the answer
 pub body_met : (k now : Known) (meaning : RequestMeaning) (head : ReplyHead) (body : ReplyBody) (given : Answer) (calls : List Call) → IsBodyOf head body given → IsMeaningMet k meaning given calls now → IsBodyMet k meaning head body calls now
 body_met k now meaning head (Bytes body) given calls e m = subst (λ g. IsMeaningMet k meaning g calls now) (sym e) m
-body_met k now meaning head (Written told) given calls e m = absurd e
+body_met k now meaning head (Written content_length) given calls e m = absurd e
 
 is_met_by : {E : Type 0} (k now : Known) (meaning : RequestMeaning) (result : Result HttpReply E) (given : Answer) (calls : List Call) → IfOk result (λ reply. IsReplyOf reply given) → IsMeaningMet k meaning given calls now → IsMetBy k meaning result calls now
 is_met_by k now meaning (Ok reply) given calls is m = body_met k now meaning reply.head reply.body given calls is m
@@ -191,7 +191,7 @@ module _ {R : Type 0} (registry : Ghosts R) where
   nothing_by : (new : R) (result : Result Outcome Refusal) (c : Asked) (calls : List Call) → calls ≡ sends c result (registry.is_live new) ∷ [] → result ≡ Err refusals.Failed → AreQuestions 1 calls
   nothing_by new result c calls by e = subst (AreQuestions 1) (sym (by ∙ ap (λ (r : Result Outcome Refusal). sends c r (registry.is_live new) ∷ []) e)) one_question
 
-  -- a command, by what is told of `obey`
+  -- a command, by what is said of `obey`
   pub obeys_so : Lives → (old new : R) (result : Result Outcome Refusal) (c : Asked) (lives : LivesOn registry old new) → lives.calls ≡ sends c result (registry.is_live new) ∷ []
       → (registry.showing.is_clean new → registry.showing.is_clean old) → (registry.is_live old ≡ false → (result ≡ Err refusals.Failed) × (new ≡ old))
       → (registry.showing.is_clean new → (h : History) → registry.showing.shows old h → CommandLeaves registry.showing result new h c) → Goes registry old new (λ k calls now. IsCommandMet c k result calls now)
@@ -217,7 +217,7 @@ module _ {R : Type 0} (registry : Ghosts R) where
 
   over_history : {X : Type 0} (result : Result X Refusal) (Says : History → X → Type 0) (format : Format) (found : X → Answer) (meaning : RequestMeaning) (calls : List Call) → AreQuestions (most_questions meaning) calls → IsQuestion format found Says meaning
       → (h : History) → MatchResult result (Says h) IsMemoryOrStore → IsMetOver h meaning (answer_or format found result) calls (Live h)
-  over_history (Ok x) Says format found meaning calls asked q h told = AnsweredOver (q.over h x told) (calls_over h meaning calls q.no_command asked) (same_history h meaning q.no_command)
+  over_history (Ok x) Says format found meaning calls asked q h says = AnsweredOver (q.over h x says) (calls_over h meaning calls q.no_command asked) (same_history h meaning q.no_command)
   over_history (Err e) Says format found meaning calls asked q h fault = NotDone e fault (q.refused e) (undone meaning e calls q.no_command asked) refl
 
   -- the answer of one that has failed
@@ -258,8 +258,8 @@ module _ {R : Type 0} (registry : Ghosts R) where
 
   over_there : {X Y : Type 0} (result : Result X Refusal) (there : History → Option Y) (means : X → Y) (format : Format) (found : X → Answer) (meaning : RequestMeaning) → IsQuestionIfThere format found there means meaning
       → (h : History) → MatchResult result (λ x. there h ≡ Some (means x)) (IsMissing (there h)) → IsMetOver h meaning (answer_or format found result) (nothing_sent ∷ []) (Live h)
-  over_there result there means format found meaning q h told =
-      by_result result told
+  over_there result there means format found meaning q h says =
+      by_result result says
     where
       asked : AreQuestions (most_questions meaning) (nothing_sent ∷ [])
       asked = asked_once meaning (q.refused refusals.Failed).0
@@ -342,9 +342,9 @@ module _ {R : Type 0} (registry : Ghosts R) where
       (λ good h shows. let t = a.told good h shows in (Live h, t.1, NotDone e t.0 (refused e) (undone meaning e (nothing_sent ∷ []) none (asked_once meaning (refused e).0)) refl))
       (λ off. Refused (failed_so (Err e) format (λ (x : X). outcome_answer format (Err e)) meaning refused (a.failed off).0) one_question)
 
-  -- what is told of the registry within its life
-  pub told_of : (old new : R) (P : Known → List Call → Known → Type 0) → Goes registry old new P → Leads registry.showing.is_clean (IsToldOf registry) old new (λ t u. ByCalls registry t u (λ calls. P t.known calls u.known))
-  told_of old new P g = record {
+  -- what is known of the registry within its session
+  pub within_session : (old new : R) (P : Known → List Call → Known → Type 0) → Goes registry old new P → Leads registry.showing.is_clean (IsStateOf registry) old new (λ t u. ByCalls registry t u (λ calls. P t.known calls u.known))
+  within_session old new P g = record {
     good = g.served.good;
     leads = λ good t is.
         let x = g.served.leads good t.known is.is_known in (

@@ -17,7 +17,7 @@ use Rattle.pid_http_stream.specs.Requests.{Request}
 use Rattle.pid_http.proofs.Meeting.{history_after}
 use Rattle.pid_http.specs.Answering.{RequestMeaning, command_sent, meaning_of}
 use Rattle.pid_http.specs.Steps.Handling.{nothing_then}
-use Rattle.pid_http.specs.Known.{Known, Live, Between, Told, ByCalls}
+use Rattle.pid_http.specs.Known.{Known, Live, Between, SessionState, ByCalls}
 use Rattle.pid_http.specs.Sending.{AreSomeOf, SendsSome, commands_asked, if_any}
 use Rattle.pid_http.specs.Serving.{AreCallsOver, AreUndone, IsFailedAnswer, Refused, AsEver, Short, most_questions, IsMeaningMet, IsMetOver, AnsweredOver, NotAsked, NotDone, InDoubt, serving}
 
@@ -126,7 +126,7 @@ failed_nothing meaning given calls (Short short none) = subst AreNothing (sym no
 -- ---- requests in turn
 
 module _ {R : Type 0} (registry : Ghosts R) where
-  pub by_join : (t mid u : Told registry) (P Q R : List Call → Type 0) → ((xs ys : List Call) → P xs → Q ys → R (xs ++ ys)) → ByCalls registry t mid P → ByCalls registry mid u Q → ByCalls registry t u R
+  pub by_join : (t mid u : SessionState registry) (P Q R : List Call → Type 0) → ((xs ys : List Call) → P xs → Q ys → R (xs ++ ys)) → ByCalls registry t mid P → ByCalls registry mid u Q → ByCalls registry t u R
   by_join t mid u P Q R f p q = record {
     same_session = q.same_session ∙ p.same_session;
     more = p.more ++ q.more;
@@ -134,7 +134,7 @@ module _ {R : Type 0} (registry : Ghosts R) where
     holds = f p.more q.more p.holds q.holds;
   }
 
-  pub by_none : (t u : Told registry) (P : Told registry → List Call → Type 0) → t ≡ u → P t [] → ByCalls registry t u (P u)
+  pub by_none : (t u : SessionState registry) (P : SessionState registry → List Call → Type 0) → t ≡ u → P t [] → ByCalls registry t u (P u)
   by_none t u P same holds = subst (λ v. ByCalls registry t v (P v)) same (record { same_session = refl; more = []; joined = sym (append-nil t.calls); holds = holds })
 
   send_on : (h h' : History) (cs ds : List Asked) (xs ys : List Call) (k : Known) → AreSomeOf (commands_in (sent_in xs)) cs → h' ≡ after_sent h (sent_in xs) → SendsSome h' ds ys k → SendsSome h (cs ++ ds) (xs ++ ys) k
@@ -153,7 +153,7 @@ module _ {R : Type 0} (registry : Ghosts R) where
       stopped_so h (cs ++ ds) (commands_in (sent_in xs)) c (xs ++ ys) k (first_sent xs ys nothing) (stops_then c xs ys stops nothing) (some_more (commands_in (sent_in xs) ++ c ∷ []) cs ds some) is
 
   -- some calls, and then others: over the history that is shown then, or where it has failed
-  pub then_send : (t mid u : Told registry) (h : History) (cs ds : List Asked) → ByCalls registry t mid (λ calls. SendsSome h cs calls mid.known)
+  pub then_send : (t mid u : SessionState registry) (h : History) (cs ds : List Asked) → ByCalls registry t mid (λ calls. SendsSome h cs calls mid.known)
       → ((next : History) → mid.known ≡ Live next → ByCalls registry mid u (λ calls. SendsSome next ds calls u.known))
       → ((x y : History) → mid.known ≡ Between x y → ByCalls registry mid u (λ calls. AreNothing calls × (u.known ≡ Between x y)))
       → ByCalls registry t u (λ calls. SendsSome h (cs ++ ds) calls u.known)
@@ -172,7 +172,7 @@ module _ {R : Type 0} (registry : Ghosts R) where
           (λ calls. SendsSome h (cs ++ ds) calls u.known)
           (λ xs ys p q. stop_on h cs ds xs ys c u.known p.0 p.1 q.0 (q.1 ∙ ap (λ (a : History). Between a (after a c)) p.2)) (at _ (stops, some, refl)) (failed x (after x c) is)
 
-  pub met_by : AreOutcomes → (t u : Told registry) (h : History) (meaning : RequestMeaning) (given : Answer) → t.known ≡ Live h → ByCalls registry t u (λ calls. IsMeaningMet t.known meaning given calls u.known)
+  pub met_by : AreOutcomes → (t u : SessionState registry) (h : History) (meaning : RequestMeaning) (given : Answer) → t.known ≡ Live h → ByCalls registry t u (λ calls. IsMeaningMet t.known meaning given calls u.known)
       → ByCalls registry t u (λ calls. SendsSome h (if_any (command_sent meaning)) calls u.known)
   met_by outcomes t u h meaning given live b = record {
     same_session = b.same_session;
@@ -181,7 +181,7 @@ module _ {R : Type 0} (registry : Ghosts R) where
     holds = met_sends outcomes h meaning given b.more u.known (subst (λ k. IsMeaningMet k meaning given b.more u.known) live b.holds);
   }
 
-  pub failed_by : (t u : Told registry) (x y : History) (meaning : RequestMeaning) (given : Answer) → t.known ≡ Between x y → ByCalls registry t u (λ calls. IsMeaningMet t.known meaning given calls u.known)
+  pub failed_by : (t u : SessionState registry) (x y : History) (meaning : RequestMeaning) (given : Answer) → t.known ≡ Between x y → ByCalls registry t u (λ calls. IsMeaningMet t.known meaning given calls u.known)
       → ByCalls registry t u (λ calls. AreNothing calls × (u.known ≡ Between x y))
   failed_by t u x y meaning given is b = record {
     same_session = b.same_session;
@@ -191,7 +191,7 @@ module _ {R : Type 0} (registry : Ghosts R) where
   }
 
   -- one that has failed is sent nothing more
-  failed_replies : (t u : Told registry) (x y : History) (requests : List Request) (bytes : List ℕ) → t.known ≡ Between x y → AreReplies (serving registry) t requests bytes u
+  failed_replies : (t u : SessionState registry) (x y : History) (requests : List Request) (bytes : List ℕ) → t.known ≡ Between x y → AreReplies (serving registry) t requests bytes u
       → ByCalls registry t u (λ calls. AreNothing calls × (u.known ≡ Between x y))
   failed_replies t u x y [] bytes is (e, same) = by_none t u (λ v calls. AreNothing calls × (v.known ≡ Between x y)) same (tt, is)
   failed_replies t u x y (request ∷ requests) bytes is (mid, given, later, step, e, rest) =
@@ -199,7 +199,7 @@ module _ {R : Type 0} (registry : Ghosts R) where
       by_join t mid u _ _ _ (λ xs ys p q. (nothing_then xs ys p.0 q.0, q.1)) b (failed_replies mid u x y requests later b.holds.1 rest)
 
   -- requests that were answered
-  pub replies_send : AreOutcomes → (t u : Told registry) (h : History) (requests : List Request) (bytes : List ℕ) → t.known ≡ Live h → AreReplies (serving registry) t requests bytes u
+  pub replies_send : AreOutcomes → (t u : SessionState registry) (h : History) (requests : List Request) (bytes : List ℕ) → t.known ≡ Live h → AreReplies (serving registry) t requests bytes u
       → ByCalls registry t u (λ calls. SendsSome h (commands_asked requests) calls u.known)
   replies_send outcomes t u h [] bytes live (e, same) = by_none t u (λ v calls. SendsSome h [] calls v.known) same (inl (refl, live))
   replies_send outcomes t u h (request ∷ requests) bytes live (mid, given, later, step, e, rest) =

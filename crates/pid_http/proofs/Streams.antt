@@ -17,7 +17,7 @@ use Rattle.pid_http_stream.specs.declared.reply_head.ReplyHead.{ReplyHead}
 use Rattle.pid_http_stream.specs.declared.stream.StreamEnd.{StreamEnd}
 use Rattle.pid_http_stream.specs.declared.stream.StreamEnd.TheVariants.{Clean, Closed, Refused, ReadFault, WriteFault, StoreFault, Memory, TurnsSpent}
 use Rattle.pid_http.specs.Answering.{RequestMeaning, command_sent, meaning_of}
-use Rattle.pid_http.specs.Known.{Known, Live, Between, Down, Told, ByCalls}
+use Rattle.pid_http.specs.Known.{Known, Live, Between, Down, SessionState, ByCalls}
 use Rattle.pid_http.specs.Sending.{SendsOf, SendsSome, StandInFront, commands_asked, if_any}
 use Rattle.pid_http.specs.Serving.{IsMeaningMet, IsPromised, serving}
 use Rattle.pid_http.proofs.Sendings.{AreOutcomes, by_join, by_none, failed_by, first_sent, live_so, met_by, replies_send, stopped_so, stops_then, then_send}
@@ -56,20 +56,20 @@ quiet_on : (h : History) (cs : List Asked) (xs ys : List Call) (k next : Known) 
 quiet_on h cs xs ys k next (inl (some, is)) nothing same = live_so h cs (commands_in (sent_in xs)) (xs ++ ys) next (first_sent xs ys nothing) some (sym same ∙ is)
 quiet_on h cs xs ys k next (inr (c, stops, some, is)) nothing same = stopped_so h cs (commands_in (sent_in xs)) c (xs ++ ys) next (first_sent xs ys nothing) (stops_then c xs ys stops nothing) some (sym same ∙ is)
 
-promised_so : (k : Known) (meaning : RequestMeaning) (head : ReplyHead) (told : ℕ) (calls : List Call) (next : Known) → IsPromised k meaning head told calls next → AreNothing calls × (k ≡ next)
-promised_so (Live h) meaning head told calls next (export, text, asked, same) = (asked.0, sym same)
-promised_so (Between x y) meaning head told calls next promised = absurd promised
-promised_so Down meaning head told calls next promised = absurd promised
+promised_so : (k : Known) (meaning : RequestMeaning) (head : ReplyHead) (content_length : ℕ) (calls : List Call) (next : Known) → IsPromised k meaning head content_length calls next → AreNothing calls × (k ≡ next)
+promised_so (Live h) meaning head content_length calls next (export, text, asked, same) = (asked.0, sym same)
+promised_so (Between x y) meaning head content_length calls next promised = absurd promised
+promised_so Down meaning head content_length calls next promised = absurd promised
 
 module _ {R : Type 0} (registry : Ghosts R) where
-  same_still : (t u : Told registry) → t ≡ u → ByCalls registry t u (λ calls. AreNothing calls × (t.known ≡ u.known))
+  same_still : (t u : SessionState registry) → t ≡ u → ByCalls registry t u (λ calls. AreNothing calls × (t.known ≡ u.known))
   same_still t u same = by_none registry t u (λ v calls. AreNothing calls × (t.known ≡ v.known)) same (tt, refl)
 
-  still : (t : Told registry) (came : List ℕ) (u : Told registry) → StandsOver (serving registry) t came u → ByCalls registry t u (λ calls. AreNothing calls × (t.known ≡ u.known))
+  still : (t : SessionState registry) (came : List ℕ) (u : SessionState registry) → StandsOver (serving registry) t came u → ByCalls registry t u (λ calls. AreNothing calls × (t.known ≡ u.known))
   still t came u (inl same) = same_still t u same
   still t came u (inr (head, behind, has, b)) = record { same_session = b.same_session; more = b.more; joined = b.joined; holds = (b.holds.0.0, b.holds.1) }
 
-  rests_still : (ending : Ending) (IsRest : List ℕ → Type 0) (t u : Told registry) → RestsAfter (serving registry) ending IsRest t u → ByCalls registry t u (λ calls. AreNothing calls × (t.known ≡ u.known))
+  rests_still : (ending : Ending) (IsRest : List ℕ → Type 0) (t u : SessionState registry) → RestsAfter (serving registry) ending IsRest t u → ByCalls registry t u (λ calls. AreNothing calls × (t.known ≡ u.known))
   rests_still clean IsRest t u r = same_still t u r
   rests_still closed IsRest t u r = same_still t u r
   rests_still (faulty BadHead) IsRest t u r = same_still t u r
@@ -77,19 +77,19 @@ module _ {R : Type 0} (registry : Ghosts R) where
   rests_still (faulty BodyTooLong) IsRest t u r = same_still t u r
   rests_still (faulty BodyShort) IsRest t u (rest, is, stands) = still t rest u stands
 
-  then_quiet : (t mid u : Told registry) (h : History) (cs : List Asked) → ByCalls registry t mid (λ calls. SendsSome h cs calls mid.known) → ByCalls registry mid u (λ calls. AreNothing calls × (mid.known ≡ u.known))
+  then_quiet : (t mid u : SessionState registry) (h : History) (cs : List Asked) → ByCalls registry t mid (λ calls. SendsSome h cs calls mid.known) → ByCalls registry mid u (λ calls. AreNothing calls × (mid.known ≡ u.known))
       → ByCalls registry t u (λ calls. SendsSome h cs calls u.known)
   then_quiet t mid u h cs first next =
       by_join registry t mid u (λ xs. SendsSome h cs xs mid.known) (λ ys. AreNothing ys × (mid.known ≡ u.known)) (λ calls. SendsSome h cs calls u.known) (λ xs ys p q. quiet_on h cs xs ys mid.known u.known p q.0 q.1) first next
 
-  then_request : AreOutcomes → (t mid u : Told registry) (h : History) (rs : List Request) (r : Request) (given : Answer) → ByCalls registry t mid (λ calls. SendsSome h (commands_asked rs) calls mid.known)
+  then_request : AreOutcomes → (t mid u : SessionState registry) (h : History) (rs : List Request) (r : Request) (given : Answer) → ByCalls registry t mid (λ calls. SendsSome h (commands_asked rs) calls mid.known)
       → ByCalls registry mid u (λ calls. IsMeaningMet mid.known (meaning_of r) given calls u.known) → ByCalls registry t u (λ calls. SendsSome h (commands_asked (rs ++ r ∷ [])) calls u.known)
   then_request outcomes t mid u h rs r given first step =
       subst (λ (l : List Asked). ByCalls registry t u (λ calls. SendsSome h l calls u.known)) (commands_snoc rs r)
       (then_send registry t mid u h (commands_asked rs) (if_any (command_sent (meaning_of r))) first (λ next is. met_by registry outcomes mid u next (meaning_of r) given is step) (λ x y is. failed_by registry mid u x y (meaning_of r) given is step))
 
   -- the whole stream was answered
-  all_send : AreOutcomes → (h : History) (o : Outside (Told registry)) (stream : List ℕ) (ending : Ending) (tail : List ℕ) (count : ℕ) → o.handler.known ≡ Live h → AnswersAll (serving registry) o stream ending tail count
+  all_send : AreOutcomes → (h : History) (o : Outside (SessionState registry)) (stream : List ℕ) (ending : Ending) (tail : List ℕ) (count : ℕ) → o.handler.known ≡ Live h → AnswersAll (serving registry) o stream ending tail count
       → SendsOf registry h o.handler o.handler_after stream
   all_send outcomes h o stream ending tail count live a = record {
     requests = a.requests;
@@ -99,7 +99,7 @@ module _ {R : Type 0} (registry : Ghosts R) where
   }
 
   -- a front of it was, and nothing more was sent
-  front_quiet : AreOutcomes → (h : History) (t mid u : Told registry) (stream rest : List ℕ) (taken taken_after : Option (List ℕ)) (count : ℕ) → t.known ≡ Live h
+  front_quiet : AreOutcomes → (h : History) (t mid u : SessionState registry) (stream rest : List ℕ) (taken taken_after : Option (List ℕ)) (count : ℕ) → t.known ≡ Live h
       → AnswersFront (serving registry) (record { handler = t; handler_after = mid; taken = taken; taken_after = taken_after }) stream rest count → ByCalls registry mid u (λ calls. AreNothing calls × (mid.known ≡ u.known))
       → SendsOf registry h t u stream
   front_quiet outcomes h t mid u stream rest taken taken_after count live f next = record {
@@ -109,7 +109,7 @@ module _ {R : Type 0} (registry : Ghosts R) where
   }
 
   -- and then one request more
-  front_then : AreOutcomes → (h : History) (t mid u : Told registry) (stream rest : List ℕ) (taken taken_after : Option (List ℕ)) (count : ℕ) (r : Request) (behind : List ℕ) (given : Answer) → t.known ≡ Live h
+  front_then : AreOutcomes → (h : History) (t mid u : SessionState registry) (stream rest : List ℕ) (taken taken_after : Option (List ℕ)) (count : ℕ) (r : Request) (behind : List ℕ) (given : Answer) → t.known ≡ Live h
       → AnswersFront (serving registry) (record { handler = t; handler_after = mid; taken = taken; taken_after = taken_after }) stream rest count → IsRequest rest r behind
       → ByCalls registry mid u (λ calls. IsMeaningMet mid.known (meaning_of r) given calls u.known) → SendsOf registry h t u stream
   front_then outcomes h t mid u stream rest taken taken_after count r behind given live f is step = record {
@@ -118,13 +118,13 @@ module _ {R : Type 0} (registry : Ghosts R) where
     sends = then_request outcomes t mid u h f.requests r given (replies_send registry outcomes t mid h f.requests f.replies live f.answered) step;
   }
 
-  stopped_sends : AreOutcomes → RequestsStay → (h : History) (o : Outside (Told registry)) (stream : List ℕ) (left : Option (List ℕ)) (count : ℕ) → o.handler.known ≡ Live h → ReadsThen (serving registry) o stream left count (WaitsOver (serving registry))
+  stopped_sends : AreOutcomes → RequestsStay → (h : History) (o : Outside (SessionState registry)) (stream : List ℕ) (left : Option (List ℕ)) (count : ℕ) → o.handler.known ≡ Live h → ReadsThen (serving registry) o stream left count (WaitsOver (serving registry))
       → SendsOf registry h o.handler o.handler_after stream
   stopped_sends outcomes stay h o stream left count live (read, consumed, s) =
       let f = front_quiet outcomes h o.handler s.mid o.handler_after read s.rest o.taken s.taken count live s.before (still s.mid s.rest o.handler_after s.next.0.0) in
       record { requests = f.requests; stand = read_in_front stay stream read left f.requests consumed f.stand; sends = f.sends }
 
-  lacking_sends : AreOutcomes → RequestsStay → (h : History) (o : Outside (Told registry)) (stream : List ℕ) (left : Option (List ℕ)) (count : ℕ) → o.handler.known ≡ Live h → ReadsThen (serving registry) o stream left count (RunsOut (serving registry))
+  lacking_sends : AreOutcomes → RequestsStay → (h : History) (o : Outside (SessionState registry)) (stream : List ℕ) (left : Option (List ℕ)) (count : ℕ) → o.handler.known ≡ Live h → ReadsThen (serving registry) o stream left count (RunsOut (serving registry))
       → SendsOf registry h o.handler o.handler_after stream
   lacking_sends outcomes stay h o stream left count live (read, consumed, s) =
       let f = by_case s.next.0 in
@@ -140,19 +140,19 @@ module _ {R : Type 0} (registry : Ghosts R) where
           front_then outcomes h o.handler s.mid o.handler_after read s.rest o.taken s.taken count request behind b.holds.0 live s.before is
           (record { same_session = b.same_session; more = b.more; joined = b.joined; holds = b.holds.1 })
 
-  broken_sends : AreOutcomes → (h : History) (o : Outside (Told registry)) (stream : List ℕ) (count : ℕ) → o.handler.known ≡ Live h → AnswersThen (serving registry) o stream count (IsCutInReply (serving registry)) → SendsOf registry h o.handler o.handler_after stream
+  broken_sends : AreOutcomes → (h : History) (o : Outside (SessionState registry)) (stream : List ℕ) (count : ℕ) → o.handler.known ≡ Live h → AnswersThen (serving registry) o stream count (IsCutInReply (serving registry)) → SendsOf registry h o.handler o.handler_after stream
   broken_sends outcomes h o stream count live s = by_case s.next.1
     where
       by_case : IsWrittenNext (serving registry) s.mid s.rest s.next.0 o.handler_after → SendsOf registry h o.handler o.handler_after stream
       by_case (ReplyNext request behind given is step e) = front_then outcomes h o.handler s.mid o.handler_after stream s.rest o.taken s.taken count request behind given live s.before is step
-      by_case (HeadNext request behind head told is b e) =
+      by_case (HeadNext request behind head content_length is b e) =
           front_quiet outcomes h o.handler s.mid o.handler_after stream s.rest o.taken s.taken count live s.before
-          (record { same_session = b.same_session; more = b.more; joined = b.joined; holds = promised_so s.mid.known (meaning_of request) head told b.more o.handler_after.known b.holds })
+          (record { same_session = b.same_session; more = b.more; joined = b.joined; holds = promised_so s.mid.known (meaning_of request) head content_length b.more o.handler_after.known b.holds })
       by_case (RefusalNext fault has e rests) =
           front_quiet outcomes h o.handler s.mid o.handler_after stream s.rest o.taken s.taken count live s.before (rests_still (faulty fault) _ s.mid o.handler_after rests)
 
   -- whichever way it ended
-  pub served_sends : AreOutcomes → RequestsStay → (o : Outside (Told registry)) (h : History) (stream : List ℕ) (left : Option (List ℕ)) (end : StreamEnd) (count : ℕ) → o.handler.known ≡ Live h
+  pub served_sends : AreOutcomes → RequestsStay → (o : Outside (SessionState registry)) (h : History) (stream : List ℕ) (left : Option (List ℕ)) (end : StreamEnd) (count : ℕ) → o.handler.known ≡ Live h
       → IsServed (serving registry) o stream left end count → SendsOf registry h o.handler o.handler_after stream
   served_sends outcomes stay o h stream left Clean count live s = all_send outcomes h o stream clean [] count live s
   served_sends outcomes stay o h stream left Closed count live s = all_send outcomes h o stream closed [] count live s
@@ -162,4 +162,4 @@ module _ {R : Type 0} (registry : Ghosts R) where
   served_sends outcomes stay o h stream left Memory count live s = lacking_sends outcomes stay h o stream left count live s
   served_sends outcomes stay o h stream left WriteFault count live s = broken_sends outcomes h o stream count live s
   served_sends outcomes stay o h stream left StoreFault count live s =
-      front_then outcomes h o.handler s.mid o.handler_after stream s.rest o.taken s.taken count s.next.0 s.next.1 (answer_after s.next.3.head s.next.3.told s.next.3.body) live s.before s.next.2 s.next.3.answered
+      front_then outcomes h o.handler s.mid o.handler_after stream s.rest o.taken s.taken count s.next.0 s.next.1 (answer_after s.next.3.head s.next.3.content_length s.next.3.body) live s.before s.next.2 s.next.3.answered

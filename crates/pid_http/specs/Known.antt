@@ -30,18 +30,18 @@ module _ {R : Type 0} (registry : Ghosts R) where
 
   -- What is known of a registry within a session: how it was as that began, the calls since then,
   -- and what is known of it now.
-  pub record Told : Type 0 where
+  pub record SessionState : Type 0 where
     pub start : R
     pub calls : List Call
     pub known : Known
 
   -- the registry is as this says
-  pub record IsToldOf (r : R) (t : Told) : Type 0 where
+  pub record IsStateOf (r : R) (t : SessionState) : Type 0 where
     pub is_known : IsKnownOf r t.known
     pub lead : CallsLead registry.showing t.start t.calls r
 
   -- more calls of the same session led from the one to the other, of which this holds
-  pub record ByCalls (t u : Told) (Holds : List Call → Type 0) : Type 0 where
+  pub record ByCalls (t u : SessionState) (Holds : List Call → Type 0) : Type 0 where
     pub same_session : u.start ≡ t.start
     pub more : List Call
     pub joined : u.calls ≡ t.calls ++ more

@@ -9,7 +9,7 @@ use Rattle.pid_http_stream.specs.Requests.{Request, IsRequest}
 use Rattle.pid_http.specs.Answering.{command_sent, meaning_of}
 use Rattle.pid_http_stream.specs.Serving.{IsServed, Outside}
 use Rattle.pid_http_stream.specs.declared.stream.StreamEnd.{StreamEnd}
-use Rattle.pid_http.specs.Known.{Known, Live, Between, Told, ByCalls}
+use Rattle.pid_http.specs.Known.{Known, Live, Between, SessionState, ByCalls}
 use Rattle.pid_http.specs.Serving.{serving}
 
 -- the command, if there is one
@@ -45,7 +45,7 @@ StandInFront stream (request ∷ requests) = (behind : List ℕ) × IsRequest st
     × StandInFront behind requests
 
 -- the first requests of the stream sent some of their commands
-pub record SendsOf {R : Type 0} (registry : Ghosts R) (h : History) (t u : Told registry)
+pub record SendsOf {R : Type 0} (registry : Ghosts R) (h : History) (t u : SessionState registry)
     (stream : List ℕ) : Type 0 where
   pub requests : List Request
   pub stand : StandInFront stream requests
@@ -54,7 +54,7 @@ pub record SendsOf {R : Type 0} (registry : Ghosts R) (h : History) (t u : Told 
 -- A stream that was served of a registry that showed a history sent it, whichever way it ended,
 -- commands of the first requests of the stream.
 abbrev pub StreamsSend : {R : Type 0} (registry : Ghosts R) → Type 0
-StreamsSend registry = (o : Outside (Told registry)) (h : History) (stream : List ℕ)
+StreamsSend registry = (o : Outside (SessionState registry)) (h : History) (stream : List ℕ)
     (left : Option (List ℕ)) (end : StreamEnd) (count : ℕ) → o.handler.known ≡ Live h
     → IsServed (serving registry) o stream left end count
     → SendsOf registry h o.handler o.handler_after stream

@@ -28,7 +28,7 @@ use Rattle.pid_http.specs.declared.api.format.Format.{Format}
 use Rattle.pid_http.specs.declared.api.question.Question.{Question}
 use Rattle.pid_http.specs.declared.api.question.Question.TheVariants.{Whole, Children}
 use Rattle.pid_http.specs.declared.api.route.Whole.TheVariants.{Export}
-use Rattle.pid_http.specs.Known.{Known, Live, Between, Told, ByCalls}
+use Rattle.pid_http.specs.Known.{Known, Live, Between, SessionState, ByCalls}
 
 -- the calls send nothing, and are at most so many
 abbrev pub AreQuestions : ℕ → List Call → Type 0
@@ -103,17 +103,17 @@ IsMeaningMet (Live h) meaning given calls k = IsMetOver h meaning given calls k
 IsMeaningMet known meaning given calls k = IsFailedAnswer meaning given calls × (k ≡ known)
 
 -- what is said of a text before it is written: its head, and how many bytes it has
-pub record IsTextHead (h : History) (head : ReplyHead) (told : ℕ) : Type 0 where
+pub record IsTextHead (h : History) (head : ReplyHead) (content_length : ℕ) : Type 0 where
   pub status : head.status ≡ 200
   pub content : head.content ≡ Text
-  pub length_is : told ≡ length (print (tree_of h))
+  pub length_is : content_length ≡ length (print (tree_of h))
 
 -- only an export is promised, and only by a registry that is live, by at most one call
 abbrev pub IsPromised : Known → RequestMeaning → ReplyHead → ℕ → List Call → Known → Type 0
-IsPromised (Live h) meaning head told calls k =
+IsPromised (Live h) meaning head content_length calls k =
     ((format : Format) × (meaning ≡ Asks (Whole Export) format))
-    × IsTextHead h head told × AreQuestions 1 calls × (k ≡ Live h)
-IsPromised known meaning head told calls k = ⊥
+    × IsTextHead h head content_length × AreQuestions 1 calls × (k ≡ Live h)
+IsPromised known meaning head content_length calls k = ⊥
 
 -- How many questions a request takes at most whose body broke off. Only an import is obeyed as its
 -- body comes, and one without a sender is refused.
@@ -123,7 +123,7 @@ most_given_up asked s = 0
 
 -- If memory ran out for a reply, what it is a reply to may have been done. A request that was
 -- given up sent nothing.
-abbrev pub serving : {R : Type 0} (registry : Ghosts R) → Conduct (Told registry)
+abbrev pub serving : {R : Type 0} (registry : Ghosts R) → Conduct (SessionState registry)
 serving registry = record {
   answers = λ t request given u. ByCalls registry t u
       (λ calls. IsMeaningMet t.known (meaning_of request) given calls u.known);
@@ -132,6 +132,6 @@ serving registry = record {
   gives_up = λ t head u. ByCalls registry t u (λ calls. AreQuestions
       (most_given_up (question head.method head.target) (sender (fields_of head))) calls
       × (t.known ≡ u.known));
-  promises = λ t request head told u. ByCalls registry t u
-      (λ calls. IsPromised t.known (meaning_of request) head told calls u.known);
+  promises = λ t request head content_length u. ByCalls registry t u
+      (λ calls. IsPromised t.known (meaning_of request) head content_length calls u.known);
 }

@@ -12,6 +12,7 @@ mod command;
 mod early;
 mod field_values;
 mod format;
+mod http_status;
 mod items;
 mod list;
 mod lookup;

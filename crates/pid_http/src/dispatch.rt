@@ -143,7 +143,7 @@ fn rank<R: RegistryQueries>(
 }
 
 // Answers a question.
-fn ask<R: RegistryQueries>(
+fn answer_question<R: RegistryQueries>(
     alloc: Global,
     registry: &mut R,
     question: &Question,
@@ -218,7 +218,7 @@ pub(crate) fn answer<R: RegistryQueries>(
 {
     match *request {
         Request::Refused(early) => early_reply(alloc, early),
-        Request::Asks(ref question, format) => ask(alloc, registry, question, format),
+        Request::Asks(ref question, format) => answer_question(alloc, registry, question, format),
         Request::Obeys(verb, format) => command(alloc, registry, verb, format, sender, body),
     }
 }

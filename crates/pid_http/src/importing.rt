@@ -1,8 +1,8 @@
 //! Imports, whose file is the body of the request, read as it comes.
-ghost use Rattle.std.specs.Prelude.{◌≡◌, [], Some, Err, IfOk, IfSome, option_copied};
-ghost use Rattle.std.specs.Io.KnownBytes.{IsAtEnd};
+ghost use Rattle.std.specs.Prelude.{◌≡◌, [], Some, Err, IfSome, option_copied};
 ghost use Rattle.pid_moderation.specs.Files.{file_reading};
 ghost use Rattle.pid_moderation.specs.BeforeFile.{import_of};
+ghost use Rattle.pid_http_stream.specs.Steps.Bodies.{ReadsOut};
 ghost use Rattle.pid_http.specs.Api.Outcomes.{outcome_answer};
 ghost use Rattle.pid_http.specs.Api.Replying.{MakesReply};
 ghost use Rattle.pid_http.specs.Api.Senders.{sending_in};
@@ -18,7 +18,7 @@ use pid_reader::skip_input;
 use pid_service_laws::{ImportEnd, RegistryQueries};
 use std::alloc::Global;
 
-fn reply_with(
+fn import_reply(
     alloc: Global,
     format: Format,
     outcome: Result<Outcome, Refusal>,
@@ -38,13 +38,12 @@ fn refuse<B: Input>(
     refusal: Refusal,
     body: &mut B,
 ) -> Result<HttpReply, NoReply>
-    ensures goes { B.goes body.old body.new }
-    ensures whole { IfOk result (λ _. IsAtEnd (B.to_come body.new)) }
+    ensures read { ReadsOut B.Input body.old body.new result }
     ensures ended { B.to_come body.old ≡ Some [] → B.to_come body.new ≡ Some [] }
     ensures replied { MakesReply result (outcome_answer format (Err refusal)) }
 {
     match skip_input(LONGEST_BODY, body) {
-        Ok(()) => reply_with(alloc, format, Err(refusal)),
+        Ok(()) => import_reply(alloc, format, Err(refusal)),
         Err(_) => Err(NoReply),
     }
 }
@@ -58,14 +57,13 @@ fn take_in<R: RegistryQueries, B: Input>(
     key: Option<Key>,
     body: &mut B,
 ) -> Result<HttpReply, NoReply>
-    ensures goes { B.goes body.old body.new }
-    ensures whole { IfOk result (λ _. IsAtEnd (B.to_come body.new)) }
+    ensures read { ReadsOut B.Input body.old body.new result }
     ensures replied { RepliesToFile R.RegistryCalls registry.old registry.new
         (B.to_come body.old) (B.to_come body.new)
         (λ file. meanings.Obeys (import_of account key (file_reading file)) format) result }
 {
     match registry.import_from(account, key, body) {
-        Ok(reply) => reply_with(alloc, format, Ok(reply)),
+        Ok(reply) => import_reply(alloc, format, Ok(reply)),
         Err(ImportEnd::Refused(refusal)) => refuse(alloc, format, refusal, body),
         Err(ImportEnd::Body) => Err(NoReply),
     }
@@ -97,8 +95,7 @@ pub(crate) fn import<R: RegistryQueries, B: Input>(
     sender: Option<Sender<'_>>,
     body: &mut B,
 ) -> Result<HttpReply, NoReply>
-    ensures goes { B.goes body.old body.new }
-    ensures whole { IfOk result (λ _. IsAtEnd (B.to_come body.new)) }
+    ensures read { ReadsOut B.Input body.old body.new result }
     ensures replied { RepliesToFile R.RegistryCalls registry.old registry.new
         (B.to_come body.old) (B.to_come body.new)
         (import_meaning format (sending_in sender.entry)) result }

@@ -1,12 +1,6 @@
 //! A stream of requests over a registry.
-ghost use Rattle.std.specs.Prelude.{⊤};
-ghost use Rattle.pid_http_stream.specs.Causes.{EndsFor};
-ghost use Rattle.pid_http_stream.specs.Moments.{AllSince};
-ghost use Rattle.pid_http_stream.specs.Reads.{reader_at};
-ghost use Rattle.pid_http_stream.specs.Serving.{IsCaughtUp, IsServed, outside};
-ghost use Rattle.pid_http.specs.Known.{LivesOn};
-ghost use Rattle.pid_http.specs.Serving.{serving};
-ghost use Rattle.pid_http.specs.Streams.{OverStream};
+ghost use Rattle.pid_http_stream.specs.OneStream.{ServesStream};
+ghost use Rattle.pid_http.specs.Streams.{over};
 
 use crate::api::Routes;
 use crate::handling::Service;
@@ -48,29 +42,12 @@ pub fn serve_stream<R: RegistryQueries, I: Incoming<W>, W: Output>(
 ) -> Served
     // The bytes are the replies to the stream's requests over the histories that the registry
     // shows, and it shows the one after them. The commands of the requests are what the calls of
-    // its session sent it. As `t` a reader takes what is known of the registry at the start:
-    // `start` is this registry, there are no `calls` yet, and `known` is `Live h` if it shows the
-    // history `h`, `Down` if it had failed earlier.
-    ensures served { OverStream R.RegistryCalls registry.old registry.new (I.to_come reader.old)
-        (λ t u stream. IsServed (serving R.RegistryCalls)
-        (outside t u (W.taken writer.old) (W.taken writer.new))
-        stream (I.to_come reader.new) result.end result.answered) }
-    // Whenever the reader was read, the requests that had come were answered, and the writer had
-    // taken the replies.
-    ensures caught_up { OverStream R.RegistryCalls registry.old registry.new (I.to_come reader.old)
-        (λ t _ stream. AllSince (IsCaughtUp (serving R.RegistryCalls) t (W.taken writer.old) stream)
-        (I.moments reader.old) (I.moments reader.new)) }
-    // Whatever the bytes are and wherever it ends, it is a part of the registry's session; and
-    // one that has failed stays as it is.
-    ensures lives { LivesOn R.RegistryCalls registry.old registry.new }
-    ensures ended { EndsFor result.end (record {
-      before = reader_at I.Incoming reader.old;
-      after = reader_at I.Incoming reader.new;
-      write_fault = W.write_fault writer.new;
-      stuck = ⊤;
-      turns = turns;
-    }) }
-    ensures goes { I.goes reader.old reader.new }
+    // its session sent it. As what is known of the registry at the start (`v` of `served`) a reader
+    // takes a `SessionState`: `start` is this registry, there are no `calls` yet, and `known` is `Live h` if
+    // it shows the history `h`, `Down` if it had failed earlier. Wherever it ends, it is a part of
+    // the registry's session (`becomes`); and one that has failed stays as it is.
+    ensures { ServesStream (over R.RegistryCalls) I.Incoming W.Output (registry.old, registry.new)
+        (reader.old, reader.new) (writer.old, writer.new) turns result }
 {
     let Ok(routes) = Routes::new(alloc) else {
         return Served {
@@ -90,22 +67,8 @@ pub fn serve_with<R: RegistryQueries, I: Incoming<W>, W: Output>(
     writer: &mut W,
     turns: u64,
 ) -> Served
-    ensures served { OverStream R.RegistryCalls registry.old registry.new (I.to_come reader.old)
-        (λ t u stream. IsServed (serving R.RegistryCalls)
-        (outside t u (W.taken writer.old) (W.taken writer.new))
-        stream (I.to_come reader.new) result.end result.answered) }
-    ensures caught_up { OverStream R.RegistryCalls registry.old registry.new (I.to_come reader.old)
-        (λ t _ stream. AllSince (IsCaughtUp (serving R.RegistryCalls) t (W.taken writer.old) stream)
-        (I.moments reader.old) (I.moments reader.new)) }
-    ensures lives { LivesOn R.RegistryCalls registry.old registry.new }
-    ensures ended { EndsFor result.end (record {
-      before = reader_at I.Incoming reader.old;
-      after = reader_at I.Incoming reader.new;
-      write_fault = W.write_fault writer.new;
-      stuck = ⊤;
-      turns = turns;
-    }) }
-    ensures goes { I.goes reader.old reader.new }
+    ensures { ServesStream (over R.RegistryCalls) I.Incoming W.Output (registry.old, registry.new)
+        (reader.old, reader.new) (writer.old, writer.new) turns result }
 {
     let mut service = Service {
         alloc,

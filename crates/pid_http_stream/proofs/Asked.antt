@@ -101,21 +101,21 @@ length-padded (suc n) [] = ap suc (length-padded n [])
 length-padded (suc n) (b ∷ bytes) = ap suc (length-padded n bytes)
 
 -- what holds of each request with this head, and the body that its reader was to give
-abbrev Told : (Request → Type 0) → List ℕ → List HeaderSpan → RequestSpans → BodyState → Type 0
-Told P held headers spans A = (request : Request) → IsRequestAt held headers spans request.head → option_map (λ s. padded A.wanted (A.held ++ s)) A.turns.reader.come ≡ Some request.body → length request.body ≤ LONGEST_BODY → P request
+abbrev OfRequest : (Request → Type 0) → List ℕ → List HeaderSpan → RequestSpans → BodyState → Type 0
+OfRequest P held headers spans A = (request : Request) → IsRequestAt held headers spans request.head → option_map (λ s. padded A.wanted (A.held ++ s)) A.turns.reader.come ≡ Some request.body → length request.body ≤ LONGEST_BODY → P request
 
-told_at : (P : Request → Type 0) (held : List ℕ) (headers : List HeaderSpan) (spans : RequestSpans) (w : ℕ) (A B : BodyState) (r : Reading held headers spans w A B) (s : List ℕ)
-    → A.turns.reader.come ≡ Some s → Told P held headers spans A → P (record { head = r.stands.found.0; body = body_of A s })
-told_at P held headers spans w A B r s e told =
+holds_at : (P : Request → Type 0) (held : List ℕ) (headers : List HeaderSpan) (spans : RequestSpans) (w : ℕ) (A B : BodyState) (r : Reading held headers spans w A B) (s : List ℕ)
+    → A.turns.reader.come ≡ Some s → OfRequest P held headers spans A → P (record { head = r.stands.found.0; body = body_of A s })
+holds_at P held headers spans w A B r s e holds =
     let sized = length-padded A.wanted (A.held ++ s) in
     let wanted = r.wanted_is in
     let fits = r.stands.fits in
-    told (record { head = r.stands.found.0; body = body_of A s }) r.stands.found.1 (ap (option_map (λ x. padded A.wanted (A.held ++ x))) e) (omega arith)
+    holds (record { head = r.stands.found.0; body = body_of A s }) r.stands.found.1 (ap (option_map (λ x. padded A.wanted (A.held ++ x))) e) (omega arith)
 
 pub reply_made : {H : Type 0} (conduct : Conduct H) (a b : H) (held : List ℕ) (headers : List HeaderSpan) (spans : RequestSpans) (w : ℕ) (A B : BodyState) → Reading held headers spans w A B → (reply : HttpReply)
-    → B.wanted ≡ 0 → Told (λ request. MayReply conduct a request reply b) held headers spans A
+    → B.wanted ≡ 0 → OfRequest (λ request. MayReply conduct a request reply b) held headers spans A
     → IfSome A.turns.reader.come (λ _. AsksHandler conduct (record { a = a; b = b; input = A.turns.reader.come; input_after = B.turns.reader.come }) (record { held = held; headers = headers; spans = spans; content_length = w }) (asked.Reply reply))
-reply_made conduct a b held headers spans w A B r reply none told = by_known A.turns.reader.come refl
+reply_made conduct a b held headers spans w A B r reply none holds = by_known A.turns.reader.come refl
   where
     by_known : (o : Option (List ℕ)) → A.turns.reader.come ≡ o → IfSome o (λ _. AsksHandler conduct (record { a = a; b = b; input = A.turns.reader.come; input_after = B.turns.reader.come }) (record { held = held; headers = headers; spans = spans; content_length = w }) (asked.Reply reply))
     by_known None e = tt
@@ -126,7 +126,7 @@ reply_made conduct a b held headers spans w A B r reply none told = by_known A.t
           more = k.0;
           before = e ∙ ap Some k.2;
           after = k.1;
-          is = (record { head = r.stands.found.0; body = body_of A s }, whole_request held headers spans w A B r s k.0 none k.2, r.stands.found.1, told_at (λ request. MayReply conduct a request reply b) held headers spans w A B r s e told);
+          is = (record { head = r.stands.found.0; body = body_of A s }, whole_request held headers spans w A B r s k.0 none k.2, r.stands.found.1, holds_at (λ request. MayReply conduct a request reply b) held headers spans w A B r s e holds);
         }
 
 -- it stands still over bytes that begin with that head
@@ -139,9 +139,9 @@ abbrev Lacks : {H : Type 0} → Conduct H → H → H → BodyState → Request 
 Lacks conduct a b B request = StandsStill conduct a request.head b ⊎ (IsAtEnd (option_map (λ y. padded B.wanted (B.held ++ y)) B.turns.reader.come) × conduct.leaves a request b)
 
 pub no_memory : {H : Type 0} (conduct : Conduct H) (a b : H) (held : List ℕ) (headers : List HeaderSpan) (spans : RequestSpans) (w : ℕ) (A B : BodyState) → Reading held headers spans w A B
-    → B.wanted ≡ 0 → Told (Lacks conduct a b B) held headers spans A
+    → B.wanted ≡ 0 → OfRequest (Lacks conduct a b B) held headers spans A
     → IfSome A.turns.reader.come (λ _. AsksHandler conduct (record { a = a; b = b; input = A.turns.reader.come; input_after = B.turns.reader.come }) (record { held = held; headers = headers; spans = spans; content_length = w }) asked.NoMemory)
-no_memory conduct a b held headers spans w A B r none told = by_known A.turns.reader.come refl
+no_memory conduct a b held headers spans w A B r none holds = by_known A.turns.reader.come refl
   where
     lacks : (s more : List ℕ) → s ≡ r.read.came ++ more → Lacks conduct a b B (record { head = r.stands.found.0; body = body_of A s }) → RunsOut conduct a (held ++ r.read.came) b
     lacks s more e (inl stands) =
@@ -153,7 +153,7 @@ no_memory conduct a b held headers spans w A B r none told = by_known A.turns.re
     by_known None e = tt
     by_known (Some s) e =
         let k = known s B.turns.reader.come r.read.came (subst (λ (y : Option (List ℕ)). Consumes y B.turns.reader.come r.read.came) e r.read.consumed) in
-        record { came = r.read.came; more = k.0; before = e ∙ ap Some k.2; after = k.1; is = lacks s k.0 k.2 (told_at (Lacks conduct a b B) held headers spans w A B r s e told) }
+        record { came = r.read.came; more = k.0; before = e ∙ ap Some k.2; after = k.1; is = lacks s k.0 k.2 (holds_at (Lacks conduct a b B) held headers spans w A B r s e holds) }
 
 -- where bytes are still wanted, their reader is not at its end
 not_ended : (B : BodyState) (more : List ℕ) → B.turns.reader.come ≡ Some more → 0 < B.wanted → ¬ (IsAtEnd (option_map (λ y. padded B.wanted (B.held ++ y)) B.turns.reader.come))
@@ -173,15 +173,15 @@ pub record IsLeft {H : Type 0} (conduct : Conduct H) (a b : H) (held came more :
   pub stands : StandsOver conduct a (held ++ came) b
 
 is_left : {H E : Type 0} (conduct : Conduct H) (a b : H) (held : List ℕ) (headers : List HeaderSpan) (spans : RequestSpans) (w : ℕ) (A B : BodyState) (r : Reading held headers spans w A B) (result : Result HttpReply E) (s : List ℕ)
-    → A.turns.reader.come ≡ Some s → 0 < B.wanted → Told (λ request. IsHandled conduct a request result (option_map (λ y. padded B.wanted (B.held ++ y)) B.turns.reader.come) b) held headers spans A → IfOk result (λ _. IsAtEnd (option_map (λ y. padded B.wanted (B.held ++ y)) B.turns.reader.come))
+    → A.turns.reader.come ≡ Some s → 0 < B.wanted → OfRequest (λ request. IsHandled conduct a request result (option_map (λ y. padded B.wanted (B.held ++ y)) B.turns.reader.come) b) held headers spans A → IfOk result (λ _. IsAtEnd (option_map (λ y. padded B.wanted (B.held ++ y)) B.turns.reader.come))
     → (more : List ℕ) × IsLeft conduct a b held r.read.came more A.turns.reader.come B.turns.reader.come
-is_left conduct a b held headers spans w A B r result s e some told whole =
+is_left conduct a b held headers spans w A B r result s e some holds whole =
     let k = known s B.turns.reader.come r.read.came (subst (λ (y : Option (List ℕ)). Consumes y B.turns.reader.come r.read.came) e r.read.consumed) in (
       k.0,
       record {
         before = e ∙ ap Some k.2;
         after = k.1;
-        stands = stands_over conduct a b r.stands.found.0 (held ++ r.read.came) _ (HasHead-append held r.stands.found.0 (drop spans.len held) r.read.came (head_of held headers spans w r.stands)) (stands_of conduct a b (record { head = r.stands.found.0; body = body_of A s }) result (option_map (λ y. padded B.wanted (B.held ++ y)) B.turns.reader.come) (told_at (λ request. IsHandled conduct a request result (option_map (λ y. padded B.wanted (B.held ++ y)) B.turns.reader.come) b) held headers spans w A B r s e told) whole (not_ended B k.0 k.1 some));
+        stands = stands_over conduct a b r.stands.found.0 (held ++ r.read.came) _ (HasHead-append held r.stands.found.0 (drop spans.len held) r.read.came (head_of held headers spans w r.stands)) (stands_of conduct a b (record { head = r.stands.found.0; body = body_of A s }) result (option_map (λ y. padded B.wanted (B.held ++ y)) B.turns.reader.come) (holds_at (λ request. IsHandled conduct a request result (option_map (λ y. padded B.wanted (B.held ++ y)) B.turns.reader.come) b) held headers spans w A B r s e holds) whole (not_ended B k.0 k.1 some));
       },
     )
 
@@ -207,19 +207,19 @@ came_so conduct a b held headers spans w A B r stands = by_length (cases_lt (len
         inr (record { head = r.stands.found.0; body = r.read.used ++ B.held }, drop w (drop spans.len held), stands_request held headers spans w r.stands r.read.came (r.read.used ++ B.held) (drop w (drop spans.len held)) (whole_body (drop spans.len held) r.read.came (r.read.used ++ B.held) w r.n r.n_is given sized) sized, inl stands)
 
 pub left_unread : {H E : Type 0} (conduct : Conduct H) (a b : H) (held : List ℕ) (headers : List HeaderSpan) (spans : RequestSpans) (w : ℕ) (A B : BodyState) (r : Reading held headers spans w A B) (result : Result HttpReply E)
-    → 0 < B.wanted → Told (λ request. IsHandled conduct a request result (option_map (λ y. padded B.wanted (B.held ++ y)) B.turns.reader.come) b) held headers spans A → IfOk result (λ _. IsAtEnd (option_map (λ y. padded B.wanted (B.held ++ y)) B.turns.reader.come))
+    → 0 < B.wanted → OfRequest (λ request. IsHandled conduct a request result (option_map (λ y. padded B.wanted (B.held ++ y)) B.turns.reader.come) b) held headers spans A → IfOk result (λ _. IsAtEnd (option_map (λ y. padded B.wanted (B.held ++ y)) B.turns.reader.come))
     → IfSome A.turns.reader.come (λ _. AsksHandler conduct (record { a = a; b = b; input = A.turns.reader.come; input_after = B.turns.reader.come }) (record { held = held; headers = headers; spans = spans; content_length = w }) asked.NoMemory)
-left_unread {H} conduct a b held headers spans w A B r result some told whole = by_known A.turns.reader.come refl
+left_unread {H} conduct a b held headers spans w A B r result some holds whole = by_known A.turns.reader.come refl
   where
     by_known : (o : Option (List ℕ)) → A.turns.reader.come ≡ o → IfSome o (λ _. AsksHandler conduct (record { a = a; b = b; input = A.turns.reader.come; input_after = B.turns.reader.come }) (record { held = held; headers = headers; spans = spans; content_length = w }) asked.NoMemory)
     by_known None e = tt
     by_known (Some s) e =
-        let l = is_left conduct a b held headers spans w A B r result s e some told whole in
+        let l = is_left conduct a b held headers spans w A B r result s e some holds whole in
         record { came = r.read.came; more = l.0; before = l.1.before; after = l.1.after; is = came_so conduct a b held headers spans w A B r l.1.stands }
 
-broken_told : (held : List ℕ) (headers : List HeaderSpan) (spans : RequestSpans) (w : ℕ) (A B : BodyState) (r : Reading held headers spans w A B) (fault : BodyFault) → B.fault ≡ Some fault → HasBrokenOff B fault
-broken_told held headers spans w A B r fault e =
-    subst (λ (f : Option BodyFault). IfSome f (HasBrokenOff B)) e (r.read.told (subst (λ (f : Option BodyFault). IfSome f (HasBrokenOff A)) (sym r.no_fault) tt))
+broken_holds : (held : List ℕ) (headers : List HeaderSpan) (spans : RequestSpans) (w : ℕ) (A B : BodyState) (r : Reading held headers spans w A B) (fault : BodyFault) → B.fault ≡ Some fault → HasBrokenOff B fault
+broken_holds held headers spans w A B r fault e =
+    subst (λ (f : Option BodyFault). IfSome f (HasBrokenOff B)) e (r.read.caused (subst (λ (f : Option BodyFault). IfSome f (HasBrokenOff A)) (sym r.no_fault) tt))
 
 broken_short : (held : List ℕ) (headers : List HeaderSpan) (spans : RequestSpans) (w : ℕ) (A B : BodyState) (r : Reading held headers spans w A B) (fault : BodyFault) → HasBrokenOff B fault → IsShort (held ++ r.read.came)
 broken_short held headers spans w A B r fault off =
@@ -238,43 +238,43 @@ broken_as conduct a b front came B faults.TurnsSpent input off stands short = (s
 
 -- the body broke off
 pub broken : {H E : Type 0} (conduct : Conduct H) (a b : H) (held : List ℕ) (headers : List HeaderSpan) (spans : RequestSpans) (w : ℕ) (A B : BodyState) (r : Reading held headers spans w A B) (result : Result HttpReply E) (fault : BodyFault)
-    → B.fault ≡ Some fault → Told (λ request. IsHandled conduct a request result (option_map (λ y. padded B.wanted (B.held ++ y)) B.turns.reader.come) b) held headers spans A → IfOk result (λ _. IsAtEnd (option_map (λ y. padded B.wanted (B.held ++ y)) B.turns.reader.come))
+    → B.fault ≡ Some fault → OfRequest (λ request. IsHandled conduct a request result (option_map (λ y. padded B.wanted (B.held ++ y)) B.turns.reader.come) b) held headers spans A → IfOk result (λ _. IsAtEnd (option_map (λ y. padded B.wanted (B.held ++ y)) B.turns.reader.come))
     → IfSome A.turns.reader.come (λ _. AsksHandler conduct (record { a = a; b = b; input = A.turns.reader.come; input_after = B.turns.reader.come }) (record { held = held; headers = headers; spans = spans; content_length = w }) (asked.Broken fault))
-broken {H} conduct a b held headers spans w A B r result fault f told whole = by_known A.turns.reader.come refl
+broken {H} conduct a b held headers spans w A B r result fault f holds whole = by_known A.turns.reader.come refl
   where
     by_known : (o : Option (List ℕ)) → A.turns.reader.come ≡ o → IfSome o (λ _. AsksHandler conduct (record { a = a; b = b; input = A.turns.reader.come; input_after = B.turns.reader.come }) (record { held = held; headers = headers; spans = spans; content_length = w }) (asked.Broken fault))
     by_known None e = tt
     by_known (Some s) e =
-        let off = broken_told held headers spans w A B r fault f in
-        let l = is_left conduct a b held headers spans w A B r result s e off.wants told whole in
+        let off = broken_holds held headers spans w A B r fault f in
+        let l = is_left conduct a b held headers spans w A B r result s e off.wants holds whole in
         record { came = r.read.came; more = l.0; before = l.1.before; after = l.1.after; is = broken_as conduct a b (record { held = held; headers = headers; spans = spans; content_length = w }) r.read.came B fault A.turns.reader.come off l.1.stands (broken_short held headers spans w A B r fault off) }
 
 -- ---- all of it, by what the code tells
 
 asked_whole : {H E : Type 0} (conduct : Conduct H) (a b : H) (held : List ℕ) (headers : List HeaderSpan) (spans : RequestSpans) (w : ℕ) (A B : BodyState) (r : Reading held headers spans w A B) (result : Result HttpReply E)
-    → B.wanted ≡ 0 → Told (λ request. IsHandled conduct a request result (option_map (λ y. padded B.wanted (B.held ++ y)) B.turns.reader.come) b) held headers spans A
+    → B.wanted ≡ 0 → OfRequest (λ request. IsHandled conduct a request result (option_map (λ y. padded B.wanted (B.held ++ y)) B.turns.reader.come) b) held headers spans A
     → IfSome A.turns.reader.come (λ _. AsksHandler conduct (record { a = a; b = b; input = A.turns.reader.come; input_after = B.turns.reader.come }) (record { held = held; headers = headers; spans = spans; content_length = w }) (whole_so result))
-asked_whole conduct a b held headers spans w A B r (Ok reply) none told = reply_made conduct a b held headers spans w A B r reply none told
-asked_whole conduct a b held headers spans w A B r (Err x) none told = no_memory conduct a b held headers spans w A B r none told
+asked_whole conduct a b held headers spans w A B r (Ok reply) none holds = reply_made conduct a b held headers spans w A B r reply none holds
+asked_whole conduct a b held headers spans w A B r (Err x) none holds = no_memory conduct a b held headers spans w A B r none holds
 
 asked_broken : {H E : Type 0} (conduct : Conduct H) (a b : H) (held : List ℕ) (headers : List HeaderSpan) (spans : RequestSpans) (w : ℕ) (A B : BodyState) (r : Reading held headers spans w A B) (result : Result HttpReply E) (fault : Option BodyFault)
-    → B.fault ≡ fault → 0 < B.wanted → Told (λ request. IsHandled conduct a request result (option_map (λ y. padded B.wanted (B.held ++ y)) B.turns.reader.come) b) held headers spans A → IfOk result (λ _. IsAtEnd (option_map (λ y. padded B.wanted (B.held ++ y)) B.turns.reader.come))
+    → B.fault ≡ fault → 0 < B.wanted → OfRequest (λ request. IsHandled conduct a request result (option_map (λ y. padded B.wanted (B.held ++ y)) B.turns.reader.come) b) held headers spans A → IfOk result (λ _. IsAtEnd (option_map (λ y. padded B.wanted (B.held ++ y)) B.turns.reader.come))
     → IfSome A.turns.reader.come (λ _. AsksHandler conduct (record { a = a; b = b; input = A.turns.reader.come; input_after = B.turns.reader.come }) (record { held = held; headers = headers; spans = spans; content_length = w }) (broken_so fault))
-asked_broken conduct a b held headers spans w A B r result None e some told whole = left_unread conduct a b held headers spans w A B r result some told whole
-asked_broken conduct a b held headers spans w A B r result (Some fault) e some told whole = broken conduct a b held headers spans w A B r result fault e told whole
+asked_broken conduct a b held headers spans w A B r result None e some holds whole = left_unread conduct a b held headers spans w A B r result some holds whole
+asked_broken conduct a b held headers spans w A B r result (Some fault) e some holds whole = broken conduct a b held headers spans w A B r result fault e holds whole
 
 some_left : (n : ℕ) → (n == 0) ≡ false → 0 < n
 some_left zero e = cc
 some_left (suc n) e = omega arith
 
 pub asked_is : {H E : Type 0} (conduct : Conduct H) (a b : H) (held : List ℕ) (headers : List HeaderSpan) (spans : RequestSpans) (w : ℕ) (A B : BodyState) (r : Reading held headers spans w A B) (result : Result HttpReply E)
-    → Told (λ request. IsHandled conduct a request result (option_map (λ y. padded B.wanted (B.held ++ y)) B.turns.reader.come) b) held headers spans A → IfOk result (λ _. IsAtEnd (option_map (λ y. padded B.wanted (B.held ++ y)) B.turns.reader.come))
+    → OfRequest (λ request. IsHandled conduct a request result (option_map (λ y. padded B.wanted (B.held ++ y)) B.turns.reader.come) b) held headers spans A → IfOk result (λ _. IsAtEnd (option_map (λ y. padded B.wanted (B.held ++ y)) B.turns.reader.come))
     → IfSome A.turns.reader.come (λ _. AsksHandler conduct (record { a = a; b = b; input = A.turns.reader.come; input_after = B.turns.reader.come }) (record { held = held; headers = headers; spans = spans; content_length = w }) (asked_so result B.wanted B.fault))
-asked_is {H} {E} conduct a b held headers spans w A B r result told whole = by_test (B.wanted == 0) refl
+asked_is {H} {E} conduct a b held headers spans w A B r result holds whole = by_test (B.wanted == 0) refl
   where
     by_test : (t : Bool) → (B.wanted == 0) ≡ t → IfSome A.turns.reader.come (λ _. AsksHandler conduct (record { a = a; b = b; input = A.turns.reader.come; input_after = B.turns.reader.come }) (record { held = held; headers = headers; spans = spans; content_length = w }) (if t then whole_so result else broken_so B.fault))
-    by_test true e = asked_whole conduct a b held headers spans w A B r result (eqb-true B.wanted 0 e) told
-    by_test false e = asked_broken conduct a b held headers spans w A B r result B.fault refl (some_left B.wanted e) told whole
+    by_test true e = asked_whole conduct a b held headers spans w A B r result (eqb-true B.wanted 0 e) holds
+    by_test false e = asked_broken conduct a b held headers spans w A B r result B.fault refl (some_left B.wanted e) holds whole
 
 -- ---- why it stops
 
@@ -297,11 +297,11 @@ asked_stops held headers spans w A B r result = by_test (B.wanted == 0) refl
   where
     by_fault : (f : Option BodyFault) → B.fault ≡ f → (B.turns.reader.fault ≡ A.turns.reader.fault) ⊎ (f ≡ Some faults.ReadFault) → AskStops (broken_so f) A.turns.reader.fault B.turns.reader.fault B.turns.left
     by_fault None e kept = unfailed _ None kept (λ x. cc)
-    by_fault (Some fault) e kept = broken_stops A.turns.reader.fault B fault (broken_told held headers spans w A B r fault e) kept
+    by_fault (Some fault) e kept = broken_stops A.turns.reader.fault B fault (broken_holds held headers spans w A B r fault e) kept
 
     by_test : (t : Bool) → (B.wanted == 0) ≡ t → AskStops (if t then whole_so result else broken_so B.fault) A.turns.reader.fault B.turns.reader.fault B.turns.left
     by_test true e = whole_stops result A.turns.reader.fault B.turns.reader.fault B.turns.left (unfailed _ B.fault r.read.failed (λ f.
-        let wants = (broken_told held headers spans w A B r faults.ReadFault f).wants in
+        let wants = (broken_holds held headers spans w A B r faults.ReadFault f).wants in
         let none : B.wanted ≡ 0 = eqb-true B.wanted 0 e in absurd (omega arith)))
     by_test false e = by_fault B.fault refl r.read.failed
 
@@ -319,7 +319,7 @@ asked_turns held headers spans w A B r result = by_test (B.wanted == 0) refl
   where
     no_fault : (f : Option BodyFault) → B.fault ≡ f → B.wanted ≡ 0 → SpendsTurns (idle_at f) A.turns B.turns → SpendsTurns 0 A.turns B.turns
     no_fault None e none spent = spent
-    no_fault (Some fault) e none spent = let wants = (broken_told held headers spans w A B r fault e).wants in absurd (omega arith)
+    no_fault (Some fault) e none spent = let wants = (broken_holds held headers spans w A B r fault e).wants in absurd (omega arith)
 
     by_test : (t : Bool) → (B.wanted == 0) ≡ t → SpendsTurns (idle_asked (if t then whole_so result else broken_so B.fault)) A.turns B.turns
     by_test true e = whole_turns result A.turns B.turns (no_fault B.fault refl (eqb-true B.wanted 0 e) r.read.turns)

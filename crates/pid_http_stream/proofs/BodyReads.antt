@@ -1,13 +1,13 @@
 -- What one read of a body leaves of it.
 use Rattle.std.proofs.Common.{◌≡◌, ℕ, zero, suc, ◌+◌, ◌-◌, ◌^◌, ◌<◌, ◌≤◌, List, [], ◌∷◌, ◌++◌, length, take, Option, Some, None, Result, Ok, Err, refl, sym, ap, subst, ◌∙◌, append_assoc, length-append, arith, inl, inr}
-use Rattle.std.specs.Prelude.{◌⊎◌, option_map, min, IfSome, IsSome, is_some, is_ok, is_err, true, false, if◌then◌else◌}
+use Rattle.std.specs.Prelude.{◌⊎◌, option_map, min, IfOk, IfSome, IsSome, is_some, is_ok, is_err, true, false, if◌then◌else◌}
 use Rattle.std.specs.Io.KnownBytes.{Consumes, IsAtEnd, Keeps}
 use Rattle.std.proofs.KnownBytes.{Consumes-nil, Consumes-trans}
 use Rattle.std.proofs.lemmas.List.{take-append-le, length-take-le, take_all, append-nil}
 use Rattle.pid_file.specs.Steps.InputCalls.{StaysKept}
 use Rattle.pid_file.specs.declared.io.ReadFault.{ReadFault}
 use Rattle.pid_file.specs.declared.io.ReadFault.TheVariants.{Device}
-use Rattle.pid_http_stream.specs.Steps.Bodies.{padded, fault_told, Turns, SpendsTurns, BodyState, IsCauseOf, HasBrokenOff, IsFaultCaused, IsWithinBody, HasReadBody, idle_at}
+use Rattle.pid_http_stream.specs.Steps.Bodies.{padded, kept_fault, Turns, SpendsTurns, BodyState, IsCauseOf, HasBrokenOff, IsFaultCaused, IsWithinBody, HasReadBody, idle_at}
 use Rattle.pid_http_stream.specs.Steps.BodyLaws.{no_turns, stays_kept}
 use Rattle.pid_ident.specs.Steps.MomentLaws.{since_none, since_so}
 use Rattle.pid_http_stream.specs.Moments.{Moment, AllSince}
@@ -81,26 +81,31 @@ pub none_of : {A : Type 0} (o : Option A) → is_some o ≡ false → o ≡ None
 none_of None e = refl
 none_of (Some x) e = cc
 
--- a fault that is kept is told, and told again
-pub told_some : (f : Option BodyFault) → is_some f ≡ true → fault_told f ≡ Some Device
-told_some None e = cc
-told_some (Some fault) e = refl
+-- a fault that is kept is returned, and returned again
+pub some_kept_by : (f : Option BodyFault) → is_some f ≡ true → kept_fault f ≡ Some Device
+some_kept_by None e = cc
+some_kept_by (Some fault) e = refl
 
-pub told_none : (f : Option BodyFault) → is_some f ≡ false → fault_told f ≡ None
-told_none None e = refl
-told_none (Some fault) e = cc
+pub none_kept_by : (f : Option BodyFault) → is_some f ≡ false → kept_fault f ≡ None
+none_kept_by None e = refl
+none_kept_by (Some fault) e = cc
 
-pub kept_told : {A : Type 0} (r : Result A ReadFault) (f : Option BodyFault) → r ≡ Err Device → IfSome (fault_told f) (λ fault. r ≡ Err fault)
-kept_told r None e = tt
-kept_told r (Some fault) e = e
+pub keeps_kept : {A : Type 0} (r : Result A ReadFault) (f : Option BodyFault) → r ≡ Err Device → IfSome (kept_fault f) (λ fault. r ≡ Err fault)
+keeps_kept r None e = tt
+keeps_kept r (Some fault) e = e
 
-pub none_kept : (f : Option BodyFault) (P : ReadFault → Type 0) → is_some f ≡ false → IfSome (fault_told f) P
+pub none_kept : (f : Option BodyFault) (P : ReadFault → Type 0) → is_some f ≡ false → IfSome (kept_fault f) P
 none_kept None P e = tt
 none_kept (Some fault) P e = cc
 
-pub some_told : {A : Type 0} (o : Option A) (x : A) → o ≡ Some x → IsSome o
-some_told None x e = cc
-some_told (Some y) x e = refl
+-- what holds whatever the result is
+pub if_any : {X E : Type 0} (result : Result X E) (P : Type 0) → P → IfOk result (λ _. P)
+if_any (Ok x) P p = p
+if_any (Err e) P p = tt
+
+pub some_by : {A : Type 0} (o : Option A) (x : A) → o ≡ Some x → IsSome o
+some_by None x e = cc
+some_by (Some y) x e = refl
 
 -- a read that gave something changes no fault: the reader had none, and has none
 pub still_good : {A : Type 0} (x : A) (before now : Option ReadFault) → IfSome before (λ f. Ok x ≡ Err f) → now ≡ None → now ≡ before
@@ -126,7 +131,7 @@ all_of_it (Some s) (Some t) x body c end e =
 
 -- ---- what a read leaves, as the states tell it
 
--- nothing was told before, and nothing is now
+-- there was no fault before, and there is none now
 still_no_fault : (f : Option BodyFault) (s : BodyState) → f ≡ None → s.fault ≡ f → IsFaultCaused s
 still_no_fault f s e same = subst (λ (x : Option BodyFault). IfSome x (HasBrokenOff s)) (sym (same ∙ e)) tt
 
@@ -142,7 +147,7 @@ gave_held f turns u wanted n held behind piece none e l h = record {
   turns = no_turns (idle_at f) turns;
   unread = λ some. refl;
   fault = stays_kept f;
-  told = λ t. still_no_fault f (record { held = behind; wanted = wanted - n; fault = f; turns = turns; taken = u }) none refl;
+  caused = λ t. still_no_fault f (record { held = behind; wanted = wanted - n; fault = f; turns = turns; taken = u }) none refl;
   failed = inl refl;
   taken = refl;
   moments = since_none (IsWithinBody (record { held = held; wanted = wanted; fault = f; turns = turns; taken = u })) turns.reader.moments;
@@ -201,15 +206,15 @@ gave_read f a b u wanted n held piece none e c l h spent wants noted good = reco
   turns = subst (λ (x : Option BodyFault). SpendsTurns (idle_at x) a b) (sym none) spent;
   unread = λ some. no_fault f none some;
   fault = stays_kept f;
-  told = λ t. still_no_fault f (record { held = held; wanted = wanted - n; fault = f; turns = b; taken = u }) none refl;
+  caused = λ t. still_no_fault f (record { held = held; wanted = wanted - n; fault = f; turns = b; taken = u }) none refl;
   failed = inl good;
   taken = refl;
   moments = read_within (record { held = held; wanted = wanted; fault = f; turns = a; taken = u }) b.reader.moments e wants noted;
 }
 
-told_failed : (still kept : Option ReadFault) (fault : BodyFault) → (still ≡ kept) ⊎ (fault ≡ TheReadFault) → (still ≡ kept) ⊎ (Some fault ≡ Some TheReadFault)
-told_failed still kept fault (inl e) = inl e
-told_failed still kept fault (inr e) = inr (ap Some e)
+holds_failed : (still kept : Option ReadFault) (fault : BodyFault) → (still ≡ kept) ⊎ (fault ≡ TheReadFault) → (still ≡ kept) ⊎ (Some fault ≡ Some TheReadFault)
+holds_failed still kept fault (inl e) = inl e
+holds_failed still kept fault (inr e) = inr (ap Some e)
 
 -- no byte was given, and this is the fault now
 pub broke_off : (f : Option BodyFault) (a b : Turns) (u : Option (List ℕ)) (wanted : ℕ) (held : List ℕ) (fault : BodyFault) → f ≡ None → Consumes a.reader.come b.reader.come [] → SpendsTurns (idle_at (Some fault)) a b
@@ -225,14 +230,8 @@ broke_off f a b u wanted held fault none c spent wants none_held noted cause fai
   turns = spent;
   unread = λ some. no_fault f none some;
   fault = subst (λ (x : Option BodyFault). StaysKept x (Some fault)) (sym none) tt;
-  told = λ t. record { wants = wants; none_held = none_held; cause = cause };
-  failed = told_failed b.reader.fault a.reader.fault fault failed;
+  caused = λ t. record { wants = wants; none_held = none_held; cause = cause };
+  failed = holds_failed b.reader.fault a.reader.fault fault failed;
   taken = refl;
   moments = read_within (record { held = held; wanted = wanted; fault = f; turns = a; taken = u }) b.reader.moments none_held wants noted;
 }
-
--- what came is no longer than what was to come
-pub more_than : (known left : Option (List ℕ)) (came : List ℕ) (n : ℕ) → Consumes known left came → n < length came → IfSome known (λ bytes. n < length bytes)
-more_than None left came n c more = tt
-more_than (Some bytes) None came n c more = absurd c
-more_than (Some bytes) (Some rest) came n c more = let lengths : length bytes ≡ length came + length rest = ap length c ∙ length-append came rest in omega (arith, more, lengths)

@@ -23,7 +23,7 @@ pub in_one : {X E : Type 0} (r : Result X E) (old new : Option (List ℕ)) (s p 
 in_one r old new s p a b c d e f g h i j k x = subst (Sends r old new) (in_one_list s p a b c d e f g h i j k) x
 
 pub reply_is : {X E : Type 0} (r : Result X E) (old new : Option (List ℕ)) (answer : Answer) (closes : Bool) (digits phrase content len allow close : List ℕ) → digits ≡ code_digits answer.status → phrase ≡ unwrap_or (reason_phrase answer.status) []
-    → content ≡ type_line answer.content → len ≡ decimal answer.told → allow ≡ allow_line answer.content → close ≡ close_line closes
+    → content ≡ type_line answer.content → len ≡ decimal answer.content_length → allow ≡ allow_line answer.content → close ≡ close_line closes
     → Sends r old new (codes "HTTP/1.1 " ++ digits ++ codes " " ++ phrase ++ codes "\r\n" ++ content ++ codes "Content-Length: " ++ len ++ codes "\r\n" ++ allow ++ close ++ codes "\r\n" ++ answer.body)
     → Sends r old new (reply_bytes answer closes)
 unfolding reply_bytes
@@ -33,27 +33,27 @@ reply_is r old new answer closes digits phrase content len allow close p x q l a
 -- ---- a reply whose body is written by itself
 
 -- the reply with no body is its head
-head_only : (head : ReplyHead) (told : ℕ) (closes : Bool) → reply_bytes (record { status = head.status; content = head.content; told = told; body = [] }) closes ≡ reply_head head.status head.content told closes
+head_only : (head : ReplyHead) (content_length : ℕ) (closes : Bool) → reply_bytes (record { status = head.status; content = head.content; content_length = content_length; body = [] }) closes ≡ reply_head head.status head.content content_length closes
 unfolding reply_bytes
-head_only head told closes = append-nil (reply_head head.status head.content told closes)
+head_only head content_length closes = append-nil (reply_head head.status head.content content_length closes)
 
-pub headed : (head : ReplyHead) (told : ℕ) (closes : Bool) (t u : Option (List ℕ)) → Appends t u (reply_bytes (answer_after head told []) closes) → Appends t u (reply_head head.status head.content told closes)
-headed head told closes t u p = subst (Appends t u) (head_only head told closes) p
+pub headed : (head : ReplyHead) (content_length : ℕ) (closes : Bool) (t u : Option (List ℕ)) → Appends t u (reply_bytes (answer_after head content_length []) closes) → Appends t u (reply_head head.status head.content content_length closes)
+headed head content_length closes t u p = subst (Appends t u) (head_only head content_length closes) p
 
-pub head_front : (head : ReplyHead) (told : ℕ) (closes : Bool) (t u : Option (List ℕ)) → SendsFront t u (reply_bytes (answer_after head told []) closes) → WritesFront t u (reply_head head.status head.content told closes)
-head_front head told closes t u (n, less, p) =
-    subst (WritesFront t u) (head_only head told closes) (n, omega arith, p)
+pub head_front : (head : ReplyHead) (content_length : ℕ) (closes : Bool) (t u : Option (List ℕ)) → SendsFront t u (reply_bytes (answer_after head content_length []) closes) → WritesFront t u (reply_head head.status head.content content_length closes)
+head_front head content_length closes t u (n, less, p) =
+    subst (WritesFront t u) (head_only head content_length closes) (n, omega arith, p)
 
-pub head_then_body : (head : ReplyHead) (told : ℕ) (closes : Bool) (t u v : Option (List ℕ)) (body : List ℕ) → Appends t u (reply_head head.status head.content told closes) → Appends u v body
-    → Appends t v (reply_bytes (record { status = head.status; content = head.content; told = told; body = body }) closes)
+pub head_then_body : (head : ReplyHead) (content_length : ℕ) (closes : Bool) (t u v : Option (List ℕ)) (body : List ℕ) → Appends t u (reply_head head.status head.content content_length closes) → Appends u v body
+    → Appends t v (reply_bytes (record { status = head.status; content = head.content; content_length = content_length; body = body }) closes)
 unfolding reply_bytes
-head_then_body head told closes t u v body p q = Appends-trans t u v (reply_head head.status head.content told closes) body p q
+head_then_body head content_length closes t u v body p q = Appends-trans t u v (reply_head head.status head.content content_length closes) body p q
 
-pub head_then_front : (head : ReplyHead) (told : ℕ) (closes : Bool) (t u v : Option (List ℕ)) (body : List ℕ) → Appends t u (reply_head head.status head.content told closes) → WritesFront u v body
-    → WritesFront t v (reply_bytes (record { status = head.status; content = head.content; told = told; body = body }) closes)
+pub head_then_front : (head : ReplyHead) (content_length : ℕ) (closes : Bool) (t u v : Option (List ℕ)) (body : List ℕ) → Appends t u (reply_head head.status head.content content_length closes) → WritesFront u v body
+    → WritesFront t v (reply_bytes (record { status = head.status; content = head.content; content_length = content_length; body = body }) closes)
 unfolding reply_bytes
-head_then_front head told closes t u v body p (n, less, q) =
-    let front = reply_head head.status head.content told closes in (
+head_then_front head content_length closes t u v body p (n, less, q) =
+    let front = reply_head head.status head.content content_length closes in (
       length front + n,
       (let both = length-append front body in omega arith),
       subst (Appends t v) (sym (take-append-add front body n)) (Appends-trans t u v front (take n body) p q),
@@ -76,18 +76,18 @@ front_then_nothing t u v bytes (n, less, p) q = (n, less, subst (Appends t v) (a
 
 -- ---- a reply that was cut within its body
 
-pub cut_in_body : {H : Type 0} (conduct : Conduct H) (a b c : H) (request : Request) (head : ReplyHead) (told : ℕ) (body : List ℕ) (closing : Bool) (t u v w : Option (List ℕ)) → conduct.promises a request head told b
-    → conduct.answers a request (answer_after head told body) c → Appends t u (reply_head head.status head.content told closing) → WritesFront u v body → Appends v w [] → closes request ≡ closing
+pub cut_in_body : {H : Type 0} (conduct : Conduct H) (a b c : H) (request : Request) (head : ReplyHead) (content_length : ℕ) (body : List ℕ) (closing : Bool) (t u v w : Option (List ℕ)) → conduct.promises a request head content_length b
+    → conduct.answers a request (answer_after head content_length body) c → Appends t u (reply_head head.status head.content content_length closing) → WritesFront u v body → Appends v w [] → closes request ≡ closing
     → IsCutInBody conduct request (record { handler = a; handler_after = c; taken = t; taken_after = w })
-cut_in_body conduct a b c request head told body closing t u v w promised answered p q none e =
+cut_in_body conduct a b c request head content_length body closing t u v w promised answered p q none e =
     let front = front_then_nothing u v w body q none in record {
       head = head;
-      told = told;
+      content_length = content_length;
       middle = b;
       promised = promised;
       body = body;
       answered = answered;
       count = front.0;
       front = front.1;
-      written = subst (λ (x : Bool). Appends t w (reply_head head.status head.content told x ++ take front.0 body)) (sym e) (Appends-trans t u w (reply_head head.status head.content told closing) (take front.0 body) p front.2);
+      written = subst (λ (x : Bool). Appends t w (reply_head head.status head.content content_length x ++ take front.0 body)) (sym e) (Appends-trans t u w (reply_head head.status head.content content_length closing) (take front.0 body) p front.2);
     }

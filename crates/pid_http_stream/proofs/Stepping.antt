@@ -59,33 +59,33 @@ sent_step conduct a c request came more rest u v false (Ok x) is e (answer, answ
     record { request = request; is = is; answer = answer; answered = answered; written = subst (λ (x : Bool). Appends u v (reply_bytes answer x)) (sym e) written; closes_so = e }
 sent_step conduct a c request came more rest u v closing (Err Writer) is e (inl (answer, answered, written)) =
     (reply_bytes answer closing, ReplyNext request (rest ++ more) answer (IsRequest-append came request rest more is) answered (ap (reply_bytes answer) (sym e)), written)
-sent_step conduct a c request came more rest u v closing (Err Writer) is e (inr (head, told, promised, written)) =
-    (reply_head head.status head.content told closing, HeadNext request (rest ++ more) head told (IsRequest-append came request rest more is) promised (ap (reply_head head.status head.content told) (sym e)), written)
+sent_step conduct a c request came more rest u v closing (Err Writer) is e (inr (head, content_length, promised, written)) =
+    (reply_head head.status head.content content_length closing, HeadNext request (rest ++ more) head content_length (IsRequest-append came request rest more is) promised (ap (reply_head head.status head.content content_length) (sym e)), written)
 sent_step conduct a c request came more rest u v closing (Err Store) is e cut = (request, rest ++ more, IsRequest-append came request rest more is, cut e)
 
 if_known : (o : Option (List ℕ)) (P Q : Type 0) → (P → Q) → IfSome o (λ _. P) → IfSome o (λ _. Q)
 if_known None P Q f p = tt
 if_known (Some x) P Q f p = f p
 
-pub replied_step : {H : Type 0} (conduct : Conduct H) (a b c : H) (input left u v : Option (List ℕ)) (held : List ℕ) (headers : List HeaderSpan) (spans : RequestSpans) (told : ℕ) (reply : HttpReply) (s : Result (Unit {0}) BodyStop) (closing : Bool)
-    → IfSome input (λ _. AsksHandler conduct (record { a = a; b = b; input = input; input_after = left }) (record { held = held; headers = headers; spans = spans; content_length = told }) (asked.Reply reply))
+pub replied_step : {H : Type 0} (conduct : Conduct H) (a b c : H) (input left u v : Option (List ℕ)) (held : List ℕ) (headers : List HeaderSpan) (spans : RequestSpans) (content_length : ℕ) (reply : HttpReply) (s : Result (Unit {0}) BodyStop) (closing : Bool)
+    → IfSome input (λ _. AsksHandler conduct (record { a = a; b = b; input = input; input_after = left }) (record { held = held; headers = headers; spans = spans; content_length = content_length }) (asked.Reply reply))
     → ((x : H) (request : Request) → MayReply conduct x request reply b → IsSent conduct (record { handler = x; handler_after = c; taken = u; taken_after = v }) (record { request = request; closing = closing }) s)
     → ((head : RequestHead) → IsRequestAt held headers spans head → closing ≡ asks_to_close head.minor (fields_of head))
-    → IfSome input (λ _. Steps conduct (record { handler = a; handler_after = c; taken = u; taken_after = v }) (record { input = input; input_after = left; held = held; held_after = drop (spans.len + told) held }) (answered_so s closing))
-replied_step conduct a b c input left u v held headers spans told reply s closing asks sends closes_so = if_known input _ _ (λ x.
+    → IfSome input (λ _. Steps conduct (record { handler = a; handler_after = c; taken = u; taken_after = v }) (record { input = input; input_after = left; held = held; held_after = drop (spans.len + content_length) held }) (answered_so s closing))
+replied_step conduct a b c input left u v held headers spans content_length reply s closing asks sends closes_so = if_known input _ _ (λ x.
     record {
       came = x.came;
       more = x.more;
       before = x.before;
       after = x.after;
-      is = sent_step conduct a c x.is.0 (held ++ x.came) x.more (drop (spans.len + told) held) u v closing s x.is.1 (sym (closes_so x.is.0.head x.is.2)) (sends a x.is.0 x.is.3);
+      is = sent_step conduct a c x.is.0 (held ++ x.came) x.more (drop (spans.len + content_length) held) u v closing s x.is.1 (sym (closes_so x.is.0.head x.is.2)) (sends a x.is.0 x.is.3);
     }) asks
 
 -- memory was refused
-pub memory_step : {H : Type 0} (conduct : Conduct H) (a b : H) (input left u : Option (List ℕ)) (held : List ℕ) (headers : List HeaderSpan) (spans : RequestSpans) (told : ℕ)
-    → IfSome input (λ _. AsksHandler conduct (record { a = a; b = b; input = input; input_after = left }) (record { held = held; headers = headers; spans = spans; content_length = told }) asked.NoMemory)
-    → IfSome input (λ _. Steps conduct (record { handler = a; handler_after = b; taken = u; taken_after = u }) (record { input = input; input_after = left; held = held; held_after = drop (spans.len + told) held }) (Err ends.Memory))
-memory_step conduct a b input left u held headers spans told asks = if_known input _ _ (λ x.
+pub memory_step : {H : Type 0} (conduct : Conduct H) (a b : H) (input left u : Option (List ℕ)) (held : List ℕ) (headers : List HeaderSpan) (spans : RequestSpans) (content_length : ℕ)
+    → IfSome input (λ _. AsksHandler conduct (record { a = a; b = b; input = input; input_after = left }) (record { held = held; headers = headers; spans = spans; content_length = content_length }) asked.NoMemory)
+    → IfSome input (λ _. Steps conduct (record { handler = a; handler_after = b; taken = u; taken_after = u }) (record { input = input; input_after = left; held = held; held_after = drop (spans.len + content_length) held }) (Err ends.Memory))
+memory_step conduct a b input left u held headers spans content_length asks = if_known input _ _ (λ x.
     record { came = x.came; more = x.more; before = x.before; after = x.after; is = (x.is, refl) }) asks
 
 no_more : (left : Option (List ℕ)) (came more : List ℕ) → left ≡ Some more → IsAtEnd left → came ++ more ≡ came
@@ -102,32 +102,32 @@ short_ends conduct a b came behind all u v ends.Memory stands short r = absurd r
 short_ends conduct a b came behind all u v ends.TurnsSpent stands short r = absurd r
 
 -- the body broke off
-pub broken_step : {H : Type 0} (conduct : Conduct H) (a b : H) (input left u v : Option (List ℕ)) (held : List ℕ) (headers : List HeaderSpan) (spans : RequestSpans) (told : ℕ) (fault : BodyFault) (end : StreamEnd)
-    → IfSome input (λ _. AsksHandler conduct (record { a = a; b = b; input = input; input_after = left }) (record { held = held; headers = headers; spans = spans; content_length = told }) (asked.Broken fault)) → EndsBroken fault u v end
-    → IfSome input (λ _. Steps conduct (record { handler = a; handler_after = b; taken = u; taken_after = v }) (record { input = input; input_after = left; held = held; held_after = drop (spans.len + told) held }) (Err end))
-broken_step conduct a b input left u v held headers spans told faults.Short end asks r = if_known input _ _ (λ x.
+pub broken_step : {H : Type 0} (conduct : Conduct H) (a b : H) (input left u v : Option (List ℕ)) (held : List ℕ) (headers : List HeaderSpan) (spans : RequestSpans) (content_length : ℕ) (fault : BodyFault) (end : StreamEnd)
+    → IfSome input (λ _. AsksHandler conduct (record { a = a; b = b; input = input; input_after = left }) (record { held = held; headers = headers; spans = spans; content_length = content_length }) (asked.Broken fault)) → EndsBroken fault u v end
+    → IfSome input (λ _. Steps conduct (record { handler = a; handler_after = b; taken = u; taken_after = v }) (record { input = input; input_after = left; held = held; held_after = drop (spans.len + content_length) held }) (Err end))
+broken_step conduct a b input left u v held headers spans content_length faults.Short end asks r = if_known input _ _ (λ x.
     record {
       came = x.came;
       more = x.more;
       before = x.before;
       after = x.after;
-      is = short_ends conduct a b (held ++ x.came) (drop (spans.len + told) held) ((held ++ x.came) ++ x.more) u v end (subst (λ (l : List ℕ). StandsOver conduct a l b) (sym (no_more left (held ++ x.came) x.more x.after x.is.1)) x.is.0) (subst IsShort (sym (no_more left (held ++ x.came) x.more x.after x.is.1)) x.is.2) r;
+      is = short_ends conduct a b (held ++ x.came) (drop (spans.len + content_length) held) ((held ++ x.came) ++ x.more) u v end (subst (λ (l : List ℕ). StandsOver conduct a l b) (sym (no_more left (held ++ x.came) x.more x.after x.is.1)) x.is.0) (subst IsShort (sym (no_more left (held ++ x.came) x.more x.after x.is.1)) x.is.2) r;
     }) asks
-broken_step conduct a b input left u v held headers spans told faults.ReadFault end asks (e, same) = if_known input _ _ (λ x.
+broken_step conduct a b input left u v held headers spans content_length faults.ReadFault end asks (e, same) = if_known input _ _ (λ x.
     record {
       came = x.came;
       more = x.more;
       before = x.before;
       after = x.after;
-      is = subst (EndsWithin conduct (record { handler = a; handler_after = b; taken = u; taken_after = v }) (record { came = held ++ x.came; behind = drop (spans.len + told) held; all = (held ++ x.came) ++ x.more })) (sym e) (x.is, same);
+      is = subst (EndsWithin conduct (record { handler = a; handler_after = b; taken = u; taken_after = v }) (record { came = held ++ x.came; behind = drop (spans.len + content_length) held; all = (held ++ x.came) ++ x.more })) (sym e) (x.is, same);
     }) asks
-broken_step conduct a b input left u v held headers spans told faults.TurnsSpent end asks (e, same) = if_known input _ _ (λ x.
+broken_step conduct a b input left u v held headers spans content_length faults.TurnsSpent end asks (e, same) = if_known input _ _ (λ x.
     record {
       came = x.came;
       more = x.more;
       before = x.before;
       after = x.after;
-      is = subst (EndsWithin conduct (record { handler = a; handler_after = b; taken = u; taken_after = v }) (record { came = held ++ x.came; behind = drop (spans.len + told) held; all = (held ++ x.came) ++ x.more })) (sym e) (x.is, same);
+      is = subst (EndsWithin conduct (record { handler = a; handler_after = b; taken = u; taken_after = v }) (record { came = held ++ x.came; behind = drop (spans.len + content_length) held; all = (held ++ x.came) ++ x.more })) (sym e) (x.is, same);
     }) asks
 
 -- ---- why the stream ends

@@ -14,7 +14,7 @@ use Rattle.pid_http_stream.specs.declared.handler.ReplyBody.TheVariants.{Bytes, 
 abbrev pub IsBodyFor : {H : Type 0} → Conduct H → H → Request → ReplyHead → ReplyBody → H → Type 0
 IsBodyFor conduct a request head (Bytes body) b = conduct.answers a request
     (answer_with head.status head.content body.items) b
-IsBodyFor conduct a request head (Written told) b = conduct.promises a request head told b
+IsBodyFor conduct a request head (Written content_length) b = conduct.promises a request head content_length b
 
 -- the handler may reply so
 abbrev pub MayReply : {H : Type 0} → Conduct H → H → Request → HttpReply → H → Type 0

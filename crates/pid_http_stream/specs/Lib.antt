@@ -17,6 +17,7 @@ pub use Rattle.pid_ident.specs.Reads
 pub mod Conducts
 pub mod Serving
 pub mod Causes
+pub mod OneStream
 pub mod Handling
 pub mod Laws
 pub mod Steps

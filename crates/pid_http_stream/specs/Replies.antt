@@ -16,18 +16,18 @@ use Rattle.pid_http_stream.specs.declared.reply_head.Content.TheVariants.{AllowB
 pub record Answer : Type 0 where
   pub status : ℕ
   pub content : Content
-  pub told : ℕ
+  pub content_length : ℕ
   pub body : List ℕ
 
 -- an answer whose length is that of its body
 abbrev pub answer_with : ℕ → Content → List ℕ → Answer
 answer_with status content body =
-    record { status = status; content = content; told = length body; body = body }
+    record { status = status; content = content; content_length = length body; body = body }
 
 -- an answer with this head, whose body the handler writes itself, after the length it stated
 abbrev pub answer_after : ReplyHead → ℕ → List ℕ → Answer
-answer_after head told body =
-    record { status = head.status; content = head.content; told = told; body = body }
+answer_after head content_length body =
+    record { status = head.status; content = head.content; content_length = content_length; body = body }
 
 -- the first line of a reply: the status, and its phrase, as the crate `http` has it
 abbrev pub status_line : ℕ → List ℕ
@@ -55,14 +55,14 @@ close_line false = []
 
 -- the head of a reply: the lines in their order, and an empty line
 abbrev pub reply_head : ℕ → Content → ℕ → Bool → List ℕ
-reply_head status content told closes =
-    status_line status ++ type_line content ++ codes "Content-Length: " ++ decimal told
+reply_head status content content_length closes =
+    status_line status ++ type_line content ++ codes "Content-Length: " ++ decimal content_length
     ++ codes "\r\n"
     ++ allow_line content ++ close_line closes ++ codes "\r\n"
 
 -- the bytes of the reply
 unfoldable pub reply_bytes : Answer → Bool → List ℕ
-reply_bytes answer closes = reply_head answer.status answer.content answer.told closes
+reply_bytes answer closes = reply_head answer.status answer.content answer.content_length closes
     ++ answer.body
 
 -- the answer to a stream with a fault, as JSON

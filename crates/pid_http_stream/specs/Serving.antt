@@ -91,9 +91,9 @@ pub data IsWrittenNext {H : Type 0} (conduct : Conduct H) (a : H) (rest bytes : 
       → IsRequest rest request behind → conduct.answers a request answer b
       → bytes ≡ reply_bytes answer (closes request) → IsWrittenNext conduct a rest bytes b
   -- the head of a reply to it, whose body the handler promised to write and was not asked for
-  HeadNext : (request : Request) (behind : List ℕ) (head : ReplyHead) (told : ℕ)
-      → IsRequest rest request behind → conduct.promises a request head told b
-      → bytes ≡ reply_head head.status head.content told (closes request)
+  HeadNext : (request : Request) (behind : List ℕ) (head : ReplyHead) (content_length : ℕ)
+      → IsRequest rest request behind → conduct.promises a request head content_length b
+      → bytes ≡ reply_head head.status head.content content_length (closes request)
       → IsWrittenNext conduct a rest bytes b
   -- the refusal of the rest
   RefusalNext : (fault : StreamFault) → HasFault rest fault
@@ -111,15 +111,15 @@ IsCutInReply conduct rest o = (bytes : List ℕ)
 pub record IsCutInBody {H : Type 0} (conduct : Conduct H) (request : Request) (o : Outside H)
     : Type 0 where
   pub head : ReplyHead
-  pub told : ℕ
+  pub content_length : ℕ
   pub middle : H
-  pub promised : conduct.promises o.handler request head told middle
+  pub promised : conduct.promises o.handler request head content_length middle
   pub body : List ℕ
-  pub answered : conduct.answers o.handler request (answer_after head told body) o.handler_after
+  pub answered : conduct.answers o.handler request (answer_after head content_length body) o.handler_after
   pub count : ℕ
   pub front : count ≤ length body
   pub written : Appends o.taken o.taken_after
-      (reply_head head.status head.content told (closes request) ++ take count body)
+      (reply_head head.status head.content content_length (closes request) ++ take count body)
 
 -- so was the reply to the request with which the rest begins
 abbrev pub IsCutNext : {H : Type 0} → Conduct H → List ℕ → Outside H → Type 0

@@ -50,13 +50,13 @@ fn give_front<'h>(held: &'h [u8], buffer: &mut [u8]) -> (usize, &'h [u8])
 impl<I: Incoming<W>, W: Output> Input for BodyInput<'_, '_, '_, I, W> {
     ghost use Rattle.std.specs.Prelude.{◌≡◌, ◌++◌, option_map};
     ghost use Rattle.std.proofs.Common.{refl, ◌∙◌};
-    ghost use Rattle.pid_http_stream.specs.Steps.Bodies.{padded, fault_told, HasReadBody, turns_at};
+    ghost use Rattle.pid_http_stream.specs.Steps.Bodies.{padded, kept_fault, HasReadBody, turns_at};
     ghost use Rattle.pid_http_stream.specs.Steps.BodyLaws.{no_body_reads, more_body_reads};
 
     ghost to_come = { λ b. option_map (λ s. padded b.wanted (b.held.now ++ s))
         (I.to_come b.input.now) };
 
-    ghost read_fault = { λ b. fault_told b.fault };
+    ghost read_fault = { λ b. kept_fault b.fault };
 
     ghost reads = { λ b. b.reads };
 

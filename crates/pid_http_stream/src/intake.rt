@@ -3,7 +3,6 @@ ghost use Rattle.std.specs.Prelude.{
   ◌≡◌,
   ℕ,
   ◌+◌,
-  ◌*◌,
   ◌≤◌,
   List,
   length,
@@ -18,21 +17,9 @@ ghost use Rattle.std.specs.Io.KnownBytes.{IsAtEnd};
 ghost use Rattle.httparse.specs.Grammar.{HasNoRequest as HasNoHeadYet};
 ghost use Rattle.httparse.specs.declared.spans.HeaderSpan.{HeaderSpan as FieldSpan};
 ghost use Rattle.pid_file.specs.declared.io.ReadFault.{ReadFault};
-ghost use Rattle.pid_http_stream.specs.Steps.Bodies.{SpendsTurns, turns_at};
-ghost use Rattle.pid_http_stream.specs.Steps.Intakes.{
-  ComesIn,
-  FillStops,
-  HeadStops,
-  IsHeadRead,
-  IsHeadJudged,
-  IsMoment,
-  WaitsForRequest,
-  StaysBut,
-  filled_by as filled_so,
-  idle_filled,
-  idle_head,
-};
-ghost use Rattle.pid_http_stream.specs.Moments.{AllSince};
+ghost use Rattle.pid_http_stream.specs.Steps.Intakes.{HeadStops, IsHeadJudged, IsHeadRead};
+ghost use Rattle.pid_http_stream.specs.Steps.Intakes.{ReadsHead, ReadsMore, idle_head};
+ghost use Rattle.pid_http_stream.specs.Steps.Intakes.{filled_by as filled_so, intake as intake_at};
 ghost use Rattle.pid_http_stream.specs.Unfinished.{IsHeadUnfinished, IsUnfinished};
 
 use crate::body_input::BodyFault;
@@ -100,20 +87,10 @@ fn read_more<I: Incoming<W>, W: Output>(
     input: &mut I,
     output: &W,
 ) -> Filled
-    requires waits { IsUnfinished held.old.items }
-    ensures comes { ComesIn held.old.items held.new.items (I.to_come input.old)
-        (I.to_come input.new) }
-    ensures stays { StaysBut held.old.items held.new.items (I.to_come input.new) result }
-    ensures piece { result ≡ Filled.Piece → (turns_left.new + 1 ≡ turns_left.old)
-        × (length held.new.items ≤ length held.old.items + READ_SIZE) }
-    ensures turns { SpendsTurns (idle_filled result)
-        (turns_at I.Incoming input.old turns_left.old)
-        (turns_at I.Incoming input.new turns_left.new) }
-    ensures noted { AllSince (IsMoment (I.to_come input.old) (W.taken output.now))
-        (I.moments input.old) (I.moments input.new) }
-    ensures stopped { FillStops result (I.read_fault input.old) (I.read_fault input.new)
-        turns_left.new }
-    ensures goes { I.goes input.old input.new }
+    requires { IsUnfinished held.old.items }
+    ensures { ReadsMore I.Incoming (W.taken output.now)
+        (intake_at held.old.items input.old turns_left.old)
+        (intake_at held.new.items input.new turns_left.new) result }
 {
     if held.reserve(READ_SIZE).is_err() {
         return Filled::Stopped(Stop::Memory);
@@ -170,20 +147,9 @@ pub(crate) fn read_head<I: Incoming<W>, W: Output>(
     fields: &mut [HeaderSpan],
 ) -> HeadRead
     requires { length fields.old ≡ MOST_FIELDS }
-    ensures comes { ComesIn held.old.items held.new.items (I.to_come input.old)
-        (I.to_come input.new) }
-    ensures head { IsHeadRead held.new.items fields.new (I.to_come input.new) result }
-    ensures turns { SpendsTurns (idle_head result)
-        (turns_at I.Incoming input.old turns_left.old)
-        (turns_at I.Incoming input.new turns_left.new) }
-    ensures pace { turns_left.new * READ_SIZE + length held.new.items
-        ≤ turns_left.old * READ_SIZE + length held.old.items }
-    ensures waits { AllSince
-        (WaitsForRequest held.old.items (I.to_come input.old) (W.taken output.now))
-        (I.moments input.old) (I.moments input.new) }
-    ensures stopped { HeadStops result (I.read_fault input.old) (I.read_fault input.new)
-        turns_left.new }
-    ensures goes { I.goes input.old input.new }
+    ensures { ReadsHead I.Incoming (W.taken output.now) fields.new
+        (intake_at held.old.items input.old turns_left.old)
+        (intake_at held.new.items input.new turns_left.new) result }
 {
     let mut judged = judge(held, fields);
     'reading: loop {

@@ -11,26 +11,17 @@ ghost use Rattle.std.specs.Prelude.{
   drop,
   min,
   Some,
-  IfOk,
-  IfSome,
 };
-ghost use Rattle.std.specs.Io.KnownBytes.{Consumes, IsAtEnd};
 ghost use Rattle.httparse.specs.Grammar.{RequestHead};
-ghost use Rattle.pid_http_stream.specs.Steps.Bodies.{SpendsTurns, turns_at};
+ghost use Rattle.pid_http_stream.specs.Steps.Bodies.{ReadsOut, ReadsWhole};
 ghost use Rattle.pid_http_stream.specs.declared.limits.TheConstants.{LONGEST_BODY};
 ghost use Rattle.pid_http_stream.specs.Handling.{IsHandled};
-ghost use Rattle.pid_http_stream.specs.Steps.Intakes.{AskStops, WaitsForRequest, idle_asked};
 ghost use Rattle.pid_http_stream.specs.HeadParts.{IsHeadOf};
 ghost use Rattle.pid_http_stream.specs.Leading.{Leads};
-ghost use Rattle.pid_http_stream.specs.Moments.{AllSince};
+ghost use Rattle.pid_http_stream.specs.OneStream.{answering};
 ghost use Rattle.pid_http_stream.specs.Requests.{Request};
-ghost use Rattle.pid_http_stream.specs.Steps.Loop.{
-  AsksHandler,
-  HeadStands,
-  around,
-  asked_so,
-  front_head,
-};
+ghost use Rattle.pid_http_stream.specs.Steps.Loop.{AsksOver, HeadStands, asked_so, attending};
+ghost use Rattle.pid_http_stream.specs.Steps.Loop.{front_head};
 
 use crate::body_input::{BodyFault, BodyInput};
 use crate::handler::{Handler, HttpReply, NoReply, Wanted};
@@ -56,9 +47,7 @@ fn read_into<B: Input>(
     bytes: &mut Vec<u8>,
 ) -> Result<(), NoReply>
     requires { bytes.old.items ≡ [] }
-    ensures whole { IfOk result (λ _. Consumes (B.to_come body.old) (B.to_come body.new)
-        bytes.new.items × IsAtEnd (B.to_come body.new)) }
-    ensures goes { B.goes body.old body.new }
+    ensures { ReadsWhole B.Input (λ _. bytes.new.items) body.old body.new result }
 {
     let mut buffer = [0u8; READ_SIZE];
     for _ in 0..=content_length {
@@ -81,9 +70,7 @@ fn read_whole<B: Input>(
     content_length: usize,
     body: &mut B,
 ) -> Result<Vec<u8>, NoReply>
-    ensures whole { IfOk result (λ v. Consumes (B.to_come body.old) (B.to_come body.new) v.items
-        × IsAtEnd (B.to_come body.new)) }
-    ensures goes { B.goes body.old body.new }
+    ensures { ReadsWhole B.Input (λ bytes. bytes.items) body.old body.new result }
 {
     let Ok(mut bytes) = Vec::with_capacity(alloc, content_length) else {
         return Err(NoReply);
@@ -102,8 +89,7 @@ fn ask<H: Handler, B: Input>(
     content_length: usize,
     body: &mut B,
 ) -> Result<HttpReply, NoReply>
-    ensures goes { B.goes body.old body.new }
-    ensures whole { IfOk result (λ _. IsAtEnd (B.to_come body.new)) }
+    ensures body { ReadsOut B.Input body.old body.new result }
     ensures becomes { H.becomes handler.old handler.new }
     ensures answered { Leads H.is_good H.stands handler.old handler.new
         (λ v w. (request : Request) → IsHeadOf head.now request.head
@@ -160,19 +146,10 @@ pub(crate) fn ask_over<H: Handler, I: Incoming<W>, W: Output>(
     output: &W,
 ) -> Asked
     requires { HeadStands head.now content_length }
-    ensures becomes { H.becomes handler.old handler.new }
-    ensures asked { Leads H.is_good H.stands handler.old handler.new
-        (λ v w. IfSome (I.to_come input.old) (λ _. AsksHandler H.conduct
-        (around v w (I.to_come input.old) (I.to_come input.new))
-        (front_head head.now content_length) result)) }
-    ensures turns { SpendsTurns (idle_asked result)
-        (turns_at I.Incoming input.old turns_left.old)
-        (turns_at I.Incoming input.new turns_left.new) }
-    ensures waits { AllSince (WaitsForRequest head.now.bytes.now (I.to_come input.old)
-        (W.taken output.now)) (I.moments input.old) (I.moments input.new) }
-    ensures stopped { AskStops result (I.read_fault input.old) (I.read_fault input.new)
-        turns_left.new }
-    ensures goes { I.goes input.old input.new }
+    ensures { AsksOver (answering H.Handler) I.Incoming W.Output
+        (front_head head.now content_length)
+        (attending handler.old input.old output.now turns_left.old)
+        (attending handler.new input.new output.now turns_left.new) result }
 {
     let mut body = BodyInput {
         held: came_with(head, content_length),

@@ -1,7 +1,7 @@
 //! The bytes of a reply.
-ghost use Rattle.std.specs.Prelude.{◌≡◌, ◌++◌, [], codes, IfErr, Some, unwrap_or};
+ghost use Rattle.std.specs.Prelude.{◌≡◌, ◌++◌, [], codes, unwrap_or};
 ghost use Rattle.http.specs.StatusCode.{reason_phrase};
-ghost use Rattle.pid_ident.specs.Sending.{Sends};
+ghost use Rattle.pid_file.specs.Writing.{use_of};
 ghost use Rattle.pid_http_stream.specs.Replies.{
   type_line as line_of_type,
   allow_line as line_of_allow,
@@ -9,6 +9,7 @@ ghost use Rattle.pid_http_stream.specs.Replies.{
   reply_bytes,
   answer_after,
 };
+ghost use Rattle.pid_http_stream.specs.Steps.Loop.{SendsAll};
 ghost use Rattle.pid_http_stream.specs.StreamFaults.{fault_text as text_of_fault};
 
 use crate::refusal::StreamFault;
@@ -69,11 +70,10 @@ fn write_lines<'x, W: Output>(
     close: &'x [u8],
     body: &'x [u8],
 ) -> Result<(), WriteFault>
-    ensures sent { Sends result (W.taken out.old) (W.taken out.new)
+    ensures { SendsAll (use_of W.Output out.old out.new)
         (codes "HTTP/1.1 " ++ status.now ++ codes " " ++ phrase.now ++ codes "\r\n"
         ++ content.now ++ codes "Content-Length: " ++ length.now ++ codes "\r\n"
-        ++ allow.now ++ close.now ++ codes "\r\n" ++ body.now) }
-    ensures fault { IfErr result (λ f. W.write_fault out.new ≡ Some f) }
+        ++ allow.now ++ close.now ++ codes "\r\n" ++ body.now) result }
 {
     write_parts(
         out,
@@ -103,9 +103,8 @@ pub(crate) fn write_reply<W: Output>(
     closes: bool,
     out: &mut W,
 ) -> Result<(), WriteFault>
-    ensures sent { Sends result (W.taken out.old) (W.taken out.new)
-        (reply_bytes (answer_after head content_length body.now) closes) }
-    ensures fault { IfErr result (λ f. W.write_fault out.new ≡ Some f) }
+    ensures { SendsAll (use_of W.Output out.old out.new)
+        (reply_bytes (answer_after head content_length body.now) closes) result }
 {
     let mut digits = Buffer::new();
     let length = digits.format(content_length).as_bytes();

@@ -1,10 +1,9 @@
 //! A reply, written to its end.
 ghost use Rattle.pid_http_stream.specs.Handling.{MayReply};
-ghost use Rattle.pid_http_stream.specs.Leading.{Leads};
+ghost use Rattle.pid_file.specs.Writing.{use_of};
+ghost use Rattle.pid_http_stream.specs.OneStream.{answering};
 ghost use Rattle.pid_http_stream.specs.Replies.{answer_with, reply_bytes};
-ghost use Rattle.pid_http_stream.specs.Requests.{Request};
-ghost use Rattle.pid_http_stream.specs.Serving.{outside};
-ghost use Rattle.pid_http_stream.specs.Steps.Loop.{IsSent, SendStops, SendsText, replied};
+ghost use Rattle.pid_http_stream.specs.Steps.Loop.{SendStops, SendsReply, SendsText};
 
 use crate::handler::{BodyStop, Handler, HttpReply, ReplyBody};
 use crate::reply::write_reply;
@@ -36,14 +35,9 @@ fn send_written<H: Handler, W: Output>(
     closes: bool,
     out: &mut W,
 ) -> Result<(), BodyStop>
-    ensures becomes { H.becomes handler.old handler.new }
-    ensures sent { Leads H.is_good H.stands handler.old handler.new
-        (λ v w. (a : H.View) (request : Request)
-        → (H.conduct).promises a request head content_length v
-        → IsSent H.conduct
-        (outside a w (W.taken out.old) (W.taken out.new))
-        (replied request closes) result) }
-    ensures stops { SendStops result (W.write_fault out.new) (H.cannot_go_on handler.new) }
+    ensures { SendsReply (answering H.Handler)
+        (λ a request v. (H.conduct).promises a request head content_length v) closes
+        (use_of W.Output out.old out.new) handler.old handler.new result }
 {
     let Ok(()) = write_reply(head, content_length, b"", closes, out) else {
         return Err(BodyStop::Writer);
@@ -66,13 +60,9 @@ pub(crate) fn send<H: Handler, W: Output>(
     closes: bool,
     out: &mut W,
 ) -> Result<(), BodyStop>
-    ensures becomes { H.becomes handler.old handler.new }
-    ensures sent { Leads H.is_good H.stands handler.old handler.new
-        (λ v w. (a : H.View) (request : Request) → MayReply H.conduct a request reply v
-        → IsSent H.conduct
-        (outside a w (W.taken out.old) (W.taken out.new))
-        (replied request closes) result) }
-    ensures stops { SendStops result (W.write_fault out.new) (H.cannot_go_on handler.new) }
+    ensures { SendsReply (answering H.Handler)
+        (λ a request v. MayReply H.conduct a request reply v) closes
+        (use_of W.Output out.old out.new) handler.old handler.new result }
 {
     let HttpReply { head, body } = reply;
     match body {

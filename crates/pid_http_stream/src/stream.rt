@@ -13,28 +13,11 @@ ghost use Rattle.std.specs.Prelude.{
   [],
   length,
   drop,
-  IsSome,
-  IfSome,
 };
-ghost use Rattle.pid_http_stream.specs.Steps.Bodies.{SpendsTurns, turns_at};
-ghost use Rattle.pid_http_stream.specs.Causes.{EndsFor, LastState};
-ghost use Rattle.pid_http_stream.specs.Steps.Intakes.{WaitsForRequest};
-ghost use Rattle.pid_http_stream.specs.Leading.{Leads};
-ghost use Rattle.pid_http_stream.specs.Moments.{AllSince};
-ghost use Rattle.pid_http_stream.specs.Reads.{reader_at};
-ghost use Rattle.pid_http_stream.specs.Serving.{IsCaughtUp, IsServed, outside};
-ghost use Rattle.pid_http_stream.specs.Steps.Loop.{
-  EndsBroken,
-  EndsSo,
-  HeadStands,
-  WritesRefusal,
-  Steps,
-  answered_so,
-  count_with,
-  idle_answered,
-  stop_end,
-  taken_of,
-};
+ghost use Rattle.pid_file.specs.Writing.{use_of};
+ghost use Rattle.pid_http_stream.specs.OneStream.{ServesStream, answering};
+ghost use Rattle.pid_http_stream.specs.Steps.Loop.{BreaksOff, HeadStands, Refuses, ServesRequest};
+ghost use Rattle.pid_http_stream.specs.Steps.Loop.{answered_so, attending, count_with, stop_end};
 
 use crate::body_input::BodyFault;
 use crate::handler::{BodyStop, Handler};
@@ -91,8 +74,7 @@ fn drop_front(held: &mut Vec<u8>, count: usize)
 
 // Writes a refusal.
 fn refuse<W: Output>(fault: StreamFault, out: &mut W) -> StreamEnd
-    ensures refused { WritesRefusal fault (W.taken out.old) (W.taken out.new) result }
-    ensures fault { result ≡ StreamEnd.WriteFault → IsSome (W.write_fault out.new) }
+    ensures { Refuses fault (use_of W.Output out.old out.new) result }
 {
     let head = ReplyHead {
         status: fault.status(),
@@ -107,8 +89,7 @@ fn refuse<W: Output>(fault: StreamFault, out: &mut W) -> StreamEnd
 
 // Ends a stream whose body broke off; only a short body is reported.
 fn end_broken<W: Output>(fault: BodyFault, out: &mut W) -> StreamEnd
-    ensures ended { EndsBroken fault (W.taken out.old) (W.taken out.new) result }
-    ensures fault { result ≡ StreamEnd.WriteFault → IsSome (W.write_fault out.new) }
+    ensures { BreaksOff fault (use_of W.Output out.old out.new) result }
 {
     match fault {
         BodyFault::Short => refuse(StreamFault::BodyShort, out),
@@ -146,26 +127,9 @@ fn serve_request<H: Handler, I: Incoming<W>, W: Output>(
     out: &mut W,
 ) -> Result<(), StreamEnd>
     requires { HeadStands head.now content_length }
-    ensures becomes { H.becomes handler.old handler.new }
-    ensures stepped { Leads H.is_good H.stands handler.old handler.new
-        (λ v w. IfSome (I.to_come input.old) (λ _. Steps H.conduct
-        (outside v w (W.taken out.old) (W.taken out.new))
-        (taken_of head.now content_length (I.to_come input.old) (I.to_come input.new))
-        result)) }
-    ensures turns { SpendsTurns (idle_answered result)
-        (turns_at I.Incoming input.old turns_left.old)
-        (turns_at I.Incoming input.new turns_left.new) }
-    ensures waits { AllSince
-        (WaitsForRequest head.now.bytes.now (I.to_come input.old) (W.taken out.old))
-        (I.moments input.old) (I.moments input.new) }
-    ensures ended { EndsSo result turns_left.new (record {
-      before = reader_at I.Incoming input.old;
-      after = reader_at I.Incoming input.new;
-      write_fault = W.write_fault out.new;
-      stuck = H.cannot_go_on handler.new;
-      turns = turns_left.old;
-    }) }
-    ensures goes { I.goes input.old input.new }
+    ensures { ServesRequest (answering H.Handler) I.Incoming W.Output head.now content_length
+        (attending handler.old input.old out.old turns_left.old)
+        (attending handler.new input.new out.new turns_left.new) result }
 {
     match ask_over(alloc, handler, head, content_length, input, turns_left, out) {
         Asked::Reply(reply) => {
@@ -212,23 +176,8 @@ fn serve_held<H: Handler, I: Incoming<W>, W: Output>(
     held: &mut Vec<u8>,
 ) -> Served
     requires { held.old.items ≡ [] }
-    ensures becomes { H.becomes handler.old handler.new }
-    ensures served { Leads H.is_good H.stands handler.old handler.new
-        (λ v w. IfSome (I.to_come input.old) (λ stream. IsServed H.conduct
-        (outside v w (W.taken output.old) (W.taken output.new))
-        stream (I.to_come input.new) result.end result.answered)) }
-    ensures caught_up { Leads H.is_good H.stands handler.old handler.new
-        (λ v _. IfSome (I.to_come input.old) (λ stream. AllSince
-        (IsCaughtUp H.conduct v (W.taken output.old) stream)
-        (I.moments input.old) (I.moments input.new))) }
-    ensures ended { EndsFor result.end (record {
-      before = reader_at I.Incoming input.old;
-      after = reader_at I.Incoming input.new;
-      write_fault = W.write_fault output.new;
-      stuck = H.cannot_go_on handler.new;
-      turns = turns;
-    }) }
-    ensures goes { I.goes input.old input.new }
+    ensures { ServesStream (answering H.Handler) I.Incoming W.Output (handler.old, handler.new)
+        (input.old, input.new) (output.old, output.new) turns result }
 {
     let mut fields = [EMPTY_HEADER_SPAN; MOST_FIELDS];
     let mut turns_left = turns;
@@ -287,23 +236,8 @@ pub fn serve_stream<H: Handler, I: Incoming<W>, W: Output>(
     output: &mut W,
     turns: u64,
 ) -> Served
-    ensures becomes { H.becomes handler.old handler.new }
-    ensures served { Leads H.is_good H.stands handler.old handler.new
-        (λ v w. IfSome (I.to_come input.old) (λ stream. IsServed H.conduct
-        (outside v w (W.taken output.old) (W.taken output.new))
-        stream (I.to_come input.new) result.end result.answered)) }
-    ensures caught_up { Leads H.is_good H.stands handler.old handler.new
-        (λ v _. IfSome (I.to_come input.old) (λ stream. AllSince
-        (IsCaughtUp H.conduct v (W.taken output.old) stream)
-        (I.moments input.old) (I.moments input.new))) }
-    ensures ended { EndsFor result.end (record {
-      before = reader_at I.Incoming input.old;
-      after = reader_at I.Incoming input.new;
-      write_fault = W.write_fault output.new;
-      stuck = H.cannot_go_on handler.new;
-      turns = turns;
-    }) }
-    ensures goes { I.goes input.old input.new }
+    ensures { ServesStream (answering H.Handler) I.Incoming W.Output (handler.old, handler.new)
+        (input.old, input.new) (output.old, output.new) turns result }
 {
     let mut held = Vec::new(alloc);
     serve_held(alloc, handler, input, output, turns, &mut held)

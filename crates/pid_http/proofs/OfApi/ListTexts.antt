@@ -44,8 +44,8 @@ module _ {A B : Type 0} (f : B → Data) (g : A → B) (xs : List A) (i : ℕ) w
   one_more : (x : A) → i < length xs → get_or xs i x ≡ x → take (i + 1) xs ≡ take i xs ++ x ∷ []
   one_more x inside at = take_more xs i x inside ∙ ap (λ y. take i xs ++ y ∷ []) at
 
-  pub told_more : (x : A) → i < length xs → get_or xs i x ≡ x → map f (map g (take (i + 1) xs)) ≡ map f (map g (take i xs)) ++ f (g x) ∷ []
-  told_more x inside at =
+  pub holds_more : (x : A) → i < length xs → get_or xs i x ≡ x → map f (map g (take (i + 1) xs)) ≡ map f (map g (take i xs)) ++ f (g x) ∷ []
+  holds_more x inside at =
       ap (λ ys. map f (map g ys)) (one_more x inside at) ∙ (ap (map f) (map-append g (take i xs) (x ∷ [])) ∙ map-append f (map g (take i xs)) (g x ∷ []))
 
   pub row_step : (start old new : List ℕ) (later : Bool) (x : A) → i < length xs → get_or xs i x ≡ x
@@ -58,7 +58,7 @@ module _ {A B : Type 0} (f : B → Data) (g : A → B) (xs : List A) (i : ℕ) w
       let some : later ≡ has_rows rows = flag ∙ sym (has_mapped f (map g (take i xs)) ∙ has_mapped g (take i xs)) in
       let grown : rows_text false rows ++ (comma_if later ++ text) ≡ rows_text false (rows ++ f (g x) ∷ []) = ap (λ b. rows_text false rows ++ (comma_if b ++ text)) some ∙ sym (row_more rows (f (g x))) in
       appended ∙ (append_assoc old (comma_if later) text ∙ (ap (λ t. t ++ (comma_if later ++ text)) before ∙ (append_assoc start (rows_text false rows) (comma_if later ++ text)
-      ∙ (ap (λ t. start ++ t) grown ∙ ap (λ ys. start ++ rows_text false ys) (sym (told_more x inside at))))))
+      ∙ (ap (λ t. start ++ t) grown ∙ ap (λ ys. start ++ rows_text false ys) (sym (holds_more x inside at))))))
 
   pub has_more : (x : A) → i < length xs → get_or xs i x ≡ x → true ≡ has_rows (take (i + 1) xs)
   has_more x inside at = sym (ap has_rows (one_more x inside at) ∙ has_last (take i xs) x)

@@ -2,7 +2,7 @@
 use Rattle.std.specs.Prelude.{ℕ, not, List, ◌∷◌, Option, Some, None, Result, Ok, Err}
 use Rattle.std.specs.Str.{is_utf8}
 use Rattle.pid_form.specs.FormFields.{fields_in}
-use Rattle.pid_moderation.specs.CheckTables.{Checks, first_failing}
+use Rattle.pid_moderation.specs.CheckTables.{first_failing}
 use Rattle.pid_moderation.specs.Forms.{form_checks, command_said}
 use Rattle.pid_moderation.specs.declared.command.Command.{Command}
 use Rattle.pid_moderation.specs.declared.refusal.Refusal.{Refusal}
@@ -10,18 +10,16 @@ use Rattle.pid_moderation.specs.declared.refusal.Refusal.TheVariants.{BadText}
 use Rattle.pid_moderation.specs.declared.verb.Verb.{Verb}
 use Rattle.pid_http.specs.Api.Senders.{Sending}
 
--- the body is text, and then the checks of its form
-abbrev pub body_checks : Verb → Sending → List ℕ → Checks
-body_checks verb s body = (not (is_utf8 body), BadText)
-    ∷ form_checks verb s.account s.key (fields_in body)
-
 -- a refusal if there is one, else the command that was said
 abbrev pub unless_refused : Option Refusal → Option Command → Result Command Refusal
 unless_refused (Some refusal) said = Err refusal
 unless_refused None None = Err BadText
 unless_refused None (Some command) = Ok command
 
--- the command of a sender, or the first check that fails
+-- the command of a sender, or the first check that fails: the body is text, and then those of its
+-- form
 unfoldable pub command_made : Verb → Sending → List ℕ → Result Command Refusal
-command_made verb s body = unless_refused (first_failing (body_checks verb s body))
+command_made verb s body = unless_refused
+    (first_failing ((not (is_utf8 body), BadText)
+    ∷ form_checks verb s.account s.key (fields_in body)))
     (command_said verb s.account s.key (fields_in body))

@@ -26,32 +26,28 @@ use Rattle.pid_http.specs.declared.api.format.Format.TheVariants as formats
 use Rattle.pid_moderation.specs.declared.refusal.Refusal.TheVariants as refusals
 use Rattle.pid_http.specs.declared.api.early.RefusedEarly.TheVariants as early
 
--- ill-formed; not allowed to this account; not there; against how things stand; a faulty file;
--- full, or failed
-abbrev pub status_of_refusal : Refusal → ℕ
-status_of_refusal refusals.BadPath = 400
-status_of_refusal refusals.BadName = 400
-status_of_refusal refusals.BadText = 400
-status_of_refusal refusals.NoAccount = 403
-status_of_refusal refusals.RankTooLow = 403
-status_of_refusal refusals.NoSubmission = 404
-status_of_refusal refusals.NotPending = 409
-status_of_refusal refusals.NotAuthor = 403
-status_of_refusal refusals.OwnDecision = 403
-status_of_refusal refusals.ParentMissing = 409
-status_of_refusal refusals.HasChildren = 409
-status_of_refusal refusals.NothingToDo = 409
-status_of_refusal (refusals.FileFault fault) = 422
-status_of_refusal refusals.Full = 503
-status_of_refusal refusals.Memory = 503
-status_of_refusal refusals.Store = 503
-status_of_refusal refusals.Failed = 503
-status_of_refusal refusals.Changed = 409
-
--- an accepted command is 200 OK
+-- an accepted command is 200 OK; a refusal is ill-formed, not allowed to this account, not there,
+-- against how things stand, a faulty file, or that the registry is full or failed
 abbrev pub status_of_outcome : Result Reply Refusal → ℕ
 status_of_outcome (Ok reply) = 200
-status_of_outcome (Err refusal) = status_of_refusal refusal
+status_of_outcome (Err refusals.BadPath) = 400
+status_of_outcome (Err refusals.BadName) = 400
+status_of_outcome (Err refusals.BadText) = 400
+status_of_outcome (Err refusals.NoAccount) = 403
+status_of_outcome (Err refusals.RankTooLow) = 403
+status_of_outcome (Err refusals.NoSubmission) = 404
+status_of_outcome (Err refusals.NotPending) = 409
+status_of_outcome (Err refusals.NotAuthor) = 403
+status_of_outcome (Err refusals.OwnDecision) = 403
+status_of_outcome (Err refusals.ParentMissing) = 409
+status_of_outcome (Err refusals.HasChildren) = 409
+status_of_outcome (Err refusals.NothingToDo) = 409
+status_of_outcome (Err (refusals.FileFault fault)) = 422
+status_of_outcome (Err refusals.Full) = 503
+status_of_outcome (Err refusals.Memory) = 503
+status_of_outcome (Err refusals.Store) = 503
+status_of_outcome (Err refusals.Failed) = 503
+status_of_outcome (Err refusals.Changed) = 409
 
 -- {"kind":7,"line":3,"ok":false,"refused":14,"word":"FileFault"}
 abbrev pub fault_data : ℕ → ℕ → Data
@@ -61,14 +57,9 @@ fault_data line kind =
     (member (codes "refused") (number (unsigned 14))
     (member (codes "word") (string (codes "FileFault")) no_members)))))
 
--- a fault of the file has its line and its kind; too many entries have none
-abbrev pub refused_data : Refusal → Data
-refused_data (refusals.FileFault (Line line kind)) = fault_data line (line_kinds.number_of kind)
-refused_data (refusals.FileFault TooMany) = fault_data 0 0
-refused_data refusal = refusal_data (refusal_number refusal) (refusal_word refusal)
-
 -- what was answered, or why it was refused: {"ok":true}; {"num":1,"ok":true};
--- {"added":1,"ok":true,"renamed":0,"same":0}
+-- {"added":1,"ok":true,"renamed":0,"same":0}. A fault of the file has its line and its kind; too many
+-- entries have none.
 abbrev pub outcome_data : Result Reply Refusal → Data
 outcome_data (Ok Done) = object (member (codes "ok") (boolean true) no_members)
 outcome_data (Ok (Numbered n)) = object (member (codes "num") (number (unsigned n))
@@ -77,7 +68,10 @@ outcome_data (Ok (Counts added renamed same)) =
     object (member (codes "added") (number (unsigned added)) (member (codes "ok") (boolean true)
     (member (codes "renamed") (number (unsigned renamed))
     (member (codes "same") (number (unsigned same)) no_members))))
-outcome_data (Err refusal) = refused_data refusal
+outcome_data (Err (refusals.FileFault (Line line kind))) = fault_data line
+    (line_kinds.number_of kind)
+outcome_data (Err (refusals.FileFault TooMany)) = fault_data 0 0
+outcome_data (Err refusal) = refusal_data (refusal_number refusal) (refusal_word refusal)
 
 -- the answer to a command
 abbrev pub outcome_answer : Format → Result Reply Refusal → Answer
@@ -88,17 +82,14 @@ outcome_answer format outcome = answer_in format (status_of_outcome outcome) (ou
 abbrev pub refused_answer : ℕ → ℕ → List ℕ → Answer
 refused_answer status n word = answer_with status Json (compact_text (refusal_data n word))
 
--- {"ok":false,"refused":25,"word":"NoItem"}
-abbrev pub unanswered_data : Unanswered → Data
-unanswered_data why = refusal_data (unanswered_number why) (unanswered_word why)
-
 -- the answer to a question that has none
 abbrev pub unanswered_answer : ℕ → Unanswered → Answer
 unanswered_answer status why = refused_answer status (unanswered_number why) (unanswered_word why)
 
--- the answer if no item is at a path
+-- the answer if no item is at a path: {"ok":false,"refused":25,"word":"NoItem"}
 abbrev pub missing_answer : Format → Answer
-missing_answer format = answer_in format 404 (unanswered_data NoItem) (unanswered_line NoItem)
+missing_answer format = answer_in format 404
+    (refusal_data (unanswered_number NoItem) (unanswered_word NoItem)) (unanswered_line NoItem)
 
 -- the methods of the route; or the refusal
 abbrev pub early_answer : RefusedEarly → Answer

@@ -38,7 +38,7 @@ list_answer json line format rows = shown_answer (rows_data json) (flat_map line
 -- the body is there, and after this head it is the answer
 abbrev pub IsBodyOf : ReplyHead → ReplyBody → Answer → Type 0
 IsBodyOf head (Bytes body) answer = answer_with head.status head.content body.items ≡ answer
-IsBodyOf head (Written told) answer = ⊥
+IsBodyOf head (Written content_length) answer = ⊥
 
 -- the reply is the answer
 abbrev pub IsReplyOf : HttpReply → Answer → Type 0

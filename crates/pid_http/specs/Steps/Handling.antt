@@ -11,7 +11,7 @@ use Rattle.pid_http_stream.specs.Requests.{Request}
 use Rattle.pid_http_stream.specs.declared.reply_head.Content.TheVariants.{Text}
 use Rattle.pid_http_stream.specs.declared.reply_head.ReplyHead.{ReplyHead}
 use Rattle.pid_http.specs.Answering.{answer_over, RequestMeaning, meaning_of}
-use Rattle.pid_http.specs.Known.{Known, Live, Between, Down, Told, ByCalls}
+use Rattle.pid_http.specs.Known.{Known, Live, Between, Down, SessionState, ByCalls}
 use Rattle.pid_http.specs.Serving.{AreQuestions, IsMeaningMet, AnsweredOver, IsPromised}
 use Rattle.pid_http.specs.Serving.{IsTextHead, serving}
 
@@ -22,17 +22,17 @@ WritesOver (Between before behind) body k = k ≡ Between before behind
 WritesOver Down body k = k ≡ Down
 
 -- and nothing is sent for it, by one call
-abbrev pub WritesText : {R : Type 0} (registry : Ghosts R) → Told registry → List ℕ → Told registry → Type 0
+abbrev pub WritesText : {R : Type 0} (registry : Ghosts R) → SessionState registry → List ℕ → SessionState registry → Type 0
 WritesText registry t body u = ByCalls registry t u
     (λ calls. AreQuestions 1 calls × WritesOver t.known body u.known)
 
-same_answer : (h : History) (head : ReplyHead) (told : ℕ) (body : List ℕ) → IsTextHead h head told
+same_answer : (h : History) (head : ReplyHead) (content_length : ℕ) (body : List ℕ) → IsTextHead h head content_length
     → body ≡ print (tree_of h)
-    → answer_after head told body ≡ answer_with 200 Text (print (tree_of h))
-same_answer h head told body t e = λ i. record {
+    → answer_after head content_length body ≡ answer_with 200 Text (print (tree_of h))
+same_answer h head content_length body t e = λ i. record {
   status = t.status i;
   content = t.content i;
-  told = t.length_is i;
+  content_length = t.length_is i;
   body = e i;
 }
 
@@ -48,33 +48,33 @@ questions_then m n calls more p q = (
   omega (arith, p.1, q.1, length-append calls more),
 )
 
-text_met : (a : Known) (meaning : RequestMeaning) (head : ReplyHead) (told : ℕ) (calls : List Call)
+text_met : (a : Known) (meaning : RequestMeaning) (head : ReplyHead) (content_length : ℕ) (calls : List Call)
     (b : Known) (body : List ℕ) (more : List Call) (c : Known)
-    → IsPromised a meaning head told calls b → AreQuestions 1 more → WritesOver b body c
-    → IsMeaningMet a meaning (answer_after head told body) (calls ++ more) c
+    → IsPromised a meaning head content_length calls b → AreQuestions 1 more → WritesOver b body c
+    → IsMeaningMet a meaning (answer_after head content_length body) (calls ++ more) c
 unfolding answer_over
-text_met (Live h) meaning head told calls b body more c (asked, is, none, same) none_more writes =
+text_met (Live h) meaning head content_length calls b body more c (asked, is, none, same) none_more writes =
     let w : WritesOver (Live h) body c = subst (λ k. WritesOver k body c) same writes in
-    subst (λ x. IsMeaningMet (Live h) x (answer_after head told body) (calls ++ more) c)
+    subst (λ x. IsMeaningMet (Live h) x (answer_after head content_length body) (calls ++ more) c)
     (sym asked.1)
-    (AnsweredOver (same_answer h head told body is w.0)
+    (AnsweredOver (same_answer h head content_length body is w.0)
     (questions_then 1 1 calls more none none_more) w.1)
-text_met (Between before behind) meaning head told calls b body more c promised none_more writes =
+text_met (Between before behind) meaning head content_length calls b body more c promised none_more writes =
     absurd promised
-text_met Down meaning head told calls b body more c promised none_more writes = absurd promised
+text_met Down meaning head content_length calls b body more c promised none_more writes = absurd promised
 
 -- what was promised and then written is the answer
-pub exports_text : {R : Type 0} {registry : Ghosts R} (a : Told registry) (request : Request)
-    (head : ReplyHead) (told : ℕ) (b : Told registry) (body : List ℕ) (c : Told registry)
-    → (serving registry).promises a request head told b → WritesText registry b body c
-    → (serving registry).answers a request (answer_after head told body) c
-exports_text a request head told b body c p w = record {
+pub exports_text : {R : Type 0} {registry : Ghosts R} (a : SessionState registry) (request : Request)
+    (head : ReplyHead) (content_length : ℕ) (b : SessionState registry) (body : List ℕ) (c : SessionState registry)
+    → (serving registry).promises a request head content_length b → WritesText registry b body c
+    → (serving registry).answers a request (answer_after head content_length body) c
+exports_text a request head content_length b body c p w = record {
   same_session = w.same_session ∙ p.same_session;
   more = p.more ++ w.more;
   joined = w.joined ∙ ap (λ (l : List Call). l
       ++ w.more) p.joined ∙ append_assoc a.calls p.more w.more;
   holds = text_met a.known
-      (meaning_of request) head told p.more b.known body w.more c.known p.holds w.holds.0 w.holds.1;
+      (meaning_of request) head content_length p.more b.known body w.more c.known p.holds w.holds.0 w.holds.1;
 }
 
 -- what stayed the same twice stayed the same

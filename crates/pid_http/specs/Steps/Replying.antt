@@ -46,7 +46,7 @@ IsCommandMet c Down result calls k = (result ≡ Err refusals.Failed) × AreQues
 abbrev pub IsBodyMet : Known → RequestMeaning → ReplyHead → ReplyBody → List Call → Known → Type 0
 IsBodyMet k meaning head (Bytes body) calls now = IsMeaningMet k meaning
     (answer_with head.status head.content body.items) calls now
-IsBodyMet k meaning head (Written told) calls now = IsPromised k meaning head told calls now
+IsBodyMet k meaning head (Written content_length) calls now = IsPromised k meaning head content_length calls now
 
 -- the reply is an answer; or memory ran out for it, and what it is a reply to was done
 abbrev pub IsMetBy : {E : Type 0} → Known → RequestMeaning → Result HttpReply E → List Call → Known

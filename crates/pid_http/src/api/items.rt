@@ -8,11 +8,11 @@ ghost use Rattle.pid_http.specs.Api.Replying.{MakesReply};
 
 use crate::api::Format;
 use crate::api::members::{object_of, with_path, with_text};
-use crate::api::reply::{json_reply, text_reply};
+use crate::api::reply::{json_reply, reply_with};
 use crate::api::shown::Shown;
 use crate::api::text::push_line;
 use http::StatusCode;
-use pid_http_stream::HttpReply;
+use pid_http_stream::{Content, HttpReply};
 use pid_ident::{Name, Path, PathText};
 use pid_moderation::Item;
 use serde_json::{Map, Value};
@@ -43,7 +43,7 @@ pub fn item_reply(
         Format::Text => {
             let mut text = String::from_str(alloc, name.as_str())?;
             text.push_str("\n")?;
-            Ok(text_reply(StatusCode::OK, text))
+            Ok(reply_with(StatusCode::OK, Content::Text, text.into_bytes()))
         }
     }
 }

@@ -9,10 +9,10 @@ ghost use Rattle.pid_http.specs.Steps.Replying.{answer_or};
 
 use crate::api::Format;
 use crate::api::outcome::refusal_reply;
-use crate::api::reply::{json_text_reply, printed, text_reply};
+use crate::api::reply::{printed, reply_with};
 use crate::api::shown::Shown;
 use http::StatusCode;
-use pid_http_stream::HttpReply;
+use pid_http_stream::{Content, HttpReply};
 use pid_moderation::Refusal;
 use serde_json::Value;
 use std::alloc::{AllocError, Global};
@@ -97,11 +97,11 @@ fn rows_reply<R: Shown>(alloc: Global, format: Format, rows: &[R]) -> Result<Htt
     match format {
         Format::Json => {
             push_rows(alloc, &mut text, rows)?;
-            Ok(json_text_reply(StatusCode::OK, text))
+            Ok(reply_with(StatusCode::OK, Content::Json, text.into_bytes()))
         }
         Format::Text => {
             push_lines(alloc, &mut text, rows)?;
-            Ok(text_reply(StatusCode::OK, text))
+            Ok(reply_with(StatusCode::OK, Content::Text, text.into_bytes()))
         }
     }
 }

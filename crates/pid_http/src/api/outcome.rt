@@ -2,45 +2,22 @@
 ghost use Rattle.std.specs.Prelude.{◌≡◌, Ok, IfOk, IsTrue};
 ghost use Rattle.serde_json.specs.View.{view};
 ghost use Rattle.pid_http.specs.Api.Outcomes.{fault_data, missing_answer, outcome_answer};
-ghost use Rattle.pid_http.specs.Api.Outcomes.{outcome_data, refused_answer, status_of_outcome};
+ghost use Rattle.pid_http.specs.Api.Outcomes.{outcome_data, refused_answer};
 ghost use Rattle.pid_http.specs.Api.Outcomes.{unanswered_answer};
 ghost use Rattle.pid_http.specs.Api.Replying.{MakesReply, answer_in};
 ghost use Rattle.pid_http_stream.specs.StreamFaults.{refusal_data};
 ghost use Rattle.pid_http_stream.specs.HttpStatuses.{allows_body};
 
 use crate::api::Format;
+use crate::api::http_status::status_of;
 use crate::api::members::{object_of, with_text, with_value};
-use crate::api::reply::{json_reply, text_reply};
+use crate::api::reply::{json_reply, reply_with};
 use http::StatusCode;
-use pid_http_stream::HttpReply;
+use pid_http_stream::{Content, HttpReply};
 use pid_lookup::Unanswered;
 use pid_moderation::{FileFault, Refusal, Reply, reply_line};
 use serde_json::{Map, Value};
 use std::alloc::{AllocError, Global};
-
-fn status_of(outcome: Result<Reply, Refusal>) -> StatusCode
-    ensures value { result ≡ status_of_outcome outcome }
-    ensures bodied { IsTrue (allows_body result) }
-{
-    match outcome {
-        Ok(_) => StatusCode::OK,
-        Err(Refusal::BadPath | Refusal::BadName | Refusal::BadText) => StatusCode::BAD_REQUEST,
-        Err(Refusal::NoAccount | Refusal::RankTooLow | Refusal::NotAuthor | Refusal::OwnDecision) =>
-            StatusCode::FORBIDDEN,
-        Err(Refusal::NoSubmission) => StatusCode::NOT_FOUND,
-        Err(
-            Refusal::NotPending
-            | Refusal::ParentMissing
-            | Refusal::HasChildren
-            | Refusal::NothingToDo
-            | Refusal::Changed,
-        ) => StatusCode::CONFLICT,
-        Err(Refusal::FileFault(_)) => StatusCode::UNPROCESSABLE_ENTITY,
-        Err(Refusal::Full | Refusal::Memory | Refusal::Store | Refusal::Failed) => {
-            StatusCode::SERVICE_UNAVAILABLE
-        }
-    }
-}
 
 fn done_value(alloc: Global) -> Result<Value, AllocError>
     ensures { IfOk result (λ value. view value ≡ outcome_data (Ok Reply.Done)) }
@@ -129,7 +106,7 @@ pub fn outcome_reply(
         }
         Format::Text => {
             let line = reply_line(alloc, outcome)?;
-            Ok(text_reply(status, line))
+            Ok(reply_with(status, Content::Text, line.into_bytes()))
         }
     }
 }
@@ -186,7 +163,7 @@ pub(crate) fn absent_reply(
         Format::Json => refused_reply(alloc, StatusCode::NOT_FOUND, number, word),
         Format::Text => {
             let line = String::from_str(alloc, line)?;
-            Ok(text_reply(StatusCode::NOT_FOUND, line))
+            Ok(reply_with(StatusCode::NOT_FOUND, Content::Text, line.into_bytes()))
         }
     }
 }

@@ -7,11 +7,11 @@ ghost use Rattle.pid_http.specs.Api.Replying.{MakesReply};
 use crate::api::Format;
 use crate::api::members::{object_of, with_text, with_value};
 use crate::api::outcome::absent_reply;
-use crate::api::reply::{json_reply, text_reply};
+use crate::api::reply::{json_reply, reply_with};
 use crate::api::text::push_line;
 use http::StatusCode;
 use itoa::Buffer;
-use pid_http_stream::HttpReply;
+use pid_http_stream::{Content, HttpReply};
 use pid_ident::Account;
 use pid_moderation::Rank;
 use serde_json::{Map, Value};
@@ -53,7 +53,7 @@ pub fn rank_reply(
             let mut digits = Buffer::new();
             let mut text = String::new(alloc);
             push_line(&mut text, who.as_str(), digits.format(rank.number()))?;
-            Ok(text_reply(StatusCode::OK, text))
+            Ok(reply_with(StatusCode::OK, Content::Text, text.into_bytes()))
         }
     }
 }

@@ -23,22 +23,6 @@ pub(crate) fn reply_with(status: StatusCode, content: Content, body: Vec<u8>) ->
     }
 }
 
-/// The reply with a line or more of text.
-pub(crate) fn text_reply(status: StatusCode, text: String) -> HttpReply
-    requires { IsTrue (allows_body status) }
-    ensures { IsReplyOf result (answer_with status Content.Text (string_bytes text)) }
-{
-    reply_with(status, Content::Text, text.into_bytes())
-}
-
-/// The reply with a text that is JSON.
-pub(crate) fn json_text_reply(status: StatusCode, text: String) -> HttpReply
-    requires { IsTrue (allows_body status) }
-    ensures { IsReplyOf result (answer_with status Content.Json (string_bytes text)) }
-{
-    reply_with(status, Content::Json, text.into_bytes())
-}
-
 /// The text of a value as compact JSON.
 pub(crate) fn printed(alloc: Global, value: Value) -> Result<String, AllocError>
     ensures { (json : Data) → view value ≡ json → has_float json ≡ false
@@ -58,5 +42,5 @@ pub(crate) fn json_reply(
         → MakesReply result (answer_with status Content.Json (compact_text json)) }
 {
     let text = printed(alloc, value)?;
-    Ok(json_text_reply(status, text))
+    Ok(reply_with(status, Content::Json, text.into_bytes()))
 }

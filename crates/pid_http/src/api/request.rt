@@ -86,7 +86,7 @@ fn post(
 
 // What is asked for by a target that is text and begins with a slash, by GET or else by POST.
 #[tactic(auto, unfolding(crate::specs::Api::Questions::target_asked))]
-fn ask(
+fn judge_target(
     alloc: Global,
     routes: &Routes,
     is_get: bool,
@@ -121,7 +121,7 @@ fn judge(
     let Some(target) = text_of_target(target) else {
         return Err(Unasked::Early(RefusedEarly::BadTarget));
     };
-    ask(alloc, routes, is_get, target)
+    judge_target(alloc, routes, is_get, target)
 }
 
 /// What a method and a target ask for. The file of an import is read as it comes; the format is

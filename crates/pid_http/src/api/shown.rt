@@ -8,9 +8,9 @@ ghost use Rattle.pid_http.specs.Steps.Replying.{answer_or};
 
 use crate::api::format::Format;
 use crate::api::outcome::refusal_reply;
-use crate::api::reply::{json_reply, text_reply};
+use crate::api::reply::{json_reply, reply_with};
 use http::StatusCode;
-use pid_http_stream::HttpReply;
+use pid_http_stream::{Content, HttpReply};
 use pid_moderation::Refusal;
 use serde_json::Value;
 use std::alloc::{AllocError, Global};
@@ -56,7 +56,7 @@ fn shown_reply<T: Shown>(alloc: Global, format: Format, shown: &T) -> Result<Htt
         Format::Text => {
             let mut text = String::new(alloc);
             shown.push_text(alloc, &mut text)?;
-            Ok(text_reply(StatusCode::OK, text))
+            Ok(reply_with(StatusCode::OK, Content::Text, text.into_bytes()))
         }
     }
 }

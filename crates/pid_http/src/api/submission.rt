@@ -16,12 +16,12 @@ use crate::api::Format;
 use crate::api::list::{push_lines, push_rows, push_value};
 use crate::api::members::{Made, object_of, with_text};
 use crate::api::pending::submission_members;
-use crate::api::reply::{json_text_reply, printed, text_reply};
+use crate::api::reply::{printed, reply_with};
 use crate::api::shown::Shown;
 use crate::api::text::{push_line, push_word};
 use http::StatusCode;
 use itoa::Buffer;
-use pid_http_stream::HttpReply;
+use pid_http_stream::{Content, HttpReply};
 use pid_ident::PathText;
 use pid_moderation::{Comment, Discussion, Proposal, State, Submission};
 use serde_json::{Map, Value};
@@ -184,13 +184,13 @@ pub fn submission_reply(
     match format {
         Format::Json => {
             let text = submission_json(alloc, number, discussion)?;
-            Ok(json_text_reply(StatusCode::OK, text))
+            Ok(reply_with(StatusCode::OK, Content::Json, text.into_bytes()))
         }
         Format::Text => {
             let mut text = String::new(alloc);
             push_standing(alloc, &mut text, number, &discussion.submission)?;
             push_lines(alloc, &mut text, discussion.remarks.as_slice())?;
-            Ok(text_reply(StatusCode::OK, text))
+            Ok(reply_with(StatusCode::OK, Content::Text, text.into_bytes()))
         }
     }
 }

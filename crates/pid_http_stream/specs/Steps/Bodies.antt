@@ -1,10 +1,11 @@
 -- A reader of a request's body, and what reads leave of it.
 use Rattle.std.specs.Prelude.{◌≡◌, ℕ, zero, suc, ◌+◌, ◌<◌, ◌⊎◌, List, [], ◌∷◌, ◌++◌, length}
-use Rattle.std.specs.Prelude.{Option, Some, None, IfSome, IsSome}
+use Rattle.std.specs.Prelude.{Option, Some, None, IfSome, IsSome, Result, IfOk}
 use Rattle.std.specs.Io.KnownBytes.{Consumes, IsAtEnd}
 use Rattle.pid_file.specs.declared.io.ReadFault.{ReadFault}
 use Rattle.pid_file.specs.declared.io.ReadFault.TheVariants.{Device}
 use Rattle.pid_file.specs.Steps.InputCalls.{StaysKept}
+use Rattle.pid_file.specs.declared.io.Input as inputs
 use Rattle.pid_ident.specs.declared.incoming.Incoming.{Ghosts}
 use Rattle.pid_http_stream.specs.Moments.{Moment, AllSince}
 use Rattle.pid_http_stream.specs.Reads.{ReaderState, reader_at, AreReads}
@@ -19,9 +20,9 @@ padded (suc n) [] = 0 ∷ padded n []
 padded (suc n) (b ∷ bytes) = b ∷ padded n bytes
 
 -- the reader of a body has a fault of its own for each of its reasons
-abbrev pub fault_told : Option BodyFault → Option ReadFault
-fault_told None = None
-fault_told (Some fault) = Some Device
+abbrev pub kept_fault : Option BodyFault → Option ReadFault
+kept_fault None = None
+kept_fault (Some fault) = Some Device
 
 -- a reader at some time, and how often it may still be read
 pub record Turns : Type 0 where
@@ -87,7 +88,21 @@ pub record HasReadBody (a b : BodyState) : Type 0 where
   pub turns : SpendsTurns (idle_at b.fault) a.turns b.turns
   pub unread : IsSome a.fault → b.turns ≡ a.turns
   pub fault : StaysKept a.fault b.fault
-  pub told : IsFaultCaused a → IsFaultCaused b
+  pub caused : IsFaultCaused a → IsFaultCaused b
   pub failed : (b.turns.reader.fault ≡ a.turns.reader.fault) ⊎ (b.fault ≡ Some faults.ReadFault)
   pub taken : b.taken ≡ a.taken
   pub moments : AllSince (IsWithinBody a) a.turns.reader.moments b.turns.reader.moments
+
+-- a reader was read to its end, unless there is no result
+pub record ReadsOut {I X E : Type 0} (reader : inputs.Ghosts I) (old new : I) (result : Result X E)
+    : Type 0 where
+  pub goes : reader.goes old new
+  pub whole : IfOk result (λ _. IsAtEnd (reader.to_come new))
+
+-- and these bytes came
+pub record ReadsWhole {I X E : Type 0} (reader : inputs.Ghosts I) (came : X → List ℕ) (old new : I)
+    (result : Result X E)
+    : Type 0 where
+  pub goes : reader.goes old new
+  pub whole : IfOk result (λ x. Consumes (reader.to_come old) (reader.to_come new) (came x)
+      × IsAtEnd (reader.to_come new))

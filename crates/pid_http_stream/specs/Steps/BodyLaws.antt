@@ -69,7 +69,7 @@ no_body_reads s = record {
   turns = no_turns (idle_at s.fault) s.turns;
   unread = λ h. refl;
   fault = stays_kept s.fault;
-  told = λ h. h;
+  caused = λ h. h;
   failed = inl refl;
   taken = refl;
   moments = since_none (IsWithinBody s) s.turns.reader.moments;
@@ -103,7 +103,7 @@ more_body_reads a b c p q = record {
   turns = turns_then b.fault c.fault a.turns b.turns c.turns q.fault q.unread p.turns q.turns;
   unread = λ h. q.unread (some_then a.fault b.fault p.fault h) ∙ p.unread h;
   fault = kept_then a.fault b.fault c.fault p.fault q.fault;
-  told = λ h. q.told (p.told h);
+  caused = λ h. q.caused (p.caused h);
   failed = failed_then a.turns.reader.fault b.turns.reader.fault
       c.turns.reader.fault b.fault c.fault p.failed q.failed q.fault;
   taken = q.taken ∙ p.taken;

@@ -1,13 +1,13 @@
 -- What comes in from a reader, and what the bytes that came begin with.
-use Rattle.std.specs.Prelude.{◌≡◌, ℕ, ◌+◌, ◌<◌, ◌≤◌, ◌⊎◌, List, [], ◌++◌, length, take, map, Option, Some}
-use Rattle.std.specs.Prelude.{IfSome}
-use Rattle.std.specs.Prelude.{None, IsSome, ⊤, Result, Ok, Err}
+use Rattle.std.specs.Prelude.{◌≡◌, ℕ, ◌+◌, ◌*◌, ◌<◌, ◌≤◌, ◌⊎◌, List, [], ◌++◌, length, take, map}
+use Rattle.std.specs.Prelude.{Option, Some, None, IfSome, IsSome, ⊤, Result, Ok, Err}
 use Rattle.std.specs.Io.KnownBytes.{Consumes, IsAtEnd}
 use Rattle.httparse.specs.Spans.{header_bytes, IsRequestWithin, IsRequestOf}
 use Rattle.httparse.specs.declared.spans.HeaderSpan.{HeaderSpan}
 use Rattle.httparse.specs.declared.spans.RequestSpans.{RequestSpans}
 use Rattle.pid_file.specs.declared.io.ReadFault.{ReadFault}
-use Rattle.pid_http_stream.specs.Steps.Bodies.{Turns, SpendsTurns, IsCauseOf, idle_at}
+use Rattle.pid_ident.specs.declared.incoming.Incoming.{Ghosts}
+use Rattle.pid_http_stream.specs.Steps.Bodies.{Turns, SpendsTurns, IsCauseOf, idle_at, turns_at}
 use Rattle.pid_http_stream.specs.BodyLengths.{body_length}
 use Rattle.pid_http_stream.specs.Endings.{HasFault}
 use Rattle.pid_http_stream.specs.Leftovers.{IsLeftover}
@@ -18,7 +18,7 @@ use Rattle.pid_http_stream.specs.declared.body_input.BodyFault.TheVariants as fa
 use Rattle.pid_http_stream.specs.declared.body_length.BodyLength.TheVariants.{Bytes}
 use Rattle.pid_http_stream.specs.declared.judging.FoundHead.{FoundHead}
 use Rattle.pid_http_stream.specs.declared.limits.TheConstants.{LONGEST_BODY, LONGEST_HEAD}
-use Rattle.pid_http_stream.specs.declared.limits.TheConstants.{MOST_FIELDS}
+use Rattle.pid_http_stream.specs.declared.limits.TheConstants.{MOST_FIELDS, READ_SIZE}
 use Rattle.pid_http_stream.specs.declared.refusal.StreamFault.{StreamFault}
 use Rattle.pid_http_stream.specs.declared.intake.Filled.{Filled}
 use Rattle.pid_http_stream.specs.declared.intake.Filled.TheVariants as filled
@@ -125,6 +125,29 @@ idle_asked (asked.Reply reply) = 0
 idle_asked asked.NoMemory = 0
 idle_asked (asked.Broken fault) = idle_at (Some fault)
 
+-- what is held of a stream, its reader, and how often that may still be read
+pub record Intake (I : Type 0) : Type 0 where
+  pub held : List ℕ
+  pub input : I
+  pub left : ℕ
+
+abbrev pub intake : {I : Type 0} → List ℕ → I → ℕ → Intake I
+intake held input left = record { held = held; input = input; left = left }
+
+-- one read was made, if a turn was left, and what came of it kept
+pub record ReadsMore {I W : Type 0} (reader : Ghosts I W) (taken : Option (List ℕ))
+    (a b : Intake I) (result : Filled) : Type 0 where
+  pub comes : ComesIn a.held b.held (reader.to_come a.input) (reader.to_come b.input)
+  pub stays : StaysBut a.held b.held (reader.to_come b.input) result
+  pub piece : result ≡ filled.Piece → (b.left + 1 ≡ a.left)
+      × (length b.held ≤ length a.held + READ_SIZE)
+  pub turns : SpendsTurns (idle_filled result) (turns_at reader a.input a.left)
+      (turns_at reader b.input b.left)
+  pub noted : AllSince (IsMoment (reader.to_come a.input) taken)
+      (reader.moments a.input) (reader.moments b.input)
+  pub stopped : FillStops result (reader.read_fault a.input) (reader.read_fault b.input) b.left
+  pub goes : reader.goes a.input b.input
+
 -- the spans are those of a head that begins the bytes, which says that its body has so many bytes
 pub record StandsAt (held : List ℕ) (headers : List HeaderSpan) (spans : RequestSpans)
     (body : ℕ) : Type 0 where
@@ -149,3 +172,16 @@ IsHeadRead held headers left heads.Nothing = IsAtEnd left × IsLeftover held
 IsHeadRead held headers left (heads.Faulty fault) = IfSome left
     (λ more. HasFault (held ++ more) fault)
 IsHeadRead held headers left (heads.Stopped stop) = IsUnfinished held
+
+-- it was read until a head had come, or none can come
+pub record ReadsHead {I W : Type 0} (reader : Ghosts I W) (taken : Option (List ℕ))
+    (headers : List HeaderSpan) (a b : Intake I) (result : HeadRead) : Type 0 where
+  pub comes : ComesIn a.held b.held (reader.to_come a.input) (reader.to_come b.input)
+  pub head : IsHeadRead b.held headers (reader.to_come b.input) result
+  pub turns : SpendsTurns (idle_head result) (turns_at reader a.input a.left)
+      (turns_at reader b.input b.left)
+  pub pace : b.left * READ_SIZE + length b.held ≤ a.left * READ_SIZE + length a.held
+  pub waits : AllSince (WaitsForRequest a.held (reader.to_come a.input) taken)
+      (reader.moments a.input) (reader.moments b.input)
+  pub stopped : HeadStops result (reader.read_fault a.input) (reader.read_fault b.input) b.left
+  pub goes : reader.goes a.input b.input

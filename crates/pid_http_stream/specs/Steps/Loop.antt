@@ -1,7 +1,11 @@
 -- What the steps of the serving loop do.
 use Rattle.std.specs.Prelude.{◌≡◌, ℕ, ◌+◌, ◌⊎◌, Bool, true, false, List, ◌++◌, drop, Option, Some}
-use Rattle.std.specs.Prelude.{None, IsSome, Result, Ok, Err, ◌==◌, if◌then◌else◌, ⊤}
+use Rattle.std.specs.Prelude.{None, IfErr, IfSome, IsSome, Result, Ok, Err, ◌==◌, if◌then◌else◌, ⊤}
+use Rattle.pid_file.specs.Sending.{Sends}
+use Rattle.pid_file.specs.Writing.{WriterUse}
+use Rattle.pid_file.specs.declared.io.Output.{Ghosts as Writing}
 use Rattle.pid_file.specs.declared.io.WriteFault.{WriteFault}
+use Rattle.pid_ident.specs.declared.incoming.Incoming.{Ghosts as Reading}
 use Rattle.std.specs.Io.KnownBytes.{Appends, IsAtEnd}
 use Rattle.httparse.specs.Spans.{IsRequestAt}
 use Rattle.httparse.specs.declared.spans.HeaderSpan.{HeaderSpan}
@@ -14,7 +18,13 @@ use Rattle.pid_http_stream.specs.Replies.{Answer, reply_head, reply_bytes, fault
 use Rattle.pid_http_stream.specs.Requests.{Request, IsRequest}
 use Rattle.pid_http_stream.specs.Serving.{saturated, Outside, WritesFront, IsCutInReply}
 use Rattle.pid_http_stream.specs.Serving.{IsCutInBody, IsCutNext, RunsOut, WaitsOver}
-use Rattle.pid_http_stream.specs.Steps.Intakes.{StandsAt}
+use Rattle.pid_http_stream.specs.Leading.{Leads}
+use Rattle.pid_http_stream.specs.Moments.{AllSince}
+use Rattle.pid_http_stream.specs.OneStream.{Answering}
+use Rattle.pid_http_stream.specs.Reads.{reader_at}
+use Rattle.pid_http_stream.specs.Serving.{outside}
+use Rattle.pid_http_stream.specs.Steps.Bodies.{SpendsTurns, turns_at}
+use Rattle.pid_http_stream.specs.Steps.Intakes.{AskStops, StandsAt, WaitsForRequest, idle_asked}
 use Rattle.pid_http_stream.specs.Streams.{closes}
 use Rattle.pid_http_stream.specs.declared.refusal.StreamFault.{StreamFault}
 use Rattle.pid_http_stream.specs.declared.refusal.StreamFault.TheVariants.{BodyShort}
@@ -98,6 +108,40 @@ pub record AsksHandler {H : Type 0} (conduct : Conduct H) (o : Around H) (front 
   pub after : o.input_after ≡ Some more
   pub is : IsAskedOver conduct o (record { front = front; came = came }) result
 
+-- what answers requests, the reader and the writer of a stream, and how often that reader may still
+-- be read
+pub record Attending (A I W : Type 0) : Type 0 where
+  pub handler : A
+  pub input : I
+  pub output : W
+  pub left : ℕ
+
+abbrev pub attending : {A I W : Type 0} → A → I → W → ℕ → Attending A I W
+attending handler input output left =
+    record { handler = handler; input = input; output = output; left = left }
+
+-- the handler was asked for what this head begins
+pub record AsksOver {A V I W : Type 0} (answerer : Answering A V) (reader : Reading I W)
+    (writer : Writing W) (front : FrontHead) (a b : Attending A I W) (result : Asked)
+    : Type 0 where
+  pub becomes : answerer.becomes a.handler b.handler
+  pub asked : Leads answerer.is_good answerer.stands a.handler b.handler
+      (λ v w. IfSome (reader.to_come a.input) (λ _. AsksHandler answerer.conduct
+      (around v w (reader.to_come a.input) (reader.to_come b.input)) front result))
+  pub turns : SpendsTurns (idle_asked result) (turns_at reader a.input a.left)
+      (turns_at reader b.input b.left)
+  pub waits : AllSince
+      (WaitsForRequest front.held (reader.to_come a.input) (writer.taken a.output))
+      (reader.moments a.input) (reader.moments b.input)
+  pub stopped : AskStops result (reader.read_fault a.input) (reader.read_fault b.input) b.left
+  pub goes : reader.goes a.input b.input
+
+-- all of the bytes were sent, or the writer keeps its fault
+pub record SendsAll {X : Type 0} (w : WriterUse) (bytes : List ℕ) (result : Result X WriteFault)
+    : Type 0 where
+  pub sent : Sends result w.before w.after bytes
+  pub fault : IfErr result (λ f. w.fault ≡ Some f)
+
 -- the bytes were written, whole or a prefix of them
 abbrev pub SendsText : Result (Unit {0}) BodyStop → Option (List ℕ) → Option (List ℕ) → List ℕ → Type 0
 SendsText (Ok x) old new bytes = Appends old new bytes
@@ -120,9 +164,9 @@ IsSent conduct o r (Ok x) = (answer : Answer)
 IsSent conduct o r (Err Writer) =
     ((answer : Answer) × conduct.answers o.handler r.request answer o.handler_after
     × WritesFront o.taken o.taken_after (reply_bytes answer r.closing))
-    ⊎ ((head : ReplyHead) × (told : ℕ)
-    × conduct.promises o.handler r.request head told o.handler_after
-    × WritesFront o.taken o.taken_after (reply_head head.status head.content told r.closing))
+    ⊎ ((head : ReplyHead) × (content_length : ℕ)
+    × conduct.promises o.handler r.request head content_length o.handler_after
+    × WritesFront o.taken o.taken_after (reply_head head.status head.content content_length r.closing))
 IsSent conduct o r (Err Store) = closes r.request ≡ r.closing → IsCutInBody conduct r.request o
 
 -- why it was not sent whole, by the fault that the writer keeps, and what the handler says of itself
@@ -130,6 +174,17 @@ abbrev pub SendStops : Result (Unit {0}) BodyStop → Option WriteFault → Type
 SendStops (Ok x) write_fault stuck = ⊤
 SendStops (Err Writer) write_fault stuck = IsSome write_fault
 SendStops (Err Store) write_fault stuck = (write_fault ≡ None) × stuck
+
+-- a reply was sent to a request to which it may be one
+pub record SendsReply {A V : Type 0} (answerer : Answering A V)
+    (May : V → Request → V → Type 0) (closing : Bool) (w : WriterUse) (old new : A)
+    (result : Result (Unit {0}) BodyStop)
+    : Type 0 where
+  pub becomes : answerer.becomes old new
+  pub sent : Leads answerer.is_good answerer.stands old new
+      (λ v z. (a : V) (request : Request) → May a request v
+      → IsSent answerer.conduct (outside a z w.before w.after) (replied request closing) result)
+  pub stops : SendStops result w.fault (answerer.cannot_go_on new)
 
 -- a refusal was written, whole or a prefix of it
 abbrev pub WritesRefusal : StreamFault → Option (List ℕ) → Option (List ℕ) → StreamEnd → Type 0
@@ -144,6 +199,16 @@ abbrev pub EndsBroken : BodyFault → Option (List ℕ) → Option (List ℕ) �
 EndsBroken faults.Short old new end = WritesRefusal BodyShort old new end
 EndsBroken faults.ReadFault old new end = (end ≡ ends.ReadFault) × (new ≡ old)
 EndsBroken faults.TurnsSpent old new end = (end ≡ ends.TurnsSpent) × (new ≡ old)
+
+-- what is refused for this ends the stream so
+pub record Refuses (why : StreamFault) (w : WriterUse) (end : StreamEnd) : Type 0 where
+  pub refused : WritesRefusal why w.before w.after end
+  pub fault : end ≡ ends.WriteFault → IsSome w.fault
+
+-- a body that broke off for this ends it so
+pub record BreaksOff (why : BodyFault) (w : WriterUse) (end : StreamEnd) : Type 0 where
+  pub ended : EndsBroken why w.before w.after end
+  pub fault : end ≡ ends.WriteFault → IsSome w.fault
 
 -- the bytes of a step: what was held and what came for a request, what of it is held after that,
 -- and all that is left of the stream
@@ -229,6 +294,30 @@ EndsSo (Err end) left s = EndsWhy end left s
 abbrev pub idle_answered : Result (Unit {0}) StreamEnd → ℕ
 idle_answered (Ok x) = 0
 idle_answered (Err end) = idle_reads end
+
+-- the request that has this head was served
+pub record ServesRequest {A V I W : Type 0} (answerer : Answering A V) (reader : Reading I W)
+    (writer : Writing W) (head : Head) (content_length : ℕ) (a b : Attending A I W)
+    (result : Result (Unit {0}) StreamEnd)
+    : Type 0 where
+  pub becomes : answerer.becomes a.handler b.handler
+  pub stepped : Leads answerer.is_good answerer.stands a.handler b.handler
+      (λ v w. IfSome (reader.to_come a.input) (λ _. Steps answerer.conduct
+      (outside v w (writer.taken a.output) (writer.taken b.output))
+      (taken_of head content_length (reader.to_come a.input) (reader.to_come b.input)) result))
+  pub turns : SpendsTurns (idle_answered result) (turns_at reader a.input a.left)
+      (turns_at reader b.input b.left)
+  pub waits : AllSince
+      (WaitsForRequest head.bytes.now (reader.to_come a.input) (writer.taken a.output))
+      (reader.moments a.input) (reader.moments b.input)
+  pub ended : EndsSo result b.left (record {
+    before = reader_at reader a.input;
+    after = reader_at reader b.input;
+    write_fault = writer.write_fault b.output;
+    stuck = answerer.cannot_go_on b.handler;
+    turns = a.left;
+  })
+  pub goes : reader.goes a.input b.input
 
 -- what becomes of a request whose reply was sent so far
 abbrev pub answered_so : Result (Unit {0}) BodyStop → Bool → Result (Unit {0}) StreamEnd

@@ -1,6 +1,6 @@
 //! One connection.
 ghost use Rattle.std.specs.Prelude.{◌≡◌, true};
-ghost use Rattle.pid_http_stream.specs.Listener.Streams.{IsGivenMore};
+ghost use Rattle.pid_http_stream.specs.Listener.Servings.{ServesOne};
 
 use crate::listener::closing::close;
 use crate::listener::connection_io::{Replies, Requests, send_held};
@@ -40,8 +40,7 @@ fn serve_buffered<S: StreamServer, R: Read + Drop, W: Write + Drop>(
     server: &mut S,
 ) -> io::Result<()>
     requires { S.live server.old ≡ true }
-    ensures goes { S.goes server.old server.new }
-    ensures counted { IsGivenMore 1 (S.given server.old) (S.given server.new) }
+    ensures { ServesOne S.StreamServer server.old server.new }
 {
     let writer = RefCell::new(writer);
     let mut input = Plain::new(Requests {
@@ -53,35 +52,24 @@ fn serve_buffered<S: StreamServer, R: Read + Drop, W: Write + Drop>(
     send_held(&writer)
 }
 
-// Serves what comes from a reader, each reply sent in chunks.
-fn serve_bare<S: StreamServer, R: Read + Drop, W: Write + Drop>(
-    reader: R,
-    writer: W,
-    server: &mut S,
-)
-    requires { S.live server.old ≡ true }
-    ensures goes { S.goes server.old server.new }
-    ensures counted { IsGivenMore 1 (S.given server.old) (S.given server.new) }
-{
-    let mut input = Plain::new(reader);
-    let mut output = Plain::new(writer);
-    let _served = server.serve(&mut input, &mut output, TURNS);
-}
-
 /// Serves the stream of a connection and closes that. If the connection fails the client loses
 /// replies, and no one else does; if memory for its buffers is refused the stream is served
 /// without them.
 pub(crate) fn serve_connection<S: StreamServer>(alloc: Global, stream: &TcpStream, server: &mut S)
     requires { S.live server.old ≡ true }
-    ensures goes { S.goes server.old server.new }
-    ensures counted { IsGivenMore 1 (S.given server.old) (S.given server.new) }
+    ensures { ServesOne S.StreamServer server.old server.new }
 {
     let _ = stream.set_nodelay(true);
     match buffered(alloc, stream, stream) {
         Ok((reader, writer)) => {
             let _ = serve_buffered(reader, writer, server);
         }
-        Err(_) => serve_bare(stream, stream, server),
+        // Then each reply is sent in chunks.
+        Err(_) => {
+            let mut input = Plain::new(stream);
+            let mut output = Plain::new(stream);
+            let _served = server.serve(&mut input, &mut output, TURNS);
+        }
     }
     close(stream);
 }

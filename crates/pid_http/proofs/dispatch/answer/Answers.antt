@@ -9,7 +9,7 @@ returns-in-Refused g c =
     rw c.in-Refused.is (replied _ _ _ (Answered given) _ given c.early_reply.ensures (no_call _ _ _ (answered given)))
 
 pub returns-in-Asks : goal.returns-in-Asks
-returns-in-Asks g c = rw c.in-Asks.is (rw c.in-Asks.is at c.ask.ensures)
+returns-in-Asks g c = rw c.in-Asks.is (rw c.in-Asks.is at c.answer_question.ensures)
 
 pub returns-in-Obeys : goal.returns-in-Obeys
 returns-in-Obeys g c = rw c.in-Obeys.is c.command.ensures

@@ -32,12 +32,12 @@ missing : (path : Path) (format : Format) → IsQuestion format (λ (x : Unit {0
 missing path format = shows format (children_or_missing format) (λ x. None) (λ h. children_below (Some path) (items_of h)) (questions.Children (Some path)) (λ h. refl) refl
 
 at_top : (under : Option Path) → under ≡ None → (h : History) (items : Vec Item Global) → map pair_of items.items ≡ children_of (option_map path_text under) (items_of h) → Some (map pair_of items.items) ≡ children_below None (items_of h)
-at_top under e h items told = ap Some (told ∙ ap (λ (u : Option Path). children_of (option_map path_text u) (items_of h)) e)
+at_top under e h items says = ap Some (says ∙ ap (λ (u : Option Path). children_of (option_map path_text u) (items_of h)) e)
 
 below : (path : Path) (under : Option Path) → under ≡ Some path → (name : List ℕ) (h : History) (items : Vec Item Global) → Some name ≡ name_at (path_text path) (items_of h) → map pair_of items.items ≡ children_of (option_map path_text under) (items_of h)
     → Some (map pair_of items.items) ≡ children_below (Some path) (items_of h)
-below path under e name h items is told =
-    ap Some (told ∙ ap (λ (u : Option Path). children_of (option_map path_text u) (items_of h)) e)
+below path under e name h items is says =
+    ap Some (says ∙ ap (λ (u : Option Path). children_of (option_map path_text u) (items_of h)) e)
     ∙ ap (λ (n : Option (List ℕ)). option_map (λ (x : List ℕ). children_of (Some (path_text path)) (items_of h)) n) is
 
 pub returns-in-Ok-None : goal.returns-in-Ok-None

@@ -33,7 +33,7 @@ unfolding answer_over
 over l format h (Ok found) (good, is) = AnsweredOver (ap lookup_answer (ap Ok is ∙ by_flags l h false good)) one_question refl
 over l format h (Err lookups.BadFlags) bad = AnsweredOver (ap lookup_answer (by_flags l h true bad)) one_question refl
 over l format h (Err (lookups.Names f)) fault = NotDone f fault (refl, refl) one_question refl
-over l format h (Err lookups.Memory) told = NotDone Memory (inl refl) (refl, refl) one_question refl
+over l format h (Err lookups.Memory) fault = NotDone Memory (inl refl) (refl, refl) one_question refl
 
 failed : (l : Lookup) (format : Format) (result : Result Found (LookupRefusal Refusal)) → result ≡ Err (lookups.Names HasFailed) → IsMeaningRefused (Asks (questions.Lookup l.flags l.args l.size) format) HasFailed (lookup_answer result)
 failed l format result e = (refl, ap lookup_answer e)

@@ -1,6 +1,7 @@
 use Rattle.std.proofs.Common.{arith}
 use Rattle.pid_moderation.specs.Files.{file_reading}
 use Rattle.pid_moderation.specs.BeforeFile.{import_of}
+use Rattle.pid_http_stream.proofs.BodyReads.{if_any}
 use Rattle.pid_http.specs.Answering.{Obeys}
 use Rattle.pid_http.proofs.Imports.{accepted, refused, gave_up}
 use Rattle.pid_http.proofs.importing.take_in.Goals as goal
@@ -8,7 +9,7 @@ use Rattle.pid_http.proofs.importing.take_in.Goals as goal
 pub returns-in-Ok-clause-replied : goal.returns-in-Ok-clause-replied
 returns-in-Ok-clause-replied g c =
     let e = c.in-Ok.ensures in
-    accepted _ g.met.R.RegistryCalls.lives _ _ c.in-Ok.reply c.args.account c.args.key c.args.format _ _ c.reply_with.result e.failed e.obeyed c.reply_with.ensures
+    accepted _ g.met.R.RegistryCalls.lives _ _ c.in-Ok.reply c.args.account c.args.key c.args.format _ _ c.import_reply.result e.failed e.obeyed c.import_reply.ensures
 
 pub returns-in-Err-Refused-clause-replied : goal.returns-in-Err-Refused-clause-replied
 returns-in-Err-Refused-clause-replied g c =
@@ -20,14 +21,11 @@ returns-in-Err-Body-clause-replied g c =
     let e = c.in-Err-Body.ensures in
     gave_up _ g.met.R.RegistryCalls.lives _ _ c.in-Err-Body.field-0 c.args.account c.args.key _ _ (λ file. Obeys (import_of c.args.account c.args.key (file_reading file)) c.args.format) (λ file. omega arith) c.in-Err-Body.field-0-is e.failed e.obeyed
 
-pub returns-in-Ok-clause-goes : goal.returns-in-Ok-clause-goes
-returns-in-Ok-clause-goes g c = c.in-Ok.ensures.reads.goes
+pub returns-in-Ok-clause-read : goal.returns-in-Ok-clause-read
+returns-in-Ok-clause-read g c = record { goes = c.in-Ok.ensures.reads.goes; whole = if_any c.import_reply.result _ c.in-Ok.ensures.obeyed.read.at_end }
 
-pub returns-in-Err-Refused-clause-goes : goal.returns-in-Err-Refused-clause-goes
-returns-in-Err-Refused-clause-goes g c = g.met.B.Input.joins _ _ _ c.in-Err-Refused.ensures.reads.goes c.refuse.ensures.goes
+pub returns-in-Err-Refused-clause-read : goal.returns-in-Err-Refused-clause-read
+returns-in-Err-Refused-clause-read g c = record { goes = g.met.B.Input.joins _ _ _ c.in-Err-Refused.ensures.reads.goes c.refuse.ensures.read.goes; whole = c.refuse.ensures.read.whole }
 
-pub returns-in-Err-Body-clause-goes : goal.returns-in-Err-Body-clause-goes
-returns-in-Err-Body-clause-goes g c = c.in-Err-Body.ensures.reads.goes
-
-pub returns-in-Err-Refused-clause-whole : goal.returns-in-Err-Refused-clause-whole
-returns-in-Err-Refused-clause-whole g c = c.refuse.ensures.whole
+pub returns-in-Err-Body-clause-read : goal.returns-in-Err-Body-clause-read
+returns-in-Err-Body-clause-read g c = record { goes = c.in-Err-Body.ensures.reads.goes; whole = tt }

@@ -32,50 +32,38 @@ reading-preserved g c = record {
   goes = g.met.I.Incoming.joins _ _ _ c.reading.invariant.goes c.in-Piece.ensures.goes;
 }
 
-pub returns-in-Err-clause-head : goal.returns-in-Err-clause-head
-returns-in-Err-clause-head g c = any_faulty _ _ (rw c.in-Err.is at c.reading.invariant.judged) _
+pub returns-in-Err : goal.returns-in-Err
+returns-in-Err g c = record {
+  comes = c.reading.invariant.comes;
+  head = any_faulty _ _ (rw c.in-Err.is at c.reading.invariant.judged) _;
+  turns = idle_turns 1 _ _ c.reading.invariant.turns;
+  pace = c.reading.invariant.pace;
+  waits = c.reading.invariant.waits;
+  stopped = c.reading.invariant.failed;
+  goes = c.reading.invariant.goes;
+}
 
-pub returns-in-Stopped-clause-head : goal.returns-in-Stopped-clause-head
-returns-in-Stopped-clause-head g c = subst IsUnfinished (sym c.in-Stopped.ensures.stays) (inl (judged_none c.reading.held.items c.reading.fields _ _ c.in-Ok.is c.in-None.is c.reading.invariant.judged))
+pub returns-in-Stopped : goal.returns-in-Stopped
+returns-in-Stopped g c = record {
+  comes = comes_then _ _ _ _ _ _ c.reading.invariant.comes c.in-Stopped.ensures.comes;
+  head = subst IsUnfinished (sym c.in-Stopped.ensures.stays) (inl (judged_none c.reading.held.items c.reading.fields _ _ c.in-Ok.is c.in-None.is c.reading.invariant.judged));
+  turns = more_turns (idle_stop c.in-Stopped.stop) _ _ _ c.reading.invariant.turns c.in-Stopped.ensures.turns;
+  pace = omega (arith, c.reading.invariant.pace, c.in-Stopped.ensures.turns.spent, ap length c.in-Stopped.ensures.stays);
+  waits = waits_on _ _ _ _ _ _ _ _ c.reading.invariant.comes (inl (judged_none c.reading.held.items c.reading.fields _ _ c.in-Ok.is c.in-None.is c.reading.invariant.judged)) c.reading.invariant.waits c.in-Stopped.ensures.noted;
+  stopped = stops_since c.in-Stopped.stop _ _ _ _ c.reading.invariant.failed c.in-Stopped.ensures.stopped;
+  goes = g.met.I.Incoming.joins _ _ _ c.reading.invariant.goes c.in-Stopped.ensures.goes;
+}
 
-pub returns-in-Stopped-clause-stopped : goal.returns-in-Stopped-clause-stopped
-returns-in-Stopped-clause-stopped g c = stops_since c.in-Stopped.stop _ _ _ _ c.reading.invariant.failed c.in-Stopped.ensures.stopped
-
-pub returns-in-Stopped-clause-comes : goal.returns-in-Stopped-clause-comes
-returns-in-Stopped-clause-comes g c = comes_then _ _ _ _ _ _ c.reading.invariant.comes c.in-Stopped.ensures.comes
-
-pub returns-in-Stopped-clause-turns : goal.returns-in-Stopped-clause-turns
-returns-in-Stopped-clause-turns g c = more_turns (idle_stop c.in-Stopped.stop) _ _ _ c.reading.invariant.turns c.in-Stopped.ensures.turns
-
-pub returns-in-End-clause-comes : goal.returns-in-End-clause-comes
-returns-in-End-clause-comes g c = comes_then _ _ _ _ _ _ c.reading.invariant.comes c.in-End.ensures.comes
-
-pub returns-in-End-clause-turns : goal.returns-in-End-clause-turns
-returns-in-End-clause-turns g c = rw c.judge_end.ensures.idle (more_turns 1 _ _ _ c.reading.invariant.turns c.in-End.ensures.turns)
-
-pub returns-in-End-clause-head : goal.returns-in-End-clause-head
-returns-in-End-clause-head g c = subst (λ l. IsHeadRead l c.reading.fields (g.I.Incoming.to_come c.read_more.new.input) c.judge_end.result) c.deref-in-End.ensures.value (c.judge_end.ensures.judged _ _ c.in-End.ensures.stays.1)
-
-pub returns-in-End-clause-stopped : goal.returns-in-End-clause-stopped
-returns-in-End-clause-stopped g c = stops_never c.judge_end.result _ _ _ _ c.judge_end.ensures.stopped c.in-End.ensures.stopped c.reading.invariant.failed
-
-pub returns-in-Stopped-clause-waits : goal.returns-in-Stopped-clause-waits
-returns-in-Stopped-clause-waits g c = waits_on _ _ _ _ _ _ _ _ c.reading.invariant.comes (inl (judged_none c.reading.held.items c.reading.fields _ _ c.in-Ok.is c.in-None.is c.reading.invariant.judged)) c.reading.invariant.waits c.in-Stopped.ensures.noted
-
-pub returns-in-End-clause-waits : goal.returns-in-End-clause-waits
-returns-in-End-clause-waits g c = waits_on _ _ _ _ _ _ _ _ c.reading.invariant.comes (inl (judged_none c.reading.held.items c.reading.fields _ _ c.in-Ok.is c.in-None.is c.reading.invariant.judged)) c.reading.invariant.waits c.in-End.ensures.noted
-
-pub returns-in-Stopped-clause-goes : goal.returns-in-Stopped-clause-goes
-returns-in-Stopped-clause-goes g c = g.met.I.Incoming.joins _ _ _ c.reading.invariant.goes c.in-Stopped.ensures.goes
-
-pub returns-in-End-clause-goes : goal.returns-in-End-clause-goes
-returns-in-End-clause-goes g c = g.met.I.Incoming.joins _ _ _ c.reading.invariant.goes c.in-End.ensures.goes
-
-pub returns-in-Stopped-clause-pace : goal.returns-in-Stopped-clause-pace
-returns-in-Stopped-clause-pace g c = omega (arith, c.reading.invariant.pace, c.in-Stopped.ensures.turns.spent, ap length c.in-Stopped.ensures.stays)
-
-pub returns-in-End-clause-pace : goal.returns-in-End-clause-pace
-returns-in-End-clause-pace g c = omega (arith, c.reading.invariant.pace, c.in-End.ensures.turns.spent, ap length c.in-End.ensures.stays.0)
+pub returns-in-End : goal.returns-in-End
+returns-in-End g c = record {
+  comes = comes_then _ _ _ _ _ _ c.reading.invariant.comes c.in-End.ensures.comes;
+  head = subst (λ l. IsHeadRead l c.reading.fields (g.I.Incoming.to_come c.read_more.new.input) c.judge_end.result) c.deref-in-End.ensures.value (c.judge_end.ensures.judged _ _ c.in-End.ensures.stays.1);
+  turns = rw c.judge_end.ensures.idle (more_turns 1 _ _ _ c.reading.invariant.turns c.in-End.ensures.turns);
+  pace = omega (arith, c.reading.invariant.pace, c.in-End.ensures.turns.spent, ap length c.in-End.ensures.stays.0);
+  waits = waits_on _ _ _ _ _ _ _ _ c.reading.invariant.comes (inl (judged_none c.reading.held.items c.reading.fields _ _ c.in-Ok.is c.in-None.is c.reading.invariant.judged)) c.reading.invariant.waits c.in-End.ensures.noted;
+  stopped = stops_never c.judge_end.result _ _ _ _ c.judge_end.ensures.stopped c.in-End.ensures.stopped c.reading.invariant.failed;
+  goes = g.met.I.Incoming.joins _ _ _ c.reading.invariant.goes c.in-End.ensures.goes;
+}
 
 pub reading-smaller : goal.reading-smaller
 reading-smaller g c = let p = c.in-Piece.ensures.piece refl in omega (arith, p.0)
@@ -90,47 +78,19 @@ judge_end-requires-clause-short g c =
     let u : IsHeadUnfinished c.reading.held.items = judged_none c.reading.held.items c.reading.fields _ _ c.in-Ok.is c.in-None.is c.reading.invariant.judged in
     let e = ap length (c.deref-in-End.ensures.value ∙ c.in-End.ensures.stays.0) in omega (arith, e, u.short)
 
-pub returns-in-Some-clause-comes : goal.returns-in-Some-clause-comes
-returns-in-Some-clause-comes g c = c.reading.invariant.comes
-
-pub returns-in-Some-clause-head : goal.returns-in-Some-clause-head
-returns-in-Some-clause-head g c = judged_found c.reading.held.items c.reading.fields _ _ _ c.in-Ok.is c.in-Some.is c.reading.invariant.judged
-
-pub returns-in-Some-clause-turns : goal.returns-in-Some-clause-turns
-returns-in-Some-clause-turns g c = c.reading.invariant.turns
-
-pub returns-in-Some-clause-pace : goal.returns-in-Some-clause-pace
-returns-in-Some-clause-pace g c = c.reading.invariant.pace
-
-pub returns-in-Some-clause-waits : goal.returns-in-Some-clause-waits
-returns-in-Some-clause-waits g c = c.reading.invariant.waits
-
-pub returns-in-Some-clause-stopped : goal.returns-in-Some-clause-stopped
-returns-in-Some-clause-stopped g c = c.reading.invariant.failed
-
-pub returns-in-Some-clause-goes : goal.returns-in-Some-clause-goes
-returns-in-Some-clause-goes g c = c.reading.invariant.goes
-
-pub returns-in-Err-clause-comes : goal.returns-in-Err-clause-comes
-returns-in-Err-clause-comes g c = c.reading.invariant.comes
-
-pub returns-in-Err-clause-turns : goal.returns-in-Err-clause-turns
-returns-in-Err-clause-turns g c = idle_turns 1 _ _ c.reading.invariant.turns
-
-pub returns-in-Err-clause-pace : goal.returns-in-Err-clause-pace
-returns-in-Err-clause-pace g c = c.reading.invariant.pace
-
-pub returns-in-Err-clause-waits : goal.returns-in-Err-clause-waits
-returns-in-Err-clause-waits g c = c.reading.invariant.waits
-
-pub returns-in-Err-clause-stopped : goal.returns-in-Err-clause-stopped
-returns-in-Err-clause-stopped g c = c.reading.invariant.failed
-
-pub returns-in-Err-clause-goes : goal.returns-in-Err-clause-goes
-returns-in-Err-clause-goes g c = c.reading.invariant.goes
+pub returns-in-Some : goal.returns-in-Some
+returns-in-Some g c = record {
+  comes = c.reading.invariant.comes;
+  head = judged_found c.reading.held.items c.reading.fields _ _ _ c.in-Ok.is c.in-Some.is c.reading.invariant.judged;
+  turns = c.reading.invariant.turns;
+  pace = c.reading.invariant.pace;
+  waits = c.reading.invariant.waits;
+  stopped = c.reading.invariant.failed;
+  goes = c.reading.invariant.goes;
+}
 
 pub read_more-requires : goal.read_more-requires
-read_more-requires g c = record { waits = inl (judged_none c.reading.held.items c.reading.fields _ _ c.in-Ok.is c.in-None.is c.reading.invariant.judged) }
+read_more-requires g c = inl (judged_none c.reading.held.items c.reading.fields _ _ c.in-Ok.is c.in-None.is c.reading.invariant.judged)
 
 pub judge_more-judged-requires-clause-wants : goal.judge_more-judged-requires-clause-wants
 judge_more-judged-requires-clause-wants g c =

@@ -1,10 +1,19 @@
 use Rattle.std.proofs.Common.{refl, sym, ◌∙◌, inl}
-use Rattle.pid_http_stream.proofs.BodyReads.{all_of_it}
+use Rattle.pid_http_stream.proofs.BodyReads.{all_of_it, if_any}
 use Rattle.pid_http_stream.proofs.Leading.{stays, turned, asked_left}
 use Rattle.pid_http_stream.proofs.one_request.ask.Goals as goal
 
-pub returns-in-Err-clause-goes : goal.returns-in-Err-clause-goes
-returns-in-Err-clause-goes g c = g.met.B.Input.stays _
+pub returns-in-Err-clause-body : goal.returns-in-Err-clause-body
+returns-in-Err-clause-body g c = record { goes = g.met.B.Input.stays _; whole = tt }
+
+pub returns-in-Err-read_whole-clause-body : goal.returns-in-Err-read_whole-clause-body
+returns-in-Err-read_whole-clause-body g c = record { goes = c.read_whole.ensures.goes; whole = tt }
+
+pub returns-in-Ok-clause-body : goal.returns-in-Ok-clause-body
+returns-in-Ok-clause-body g c = record { goes = c.read_whole.ensures.goes; whole = if_any c.answer.result _ c.in-Ok.ensures.whole.1 }
+
+pub returns-in-Ok-Streamed-clause-body : goal.returns-in-Ok-Streamed-clause-body
+returns-in-Ok-Streamed-clause-body g c = record { goes = c.answer_streamed.ensures.goes; whole = c.answer_streamed.ensures.whole }
 
 pub returns-in-Err-clause-becomes : goal.returns-in-Err-clause-becomes
 returns-in-Err-clause-becomes g c = g.met.H.Handler.stays _

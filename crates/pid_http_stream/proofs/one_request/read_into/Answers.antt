@@ -8,20 +8,29 @@ loop-preserved g c = record {
   goes = g.met.B.Input.joins _ _ _ c.loop.invariant.goes c.read.ensures.goes;
 }
 
-pub returns-then-count-eq0-clause-whole : goal.returns-then-count-eq0-clause-whole
-returns-then-count-eq0-clause-whole g c = (
-  ended _ _ _ _ c.read.new.buffer c.in-Ok.count c.loop.invariant.consumed c.in-Ok.ensures.bytes.0 c.if-count-eq0.true,
-  c.in-Ok.ensures.bytes.1 c.if-count-eq0.true (search rules),
-)
+pub returns-then-count-eq0 : goal.returns-then-count-eq0
+returns-then-count-eq0 g c = record {
+  goes = g.met.B.Input.joins _ _ _ c.loop.invariant.goes c.read.ensures.goes;
+  whole = (
+    ended _ _ _ _ c.read.new.buffer c.in-Ok.count c.loop.invariant.consumed c.in-Ok.ensures.bytes.0 c.if-count-eq0.true,
+    c.in-Ok.ensures.bytes.1 c.if-count-eq0.true (search rules),
+  );
+}
 
-pub returns-in_default-clause-goes : goal.returns-in_default-clause-goes
-returns-in_default-clause-goes g c = g.met.B.Input.joins _ _ _ c.loop.invariant.goes c.read.ensures.goes
+pub returns-in_default : goal.returns-in_default
+returns-in_default g c = record {
+  goes = g.met.B.Input.joins _ _ _ c.loop.invariant.goes c.read.ensures.goes;
+  whole = tt;
+}
 
-pub returns-then-count-eq0-clause-goes : goal.returns-then-count-eq0-clause-goes
-returns-then-count-eq0-clause-goes g c = g.met.B.Input.joins _ _ _ c.loop.invariant.goes c.read.ensures.goes
+pub returns-then-is_err : goal.returns-then-is_err
+returns-then-is_err g c = record {
+  goes = g.met.B.Input.joins _ _ _ c.loop.invariant.goes c.read.ensures.goes;
+  whole = tt;
+}
 
-pub returns-then-is_err-clause-goes : goal.returns-then-is_err-clause-goes
-returns-then-is_err-clause-goes g c = g.met.B.Input.joins _ _ _ c.loop.invariant.goes c.read.ensures.goes
-
-pub returns-else-is_err-clause-goes : goal.returns-else-is_err-clause-goes
-returns-else-is_err-clause-goes g c = g.met.B.Input.joins _ _ _ c.loop.invariant.goes c.read.ensures.goes
+pub returns-else-is_err : goal.returns-else-is_err
+returns-else-is_err g c = record {
+  goes = g.met.B.Input.joins _ _ _ c.loop.invariant.goes c.read.ensures.goes;
+  whole = tt;
+}

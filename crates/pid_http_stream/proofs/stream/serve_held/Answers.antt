@@ -25,29 +25,44 @@ serving-init g c = record {
   goes = g.met.I.Incoming.stays _;
 }
 
-pub returns-in-Err-clause-becomes : goal.returns-in-Err-clause-becomes
-returns-in-Err-clause-becomes g c = g.met.H.Handler.joins _ _ _ c.serving.invariant.becomes c.serve_request.ensures.becomes
+pub returns-in-Err : goal.returns-in-Err
+returns-in-Err g c = record {
+  becomes = g.met.H.Handler.joins _ _ _ c.serving.invariant.becomes c.serve_request.ensures.becomes;
+  goes = g.met.I.Incoming.joins _ _ _ (g.met.I.Incoming.joins _ _ _ c.serving.invariant.goes c.read_head.ensures.goes) c.serve_request.ensures.goes;
+  served = joined _ _ _ _ _ _ (λ u v w serving stepped. rw c.with_last-answered-in-Err.ensures (loop_ended _ _ _ _ _ _ _ _ _ _ _ _ _ _ _ _ _ serving c.in-Head.ensures.comes c.deref.ensures.value stepped)) c.serving.invariant.serving c.in-Err.ensures.stepped;
+  caught_up = joined _ _ _ _ _ _ (λ u v w past step. past) (beside _ _ _ _ _ (λ u v w serving past. loop_waits_within _ _ _ _ _ _ _ _ _ _ _ _ _ _ _ _ serving past c.in-Head.ensures.waits c.in-Head.ensures.comes c.deref.ensures.value c.in-Err.ensures.waits) c.serving.invariant.serving c.serving.invariant.caught_up) c.in-Err.ensures.stepped;
+  ended = ends_for _ c.in-Err.end _ (more_turns (idle_reads c.in-Err.end) _ _ _ c.serving.invariant.turns (more_turns (idle_reads c.in-Err.end) _ _ _ c.in-Head.ensures.turns c.in-Err.ensures.turns))
+      (why_later _ _ _ _ _ _ _ _ (c.in-Head.ensures.stopped ∙ c.serving.invariant.failed) c.in-Err.end c.in-Err.ensures.ended);
+}
 
-pub returns-in-Nothing-clause-goes : goal.returns-in-Nothing-clause-goes
-returns-in-Nothing-clause-goes g c = g.met.I.Incoming.joins _ _ _ c.serving.invariant.goes c.read_head.ensures.goes
+pub returns-in-Nothing : goal.returns-in-Nothing
+returns-in-Nothing g c = record {
+  becomes = c.serving.invariant.becomes;
+  goes = g.met.I.Incoming.joins _ _ _ c.serving.invariant.goes c.read_head.ensures.goes;
+  served = turned _ _ _ _ (λ v w serving. loop_nothing _ _ _ _ _ _ _ _ _ _ _ serving c.in-Nothing.ensures.comes c.in-Nothing.ensures.head) c.serving.invariant.serving;
+  caught_up = beside _ _ _ _ _ (λ u v w serving past. loop_waits _ _ _ _ _ _ _ _ _ _ _ _ serving past c.in-Nothing.ensures.waits) c.serving.invariant.serving c.serving.invariant.caught_up;
+  ended = ends_for _ _ _ (more_turns 1 _ _ _ c.serving.invariant.turns c.in-Nothing.ensures.turns) (record { cause = tt; failed = inl (c.in-Nothing.ensures.stopped ∙ c.serving.invariant.failed); spent = λ e. clean_is_not_spent e });
+}
 
-pub returns-in-Faulty-clause-goes : goal.returns-in-Faulty-clause-goes
-returns-in-Faulty-clause-goes g c = g.met.I.Incoming.joins _ _ _ c.serving.invariant.goes c.read_head.ensures.goes
+pub returns-in-Faulty : goal.returns-in-Faulty
+returns-in-Faulty g c = record {
+  becomes = c.serving.invariant.becomes;
+  goes = g.met.I.Incoming.joins _ _ _ c.serving.invariant.goes c.read_head.ensures.goes;
+  served = turned _ _ _ _ (λ v w serving. rw c.with_last-answered.ensures (loop_faulty _ _ _ _ _ _ _ _ _ _ _ _ _ _ serving c.in-Faulty.ensures.comes c.in-Faulty.ensures.head c.refuse-end.ensures.refused)) c.serving.invariant.serving;
+  caught_up = beside _ _ _ _ _ (λ u v w serving past. loop_waits _ _ _ _ _ _ _ _ _ _ _ _ serving past c.in-Faulty.ensures.waits) c.serving.invariant.serving c.serving.invariant.caught_up;
+  ended = ends_for _ c.refuse-end.result c.read_head.new.turns_left (rw (refused_idle _ _ _ _ c.refuse-end.ensures.refused) (more_turns 1 _ _ _ c.serving.invariant.turns c.in-Faulty.ensures.turns))
+      (refused_ends _ _ _ _ _ _ (c.in-Faulty.ensures.stopped ∙ c.serving.invariant.failed) c.refuse-end.ensures.refused c.refuse-end.ensures.fault);
+}
 
-pub returns-in-Stopped-clause-goes : goal.returns-in-Stopped-clause-goes
-returns-in-Stopped-clause-goes g c = g.met.I.Incoming.joins _ _ _ c.serving.invariant.goes c.read_head.ensures.goes
-
-pub returns-in-Nothing-clause-served : goal.returns-in-Nothing-clause-served
-returns-in-Nothing-clause-served g c = turned _ _ _ _ (λ v w serving. loop_nothing _ _ _ _ _ _ _ _ _ _ _ serving c.in-Nothing.ensures.comes c.in-Nothing.ensures.head) c.serving.invariant.serving
-
-pub returns-in-Faulty-clause-served : goal.returns-in-Faulty-clause-served
-returns-in-Faulty-clause-served g c = turned _ _ _ _ (λ v w serving. rw c.with_last-answered.ensures (loop_faulty _ _ _ _ _ _ _ _ _ _ _ _ _ _ serving c.in-Faulty.ensures.comes c.in-Faulty.ensures.head c.refuse-end.ensures.refused)) c.serving.invariant.serving
-
-pub returns-in-Stopped-clause-served : goal.returns-in-Stopped-clause-served
-returns-in-Stopped-clause-served g c = turned _ _ _ _ (λ v w serving. rw c.end_of-end.ensures (loop_stopped _ _ _ _ _ _ _ _ _ _ _ _ serving c.in-Stopped.ensures.comes c.in-Stopped.ensures.head)) c.serving.invariant.serving
-
-pub returns-in-Err-clause-served : goal.returns-in-Err-clause-served
-returns-in-Err-clause-served g c = joined _ _ _ _ _ _ (λ u v w serving stepped. rw c.with_last-answered-in-Err.ensures (loop_ended _ _ _ _ _ _ _ _ _ _ _ _ _ _ _ _ _ serving c.in-Head.ensures.comes c.deref.ensures.value stepped)) c.serving.invariant.serving c.in-Err.ensures.stepped
+pub returns-in-Stopped : goal.returns-in-Stopped
+returns-in-Stopped g c = record {
+  becomes = c.serving.invariant.becomes;
+  goes = g.met.I.Incoming.joins _ _ _ c.serving.invariant.goes c.read_head.ensures.goes;
+  served = turned _ _ _ _ (λ v w serving. rw c.end_of-end.ensures (loop_stopped _ _ _ _ _ _ _ _ _ _ _ _ serving c.in-Stopped.ensures.comes c.in-Stopped.ensures.head)) c.serving.invariant.serving;
+  caught_up = beside _ _ _ _ _ (λ u v w serving past. loop_waits _ _ _ _ _ _ _ _ _ _ _ _ serving past c.in-Stopped.ensures.waits) c.serving.invariant.serving c.serving.invariant.caught_up;
+  ended = rw c.end_of-end.ensures (ends_for _ (stop_end c.in-Stopped.stop) c.read_head.new.turns_left (rw (stopped_idle c.in-Stopped.stop) (more_turns (idle_stop c.in-Stopped.stop) _ _ _ c.serving.invariant.turns c.in-Stopped.ensures.turns))
+      (stopped_ends _ c.in-Stopped.stop _ (stops_since c.in-Stopped.stop _ _ _ _ c.serving.invariant.failed c.in-Stopped.ensures.stopped)));
+}
 
 pub serving-preserved : goal.serving-preserved
 serving-preserved g c = record {
@@ -62,48 +77,6 @@ serving-preserved g c = record {
 
 pub overflow_add-spans : goal.overflow_add-spans
 overflow_add-spans g c = let stands = c.in-Head.ensures.head in omega (arith, stands.short, stands.fits)
-
-pub returns-in-Err-clause-goes : goal.returns-in-Err-clause-goes
-returns-in-Err-clause-goes g c = g.met.I.Incoming.joins _ _ _ (g.met.I.Incoming.joins _ _ _ c.serving.invariant.goes c.read_head.ensures.goes) c.serve_request.ensures.goes
-
-pub returns-in-Nothing-clause-caught_up : goal.returns-in-Nothing-clause-caught_up
-returns-in-Nothing-clause-caught_up g c = beside _ _ _ _ _ (λ u v w serving past. loop_waits _ _ _ _ _ _ _ _ _ _ _ _ serving past c.in-Nothing.ensures.waits) c.serving.invariant.serving c.serving.invariant.caught_up
-
-pub returns-in-Faulty-clause-caught_up : goal.returns-in-Faulty-clause-caught_up
-returns-in-Faulty-clause-caught_up g c = beside _ _ _ _ _ (λ u v w serving past. loop_waits _ _ _ _ _ _ _ _ _ _ _ _ serving past c.in-Faulty.ensures.waits) c.serving.invariant.serving c.serving.invariant.caught_up
-
-pub returns-in-Stopped-clause-caught_up : goal.returns-in-Stopped-clause-caught_up
-returns-in-Stopped-clause-caught_up g c = beside _ _ _ _ _ (λ u v w serving past. loop_waits _ _ _ _ _ _ _ _ _ _ _ _ serving past c.in-Stopped.ensures.waits) c.serving.invariant.serving c.serving.invariant.caught_up
-
-pub returns-in-Err-clause-caught_up : goal.returns-in-Err-clause-caught_up
-returns-in-Err-clause-caught_up g c = joined _ _ _ _ _ _ (λ u v w past step. past) (beside _ _ _ _ _ (λ u v w serving past. loop_waits_within _ _ _ _ _ _ _ _ _ _ _ _ _ _ _ _ serving past c.in-Head.ensures.waits c.in-Head.ensures.comes c.deref.ensures.value c.in-Err.ensures.waits) c.serving.invariant.serving c.serving.invariant.caught_up) c.in-Err.ensures.stepped
-
-pub returns-in-Nothing-clause-ended : goal.returns-in-Nothing-clause-ended
-returns-in-Nothing-clause-ended g c = ends_for _ _ _ (more_turns 1 _ _ _ c.serving.invariant.turns c.in-Nothing.ensures.turns) (record { cause = tt; failed = inl (c.in-Nothing.ensures.stopped ∙ c.serving.invariant.failed); spent = λ e. clean_is_not_spent e })
-
-pub returns-in-Faulty-clause-ended : goal.returns-in-Faulty-clause-ended
-returns-in-Faulty-clause-ended g c =
-    ends_for _ c.refuse-end.result c.read_head.new.turns_left (rw (refused_idle _ _ _ _ c.refuse-end.ensures.refused) (more_turns 1 _ _ _ c.serving.invariant.turns c.in-Faulty.ensures.turns))
-    (refused_ends _ _ _ _ _ _ (c.in-Faulty.ensures.stopped ∙ c.serving.invariant.failed) c.refuse-end.ensures.refused c.refuse-end.ensures.fault)
-
-pub returns-in-Stopped-clause-ended : goal.returns-in-Stopped-clause-ended
-returns-in-Stopped-clause-ended g c =
-    rw c.end_of-end.ensures (ends_for _ (stop_end c.in-Stopped.stop) c.read_head.new.turns_left (rw (stopped_idle c.in-Stopped.stop) (more_turns (idle_stop c.in-Stopped.stop) _ _ _ c.serving.invariant.turns c.in-Stopped.ensures.turns))
-    (stopped_ends _ c.in-Stopped.stop _ (stops_since c.in-Stopped.stop _ _ _ _ c.serving.invariant.failed c.in-Stopped.ensures.stopped)))
-
-pub returns-in-Err-clause-ended : goal.returns-in-Err-clause-ended
-returns-in-Err-clause-ended g c =
-    ends_for _ c.in-Err.end _ (more_turns (idle_reads c.in-Err.end) _ _ _ c.serving.invariant.turns (more_turns (idle_reads c.in-Err.end) _ _ _ c.in-Head.ensures.turns c.in-Err.ensures.turns))
-    (why_later _ _ _ _ _ _ _ _ (c.in-Head.ensures.stopped ∙ c.serving.invariant.failed) c.in-Err.end c.in-Err.ensures.ended)
-
-pub returns-in-Nothing-clause-becomes : goal.returns-in-Nothing-clause-becomes
-returns-in-Nothing-clause-becomes g c = c.serving.invariant.becomes
-
-pub returns-in-Faulty-clause-becomes : goal.returns-in-Faulty-clause-becomes
-returns-in-Faulty-clause-becomes g c = c.serving.invariant.becomes
-
-pub returns-in-Stopped-clause-becomes : goal.returns-in-Stopped-clause-becomes
-returns-in-Stopped-clause-becomes g c = c.serving.invariant.becomes
 
 pub serving-smaller : goal.serving-smaller
 serving-smaller g c =

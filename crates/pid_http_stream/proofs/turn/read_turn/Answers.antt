@@ -3,7 +3,7 @@ use Rattle.std.proofs.KnownBytes.{Consumes-nil}
 use Rattle.pid_http_stream.specs.Steps.BodyLaws.{no_turns}
 use Rattle.pid_ident.specs.Steps.MomentLaws.{since_none}
 use Rattle.pid_http_stream.specs.Steps.Intakes.{IsMoment}
-use Rattle.pid_http_stream.proofs.BodyReads.{keeps_nil, one_less, one_turn, last_turn, some_of, some_taken, some_told, still_good}
+use Rattle.pid_http_stream.proofs.BodyReads.{keeps_nil, one_less, one_turn, last_turn, some_of, some_taken, some_by, still_good}
 use Rattle.pid_http_stream.proofs.Noting.{since_noted}
 use Rattle.pid_http_stream.proofs.turn.read_turn.Goals as goal
 
@@ -19,7 +19,7 @@ returns-then-turns_left-eq0-clause-goes g c = g.met.I.Incoming.stays _
 
 pub returns-in-Err-clause-read : goal.returns-in-Err-clause-read
 returns-in-Err-clause-read g c = record {
-  brings = (keeps_nil _ _ c.in-Err.ensures.bytes, some_told _ _ c.in-Err.ensures.fault, inr refl);
+  brings = (keeps_nil _ _ c.in-Err.ensures.bytes, some_by _ _ c.in-Err.ensures.fault, inr refl);
   turns = last_turn _ _ c.args.turns_left.now _ (some_of _ c.if-turns_left-eq0.false) c.read_after.ensures.count (keeps_nil _ _ c.in-Err.ensures.bytes) c.in-Err.ensures.noted;
   noted = since_noted _ _ _ _ c.in-Err.ensures.noted;
 }

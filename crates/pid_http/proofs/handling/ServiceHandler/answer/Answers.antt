@@ -1,12 +1,12 @@
 use Rattle.std.proofs.Common.{refl, sym, ◌∙◌}
 use Rattle.pid_http_stream.specs.declared.handler.Wanted.TheVariants.{Buffered}
 use Rattle.pid_http.proofs.Handled.{asked_ok, asked_err, meaning_is}
-use Rattle.pid_http.proofs.Meeting.{told_of}
+use Rattle.pid_http.proofs.Meeting.{within_session}
 use Rattle.pid_http.proofs.handling.ServiceHandler.answer.Goals as goal
 
 pub returns-in-Ok-clause-answered : goal.returns-in-Ok-clause-answered
 returns-in-Ok-clause-answered g c =
-    let l = told_of _ _ _ _ c.in-Ok.ensures in
+    let l = within_session _ _ _ _ c.in-Ok.ensures in
     record {
       good = l.good;
       leads = λ good t is.
@@ -20,7 +20,7 @@ returns-in-Ok-clause-answered g c =
 
 pub returns-clause-answered : goal.returns-clause-answered
 returns-clause-answered g c =
-    let l = told_of _ _ _ _ c.in-Err.ensures in
+    let l = within_session _ _ _ _ c.in-Err.ensures in
     record {
       good = l.good;
       leads = λ good t is.

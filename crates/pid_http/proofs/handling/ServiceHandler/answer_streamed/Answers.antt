@@ -1,12 +1,12 @@
 use Rattle.std.proofs.Common.{refl, sym}
 use Rattle.pid_http_stream.specs.declared.handler.Wanted.TheVariants.{Streamed}
 use Rattle.pid_http.proofs.Handled.{asked_after, by_calls, meaning_is, given_up_most}
-use Rattle.pid_http.proofs.Meeting.{told_of}
+use Rattle.pid_http.proofs.Meeting.{within_session}
 use Rattle.pid_http.proofs.handling.ServiceHandler.answer_streamed.Goals as goal
 
 pub returns-clause-answered : goal.returns-clause-answered
 returns-clause-answered g c =
-    let l = told_of _ _ _ _ c.import.ensures.replied in
+    let l = within_session _ _ _ _ c.import.ensures.replied in
     record {
       good = l.good;
       leads = λ good t is.

@@ -2,7 +2,7 @@ use Rattle.std.proofs.Common.{rules, arith, ◌≡◌, ◌≤◌, ◌++◌, leng
 use Rattle.std.proofs.KnownBytes.{Consumes-nil}
 use Rattle.std.proofs.lemmas.List.{length-take-le, take-append-le}
 use Rattle.pid_http_stream.specs.Steps.BodyLaws.{no_body_reads}
-use Rattle.pid_http_stream.proofs.BodyReads.{held_given, read_given, nothing, keeps_same, none_left, keeps_padded, none_of, told_some, told_none, kept_told, none_kept, gave_held, gave_read, broke_off}
+use Rattle.pid_http_stream.proofs.BodyReads.{held_given, read_given, nothing, keeps_same, none_left, keeps_padded, none_of, some_kept_by, none_kept_by, keeps_kept, none_kept, gave_held, gave_read, broke_off}
 use Rattle.pid_http_stream.proofs.body_input.BodyInputInput.read.Goals as goal
 
 pub returns-then-is_some-clause-room : goal.returns-then-is_some-clause-room
@@ -12,10 +12,10 @@ pub returns-then-is_some-clause-bytes : goal.returns-then-is_some-clause-bytes
 returns-then-is_some-clause-bytes g c = keeps_same _
 
 pub returns-then-is_some-clause-fault : goal.returns-then-is_some-clause-fault
-returns-then-is_some-clause-fault g c = told_some c.args.self.now.fault (sym c.is_some.ensures ∙ c.if-is_some.true)
+returns-then-is_some-clause-fault g c = some_kept_by c.args.self.now.fault (sym c.is_some.ensures ∙ c.if-is_some.true)
 
 pub returns-then-is_some-clause-kept : goal.returns-then-is_some-clause-kept
-returns-then-is_some-clause-kept g c = kept_told _ c.args.self.now.fault refl
+returns-then-is_some-clause-kept g c = keeps_kept _ c.args.self.now.fault refl
 
 pub returns-then-is_some-clause-count : goal.returns-then-is_some-clause-count
 returns-then-is_some-clause-count g c = c.saturating_add-self.ensures
@@ -30,7 +30,7 @@ pub returns-then-room-eq0-clause-bytes : goal.returns-then-room-eq0-clause-bytes
 returns-then-room-eq0-clause-bytes g c = (Consumes-nil _, λ z some. none_left (g.I.Incoming.to_come c.args.self.now.input.now) c.args.self.now.wanted c.args.self.now.held.now (omega (arith, c.min-room.ensures, c.if-room-eq0.true, some)))
 
 pub returns-then-room-eq0-clause-fault : goal.returns-then-room-eq0-clause-fault
-returns-then-room-eq0-clause-fault g c = told_none c.args.self.now.fault (sym c.is_some.ensures ∙ c.if-is_some.false)
+returns-then-room-eq0-clause-fault g c = none_kept_by c.args.self.now.fault (sym c.is_some.ensures ∙ c.if-is_some.false)
 
 pub returns-then-room-eq0-clause-kept : goal.returns-then-room-eq0-clause-kept
 returns-then-room-eq0-clause-kept g c = none_kept c.args.self.now.fault _ (sym c.is_some.ensures ∙ c.if-is_some.false)
@@ -55,7 +55,7 @@ returns-then-not-is_empty-clause-bytes g c =
     )
 
 pub returns-then-not-is_empty-clause-fault : goal.returns-then-not-is_empty-clause-fault
-returns-then-not-is_empty-clause-fault g c = told_none c.args.self.now.fault (sym c.is_some.ensures ∙ c.if-is_some.false)
+returns-then-not-is_empty-clause-fault g c = none_kept_by c.args.self.now.fault (sym c.is_some.ensures ∙ c.if-is_some.false)
 
 pub returns-then-not-is_empty-clause-kept : goal.returns-then-not-is_empty-clause-kept
 returns-then-not-is_empty-clause-kept g c = none_kept c.args.self.now.fault _ (sym c.is_some.ensures ∙ c.if-is_some.false)
@@ -87,7 +87,7 @@ returns-in-Ok-clause-bytes g c =
     )
 
 pub returns-in-Ok-clause-fault : goal.returns-in-Ok-clause-fault
-returns-in-Ok-clause-fault g c = told_none c.args.self.now.fault (sym c.is_some.ensures ∙ c.if-is_some.false)
+returns-in-Ok-clause-fault g c = none_kept_by c.args.self.now.fault (sym c.is_some.ensures ∙ c.if-is_some.false)
 
 pub returns-in-Ok-clause-kept : goal.returns-in-Ok-clause-kept
 returns-in-Ok-clause-kept g c = none_kept c.args.self.now.fault _ (sym c.is_some.ensures ∙ c.if-is_some.false)
@@ -115,7 +115,7 @@ pub returns-in-Err-clause-fault : goal.returns-in-Err-clause-fault
 returns-in-Err-clause-fault g c = refl
 
 pub returns-in-Err-clause-kept : goal.returns-in-Err-clause-kept
-returns-in-Err-clause-kept g c = kept_told _ c.args.self.now.fault refl
+returns-in-Err-clause-kept g c = keeps_kept _ c.args.self.now.fault refl
 
 pub returns-in-Err-clause-count : goal.returns-in-Err-clause-count
 returns-in-Err-clause-count g c = c.saturating_add-self.ensures

@@ -22,7 +22,7 @@ use Rattle.pid_http.specs.declared.api.question.Question.TheVariants as question
 use Rattle.pid_http.specs.declared.api.route.Pages.TheVariants as pages
 use Rattle.pid_http.specs.declared.api.route.Whole.TheVariants as wholes
 use Rattle.pid_http.proofs.Meeting.{if_there_met, question_met, replied, shows, shows_there}
-use Rattle.pid_http.proofs.dispatch.ask.Goals as goal
+use Rattle.pid_http.proofs.dispatch.answer_question.Goals as goal
 
 pub returns-in-Read : goal.returns-in-Read
 returns-in-Read g c = rw c.in-Read.is c.read.ensures
