@@ -123,11 +123,10 @@ fn judge_end(held: &[u8]) -> HeadRead
 fn judge_more(
     held: &[u8],
     before: usize,
-    fields: &mut [HeaderSpan],
+    fields: &mut [HeaderSpan; MOST_FIELDS],
 ) -> Result<Option<FoundHead>, StreamFault>
     requires wants { IsHeadUnfinished (take before held.now) }
     requires before { before ≤ length held.now }
-    requires room { length fields.old ≡ MOST_FIELDS }
     ensures { IsHeadJudged held.now fields.new result }
 {
     let (_, piece) = held.split_at(before);
@@ -144,9 +143,8 @@ pub(crate) fn read_head<I: Incoming<W>, W: Output>(
     turns_left: &mut u64,
     input: &mut I,
     output: &W,
-    fields: &mut [HeaderSpan],
+    fields: &mut [HeaderSpan; MOST_FIELDS],
 ) -> HeadRead
-    requires { length fields.old ≡ MOST_FIELDS }
     ensures { ReadsHead I.Incoming (W.taken output.now) fields.new
         (intake_at held.old.items input.old turns_left.old)
         (intake_at held.new.items input.new turns_left.new) result }

@@ -16,12 +16,11 @@ ghost use Rattle.httparse.specs.Grammar.{HasNoRequest as HasNoHeadYet};
 ghost use Rattle.httparse.specs.Spans.{header_bytes, IsRequestWithin, IsRequestOf};
 ghost use Rattle.httparse.specs.declared.spans.HeaderSpan.{HeaderSpan as FieldSpan};
 ghost use Rattle.pid_http_stream.specs.Steps.Intakes.{IsHeadJudged};
-ghost use Rattle.pid_http_stream.specs.declared.limits.TheConstants.{MOST_FIELDS};
 ghost use Rattle.pid_http_stream.specs.Steps.LineScans.{blank_after};
 ghost use Rattle.pid_http_stream.specs.Unfinished.{CanBeHead};
 
 use crate::body_length::{BodyLength, length_of};
-use crate::limits::LONGEST_HEAD;
+use crate::limits::{LONGEST_HEAD, MOST_FIELDS};
 use crate::refusal::StreamFault;
 use httparse::Status;
 use httparse::spans::{HeaderSpan, RequestSpans, parse_request};
@@ -86,9 +85,8 @@ pub(crate) fn judge_unended(held: &[u8]) -> Result<Option<FoundHead>, StreamFaul
 /// spans of its fields go into `fields`.
 pub(crate) fn judge(
     held: &[u8],
-    fields: &mut [HeaderSpan],
+    fields: &mut [HeaderSpan; MOST_FIELDS],
 ) -> Result<Option<FoundHead>, StreamFault>
-    requires { length fields.old ≡ MOST_FIELDS }
     ensures { IsHeadJudged held.now fields.new result }
 {
     match parse_request(held, fields) {

@@ -15,7 +15,6 @@ reading-init g c = record {
   turns = no_turns 0 _;
   failed = refl;
   pace = omega arith;
-  room = search rules;
   waits = since_none (WaitsForRequest _ _ _) _;
   goes = g.met.I.Incoming.stays _;
 }
@@ -27,7 +26,6 @@ reading-preserved g c = record {
   turns = more_turns 0 _ _ _ c.reading.invariant.turns c.in-Piece.ensures.turns;
   failed = c.in-Piece.ensures.stopped ∙ c.reading.invariant.failed;
   pace = let p = c.in-Piece.ensures.piece refl in omega (arith, c.reading.invariant.pace, p.0, p.1);
-  room = search rules;
   waits = waits_on _ _ _ _ _ _ _ _ c.reading.invariant.comes (inl (judged_none c.reading.held.items c.reading.fields _ _ c.in-Ok.is c.in-None.is c.reading.invariant.judged)) c.reading.invariant.waits c.in-Piece.ensures.noted;
   goes = g.met.I.Incoming.joins _ _ _ c.reading.invariant.goes c.in-Piece.ensures.goes;
 }
@@ -99,6 +97,3 @@ judge_more-judged-requires-clause-wants g c =
 pub judge_more-judged-requires-clause-before : goal.judge_more-judged-requires-clause-before
 judge_more-judged-requires-clause-before g c =
     still_fits c.reading.held.items c.read_more.new.held.items c.deref-in-Piece.result.now c.len-before.result _ _ c.deref-in-Piece.ensures.value c.in-Piece.ensures.comes (c.len-before.ensures ∙ search rules)
-
-pub judge_more-judged-requires-clause-room : goal.judge_more-judged-requires-clause-room
-judge_more-judged-requires-clause-room g c = c.reading.invariant.room

@@ -1,4 +1,4 @@
-use Rattle.std.proofs.Common.{subst, inl, ℕ}
+use Rattle.std.proofs.Common.{rules, subst, inl, ℕ}
 use Rattle.httparse.specs.Spans.{RequestOverflows}
 use Rattle.pid_http_stream.proofs.HeadReads.{begins_whole}
 use Rattle.pid_http_stream.proofs.Heads.{refused_head, long_head}
@@ -14,4 +14,4 @@ pub returns-in-Ok-Partial : goal.returns-in-Ok-Partial
 returns-in-Ok-Partial c = c.judge_unended.ensures _
 
 pub returns-in-Err : goal.returns-in-Err
-returns-in-Err c = λ more. inl (refused_head _ more (subst (λ (room : ℕ). RequestOverflows room c.args.held.now) c.requires c.in-Err.ensures.no_room))
+returns-in-Err c = λ more. inl (refused_head _ more (subst (λ (room : ℕ). RequestOverflows room c.args.held.now) (search rules) c.in-Err.ensures.no_room))

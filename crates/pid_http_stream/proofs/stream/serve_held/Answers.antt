@@ -19,7 +19,6 @@ serving-init g c = record {
       (begins g.H.Handler.conduct v (g.W.Output.taken c.args.output.now) (g.I.Incoming.to_come c.args.input.now)));
   caught_up = stays _ _ (λ v. loop_unread g.H.Handler.conduct v (g.W.Output.taken c.args.output.now) (g.I.Incoming.to_come c.args.input.now) (g.I.Incoming.moments c.args.input.now));
   becomes = g.met.H.Handler.stays _;
-  room = search rules;
   turns = no_turns 0 _;
   failed = refl;
   goes = g.met.I.Incoming.stays _;
@@ -69,7 +68,6 @@ serving-preserved g c = record {
   serving = joined _ _ _ _ _ _ (λ u v w serving stepped. loop_open _ _ _ _ _ _ _ _ _ _ _ _ _ _ _ _ _ _ serving c.in-Head.ensures.comes c.deref.ensures.value stepped c.saturating_add-answered.ensures c.drop_front.ensures) c.serving.invariant.serving c.in-Ok.ensures.stepped;
   caught_up = joined _ _ _ _ _ _ (λ u v w past step. past) (beside _ _ _ _ _ (λ u v w serving past. loop_waits_within _ _ _ _ _ _ _ _ _ _ _ _ _ _ _ _ serving past c.in-Head.ensures.waits c.in-Head.ensures.comes c.deref.ensures.value c.in-Ok.ensures.waits) c.serving.invariant.serving c.serving.invariant.caught_up) c.in-Ok.ensures.stepped;
   becomes = g.met.H.Handler.joins _ _ _ c.serving.invariant.becomes c.serve_request.ensures.becomes;
-  room = search rules;
   turns = more_turns 0 _ _ _ c.serving.invariant.turns (more_turns 0 _ _ _ c.in-Head.ensures.turns c.in-Ok.ensures.turns);
   failed = c.in-Ok.ensures.ended ∙ c.in-Head.ensures.stopped ∙ c.serving.invariant.failed;
   goes = g.met.I.Incoming.joins _ _ _ (g.met.I.Incoming.joins _ _ _ c.serving.invariant.goes c.read_head.ensures.goes) c.serve_request.ensures.goes;

@@ -6,7 +6,6 @@ use Rattle.pid_http_stream.specs.Moments.{AllSince}
 use Rattle.pid_http_stream.specs.Serving.{IsCaughtUp}
 use Rattle.pid_http_stream.proofs.Serving.{IsServing}
 use Rattle.pid_http_stream.specs.declared.limits.TheConstants.{READ_SIZE}
-use Rattle.pid_http_stream.specs.declared.limits.TheConstants.{MOST_FIELDS}
 use Rattle.pid_http_stream.proofs.stream.serve_held.Given as goal
 
 abbrev pub invariant-serving : goal.invariant-serving
@@ -16,7 +15,6 @@ invariant-serving g l = record {
   caught_up : Leads g.H.Handler.is_good g.H.Handler.stands l.fn.handler l.handler (λ v _. IfSome (g.I.Incoming.to_come l.fn.input) (λ s. AllSince (IsCaughtUp g.H.Handler.conduct
       v (g.W.Output.taken l.fn.output) s) (g.I.Incoming.moments l.fn.input) (g.I.Incoming.moments l.input)));
   becomes : g.H.Handler.becomes l.fn.handler l.handler;
-  room : length l.fields ≡ MOST_FIELDS;
   turns : SpendsTurns 0 (turns_at g.I.Incoming l.fn.input l.turns) (turns_at g.I.Incoming l.input l.turns_left);
   failed : g.I.Incoming.read_fault l.input ≡ g.I.Incoming.read_fault l.fn.input;
   goes : g.I.Incoming.goes l.fn.input l.input;
