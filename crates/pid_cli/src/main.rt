@@ -1,7 +1,7 @@
 //! `pciids`: checks and prints pci.ids files, and keeps a moderated registry of PCI IDs.
 #![tactic(auto)]
 
-use pid_cli_args::terminal::Session;
+use pid_cli_args::terminal::Run;
 use pid_cli_args::{job_of, report_no_job};
 use pid_cli_help::Met;
 use pid_cli_registry::run_on_host;
@@ -24,17 +24,17 @@ fn main(rt: HostRuntime) -> ExitCode {
         }
     };
     // Where a person reads standard error, it says more.
-    let session = Session::begin(&rt, job);
+    let run = Run::begin(&rt, job);
     let (mut read, mut written) = (Met::new(), Met::new());
     let status = run_on_host(
         &rt,
         Unknown,
         job,
-        &mut session.input(&mut read),
-        &mut session.output(&mut written),
-        &mut session.faults(),
+        &mut run.input(&mut read),
+        &mut run.output(&mut written),
+        &mut run.faults(),
     );
-    session.end(status, &read, &written);
+    run.end(status, &read, &written);
     ExitCode::from(status)
 }
 

@@ -3,11 +3,11 @@
 
 mod commands;
 mod job;
+mod job_named;
 mod no_job;
 mod subcommand;
 pub mod terminal;
-mod words;
 
 pub use job::{ImportArgs, Job, LookupArgs};
+pub use job_named::job_of;
 pub use no_job::report_no_job;
-pub use words::job_of;

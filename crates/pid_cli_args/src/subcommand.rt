@@ -1,10 +1,11 @@
 //! Commands and their arguments, as tables describe them.
 ghost use Rattle.std.specs.Prelude.{◌≡◌, false, IfOk};
 ghost use Rattle.std.specs.List.{fold};
-ghost use Rattle.clap.specs.Words.{app_of, rule_of};
+ghost use Rattle.clap.specs.Words.{app_of};
 ghost use Rattle.clap.specs.declared.builder.command.Command.TheViews.{out-Command};
-ghost use Rattle.pid_cli_args.specs.Commands.{option, rule_of as parameter_rule};
-ghost use Rattle.pid_cli_args.specs.Steps.Tables.{app_of_row, parameter_of, with_argument, with_row};
+ghost use Rattle.pid_cli_args.specs.Commands.{option, rule_of};
+ghost use Rattle.pid_cli_args.specs.Steps.Tables.{IsArg, IsCommand, app_of_row, parameter_of};
+ghost use Rattle.pid_cli_args.specs.Steps.Tables.{with_argument, with_row};
 
 use clap::{Arg, Command, value_parser};
 use std::alloc::{AllocError, Global};
@@ -33,15 +34,13 @@ pub(crate) struct Row<'a>(
 );
 
 fn option_of<'a>(alloc: Global, name: &'a str, value: &'a str) -> Arg<'a>
-    ensures rule { rule_of result ≡ option name.now }
-    ensures local { result.global ≡ false }
+    ensures { IsArg (option name.now) result }
 {
     Arg::new(alloc, name).value_name(value).long(name)
 }
 
 fn arg_of<'a>(alloc: Global, argument: &Argument<'a>) -> Arg<'a>
-    ensures rule { rule_of result ≡ parameter_rule (parameter_of argument.now) }
-    ensures local { result.global ≡ false }
+    ensures { IsArg (rule_of (parameter_of argument.now)) result }
 {
     match *argument {
         Argument::Needed(name, value) => option_of(alloc, name, value).required(true),
@@ -62,9 +61,7 @@ fn with_arguments<'a>(
     arguments: &[Argument<'a>],
 ) -> Result<Command<'a>, AllocError>
     requires { (out-Command command).has_globals ≡ false }
-    ensures app { IfOk result (λ c. app_of c
-        ≡ fold with_argument (app_of command.entry) arguments.now) }
-    ensures local { IfOk result (λ c. (out-Command c).has_globals ≡ false) }
+    ensures { IfOk result (IsCommand (fold with_argument (app_of command.entry) arguments.now)) }
 {
     let mut command = command;
     for argument in arguments {
@@ -74,8 +71,7 @@ fn with_arguments<'a>(
 }
 
 fn command_of<'a>(alloc: Global, row: &Row<'a>) -> Result<Command<'a>, AllocError>
-    ensures app { IfOk result (λ c. app_of c ≡ app_of_row row.now) }
-    ensures local { IfOk result (λ c. (out-Command c).has_globals ≡ false) }
+    ensures { IfOk result (IsCommand (app_of_row row.now)) }
 {
     let Row(name, usage, help, arguments) = *row;
     let command = Command::new(alloc, name).override_help(help);

@@ -1,42 +1,40 @@
 //! Why a pci.ids file could not be read, or was refused.
 
-use crate::terminal::found::{Begin, ROOM, begin_of, found_at};
+use crate::terminal::prefix::Prefix;
 use crate::terminal::say::{say_cannot, say_of};
 use pid_cli_help::{looks_of, reason_of};
 use pid_file::LARGEST;
+use std::fs;
+use std::fs::File;
 use std::io::ErrorKind;
 
-/// Says why a file could not be opened or read. It is opened again, unless that may wait.
-pub fn explain_unread(rt: &HostRuntime, path: &str) {
-    let (step, fault) = fault_at(rt, path);
-    say_cannot(rt, step, path, reason_of(fault));
-}
-
-// Which step failed, and why.
-fn fault_at(rt: &HostRuntime, path: &str) -> (&'static str, ErrorKind) {
-    match found_at(rt, path) {
-        Err(fault) => ("open", fault),
-        Ok(found) if found.is_folder => ("read", ErrorKind::IsADirectory),
-        Ok(found) if !found.is_file => ("read", ErrorKind::Other),
-        Ok(_) => match begin_of(rt, path) {
-            Begin::Unopened(fault) => ("open", fault),
-            Begin::Failed(fault) => ("read", fault),
-            Begin::Bytes(..) => ("read", ErrorKind::Other),
+/// How a regular file begins; or which step fails, and why. What is no regular file is not opened,
+/// since that may wait.
+pub fn prefix_of(rt: &HostRuntime, path: &str) -> Result<Prefix, (&'static str, ErrorKind)> {
+    match fs::metadata(rt, path) {
+        Err(error) => Err(("open", error.kind())),
+        Ok(found) if found.is_dir() => Err(("read", ErrorKind::IsADirectory)),
+        Ok(found) if !found.is_file() => Err(("read", ErrorKind::Other)),
+        Ok(_) => match File::open(rt, path) {
+            Err(error) => Err(("open", error.kind())),
+            Ok(mut file) => Prefix::read(&mut file).map_err(|error| ("read", error.kind())),
         },
     }
 }
 
+/// Says why a file could not be opened or read. It is looked at again.
+pub fn explain_unread(rt: &HostRuntime, path: &str) {
+    let (step, fault) = match prefix_of(rt, path) {
+        Ok(_) => ("read", ErrorKind::Other),
+        Err(fault) => fault,
+    };
+    say_cannot(rt, step, path, reason_of(fault));
+}
+
 /// Says what a file looks like whose lines were refused, if its first bytes say it.
 pub fn explain_looks(rt: &HostRuntime, path: &str) {
-    let is_file = match found_at(rt, path) {
-        Ok(found) => found.is_file,
-        Err(_) => false,
-    };
-    if !is_file {
-        return;
-    }
-    if let Begin::Bytes(bytes, count) = begin_of(rt, path) {
-        if let Some(looks) = looks_of(&bytes[..count.min(ROOM)]) {
+    if let Ok(prefix) = prefix_of(rt, path) {
+        if let Some(looks) = looks_of(prefix.as_bytes()) {
             say_of(rt, path, looks);
         }
     }
@@ -44,8 +42,8 @@ pub fn explain_looks(rt: &HostRuntime, path: &str) {
 
 /// Says whether a file is too large.
 pub fn explain_size(rt: &HostRuntime, path: &str) {
-    if let Ok(found) = found_at(rt, path) {
-        if found.length > LARGEST as u64 {
+    if let Ok(found) = fs::metadata(rt, path) {
+        if found.len() > LARGEST as u64 {
             say_of(rt, path, "is larger than 4,194,304 bytes");
         }
     }

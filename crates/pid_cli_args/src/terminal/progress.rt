@@ -1,9 +1,10 @@
 //! Progress of a long job, shown at a terminal.
 
-use crate::terminal::say::say;
+use crate::terminal::prefix::Prefix;
 use crate::terminal::seen::Looks;
-use crate::terminal::short_line::ShortLine;
 use itoa::Buffer;
+use memchr::memchr_iter;
+use std::io::Write;
 use std::time::{Duration, Instant};
 
 /// How long a job runs before its progress is shown, in milliseconds.
@@ -29,17 +30,16 @@ pub struct Progress<'r> {
 
 impl<'r> Progress<'r> {
     /// The progress of a job that starts now, such as `importing`.
-    pub fn new(rt: &'r HostRuntime, job: &'r str, is_told: bool) -> Progress<'r> {
-        let due = if is_told {
-            instant_after(rt, PATIENCE)
-        } else {
-            None
-        };
+    pub fn new(rt: &'r HostRuntime, job: &'r str, is_at_terminal: bool) -> Progress<'r> {
         Progress {
             rt,
             job,
             lines: 0,
-            due,
+            due: if is_at_terminal {
+                instant_after(rt, PATIENCE)
+            } else {
+                None
+            },
             is_shown: false,
         }
     }
@@ -47,34 +47,30 @@ impl<'r> Progress<'r> {
     /// Erases the line, so that other text can take its place.
     pub fn clear(&mut self) {
         if self.is_shown {
-            say(self.rt, &[CLEARED]);
+            let _ = self.rt.stderr().write_all(CLEARED.as_bytes());
             self.is_shown = false;
         }
     }
 
     /// Counts a line.
     pub fn count_line(&mut self) {
-        self.note(b"\n");
+        self.count(1);
     }
 
-    // Counts the line ends in these bytes, and shows the count if it is due.
-    fn note(&mut self, bytes: &[u8]) {
+    // Counts lines, and shows how many they are if it is time.
+    fn count(&mut self, lines: usize) {
         let Some(due) = self.due else {
             return;
         };
-        self.lines = self.lines.saturating_add(ends_in(bytes));
+        self.lines = self.lines.saturating_add(lines as u64);
         if let Ok(now) = Instant::now(self.rt) {
             if now >= due {
-                self.report();
+                let lines = grouped(self.lines);
+                let _ = write!(self.rt.stderr(), "\r{}: {} lines", self.job, lines.as_str());
+                self.is_shown = true;
                 self.due = instant_after(self.rt, PAUSE);
             }
         }
-    }
-
-    fn report(&mut self) {
-        let lines = grouped(self.lines);
-        say(self.rt, &["\r", self.job, ": ", lines.as_str(), " lines"]);
-        self.is_shown = true;
     }
 }
 
@@ -93,24 +89,13 @@ impl Drop for Progress<'_> {
 
 // The moment so many milliseconds from now; `None` if the clock fails.
 fn instant_after(rt: &HostRuntime, millis: u64) -> Option<Instant> {
-    Instant::now(rt)
-        .ok()?
-        .checked_add(Duration::from_millis(millis))
-}
-
-fn ends_in(bytes: &[u8]) -> u64 {
-    let mut ends = 0_u64;
-    for byte in bytes {
-        if *byte == b'\n' {
-            ends = ends.saturating_add(1);
-        }
-    }
-    ends
+    let now = Instant::now(rt).ok()?;
+    now.checked_add(Duration::from_millis(millis))
 }
 
 // A number, with its digits in groups of three.
-fn grouped(number: u64) -> ShortLine {
-    let mut line = ShortLine::new();
+fn grouped(number: u64) -> Prefix {
+    let mut line = Prefix::new();
     let mut digits = Buffer::new();
     let digits = digits.format(number).as_bytes();
     let mut left = digits.len();
@@ -130,6 +115,6 @@ pub struct Counted<'p, 'r>(pub &'p mut Progress<'r>);
 
 impl Looks for Counted<'_, '_> {
     fn look(&mut self, bytes: &[u8]) {
-        self.0.note(bytes);
+        self.0.count(memchr_iter(b'\n', bytes).count());
     }
 }

@@ -26,21 +26,13 @@ impl<T, L> Seen<T, L> {
     }
 }
 
-// How many bytes were passed on.
-fn passed(outcome: &io::Result<usize>) -> usize {
-    match outcome {
-        Ok(count) => *count,
-        Err(_) => 0,
-    }
-}
-
 impl<R: Read, L: Looks> Read for Seen<R, L> {
     ghost remaining = { λ seen. R.remaining seen.inner };
 
     fn read(&mut self, buffer: &mut [u8]) -> io::Result<usize> {
         let read = self.inner.read(buffer);
-        let count = passed(&read).min(buffer.len());
-        self.looks.look(&buffer[..count]);
+        let count = *read.as_ref().unwrap_or(&0);
+        self.looks.look(&buffer[..count.min(buffer.len())]);
         read
     }
 }
@@ -50,8 +42,8 @@ impl<W: Write, L: Looks> Write for Seen<W, L> {
 
     fn write(&mut self, bytes: &[u8]) -> io::Result<usize> {
         let written = self.inner.write(bytes);
-        let count = passed(&written).min(bytes.len());
-        self.looks.look(&bytes[..count]);
+        let count = *written.as_ref().unwrap_or(&0);
+        self.looks.look(&bytes[..count.min(bytes.len())]);
         written
     }
 

@@ -7,7 +7,7 @@ use Rattle.clap.specs.declared.parser.matches.ArgMatches.TheViews.{out-ArgMatche
 use Rattle.pid_cli_args.specs.Commands.{commands}
 use Rattle.pid_cli_args.specs.Jobs.{faults_of, task_given}
 use Rattle.pid_cli_args.proofs.Values.{no_pair, pairs}
-use Rattle.pid_cli_args.proofs.words.job_of.Goals as goal
+use Rattle.pid_cli_args.proofs.job_named.job_of.Goals as goal
 
 all_simple : is_simple commands ≡ true
 all_simple = refl

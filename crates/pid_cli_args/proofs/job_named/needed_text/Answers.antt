@@ -4,7 +4,7 @@ use Rattle.std.specs.Option.{unwrap_or}
 use Rattle.clap.specs.Words.{found_of}
 use Rattle.clap.proofs.WalkLemmas.{first_value-rows}
 use Rattle.pid_cli_args.proofs.Values.{unwrapped}
-use Rattle.pid_cli_args.proofs.words.needed_text.Goals as goal
+use Rattle.pid_cli_args.proofs.job_named.needed_text.Goals as goal
 
 pub returns : goal.returns
 returns c = ap (λ (s : Bor (List ℕ)). s.now) c.unwrap_or.ensures ∙ unwrapped c.get_str.result _ ∙ ap (λ (o : Option (List ℕ)). unwrap_or o []) (c.get_str.ensures ∙ first_value-rows (found_of c.args.given.now) c.args.name.now)
