@@ -13,6 +13,8 @@ use Rattle.pid_file.specs.declared.path.Path.TheVariants.{Vendor, Device, Subsys
 use Rattle.pid_moderation.specs.ChangePages.{Changed, changed_after, changed_of, is_later, numbered_in}
 use Rattle.pid_moderation.specs.Changes.{affected, keeping}
 use Rattle.pid_moderation.proofs.Changing.{not_anew}
+use Rattle.pid_service.proofs.PendingNumbers.{take_short}
+use Rattle.pid_reader.proofs.Written.{both_true}
 use Rattle.pid_moderation.specs.Items.{Items, name_at}
 use Rattle.pid_moderation.specs.Views.{Views}
 use Rattle.pid_moderation.specs.declared.change.Effect.{Effect}
@@ -68,10 +70,6 @@ after_any after (b ∷ text) is = refl
 above_less : (low since n : ℕ) → low ≤ since → nat_lt since n ≡ true → nat_lt low n ≡ true
 above_less low since n less is = grind (arith, nat_tests)
 
-both_true : (a b : Bool) → (a && b) ≡ true → (a ≡ true) × (b ≡ true)
-both_true true b is = (refl, is)
-both_true false b is = absurd (let bad : false ≡ true = is in let no : ⊥ = cc in no)
-
 pub both : (a b : Bool) → a ≡ true → b ≡ true → (a && b) ≡ true
 both true true one two = refl
 both true false one two = two
@@ -122,11 +120,6 @@ page_kept kept v since after (Some page) are less same =
     same ∙ told ∙ sym (take_all PAGE (changed_after since after v) (omega (arith, many, short, all, few)))
 
 -- ---- a page that is kept
-
-take_short : {X : Type 0} (n : ℕ) (xs : List X) → length (take n xs) < n → take n xs ≡ xs
-take_short zero xs low = absurd (omega (arith, low))
-take_short (suc n) [] low = refl
-take_short (suc n) (x ∷ xs) low = ap (λ l. x ∷ l) (take_short n xs (omega (arith, low)))
 
 -- all of a page come after its number and the empty text
 all_behind : (since : ℕ) (v : Views) (items : Items) → filter (comes_after since []) (map (numbered_in v) (filter (is_later since [] v) items)) ≡ map (numbered_in v) (filter (is_later since [] v) items)

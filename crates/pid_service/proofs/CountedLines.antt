@@ -29,6 +29,7 @@ use Rattle.pid_service.specs.declared.kept_text.Extent.{Extent}
 use Rattle.pid_service.specs.declared.kept_text.KeptText.{KeptText}
 use Rattle.pid_service.proofs.ItemLines.{extents_joined, last_joined, last_path, text_first, text_joined}
 use Rattle.pid_service.proofs.WalkEnds.{placed_items}
+use Rattle.pid_service.proofs.RenewedTexts.{headed}
 
 -- these items are counted
 pub record HasCounted (s : TextSink) (items : Items) (t : TextSink) : Type 0 where
@@ -156,9 +157,6 @@ text_length before (item ∷ items) (first, all) =
     let whole : length (text_behind before (item ∷ items)) ≡ length (text_behind before (item ∷ [])) + length (text_behind item.0 items) =
     ap length (text_first before item items) ∙ length-append (text_behind before (item ∷ [])) (text_behind item.0 items) in
     omega (arith, one, more, whole)
-
-headed : (front behind : List ℕ) → length front ≡ 17 → length (front ++ 10 ∷ behind) ≡ 18 + length behind
-headed front behind is = omega (arith, is, length-append {A = ℕ})
 
 fits : (start first text items : ℕ) → start ≡ 18 → first ≡ text → text ≤ 1021 * items → items < 2 ^ 32 → start + first < 2 ^ 64
 fits start first text items is same short few = omega arith

@@ -22,6 +22,7 @@ use Rattle.pid_tables.specs.declared.migration.Step.{Step}
 use Rattle.pid_tables.specs.Clauses.{ShowsOrBlank}
 use Rattle.pid_tables.specs.Creation.{ListsNoTable}
 use Rattle.pid_tables.proofs.OpenLemmas.{LeavesCommitted, opened_bare, opened_rests, opened_shown}
+use Rattle.pid_service.proofs.Keeping.{true_not}
 use Rattle.pid_service.specs.declared.registry.Registry.{Registry}
 use Rattle.pid_service.specs.Histories.{FailsBetween, IsReached, Shows}
 use Rattle.pid_service.specs.Histories.{showing}
@@ -32,9 +33,6 @@ use Rattle.pid_service.specs.Registries.{HasCleanDisk, connection, is_live}
 
 pub none_reached : IsReached new_history
 none_reached = record { mark = 0; commands = []; made = tt; reached = refl; marked = omega arith }
-
-pub live_never_failed : {X : Type 0} (live : Bool) → live ≡ true → live ≡ false → X
-live_never_failed live on off = let no : ⊥ = cc in absurd no
 
 no_number : (name : Option (List ℕ)) (since : ℕ) → option_map (λ (n : List ℕ). 0) name ≡ Some since → since ≡ 0
 no_number None since is = absurd (let no : ⊥ = cc in no)
@@ -72,7 +70,7 @@ module _ {S : Type 0} (store : Ghosts S) where
   close_finds ended live = record {
     clean = λ clean. clean;
     shown = λ clean h shows. inl shows.tables;
-    either = λ clean h next between. live_never_failed (is_live ended) live between.has_failed;
+    either = λ clean h next between. true_not (is_live ended) live between.has_failed;
   }
 
   pub unopened_keeps : (conn back : Held S) (fault : TableFault) → OpensTo store conn (Err (fault, back)) → KeepsHistory store store conn back

@@ -42,7 +42,7 @@ bad_text (inr is) = absurd (let no : ⊥ = cc in no)
 
 -- ---- step by step
 
-pub past_faults : (Holds : Refusal → Type 0) (given : Result Reply Refusal) (result : Result Reply ImportEnd) (text : List ℕ) → AnswersPast given result text → IfErr given Holds → Holds BadText → IfErr result (OfRefusal Holds)
+pub past_faults : (Holds : Refusal → Type 0) (given : Result Reply Refusal) (result : Result Reply ImportEnd) (text : List ℕ) → AnswersPast true given result text → IfErr given Holds → Holds BadText → IfErr result (OfRefusal Holds)
 past_faults Holds given (Ok reply) text past told bad = tt
 past_faults Holds given (Err (Refused e)) text (inl past) told bad = subst (λ (r : Result Reply Refusal). IfErr r Holds) past.0 told
 past_faults Holds given (Err (Refused e)) text (inr past) told bad = subst Holds (sym past.0) bad

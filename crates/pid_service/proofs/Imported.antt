@@ -98,7 +98,7 @@ module _ {S : Type 0} (store : Ghosts S) where
 
   -- an import that was answered before its file was read
   pub past_obeyed : (r : Registry S store) (h : History) (command : Command) (given : Result Reply Refusal) (result : Result Reply ImportEnd) (text : List ℕ) → LongFiles → LongRefused → is_import command.act ≡ true → Shows store r h
-      → HasOneOutcome h command given → AnswersPast given result text → ObeysImport store result r h (asked command (file_reading text))
+      → HasOneOutcome h command given → AnswersPast true given result text → ObeysImport store result r h (asked command (file_reading text))
   past_obeyed r h command given (Ok reply) text long refused is shows told past =
       settled r h command text (Ok reply) is shows (fits text long past.1) (subst (HasOneOutcome h command) past.0 told)
   past_obeyed r h command given (Err (imports.Refused e)) text long refused is shows told (inl past) =

@@ -17,15 +17,8 @@ use Rattle.pid_moderation.specs.Items.{Items, name_at}
 use Rattle.pid_moderation.specs.Judgement.{Outcome, Refused, Repeated, Accepts, unless, unless_kept, judge, answer, added, after}
 use Rattle.pid_moderation.specs.Views.{Views, views_of}
 use Rattle.pid_moderation.proofs.Changing.{not_anew}
+use Rattle.pid_tables.proofs.Refused.{refused_stays}
 use Rattle.pid_service.specs.Histories.{IsMemoryOrStore}
-
-refusal_adds : (h : History) (c : Asked) (o : Outcome) (e : Refusal) → answer o ≡ Err e → added h c o ≡ h
-refusal_adds h c (Refused r) e same = refl
-refusal_adds h c (Repeated r) e same = refl
-refusal_adds h c (Accepts r) e same = absurd (let no : ⊥ = cc in no)
-
-pub refused_stays : (h : History) (c : Asked) (e : Refusal) → answer (judge (views_of h) c) ≡ Err e → after h c ≡ h
-refused_stays h c e same = refusal_adds h c (judge (views_of h) c) e same
 
 -- the outcome by its parts
 abbrev outcome : Bool → Option Reply → Option Refusal → Reply → Outcome

@@ -20,14 +20,6 @@ true_not b on off = absurd (let both : true ≡ false = sym on ∙ off in let no
 pub ok_not : {X E Z : Type 0} (x : X) (e : E) → ◌≡◌ {A = Result X E} (Ok x) (Err e) → Z
 ok_not x e is = absurd (let no : ⊥ = cc in no)
 
-pub not_true : (b : Bool) → not b ≡ true → b ≡ false
-not_true true off = absurd (let bad : ⊥ = cc in bad)
-not_true false off = refl
-
-pub not_false : (b : Bool) → not b ≡ false → b ≡ true
-not_false true on = refl
-not_false false on = absurd (let bad : ⊥ = cc in bad)
-
 -- what is kept of the items is right about them
 abbrev pub ItemsRight : KeptItems → Items → Type 0
 ItemsRight k items = Agrees k.names (λ path. name_at path items) × HoldsText k.text items

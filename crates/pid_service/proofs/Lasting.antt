@@ -108,10 +108,6 @@ pub some_fault : (fault : Option Refusal) → is_some fault ≡ true → IfSome 
 some_fault None some is = let no : ⊥ = cc in absurd no
 some_fault (Some e) some is = is
 
-pub all_more : {X : Type 0} (P : X → Type 0) (xs : List X) (x : X) → AllByRecursion P xs → P x → AllByRecursion P (xs ++ x ∷ [])
-all_more P [] x all one = (one, tt)
-all_more P (y ∷ xs) x all one = (all.0, all_more P xs x all.1 one)
-
 -- a live registry gives a fault as it may
 pub given_live : (fault : Option Refusal) (live : Bool) → live ≡ true → IfSome fault IsMemoryOrStore → IfSome fault (MayGive live)
 given_live None live on is = tt

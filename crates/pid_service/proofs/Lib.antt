@@ -11,9 +11,9 @@ pub mod Causes
 pub mod Exported
 pub mod Runs
 pub mod Lasting
-pub mod ImportLives
-pub mod Consulting
-pub mod RunLives
+pub mod ImportSessions
+pub mod QueriesMet
+pub mod RunSessions
 pub mod Questions
 pub mod ItemLines
 pub mod RenewedTexts
@@ -26,7 +26,7 @@ pub mod CountedLines
 pub mod PendingNumbers
 pub mod KeptNumbers
 pub mod ImportCauses
-pub mod Moderating
+pub mod CallsMet
 pub mod TopItems
 pub mod ChangedLists
 pub mod RenewedChanges

@@ -1,5 +1,6 @@
 -- What a registry shows after a command, by how far it came.
 use Rattle.std.proofs.Common.{◌≡◌, ◌⊎◌, inl, inr, Bool, true, false, Result, Ok, Err, IfErr, MatchResult, refl, sym, subst, ap, ◌∙◌, arith}
+use Rattle.pid_tables.proofs.Refused.{refused_stays}
 use Rattle.sqlite.specs.Held.{Held}
 use Rattle.sqlite_trees.specs.declared.store.Store.{Ghosts}
 use Rattle.pid_moderation.specs.declared.change.Change.{Change}
@@ -26,7 +27,6 @@ use Rattle.pid_service.specs.KeptViews.{IsRightFor, KeepsNothing, kept_views}
 use Rattle.pid_service.specs.declared.kept_views.KeptViews.{KeptViews}
 use Rattle.pid_service.specs.Obeying.{IsAccepted, IsRefusedFor, Obeys}
 use Rattle.pid_service.specs.Registries.{HasCleanDisk, OnlyReads, connection, is_live}
-use Rattle.pid_service.proofs.Judged.{refused_stays}
 
 module _ {S : Type 0} (store : Ghosts S) where
   pub only_read : (old new : Registry S store) (h : History) → is_live new ≡ is_live old → OnlyReads store old new → kept_views new ≡ kept_views old → Shows store old h → Shows store new h

@@ -26,6 +26,7 @@ use Rattle.pid_tables.specs.declared.migration.Step.TheVariants.{Created, Moved,
 use Rattle.pid_tables.specs.ShowsOrBlank.{ShowsOrBlank}
 use Rattle.pid_service.specs.Opening.{ExplainsNow, ExplainsOpening, HasWritten, KeepsTables, OpensAtOnce, IsFound, MayHaveMade, KeepsViews}
 use Rattle.pid_tables.proofs.OfRows.OnlyReading.{reads_then, rests_in_still}
+use Rattle.pid_tables.proofs.StandLemmas.{only_store_explains, seen_still}
 
 -- what a step tells where the tables were not there, were in schema 1, and were in the schema of today
 pub record Steps (s : State) (h : History) (New : Type 0) (Old : Type 0) (Today : Type 0) : Type 0 where
@@ -61,15 +62,6 @@ Now new e = IsTrue new.is_open → Explains new.now e
 
 abbrev IsReady : {X : Type 0} → State → State → Result X TableFault → Type 0
 IsReady old new r = MatchResult r (λ x. IsFound old.now) (λ e. Refuses old e new ⊎ (FindsVersion old.now (Some One) × Now new e))
-
-only_store_explains : (d : Database) (e : TableFault) → IsMemoryOrStore e → Explains d e
-only_store_explains d Memory only_store = tt
-only_store_explains d Store only_store = tt
-only_store_explains d (NewerSchema n) only_store = absurd only_store
-only_store_explains d Damaged only_store = absurd only_store
-
-pub seen_still : (old new : State) → (IsTrue old.is_open → old.now ≡ old.committed) → OnlyReads old new → IsTrue new.is_open → new.now ≡ old.now
-seen_still old new settled reads = (reads.same old.now (record { sees = λ opened. refl; committed = λ opened. sym (settled opened) })).sees
 
 same_judged : {X : Type 0} (old new : State) (r : Result X TableFault) → OnlyReads old new → Judged old.now r → IsReady old new r
 same_judged old new (Ok x) reads judged = (Two, judged)
@@ -120,9 +112,6 @@ once_then_reads a b c once reads = record {
 -- nothing is written but what makes a registry
 pub made_then_reads : (IsMade : Trees → Type 0) (a b c : State) → Survives a b IsMade → OnlyReads b c → Survives a c IsMade
 made_then_reads IsMade a b c made reads = survives_then a b c IsMade (λ _. ⊥) IsMade (λ clean db is. is) (λ clean db none. absurd none) made reads.survives
-
-pub made_by_reads : (IsMade : Trees → Type 0) (a b : State) → OnlyReads a b → Survives a b IsMade
-made_by_reads IsMade a b reads = survives_weaker a b (λ _. ⊥) IsMade (λ clean db none. absurd none) reads.survives
 
 -- what was committed is there after reads
 pub committed_then_reads : {S X : Type 0} (store : Ghosts S) (IsMade : Trees → Type 0) (mid new : Held S) (r : Result X TableFault) → IsCommitted IsMade (state store mid) → clauses.OnlyReads store mid new

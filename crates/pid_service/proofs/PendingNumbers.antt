@@ -131,7 +131,7 @@ numbers_told : (page : List Pending) → map its_number page ≡ map pending_num
 numbers_told [] = refl
 numbers_told (p ∷ page) = ap (λ l. p.number ∷ l) (numbers_told page)
 
-take_short : {X : Type 0} (n : ℕ) (xs : List X) → length (take n xs) < n → take n xs ≡ xs
+pub take_short : {X : Type 0} (n : ℕ) (xs : List X) → length (take n xs) < n → take n xs ≡ xs
 take_short zero xs low = absurd (omega (arith, low))
 take_short (suc n) [] low = refl
 take_short (suc n) (x ∷ xs) low = ap (λ l. x ∷ l) (take_short n xs (omega (arith, low)))

@@ -1,5 +1,5 @@
 -- A registry that is asked on.
-use Rattle.std.proofs.Common.{◌≡◌, refl, rules, ℕ, ◌≤◌, Bool, true, false, ◌&&◌, List, [], ◌∷◌, Result, Ok, Err, IfErr, IsErrAnd, MatchResult, inl, inr, sym, ap, subst, ◌∙◌}
+use Rattle.std.proofs.Common.{◌≡◌, ◌⊎◌, refl, rules, ℕ, ◌≤◌, Bool, true, false, ◌&&◌, List, [], ◌∷◌, Result, Ok, Err, IfErr, IsErrAnd, MatchResult, inl, inr, sym, ap, subst, ◌∙◌}
 use Rattle.std.specs.List.{AllByRecursion}
 use Rattle.std.specs.Ordering.{is_lt}
 use Rattle.std.specs.Prelude.{map, take}
@@ -142,6 +142,10 @@ module _ {S : Type 0} (store : Ghosts S) where
   answers_read {X = X} old new found r Told Says on same kept read is readable means =
       subst (λ (e : Result X Refusal). Finds store old new e Says) (sym is) (answers_found old new found Told Says on same kept read readable means)
 
+  -- the same from a registry that is this one
+  pub found_from : {X : Type 0} (start old new : Registry S store) (r : Result X Refusal) (Says : History → X → Type 0) → old ≡ start → Finds store old new r Says → Finds store start new r Says
+  found_from start old new r Says same found = subst (λ (s : Registry S store). Finds store s new r Says) same found
+
   -- a question that is answered without the tables
   pub answered_here : {X : Type 0} (r : Registry S store) (x : X) (Says : History → X → Type 0) → is_live r ≡ true → (connection r).in_transaction ≡ false → (HasCleanDisk store r → (h : History) → Shows store r h → Says h x) → Finds store r r (Ok x) Says
   answered_here r x Says on settled says = record {
@@ -230,7 +234,7 @@ module _ {S : Type 0} (store : Ghosts S) where
   }
 
   -- and one for which memory ran out, which is no matter
-  pub answers_short : {X : Type 0} (old new : Registry S store) (e : Refusal) (Says : History → X → Type 0) → e ≡ Memory → Finds store old new (Err e) Says → Finds store old new (Ok (tt {0})) (λ h _. Unit {0})
+  answers_short : {X : Type 0} (old new : Registry S store) (e : Refusal) (Says : History → X → Type 0) → e ≡ Memory → Finds store old new (Err e) Says → Finds store old new (Ok (tt {0})) (λ h _. Unit {0})
   answers_short old new e Says is a = record {
     failed = λ off. absurd (not_failed (ap (λ (r : Refusal). Err r) (sym is) ∙ (a.failed off).0));
     fault = tt;
@@ -239,6 +243,10 @@ module _ {S : Type 0} (store : Ghosts S) where
     told = λ clean h shows. (tt, (a.told clean h shows).1);
     caused = λ clean h shows. tt;
   }
+
+  pub answers_unless : {X : Type 0} (old new : Registry S store) (e : Refusal) (r : Result (Unit {0}) Refusal) (Says : History → X → Type 0) → (r ≡ Err e) ⊎ ((e ≡ Memory) × (r ≡ Ok tt)) → Finds store old new (Err e) Says → Finds store old new r (λ h _. Unit {0})
+  answers_unless old new e r Says (inl same) a = subst (λ (x : Result (Unit {0}) Refusal). Finds store old new x (λ h _. Unit {0})) (sym same) (answers_refused old new e Says (λ h _. Unit {0}) a)
+  answers_unless old new e r Says (inr (short, same)) a = subst (λ (x : Result (Unit {0}) Refusal). Finds store old new x (λ h _. Unit {0})) (sym same) (answers_short old new e Says short a)
 
   -- a read that kept nothing
   pub answers_unkept : (old new : Registry S store) → is_live old ≡ true → is_live new ≡ is_live old → kept_views new ≡ kept_views old → OnlyReads store old new → Finds store old new (Ok (tt {0})) (λ h _. Unit {0})

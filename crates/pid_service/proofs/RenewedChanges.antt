@@ -30,7 +30,8 @@ use Rattle.pid_moderation.specs.declared.lists.ChangedItem.{ChangedItem}
 use Rattle.pid_moderation.proofs.Changing.{not_anew}
 use Rattle.pid_tables.proofs.OfRows.SetLemmas.{name_left, name_put}
 use Rattle.pid_service.proofs.ChangedLists.{after_nothing, both, kept_since, same_changes}
-use Rattle.pid_service.proofs.RenewedTexts.{and_parts, below_less, edited_after, edited_there}
+use Rattle.pid_service.proofs.RenewedTexts.{below_less, edited_after, edited_there, less_is}
+use Rattle.pid_reader.proofs.Written.{both_true}
 use Rattle.pid_service.specs.KeptViews.{HoldsChanges}
 use Rattle.pid_service.specs.declared.changes.KeptChanges.{KeptChanges}
 use Rattle.pid_service.specs.Steps.KeptChanges.{changed_item, is_on, on_side, with_edit}
@@ -41,32 +42,27 @@ use Rattle.pid_service.specs.Steps.Renewing.{edited_item}
 abbrev side : Bool → List ℕ → Items → Items
 side before key = filter (λ e. is_on before key e.0)
 
-less_is : (o : Ordering) → is_lt o ≡ true → o ≡ Less
-less_is Less is = refl
-less_is Equal is = absurd (let bad : false ≡ true = is in let no : ⊥ = cc in no)
-less_is Greater is = absurd (let bad : false ≡ true = is in let no : ⊥ = cc in no)
-
 -- of what comes after a path nothing comes before it
 none_before : (key : List ℕ) (items : Items) → below_all text_cmp key items ≡ true → side true key items ≡ []
 none_before key [] all = refl
 none_before key (e ∷ items) all =
-    let parts = and_parts (is_lt (text_cmp key e.0)) (below_all text_cmp key items) all in
+    let parts = both_true (is_lt (text_cmp key e.0)) (below_all text_cmp key items) all in
     ap (λ o. cond (is_gt o) (e ∷ side true key items) (side true key items)) (less_is _ parts.0) ∙ none_before key items parts.1
 
 -- and all comes after it
 all_after : (key : List ℕ) (items : Items) → below_all text_cmp key items ≡ true → side false key items ≡ items
 all_after key [] all = refl
 all_after key (e ∷ items) all =
-    let parts = and_parts (is_lt (text_cmp key e.0)) (below_all text_cmp key items) all in
+    let parts = both_true (is_lt (text_cmp key e.0)) (below_all text_cmp key items) all in
     ap (λ b. cond b (e ∷ side false key items) (side false key items)) parts.0 ∙ ap (λ (l : Items). e ∷ l) (all_after key items parts.1)
 
 -- an edit leaves what comes before its path, and what comes after it
 divided : (key : List ℕ) (edit : Edit) (items : Items) → is_sorted text_cmp items ≡ true → edited key edit items ≡ side true key items ++ (edited_item key edit ++ side false key items)
 divided key edit [] sorted = edited_there key edit [] false [] tt refl
-divided key edit (e ∷ items) sorted = by_place (text_cmp key e.0) refl (divided key edit items (and_parts (below_all text_cmp e.0 items) (is_sorted text_cmp items) sorted).1)
+divided key edit (e ∷ items) sorted = by_place (text_cmp key e.0) refl (divided key edit items (both_true (below_all text_cmp e.0 items) (is_sorted text_cmp items) sorted).1)
   where
     above : below_all text_cmp e.0 items ≡ true
-    above = (and_parts (below_all text_cmp e.0 items) (is_sorted text_cmp items) sorted).0
+    above = (both_true (below_all text_cmp e.0 items) (is_sorted text_cmp items) sorted).0
 
     parted : Ordering → Items
     parted o = cond (is_gt o) (e ∷ side true key items) (side true key items) ++ (edited_item key edit ++ cond (is_lt o) (e ∷ side false key items) (side false key items))
@@ -210,7 +206,7 @@ decided_changes effect number state w one is there n v result fits step =
     subst (λ (e : Effect). HoldsChanges result (affected n e v)) (sym this)
     (same_changes result (with_items n (edited (path_text one.path) one.edit v.items) v) (affected n (Decided number state (Some one)) v) refl refl (step fit.1.1))
 
-kept_items : (r : Option Receipt) (v : Views) → (keeping r v).items ≡ v.items
+pub kept_items : (r : Option Receipt) (v : Views) → (keeping r v).items ≡ v.items
 kept_items None v = refl
 kept_items (Some r) v = refl
 

@@ -17,6 +17,8 @@ use Rattle.pid_moderation.specs.Items.{Items}
 use Rattle.pid_moderation.specs.declared.change.Edit.{Edit}
 use Rattle.pid_moderation.specs.declared.change.Edit.TheVariants.{Add, Rename, Remove}
 use Rattle.pid_service.proofs.ItemLines.{last_path, text_first, text_joined}
+use Rattle.pid_reader.proofs.Written.{both_true}
+use Rattle.pid_service.proofs.ChangedLists.{both}
 use Rattle.pid_service.specs.ItemTexts.{extents_after, text_behind, text_of_items}
 use Rattle.pid_service.specs.Steps.ItemTexts.{Extents}
 use Rattle.pid_service.specs.Steps.Renewing.{OpensTheSame, BeginsAt, bytes_in, edited_item, last_extent}
@@ -54,7 +56,7 @@ pub drop_front : (front rest : List ℕ) (n : ℕ) → n ≡ length front → dr
 drop_front [] rest n is = ap (λ k. drop k rest) is
 drop_front (x ∷ front) rest n is = ap (λ k. drop k (x ∷ front ++ rest)) is ∙ drop_front front rest (length front) refl
 
-headed : (front text : List ℕ) → length front ≡ 17 → length (front ++ 10 ∷ text) ≡ 18 + length text
+pub headed : (front text : List ℕ) → length front ≡ 17 → length (front ++ 10 ∷ text) ≡ 18 + length text
 headed front text is = omega (arith, is, length-append {A = ℕ})
 
 pub text_parts : (xs ys : Items) → text_of_items (xs ++ ys) ≡ text_of_items xs ++ text_behind (last_path [] xs) ys
@@ -85,24 +87,16 @@ extents_follow before now (item ∷ items) same = ap (λ b. (item.0, length (end
 
 -- ---- what an edit of a path does to items
 
-pub and_parts : (a b : Bool) → (a && b) ≡ true → (a ≡ true) × (b ≡ true)
-and_parts true b is = (refl, is)
-and_parts false b is = absurd (let bad : false ≡ true = is in let no : ⊥ = cc in no)
-
-pub both : (a b : Bool) → a ≡ true → b ≡ true → (a && b) ≡ true
-both true b one two = two
-both false b one two = one
-
-less_is : (o : Ordering) → is_lt o ≡ true → o ≡ Less
+-- what comes after a later path comes after this one
+pub less_is : (o : Ordering) → is_lt o ≡ true → o ≡ Less
 less_is Less is = refl
 less_is Equal is = absurd (let bad : false ≡ true = is in let no : ⊥ = cc in no)
 less_is Greater is = absurd (let bad : false ≡ true = is in let no : ⊥ = cc in no)
 
--- what comes after a later path comes after this one
 pub below_less : (x y : List ℕ) (items : Items) → text_cmp x y ≡ Less → below_all text_cmp y items ≡ true → below_all text_cmp x items ≡ true
 below_less x y [] less all = refl
 below_less x y (e ∷ items) less all =
-    let parts = and_parts (is_lt (text_cmp y e.0)) (below_all text_cmp y items) all in
+    let parts = both_true (is_lt (text_cmp y e.0)) (below_all text_cmp y items) all in
     both _ _ (ap is_lt (nat_list_cmp_total.trans x y e.0 less (less_is _ parts.0))) (below_less x y items less parts.1)
 
 abbrev without : List ℕ → Items → Items
@@ -112,7 +106,7 @@ without key items = where_key text_cmp (λ k. not (eq_by_cmp text_cmp key k)) it
 none_left_out : (key : List ℕ) (items : Items) → below_all text_cmp key items ≡ true → without key items ≡ items
 none_left_out key [] all = refl
 none_left_out key (e ∷ items) all =
-    let parts = and_parts (is_lt (text_cmp key e.0)) (below_all text_cmp key items) all in
+    let parts = both_true (is_lt (text_cmp key e.0)) (below_all text_cmp key items) all in
     ap (λ o. cond (not (is_eq o)) (e ∷ without key items) (without key items)) (less_is _ parts.0) ∙ ap (λ (l : Items). e ∷ l) (none_left_out key items parts.1)
 
 -- what comes before the path stays
@@ -133,12 +127,12 @@ put_there key name before false (e ∷ items) stands = ap (λ o. by_order o ((ke
 left_there : (key before : List ℕ) (there : Bool) (items : Items) → BeginsAt key there (extents_after before items) → is_sorted text_cmp items ≡ true → without key items ≡ drop (cond there 1 0) items
 left_there key before true [] stands sorted = absurd stands
 left_there key before true (e ∷ items) stands sorted =
-    let above = (and_parts (below_all text_cmp e.0 items) (is_sorted text_cmp items) sorted).0 in
+    let above = (both_true (below_all text_cmp e.0 items) (is_sorted text_cmp items) sorted).0 in
     ap (λ o. cond (not (is_eq o)) (e ∷ without key items) (without key items)) stands
     ∙ none_left_out key items (subst (λ (k : List ℕ). below_all text_cmp k items ≡ true) (sym (same_texts key e.0 stands)) above)
 left_there key before false [] stands sorted = refl
 left_there key before false (e ∷ items) stands sorted =
-    let above = (and_parts (below_all text_cmp e.0 items) (is_sorted text_cmp items) sorted).0 in
+    let above = (both_true (below_all text_cmp e.0 items) (is_sorted text_cmp items) sorted).0 in
     none_left_out key (e ∷ items) (both _ _ (ap is_lt stands) (below_less key e.0 items stands above))
 
 pub edited_there : (key : List ℕ) (edit : Edit) (before : List ℕ) (there : Bool) (items : Items) → BeginsAt key there (extents_after before items) → is_sorted text_cmp items ≡ true → edited key edit items ≡ edited_item key edit ++ drop (cond there 1 0) items
@@ -149,7 +143,7 @@ edited_there key Remove before there items stands sorted = left_there key before
 sorted_drop : (n : ℕ) (items : Items) → is_sorted text_cmp items ≡ true → is_sorted text_cmp (drop n items) ≡ true
 sorted_drop zero items sorted = sorted
 sorted_drop (suc n) [] sorted = sorted
-sorted_drop (suc n) (e ∷ items) sorted = sorted_drop n items (and_parts (below_all text_cmp e.0 items) (is_sorted text_cmp items) sorted).1
+sorted_drop (suc n) (e ∷ items) sorted = sorted_drop n items (both_true (below_all text_cmp e.0 items) (is_sorted text_cmp items) sorted).1
 
 drop_none : (n : ℕ) → ◌≡◌ {A = Items} (drop n []) []
 drop_none zero = refl

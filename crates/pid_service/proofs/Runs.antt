@@ -1,5 +1,7 @@
 -- Commands of a list, obeyed one after another.
 use Rattle.std.proofs.Common.{◌≡◌, inl, inr, ℕ, zero, suc, ◌+◌, ◌<◌, ◌≤◌, List, [], ◌∷◌, ◌++◌, length, take, drop, map, get_or, add-one, Option, Some, None, Result, Ok, Err, IfErr, IsErrAnd, is_ok, is_some, true, false, refl, sym, subst, ap, ◌∙◌, arith}
+use Rattle.pid_tables.proofs.Refused.{refused_stays}
+use Rattle.pid_service_laws.proofs.Joining.{after_more}
 use Rattle.sqlite_trees.specs.declared.store.Store.{Ghosts}
 use Rattle.pid_moderation.specs.declared.command.Command.{Command}
 use Rattle.pid_moderation.specs.declared.command.Reply.{Reply}
@@ -14,17 +16,12 @@ use Rattle.pid_service.specs.Obeying.{IsObeyed, Obeys}
 use Rattle.pid_service.specs.declared.running.RunReport.{RunReport}
 use Rattle.pid_service.specs.Running.{EndsRun, ObeysInTurn, Runs, RunsInTurn, EndsTurn}
 use Rattle.pid_service.specs.Steps.Running.{fault_in}
-use Rattle.pid_service.proofs.Judged.{refused_stays}
 
 -- one command more
 
 pub answers_then : (cs : List Asked) (h : History) (c : Asked) → answers h (cs ++ c ∷ []) ≡ answers h cs ++ answer (judge (views_of (after_all h cs)) c) ∷ []
 answers_then [] h c = refl
 answers_then (x ∷ cs) h c = ap (λ rest. answer (judge (views_of h) x) ∷ rest) (answers_then cs (after h x) c)
-
-pub after_then : (cs : List Asked) (h : History) (c : Asked) → after_all h (cs ++ c ∷ []) ≡ after (after_all h cs) c
-after_then [] h c = refl
-after_then (x ∷ cs) h c = after_then cs (after h x) c
 
 pub answers_length : (cs : List Asked) (h : History) → length (answers h cs) ≡ length cs
 answers_length [] h = refl
@@ -115,7 +112,7 @@ module _ {S : Type 0} (store : Ghosts S) where
   obeyed_more r old new h cs more c replies is so obeys none =
       let on = goes_on r new (after_all h cs) c (obeys so.1) none in (
         ap (λ l. l ++ r ∷ []) so.0 ∙ ap (λ x. answers h cs ++ x ∷ []) on.0 ∙ sym (answers_then cs h c) ∙ ap (answers h) (sym is),
-        subst (Shows store new) (sym (after_then cs h c) ∙ ap (after_all h) (sym is)) on.1,
+        subst (Shows store new) (sym (after_more cs h (c ∷ [])) ∙ ap (after_all h) (sym is)) on.1,
       )
 
   -- the list ends at a fault

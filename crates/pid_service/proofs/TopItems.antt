@@ -12,6 +12,7 @@ use Rattle.pid_file.specs.PathTexts.{parent_of, path_text}
 use Rattle.pid_file.specs.Trees.{text_cmp}
 use Rattle.pid_file.specs.declared.path.Path.{Path}
 use Rattle.pid_ident.proofs.PathReadingLemmas.{text_of_parent}
+use Rattle.pid_service.proofs.RenewedChanges.{kept_items}
 use Rattle.pid_moderation.specs.Changes.{affected, changed, edited, keeping}
 use Rattle.pid_moderation.specs.Children.{children_of, stands_below}
 use Rattle.pid_moderation.specs.ItemPairs.{pair_of}
@@ -31,14 +32,11 @@ use Rattle.pid_service.specs.KeptViews.{HoldsTop}
 -- ---- what a change does
 
 -- a receipt changes none of it
-kept_top : (r : Option Receipt) (v : Views) → (keeping r v).items ≡ v.items
-kept_top None v = refl
-kept_top (Some r) v = refl
 
 -- what is right about the effect of a change is right about the change
 pub still_top : (change : Change) (v : Views) (top : Option (Vec Item Global)) → HoldsTop top (affected change.revision change.effect v) → HoldsTop top (changed change v)
 still_top change v None holds = tt
-still_top change v (Some top) holds = holds ∙ sym (ap (children_of None) (kept_top change.receipt (affected change.revision change.effect v)))
+still_top change v (Some top) holds = holds ∙ sym (ap (children_of None) (kept_items change.receipt (affected change.revision change.effect v)))
 
 -- entries whose keys pass a test, which one key does not
 module _ (p : List ℕ → Bool) (key : List ℕ) (off : p key ≡ false) where

@@ -132,10 +132,10 @@ pub record ReopeningsShowPrefixes {S T : Type 0} (from : Ghosts S) (to : Ghosts 
   pub none : (first : Registry S from) (start : History) → Shows from first start
       → ShowsPrefixes from first start []
   pub more : (opened ended : Registry S from) (next : Registry T to) (start : History)
-      (lives : List (List Call)) (calls : List Call) → ShowsPrefixes from opened start lives
+      (runs : List (List Call)) (calls : List Call) → ShowsPrefixes from opened start runs
       → CallsLead (showing from) opened calls ended
       → ShowsAgain (showing from) (showing to) ended next → HasCleanDisk to next
-      → ShowsPrefixes to next start (lives ++ calls ∷ [])
+      → ShowsPrefixes to next start (runs ++ calls ∷ [])
 
 -- A command under a key met a fault by which a registry failed. After the next opening, and calls
 -- that sent nothing, it is sent again and has an outcome: that of the judgement before.

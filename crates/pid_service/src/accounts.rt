@@ -1,5 +1,5 @@
 //! How many accounts there are, as a registry keeps it in memory.
-ghost use Rattle.std.specs.Prelude.{◌≡◌, ◌+◌, ℕ, IfSome, false};
+ghost use Rattle.std.specs.Prelude.{◌≡◌, ◌+◌, ℕ, IfSome};
 ghost use Rattle.pid_moderation.specs.Changes.{FitsEffect, affected};
 ghost use Rattle.pid_moderation.specs.Views.{Views};
 ghost use Rattle.pid_tables.specs.Rows.Accounts.{HasAccounts};
@@ -8,9 +8,9 @@ ghost use Rattle.pid_service.specs.KeptViews.{HoldsAccounts};
 ghost use Rattle.pid_service.specs.Steps.Asking.{Finds};
 
 use crate::laws;
-use crate::registry::Registry;
+use crate::registry::{Registry, RestingTables};
 use pid_moderation::{Effect, Refusal};
-use pid_tables::{TableFault, Tables, refusal_of};
+use pid_tables::{TableFault, refusal_of};
 use sqlite::Alter;
 
 /// How many accounts there are after a change.
@@ -35,16 +35,15 @@ pub(crate) fn accounts_after(count: Option<u64>, effect: &Effect) -> Option<u64>
 
 /// How many accounts there are, by the number that is kept; if none is, their rows are counted.
 pub(crate) fn count_accounts<S: Alter + Drop>(
-    tables: &mut Tables<S>,
+    resting: &mut RestingTables<S>,
     kept: Option<u64>,
 ) -> Result<u64, TableFault>
-    requires { tables.old.conn.in_transaction ≡ false }
-    ensures { Reads S.Store tables.old.conn tables.new.conn result
+    ensures { Reads S.Store resting.old.tables.conn resting.new.tables.conn result
         (λ v n. HoldsAccounts kept v → HasAccounts v n) }
 {
     match kept {
         Some(count) => Ok(count),
-        None => tables.accounts(),
+        None => resting.tables.accounts(),
     }
 }
 
@@ -61,7 +60,7 @@ impl<S: Alter + Drop> Registry<S> {
         if self.kept.accounts.is_some() {
             return Ok(());
         }
-        match self.tables.accounts() {
+        match self.resting.tables.accounts() {
             Ok(count) => {
                 self.kept.accounts = Some(count);
                 Ok(())

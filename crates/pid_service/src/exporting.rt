@@ -11,7 +11,7 @@ use pid_service_laws::ExportFault;
 use pid_tables::{EachEnd, refusal_of};
 use sqlite::Alter;
 
-fn fault_of(end: EachEnd<WriteFault>) -> ExportFault
+fn export_fault(end: EachEnd<WriteFault>) -> ExportFault
     ensures { IsToldAs end result }
 {
     match end {
@@ -25,7 +25,6 @@ impl<S: Alter + Drop> Registry<S> {
     pub fn export_rows<W: Output>(&mut self, output: &mut W) -> Result<(), ExportFault>
         ensures { IsExported S.Store W.Output self.old self.new output.old output.new result }
     {
-        laws::clauses_meet_sessions::<S>(); // proof only
         if !self.live {
             return Err(ExportFault::Refused(Refusal::Failed));
         }
@@ -37,9 +36,9 @@ impl<S: Alter + Drop> Registry<S> {
                 Err(fault) => Err(ExportFault::Write(fault)),
             };
         }
-        match export_items(&mut self.tables, output) {
+        match export_items(&mut self.resting, output) {
             Ok(()) => Ok(()),
-            Err(end) => Err(fault_of(end)),
+            Err(end) => Err(export_fault(end)),
         }
     }
 }

@@ -1,16 +1,16 @@
 //! An import, whose file comes as an input or as bytes.
-ghost use Rattle.std.specs.Prelude.{◌≡◌, ◌≢◌, Bool, [], false, Err, IfErr};
+ghost use Rattle.std.specs.Prelude.{◌≡◌, ◌≢◌, Bool, [], true, IfErr};
 ghost use Rattle.pid_moderation.specs.BeforeFile.{import_of};
 ghost use Rattle.pid_tables.specs.Judging.{WhereOpen};
 ghost use Rattle.pid_service.specs.Histories.{IsMemoryOrStore, OverHistory};
-ghost use Rattle.pid_service_laws.specs.Imports.{AnswersFailed, HasRead, InputIsRead};
+ghost use Rattle.pid_service_laws.specs.Imports.{HasRead, InputIsRead};
 ghost use Rattle.pid_service.specs.Importing.{
   EndIsNotFailed,
   IsImported,
   OfRefusal,
 };
 ghost use Rattle.pid_service.specs.Obeying.{Obeys};
-ghost use Rattle.pid_service.specs.Registries.{HasCleanDisk, KeepsLimit, is_live as lives};
+ghost use Rattle.pid_service.specs.Registries.{is_live as lives};
 ghost use Rattle.pid_service.specs.Steps.Importing.{
   AnswersPast,
   BytesStay,
@@ -22,6 +22,7 @@ ghost use Rattle.pid_service.specs.Steps.Importing.{
   IsPlain,
   OverBytes,
   TakesText,
+  long_refusal,
 };
 ghost use Rattle.pid_service.specs.Steps.Obeying.{StaysLive};
 
@@ -47,33 +48,37 @@ pub(crate) fn import_command(alloc: Global, account: Account, key: Option<Key>) 
     }
 }
 
-// Reads the rest of an input for an answer that does not depend on its text.
-fn answer_past<I: Input>(answer: Result<Reply, Refusal>, input: &mut I) -> Result<Reply, ImportEnd>
+// What is answered for an input that is too long.
+fn refusal_of_long(live: bool) -> Refusal
+    ensures { result ≡ long_refusal live }
+{
+    if live {
+        Refusal::BadText
+    } else {
+        Refusal::Failed
+    }
+}
+
+/// Reads the rest of an input for an answer that does not depend on its text, of a registry that is
+/// live or has failed.
+pub(crate) fn answer_past<I: Input>(
+    live: bool,
+    answer: Result<Reply, Refusal>,
+    input: &mut I,
+) -> Result<Reply, ImportEnd>
     ensures past { HasRead result (I.to_come input.old) (I.to_come input.new)
-        (AnswersPast answer result) }
+        (AnswersPast live answer result) }
     ensures reads { InputIsRead I.Input input.old input.new result }
-    ensures alive { IfErr answer (λ e. e ≢ Refusal.Failed) → IfErr result EndIsNotFailed }
+    ensures alive { live ≡ true → IfErr answer (λ e. e ≢ Refusal.Failed)
+        → IfErr result EndIsNotFailed }
 {
     match skip_input(FILE_BYTES, input) {
         Err(SkipEnd::ReadFault) => Err(ImportEnd::Body),
-        Err(SkipEnd::TooLong) => Err(ImportEnd::Refused(Refusal::BadText)),
+        Err(SkipEnd::TooLong) => Err(ImportEnd::Refused(refusal_of_long(live))),
         Ok(()) => match answer {
             Ok(reply) => Ok(reply),
             Err(refusal) => Err(ImportEnd::Refused(refusal)),
         },
-    }
-}
-
-/// Reads the rest of an input for a registry that has failed.
-pub(crate) fn answer_failed<I: Input>(input: &mut I) -> Result<Reply, ImportEnd>
-    ensures failed { AnswersFailed result }
-    ensures past { HasRead result (I.to_come input.old) (I.to_come input.new) (λ text. Unit {0}) }
-    ensures reads { InputIsRead I.Input input.old input.new result }
-{
-    match skip_input(FILE_BYTES, input) {
-        Err(SkipEnd::ReadFault) => Err(ImportEnd::Body),
-        Err(SkipEnd::TooLong) => Err(ImportEnd::Refused(Refusal::Failed)),
-        Ok(()) => Err(ImportEnd::Refused(Refusal::Failed)),
     }
 }
 
@@ -110,19 +115,16 @@ impl<S: Alter + Drop> Registry<S> {
         command: &Command,
         input: &mut I,
     ) -> Result<Reply, ImportEnd>
-        ensures clean { HasCleanDisk S.Store self.new → HasCleanDisk S.Store self.old }
+        ensures lasts { EndStays S.Store I.Input self.old self.new input.old input.new result }
         ensures obeyed { HasRead result (I.to_come input.old) (I.to_come input.new)
             (CarriesText S.Store self.old self.new result facts.old items command.now) }
-        ensures reads { InputIsRead I.Input input.old input.new result }
-        ensures held { EndStaysLive result (lives self.old) (lives self.new) }
-        ensures limit { KeepsLimit S.Store self.old self.new }
         ensures caused { OverHistory S.Store self.old self.new (λ h. WhereOpen h command.now
             facts.old items (IfErr result (OfRefusal (FaultStays (lives self.new))))) }
     {
         pid_service_laws::judgements_are_outcomes(); // proof only
         self.kept.forget_items();
         match import_file(
-            &mut self.tables.conn,
+            &mut self.resting.tables.conn,
             self.alloc,
             facts,
             items,
@@ -146,11 +148,9 @@ impl<S: Alter + Drop> Registry<S> {
         command: &Command,
         input: &mut I,
     ) -> Result<Reply, ImportEnd>
-        ensures clean { HasCleanDisk S.Store self.new → HasCleanDisk S.Store self.old }
+        ensures lasts { EndStays S.Store I.Input self.old self.new input.old input.new result }
         ensures taken { HasRead result (I.to_come input.old) (I.to_come input.new)
             (TakesText S.Store self.old self.new result command.now) }
-        ensures reads { InputIsRead I.Input input.old input.new result }
-        ensures lasts { EndStays S.Store self.old self.new result }
         ensures caused { CausesImport S.Store self.old self.new command.now
             (λ faults. IfErr result (OfRefusal faults)) }
     {
@@ -160,8 +160,8 @@ impl<S: Alter + Drop> Registry<S> {
         pid_tables::laws::texts_read_to_files(); // proof only
         pid_tables::laws::long_files_are_refused(); // proof only
         pid_service_laws::judgements_are_outcomes(); // proof only
-        match judge_import(&mut self.tables, self.alloc, command) {
-            Early::Answered(answer) => answer_past(answer, input),
+        match judge_import(&mut self.resting.tables, self.alloc, command) {
+            Early::Answered(answer) => answer_past(true, answer, input),
             Early::Open { mut facts, items } => {
                 let end = self.carry_in(&mut facts, items, command, input);
                 drop(facts);
@@ -172,7 +172,6 @@ impl<S: Alter + Drop> Registry<S> {
 
     // Obeys an import of bytes, which are not too many; the file of the command is left out.
     pub(crate) fn import_bytes(&mut self, command: &Command, file: &[u8]) -> Result<Reply, Refusal>
-        ensures clean { HasCleanDisk S.Store self.new → HasCleanDisk S.Store self.old }
         ensures obeyed { OverBytes S.Store self.old self.new command.now file.now
             (Obeys S.Store result self.new) }
         ensures lasts { BytesStay S.Store self.old self.new result }

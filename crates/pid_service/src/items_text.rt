@@ -19,11 +19,12 @@ ghost use Rattle.pid_tables.specs.declared.lists.walk.EachEnd.TheVariants as wal
 ghost use Rattle.pid_file.specs.Printing.{ended, header, label_of, lines_after};
 ghost use Rattle.pid_file.specs.Steps.Printing.{text_or_none};
 
-use crate::kept_text::{Extent, FIRST, KeptText, MOST, extent_of};
+use crate::kept_text::{Extent, FIRST, KeptText, MOST_BYTES, extent_of};
+use crate::registry::RestingTables;
 use pid_file::{opened_block, write_after, write_header};
 use pid_ident::{Output, Path, WriteFault};
 use pid_reader::{Entry, Never, Sink};
-use pid_tables::{EachEnd, TableFault, Tables};
+use pid_tables::{EachEnd, TableFault};
 use sqlite::Alter;
 use std::alloc::Global;
 
@@ -60,7 +61,7 @@ fn lines_length(before: Option<Path>, path: Path, name: &str) -> u64
     block_length(before, path) + label_length(path) + name.len() as u64 + 3
 }
 
-/// A writer into memory that takes at most `MOST` bytes.
+/// A writer into memory that takes at most `MOST_BYTES` bytes.
 #[derive(Drop)]
 pub(crate) struct TextBuffer {
     pub(crate) taken: Vec<u8>,
@@ -78,7 +79,7 @@ impl Output for TextBuffer {
         if let Some(fault) = self.fault {
             return Err(fault);
         }
-        let room = MOST.saturating_sub(self.taken.len());
+        let room = MOST_BYTES.saturating_sub(self.taken.len());
         if room < bytes.len() || self.taken.extend_from_slice(bytes).is_err() {
             self.fault = Some(WriteFault::Device);
             return Err(WriteFault::Device);
@@ -215,13 +216,12 @@ pub(crate) struct ItemsText {
 
 // What `export_items` writes, by one walk over the items, of which each is lent by the connection.
 // It is kept after its first line, if that is there.
-fn text_after<S: Alter + Drop>(
-    tables: &mut Tables<S>,
+fn walked_text<S: Alter + Drop>(
+    resting: &mut RestingTables<S>,
     first: Option<GrowingText>,
 ) -> Result<ItemsText, TableFault>
-    requires settled { tables.old.conn.in_transaction ≡ false }
     requires first { IfSome first (λ text. HasLines text (ended (header ∷ [])) []) }
-    ensures { Reads S.Store tables.old.conn tables.new.conn result
+    ensures { Reads S.Store resting.old.tables.conn resting.new.tables.conn result
         (λ v found. IsReadable v → IsCountedText found.bytes found.text v.items) }
 {
     let mut sink = TextSink {
@@ -229,7 +229,7 @@ fn text_after<S: Alter + Drop>(
         before: None,
         text: first,
     };
-    match tables.each_item(&mut sink) {
+    match resting.tables.each_item(&mut sink) {
         Ok(()) => Ok(ItemsText {
             bytes: sink.bytes,
             text: kept_of(sink.text),
@@ -241,17 +241,16 @@ fn text_after<S: Alter + Drop>(
 /// What `export_items` writes. A text of more than 16,777,216 bytes is only counted, and so is one
 /// for which memory runs out.
 pub(crate) fn items_text<S: Alter + Drop>(
-    tables: &mut Tables<S>,
+    resting: &mut RestingTables<S>,
     alloc: Global,
 ) -> Result<ItemsText, TableFault>
-    requires { tables.old.conn.in_transaction ≡ false }
-    ensures { Reads S.Store tables.old.conn tables.new.conn result
+    ensures { Reads S.Store resting.old.tables.conn resting.new.tables.conn result
         (λ v found. IsReadable v → IsCountedText found.bytes found.text v.items) }
 {
-    match text_after(tables, first_line(alloc)) {
+    match walked_text(resting, first_line(alloc)) {
         Ok(found) => Ok(found),
         // The text may have taken the memory that ran out.
-        Err(TableFault::Memory) => text_after(tables, None),
+        Err(TableFault::Memory) => walked_text(resting, None),
         Err(fault) => Err(fault),
     }
 }

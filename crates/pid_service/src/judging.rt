@@ -4,12 +4,12 @@ ghost use Rattle.pid_moderation.specs.History.{is_import};
 ghost use Rattle.pid_moderation.specs.Judgement.{answer, judge as judgement};
 ghost use Rattle.pid_moderation.specs.Revisions.{IsMarked};
 ghost use Rattle.pid_moderation.specs.Views.{views_of};
-ghost use Rattle.pid_tables.specs.Rows.Clauses.{OnlyReads};
-ghost use Rattle.pid_service.specs.Steps.Judging.{IsJudgedFor, JudgesCommand, OverFacts, OverTables};
+ghost use Rattle.pid_service.specs.Steps.Judging.{Judges, JudgesCommand, OverFacts};
 
 use crate::laws;
+use crate::registry::RestingTables;
 use pid_moderation::{Change, Command, Facts, Refusal, Reply, decide, needs};
-use pid_tables::{Tables, refusal_of};
+use pid_tables::refusal_of;
 use sqlite::Alter;
 use std::alloc::Global;
 
@@ -43,20 +43,17 @@ fn judged_by(facts: &Facts, command: &Command) -> Result<Judged, Refusal>
 
 /// Judges a command other than an import over the tables, which are only read.
 pub(crate) fn judge<S: Alter + Drop>(
-    tables: &mut Tables<S>,
+    resting: &mut RestingTables<S>,
     alloc: Global,
     command: &Command,
 ) -> Result<Judged, Refusal>
-    requires { tables.old.conn.in_transaction ≡ false }
-    ensures rests { OnlyReads S.Store tables.old.conn tables.new.conn }
-    ensures judged { OverTables S.Store tables.old.conn tables.new.conn command.now
-        (λ h c. JudgesCommand h c result) }
-    ensures caused { OverTables S.Store tables.old.conn tables.new.conn command.now
-        (λ h c. IfErr result (IsJudgedFor S.Store tables.old.conn tables.new.conn h c)) }
-    ensures alive { IfErr result (λ e. e ≢ Refusal.Failed) }
+    ensures { Judges S.Store resting.old.tables.conn resting.new.tables.conn command.now result }
 {
     laws::reached_histories_are_kept(); // proof only
-    match tables.gather(alloc, &command.account, &command.key, needs(command)) {
+    match resting
+        .tables
+        .gather(alloc, &command.account, &command.key, needs(command))
+    {
         Ok(facts) => {
             let judged = judged_by(&facts, command);
             drop(facts);

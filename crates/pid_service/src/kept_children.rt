@@ -25,7 +25,7 @@ ghost use Rattle.pid_service.specs.Steps.KeptChildren.{before_name};
 ghost use Rattle.pid_tables.specs.Lists.Steps.Adding.{Adds};
 
 use crate::items_text::{block_length, label_length};
-use crate::kept_text::{Extent, FIRST, KeptText, MOST};
+use crate::kept_text::{Extent, FIRST, KeptText, MOST_BYTES};
 use crate::laws;
 use crate::reading::fault_as_refusal;
 use crate::registry::Registry;
@@ -101,7 +101,7 @@ pub(crate) fn children_in(alloc: Global, text: &KeptText, above: Option<Path>) -
     let mut before = None;
     for extent in extents {
         let end = start + usize::from(extent.length);
-        if MOST < end {
+        if MOST_BYTES < end {
             return None;
         }
         if is_below(extent.path, above) {
@@ -144,13 +144,15 @@ fn is_sooner_in_text(extents: &[Extent], above: Option<Path>) -> bool {
 }
 
 impl<S: Alter + Drop> Registry<S> {
-    /// The items directly below a path, or at the top, of a live registry: from the text, if it is
-    /// kept and they are many, or from the rows of items.
+    /// The items directly below a path, or at the top: from the text, if it is kept and they are
+    /// many, or from the rows of items.
     pub(crate) fn children_below(&mut self, above: Option<Path>) -> Result<Vec<Item>, Refusal>
-        requires { self.old.live ≡ true }
         ensures { Finds S.Store self.old self.new result (λ h items.
             map pair_of items.items ≡ children_of (option_map path_text above) (items_of h)) }
     {
+        if !self.live {
+            return Err(Refusal::Failed);
+        }
         laws::reached_histories_are_kept(); // proof only
         if let Some(text) = &self.kept.items.text {
             if is_sooner_in_text(text.extents.as_slice(), above) {
@@ -159,6 +161,6 @@ impl<S: Alter + Drop> Registry<S> {
                 }
             }
         }
-        fault_as_refusal(self.tables.children(self.alloc, above))
+        fault_as_refusal(self.resting.tables.children(self.alloc, above))
     }
 }

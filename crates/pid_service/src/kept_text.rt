@@ -4,7 +4,7 @@ ghost use Rattle.std.specs.Prelude.{◌≡◌, IfSome};
 use pid_ident::Path;
 
 /// The longest text that is kept in memory, in bytes.
-pub(crate) const MOST: usize = 16_777_216;
+pub(crate) const MOST_BYTES: usize = 16_777_216;
 
 /// Where the lines of the first item begin: the header has 17 bytes and its LF.
 pub(crate) const FIRST: usize = 18;

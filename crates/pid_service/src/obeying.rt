@@ -1,7 +1,6 @@
 //! One command: it is judged, and what comes of it is written.
 ghost use Rattle.std.specs.Prelude.{◌≡◌, Ok};
 ghost use Rattle.pid_service.specs.Obeying.{IsObeyed, Obeys};
-ghost use Rattle.pid_service.specs.Registries.{HasCleanDisk, KeepsLimit};
 ghost use Rattle.pid_service.specs.Steps.Obeying.{LivesOrFails, WhereComes};
 
 use crate::judging::{Judged, judge};
@@ -16,11 +15,9 @@ impl<S: Alter + Drop> Registry<S> {
     // Writes the change of a command that is accepted; at a fault the registry has failed. A reply
     // that was kept writes nothing.
     fn carry_out(&mut self, judged: &Judged) -> Result<Reply, Refusal>
-        ensures clean { HasCleanDisk S.Store self.new → HasCleanDisk S.Store self.old }
         ensures obeyed { WhereComes S.Store self.old judged.now (Obeys S.Store result self.new) }
         ensures repeated { (reply : Reply) → judged.now ≡ Judged.Kept reply → result ≡ Ok reply }
         ensures held { LivesOrFails S.Store result self.old self.new }
-        ensures limit { KeepsLimit S.Store self.old self.new }
     {
         laws::reached_histories_are_kept(); // proof only
         pid_tables::laws::views_of_sound_histories(); // proof only
@@ -28,7 +25,7 @@ impl<S: Alter + Drop> Registry<S> {
             Judged::Kept(reply) => Ok(*reply),
             Judged::Accepted { change, reply } => {
                 self.kept.follow(self.alloc, change);
-                match write(&mut self.tables.conn, self.alloc, change) {
+                match write(&mut self.resting.tables.conn, self.alloc, change) {
                     Ok(()) => Ok(*reply),
                     Err(fault) => {
                         self.live = false;
@@ -55,7 +52,7 @@ impl<S: Alter + Drop> Registry<S> {
         if let Act::Import { file } = &command.act {
             return self.import_bytes(command, file.as_bytes());
         }
-        match judge(&mut self.tables, self.alloc, command) {
+        match judge(&mut self.resting, self.alloc, command) {
             Err(refusal) => Err(refusal),
             Ok(judged) => {
                 let answer = self.carry_out(&judged);

@@ -1,15 +1,8 @@
 //! Opens a registry, and moves a database to the schema of today.
-ghost use Rattle.std.specs.Prelude.{◌≡◌, ◌↔◌, true, false, Some, Err, IfErr, IsTrue, MatchResult};
-ghost use Rattle.pid_moderation.specs.History.{History};
-ghost use Rattle.pid_moderation.specs.Views.{views_of};
+ghost use Rattle.std.specs.Prelude.{◌≡◌, ◌↔◌, true, false, Some, Err};
 ghost use Rattle.pid_tables.specs.declared.rows.version.Version.TheVariants.{Two};
-ghost use Rattle.pid_tables.specs.Rows.Clauses.{AtRest, HasCleanDisk, OnlyReads, is_open, seen};
-ghost use Rattle.pid_tables.specs.Rows.Faults.{IsMemoryOrStore};
-ghost use Rattle.pid_tables.specs.Check.Checking.{Explains, FindsVersion};
-ghost use Rattle.pid_service.specs.Histories.{IsReached};
 ghost use Rattle.pid_service.specs.Opening.{
   ExplainsOpening,
-  KeepsTables,
   MovesAtOnce,
   MovesJudged,
   MovesShown,
@@ -20,11 +13,11 @@ ghost use Rattle.pid_service.specs.Opening.{
   connection_left,
   opening_end,
 };
-ghost use Rattle.pid_service.specs.Steps.Opening.{IsMadeReady};
+ghost use Rattle.pid_service.specs.Steps.Opening.{IsMadeReady, JudgesTables};
 
 use crate::kept_views::KeptViews;
 use crate::laws;
-use crate::registry::Registry;
+use crate::registry::{Registry, RestingTables};
 use pid_tables::{Step, TableFault, Tables, Version};
 use sqlite::{Alter, Connection};
 use std::alloc::Global;
@@ -39,22 +32,15 @@ fn is_today(found: Option<Version>) -> bool
 }
 
 // Judges tables in the schema of today. There are no others after a migration.
-fn judge_tables<S: Alter + Drop>(tables: &mut Tables<S>, alloc: Global) -> Result<(), TableFault>
-    requires { tables.old.conn.in_transaction ≡ false }
-    ensures rests { OnlyReads S.Store tables.old.conn tables.new.conn }
-    ensures same { IsTrue (is_open S.Store tables.new.conn)
-        → (seen S.Store tables.new.conn) ≡ (seen S.Store tables.old.conn) }
-    ensures good { HasCleanDisk S.Store tables.new.conn → (h : History) → IsReached h
-        → AtRest S.Store tables.old.conn (views_of h) → IfErr result IsMemoryOrStore }
-    ensures shut { HasCleanDisk S.Store tables.new.conn → is_open S.Store tables.old.conn ≡ false
-        → MatchResult result (λ _. ⊥) IsMemoryOrStore }
-    ensures told { HasCleanDisk S.Store tables.new.conn
-        → MatchResult result (λ _. FindsVersion (seen S.Store tables.old.conn) (Some Two))
-        (Explains (seen S.Store tables.old.conn)) }
+fn judge_tables<S: Alter + Drop>(
+    resting: &mut RestingTables<S>,
+    alloc: Global,
+) -> Result<(), TableFault>
+    ensures { JudgesTables S.Store resting.old.tables.conn resting.new.tables.conn result }
 {
     laws::reached_histories_are_kept(); // proof only
-    pid_tables::laws::all_is_committed_outside_transactions(&tables.conn); // proof only
-    match tables.check(alloc) {
+    pid_tables::laws::all_is_committed_outside_transactions(&resting.tables.conn); // proof only
+    match resting.tables.check(alloc) {
         Err(fault) => Err(fault),
         Ok(found) => {
             if is_today(found) {
@@ -67,18 +53,17 @@ fn judge_tables<S: Alter + Drop>(tables: &mut Tables<S>, alloc: Global) -> Resul
 }
 
 // Makes the tables if there is none, moves those of schema 1, and judges them.
-fn make_ready<S: Alter + Drop>(tables: &mut Tables<S>, alloc: Global) -> Result<(), TableFault>
-    requires { tables.old.conn.in_transaction ≡ false }
-    ensures at_once { OpensAtOnce S.Store tables.old.conn tables.new.conn result }
-    ensures ready { IsMadeReady S.Store tables.old.conn tables.new.conn result }
-    ensures kept { KeepsTables S.Store tables.old.conn tables.new.conn result }
-    ensures explains { ExplainsOpening S.Store tables.old.conn tables.new.conn result }
+fn make_ready<S: Alter + Drop>(
+    resting: &mut RestingTables<S>,
+    alloc: Global,
+) -> Result<(), TableFault>
+    ensures { IsMadeReady S.Store resting.old.tables.conn resting.new.tables.conn result }
 {
     laws::reached_histories_are_kept(); // proof only
-    pid_tables::laws::all_is_committed_outside_transactions(&tables.conn); // proof only
-    match tables.migrate(alloc) {
+    pid_tables::laws::all_is_committed_outside_transactions(&resting.tables.conn); // proof only
+    match resting.tables.migrate(alloc) {
         Err(fault) => Err(fault),
-        Ok(_) => judge_tables(tables, alloc),
+        Ok(_) => judge_tables(resting, alloc),
     }
 }
 
@@ -111,15 +96,19 @@ pub fn open<S: Alter + Drop>(
     let Ok(kept) = KeptViews::new(alloc) else {
         return Err((TableFault::Memory, conn));
     };
-    let mut tables = Tables::new(conn);
-    match make_ready(&mut tables, alloc) {
+    let tables = Tables::new(conn);
+    let mut resting = RestingTables { tables };
+    match make_ready(&mut resting, alloc) {
         Ok(()) => Ok(Registry {
-            tables,
+            resting,
             kept,
             live: true,
             alloc,
         }),
-        Err(fault) => Err((fault, tables.into_conn())),
+        Err(fault) => {
+            let RestingTables { tables } = resting;
+            Err((fault, tables.into_conn()))
+        }
     }
 }
 

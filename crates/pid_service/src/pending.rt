@@ -1,5 +1,5 @@
 //! Pages of what is pending, by the numbers that are kept in memory.
-ghost use Rattle.std.specs.Prelude.{◌≡◌, false, map};
+ghost use Rattle.std.specs.Prelude.{◌≡◌, map};
 ghost use Rattle.pid_moderation.specs.PendingPages.{pending_in, told_of};
 ghost use Rattle.pid_moderation.specs.QueuePages.{queue_in, queued_of};
 ghost use Rattle.pid_tables.specs.Rows.Clauses.{Reads};
@@ -8,50 +8,48 @@ ghost use Rattle.pid_service.specs.Steps.Asking.{Finds};
 
 use crate::laws;
 use crate::pending_numbers::{numbers_above, read_pending_numbers};
-use crate::registry::Registry;
+use crate::registry::{Registry, RestingTables};
 use pid_moderation::{PAGE, Pending, Queued, Refusal};
-use pid_tables::{TableFault, Tables, refusal_of};
+use pid_tables::{TableFault, refusal_of};
 use sqlite::Alter;
 use std::alloc::Global;
 
 /// The page by the numbers that are kept; if none are, by a walk over all submissions.
 pub(crate) fn pending_by<S: Alter + Drop>(
-    tables: &mut Tables<S>,
+    resting: &mut RestingTables<S>,
     alloc: Global,
     numbers: &Option<Vec<u32>>,
     after: u32,
 ) -> Result<Vec<Pending>, TableFault>
-    requires { tables.old.conn.in_transaction ≡ false }
-    ensures { Reads S.Store tables.old.conn tables.new.conn result
+    ensures { Reads S.Store resting.old.tables.conn resting.new.tables.conn result
         (λ v page. HoldsPending numbers.now v
         → map told_of page.items ≡ pending_in PAGE after v) }
 {
     let Some(numbers) = numbers else {
-        return tables.pending_page(alloc, after);
+        return resting.tables.pending_page(alloc, after);
     };
     match numbers_above(alloc, numbers.as_slice(), after) {
-        Some(page) => tables.pending_at(alloc, page.as_slice()),
+        Some(page) => resting.tables.pending_at(alloc, page.as_slice()),
         None => Err(TableFault::Memory),
     }
 }
 
 /// The queue by the numbers that are kept; if none are, by a walk over all submissions.
 pub(crate) fn queue_by<S: Alter + Drop>(
-    tables: &mut Tables<S>,
+    resting: &mut RestingTables<S>,
     alloc: Global,
     numbers: &Option<Vec<u32>>,
     after: u32,
 ) -> Result<Vec<Queued>, TableFault>
-    requires { tables.old.conn.in_transaction ≡ false }
-    ensures { Reads S.Store tables.old.conn tables.new.conn result
+    ensures { Reads S.Store resting.old.tables.conn resting.new.tables.conn result
         (λ v queue. HoldsPending numbers.now v
         → map queued_of queue.items ≡ queue_in PAGE after v) }
 {
     let Some(numbers) = numbers else {
-        return tables.queue_page(alloc, after);
+        return resting.tables.queue_page(alloc, after);
     };
     match numbers_above(alloc, numbers.as_slice(), after) {
-        Some(page) => tables.queue_at(alloc, page.as_slice()),
+        Some(page) => resting.tables.queue_at(alloc, page.as_slice()),
         None => Err(TableFault::Memory),
     }
 }
@@ -72,7 +70,7 @@ impl<S: Alter + Drop> Registry<S> {
         if self.kept.pending_read {
             return Ok(());
         }
-        match read_pending_numbers(&mut self.tables, self.alloc) {
+        match read_pending_numbers(&mut self.resting, self.alloc) {
             Ok(numbers) => {
                 self.kept.pending = numbers;
                 self.kept.pending_read = true;

@@ -21,13 +21,14 @@ ghost use Rattle.pid_tables.specs.Lists.Pages.{last_of};
 ghost use Rattle.pid_service.specs.KeptViews.{HoldsPending};
 ghost use Rattle.pid_service.specs.Steps.PendingNumbers.{its_number};
 
+use crate::registry::RestingTables;
 use pid_moderation::{PAGE, Pending};
-use pid_tables::{TableFault, Tables};
+use pid_tables::TableFault;
 use sqlite::Alter;
 use std::alloc::Global;
 
 // The most numbers that are kept, and the pages that have them.
-const MOST: usize = 10_000_000;
+const MOST_NUMBERS: usize = 10_000_000;
 
 const PAGES: u32 = 100_001;
 
@@ -35,7 +36,7 @@ const PAGES: u32 = 100_001;
 pub(crate) fn add_number(numbers: &mut Vec<u32>, number: u32) -> bool
     ensures { result ≡ true → numbers.new.items ≡ numbers.old.items ++ number ∷ [] }
 {
-    numbers.len() < MOST && numbers.push(number).is_ok()
+    numbers.len() < MOST_NUMBERS && numbers.push(number).is_ok()
 }
 
 // Adds the numbers of a page.
@@ -64,18 +65,17 @@ fn last_number(after: u32, page: &[Pending]) -> u32
 /// The numbers of what is pending, rising, by pages of submissions. None if they are too many, or if
 /// there is no memory for them.
 pub(crate) fn read_pending_numbers<S: Alter + Drop>(
-    tables: &mut Tables<S>,
+    resting: &mut RestingTables<S>,
     alloc: Global,
 ) -> Result<Option<Vec<u32>>, TableFault>
-    requires { tables.old.conn.in_transaction ≡ false }
-    ensures { Reads S.Store tables.old.conn tables.new.conn result
+    ensures { Reads S.Store resting.old.tables.conn resting.new.tables.conn result
         (λ v numbers. HoldsPending numbers v) }
 {
     pid_tables::lists::laws::pending_go_on(); // proof only
     let mut numbers = Vec::new(alloc);
     let mut after = 0;
     for _ in 0..PAGES {
-        let page = tables.pending_page(alloc, after)?;
+        let page = resting.tables.pending_page(alloc, after)?;
         if !add_numbers(&mut numbers, page.as_slice()) {
             return Ok(None);
         }
@@ -100,12 +100,11 @@ fn count_page(count: u32, page: &[Pending]) -> Option<u32>
 /// How many submissions are pending: their numbers are counted, if they are kept, and else pages of
 /// them.
 pub(crate) fn count_pending<S: Alter + Drop>(
-    tables: &mut Tables<S>,
+    resting: &mut RestingTables<S>,
     alloc: Global,
     numbers: &Option<Vec<u32>>,
 ) -> Result<u32, TableFault>
-    requires { tables.old.conn.in_transaction ≡ false }
-    ensures { Reads S.Store tables.old.conn tables.new.conn result
+    ensures { Reads S.Store resting.old.tables.conn resting.new.tables.conn result
         (λ v n. HoldsPending numbers.now v → n ≡ length (pending_above 0 v)) }
 {
     pid_tables::lists::laws::pending_go_on(); // proof only
@@ -118,7 +117,7 @@ pub(crate) fn count_pending<S: Alter + Drop>(
     let mut count = 0u32;
     let mut after = 0;
     for _ in 0..u32::MAX {
-        let page = tables.pending_page(alloc, after)?;
+        let page = resting.tables.pending_page(alloc, after)?;
         let Some(more) = count_page(count, page.as_slice()) else {
             return Err(TableFault::Memory);
         };

@@ -1,5 +1,5 @@
 //! What is asked for again and again is read before it is asked for.
-ghost use Rattle.std.specs.Prelude.{◌≡◌};
+ghost use Rattle.std.specs.Prelude.{◌≡◌, ◌⊎◌, Ok, Err};
 ghost use Rattle.pid_service.specs.Asking.{Answers};
 ghost use Rattle.pid_service.specs.Steps.Asking.{Finds};
 
@@ -11,94 +11,77 @@ use sqlite::Alter;
 // How many commands change fewer items than a page has, if none is an import.
 const COMMANDS: u64 = 99;
 
+// A part of what is kept in memory.
+enum Part {
+    Pending,
+    Accounts,
+    Numbers,
+    Top,
+    Changes,
+    Text,
+}
+
+const PARTS: [Part; 6] = [
+    Part::Pending,
+    Part::Accounts,
+    Part::Numbers,
+    Part::Top,
+    Part::Changes,
+    Part::Text,
+];
+
+// What a question is refused for, but that memory ran out.
+fn unless_short(refusal: Refusal) -> Result<(), Refusal>
+    ensures { (result ≡ Err refusal) ⊎ ((refusal ≡ Refusal.Memory) × (result ≡ Ok tt)) }
+{
+    match refusal {
+        Refusal::Memory => Ok(()),
+        _ => Err(refusal),
+    }
+}
+
 impl<S: Alter + Drop> Registry<S> {
-    // Keeps the vendors and the classes, if memory is there for them.
-    fn keep_top(&mut self) -> Result<(), Refusal>
-        ensures { Finds S.Store self.old self.new result (λ h _. Unit {0}) }
-    {
-        match self.children(None) {
-            Ok(items) => {
-                drop(items);
-                Ok(())
-            }
-            Err(Refusal::Memory) => Ok(()),
-            Err(refusal) => Err(refusal),
-        }
-    }
-
-    // Keeps the text, if memory is there for it.
-    fn keep_text(&mut self) -> Result<(), Refusal>
-        ensures { Finds S.Store self.old self.new result (λ h _. Unit {0}) }
-    {
-        match self.export_length() {
-            Ok(_) => Ok(()),
-            Err(Refusal::Memory) => Ok(()),
-            Err(refusal) => Err(refusal),
-        }
-    }
-
-    // Keeps the numbers of what is pending, and how many accounts there are.
-    pub(crate) fn keep_counts(&mut self) -> Result<(), Refusal>
-        ensures { Finds S.Store self.old self.new result (λ h _. Unit {0}) }
-    {
-        match self.keep_pending() {
-            Ok(()) => self.keep_accounts(),
-            Err(refusal) => Err(refusal),
-        }
-    }
-
-    // Reads the numbers and the counts.
-    fn keep_lists(&mut self) -> Result<(), Refusal>
-        ensures { Finds S.Store self.old self.new result (λ h _. Unit {0}) }
-    {
-        match self.keep_counts() {
-            Ok(()) => self.keep_numbers(true),
-            Err(refusal) => Err(refusal),
-        }
-    }
-
-    // Keeps the items that were changed after a number, if memory is there for them.
-    fn keep_changes_after(&mut self, since: u64) -> Result<(), Refusal>
-        ensures { Finds S.Store self.old self.new result (λ h _. Unit {0}) }
-    {
-        match self.changes(since, None) {
-            Ok(changes) => {
-                drop(changes);
-                Ok(())
-            }
-            Err(Refusal::Memory) => Ok(()),
-            Err(refusal) => Err(refusal),
-        }
-    }
-
-    // The present revision, for which no item is looked at. 0 if memory runs out.
-    fn present_revision(&mut self) -> Result<u64, Refusal>
-        ensures { Finds S.Store self.old self.new result (λ h _. Unit {0}) }
-    {
-        match self.changes(u64::MAX, None) {
-            Ok(changes) => Ok(changes.revision),
-            Err(Refusal::Memory) => Ok(0),
-            Err(refusal) => Err(refusal),
-        }
-    }
-
     // Keeps the items that the last commands changed, of which a page has room for all.
     fn keep_changes(&mut self) -> Result<(), Refusal>
         ensures { Finds S.Store self.old self.new result (λ h _. Unit {0}) }
     {
-        match self.present_revision() {
-            Ok(revision) => self.keep_changes_after(revision.saturating_sub(COMMANDS)),
-            Err(refusal) => Err(refusal),
+        // Above the greatest number no item is looked at.
+        match self.changes(u64::MAX, None) {
+            Ok(present) => {
+                let since = present.revision.saturating_sub(COMMANDS);
+                drop(present);
+                match self.changes(since, None) {
+                    Ok(changes) => {
+                        drop(changes);
+                        Ok(())
+                    }
+                    Err(refusal) => unless_short(refusal),
+                }
+            }
+            Err(refusal) => unless_short(refusal),
         }
     }
 
-    // Keeps what is asked of the items.
-    fn keep_items(&mut self) -> Result<(), Refusal>
+    // Keeps a part, if memory is there for it.
+    fn keep(&mut self, part: &Part) -> Result<(), Refusal>
         ensures { Finds S.Store self.old self.new result (λ h _. Unit {0}) }
     {
-        match self.keep_top() {
-            Ok(()) => self.keep_changes(),
-            Err(refusal) => Err(refusal),
+        match part {
+            Part::Pending => self.keep_pending(),
+            Part::Accounts => self.keep_accounts(),
+            Part::Numbers => self.keep_numbers(true),
+            Part::Top => match self.children(None) {
+                Ok(items) => {
+                    drop(items);
+                    Ok(())
+                }
+                Err(refusal) => unless_short(refusal),
+            },
+            Part::Changes => self.keep_changes(),
+            Part::Text => match self.export_length() {
+                Ok(_) => Ok(()),
+                Err(refusal) => unless_short(refusal),
+            },
         }
     }
 
@@ -111,12 +94,15 @@ impl<S: Alter + Drop> Registry<S> {
     pub fn prepare(&mut self) -> Result<(), Refusal>
         ensures { Answers S.Store self.old self.new result (λ h _. Unit {0}) }
     {
-        match self.keep_lists() {
-            Ok(()) => match self.keep_items() {
-                Ok(()) => self.keep_text(),
-                Err(refusal) => Err(refusal),
-            },
-            Err(refusal) => Err(refusal),
+        if !self.live {
+            return Err(Refusal::Failed);
         }
+        for part in &PARTS {
+            match self.keep(part) {
+                Ok(()) => {}
+                Err(refusal) => return Err(refusal),
+            }
+        }
+        Ok(())
     }
 }

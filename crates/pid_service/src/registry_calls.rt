@@ -58,7 +58,7 @@ impl<S: Alter + Drop> RegistryCalls for Registry<S> {
             return Err(Refusal::Failed);
         }
         laws::reached_histories_are_kept(); // proof only
-        fault_as_refusal(self.tables.item(self.alloc, path))
+        fault_as_refusal(self.resting.tables.item(self.alloc, path))
     }
 
     /// A registry that has failed answers `Names(Failed)`, before bad flags.
@@ -70,7 +70,6 @@ impl<S: Alter + Drop> RegistryCalls for Registry<S> {
     ) -> Result<Answer, LookupRefusal<Refusal>>
         ensures { IsLookedUp S.Store self.old self.new flags args.now size result }
     {
-        laws::clauses_meet_sessions::<S>(); // proof only
         if !self.live {
             return Err(LookupRefusal::Names(Refusal::Failed));
         }
@@ -87,8 +86,6 @@ impl<S: Alter + Drop> RegistryCalls for Registry<S> {
     fn export<O: Output>(&mut self, out: &mut O) -> Result<(), ExportFault>
         ensures { IsExported S.Store O.Output self.old self.new out.old out.new result }
     {
-        laws::clauses_meet_sessions::<S>(); // proof only
-        laws::items_print_as_their_tree(); // proof only
         // So the text is kept in memory and goes out whole. If it can't be, it goes out in parts.
         let _ = self.export_length();
         self.export_rows(out)

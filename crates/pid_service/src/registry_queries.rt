@@ -23,7 +23,7 @@ ghost use Rattle.pid_service.specs.Sessions.{showing as registry_showing};
 ghost use Rattle.pid_service.specs.Registries.{is_live as lives};
 
 use crate::changes::{kept_after, kept_page};
-use crate::importing::{answer_failed, import_command};
+use crate::importing::{answer_past, import_command};
 use crate::items_text::{ItemsText, items_text};
 use crate::laws;
 use crate::pending::{pending_by, queue_by};
@@ -48,7 +48,7 @@ impl<S: Alter + Drop> RegistryQueries for Registry<S> {
             return Err(Refusal::Failed);
         }
         laws::reached_histories_are_kept(); // proof only
-        fault_as_refusal(self.tables.rank(who.as_str()))
+        fault_as_refusal(self.resting.tables.rank(who.as_str()))
     }
 
     /// The canonical order puts the generic subsystems of a vendor after its devices. The vendors
@@ -59,10 +59,6 @@ impl<S: Alter + Drop> RegistryQueries for Registry<S> {
             (λ h items. map pair_of items.items
             ≡ children_of (option_map path_text above) (items_of h)) }
     {
-        if !self.live {
-            return Err(Refusal::Failed);
-        }
-        laws::reached_histories_are_kept(); // proof only
         match above {
             None => self.top(),
             Some(_) => self.children_below(above),
@@ -77,7 +73,7 @@ impl<S: Alter + Drop> RegistryQueries for Registry<S> {
             return Err(Refusal::Failed);
         }
         laws::reached_histories_are_kept(); // proof only
-        match self.tables.submission(self.alloc, number) {
+        match self.resting.tables.submission(self.alloc, number) {
             Ok(Some(found)) => Ok(found),
             Ok(None) => Err(Refusal::NoSubmission),
             Err(fault) => Err(refusal_of(fault)),
@@ -93,7 +89,7 @@ impl<S: Alter + Drop> RegistryQueries for Registry<S> {
             return Err(Refusal::Failed);
         }
         laws::reached_histories_are_kept(); // proof only
-        match self.tables.remark_page(self.alloc, number, after) {
+        match self.resting.tables.remark_page(self.alloc, number, after) {
             Ok(Some(page)) => Ok(page),
             Ok(None) => Err(Refusal::NoSubmission),
             Err(fault) => Err(refusal_of(fault)),
@@ -121,7 +117,8 @@ impl<S: Alter + Drop> RegistryQueries for Registry<S> {
         laws::reached_histories_are_kept(); // proof only
         match self.keep_numbers(path.is_some() || author.is_some()) {
             Ok(()) => fault_as_refusal(
-                self.tables
+                self.resting
+                    .tables
                     .page_by(self.alloc, &self.kept.numbers, path, author, before),
             ),
             Err(refusal) => Err(refusal),
@@ -141,7 +138,7 @@ impl<S: Alter + Drop> RegistryQueries for Registry<S> {
         laws::reached_histories_are_kept(); // proof only
         match self.keep_pending() {
             Ok(()) => fault_as_refusal(pending_by(
-                &mut self.tables,
+                &mut self.resting,
                 self.alloc,
                 &self.kept.pending,
                 after,
@@ -157,7 +154,7 @@ impl<S: Alter + Drop> RegistryQueries for Registry<S> {
         laws::reached_histories_are_kept(); // proof only
         match self.keep_pending() {
             Ok(()) => fault_as_refusal(queue_by(
-                &mut self.tables,
+                &mut self.resting,
                 self.alloc,
                 &self.kept.pending,
                 after,
@@ -185,7 +182,7 @@ impl<S: Alter + Drop> RegistryQueries for Registry<S> {
         laws::reached_histories_are_kept(); // proof only
         pid_moderation::laws::sinces_are_last_changes(); // proof only
         let start = after.copied();
-        match self.tables.revision() {
+        match self.resting.tables.revision() {
             Err(fault) => Err(refusal_of(fault)),
             Ok(revision) => {
                 if revision <= since {
@@ -195,7 +192,7 @@ impl<S: Alter + Drop> RegistryQueries for Registry<S> {
                 if let Some(items) = kept_page(self.alloc, &self.kept.changes, since, start) {
                     return Ok(Changes { revision, items });
                 }
-                match self.tables.changes_page(self.alloc, since, after) {
+                match self.resting.tables.changes_page(self.alloc, since, after) {
                     Ok(changes) => {
                         let kept = self.kept.changes.take();
                         let page = changes.items.as_slice();
@@ -216,13 +213,16 @@ impl<S: Alter + Drop> RegistryQueries for Registry<S> {
     {
         laws::reached_histories_are_kept(); // proof only
         pid_moderation::laws::views_tell_status(); // proof only
-        match self.keep_counts() {
-            Ok(()) => fault_as_refusal(status_by(
-                &mut self.tables,
-                self.alloc,
-                &self.kept.pending,
-                self.kept.accounts,
-            )),
+        match self.keep_pending() {
+            Ok(()) => match self.keep_accounts() {
+                Ok(()) => fault_as_refusal(status_by(
+                    &mut self.resting,
+                    self.alloc,
+                    &self.kept.pending,
+                    self.kept.accounts,
+                )),
+                Err(refusal) => Err(refusal),
+            },
             Err(refusal) => Err(refusal),
         }
     }
@@ -241,7 +241,7 @@ impl<S: Alter + Drop> RegistryQueries for Registry<S> {
         if let Some(text) = &self.kept.items.text {
             return Ok(text.bytes.len() as u64);
         }
-        match items_text(&mut self.tables, self.alloc) {
+        match items_text(&mut self.resting, self.alloc) {
             Ok(ItemsText { bytes, text }) => {
                 self.kept.items.text = text;
                 Ok(bytes)
@@ -270,7 +270,7 @@ impl<S: Alter + Drop> RegistryQueries for Registry<S> {
     {
         laws::clauses_meet_sessions::<S>(); // proof only
         if !self.live {
-            return answer_failed(input);
+            return answer_past(false, Err(Refusal::Failed), input);
         }
         let command = import_command(self.alloc, account, key);
         let end = self.import_act(&command, input);

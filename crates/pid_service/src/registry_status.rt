@@ -1,33 +1,33 @@
 //! How much a registry holds.
-ghost use Rattle.std.specs.Prelude.{◌≡◌, false};
+ghost use Rattle.std.specs.Prelude.{◌≡◌};
 ghost use Rattle.pid_moderation.specs.RegistryStatus.{IsStatusIn, registry_status_of};
 ghost use Rattle.pid_tables.specs.Rows.Clauses.{Reads};
 ghost use Rattle.pid_service.specs.KeptViews.{HoldsAccounts, HoldsPending};
 
 use crate::accounts::count_accounts;
 use crate::pending_numbers::count_pending;
+use crate::registry::RestingTables;
 use pid_moderation::Status;
-use pid_tables::{TableFault, Tables};
+use pid_tables::TableFault;
 use sqlite::Alter;
 use std::alloc::Global;
 
 /// The status, by the numbers of what is pending and how many accounts there are, if that is kept.
 pub(crate) fn status_by<S: Alter + Drop>(
-    tables: &mut Tables<S>,
+    resting: &mut RestingTables<S>,
     alloc: Global,
     numbers: &Option<Vec<u32>>,
     accounts: Option<u64>,
 ) -> Result<Status, TableFault>
-    requires { tables.old.conn.in_transaction ≡ false }
-    ensures { Reads S.Store tables.old.conn tables.new.conn result
+    ensures { Reads S.Store resting.old.tables.conn resting.new.tables.conn result
         (λ v status. HoldsPending numbers.now v → HoldsAccounts accounts v
         → IsStatusIn v (registry_status_of status)) }
 {
-    let pending = count_pending(tables, alloc, numbers)?;
-    let accounts = count_accounts(tables, accounts)?;
-    let items = tables.items()?;
-    let revision = tables.revision()?;
-    let submissions = tables.submissions()?;
+    let pending = count_pending(resting, alloc, numbers)?;
+    let accounts = count_accounts(resting, accounts)?;
+    let items = resting.tables.items()?;
+    let revision = resting.tables.revision()?;
+    let submissions = resting.tables.submissions()?;
     Ok(Status {
         accounts,
         items,

@@ -25,7 +25,7 @@ ghost use Rattle.pid_service.specs.Steps.Renewing.{IsPlace, OpensTheSame, PutsLi
 ghost use Rattle.pid_service.specs.Steps.TextSinks.{HasItems};
 
 use crate::items_text::GrowingText;
-use crate::kept_text::{Extent, FIRST, KeptText, MOST};
+use crate::kept_text::{Extent, FIRST, KeptText, MOST_BYTES};
 use pid_file::opened_block;
 use pid_ident::Path;
 use pid_moderation::{Edit, Effect, Write};
@@ -55,7 +55,7 @@ fn place_of(extents: &[Extent], path: Path) -> Option<TextPlace>
     let mut before = None;
     for (index, extent) in extents.iter().enumerate() {
         let end = start + usize::from(extent.length);
-        if MOST < end {
+        if MOST_BYTES < end {
             return None;
         }
         match path.cmp(&extent.path) {
@@ -193,7 +193,7 @@ fn put_lines(
             place.after,
             new.extents.as_slice(),
         )
-        && text.bytes.len() <= MOST
+        && text.bytes.len() <= MOST_BYTES
 }
 
 // Writes an item into the text of all.

@@ -65,13 +65,15 @@ fn copied(alloc: Global, items: &[Item]) -> Option<Vec<Item>>
 }
 
 impl<S: Alter + Drop> Registry<S> {
-    /// The vendors and the classes of a live registry. If they are not kept in memory they are read,
-    /// and they are kept from then on, if memory is there for them.
+    /// The vendors and the classes. If they are not kept in memory they are read, and they are kept
+    /// from then on, if memory is there for them.
     pub(crate) fn top(&mut self) -> Result<Vec<Item>, Refusal>
-        requires { self.old.live ≡ true }
         ensures { Finds S.Store self.old self.new result
             (λ h items. map pair_of items.items ≡ top_of (views_of h)) }
     {
+        if !self.live {
+            return Err(Refusal::Failed);
+        }
         if let Some(top) = &self.kept.top {
             return match copied(self.alloc, top.as_slice()) {
                 Some(items) => Ok(items),

@@ -12,7 +12,9 @@ use Rattle.pid_moderation.specs.History.{Asked, History, Reading, asked, is_impo
 use Rattle.pid_moderation.specs.Judgement.{after}
 use Rattle.pid_moderation.specs.Views.{items_of}
 use Rattle.pid_moderation.specs.Files.{file_reading}
+use Rattle.pid_file.specs.declared.io.Input as inputs
 use Rattle.pid_tables.specs.Judging.{IsOpen}
+use Rattle.pid_service_laws.specs.Imports.{InputIsRead}
 use Rattle.pid_service_laws.specs.declared.faults.ImportEnd.{ImportEnd}
 use Rattle.pid_service_laws.specs.declared.faults.ImportEnd.TheVariants.{Refused, Body}
 use Rattle.pid_service.specs.declared.registry.Registry.{Registry}
@@ -33,12 +35,19 @@ EndStaysLive (Err Body) before after = after ≡ before
 abbrev pub FaultStays : (live : Bool) → Refusal → Type 0
 FaultStays live e = IsMemoryOrStore e → ((live ≡ true) × (e ≡ Memory)) ⊎ (live ≡ false)
 
+-- what is answered for a text that is too long, by a registry that is live or has failed
+abbrev pub long_refusal : (live : Bool) → Refusal
+long_refusal true = BadText
+long_refusal false = Failed
+
 -- the answer that was known before, unless the text is too long or the input failed
-abbrev pub AnswersPast : Result Reply Refusal → Result Reply ImportEnd → List ℕ → Type 0
-AnswersPast given (Ok reply) text = (given ≡ Ok reply) × (length text ≤ most_file_bytes)
-AnswersPast given (Err (Refused e)) text = ((given ≡ Err e) × (length text ≤ most_file_bytes))
-    ⊎ ((e ≡ BadText) × (length text ≡ most_file_bytes + 1))
-AnswersPast given (Err Body) text = Unit {0}
+abbrev pub AnswersPast : (live : Bool) → Result Reply Refusal → Result Reply ImportEnd → List ℕ
+    → Type 0
+AnswersPast live given (Ok reply) text = (given ≡ Ok reply) × (length text ≤ most_file_bytes)
+AnswersPast live given (Err (Refused e)) text =
+    ((given ≡ Err e) × (length text ≤ most_file_bytes))
+    ⊎ ((e ≡ long_refusal live) × (length text ≡ most_file_bytes + 1))
+AnswersPast live given (Err Body) text = Unit {0}
 
 -- what an import of bytes in memory is answered, whose input does not fail
 abbrev pub IsPlain : Result Reply ImportEnd → Result Reply Refusal → Type 0
@@ -47,13 +56,17 @@ IsPlain (Err (Refused e)) result = result ≡ Err e
 IsPlain (Err Body) result = result ≡ Err Store
 
 module _ {S : Type 0} (store : Ghosts S) where
-  -- whether the registry is live after an import, and its limit of steps
-  pub record EndStays (old new : Registry S store) (result : Result Reply ImportEnd) : Type 0 where
+  -- what becomes of a registry at an import, and of its input, whatever text that has
+  pub record EndStays {I : Type 0} (input : inputs.Ghosts I) (old new : Registry S store)
+      (before after : I) (result : Result Reply ImportEnd) : Type 0 where
+    pub clean : HasCleanDisk store new → HasCleanDisk store old
     pub live : EndStaysLive result (is_live old) (is_live new)
     pub limit : KeepsLimit store old new
+    pub reads : InputIsRead input before after result
 
-  -- the same of an import of bytes
+  -- what becomes of it at an import of bytes
   pub record BytesStay (old new : Registry S store) (result : Result Reply Refusal) : Type 0 where
+    pub clean : HasCleanDisk store new → HasCleanDisk store old
     pub live : StaysLive result (is_live old) (is_live new)
     pub limit : KeepsLimit store old new
 

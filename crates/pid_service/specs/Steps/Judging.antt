@@ -1,5 +1,5 @@
 -- What comes of a command before anything is written.
-use Rattle.std.specs.Prelude.{◌≡◌, ◌⊎◌, false, Result, Ok, Err}
+use Rattle.std.specs.Prelude.{◌≡◌, ◌≢◌, ◌⊎◌, false, Result, Ok, Err, IfErr}
 use Rattle.sqlite.specs.Held.{Held}
 use Rattle.sqlite_trees.specs.declared.store.Store.{Ghosts}
 use Rattle.pid_moderation.specs.declared.change.Change.{Change}
@@ -7,12 +7,13 @@ use Rattle.pid_moderation.specs.declared.command.Command.{Command}
 use Rattle.pid_moderation.specs.declared.command.Reply.{Reply}
 use Rattle.pid_moderation.specs.declared.facts.Facts.{Facts}
 use Rattle.pid_moderation.specs.declared.refusal.Refusal.{Refusal}
+use Rattle.pid_moderation.specs.declared.refusal.Refusal.TheVariants.{Failed}
 use Rattle.pid_moderation.specs.FactsOfViews.{facts_of}
 use Rattle.pid_moderation.specs.Changes.{changed, FitsViews}
 use Rattle.pid_moderation.specs.History.{Asked, History, Reading, asked, is_import}
 use Rattle.pid_moderation.specs.Judgement.{Accepts, judge, answer, after}
 use Rattle.pid_moderation.specs.Views.{views_of}
-use Rattle.pid_tables.specs.Rows.Clauses.{AtRest, HasCleanDisk}
+use Rattle.pid_tables.specs.Rows.Clauses.{AtRest, HasCleanDisk, OnlyReads}
 use Rattle.pid_service.specs.declared.judging.Judged.{Judged}
 use Rattle.pid_service.specs.declared.judging.Judged.TheVariants.{Kept, Accepted}
 use Rattle.pid_service.specs.Asking.{IsCausedAs}
@@ -50,3 +51,11 @@ module _ {S : Type 0} (store : Ghosts S) where
   abbrev pub IsJudgedFor : Held S → Held S → History → Asked → Refusal → Type 0
   IsJudgedFor old new h c e = (answer (judge (views_of h) c) ≡ Err e)
       ⊎ IsCausedAs store old new e
+
+  -- a command other than an import was judged over the tables, which were only read
+  pub record Judges (old new : Held S) (command : Command) (result : Result Judged Refusal)
+      : Type 0 where
+    pub rests : OnlyReads store old new
+    pub judged : OverTables old new command (λ h c. JudgesCommand h c result)
+    pub caused : OverTables old new command (λ h c. IfErr result (IsJudgedFor old new h c))
+    pub alive : IfErr result (λ e. e ≢ Failed)

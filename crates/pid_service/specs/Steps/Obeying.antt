@@ -9,7 +9,7 @@ use Rattle.pid_moderation.specs.Judgement.{after}
 use Rattle.pid_service.specs.declared.judging.Judged.{Judged}
 use Rattle.pid_service.specs.declared.registry.Registry.{Registry}
 use Rattle.pid_service.specs.Histories.{IsMemoryOrStore, IsReached, Shows}
-use Rattle.pid_service.specs.Registries.{is_live}
+use Rattle.pid_service.specs.Registries.{HasCleanDisk, KeepsLimit, is_live}
 use Rattle.pid_service.specs.Steps.Judging.{JudgesCommand}
 
 -- The registry is as live as before. Or the answer is not that it had failed, and memory ran out
@@ -31,6 +31,9 @@ module _ {S : Type 0} (store : Ghosts S) where
   WhereComes r judged Holds = (h : History) (c : Asked) → ComesOf r judged h c → Holds h c
 
   -- the reply was answered, and the registry is as live as before; or it has failed
-  abbrev pub LivesOrFails : Result Reply Refusal → Registry S store → Registry S store → Type 0
-  LivesOrFails result old new = MatchResult result (λ _. is_live new ≡ is_live old)
-      (λ e. IsMemoryOrStore e × (is_live new ≡ false))
+  pub record LivesOrFails (result : Result Reply Refusal) (old new : Registry S store)
+      : Type 0 where
+    pub clean : HasCleanDisk store new → HasCleanDisk store old
+    pub live : MatchResult result (λ _. is_live new ≡ is_live old)
+        (λ e. IsMemoryOrStore e × (is_live new ≡ false))
+    pub limit : KeepsLimit store old new

@@ -1,4 +1,4 @@
-use Rattle.std.proofs.Common.{◌≡◌, ℕ, List, Option, Err, IfErr, Result, inl, inr, refl, rules, ap, subst}
+use Rattle.std.proofs.Common.{◌≡◌, ◌⊎◌, ℕ, Bool, true, false, sym, ◌∙◌, List, Option, Err, IfErr, Result, inl, inr, refl, rules, ap, subst}
 use Rattle.pid_file.specs.declared.whole_input.SkipEnd.{SkipEnd}
 use Rattle.pid_file.specs.declared.whole_input.SkipEnd.TheVariants as skips
 use Rattle.pid_file.specs.WholeInputs.{SkipsInput}
@@ -8,10 +8,15 @@ use Rattle.pid_moderation.specs.declared.refusal.Refusal.TheVariants.{BadText, F
 use Rattle.pid_service_laws.specs.declared.faults.ImportEnd.{ImportEnd}
 use Rattle.pid_service_laws.specs.declared.faults.ImportEnd.TheVariants.{Refused, Body}
 use Rattle.pid_service.proofs.Keeping.{ok_not}
+use Rattle.pid_service.specs.Steps.Importing.{long_refusal}
 use Rattle.pid_service.proofs.importing.answer_past.Goals as goal
 
 ended_so : (limit : ℕ) (rest : Option (List ℕ)) (text : List ℕ) (end so : SkipEnd) → end ≡ so → SkipsInput {X = Unit {0}} limit (Err end) rest text → SkipsInput {X = Unit {0}} limit (Err so) rest text
 ended_so limit rest text end so is skips = subst (λ (e : SkipEnd). SkipsInput {X = Unit {0}} limit (Err e) rest text) is skips
+
+long_told : (live : Bool) (e : Refusal) → e ≡ long_refusal live → (e ≡ BadText) ⊎ (e ≡ Failed)
+long_told true e is = inl is
+long_told false e is = inr is
 
 pub returns-in-Err-ReadFault-clause-past : goal.returns-in-Err-ReadFault-clause-past
 returns-in-Err-ReadFault-clause-past g c =
@@ -24,7 +29,7 @@ returns-in-Err-TooLong-clause-past g c =
     let r = c.in-Err-TooLong.ensures.read in
     let is : c.in-Err-TooLong.field-0 ≡ skips.TooLong = search rules in
     let long = ended_so 4194304 _ r.0 c.in-Err-TooLong.field-0 skips.TooLong is r.2 in
-    record { text = r.0; consumed = r.1; read = inr (inl refl, long); holds = inr (refl, long) }
+    record { text = r.0; consumed = r.1; read = inr (long_told c.args.live c.refusal_of_long.result c.refusal_of_long.ensures, long); holds = inr (c.refusal_of_long.ensures, long) }
 
 pub returns-in-Ok-answer-clause-past : goal.returns-in-Ok-answer-clause-past
 returns-in-Ok-answer-clause-past g c =
@@ -38,20 +43,21 @@ returns-in-Err-clause-past g c =
 
 -- ---- only an answer that was `Failed` is answered so
 
-text_lives : BadText ≡ Failed → ⊥
-text_lives is = cc
+long_lives : (live : Bool) (e : Refusal) → e ≡ long_refusal live → live ≡ true → e ≡ Failed → ⊥
+long_lives true e is on failed = let bad : BadText ≡ Failed = sym is ∙ failed in cc
+long_lives false e is on failed = cc
 
 pub returns-in-Err-ReadFault-clause-alive : goal.returns-in-Err-ReadFault-clause-alive
-returns-in-Err-ReadFault-clause-alive g c answer = tt
+returns-in-Err-ReadFault-clause-alive g c on answer = tt
 
 pub returns-in-Err-TooLong-clause-alive : goal.returns-in-Err-TooLong-clause-alive
-returns-in-Err-TooLong-clause-alive g c answer = text_lives
+returns-in-Err-TooLong-clause-alive g c on answer = long_lives c.args.live c.refusal_of_long.result c.refusal_of_long.ensures on
 
 pub returns-in-Ok-answer-clause-alive : goal.returns-in-Ok-answer-clause-alive
-returns-in-Ok-answer-clause-alive g c answer = tt
+returns-in-Ok-answer-clause-alive g c on answer = tt
 
 pub returns-in-Err-clause-alive : goal.returns-in-Err-clause-alive
-returns-in-Err-clause-alive g c answer = subst (λ (r : Result Reply Refusal). IfErr r (λ e. e ≡ Failed → ⊥)) c.in-Err.is answer
+returns-in-Err-clause-alive g c on answer = subst (λ (r : Result Reply Refusal). IfErr r (λ e. e ≡ Failed → ⊥)) c.in-Err.is answer
 
 -- ---- what became of the input
 
@@ -71,7 +77,7 @@ returns-in-Err-ReadFault-clause-reads g c = record {
 pub returns-in-Err-TooLong-clause-reads : goal.returns-in-Err-TooLong-clause-reads
 returns-in-Err-TooLong-clause-reads g c = record {
   goes = c.in-Err-TooLong.ensures.goes;
-  fault = λ is. absurd (no_body BadText is);
+  fault = λ is. absurd (no_body c.refusal_of_long.result is);
   fault_first = λ some. absurd (not_read c.in-Err-TooLong.field-0 c.in-Err-TooLong.field-0-is (c.in-Err-TooLong.ensures.fault_first some));
 }
 

@@ -39,4 +39,4 @@ pub returns-in-Ok-clause-rests : goal.returns-in-Ok-clause-rests
 returns-in-Ok-clause-rests g c = c.each_item.ensures.rests
 
 pub returns-in-Err-clause-rests : goal.returns-in-Err-clause-rests
-returns-in-Err-clause-rests g c = nothing_read (state g.S.Store c.args.tables.now.conn) c.requires
+returns-in-Err-clause-rests g c = nothing_read (state g.S.Store c.args.resting.now.tables.conn) c.args.resting.now.settled

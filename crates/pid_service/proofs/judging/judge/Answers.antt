@@ -1,43 +1,32 @@
-use Rattle.std.proofs.Common.{◌≡◌, inr, sym, ◌∙◌}
+use Rattle.std.proofs.Common.{◌≡◌, false, inr, sym, ◌∙◌}
 use Rattle.pid_moderation.specs.FactsOfViews.{facts_of}
-use Rattle.pid_moderation.specs.History.{asked}
+use Rattle.pid_moderation.specs.History.{History, Reading, asked, is_import}
 use Rattle.pid_moderation.specs.Views.{views_of}
+use Rattle.pid_tables.specs.Rows.Clauses.{AtRest, HasCleanDisk}
+use Rattle.pid_service.specs.Histories.{IsReached}
 use Rattle.pid_service.proofs.Causes.{caused_by}
 use Rattle.pid_service.proofs.Obeyed.{told_or_short}
 use Rattle.pid_service.proofs.judging.judge.Goals as goal
 
-pub returns-in-Ok-clause-judged : goal.returns-in-Ok-clause-judged
-returns-in-Ok-clause-judged g c clean h reading reached rest other =
+pub returns-in-Ok : goal.returns-in-Ok
+returns-in-Ok g c =
     let law = c.reached_histories_are_kept.ensures in
-    let found : c.in-Ok.facts ≡ facts_of (views_of h) (asked c.args.command.now reading) =
-    c.in-Ok.ensures.told clean (views_of h) rest (law.items h reached).0 (law.items h reached).1 ∙ sym (c.needs.ensures.suffice (views_of h) reading other) in
-    c.judged_by-judged.ensures.judged h reading found reached.marked other
+    let found : (clean : HasCleanDisk g.S.Store c.gather.new.self.conn) (h : History) (reading : Reading) → IsReached h → AtRest g.S.Store c.args.resting.now.tables.conn (views_of h) → is_import c.args.command.now.act ≡ false → c.in-Ok.facts ≡ facts_of (views_of h) (asked c.args.command.now reading) =
+    λ clean h reading reached rest other. c.in-Ok.ensures.told clean (views_of h) rest (law.items h reached).0 (law.items h reached).1 ∙ sym (c.needs.ensures.suffice (views_of h) reading other) in
+    record {
+      rests = c.gather.ensures.rests;
+      judged = λ clean h reading reached rest other. c.judged_by-judged.ensures.judged h reading (found clean h reading reached rest other) reached.marked other;
+      caused = λ clean h reading reached rest other.
+          told_or_short g.S.Store c.args.resting.now.tables.conn c.gather.new.self.conn h (asked c.args.command.now reading) c.judged_by-judged.result (c.judged_by-judged.ensures.refused h reading (found clean h reading reached rest other));
+      alive = c.judged_by-judged.ensures.alive;
+    }
 
-pub returns-in-Ok-clause-caused : goal.returns-in-Ok-clause-caused
-returns-in-Ok-clause-caused g c clean h reading reached rest other =
-    let law = c.reached_histories_are_kept.ensures in
-    let found : c.in-Ok.facts ≡ facts_of (views_of h) (asked c.args.command.now reading) =
-    c.in-Ok.ensures.told clean (views_of h) rest (law.items h reached).0 (law.items h reached).1 ∙ sym (c.needs.ensures.suffice (views_of h) reading other) in
-    told_or_short g.S.Store c.args.tables.now.conn c.gather.new.self.conn h (asked c.args.command.now reading) c.judged_by-judged.result (c.judged_by-judged.ensures.refused h reading found)
-
-pub returns-in-Err-clause-caused : goal.returns-in-Err-clause-caused
-returns-in-Err-clause-caused g c clean h reading reached rest other =
-    inr (caused_by g.S.Store c.args.tables.now.conn c.gather.new.self.conn c.in-Err.fault c.refusal_of.result c.refusal_of.ensures.same
-    (c.in-Err.ensures.told clean (views_of h) rest (c.reached_histories_are_kept.ensures.readable h reached)))
-
--- ---- what its calls give as it is
-
-pub returns-in-Ok-clause-rests : goal.returns-in-Ok-clause-rests
-returns-in-Ok-clause-rests g c = c.gather.ensures.rests
-
-pub returns-in-Ok-clause-alive : goal.returns-in-Ok-clause-alive
-returns-in-Ok-clause-alive g c = c.judged_by-judged.ensures.alive
-
-pub returns-in-Err-clause-rests : goal.returns-in-Err-clause-rests
-returns-in-Err-clause-rests g c = c.gather.ensures.rests
-
-pub returns-in-Err-clause-alive : goal.returns-in-Err-clause-alive
-returns-in-Err-clause-alive g c = c.refusal_of.ensures.alive
-
-pub returns-in-Err-clause-judged : goal.returns-in-Err-clause-judged
-returns-in-Err-clause-judged g c clean h reading reached rest other = inr c.refusal_of.ensures.fault
+pub returns-in-Err : goal.returns-in-Err
+returns-in-Err g c = record {
+  rests = c.gather.ensures.rests;
+  judged = λ clean h reading reached rest other. inr c.refusal_of.ensures.fault;
+  caused = λ clean h reading reached rest other.
+      inr (caused_by g.S.Store c.args.resting.now.tables.conn c.gather.new.self.conn c.in-Err.fault c.refusal_of.result c.refusal_of.ensures.same
+      (c.in-Err.ensures.told clean (views_of h) rest (c.reached_histories_are_kept.ensures.readable h reached)));
+  alive = c.refusal_of.ensures.alive;
+}

@@ -18,7 +18,7 @@ loop-extent-preserved c =
     let extents = c.as_slice-extents.result.now in
     let bytes = c.as_slice-bytes.result.now in
     record {
-      few = omega (arith, c.if-end-gt-MOST.false);
+      few = omega (arith, c.if-end-gt-MOST_BYTES.false);
       start = start_more extents c.loop-extent.extent-index _ c.loop-extent-test.true c.loop-extent.start c.from.result i.start c.from.ensures;
       before = before_more extents c.loop-extent.extent-index _ c.loop-extent-test.true;
       found = λ items kept.

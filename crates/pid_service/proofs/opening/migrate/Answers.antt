@@ -5,9 +5,10 @@ use Rattle.sqlite_trees.specs.declared.store.Store.{Ghosts}
 use Rattle.pid_moderation.specs.Views.{views_of}
 use Rattle.pid_tables.proofs.OfRows.LeaveLemmas.{rests_in_two}
 use Rattle.pid_tables.proofs.AtOnceLemmas.{reads_back}
-use Rattle.pid_service.proofs.Keeping.{not_false, not_true, true_not}
+use Rattle.pid_service.proofs.Keeping.{true_not}
 use Rattle.pid_service.specs.Opening.{MovesAtOnce, MovesJudged, MovesShown, MovesTo}
 use Rattle.pid_service.proofs.Opened.{moved, seen_back}
+use Rattle.pid_file.proofs.OneMoreLine.{not_false, not_true}
 use Rattle.pid_service.proofs.opening.migrate.Goals as goal
 
 -- what is so of a connection is so of tables over it

@@ -5,10 +5,11 @@ use Rattle.pid_tables.specs.Rows.Clauses.{HasCleanDisk}
 use Rattle.pid_tables.specs.Rows.Faults.{IsMemoryOrStore}
 use Rattle.pid_tables.specs.Bringing.{Fails}
 use Rattle.pid_tables.specs.Clauses.{ShowsOrBlank}
-use Rattle.pid_tables.proofs.AtOnceLemmas.{reads_back, reads_once}
+use Rattle.pid_tables.proofs.AtOnceLemmas.{reads_back, reads_once, reads_never}
 use Rattle.pid_tables.proofs.OfCheck.Asking.{nothing_read}
-use Rattle.pid_service.proofs.Opened.{at_once_of, explains_of, kept_of, made_by_reads, moved}
-use Rattle.pid_service.proofs.Keeping.{not_false, not_true, nothing_kept, true_not}
+use Rattle.pid_service.proofs.Opened.{at_once_of, explains_of, kept_of, moved}
+use Rattle.pid_service.proofs.Keeping.{nothing_kept, true_not}
+use Rattle.pid_file.proofs.OneMoreLine.{not_false, not_true}
 use Rattle.pid_service.proofs.opening.open.Goals as goal
 
 -- ---- within a transaction
@@ -45,7 +46,7 @@ pub returns-in_default-clause-at_once : goal.returns-in_default-clause-at_once
 returns-in_default-clause-at_once g c off =
     let here = state g.S.Store c.args.conn in
     let same = nothing_read here off in
-    record { settled = off; clean = λ clean. clean; once = reads_once here here same; back = inl (reads_back here here same); made = λ none. made_by_reads _ here here same; done = λ clean none. tt; moved = λ some. made_by_reads _ here here same; raised = λ clean some. tt }
+    record { settled = off; clean = λ clean. clean; once = reads_once here here same; back = inl (reads_back here here same); made = λ none. reads_never _ here here same; done = λ clean none. tt; moved = λ some. reads_never _ here here same; raised = λ clean some. tt }
 
 pub returns-in_default-clause-explains : goal.returns-in_default-clause-explains
 returns-in_default-clause-explains g c off =

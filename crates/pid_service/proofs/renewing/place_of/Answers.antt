@@ -16,7 +16,7 @@ pub loop-index-preserved : goal.loop-index-preserved
 loop-index-preserved c =
     let i = c.loop-index.invariant in
     record {
-      few = omega (arith, c.if-end-gt-MOST.false);
+      few = omega (arith, c.if-end-gt-MOST_BYTES.false);
       start = start_more c.args.extents.now c.loop-index.index _ c.loop-index-test.true c.loop-index.start c.from.result i.start c.from.ensures;
       before = before_more c.args.extents.now c.loop-index.index _ c.loop-index-test.true;
       below = all_below c.args.extents.now c.loop-index.index _ c.loop-index-test.true c.args.path i.below c.in-Greater.ensures;

@@ -17,16 +17,16 @@ returns g c = record {
         prefixes = subst (λ h. IsAfterPrefixes h [] h) (sym from.reached) (no_session c.keys_stand_once.ensures c.marks_stay.ensures.mark from.mark from.commands);
         read_back = λ t. c.printed_trees_read_back.ensures (tree_of start) t sound.tree;
       };
-  more = λ opened ended next start lives calls shows lead again clean.
+  more = λ opened ended next start runs calls shows lead again clean.
       let from = shows.from in
-      let found = session_more (showing g.S.Store) (showing g.T.Store) c.keys_stand_once.ensures c.marks_stay.ensures.mark from.mark from.commands opened ended next shows.history lives calls shows.shown
-      (subst (λ h. IsAfterPrefixes h lives shows.history) from.reached shows.prefixes) lead again clean in
+      let found = session_more (showing g.S.Store) (showing g.T.Store) c.keys_stand_once.ensures c.marks_stay.ensures.mark from.mark from.commands opened ended next shows.history runs calls shows.shown
+      (subst (λ h. IsAfterPrefixes h runs shows.history) from.reached shows.prefixes) lead again clean in
       let sound = c.reached_histories_are_kept.ensures.sound found.0 found.1.history in
       record {
         from = from;
         history = found.0;
         shown = found.1;
-        prefixes = subst (λ h. IsAfterPrefixes h (lives ++ calls ∷ []) found.0) (sym from.reached) found.2;
+        prefixes = subst (λ h. IsAfterPrefixes h (runs ++ calls ∷ []) found.0) (sym from.reached) found.2;
         read_back = λ t. c.printed_trees_read_back.ensures (tree_of found.0) t sound.tree;
       };
 }

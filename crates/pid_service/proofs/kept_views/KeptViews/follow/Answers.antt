@@ -15,15 +15,11 @@ use Rattle.pid_service.specs.declared.changes.KeptChanges.{KeptChanges}
 use Rattle.pid_service.specs.declared.kept_text.KeptText.{KeptText}
 use Rattle.pid_service.proofs.Keeping.{same_items}
 use Rattle.pid_service.proofs.PendingNumbers.{still_pending}
-use Rattle.pid_service.proofs.RenewedChanges.{still_changes}
+use Rattle.pid_service.proofs.RenewedChanges.{still_changes, kept_items}
 use Rattle.pid_service.proofs.ChangedLists.{kept_since, same_changes}
 use Rattle.pid_tables.proofs.OfSearches.NumberLists.{still_numbers}
 use Rattle.pid_service.proofs.TopItems.{still_top}
 use Rattle.pid_service.proofs.kept_views.KeptViews.follow.Goals as goal
-
-kept_items : (r : Option Receipt) (v : Views) → (keeping r v).items ≡ v.items
-kept_items None v = refl
-kept_items (Some r) v = refl
 
 still_text : (change : Change) (v : Views) (text : Option KeptText) → HoldsText text (affected change.revision change.effect v).items → HoldsText text (changed change v).items
 still_text change v text holds = subst (λ (items : Items). HoldsText text items) (sym (kept_items change.receipt (affected change.revision change.effect v))) holds

@@ -72,68 +72,46 @@ returns-in-Err-Failed-clause-caused g c clean h shows marked import waits many f
 
 -- ---- at each end
 
-pub returns-in-Ok-clause-reads : goal.returns-in-Ok-clause-reads
-returns-in-Ok-clause-reads g c =
-    record { goes = c.import_file.ensures.goes; fault = λ body. ok_not c.in-Ok.reply imports.Body body; fault_first = λ some. ok_not c.in-Ok.reply stops.Body (c.in-Ok.ensures.read_fault.first some) }
+pub returns-in-Ok-clause-lasts : goal.returns-in-Ok-clause-lasts
+returns-in-Ok-clause-lasts g c = record {
+  clean = c.import_file.ensures.ends.clean;
+  live = refl;
+  limit = c.import_file.ensures.ends.limit;
+  reads = record { goes = c.import_file.ensures.goes; fault = λ body. ok_not c.in-Ok.reply imports.Body body; fault_first = λ some. ok_not c.in-Ok.reply stops.Body (c.in-Ok.ensures.read_fault.first some) };
+}
 
-pub returns-in-Ok-clause-held : goal.returns-in-Ok-clause-held
-returns-in-Ok-clause-held g c =
-    refl
+pub returns-in-Err-Body-clause-lasts : goal.returns-in-Err-Body-clause-lasts
+returns-in-Err-Body-clause-lasts g c =
+    let is : c.in-Err-Body.field-0 ≡ stops.Body = search rules in
+    record {
+      clean = c.import_file.ensures.ends.clean;
+      live = refl;
+      limit = c.import_file.ensures.ends.limit;
+      reads = record { goes = c.import_file.ensures.goes; fault = λ body. c.in-Err-Body.ensures.read_fault.told (ap Err is); fault_first = λ some. refl };
+    }
 
-pub returns-in-Ok-clause-clean : goal.returns-in-Ok-clause-clean
-returns-in-Ok-clause-clean g c = c.import_file.ensures.ends.clean
+pub returns-in-Err-Refused-clause-lasts : goal.returns-in-Err-Refused-clause-lasts
+returns-in-Err-Refused-clause-lasts g c =
+    let is : c.in-Err-Refused.field-0 ≡ stops.Refused c.in-Err-Refused.refusal = search rules in
+    record {
+      clean = c.import_file.ensures.ends.clean;
+      live = (refused_alive c.in-Err-Refused.field-0 c.in-Err-Refused.refusal is c.in-Err-Refused.ensures.alive, inr refl);
+      limit = c.import_file.ensures.ends.limit;
+      reads = record { goes = c.import_file.ensures.goes; fault = λ body. refusal_not c.in-Err-Refused.refusal body; fault_first = λ some. stop_not c.in-Err-Refused.field-0 c.in-Err-Refused.refusal is (c.in-Err-Refused.ensures.read_fault.first some) };
+    }
 
-pub returns-in-Ok-clause-limit : goal.returns-in-Ok-clause-limit
-returns-in-Ok-clause-limit g c = c.import_file.ensures.ends.limit
+pub returns-in-Err-Failed-clause-lasts : goal.returns-in-Err-Failed-clause-lasts
+returns-in-Err-Failed-clause-lasts g c =
+    let is : c.in-Err-Failed.field-0 ≡ stops.Failed c.in-Err-Failed.refusal = search rules in
+    record {
+      clean = c.import_file.ensures.ends.clean;
+      live = (fault_alive c.stopping.result c.stopping.ensures.fault, inl c.stopping.ensures.fault);
+      limit = c.import_file.ensures.ends.limit;
+      reads = record { goes = c.import_file.ensures.goes; fault = λ body. refusal_not c.stopping.result body; fault_first = λ some. failure_not c.in-Err-Failed.field-0 c.in-Err-Failed.refusal is (c.in-Err-Failed.ensures.read_fault.first some) };
+    }
 
 pub returns-in-Ok-clause-caused : goal.returns-in-Ok-clause-caused
 returns-in-Ok-clause-caused g c clean h shows marked import waits many = tt
 
-pub returns-in-Err-Body-clause-reads : goal.returns-in-Err-Body-clause-reads
-returns-in-Err-Body-clause-reads g c =
-    let is : c.in-Err-Body.field-0 ≡ stops.Body = search rules in
-    record { goes = c.import_file.ensures.goes; fault = λ body. c.in-Err-Body.ensures.read_fault.told (ap Err is); fault_first = λ some. refl }
-
-pub returns-in-Err-Body-clause-held : goal.returns-in-Err-Body-clause-held
-returns-in-Err-Body-clause-held g c =
-    refl
-
-pub returns-in-Err-Body-clause-clean : goal.returns-in-Err-Body-clause-clean
-returns-in-Err-Body-clause-clean g c = c.import_file.ensures.ends.clean
-
-pub returns-in-Err-Body-clause-limit : goal.returns-in-Err-Body-clause-limit
-returns-in-Err-Body-clause-limit g c = c.import_file.ensures.ends.limit
-
 pub returns-in-Err-Body-clause-caused : goal.returns-in-Err-Body-clause-caused
 returns-in-Err-Body-clause-caused g c clean h shows marked import waits many = tt
-
-pub returns-in-Err-Refused-clause-reads : goal.returns-in-Err-Refused-clause-reads
-returns-in-Err-Refused-clause-reads g c =
-    let is : c.in-Err-Refused.field-0 ≡ stops.Refused c.in-Err-Refused.refusal = search rules in
-    record { goes = c.import_file.ensures.goes; fault = λ body. refusal_not c.in-Err-Refused.refusal body; fault_first = λ some. stop_not c.in-Err-Refused.field-0 c.in-Err-Refused.refusal is (c.in-Err-Refused.ensures.read_fault.first some) }
-
-pub returns-in-Err-Refused-clause-held : goal.returns-in-Err-Refused-clause-held
-returns-in-Err-Refused-clause-held g c =
-    let is : c.in-Err-Refused.field-0 ≡ stops.Refused c.in-Err-Refused.refusal = search rules in
-    (refused_alive c.in-Err-Refused.field-0 c.in-Err-Refused.refusal is c.in-Err-Refused.ensures.alive, inr refl)
-
-pub returns-in-Err-Refused-clause-clean : goal.returns-in-Err-Refused-clause-clean
-returns-in-Err-Refused-clause-clean g c = c.import_file.ensures.ends.clean
-
-pub returns-in-Err-Refused-clause-limit : goal.returns-in-Err-Refused-clause-limit
-returns-in-Err-Refused-clause-limit g c = c.import_file.ensures.ends.limit
-
-pub returns-in-Err-Failed-clause-reads : goal.returns-in-Err-Failed-clause-reads
-returns-in-Err-Failed-clause-reads g c =
-    let is : c.in-Err-Failed.field-0 ≡ stops.Failed c.in-Err-Failed.refusal = search rules in
-    record { goes = c.import_file.ensures.goes; fault = λ body. refusal_not c.stopping.result body; fault_first = λ some. failure_not c.in-Err-Failed.field-0 c.in-Err-Failed.refusal is (c.in-Err-Failed.ensures.read_fault.first some) }
-
-pub returns-in-Err-Failed-clause-held : goal.returns-in-Err-Failed-clause-held
-returns-in-Err-Failed-clause-held g c =
-    (fault_alive c.stopping.result c.stopping.ensures.fault, inl c.stopping.ensures.fault)
-
-pub returns-in-Err-Failed-clause-clean : goal.returns-in-Err-Failed-clause-clean
-returns-in-Err-Failed-clause-clean g c = c.import_file.ensures.ends.clean
-
-pub returns-in-Err-Failed-clause-limit : goal.returns-in-Err-Failed-clause-limit
-returns-in-Err-Failed-clause-limit g c = c.import_file.ensures.ends.limit

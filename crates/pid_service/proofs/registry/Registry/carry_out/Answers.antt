@@ -26,29 +26,14 @@ returns-in-Err-clause-obeyed g c h asks to =
 
 -- ---- whether it is live, and what stays as it is
 
-pub returns-in-Kept-clause-clean : goal.returns-in-Kept-clause-clean
-returns-in-Kept-clause-clean g c clean = clean
-
 pub returns-in-Kept-clause-held : goal.returns-in-Kept-clause-held
-returns-in-Kept-clause-held g c = refl
-
-pub returns-in-Ok-clause-clean : goal.returns-in-Ok-clause-clean
-returns-in-Ok-clause-clean g c = c.write.ensures.clean
+returns-in-Kept-clause-held g c = record { clean = λ clean. clean; live = refl; limit = refl }
 
 pub returns-in-Ok-clause-held : goal.returns-in-Ok-clause-held
-returns-in-Ok-clause-held g c = refl
-
-pub returns-in-Ok-clause-limit : goal.returns-in-Ok-clause-limit
-returns-in-Ok-clause-limit g c = c.write.ensures.limit
-
-pub returns-in-Err-clause-clean : goal.returns-in-Err-clause-clean
-returns-in-Err-clause-clean g c = c.write.ensures.clean
+returns-in-Ok-clause-held g c = record { clean = c.write.ensures.clean; live = refl; limit = c.write.ensures.limit }
 
 pub returns-in-Err-clause-held : goal.returns-in-Err-clause-held
-returns-in-Err-clause-held g c = (c.refusal_of.ensures.fault, refl)
-
-pub returns-in-Err-clause-limit : goal.returns-in-Err-clause-limit
-returns-in-Err-clause-limit g c = c.write.ensures.limit
+returns-in-Err-clause-held g c = record { clean = c.write.ensures.clean; live = (c.refusal_of.ensures.fault, refl); limit = c.write.ensures.limit }
 
 pub returns-in-Kept-clause-repeated : goal.returns-in-Kept-clause-repeated
 returns-in-Kept-clause-repeated g c = search rules

@@ -24,14 +24,14 @@ returns g c =
     let import : is_import c.import_command-command.result.act ≡ true = rw c.import_command-command.ensures refl in
     let short : length c.args.file.now ≤ most_file_bytes = search rules in
     record {
-      clean = c.import_bytes-answer.ensures.clean;
+      clean = c.import_bytes-answer.ensures.lasts.clean;
       failed = true_not c.args.self.now.live c.if-not-self.false;
       form = search rules;
       obeyed = λ clean h shows.
           subst (λ (k : Command). Obeys g.S.Store c.import_bytes-answer.result c.import_bytes-answer.new.self h (asked k (file_reading c.args.file.now))) c.import_command-command.ensures
           (c.import_bytes-answer.ensures.obeyed clean h shows import short);
       caused = λ clean h shows reading.
-          subst (λ (k : Command). IfErr c.import_bytes-answer.result (Faults g.S.Store c.args.self.now.tables.conn c.import_bytes-answer.new.self.tables.conn c.import_bytes-answer.new.self.live h (asked k reading))) c.import_command-command.ensures
+          subst (λ (k : Command). IfErr c.import_bytes-answer.result (Faults g.S.Store c.args.self.now.resting.tables.conn c.import_bytes-answer.new.self.resting.tables.conn c.import_bytes-answer.new.self.live h (asked k reading))) c.import_command-command.ensures
           (c.import_bytes-answer.ensures.caused clean h shows reading import);
       lasts = lasting g.S.Store c.args.self.now c.import_bytes-answer.new.self c.import_bytes-answer.result c.import_bytes-answer.ensures.lasts.live c.import_bytes-answer.ensures.lasts.limit;
     }

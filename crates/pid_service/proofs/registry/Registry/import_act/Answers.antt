@@ -26,7 +26,7 @@ returns-in-Open-clause-taken g c = let r = c.carry_in-end.ensures.obeyed in
       consumed = r.consumed;
       read = r.read;
       holds = λ clean h shows import.
-          let early = c.in-Open.ensures.judged (c.carry_in-end.ensures.clean clean) h (c.reached_histories_are_kept.ensures.sound h shows.history) shows.tables in
+          let early = c.in-Open.ensures.judged (c.carry_in-end.ensures.lasts.clean clean) h (c.reached_histories_are_kept.ensures.sound h shows.history) shows.tables in
           r.holds clean h
           (record {
             shows = only_read g.S.Store c.args.self.now _ h refl c.judge_import.ensures.rests refl shows;
@@ -39,19 +39,23 @@ returns-in-Open-clause-taken g c = let r = c.carry_in-end.ensures.obeyed in
 
 pub returns-in-Answered-clause-lasts : goal.returns-in-Answered-clause-lasts
 returns-in-Answered-clause-lasts g c = record {
-  live = still_live c.answer_past.result (c.answer_past.ensures.alive c.in-Answered.ensures.alive) c.args.self.now.live;
+  clean = c.judge_import.ensures.rests.clean;
+  live = still_live c.answer_past.result (c.answer_past.ensures.alive refl c.in-Answered.ensures.alive) c.args.self.now.live;
   limit = c.judge_import.ensures.rests.survives.limit;
+  reads = c.answer_past.ensures.reads;
 }
 
 pub returns-in-Open-clause-lasts : goal.returns-in-Open-clause-lasts
 returns-in-Open-clause-lasts g c = record {
-  live = c.carry_in-end.ensures.held;
-  limit = c.carry_in-end.ensures.limit ∙ c.judge_import.ensures.rests.survives.limit;
+  clean = λ clean. c.judge_import.ensures.rests.clean (c.carry_in-end.ensures.lasts.clean clean);
+  live = c.carry_in-end.ensures.lasts.live;
+  limit = c.carry_in-end.ensures.lasts.limit ∙ c.judge_import.ensures.rests.survives.limit;
+  reads = c.carry_in-end.ensures.lasts.reads;
 }
 
 pub returns-in-Answered-clause-caused : goal.returns-in-Answered-clause-caused
 returns-in-Answered-clause-caused g c clean h shows reading import =
-    let old = c.args.self.now.tables.conn in
+    let old = c.args.self.now.resting.tables.conn in
     let new = c.judge_import.new.tables.conn in
     let live = c.args.self.now.live in
     past_faults (Faults g.S.Store old new live h (asked c.args.command.now reading)) c.in-Answered.answer c.answer_past.result c.answer_past.ensures.past.text c.answer_past.ensures.past.holds
@@ -61,20 +65,6 @@ returns-in-Answered-clause-caused g c clean h shows reading import =
 
 pub returns-in-Open-clause-caused : goal.returns-in-Open-clause-caused
 returns-in-Open-clause-caused g c clean h shows reading import =
-    let early = c.in-Open.ensures.judged (c.carry_in-end.ensures.clean clean) h (c.reached_histories_are_kept.ensures.sound h shows.history) shows.tables in
-    open_faults g.S.Store c.args.self.now.tables.conn c.carry_in-end.new.self.tables.conn c.carry_in-end.new.self.live h c.args.command.now reading _ c.carry_in-end.result early.0
+    let early = c.in-Open.ensures.judged (c.carry_in-end.ensures.lasts.clean clean) h (c.reached_histories_are_kept.ensures.sound h shows.history) shows.tables in
+    open_faults g.S.Store c.args.self.now.resting.tables.conn c.carry_in-end.new.self.resting.tables.conn c.carry_in-end.new.self.live h c.args.command.now reading _ c.carry_in-end.result early.0
     (c.carry_in-end.ensures.caused clean h (only_read g.S.Store c.args.self.now _ h refl c.judge_import.ensures.rests refl shows) shows.history.marked import early.0 early.1)
-
--- ---- what its calls give as it is
-
-pub returns-in-Answered-clause-clean : goal.returns-in-Answered-clause-clean
-returns-in-Answered-clause-clean g c = c.judge_import.ensures.rests.clean
-
-pub returns-in-Answered-clause-reads : goal.returns-in-Answered-clause-reads
-returns-in-Answered-clause-reads g c = c.answer_past.ensures.reads
-
-pub returns-in-Open-clause-clean : goal.returns-in-Open-clause-clean
-returns-in-Open-clause-clean g c clean = c.judge_import.ensures.rests.clean (c.carry_in-end.ensures.clean clean)
-
-pub returns-in-Open-clause-reads : goal.returns-in-Open-clause-reads
-returns-in-Open-clause-reads g c = c.carry_in-end.ensures.reads

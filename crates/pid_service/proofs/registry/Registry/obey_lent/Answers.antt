@@ -51,7 +51,7 @@ returns-in-Import g c =
     let sound : is_broken c.args.command.now.act ≡ false = sym c.breaks_form.ensures.broken ∙ c.if-breaks_form.false in
     let import : is_import c.args.command.now.act ≡ true = ap is_import c.in-Import.is in
     record {
-      clean = c.import_bytes.ensures.clean;
+      clean = c.import_bytes.ensures.lasts.clean;
       failed = true_not c.args.self.now.live c.if-not-self.false;
       form = λ on broken. true_not (is_broken c.args.command.now.act) broken sound;
       obeyed = λ clean h shows.
@@ -76,7 +76,7 @@ returns-in-Err g c =
           refused g.S.Store _ h (asks c.args.command.now) c.in-Err.refusal (only_read g.S.Store c.args.self.now _ h refl c.judge.ensures.rests refl shows)
           (c.in-Err.ensures.judged clean h reading shows.history shows.tables other);
       import_caused = λ clean h shows import. true_not (is_import c.args.command.now.act) import other;
-      caused = λ clean h shows same. judged_for g.S.Store c.args.self.now.tables.conn c.judge.new.tables.conn c.args.self.now.live h (asks c.args.command.now) c.in-Err.refusal shows.lives (c.in-Err.ensures.caused clean h reading shows.history shows.tables other);
+      caused = λ clean h shows same. judged_for g.S.Store c.args.self.now.resting.tables.conn c.judge.new.resting.tables.conn c.args.self.now.live h (asks c.args.command.now) c.in-Err.refusal shows.lives (c.in-Err.ensures.caused clean h reading shows.history shows.tables other);
       lasts = lasting g.S.Store c.args.self.now _ _ (c.in-Err.ensures.alive, inr refl) c.judge.ensures.rests.survives.limit;
     }
 
@@ -87,9 +87,9 @@ returns-in-Ok g c =
     let reading = file_reading (file_of c.args.command.now.act) in
     let other : is_import c.args.command.now.act ≡ false = search rules in
     let told : (clean : HasCleanDisk g.S.Store c.carry_out-answer.new.self) (h : History) (shows : Shows g.S.Store c.args.self.now h) → JudgesCommand h (asks c.args.command.now) (Ok c.in-Ok.judged) =
-    λ clean h shows. c.in-Ok.ensures.judged (c.carry_out-answer.ensures.clean clean) h reading shows.history shows.tables other in
+    λ clean h shows. c.in-Ok.ensures.judged (c.carry_out-answer.ensures.held.clean clean) h reading shows.history shows.tables other in
     record {
-      clean = λ clean. c.judge.ensures.rests.clean (c.carry_out-answer.ensures.clean clean);
+      clean = λ clean. c.judge.ensures.rests.clean (c.carry_out-answer.ensures.held.clean clean);
       failed = true_not c.args.self.now.live c.if-not-self.false;
       form = λ on broken. true_not (is_broken c.args.command.now.act) broken (sym c.breaks_form.ensures.broken ∙ c.if-breaks_form.false);
       obeyed = λ clean h shows.
@@ -100,6 +100,6 @@ returns-in-Ok g c =
             comes = told clean h shows;
           });
       import_caused = λ clean h shows import. true_not (is_import c.args.command.now.act) import other;
-      caused = λ clean h shows same. failed_over g.S.Store c.args.self.now c.carry_out-answer.new.self c.args.self.now.live h (asks c.args.command.now) c.in-Ok.judged c.carry_out-answer.result c.carry_out-answer.ensures.held c.carry_out-answer.ensures.repeated (told clean h shows);
-      lasts = lasting g.S.Store c.args.self.now c.carry_out-answer.new.self c.carry_out-answer.result (carried c.carry_out-answer.result c.args.self.now.live c.carry_out-answer.new.self.live c.carry_out-answer.ensures.held) (c.carry_out-answer.ensures.limit ∙ c.judge.ensures.rests.survives.limit);
+      caused = λ clean h shows same. failed_over g.S.Store c.args.self.now c.carry_out-answer.new.self c.args.self.now.live h (asks c.args.command.now) c.in-Ok.judged c.carry_out-answer.result c.carry_out-answer.ensures.held.live c.carry_out-answer.ensures.repeated (told clean h shows);
+      lasts = lasting g.S.Store c.args.self.now c.carry_out-answer.new.self c.carry_out-answer.result (carried c.carry_out-answer.result c.args.self.now.live c.carry_out-answer.new.self.live c.carry_out-answer.ensures.held.live) (c.carry_out-answer.ensures.held.limit ∙ c.judge.ensures.rests.survives.limit);
     }

@@ -1,19 +1,22 @@
-use Rattle.pid_service.proofs.Consulting.{promised}
-use Rattle.pid_service.proofs.Questions.{answers_refused, answers_then}
+use Rattle.pid_service.proofs.QueriesMet.{promised}
+use Rattle.pid_service.proofs.Questions.{answered_here, answers_then, failed_here}
 use Rattle.pid_service.proofs.registry.Registry.prepare.Goals as goal
 
-pub returns-in-Ok-keep_items : goal.returns-in-Ok-keep_items
-returns-in-Ok-keep_items g c =
+pub returns-then-not-self : goal.returns-then-not-self
+returns-then-not-self g c =
     promised g.S.Store c.args.self.now _ _ _
-    (answers_then g.S.Store c.args.self.now c.keep_lists.new.self c.keep_text.new.self _ c.keep_text.result _ _ c.in-Ok.ensures
-    (answers_then g.S.Store c.keep_lists.new.self c.keep_items.new.self c.keep_text.new.self _ c.keep_text.result _ _ c.in-Ok-keep_items.ensures c.keep_text.ensures))
+    (failed_here g.S.Store c.args.self.now _ c.if-not-self.true c.args.self.now.resting.settled)
 
-pub returns-in-Err-keep_items : goal.returns-in-Err-keep_items
-returns-in-Err-keep_items g c =
-    promised g.S.Store c.args.self.now _ _ _
-    (answers_then g.S.Store c.args.self.now c.keep_lists.new.self c.keep_items.new.self _ _ _ _ c.in-Ok.ensures c.in-Err-keep_items.ensures)
+pub loop-part-init : goal.loop-part-init
+loop-part-init g c = answered_here g.S.Store c.args.self.now _ _ c.if-not-self.false c.args.self.now.resting.settled (λ clean h shows. tt)
+
+pub loop-part-preserved : goal.loop-part-preserved
+loop-part-preserved g c = answers_then g.S.Store c.args.self.now c.loop-part.self c.keep.new.self _ _ _ _ c.loop-part.invariant c.in-Ok.ensures
 
 pub returns-in-Err : goal.returns-in-Err
 returns-in-Err g c =
     promised g.S.Store c.args.self.now _ _ _
-    (answers_refused g.S.Store c.args.self.now c.keep_lists.new.self c.in-Err.refusal _ _ c.in-Err.ensures)
+    (answers_then g.S.Store c.args.self.now c.loop-part.self c.keep.new.self _ _ _ _ c.loop-part.invariant c.in-Err.ensures)
+
+pub returns : goal.returns
+returns g c = promised g.S.Store c.args.self.now _ _ _ c.loop-part.invariant

@@ -6,8 +6,9 @@ use Rattle.pid_moderation.specs.Files.{asks}
 use Rattle.std.specs.List.{AllByRecursion}
 use Rattle.pid_service.specs.Running.{ObeysInTurn, ReplyIsNotFailed}
 use Rattle.pid_service.proofs.Keeping.{true_not}
-use Rattle.pid_service.proofs.Lasting.{all_more, given_live, on_after, some_fault}
+use Rattle.pid_service.proofs.Lasting.{given_live, on_after, some_fault}
 use Rattle.pid_service.proofs.Runs.{ends_at, next_is, no_room, none_next, none_of, obeyed_more, one_more, runs_all, runs_none, so_many, some_not, turn_ends, turn_more, turn_none, turn_short, turn_stops}
+use Rattle.pid_tables.proofs.OfRows.SetLemmas.{all_with}
 use Rattle.pid_service.proofs.registry.Registry.run.Goals as goal
 
 -- ---- a registry that has failed
@@ -95,7 +96,7 @@ loop-command-preserved g c =
       λ on. on_after c.obey_lent-outcome.result c.obey_lent-outcome.new.self.live none (λ off. c.obey_lent-outcome.ensures.lasts.fails (c.loop-command.invariant.5 on) off),
       λ on.
           subst (AllByRecursion ReplyIsNotFailed) (sym (rw good at c.push.ensures.items))
-          (all_more ReplyIsNotFailed c.loop-command.replies.items c.obey_lent-outcome.result (c.loop-command.invariant.6 on) (c.obey_lent-outcome.ensures.lasts.alive (c.loop-command.invariant.5 on))),
+          (all_with ReplyIsNotFailed c.loop-command.replies.items c.obey_lent-outcome.result (c.loop-command.invariant.6 on) (c.obey_lent-outcome.ensures.lasts.alive (c.loop-command.invariant.5 on))),
       c.obey_lent-outcome.ensures.lasts.limit ∙ c.loop-command.invariant.7,
       subst (λ l. ObeysInTurn g.S.Store (take (i + 1) c.args.commands.now) l c.args.self.now c.obey_lent-outcome.new.self) (sym (rw good at c.push.ensures.items))
           (turn_more g.S.Store c.args.commands.now i c.loop-command.replies.items c.args.self.now c.loop-command.self c.obey_lent-outcome.new.self c.command-item.result c.obey_lent-outcome.result

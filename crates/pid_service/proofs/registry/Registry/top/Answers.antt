@@ -5,19 +5,22 @@ use Rattle.pid_moderation.specs.declared.lists.Item.{Item}
 use Rattle.pid_moderation.specs.Views.{views_of}
 use Rattle.pid_service.specs.KeptViews.{HoldsTop}
 use Rattle.pid_service.proofs.Keeping.{true_not}
-use Rattle.pid_service.proofs.Questions.{answered_here, short_here}
+use Rattle.pid_service.proofs.Questions.{answered_here, failed_here, short_here}
 use Rattle.pid_service.proofs.TopItems.{copied_holds}
 use Rattle.pid_service.proofs.registry.Registry.top.Goals as goal
+
+pub returns-then-not-self : goal.returns-then-not-self
+returns-then-not-self g c = failed_here g.S.Store c.args.self.now _ c.if-not-self.true c.args.self.now.resting.settled
 
 -- ---- they are kept
 
 pub returns-in-Some-copied : goal.returns-in-Some-copied
 returns-in-Some-copied g c =
-    answered_here g.S.Store c.args.self.now _ _ c.requires c.args.self.now.settled
+    answered_here g.S.Store c.args.self.now _ _ c.if-not-self.false c.args.self.now.resting.settled
     (λ clean h shows. (rw c.as_slice.ensures.value at c.in-Some-copied.ensures) ∙ subst (λ (t : Option (Vec Item Global)). HoldsTop t (views_of h)) c.in-Some.is (shows.kept clean).top)
 
 pub returns-in-None : goal.returns-in-None
-returns-in-None g c = short_here g.S.Store c.args.self.now _ c.requires c.args.self.now.settled
+returns-in-None g c = short_here g.S.Store c.args.self.now _ c.if-not-self.false c.args.self.now.resting.settled
 
 -- ---- they are read
 
@@ -25,7 +28,7 @@ pub returns-in-Ok : goal.returns-in-Ok
 returns-in-Ok g c =
     let found = c.in-Ok.ensures in
     record {
-      failed = true_not c.args.self.now.live c.requires;
+      failed = true_not c.args.self.now.live c.if-not-self.false;
       fault = tt;
       lives = found.lives;
       rests = found.rests;

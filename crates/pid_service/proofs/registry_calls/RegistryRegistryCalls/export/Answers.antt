@@ -1,4 +1,4 @@
-use Rattle.pid_service.proofs.Consulting.{exported_then}
+use Rattle.pid_service.proofs.QueriesMet.{exported_then}
 use Rattle.pid_service.proofs.registry_calls.RegistryRegistryCalls.export.Goals as goal
 
 pub returns : goal.returns

@@ -6,9 +6,9 @@ use Rattle.pid_moderation.specs.declared.refusal.Refusal.TheVariants.{Failed}
 use Rattle.pid_tables.proofs.OfCheck.Asking.{nothing_read}
 use Rattle.pid_service.specs.Histories.{Shows}
 use Rattle.pid_service.specs.Steps.Asking.{OnlyAsked}
-use Rattle.pid_service.proofs.Consulting.{looks}
+use Rattle.pid_service.proofs.QueriesMet.{looks}
 use Rattle.pid_service.proofs.Keeping.{true_not}
-use Rattle.pid_service.proofs.Moderating.{failed_gives, looked_up}
+use Rattle.pid_service.proofs.CallsMet.{failed_gives, looked_up}
 use Rattle.pid_service.proofs.registry_calls.RegistryRegistryCalls.lookup.Goals as goal
 
 -- ---- it has failed
@@ -17,7 +17,7 @@ pub returns-then-not-self : goal.returns-then-not-self
 returns-then-not-self g c = record {
   failed = λ off. (refl, refl);
   lives = refl;
-  rests = nothing_read (state g.S.Store c.args.self.now.tables.conn) c.args.self.now.settled;
+  rests = nothing_read (state g.S.Store c.args.self.now.resting.tables.conn) c.args.self.now.resting.settled;
   calls = looks g.S.Store c.args.self.now c.args.self.now (λ clean. clean) (λ off. refl) (λ clean h shows. shows);
   answer = λ clean h shows. true_not c.args.self.now.live shows.lives c.if-not-self.true;
   shown = λ h shows. shows;
@@ -33,7 +33,7 @@ returns-then-not-self g c = record {
 
 pub returns : goal.returns
 returns g c =
-    let start : OnlyAsked g.S.Store c.args.self.now c.args.self.now = record { lives = refl; rests = nothing_read (state g.S.Store c.args.self.now.tables.conn) c.args.self.now.settled; failed = λ off. refl } in
+    let start : OnlyAsked g.S.Store c.args.self.now c.args.self.now = record { lives = refl; rests = nothing_read (state g.S.Store c.args.self.now.resting.tables.conn) c.args.self.now.resting.settled; failed = λ off. refl } in
     let asked = c.lookup.ensures.kept.asked c.args.self.now start in
     let shown : (h : History) → Shows g.S.Store c.args.self.now h → Shows g.S.Store c.lookup.new.names h = search rules in
     let bad = c.lookup.ensures.bad_flags in

@@ -4,7 +4,7 @@ use Rattle.pid_moderation.specs.Views.{views_of}
 use Rattle.pid_tables.proofs.OfCheck.Asking.{nothing_read}
 use Rattle.pid_service.proofs.Exported.{text_kept, text_told}
 use Rattle.pid_service.proofs.Keeping.{true_not}
-use Rattle.pid_service.proofs.Consulting.{promised}
+use Rattle.pid_service.proofs.QueriesMet.{promised}
 use Rattle.pid_service.proofs.Questions.{answers_fault, failed_here}
 use Rattle.pid_service.proofs.registry_queries.RegistryRegistryQueries.export_length.Goals as goal
 
@@ -13,7 +13,7 @@ use Rattle.pid_service.proofs.registry_queries.RegistryRegistryQueries.export_le
 pub returns-then-not-self : goal.returns-then-not-self
 returns-then-not-self g c =
     promised g.S.Store c.args.self.now _ _ _
-    (failed_here g.S.Store c.args.self.now _ c.if-not-self.true c.args.self.now.settled)
+    (failed_here g.S.Store c.args.self.now _ c.if-not-self.true c.args.self.now.resting.settled)
 
 -- ---- the text is kept
 
@@ -24,7 +24,7 @@ returns-in-Some g c =
       failed = true_not c.args.self.now.live c.if-not-self.false;
       fault = tt;
       lives = refl;
-      rests = nothing_read (state g.S.Store c.args.self.now.tables.conn) c.args.self.now.settled;
+      rests = nothing_read (state g.S.Store c.args.self.now.resting.tables.conn) c.args.self.now.resting.settled;
       told = λ clean h shows.
           let many : c.len.result ≡ length c.in-Some.text.bytes.items = search rules in
           (many ∙ ap length (text_told g.S.Store c.args.self.now h c.in-Some.text c.in-Some.is clean shows (c.items_print_as_their_tree.ensures h)), shows);

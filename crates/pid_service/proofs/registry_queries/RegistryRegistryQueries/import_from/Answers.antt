@@ -8,6 +8,7 @@ use Rattle.pid_service.specs.Importing.{ObeysImport, OfRefusal}
 use Rattle.pid_service.proofs.ImportCauses.{Faults}
 use Rattle.pid_service.proofs.Keeping.{true_not}
 use Rattle.pid_service.proofs.Lasting.{end_lasting}
+use Rattle.pid_service.proofs.ImportSessions.{failed_past}
 use Rattle.pid_service.proofs.registry_queries.RegistryRegistryQueries.import_from.Goals as goal
 
 pub returns-clause-obeyed : goal.returns-clause-obeyed
@@ -22,7 +23,7 @@ returns-clause-obeyed g c =
       consumed = taken.consumed;
       read = taken.read;
       holds = record {
-        calls = c.clauses_meet_sessions.ensures.imports c.args.self.now c.import_act-end.new.self asks c.import_act-end.result c.import_act-end.ensures.clean (true_not c.args.self.now.live c.if-not-self.false) leaves;
+        calls = c.clauses_meet_sessions.ensures.imports c.args.self.now c.import_act-end.new.self asks c.import_act-end.result c.import_act-end.ensures.lasts.clean (true_not c.args.self.now.live c.if-not-self.false) leaves;
         leaves = leaves;
       };
     }
@@ -32,7 +33,7 @@ returns-clause-lasts g c =
     let import : is_import c.import_command-command.result.act ≡ true = rw c.import_command-command.ensures refl in
     end_lasting g.S.Store c.args.self.now c.import_act-end.new.self (import_of c.args.account c.args.key) c.import_act-end.result c.import_act-end.ensures.lasts.live c.import_act-end.ensures.lasts.limit
     (λ clean h shows reading.
-    subst (λ (k : Command). IfErr c.import_act-end.result (OfRefusal (Faults g.S.Store c.args.self.now.tables.conn c.import_act-end.new.self.tables.conn c.import_act-end.new.self.live h (asked k reading)))) c.import_command-command.ensures
+    subst (λ (k : Command). IfErr c.import_act-end.result (OfRefusal (Faults g.S.Store c.args.self.now.resting.tables.conn c.import_act-end.new.self.resting.tables.conn c.import_act-end.new.self.live h (asked k reading)))) c.import_command-command.ensures
     (c.import_act-end.ensures.caused clean h shows reading import))
 
 -- ---- what the call gives as it is
@@ -41,29 +42,29 @@ pub returns-clause-failed : goal.returns-clause-failed
 returns-clause-failed g c = true_not c.args.self.now.live c.if-not-self.false
 
 pub returns-clause-reads : goal.returns-clause-reads
-returns-clause-reads g c = c.import_act-end.ensures.reads
+returns-clause-reads g c = c.import_act-end.ensures.lasts.reads
 
 -- ---- it has failed
 
 pub returns-then-not-self-clause-failed : goal.returns-then-not-self-clause-failed
-returns-then-not-self-clause-failed g c off = (c.answer_failed.ensures.failed, refl)
+returns-then-not-self-clause-failed g c off = (failed_past _ _ c.answer_past.ensures.past.holds, refl)
 
 pub returns-then-not-self-clause-obeyed : goal.returns-then-not-self-clause-obeyed
 returns-then-not-self-clause-obeyed g c =
-    let past = c.answer_failed.ensures.past in
+    let past = c.answer_past.ensures.past in
     record {
       text = past.text;
       consumed = past.consumed;
       read = past.read;
       holds = record {
-        calls = c.clauses_meet_sessions.ensures.imports c.args.self.now c.args.self.now (import_of c.args.account c.args.key (file_reading past.text)) c.answer_failed.result (λ clean. clean) (λ off. (c.answer_failed.ensures.failed, refl))
+        calls = c.clauses_meet_sessions.ensures.imports c.args.self.now c.args.self.now (import_of c.args.account c.args.key (file_reading past.text)) c.answer_past.result (λ clean. clean) (λ off. (failed_past _ _ past.holds, refl))
             (λ clean h shows. true_not c.args.self.now.live shows.lives c.if-not-self.true);
         leaves = λ clean h shows. true_not c.args.self.now.live shows.lives c.if-not-self.true;
       };
     }
 
 pub returns-then-not-self-clause-reads : goal.returns-then-not-self-clause-reads
-returns-then-not-self-clause-reads g c = c.answer_failed.ensures.reads
+returns-then-not-self-clause-reads g c = c.answer_past.ensures.reads
 
 pub returns-then-not-self-clause-lasts : goal.returns-then-not-self-clause-lasts
 returns-then-not-self-clause-lasts g c = record {

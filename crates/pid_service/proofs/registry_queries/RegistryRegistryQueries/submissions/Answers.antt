@@ -1,5 +1,5 @@
 use Rattle.std.proofs.Common.{refl}
-use Rattle.pid_service.proofs.Consulting.{promised}
+use Rattle.pid_service.proofs.QueriesMet.{promised}
 use Rattle.pid_service.proofs.Questions.{answers_after, answers_refused}
 use Rattle.pid_service.proofs.registry_queries.RegistryRegistryQueries.submissions.Goals as goal
 

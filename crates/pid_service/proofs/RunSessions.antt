@@ -1,11 +1,12 @@
--- What a run of a list promises is what lives ask of it.
+-- What a run of a list promises is what sessions ask of it.
 use Rattle.std.proofs.Common.{◌≡◌, ◌⊎◌, inl, inr, ℕ, zero, suc, ◌+◌, ◌<◌, List, [], ◌∷◌, ◌++◌, length, take, drop, add-one, Option, Some, None, refl, sym, subst, ap, ◌∙◌, arith}
 use Rattle.std.specs.Prelude.{IsSomeAnd}
 use Rattle.sqlite_trees.specs.declared.store.Store.{Ghosts}
 use Rattle.pid_moderation.specs.declared.refusal.Refusal.{Refusal}
 use Rattle.pid_moderation.specs.History.{Asked, History}
 use Rattle.pid_moderation.specs.Judgement.{after, after_all}
-use Rattle.pid_service_laws.proofs.SessionLaws as lives
+use Rattle.pid_service_laws.proofs.SessionLaws as sessions
+use Rattle.pid_service_laws.proofs.Joining.{after_more}
 use Rattle.pid_service.specs.declared.registry.Registry.{Registry}
 use Rattle.pid_service.specs.declared.running.RunReport.{RunReport}
 use Rattle.pid_service.specs.Histories.{FailsBetween, IsMemoryOrStore, Shows}
@@ -26,10 +27,6 @@ next_taken (x ∷ commands) (suc n) c rest is = let below = next_taken commands 
 is_next : (commands : List Asked) (n : ℕ) (c : Asked) (rest : List Asked) → drop n commands ≡ c ∷ rest → IsNext commands n c
 is_next commands n c rest is = let next = next_taken commands n c rest is in record { more = next.0; taken = ap (λ k. take k commands) (add-one n) ∙ next.1 }
 
-after_next : (commands : List Asked) (h : History) (c : Asked) → after_all h (commands ++ c ∷ []) ≡ after (after_all h commands) c
-after_next [] h c = refl
-after_next (x ∷ commands) h c = after_next commands (after h x) c
-
 module _ {S : Type 0} (store : Ghosts S) where
   -- it failed at the next command
   record FailsNext (fault : Option Refusal) (rest : List Asked) (r : Registry S store) (h : History) : Type 0 where
@@ -46,8 +43,8 @@ module _ {S : Type 0} (store : Ghosts S) where
   ended (Some e) (c ∷ rest) r h (fault, inl shows) = inl shows
   ended (Some e) (c ∷ rest) r h (fault, inr fails) = inr (record { is_fault = fault; next = c; behind = rest; is_next = refl; fails = fails })
 
-  pub run_lives : (report : RunReport) (r : Registry S store) (h : History) (commands : List Asked) → Runs store report r h commands → lives.ListLeaves (showing store) report.replies.items report.fault r h commands
-  run_lives report r h commands runs =
+  pub run_sessions : (report : RunReport) (r : Registry S store) (h : History) (commands : List Asked) → Runs store report r h commands → sessions.ListLeaves (showing store) report.replies.items report.fault r h commands
+  run_sessions report r h commands runs =
       let n = length report.replies.items in
       let so_far = after_all h (take n commands) in
       record {
@@ -59,7 +56,7 @@ module _ {S : Type 0} (store : Ghosts S) where
               inr (
                 failed.is_fault,
                 next.more,
-                subst (λ (g : History). FailsBetween store r so_far g) (sym (ap (after_all h) next.taken ∙ after_next (take n commands) h failed.next)) failed.fails,
+                subst (λ (g : History). FailsBetween store r so_far g) (sym (ap (after_all h) next.taken ∙ after_more (take n commands) h (failed.next ∷ []))) failed.fails,
               )
         ];
       }

@@ -1,6 +1,6 @@
 use Rattle.std.proofs.Common.{refl}
 use Rattle.pid_service.proofs.CountedLines.{all_counted, all_kept}
-use Rattle.pid_service.proofs.items_text.text_after.Goals as goal
+use Rattle.pid_service.proofs.items_text.walked_text.Goals as goal
 
 pub returns-in-Ok : goal.returns-in-Ok
 returns-in-Ok g c = record {

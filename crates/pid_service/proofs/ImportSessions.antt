@@ -1,5 +1,6 @@
--- What an import of an input promises is what lives ask of it.
-use Rattle.std.proofs.Common.{◌≡◌, ◌⊎◌, inl, inr, false, Result, Ok, Err, refl, ap, ◌∙◌}
+-- What an import of an input promises is what sessions ask of it.
+use Rattle.std.proofs.Common.{◌≡◌, ◌⊎◌, inl, inr, ℕ, List, false, Result, Ok, Err, refl, sym, ap, ◌∙◌}
+use Rattle.pid_service.specs.Steps.Importing.{AnswersPast}
 use Rattle.sqlite_trees.specs.declared.store.Store.{Ghosts}
 use Rattle.pid_moderation.specs.declared.command.Reply.{Reply}
 use Rattle.pid_moderation.specs.declared.refusal.Refusal.{Refusal}
@@ -29,6 +30,13 @@ then_failed : (e : Refusal) (result : Result Reply Refusal) → IsOfFailed (Err 
 then_failed e result (inl is) told = let same : e ≡ Failed = cc in told ∙ ap Err same
 then_failed e result (inr is) told = absurd (let no : ⊥ = cc in no)
 
+-- one that answered without reading the file
+pub failed_past : (result : Result Reply ImportEnd) (text : List ℕ) → AnswersPast false (Err Failed) result text → IsOfFailed result
+failed_past (Ok reply) text past = absurd (let is : ◌≡◌ {A = Result Reply Refusal} (Err Failed) (Ok reply) = past.0 in let no : ⊥ = cc in no)
+failed_past (Err (Refused e)) text (inl past) = let is : ◌≡◌ {A = Result Reply Refusal} (Err Failed) (Err e) = past.0 in let same : Failed ≡ e = cc in inl (ap (λ (x : Refusal). Err (Refused x)) (sym same))
+failed_past (Err (Refused e)) text (inr past) = inl (ap (λ (x : Refusal). Err (Refused x)) past.0)
+failed_past (Err Body) text past = inr refl
+
 module _ {S : Type 0} (store : Ghosts S) where
   -- the laws of commands and of questions
   abbrev pub ObeysLaw : Type 0
@@ -39,9 +47,9 @@ module _ {S : Type 0} (store : Ghosts S) where
   LooksLaw = (old new : Registry S store) → (HasCleanDisk store new → HasCleanDisk store old) → (is_live old ≡ false → new ≡ old)
       → (HasCleanDisk store new → (h : History) → Shows store old h → Shows store new h) → Does (showing store) old nothing_sent new
 
-  pub import_lives : ObeysLaw → LooksLaw → (old new : Registry S store) (c : Asked) (result : Result Reply ImportEnd) → (HasCleanDisk store new → HasCleanDisk store old)
+  pub import_sessions : ObeysLaw → LooksLaw → (old new : Registry S store) (c : Asked) (result : Result Reply ImportEnd) → (HasCleanDisk store new → HasCleanDisk store old)
       → (is_live old ≡ false → IsOfFailed result × (new ≡ old)) → (HasCleanDisk store new → (h : History) → Shows store old h → ObeysImport store result new h c)
       → Does (showing store) old (import_sent c result (is_live new)) new
-  import_lives obeys looks old new c (Ok reply) clean failed told = obeys old new c (Ok reply) clean (λ off. let is = failed off in (never_ok reply (Ok reply) is.0, is.1)) told
-  import_lives obeys looks old new c (Err (Refused e)) clean failed told = obeys old new c (Err e) clean (λ off. let is = failed off in (then_failed e (Err e) is.0 refl, is.1)) told
-  import_lives obeys looks old new c (Err Body) clean failed told = looks old new clean (λ off. (failed off).1) told
+  import_sessions obeys looks old new c (Ok reply) clean failed told = obeys old new c (Ok reply) clean (λ off. let is = failed off in (never_ok reply (Ok reply) is.0, is.1)) told
+  import_sessions obeys looks old new c (Err (Refused e)) clean failed told = obeys old new c (Err e) clean (λ off. let is = failed off in (then_failed e (Err e) is.0 refl, is.1)) told
+  import_sessions obeys looks old new c (Err Body) clean failed told = looks old new clean (λ off. (failed off).1) told

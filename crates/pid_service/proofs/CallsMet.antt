@@ -18,6 +18,7 @@ use Rattle.pid_moderation.specs.Items.{Items}
 use Rattle.pid_moderation.specs.Views.{items_of}
 use Rattle.pid_moderation.specs.Writes.{tree_of}
 use Rattle.pid_file.proofs.Cuts.{open_line, open_more, open_no_lf}
+use Rattle.pid_file.proofs.LineLemmas.{by_bool}
 use Rattle.pid_reader.specs.WholeLines.{open_part}
 use Rattle.pid_service.specs.Asking.{MayGive}
 use Rattle.pid_service_laws.specs.declared.faults.ExportFault.{ExportFault}
@@ -52,15 +53,12 @@ exported (Err (Refused e)) old new h same (fault, (front, behind, is, told)) = (
 )
 
 -- flags are good or bad
-no_bad : (b : Bool) → (b ≡ true → ⊥) → b ≡ false
-no_bad true refuted = absurd (refuted refl)
-no_bad false refuted = refl
 
 -- a look-up of a live registry
 pub looked_up : (result : Result Answer (LookupRefusal Refusal)) (tree : TreeMap) (flags : ℕ) (args : Args) (size : ℕ) (live : Bool) → live ≡ true
     → IfOk result (λ found. found ≡ answer_of tree flags args size) → (live ≡ true → IsErrOf result BadFlags ↔ (is_bad flags ≡ true)) → ((e : Refusal) → IsErrOf result (Names e) → MayGive live e)
     → LooksUp result tree flags args size
-looked_up (Ok found) tree flags args size live lives told bad fault = (no_bad (is_bad flags) (λ is. let other = (bad lives).1 is in absurd cc), told)
+looked_up (Ok found) tree flags args size live lives told bad fault = (by_bool (is_bad flags) (λ is. let other = (bad lives).1 is in absurd cc), told)
 looked_up (Err BadFlags) tree flags args size live lives told bad fault = (bad lives).0 refl
 looked_up (Err (Names e)) tree flags args size live lives told bad fault = (fault e refl).alive lives
 looked_up (Err Memory) tree flags args size live lives told bad fault = tt

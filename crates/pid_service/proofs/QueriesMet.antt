@@ -9,7 +9,7 @@ use Rattle.pid_service_laws.proofs.Calling.{looked_does}
 use Rattle.pid_service_laws.specs.declared.faults.ExportFault.{ExportFault}
 use Rattle.pid_tables.proofs.OfRows.OnlyReading.{reads_then}
 use Rattle.pid_service.proofs.Finding.{still_between}
-use Rattle.pid_service.proofs.ImportLives.{LooksLaw}
+use Rattle.pid_service.proofs.ImportSessions.{LooksLaw}
 use Rattle.pid_service.proofs.Questions.{caused_since}
 use Rattle.pid_service.specs.declared.registry.Registry.{Registry}
 use Rattle.pid_service.specs.Asking.{Answers, AnswersIfThere, MayGive}

@@ -1,8 +1,0 @@
-use Rattle.pid_service.proofs.Questions.{answers_refused, answers_then}
-use Rattle.pid_service.proofs.registry.Registry.keep_counts.Goals as goal
-
-pub returns-in-Ok : goal.returns-in-Ok
-returns-in-Ok g c = answers_then g.S.Store c.args.self.now c.keep_pending.new.self c.keep_accounts.new.self _ c.keep_accounts.result _ _ c.in-Ok.ensures c.keep_accounts.ensures
-
-pub returns-in-Err : goal.returns-in-Err
-returns-in-Err g c = answers_refused g.S.Store c.args.self.now c.keep_pending.new.self c.in-Err.refusal _ _ c.in-Err.ensures
