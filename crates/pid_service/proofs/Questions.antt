@@ -201,6 +201,10 @@ module _ {S : Type 0} (store : Ghosts S) where
   fault_since (Ok x) old mid new first second clean cause = tt
   fault_since (Err e) old mid new first second clean cause = caused_since old mid new e first second clean cause
 
+  -- a registry that has answered is live
+  pub live_after : {Y : Type 0} (old mid : Registry S store) (y : Y) (Before : History → Y → Type 0) → Finds store old mid (Ok y) Before → is_live mid ≡ true
+  live_after old mid y Before first = first.lives ∙ still_live (is_live old) (λ off. answered y Failed (first.failed off).0)
+
   -- a question behind another one
   pub answers_then : {X Y : Type 0} (old mid new : Registry S store) (y : Y) (r : Result X Refusal) (Before : History → Y → Type 0) (Says : History → X → Type 0) → Finds store old mid (Ok y) Before → Finds store mid new r Says → Finds store old new r Says
   answers_then old mid new y r Before Says first second =
@@ -219,8 +223,7 @@ module _ {S : Type 0} (store : Ghosts S) where
       → kept_views new ≡ kept_views mid → clauses.Reads store (connection mid) (connection new) found Told → r ≡ answered_as found → ((h : History) → IsReached h → IsReadable (views_of h))
       → ((h : History) (x : X) → Shows store mid h → HasCleanDisk store mid → Told (views_of h) x → Says h x) → Finds store old new r Says
   answers_after old mid new y found r Before Told Says first same kept read is readable means =
-      let on : is_live old ≡ true = still_live (is_live old) (λ off. answered y Failed (first.failed off).0) in
-      answers_then old mid new y r Before Says first (answers_read mid new found r Told Says (first.lives ∙ on) same kept read is readable means)
+      answers_then old mid new y r Before Says first (answers_read mid new found r Told Says (live_after old mid y Before first) same kept read is readable means)
 
   -- one whose answer is left out
   pub answers_nothing : {X : Type 0} (old new : Registry S store) (x : X) (Says : History → X → Type 0) → Finds store old new (Ok x) Says → Finds store old new (Ok (tt {0})) (λ h _. Unit {0})

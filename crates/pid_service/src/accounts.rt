@@ -5,12 +5,10 @@ ghost use Rattle.pid_moderation.specs.Views.{Views};
 ghost use Rattle.pid_tables.specs.Rows.Accounts.{HasAccounts};
 ghost use Rattle.pid_tables.specs.Rows.Clauses.{Reads};
 ghost use Rattle.pid_service.specs.KeptViews.{HoldsAccounts};
-ghost use Rattle.pid_service.specs.Steps.Asking.{Finds};
 
-use crate::laws;
-use crate::registry::{Registry, RestingTables};
-use pid_moderation::{Effect, Refusal};
-use pid_tables::{TableFault, refusal_of};
+use crate::registry::RestingTables;
+use pid_moderation::Effect;
+use pid_tables::TableFault;
 use sqlite::Alter;
 
 /// How many accounts there are after a change.
@@ -44,29 +42,5 @@ pub(crate) fn count_accounts<S: Alter + Drop>(
     match kept {
         Some(count) => Ok(count),
         None => resting.tables.accounts(),
-    }
-}
-
-impl<S: Alter + Drop> Registry<S> {
-    // Counts the accounts, unless that was done, and keeps their number if memory is there for
-    // their rows.
-    pub(crate) fn keep_accounts(&mut self) -> Result<(), Refusal>
-        ensures { Finds S.Store self.old self.new result (λ h _. Unit {0}) }
-    {
-        if !self.live {
-            return Err(Refusal::Failed);
-        }
-        laws::reached_histories_are_kept(); // proof only
-        if self.kept.accounts.is_some() {
-            return Ok(());
-        }
-        match self.resting.tables.accounts() {
-            Ok(count) => {
-                self.kept.accounts = Some(count);
-                Ok(())
-            }
-            Err(TableFault::Memory) => Ok(()),
-            Err(fault) => Err(refusal_of(fault)),
-        }
     }
 }

@@ -68,7 +68,6 @@ impl<S: Alter + Drop> Registry<S> {
     {
         match part {
             Part::Pending => self.keep_pending(),
-            Part::Accounts => self.keep_accounts(),
             Part::Numbers => self.keep_numbers(true),
             Part::Top => match self.children(None) {
                 Ok(items) => {
@@ -79,6 +78,10 @@ impl<S: Alter + Drop> Registry<S> {
             },
             Part::Changes => self.keep_changes(),
             Part::Text => match self.export_length() {
+                Ok(_) => Ok(()),
+                Err(refusal) => unless_short(refusal),
+            },
+            Part::Accounts => match self.status() {
                 Ok(_) => Ok(()),
                 Err(refusal) => unless_short(refusal),
             },

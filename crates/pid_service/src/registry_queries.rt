@@ -214,14 +214,17 @@ impl<S: Alter + Drop> RegistryQueries for Registry<S> {
         laws::reached_histories_are_kept(); // proof only
         pid_moderation::laws::views_tell_status(); // proof only
         match self.keep_pending() {
-            Ok(()) => match self.keep_accounts() {
-                Ok(()) => fault_as_refusal(status_by(
-                    &mut self.resting,
-                    self.alloc,
-                    &self.kept.pending,
-                    self.kept.accounts,
-                )),
-                Err(refusal) => Err(refusal),
+            Ok(()) => match status_by(
+                &mut self.resting,
+                self.alloc,
+                &self.kept.pending,
+                self.kept.accounts,
+            ) {
+                Ok(status) => {
+                    self.kept.accounts = Some(status.accounts);
+                    Ok(status)
+                }
+                Err(fault) => Err(refusal_of(fault)),
             },
             Err(refusal) => Err(refusal),
         }

@@ -5,9 +5,6 @@ use Rattle.pid_service.proofs.registry.Registry.keep.Goals as goal
 pub returns-in-Pending : goal.returns-in-Pending
 returns-in-Pending g c = c.keep_pending.ensures
 
-pub returns-in-Accounts : goal.returns-in-Accounts
-returns-in-Accounts g c = c.keep_accounts.ensures
-
 pub returns-in-Numbers : goal.returns-in-Numbers
 returns-in-Numbers g c = c.keep_numbers.ensures
 
@@ -25,3 +22,9 @@ returns-in-Ok-export_length g c = answers_nothing g.S.Store c.args.self.now c.ex
 
 pub returns-in-Err-export_length : goal.returns-in-Err-export_length
 returns-in-Err-export_length g c = answers_unless g.S.Store c.args.self.now c.export_length.new.self c.in-Err-export_length.refusal c.unless_short-in-Err-export_length.result _ c.unless_short-in-Err-export_length.ensures (finds g.S.Store _ _ _ _ c.in-Err-export_length.ensures)
+
+pub returns-in-Ok-status : goal.returns-in-Ok-status
+returns-in-Ok-status g c = answers_nothing g.S.Store c.args.self.now c.status.new.self _ _ (finds g.S.Store _ _ _ _ c.in-Ok-status.ensures)
+
+pub returns-in-Err-status : goal.returns-in-Err-status
+returns-in-Err-status g c = answers_unless g.S.Store c.args.self.now c.status.new.self c.in-Err-status.refusal c.unless_short-in-Err-status.result _ c.unless_short-in-Err-status.ensures (finds g.S.Store _ _ _ _ c.in-Err-status.ensures)

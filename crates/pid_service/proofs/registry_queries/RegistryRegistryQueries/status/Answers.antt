@@ -1,20 +1,45 @@
-use Rattle.std.proofs.Common.{refl}
-use Rattle.pid_moderation.specs.RegistryStatus.{registry_status_of}
+use Rattle.std.proofs.Common.{◌≡◌, ap, refl, true}
+use Rattle.pid_moderation.specs.RegistryStatus.{RegistryStatus, registry_status_of}
+use Rattle.pid_moderation.specs.Views.{views_of}
+use Rattle.pid_service.specs.Registries.{is_live}
+use Rattle.pid_service.proofs.Keeping.{true_not}
 use Rattle.pid_service.proofs.QueriesMet.{promised}
-use Rattle.pid_service.proofs.Questions.{answers_after, answers_refused, answers_then}
+use Rattle.pid_service.proofs.Questions.{answers_fault, answers_refused, answers_then, live_after}
 use Rattle.pid_service.proofs.registry_queries.RegistryRegistryQueries.status.Goals as goal
 
-pub returns-in-Ok-keep_accounts : goal.returns-in-Ok-keep_accounts
-returns-in-Ok-keep_accounts g c =
+pub returns-in-Ok-status_by : goal.returns-in-Ok-status_by
+returns-in-Ok-status_by g c =
+    let mid = c.keep_pending.new.self in
+    let on : is_live mid ≡ true = live_after g.S.Store c.args.self.now mid _ _ c.in-Ok.ensures in
+    let found = c.in-Ok-status_by.ensures in
     promised g.S.Store c.args.self.now _ _ _
-    (answers_then g.S.Store c.args.self.now c.keep_pending.new.self _ _ _ _ _ c.in-Ok.ensures
-    (answers_after g.S.Store c.keep_pending.new.self c.keep_accounts.new.self _ _ c.status_by.result c.fault_as_refusal.result _ _ _ c.in-Ok-keep_accounts.ensures refl refl c.status_by.ensures c.fault_as_refusal.ensures c.reached_histories_are_kept.ensures.readable (λ h status shows clean told. (c.views_tell_status.ensures h (registry_status_of status)).0 (told (shows.kept clean).pending (shows.kept clean).accounts))))
+    (answers_then g.S.Store c.args.self.now mid _ _ _ _ _ c.in-Ok.ensures
+    (record {
+      failed = true_not (is_live mid) on;
+      fault = tt;
+      lives = refl;
+      rests = found.rests;
+      told = λ clean h shows.
+          let kept = shows.kept (found.rests.clean clean) in
+          let says = found.told clean (views_of h) shows.tables kept.pending kept.accounts in (
+            (c.views_tell_status.ensures h (registry_status_of c.in-Ok-status_by.status)).0 says,
+            record {
+              lives = shows.lives;
+              history = shows.history;
+              tables = found.rests.kept (views_of h) shows.tables;
+              kept = λ still. record { names = kept.names; text = kept.text; top = kept.top; changes = kept.changes; pending = kept.pending; numbers = kept.numbers; accounts = (says.0, says.1, ap (λ (s : RegistryStatus). s.accounts) says.2) };
+            },
+          );
+      caused = λ clean h shows. tt;
+    }))
 
-pub returns-in-Err-keep_accounts : goal.returns-in-Err-keep_accounts
-returns-in-Err-keep_accounts g c =
+pub returns-in-Err-status_by : goal.returns-in-Err-status_by
+returns-in-Err-status_by g c =
+    let mid = c.keep_pending.new.self in
     promised g.S.Store c.args.self.now _ _ _
-    (answers_then g.S.Store c.args.self.now c.keep_pending.new.self c.keep_accounts.new.self _ _ _ _ c.in-Ok.ensures
-    (answers_refused g.S.Store c.keep_pending.new.self c.keep_accounts.new.self c.in-Err-keep_accounts.refusal _ _ c.in-Err-keep_accounts.ensures))
+    (answers_then g.S.Store c.args.self.now mid _ _ _ _ _ c.in-Ok.ensures
+    (answers_fault g.S.Store mid _ c.in-Err-status_by.fault c.refusal_of.result _ (live_after g.S.Store c.args.self.now mid _ _ c.in-Ok.ensures) refl refl c.status_by.ensures.rests c.refusal_of.ensures.same c.refusal_of.ensures.fault
+    (λ clean h shows. c.in-Err-status_by.ensures.told clean (views_of h) shows.tables (c.reached_histories_are_kept.ensures.readable h shows.history))))
 
 pub returns-in-Err : goal.returns-in-Err
 returns-in-Err g c =
