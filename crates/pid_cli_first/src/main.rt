@@ -9,7 +9,7 @@ use pid_cli_help::{
     FirstJob, Met, Noted, explain_streams, first_job_of, is_for_a_person, refuse_argument,
     refuse_command, report_input,
 };
-use pid_file::{report_no_words, run_check, run_tidy, show};
+use pid_file::{NO_JOB, report_no_words, run_check, run_tidy, show};
 use std::process::ExitCode;
 use std::{env, io};
 
@@ -29,13 +29,13 @@ fn words_given(rt: &HostRuntime) -> io::Result<Vec<String>> {
 
 // Does the job, and at a terminal says more.
 fn run(rt: &HostRuntime, job: FirstJob<'_>) -> u8 {
-    let is_told = is_for_a_person(rt);
-    if is_told && matches!(job, FirstJob::Tidy | FirstJob::Check) {
+    let has_reader = is_for_a_person(rt);
+    if has_reader && matches!(job, FirstJob::Tidy | FirstJob::Check) {
         report_input(rt, "a pci.ids file");
     }
     let (mut read, mut written) = (Met::new(), Met::new());
     let status = do_job(rt, job, &mut read, &mut written);
-    if is_told {
+    if has_reader {
         explain_streams(rt, status, &read, &written);
     }
     status
@@ -54,8 +54,14 @@ fn do_job(rt: &HostRuntime, job: FirstJob<'_>, read: &mut Met, written: &mut Met
             run_check(alloc, input, Noted::new(rt.stdout(), written), faults).0
         }
         FirstJob::Show(page) => show(page, Noted::new(rt.stdout(), written), faults),
-        FirstJob::NoCommand(word) => refuse_command(rt, word),
-        FirstJob::NoArgument { command, word } => refuse_argument(rt, command, word),
+        FirstJob::NoCommand(word) => {
+            refuse_command(rt, word);
+            NO_JOB
+        }
+        FirstJob::NoArgument { command, word } => {
+            refuse_argument(rt, command, word);
+            NO_JOB
+        }
         FirstJob::Other => OTHER_JOB,
     }
 }

@@ -59,19 +59,26 @@ pub const COMMANDS: [&str; 9] = [
     "tidy", "check", "lookup", "script", "import", "export", "serve", "migrate", "help",
 ];
 
+// The help of each command but `help`.
+const PAGES: [(&str, &str); 8] = [
+    ("tidy", TIDY),
+    ("check", CHECK),
+    ("lookup", LOOKUP),
+    ("script", SCRIPT),
+    ("import", IMPORT),
+    ("export", EXPORT),
+    ("serve", SERVE),
+    ("migrate", MIGRATE),
+];
+
 /// The help of a command; none of `help`, or of a word that is no command.
 pub fn page_of(command: &str) -> Option<&'static str> {
-    match command {
-        "tidy" => Some(TIDY),
-        "check" => Some(CHECK),
-        "lookup" => Some(LOOKUP),
-        "script" => Some(SCRIPT),
-        "import" => Some(IMPORT),
-        "export" => Some(EXPORT),
-        "serve" => Some(SERVE),
-        "migrate" => Some(MIGRATE),
-        _ => None,
+    for (name, page) in &PAGES {
+        if *name == command {
+            return Some(*page);
+        }
     }
+    None
 }
 
 pub const TIDY: &str = "\

@@ -3,12 +3,8 @@ use crate::pages::USAGE_PAGE;
 use crate::similar::similar_commands;
 use std::io::Write;
 
-/// The exit status if the arguments name no job.
-const NO_JOB: u8 = 2;
-
-/// Reports that a word is no command, with a tip if there is memory for it. Returns the exit
-/// status.
-pub fn refuse_command(rt: &HostRuntime, word: &str) -> u8 {
+/// Reports that a word is no command, with a tip if there is memory for it.
+pub fn refuse_command(rt: &HostRuntime, word: &str) {
     let _ = write!(rt.stderr(), "error: unrecognized subcommand '{word}'\n\n");
     if let Ok(similar) = similar_commands(rt.alloc(), word) {
         report_tip(rt, similar.as_slice());
@@ -17,7 +13,6 @@ pub fn refuse_command(rt: &HostRuntime, word: &str) -> u8 {
         rt.stderr(),
         "{USAGE_PAGE}To read a file, redirect standard input: pciids < FILE\n"
     );
-    NO_JOB
 }
 
 fn report_tip(rt: &HostRuntime, similar: &[(f64, &'static str)]) {
@@ -33,13 +28,12 @@ fn report_tip(rt: &HostRuntime, similar: &[(f64, &'static str)]) {
     let _ = write!(rt.stderr(), "'\n\n");
 }
 
-/// Reports that a command takes no argument, as the name of a file. Returns the exit status.
-pub fn refuse_argument(rt: &HostRuntime, command: &str, word: &str) -> u8 {
+/// Reports that a command takes no argument, as the name of a file.
+pub fn refuse_argument(rt: &HostRuntime, command: &str, word: &str) {
     let _ = write!(
         rt.stderr(),
         "error: unexpected argument '{word}' found\n\nUsage: pciids {command} < FILE\n\n\
          For more information, try '--help'.\n\
          To read a file, redirect standard input: pciids {command} < FILE\n"
     );
-    NO_JOB
 }

@@ -1,6 +1,4 @@
 //! The commands that an unknown one may stand for, as `clap` finds them for the whole program.
-ghost use Rattle.std.specs.Prelude.{◌≤◌, length};
-
 use crate::pages::COMMANDS;
 use std::alloc::{AllocError, Global};
 use strsim::jaro;
@@ -25,20 +23,20 @@ fn add_if_like(
 ) -> Result<(), AllocError> {
     let likeness = jaro(alloc, word, command)?;
     if likeness > ALIKE {
-        let place = place_of(similar.as_slice(), likeness);
+        let place = place_of(similar.as_slice(), likeness).min(similar.len());
         similar.insert(place, (likeness, command))?;
     }
     Ok(())
 }
 
 // After those that are not more alike.
-fn place_of(similar: &[(f64, &'static str)], likeness: f64) -> usize
-    ensures { result ≤ length similar.now }
-{
-    for place in 0..similar.len() {
-        if similar[place].0 > likeness {
-            return place;
+fn place_of(similar: &[(f64, &'static str)], likeness: f64) -> usize {
+    let mut place = 0usize;
+    for (other, _) in similar {
+        if *other > likeness {
+            break;
         }
+        place = place.saturating_add(1);
     }
-    similar.len()
+    place
 }

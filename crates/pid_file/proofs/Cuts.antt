@@ -1,4 +1,4 @@
--- Ended pieces, and what stands open behind them, of a text and more.
+-- Ended pieces, and what stands open after them, of a text and more.
 use Rattle.memchr.specs.Find.{Nowhere, Passes, is_byte}
 use Rattle.std.proofs.Common.{◌≡◌, ◌≢◌, ℕ, ◌+◌, ◌-◌, zero, suc, ◌<◌, ◌≤◌, true, false, cond, eqb, List, [], ◌∷◌, ◌++◌, length, map, get_or, take, drop, refl, sym, ap, ◌∙◌, arith, append_assoc, length-drop}
 use Rattle.std.proofs.lemmas.List.{append-nil, take_all}
@@ -97,7 +97,7 @@ pub map_append : {A B : Type 0} (f : A → B) (xs ys : List A) → map f (xs ++ 
 map_append f [] ys = refl
 map_append f (x ∷ xs) ys = ap (λ l. f x ∷ l) (map_append f xs ys)
 
--- bytes without LF, one behind another
+-- bytes without LF, one after another
 pub still : (a b : List ℕ) → ended_pieces a ≡ [] → ended_pieces b ≡ [] → ended_pieces (a ++ b) ≡ []
 still [] b h k = k
 still (x ∷ xs) b h k = let p = no_lf_cases x xs h in rw (p.0, still xs b p.1 k) refl
@@ -105,7 +105,7 @@ still (x ∷ xs) b h k = let p = no_lf_cases x xs h in rw (p.0, still xs b p.1 k
 pub open_then : (text line : List ℕ) → ended_pieces line ≡ [] → ended_pieces (open_part text ++ line) ≡ []
 open_then text line h = still (open_part text) line (open_no_lf text) h
 
--- a line, its LF and more behind a text
+-- a line, its LF and more after a text
 pub whole_line : (text line more : List ℕ) → ended_pieces line ≡ [] → whole_lines (text ++ (line ++ 10 ∷ more)) ≡ whole_lines text ++ drop_cr (open_part text ++ line) ∷ whole_lines more
 whole_line text line more h =
     ap (map drop_cr) (ended_more text (line ++ 10 ∷ more)) ∙ map_append drop_cr (ended_pieces text) (ended_pieces (open_part text ++ (line ++ 10 ∷ more)))
@@ -114,7 +114,7 @@ whole_line text line more h =
 pub open_after : (text line : List ℕ) → ended_pieces line ≡ [] → open_part (text ++ (line ++ 10 ∷ [])) ≡ []
 open_after text line h = open_more text (line ++ 10 ∷ []) ∙ ap open_part (sym (append_assoc (open_part text) line (10 ∷ []))) ∙ open_line (open_part text ++ line) [] (open_then text line h)
 
--- bytes without LF behind a text
+-- bytes without LF after a text
 pub whole_same : (text line : List ℕ) → ended_pieces line ≡ [] → whole_lines (text ++ line) ≡ whole_lines text
 whole_same text line h = ap (map drop_cr) (ended_more text line ∙ ap (λ ls. ended_pieces text ++ ls) (open_then text line h) ∙ append-nil (ended_pieces text))
 

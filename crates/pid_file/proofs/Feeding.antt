@@ -23,7 +23,7 @@ use Rattle.pid_file.specs.Refusals.{IsRefusal}
 use Rattle.pid_file.specs.Steps.LineEnds.{refusal_at}
 use Rattle.pid_file.specs.Sinks.{Took, TookSome, Ends}
 use Rattle.pid_file.specs.OpenTexts.{IsLeftOpen}
-use Rattle.pid_file.specs.Progress.{Shows}
+use Rattle.pid_file.specs.LinesRead.{Shows}
 use Rattle.pid_file.specs.Steps.LineEnds.{LineEnds, TookLine}
 use Rattle.pid_file.proofs.Cuts.{map_append, whole_line, open_after, whole_same, open_longer, lines_split, lines_more, last_line, open_no_lf}
 
@@ -70,7 +70,7 @@ items_in_numbered (line ∷ earlier) =
     map_append item_in (numbered_at earlier line) (numbered_back earlier)
     ∙ (λ i. items_at (length earlier + 1) (entry_of earlier line) i ++ items_in_numbered earlier i)
 
--- at a line behind lines that are good
+-- at a line after lines that are good
 pub refused_line : (front : List (List ℕ)) (line : List ℕ) (ys : List (List ℕ)) → refusal_of front ≡ None → refusal_of (front ++ line ∷ ys) ≡ or_else (refusal_at (reverse front) line) (refused_from (line ∷ reverse front) ys)
 refused_line front line ys good = refused-append [] front (line ∷ ys) ∙ ap (λ o. or_else o (refused_from (reverse front) (line ∷ ys))) good
 
@@ -97,14 +97,14 @@ pub ends_at_err : {S F : Type 0} (takes : S → Numbered → S → Type 0) (faul
 ends_at_err takes faults r (Refused why) start sink new front line ys all r_is all_is good took at =
     subst (λ x. Ends takes faults x start all new) (sym r_is)
     (elim at.refused as (λ _. ((refusal_of all ≡ Some why) × Took takes start (numbered_of all) new) ⊎ ((why ≡ Memory) × TookSome takes start all new)) [
-      | inl memory ↦ inr (memory, record { front = front; behind = line ∷ ys; parts = all_is; good = good; took = subst (λ s. Took takes start (numbered_of front) s) (sym at.kept) took })
+      | inl memory ↦ inr (memory, record { front = front; after = line ∷ ys; parts = all_is; good = good; took = subst (λ s. Took takes start (numbered_of front) s) (sym at.kept) took })
       | inr is ↦ inl (
         ap refusal_of all_is ∙ refused_line front line ys good ∙ ap (λ o. or_else o (refused_from (line ∷ reverse front) ys)) is,
         subst (λ es. Took takes start es new) (sym (ap numbered_of all_is ∙ entries_line front line ys good ∙ ap (λ o. numbered_back (cond (is_some o) (reverse front) (read_from (line ∷ reverse front) ys))) is ∙ sym (numbered-good front good))) (subst (λ s. Took takes start (numbered_of front) s) (sym at.kept) took),
       )
     ])
 ends_at_err takes faults r (Fault f) start sink new front line ys all r_is all_is good took at =
-    subst (λ x. Ends takes faults x start all new) (sym r_is) (record { front = front; line = line; behind = ys; parts = all_is; good = refused_line front line [] good ∙ ap (λ o. or_else o None) at.good; entry = at.entry; is_its = at.is_its; between = sink; took = took; faulted = at.faulted })
+    subst (λ x. Ends takes faults x start all new) (sym r_is) (record { front = front; line = line; after = ys; parts = all_is; good = refused_line front line [] good ∙ ap (λ o. or_else o None) at.good; entry = at.entry; is_its = at.is_its; between = sink; took = took; faulted = at.faulted })
 
 -- the last line of all
 pub ends_at_last : {S F : Type 0} (takes : S → Numbered → S → Type 0) (faults : S → Numbered → F → S → Type 0) (r : Result (Unit {0}) (CutEnd F)) (start sink new : S) (front : List (List ℕ)) (line : List ℕ) (all : List (List ℕ)) → all ≡ front ++ line ∷ [] → refusal_of front ≡ None → Took takes start (numbered_of front) sink → LineEnds {X = Unit {0}} takes faults r (reverse front) line sink new → Ends takes faults r start all new
@@ -114,7 +114,7 @@ ends_at_last takes faults (Ok x) start sink new front line all all_is good took 
   subst (λ es. Took takes start es new) (sym (ap numbered_of all_is ∙ entries_good_line front line [] good ends.good ∙ ap (λ (es : List Numbered). numbered_at (reverse front) line ++ es) (sym (numbered-good front good)))) (took_more takes start sink new (numbered_of front) (numbered_at (reverse front) line) took ends.took),
 )
 
--- behind a line
+-- after a line
 pub holds_line : (c d : OpenText) (text front line : List ℕ) → IsLeftOpen c text → ended_pieces front ≡ [] → line ≡ drop_cr (open_part text ++ front) → refusal_at (reverse (whole_lines text)) line ≡ None → Shows d.progress (line ∷ reverse (whole_lines text)) → d.line.items ≡ [] → IsLeftOpen d (text ++ (front ++ 10 ∷ []))
 holds_line c d text front line h no_lf line_is ok shown none =
     let lines : whole_lines (text ++ (front ++ 10 ∷ [])) ≡ whole_lines text ++ line ∷ [] = whole_line text front [] no_lf ∙ ap (λ (l : List ℕ). whole_lines text ++ l ∷ []) (sym line_is) in

@@ -1,12 +1,16 @@
 -- What an output holds once the buffer before it is flushed.
-use Rattle.std.proofs.Common.{◌≡◌, ◌≢◌, ℕ, List, [], ◌∷◌, ◌++◌, Option, Some, None, IfSome, inr, refl, sym, ap, subst, ◌∙◌}
+use Rattle.std.proofs.Common.{◌≡◌, ◌≢◌, ℕ, List, [], ◌∷◌, ◌++◌, Option, Some, None, IfSome, inl, inr, refl, arith, sym, ap, subst, ◌∙◌}
 use Rattle.std.specs.Io.KnownBytes.{Appends, Keeps, append_known}
 use Rattle.std.specs.declared.io.buffered.BufWriter.{BufWriter}
 use Rattle.pid_file.specs.declared.text_end.TextEnd.{TextEnd}
 use Rattle.pid_file.specs.declared.text_end.TextEnd.TheVariants.{Done, Line, TooManyEntries, TooLarge, Memory, ReadFault, WriteFault}
 use Rattle.pid_file.specs.declared.watched.Watched.{Watched}
+use Rattle.pid_file.specs.declared.refusal.ReadRefusal.{ReadRefusal}
+use Rattle.pid_file.specs.Checked.{IsChecked, count_of, ok_line}
+use Rattle.pid_file.specs.Judgements.{IsFaultOf, IsGood}
 use Rattle.pid_file.specs.Printing.{print}
-use Rattle.pid_file.specs.ExitStatuses.{GotTidied, IsStatusFor}
+use Rattle.pid_file.specs.Reading.{refused}
+use Rattle.pid_file.specs.ExitStatuses.{GotChecked, GotTidied, IsStatusFor}
 use Rattle.pid_file.specs.TextEnds.{fault_line, status_of}
 use Rattle.pid_file.specs.Tidied.{IsTidied, Writers}
 use Rattle.pid_file.specs.Reports.{ReportsFault}
@@ -69,12 +73,39 @@ got_same old new out out_new before after bs sent =
 kept_too : (old new out out_new : Option (List ℕ)) → GotToo old new out out_new → Keeps old new → Keeps out out_new
 kept_too old new out out_new got kept = none_appended out out_new (got [] (appends_none old new kept))
 
+some_refused : (r : ReadRefusal) (o : Option ReadRefusal) → o ≡ Some r → o ≡ None → ⊥
+some_refused r o some none = cc
+
+-- by any end with status 3
+pub failed_status : (text : List ℕ) (status : ℕ) → status ≡ 3 → IsStatusFor text status
+failed_status text status three = record { of_three = inr (inr three); good = λ h. absurd cc; refused = λ h. absurd cc }
+
+pub got_nothing : (text : List ℕ) (status : ℕ) (w : Writers) → status ≡ 3 → GotTidied text status w
+got_nothing text status w three = record { judged = failed_status text status three; good = λ h. absurd cc; refused = λ h. absurd cc }
+
+-- what a good text and a faulty one have as their status
+good_status : (text : List ℕ) → IsGood text → IsStatusFor text 0
+good_status text good = record { of_three = inl refl; good = λ h. good; refused = λ h. absurd cc }
+
+fault_not_good : (end : TextEnd) (text : List ℕ) → status_of end ≡ 1 → IsFaultOf end text → IsGood text → ⊥
+fault_not_good Done text one fault good = fault
+fault_not_good (Line line kind) text one fault good = some_refused _ (refused text) fault.1 good.good
+fault_not_good TooManyEntries text one fault good = some_refused _ (refused text) fault.1 good.good
+fault_not_good TooLarge text one fault good = let short = good.short in omega (arith, fault, short)
+fault_not_good Memory text one fault good = absurd cc
+fault_not_good ReadFault text one fault good = fault
+fault_not_good WriteFault text one fault good = fault
+
+faulty_status : (end : TextEnd) (text : List ℕ) → status_of end ≡ 1 → IsFaultOf end text → IsStatusFor text (status_of end)
+faulty_status end text one fault = record { of_three = inr (inl one); good = λ h. absurd cc; refused = λ h good. fault_not_good end text one fault good }
+
 refused_got : (end : TextEnd) (text : List ℕ) (k w : Writers) → status_of end ≡ 1
     → Keeps k.output k.output_after → ReportsFault end text k.faults k.faults_after
     → GotToo k.output k.output_after w.output w.output_after
     → (status_of end ≢ 3 → GotToo k.faults k.faults_after w.faults w.faults_after)
     → GotTidied text (status_of end) w
 refused_got end text k w one kept tells sent told = record {
+  judged = faulty_status end text one tells.is_fault;
   good = λ h. absurd cc;
   refused = λ h. (
     kept_too k.output k.output_after w.output w.output_after sent kept,
@@ -82,19 +113,13 @@ refused_got end text k w one kept tells sent told = record {
   );
 }
 
--- by any end with status 3
-pub failed_status : (text : List ℕ) (status : ℕ) → status ≡ 3 → IsStatusFor text status
-failed_status text status three = record { of_three = inr (inr three); good = λ h. absurd cc; refused = λ h. absurd cc }
-
-pub got_nothing : (text : List ℕ) (status : ℕ) (w : Writers) → status ≡ 3 → GotTidied text status w
-got_nothing text status w three = record { good = λ h. absurd cc; refused = λ h. absurd cc }
-
 -- what the streams got, by what `tidy` wrote to what stands before them
 pub got_tidied : (end : TextEnd) (text : List ℕ) (k w : Writers) → IsTidied end text k
     → GotToo k.output k.output_after w.output w.output_after
     → (status_of end ≢ 3 → GotToo k.faults k.faults_after w.faults w.faults_after)
     → GotTidied text (status_of end) w
 got_tidied Done text k w t sent told = record {
+  judged = good_status text (record { short = t.reads.short; good = t.reads.good });
   good = λ h. record {
     tree = t.tree;
     reads = t.reads;
@@ -109,3 +134,27 @@ got_tidied TooLarge text k w t sent told = refused_got TooLarge text k w refl t.
 got_tidied Memory text k w t sent told = got_nothing text 3 w refl
 got_tidied ReadFault text k w t sent told = got_nothing text 3 w refl
 got_tidied WriteFault text k w t sent told = got_nothing text 3 w refl
+
+-- what `check` wrote, which nothing stands before; nothing was written to the other stream
+refused_counted : (end : TextEnd) (text : List ℕ) (w : Writers) → status_of end ≡ 1 → ReportsFault end text w.output w.output_after → (status_of end ≢ 3 → Keeps w.faults w.faults_after) → GotChecked text (status_of end) w
+refused_counted end text w one tells silent = record {
+  judged = faulty_status end text one tells.is_fault;
+  good = λ h. absurd cc;
+  refused = λ h. (record { end = end; refused = one; is_fault = tells.is_fault; told = tells.told }, silent (λ three. absurd cc));
+}
+
+counted_nothing : (text : List ℕ) (w : Writers) → GotChecked text 3 w
+counted_nothing text w = record { judged = failed_status text 3 refl; good = λ h. absurd cc; refused = λ h. absurd cc }
+
+pub got_checked : (end : TextEnd) (text : List ℕ) (w : Writers) → IsChecked end text w.output w.output_after → (status_of end ≢ 3 → Keeps w.faults w.faults_after) → GotChecked text (status_of end) w
+got_checked Done text w t silent = record {
+  judged = good_status text t.0;
+  good = λ h. (t.1, silent (λ three. absurd cc));
+  refused = λ h. absurd cc;
+}
+got_checked (Line line kind) text w t silent = refused_counted (Line line kind) text w refl t silent
+got_checked TooManyEntries text w t silent = refused_counted TooManyEntries text w refl t silent
+got_checked TooLarge text w t silent = refused_counted TooLarge text w refl t silent
+got_checked Memory text w t silent = counted_nothing text w
+got_checked ReadFault text w t silent = counted_nothing text w
+got_checked WriteFault text w t silent = counted_nothing text w

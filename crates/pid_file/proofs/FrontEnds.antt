@@ -41,11 +41,11 @@ refused_longer r earlier (line ∷ lines) more h =
 
 some_longer : {S : Type 0} (takes : S → Numbered → S → Type 0) (start sink : S) (lines more : List (List ℕ)) → TookSome takes start lines sink → TookSome takes start (lines ++ more) sink
 some_longer takes start sink lines more t =
-    record { front = t.front; behind = t.behind ++ more; parts = ap (λ (l : List (List ℕ)). l ++ more) t.parts ∙ append_assoc t.front t.behind more; good = t.good; took = t.took }
+    record { front = t.front; after = t.after ++ more; parts = ap (λ (l : List (List ℕ)). l ++ more) t.parts ∙ append_assoc t.front t.after more; good = t.good; took = t.took }
 
 faulted_longer : {S F : Type 0} (takes : S → Numbered → S → Type 0) (faults : S → Numbered → F → S → Type 0) (start : S) (lines more : List (List ℕ)) (fault : F) (sink : S) → FaultedAt takes faults start lines fault sink → FaultedAt takes faults start (lines ++ more) fault sink
 faulted_longer takes faults start lines more fault sink t =
-    record { front = t.front; line = t.line; behind = t.behind ++ more; parts = ap (λ (l : List (List ℕ)). l ++ more) t.parts ∙ append_assoc t.front (t.line ∷ t.behind) more; good = t.good; entry = t.entry; is_its = t.is_its; between = t.between; took = t.took; faulted = t.faulted }
+    record { front = t.front; line = t.line; after = t.after ++ more; parts = ap (λ (l : List (List ℕ)). l ++ more) t.parts ∙ append_assoc t.front (t.line ∷ t.after) more; good = t.good; entry = t.entry; is_its = t.is_its; between = t.between; took = t.took; faulted = t.faulted }
 
 err_longer : {S F : Type 0} (takes : S → Numbered → S → Type 0) (faults : S → Numbered → F → S → Type 0) (e : CutEnd F) (start sink : S) (lines more : List (List ℕ)) → Ends {X = Unit {0}} takes faults (Err e) start lines sink → Ends {X = Unit {0}} takes faults (Err e) start (lines ++ more) sink
 err_longer takes faults (Refused r) start sink lines more (inl told) =
@@ -69,8 +69,8 @@ err_whole takes faults e start sink text ends =
 -- the lines before the first that is refused
 record IsReadFront (earlier lines : List (List ℕ)) : Type 0 where
   front : List (List ℕ)
-  behind : List (List ℕ)
-  parts : lines ≡ front ++ behind
+  after : List (List ℕ)
+  parts : lines ≡ front ++ after
   good : refused_from earlier front ≡ None
   read : read_from earlier lines ≡ reverse_aux front earlier
 
@@ -78,20 +78,20 @@ read_front : (r : ReadRefusal) (earlier lines : List (List ℕ)) → refused_fro
 read_front r earlier [] h = absurd (let no : ⊥ = cc in no)
 read_front r earlier (line ∷ lines) h =
     elim (refusal_at earlier line) as (λ o. refusal_at earlier line ≡ o → or_else o (refused_from (line ∷ earlier) lines) ≡ Some r → IsReadFront earlier (line ∷ lines)) [
-      | Some q ↦ λ e told. record { front = []; behind = line ∷ lines; parts = refl; good = refl; read = rw e refl }
+      | Some q ↦ λ e told. record { front = []; after = line ∷ lines; parts = refl; good = refl; read = rw e refl }
       | None ↦ λ e told.
           let rest = read_front r (line ∷ earlier) lines told in
-          record { front = line ∷ rest.front; behind = rest.behind; parts = ap (λ (l : List (List ℕ)). line ∷ l) rest.parts; good = ap (λ o. or_else o (refused_from (line ∷ earlier) rest.front)) e ∙ rest.good; read = rw e rest.read }
+          record { front = line ∷ rest.front; after = rest.after; parts = ap (λ (l : List (List ℕ)). line ∷ l) rest.parts; good = ap (λ o. or_else o (refused_from (line ∷ earlier) rest.front)) e ∙ rest.good; read = rw e rest.read }
     ] refl h
 
 took_before : {S : Type 0} (takes : S → Numbered → S → Type 0) (r : ReadRefusal) (start sink : S) (lines : List (List ℕ)) → refusal_of lines ≡ Some r → Took takes start (numbered_of lines) sink → TookSome takes start lines sink
 took_before takes r start sink lines h took =
     let p = read_front r [] lines h in
-    record { front = p.front; behind = p.behind; parts = p.parts; good = p.good; took = subst (λ (ls : List (List ℕ)). Took takes start (numbered_back ls) sink) (p.read ∙ sym (read-good [] p.front p.good)) took }
+    record { front = p.front; after = p.after; parts = p.parts; good = p.good; took = subst (λ (ls : List (List ℕ)). Took takes start (numbered_back ls) sink) (p.read ∙ sym (read-good [] p.front p.good)) took }
 
 -- whatever the end
 took_or_faulted : {S F : Type 0} (takes : S → Numbered → S → Type 0) (faults : S → Numbered → F → S → Type 0) (r : Result (Unit {0}) (CutEnd F)) (start sink : S) (lines more : List (List ℕ)) → Ends takes faults r start lines sink → TookOrFaulted takes faults start (lines ++ more) sink
-took_or_faulted takes faults (Ok x) start sink lines more ends = inl (record { front = lines; behind = more; parts = refl; good = ends.0; took = ends.1 })
+took_or_faulted takes faults (Ok x) start sink lines more ends = inl (record { front = lines; after = more; parts = refl; good = ends.0; took = ends.1 })
 took_or_faulted takes faults (Err (Refused r)) start sink lines more (inl told) = inl (some_longer takes start sink lines more (took_before takes r start sink lines told.0 told.1))
 took_or_faulted takes faults (Err (Refused r)) start sink lines more (inr told) = inl (some_longer takes start sink lines more told.1)
 took_or_faulted takes faults (Err (Fault f)) start sink lines more told = inr (f, faulted_longer takes faults start lines more f sink told)

@@ -15,5 +15,5 @@ pub mod Counting
 pub mod FrontEnds
 pub mod InputTexts
 mod Rising
-pub mod Telling
+pub mod Reported
 pub mod Flushed

@@ -67,7 +67,7 @@ pair_is (a ∷ b ∷ rest) h l long p q = record {
   small = omega (arith, p.0, q.0);
   digits = rw (p.2, q.2) refl;
   says = (λ i. p.1 i ∷ q.1 i ∷ []) ∙ (λ i. digit_char (high_is h l p.0 q.0 i) ∷ digit_char (low_is h l q.0 i) ∷ []);
-  behind = take_all (length (a ∷ b ∷ rest) - 2) rest (omega arith);
+  after = take_all (length (a ∷ b ∷ rest) - 2) rest (omega arith);
 }
 
 pub no_pair_high : (bytes : List ℕ) → 2 ≤ length bytes → is_hex (get_or bytes 0 0) ≡ false → are_digits 2 bytes ≡ false
@@ -105,9 +105,9 @@ hex_join h l a b =
 pub four_is : (bytes mid rest : List ℕ) (h l : ℕ) → SaysNumber 2 256 hex2 bytes h mid → SaysNumber 2 256 hex2 mid l rest → SaysNumber 4 65536 hex4 bytes (h * 256 + l) rest
 four_is bytes mid rest h l p q = record {
   small = omega (arith, p.small, q.small);
-  digits = digits_split bytes ∙ (λ i. p.digits i && are_digits 2 (sym p.behind i)) ∙ q.digits;
-  says = map_halves bytes ∙ (λ i. p.says i ++ map to_ascii_lowercase (take 2 (sym p.behind i))) ∙ ap (λ (t : List ℕ). hex2 h ++ t) q.says ∙ hex_join h l p.small q.small;
-  behind = q.behind ∙ ap (λ (t : List ℕ). drop 2 t) p.behind ∙ drop_halves bytes;
+  digits = digits_split bytes ∙ (λ i. p.digits i && are_digits 2 (sym p.after i)) ∙ q.digits;
+  says = map_halves bytes ∙ (λ i. p.says i ++ map to_ascii_lowercase (take 2 (sym p.after i))) ∙ ap (λ (t : List ℕ). hex2 h ++ t) q.says ∙ hex_join h l p.small q.small;
+  after = q.after ∙ ap (λ (t : List ℕ). drop 2 t) p.after ∙ drop_halves bytes;
 }
   where
     map_halves : (bytes : List ℕ) → map to_ascii_lowercase (take 4 bytes) ≡ map to_ascii_lowercase (take 2 bytes) ++ map to_ascii_lowercase (take 2 (drop 2 bytes))
@@ -124,14 +124,14 @@ pub no_four_front : (bytes : List ℕ) → are_digits 2 bytes ≡ false → are_
 no_four_front bytes h = digits_split bytes ∙ ap (λ t. t && are_digits 2 (drop 2 bytes)) h
 
 pub no_four_after : (bytes mid : List ℕ) (h : ℕ) → SaysNumber 2 256 hex2 bytes h mid → are_digits 2 mid ≡ false → are_digits 4 bytes ≡ false
-no_four_after bytes mid h p none = digits_split bytes ∙ (λ i. p.digits i && are_digits 2 (sym p.behind i)) ∙ none
+no_four_after bytes mid h p none = digits_split bytes ∙ (λ i. p.digits i && are_digits 2 (sym p.after i)) ∙ none
 
 -- digits, and then a blank or none
 pub no_digits_no_id : (width : ℕ) (bytes : List ℕ) → are_digits width bytes ≡ false → begins_with_id width bytes ≡ false
 no_digits_no_id width bytes h = id_of_digits width bytes ∙ ap (λ t. t && begins_with_id 0 (drop width bytes)) h
 
 begins_as : (width bound : ℕ) (say : ℕ → List ℕ) (bytes mid : List ℕ) (n : ℕ) → SaysNumber width bound say bytes n mid → begins_with_id width bytes ≡ begins_with_id 0 mid
-begins_as width bound say bytes mid n p = id_of_digits width bytes ∙ (λ i. p.digits i && begins_with_id 0 (sym p.behind i))
+begins_as width bound say bytes mid n p = id_of_digits width bytes ∙ (λ i. p.digits i && begins_with_id 0 (sym p.after i))
 
 pub no_blank_no_id : (width bound : ℕ) (say : ℕ → List ℕ) (bytes mid : List ℕ) (n : ℕ) → SaysNumber width bound say bytes n mid → begins_with_id 0 mid ≡ false → begins_with_id width bytes ≡ false
 no_blank_no_id width bound say bytes mid n p h = begins_as width bound say bytes mid n p ∙ h
@@ -141,7 +141,7 @@ id_is width bound say bytes mid rest n p h r = record {
   small = p.small;
   begins = begins_as width bound say bytes mid n p ∙ h;
   says = p.says;
-  behind = r ∙ ap (λ (t : List ℕ). drop 1 t) p.behind ∙ drop_one width bytes;
+  after = r ∙ ap (λ (t : List ℕ). drop 1 t) p.after ∙ drop_one width bytes;
 }
   where
     drop_one : (n : ℕ) (l : List ℕ) → drop 1 (drop n l) ≡ drop (suc n) l
@@ -154,7 +154,7 @@ pub no_digits_no_block : (bytes : List ℕ) → are_digits 4 bytes ≡ false →
 no_digits_no_block bytes h = block_of_digits 4 bytes ∙ ap (λ t. t && is_empty (trim_blanks (drop 4 bytes))) h
 
 block_as : (bytes mid : List ℕ) (n : ℕ) → SaysNumber 4 65536 hex4 bytes n mid → is_id 4 bytes ≡ is_empty (trim_blanks mid)
-block_as bytes mid n p = block_of_digits 4 bytes ∙ (λ i. p.digits i && is_empty (trim_blanks (sym p.behind i)))
+block_as bytes mid n p = block_of_digits 4 bytes ∙ (λ i. p.digits i && is_empty (trim_blanks (sym p.after i)))
 
 pub more_no_block : (bytes mid : List ℕ) (n : ℕ) → SaysNumber 4 65536 hex4 bytes n mid → is_empty (trim_blanks mid) ≡ false → is_id 4 bytes ≡ false
 more_no_block bytes mid n p h = block_as bytes mid n p ∙ h
@@ -171,7 +171,7 @@ short_ids place bytes rest n widths bound digits p = record {
   small = subst (λ m. n < m) (sym bound) p.small;
   begins = ap (λ (ws : List ℕ). begins_with_ids ws bytes) widths ∙ ap (λ t. t && true) p.begins;
   says = ap (λ (ws : List ℕ). digits_in ws bytes) widths ∙ ap (λ (l : List ℕ). l ++ []) p.says ∙ sym digits;
-  behind = ap (λ (ws : List ℕ). name_in ws bytes) widths ∙ ap (λ (l : List ℕ). trim_blanks l) (sym p.behind);
+  after = ap (λ (ws : List ℕ). name_in ws bytes) widths ∙ ap (λ (l : List ℕ). trim_blanks l) (sym p.after);
 }
 
 pub long_ids : (place : EntryKind) (bytes rest : List ℕ) (n : ℕ) → widths_of place ≡ 4 ∷ [] → bound_of place ≡ 65536 → digits_of place n 0 ≡ hex4 n → IsId 4 65536 hex4 bytes n rest → AreIds place bytes n 0 rest
@@ -179,19 +179,19 @@ long_ids place bytes rest n widths bound digits p = record {
   small = subst (λ m. n < m) (sym bound) p.small;
   begins = ap (λ (ws : List ℕ). begins_with_ids ws bytes) widths ∙ ap (λ t. t && true) p.begins;
   says = ap (λ (ws : List ℕ). digits_in ws bytes) widths ∙ ap (λ (l : List ℕ). l ++ []) p.says ∙ sym digits;
-  behind = ap (λ (ws : List ℕ). name_in ws bytes) widths ∙ ap (λ (l : List ℕ). trim_blanks l) (sym p.behind);
+  after = ap (λ (ws : List ℕ). name_in ws bytes) widths ∙ ap (λ (l : List ℕ). trim_blanks l) (sym p.after);
 }
 
 pub two_ids : (v d : ℕ) (bytes mid rest : List ℕ) (a b : ℕ) → IsId 4 65536 hex4 bytes a mid → IsId 4 65536 hex4 mid b rest → AreIds (Subsystem v d) bytes a b rest
 two_ids v d bytes mid rest a b p q = record {
   small = p.small;
-  begins = (λ i. p.begins i && (begins_with_id 4 (sym p.behind i) && true)) ∙ ap (λ t. t && true) q.begins;
-  says = (λ i. p.says i ++ (map to_ascii_lowercase (take 4 (sym p.behind i)) ++ [])) ∙ ap (λ (l : List ℕ). hex4 a ++ (l ++ [])) q.says;
-  behind = ap (λ (l : List ℕ). trim_blanks (drop 5 l)) (sym p.behind) ∙ ap (λ (l : List ℕ). trim_blanks l) (sym q.behind);
+  begins = (λ i. p.begins i && (begins_with_id 4 (sym p.after i) && true)) ∙ ap (λ t. t && true) q.begins;
+  says = (λ i. p.says i ++ (map to_ascii_lowercase (take 4 (sym p.after i)) ++ [])) ∙ ap (λ (l : List ℕ). hex4 a ++ (l ++ [])) q.says;
+  after = ap (λ (l : List ℕ). trim_blanks (drop 5 l)) (sym p.after) ∙ ap (λ (l : List ℕ). trim_blanks l) (sym q.after);
 }
 
 pub no_second_id : (v d : ℕ) (bytes mid : List ℕ) (a : ℕ) → IsId 4 65536 hex4 bytes a mid → begins_with_id 4 mid ≡ false → begins_with_ids (widths_of (Subsystem v d)) bytes ≡ false
-no_second_id v d bytes mid a p none = (λ i. p.begins i && (begins_with_id 4 (sym p.behind i) && true)) ∙ ap (λ t. t && true) none
+no_second_id v d bytes mid a p none = (λ i. p.begins i && (begins_with_id 4 (sym p.after i) && true)) ∙ ap (λ t. t && true) none
 
 pub drop_cr-cr : (l : List ℕ) → 1 ≤ length l → get_or l (length l - 1) 0 ≡ 13 → drop_cr l ≡ take (length l - 1) l
 drop_cr-cr [] h e = absurd (omega arith)

@@ -149,7 +149,7 @@ path_is _ _ digits h = absurd h
 stands_entry : (place : EntryKind) (earlier : List (List ℕ)) (line : List ℕ) → StandsAt earlier line place → entry_of earlier line ≡ (text_before place ++ digits_in (widths_of place) (inside line), name_in (widths_of place) (inside line)) ∷ []
 stands_entry place earlier line s = rw (s.entry, s.path, s.width) refl
 
--- which levels are open behind an entry's line
+-- which levels are open after an entry's line
 head_open : (earlier : List (List ℕ)) (line digits : List ℕ) (m : Mark) → is_idle line ≡ false → depth line ≡ 0 → mark line ≡ m → head_path line ≡ digits → Under (line ∷ earlier) m digits
 head_open earlier line digits m active flat marked path = record { head = line; is_head = rw (active, flat) refl; flat = flat; marked = marked; path = path }
 
@@ -177,7 +177,7 @@ entry_says open_is place earlier line n text active p path name good =
       good = stands_fault place earlier line text s ∙ good;
       entry = (λ i. (path_is place n.path (digits_in (widths_of place) (inside line)) path i, name i) ∷ []) ∙ sym (stands_entry place earlier line s);
       block = s.no_block;
-      behind = place_open place n.path earlier line active p path;
+      after = place_open place n.path earlier line active p path;
     }
 
 -- which place a nested line has
@@ -311,7 +311,7 @@ block_says open_is earlier line bytes v text active flat marked is id digits =
       good = block_good earlier line text no_entry block (ap (is_id 4) (sym is) ∙ id);
       entry = rw no_entry refl;
       block = (block, own);
-      behind = head_open earlier line (codes "PS/" ++ hex4 v) marks.Generics active flat marked (ap (λ (m : Mark). front m ++ digits_in (widths m 0) (inside line)) marked ∙ ap (λ (l : List ℕ). codes "PS/" ++ l) own);
+      after = head_open earlier line (codes "PS/" ++ hex4 v) marks.Generics active flat marked (ap (λ (m : Mark). front m ++ digits_in (widths m 0) (inside line)) marked ∙ ap (λ (l : List ℕ). codes "PS/" ++ l) own);
     }
 
 pub block_fault : (earlier : List (List ℕ)) (line bytes : List ℕ) → is_utf8 line ≡ true → is_idle line ≡ false → depth line ≡ 0 → mark line ≡ marks.Generics → bytes ≡ inside line → is_id 4 bytes ≡ false → line_fault_of earlier line ≡ Some BadId
@@ -329,7 +329,7 @@ unknown_says open_is earlier line text active flat marked =
       good = rw (text, no_entry, no_block) refl;
       entry = rw no_entry refl;
       block = no_block;
-      behind = record { head = line; is_head = rw (active, flat) refl; marked = marked };
+      after = record { head = line; is_head = rw (active, flat) refl; marked = marked };
     }
 
 -- a line that is skipped, since it stands in an unknown block
@@ -388,10 +388,14 @@ unknown_skips earlier line text active nested o =
       good = rw (text, no_entry, no_block) refl;
       entry = rw no_entry refl;
       block = no_block;
-      behind = record { head = o.head; is_head = past 1 earlier line (below_head line nested) ∙ o.is_head; marked = o.marked };
+      after = record { head = o.head; is_head = past 1 earlier line (below_head line nested) ∙ o.is_head; marked = o.marked };
     }
 
 pub skipped_says : (open_is : OpenLevels) (d : ℕ) (earlier : List (List ℕ)) (line : List ℕ) → is_utf8 line ≡ true → is_idle line ≡ false → eqb d 0 ≡ false → depth line ≡ d → IsOpenAt open_is earlier → below open_is d ≡ Ok None → Says open_is earlier line said.Nothing
 skipped_says open_is d earlier line text active nested at o h =
     let is = skips open_is d h in
     subst (λ (q : OpenLevels). Says q earlier line said.Nothing) (sym is) (unknown_skips earlier line text active (subst (λ n. eqb n 0 ≡ false) (sym at) nested) (subst (λ (q : OpenLevels). IsOpenAt q earlier) is o))
+
+-- a depth that is not 0
+pub not_flat : (depth : ℕ) → (depth ≡ 0 → ⊥) → eqb depth 0 ≡ false
+not_flat depth deep = grind (arith, nat_tests, deep)

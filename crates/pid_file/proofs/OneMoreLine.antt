@@ -23,14 +23,14 @@ use Rattle.pid_file.specs.declared.open_levels.OpenLevels.{OpenLevels}
 use Rattle.pid_file.specs.Marks.{is_idle, depth, mark, is_generics, inside}
 use Rattle.pid_file.specs.Levels.{front, widths}
 use Rattle.pid_file.specs.Columns.{digits_in}
-use Rattle.pid_file.specs.LookingBack.{Item, is_above, above, head_path, is_block, is_entry, digits_at, path_at, name_at, entry_of, entries_back, is_told}
+use Rattle.pid_file.specs.LookingBack.{Item, is_above, above, head_path, is_block, is_entry, digits_at, path_at, name_at, entry_of, entries_back, is_known_path}
 use Rattle.pid_file.specs.Faults.{has, fault_of, line_fault_of}
 use Rattle.pid_file.specs.Numbered.{at_line, numbered_at}
 use Rattle.pid_file.specs.Reading.{refused_at, ENTRIES}
 use Rattle.pid_file.specs.OpenLevels.{IsOpenAt, Under, Below}
 use Rattle.pid_file.specs.Steps.OpenLevels.{open_below}
 use Rattle.pid_file.specs.Steps.LineEnds.{refusal_at}
-use Rattle.pid_file.specs.Progress.{IsShown, IsUnder, open_head_path}
+use Rattle.pid_file.specs.LinesRead.{IsShown, IsUnder, open_head_path}
 use Rattle.pid_file.specs.SeenPaths.{is_nested, block_of}
 use Rattle.pid_file.specs.Steps.SeenPaths.{is_head, with_path}
 
@@ -173,12 +173,12 @@ still_under earlier line q none nested under =
 pub quiet_good : (earlier : List (List ℕ)) (line : List ℕ) → line_fault_of earlier line ≡ None → [] ≡ entry_of earlier line → is_block line ≡ false → fault_of earlier line ≡ None
 quiet_good earlier line own none block =
     let e = no_entry earlier line none in
-    late earlier line own ∙ (λ i. cond (e i && is_told earlier (path_at earlier line)) (Some Duplicate) (cond (block i && not (is_told earlier (codes "PC/" ++ digits_at earlier line))) (Some VendorMissing) None))
+    late earlier line own ∙ (λ i. cond (e i && is_known_path earlier (path_at earlier line)) (Some Duplicate) (cond (block i && not (is_known_path earlier (codes "PC/" ++ digits_at earlier line))) (Some VendorMissing) None))
 
 pub quiet_taken : (now next : OpenLevels) (seen : Path → Bool) (entries lines number : ℕ) (earlier : List (List ℕ)) (line : List ℕ) → IsShown now seen entries lines earlier → number ≡ lines + 1 → [] ≡ entry_of earlier line → fault_of earlier line ≡ None → IsOpenAt next (line ∷ earlier) → IsShown next seen entries number (line ∷ earlier) × (refusal_at earlier line ≡ None) × ([] ≡ numbered_at earlier line)
 quiet_taken now next seen entries lines number earlier line shown at none good behind =
     let same : entries_back (line ∷ earlier) ≡ entries_back earlier = ap (λ (es : List Item). es ++ entries_back earlier) (sym none) in
-    let told : (t : List ℕ) → is_told earlier t ≡ is_told (line ∷ earlier) t = λ t. ap (λ es. is_some (value_at text_cmp t es)) (sym same) in
+    let told : (t : List ℕ) → is_known_path earlier t ≡ is_known_path (line ∷ earlier) t = λ t. ap (λ es. is_some (value_at text_cmp t es)) (sym same) in
     let quiet = no_entry earlier line none in (
       record {
         paths = λ q r kept. shown.paths q r (λ n. still_under earlier line q quiet n (kept n)) ∙ told (path_text q);
@@ -221,7 +221,7 @@ block_digits earlier line v h digits =
     same ∙ digits
 
 abbrev missing : List (List ℕ) → List ℕ → Bool
-missing earlier path = not (is_told earlier path)
+missing earlier path = not (is_known_path earlier path)
 
 vendor_of : (earlier : List (List ℕ)) (line : List ℕ) (v : ℕ) → is_block line ≡ true → digits_at earlier line ≡ hex4 v → has VendorMissing earlier line ≡ missing earlier (path_text (Vendor v))
 vendor_of earlier line v block digits = ap (λ b. b && missing earlier (codes "PC/" ++ digits_at earlier line)) block ∙ ap (λ (l : List ℕ). missing earlier (codes "PC/" ++ l)) digits
@@ -229,7 +229,7 @@ vendor_of earlier line v block digits = ap (λ b. b && missing earlier (codes "P
 block_late : (earlier : List (List ℕ)) (line : List ℕ) (v : ℕ) → line_fault_of earlier line ≡ None → [] ≡ entry_of earlier line → is_block line ≡ true → digits_in (4 ∷ []) (inside line) ≡ hex4 v → fault_of earlier line ≡ cond (missing earlier (path_text (Vendor v))) (Some VendorMissing) None
 block_late earlier line v own none block digits =
     let e = no_entry earlier line none in
-    late earlier line own ∙ ap (λ b. cond (b && is_told earlier (path_at earlier line)) (Some Duplicate) (cond (has VendorMissing earlier line) (Some VendorMissing) None)) e
+    late earlier line own ∙ ap (λ b. cond (b && is_known_path earlier (path_at earlier line)) (Some Duplicate) (cond (has VendorMissing earlier line) (Some VendorMissing) None)) e
     ∙ ap (λ b. cond b (Some VendorMissing) None) (vendor_of earlier line v block (block_digits earlier line v block digits))
 
 pub block_good : (now : OpenLevels) (seen : Path → Bool) (entries lines : ℕ) (earlier : List (List ℕ)) (line : List ℕ) (v : ℕ) → IsPath (Vendor v) → IsShown now seen entries lines earlier → line_fault_of earlier line ≡ None → [] ≡ entry_of earlier line → is_block line ≡ true → digits_in (4 ∷ []) (inside line) ≡ hex4 v → seen (Vendor v) ≡ true → fault_of earlier line ≡ None
@@ -245,7 +245,7 @@ block_refused now seen entries lines number earlier line v range shown next own 
 entry_late : (now : OpenLevels) (seen : Path → Bool) (entries lines : ℕ) (earlier : List (List ℕ)) (line name : List ℕ) (p : Path) → IsPath p → (is_nested p ≡ true → IsUnder earlier p) → IsShown now seen entries lines earlier → line_fault_of earlier line ≡ None → (path_text p, name) ∷ [] ≡ entry_of earlier line → is_block line ≡ false → fault_of earlier line ≡ cond (seen p) (Some Duplicate) None
 entry_late now seen entries lines earlier line name p range kept shown own entry block =
     let e = an_entry earlier line (path_text p) name entry in
-    let told : is_told earlier (path_at earlier line) ≡ seen p = ap (is_told earlier) e.path_is ∙ sym (shown.paths p range kept) in
+    let told : is_known_path earlier (path_at earlier line) ≡ seen p = ap (is_known_path earlier) e.path_is ∙ sym (shown.paths p range kept) in
     late earlier line own ∙ (λ i. cond (e.is_one i && told i) (Some Duplicate) (cond (block i && missing earlier (codes "PC/" ++ digits_at earlier line)) (Some VendorMissing) None))
 
 pub duplicate_refused : (now : OpenLevels) (seen : Path → Bool) (entries lines number : ℕ) (earlier : List (List ℕ)) (line name : List ℕ) (p : Path) → IsPath p → (is_nested p ≡ true → IsUnder earlier p) → IsShown now seen entries lines earlier → number ≡ lines + 1 → line_fault_of earlier line ≡ None → (path_text p, name) ∷ [] ≡ entry_of earlier line → is_block line ≡ false → seen p ≡ true → refusal_at earlier line ≡ Some (Line number Duplicate)
@@ -321,35 +321,35 @@ item_taken now next seen more entries lines number earlier line name p range is_
     let room : leb ENTRIES (length (entries_back earlier)) ≡ false = subst (λ n. leb ENTRIES n ≡ false) shown.count (has_room entries few) in
     let count : number ≡ length earlier + 1 = omega (arith, shown.number, at) in
     let items : entries_back (line ∷ earlier) ≡ (path_text p, name) ∷ entries_back earlier = ap (λ (es : List Item). es ++ entries_back earlier) (sym entry) in
-    let told : (q : Path) → cond (is_eq (path_cmp q p)) true (is_told earlier (path_text q)) ≡ is_told (line ∷ earlier) (path_text q) = λ q.
+    let told : (q : Path) → cond (is_eq (path_cmp q p)) true (is_known_path earlier (path_text q)) ≡ is_known_path (line ∷ earlier) (path_text q) = λ q.
     one_more_value (is_eq (path_cmp q p)) name (value_at text_cmp (path_text q) (entries_back earlier))
     ∙ ap (λ es. is_some (value_at text_cmp (path_text q) es)) (sym items) in
-    let later : (q : Path) → is_told earlier (path_text q) ≡ true → is_told (line ∷ earlier) (path_text q) ≡ true = λ q t. sym (told q) ∙ more_true (is_eq (path_cmp q p)) (is_told earlier (path_text q)) t in
-    let p_new : is_told earlier (path_text p) ≡ false = sym (shown.paths p range kept) ∙ absent in
-    let p_told : is_told (line ∷ earlier) (path_text p) ≡ true = sym (told p) ∙ ap (λ b. cond b true (is_told earlier (path_text p))) (ap is_eq (tied_itself nat_list_cmp_total (path_text p))) in (
+    let later : (q : Path) → is_known_path earlier (path_text q) ≡ true → is_known_path (line ∷ earlier) (path_text q) ≡ true = λ q t. sym (told q) ∙ more_true (is_eq (path_cmp q p)) (is_known_path earlier (path_text q)) t in
+    let p_new : is_known_path earlier (path_text p) ≡ false = sym (shown.paths p range kept) ∙ absent in
+    let p_told : is_known_path (line ∷ earlier) (path_text p) ≡ true = sym (told p) ∙ ap (λ b. cond b true (is_known_path earlier (path_text p))) (ap is_eq (tied_itself nat_list_cmp_total (path_text p))) in (
       record {
         paths = λ q r under.
             one_more q r
-            ∙ elim (is_head p) as (λ h. is_head p ≡ h → cond (h && is_nested q) false (cond (is_eq (path_cmp q p)) true (seen q)) ≡ is_told (line ∷ earlier) (path_text q)) [
-              | true ↦ λ head. elim (is_nested q) as (λ n. is_nested q ≡ n → cond n false (cond (is_eq (path_cmp q p)) true (seen q)) ≡ is_told (line ∷ earlier) (path_text q)) [
+            ∙ elim (is_head p) as (λ h. is_head p ≡ h → cond (h && is_nested q) false (cond (is_eq (path_cmp q p)) true (seen q)) ≡ is_known_path (line ∷ earlier) (path_text q)) [
+              | true ↦ λ head. elim (is_nested q) as (λ n. is_nested q ≡ n → cond n false (cond (is_eq (path_cmp q p)) true (seen q)) ≡ is_known_path (line ∷ earlier) (path_text q)) [
                 | true ↦ λ n.
                     let above_is : path_text (block_of q) ≡ path_text p = own_head p q earlier line head open_is (under n) in
-                    let unseen : is_told earlier (path_text q) ≡ false = false_by (is_told earlier (path_text q)) (λ t. sym p_new ∙ ap (is_told earlier) (sym above_is) ∙ shown.kin q r n t) in
+                    let unseen : is_known_path earlier (path_text q) ≡ false = false_by (is_known_path earlier (path_text q)) (λ t. sym p_new ∙ ap (is_known_path earlier) (sym above_is) ∙ shown.kin q r n t) in
                     sym ((λ i. cond (nested_differ p q range r head n i) true (unseen i))) ∙ told q
                 | false ↦ λ n. ap (cond (is_eq (path_cmp q p)) true) (shown.paths q r (λ y. absurd (false≢true (sym n ∙ y)))) ∙ told q
               ] refl
               | false ↦ λ head. ap (cond (is_eq (path_cmp q p)) true) (shown.paths q r (λ n. other_under p q earlier line head open_is n (under n))) ∙ told q
             ] refl;
         kin = λ q r n t.
-            elim (is_eq (path_cmp q p)) as (λ b. is_eq (path_cmp q p) ≡ b → cond b true (is_told earlier (path_text q)) ≡ true → is_told (line ∷ earlier) (path_text (block_of q)) ≡ true) [
+            elim (is_eq (path_cmp q p)) as (λ b. is_eq (path_cmp q p) ≡ b → cond b true (is_known_path earlier (path_text q)) ≡ true → is_known_path (line ∷ earlier) (path_text (block_of q)) ≡ true) [
               | true ↦ λ same _.
                   let is_p : q ≡ p = one_path p q range r same in
                   later (block_of q) (shown.open_head q r n (subst (λ k. is_nested k ≡ true → IsUnder earlier k) (sym is_p) kept n))
               | false ↦ λ _ s. later (block_of q) (shown.kin q r n s)
             ] refl (told q ∙ t);
         open_head = λ q r n u.
-            elim (is_head p) as (λ h. is_head p ≡ h → is_told (line ∷ earlier) (path_text (block_of q)) ≡ true) [
-              | true ↦ λ head. ap (is_told (line ∷ earlier)) (own_head p q earlier line head open_is u) ∙ p_told
+            elim (is_head p) as (λ h. is_head p ≡ h → is_known_path (line ∷ earlier) (path_text (block_of q)) ≡ true) [
+              | true ↦ λ head. ap (is_known_path (line ∷ earlier)) (own_head p q earlier line head open_is u) ∙ p_told
               | false ↦ λ head. later (block_of q) (shown.open_head q r n (other_under p q earlier line head open_is n u))
             ] refl;
         count = ap (λ n. n + 1) shown.count ∙ omega arith ∙ ap length (sym items);

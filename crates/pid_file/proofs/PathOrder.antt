@@ -66,7 +66,7 @@ hex2_order m n p q x y =
     let two : nat_cmp m n ≡ ordering_then (nat_cmp (m / 16 % 16) (n / 16 % 16)) (nat_cmp (m % 16) (n % 16)) = by_sixteens m n ∙ (λ i. ordering_then (nat_cmp (a i) (b i)) (nat_cmp (m % 16) (n % 16))) in
     rw (digits (m / 16) (n / 16), digits m n, two) (sym (simp then_assoc))
 
--- how the numbers below a letter are written: behind a slash or not, with four digits or two
+-- how the numbers below a letter are written: after a slash or not, with four digits or two
 pub data Level : Type 0 where
   Slash4 : Level
   Bare4 : Level

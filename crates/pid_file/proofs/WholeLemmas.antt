@@ -47,7 +47,7 @@ sound_push : (es done : Items) (e : Path × List ℕ) → AreSound es done → I
 sound_push es [] e h s = (s, tt)
 sound_push es (x ∷ xs) e h s = (h.0, sound_push es xs e h.1 s)
 
--- what a pass has found: what is left comes behind sound items
+-- what a pass has found: what is left comes after sound items
 pub record HasLooked (es left : Items) (a : Above) : Type 0 where
   pub done : Items
   pub parts : es ≡ done ++ left

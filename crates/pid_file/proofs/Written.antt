@@ -17,7 +17,7 @@ pub ended-append : (xs ys : List (List ℕ)) → ended (xs ++ ys) ≡ ended xs +
 ended-append [] ys = refl
 ended-append (x ∷ xs) ys = ap (λ (l : List ℕ). x ++ 10 ∷ l) (ended-append xs ys) ∙ sym (append_assoc x (10 ∷ ended xs) (ended ys))
 
--- the lines of the first item, and then those behind it
+-- the lines of the first item, and then those after it
 pub lines-first : (before : List ℕ) (item : List ℕ × List ℕ) (items : List (List ℕ × List ℕ)) → lines_after before (item ∷ items) ≡ lines_after before (item ∷ []) ++ lines_after item.0 items
 lines-first before item items = elim (opens_block before item.0) as (λ b. (if b then block_line item.0 ∷ [] else []) ++ item_line item ∷ lines_after item.0 items ≡ ((if b then block_line item.0 ∷ [] else []) ++ item_line item ∷ []) ++ lines_after item.0 items) [ true ↦ refl | false ↦ refl ]
 

@@ -20,16 +20,18 @@ pub record TellsRefusal (text : List ℕ) (old new : Option (List ℕ)) : Type 0
   pub is_fault : IsFaultOf end text
   pub told : Appends old new (fault_line end)
 
--- What `tidy` wrote by the status, and nothing else: to the output the canonical form of a good
+-- What `tidy` wrote by its exit status, and nothing else: to the output the canonical form of a good
 -- text, or to the writer of faults the line of the first fault of a bad one.
 pub record GotTidied (text : List ℕ) (status : ℕ) (w : Writers) : Type 0 where
+  pub judged : IsStatusFor text status
   pub good : status ≡ 0 → Prints text w
   pub refused : status ≡ 1 → Keeps w.output w.output_after
       × TellsRefusal text w.faults w.faults_after
 
--- What `check` wrote by the status, and nothing else: to the output the count of a good text, or the
--- line of the first fault of a bad one.
+-- What `check` wrote by its exit status, and nothing else: to the output the count of a good text,
+-- or the line of the first fault of a bad one.
 pub record GotChecked (text : List ℕ) (status : ℕ) (w : Writers) : Type 0 where
+  pub judged : IsStatusFor text status
   pub good : status ≡ 0 → Appends w.output w.output_after (ok_line (count_of text))
       × Keeps w.faults w.faults_after
   pub refused : status ≡ 1 → TellsRefusal text w.output w.output_after

@@ -13,7 +13,7 @@ use Rattle.pid_file.specs.Marks.{depth, inside}
 use Rattle.pid_file.specs.Levels.{levels}
 use Rattle.pid_file.specs.Columns.{begins_with_ids, is_id}
 use Rattle.pid_file.specs.LookingBack.{mark_at, parent_line, is_block, is_entry, widths_at}
-use Rattle.pid_file.specs.LookingBack.{digits_at, name_at, path_at, is_told}
+use Rattle.pid_file.specs.LookingBack.{digits_at, name_at, path_at, is_known_path}
 
 -- whether a kind holds at a line
 abbrev pub has : LineKind → List (List ℕ) → List ℕ → Bool
@@ -27,9 +27,9 @@ has BadId earlier line = (is_entry earlier line && not
     (is_block line && not (is_id 4 (inside line)))
 has NoName earlier line = is_entry earlier line && is_empty (name_at earlier line)
 has BadName earlier line = is_entry earlier line && not (is_name (name_at earlier line))
-has Duplicate earlier line = is_entry earlier line && is_told earlier (path_at earlier line)
+has Duplicate earlier line = is_entry earlier line && is_known_path earlier (path_at earlier line)
 has VendorMissing earlier line = is_block line && not
-    (is_told earlier (codes "PC/" ++ digits_at earlier line))
+    (is_known_path earlier (codes "PC/" ++ digits_at earlier line))
 
 -- the kinds that are seen without the paths of earlier entries
 abbrev pub line_kinds : List LineKind

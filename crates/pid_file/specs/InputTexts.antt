@@ -1,7 +1,6 @@
 -- What the reading of an input's text comes to. That a text is too long before any line is judged
 -- is a choice of this project.
-use Rattle.std.specs.Prelude.{◌≡◌, ℕ, ◌+◌, ◌<◌, ◌≤◌, List, length, Option, None, Result, Ok, Err}
-use Rattle.std.specs.Io.KnownBytes.{Consumes}
+use Rattle.std.specs.Prelude.{◌≡◌, ℕ, ◌<◌, ◌≤◌, List, length, None, Result, Ok, Err}
 use Rattle.pid_file.specs.LookingBack.{entries_back}
 use Rattle.pid_file.specs.Reading.{history_of, refused}
 use Rattle.pid_file.specs.Refusals.{IsRefusal}
@@ -12,13 +11,6 @@ use Rattle.pid_file.specs.declared.whole_input.InputEnd.TheVariants.{ReadFault, 
 -- the text has so many entries
 abbrev pub HasEntries : List ℕ → ℕ → Type 0
 HasEntries text count = count ≡ length (entries_back (history_of text))
-
--- the input was only read, and at most one byte past the limit of it was used
-pub record IsUsedUpTo (limit : ℕ) (only_reads : Type 0) (old new : Option (List ℕ)) : Type 0 where
-  pub goes : only_reads
-  pub front : List ℕ
-  pub consumed : Consumes old new front
-  pub short : length front ≤ limit + 1
 
 -- why a text was not read
 abbrev pub IsUnread : {F : Type 0} → ℕ → InputEnd F → List ℕ → Type 0

@@ -84,5 +84,5 @@ entries_back [] = []
 entries_back (line ∷ earlier) = entry_of earlier line ++ entries_back earlier
 
 -- an earlier entry has the path
-abbrev pub is_told : List (List ℕ) → List ℕ → Bool
-is_told earlier path = is_some (value_at text_cmp path (entries_back earlier))
+abbrev pub is_known_path : List (List ℕ) → List ℕ → Bool
+is_known_path earlier path = is_some (value_at text_cmp path (entries_back earlier))

@@ -10,8 +10,8 @@ abbrev pub Numbered : Type 0
 Numbered = ℕ × Item
 
 -- an entry of the code as a numbered entry
-abbrev pub as_told : Entry → Numbered
-as_told e = (e.line, (path_text e.path, e.name.now))
+abbrev pub as_numbered : Entry → Numbered
+as_numbered e = (e.line, (path_text e.path, e.name.now))
 
 abbrev pub at_line : ℕ → Item → Numbered
 at_line number item = (number, item)

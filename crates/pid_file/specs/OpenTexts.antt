@@ -2,7 +2,7 @@
 use Rattle.std.specs.Prelude.{◌≡◌, ℕ, List, reverse, None}
 use Rattle.pid_file.specs.declared.open_text.OpenText.{OpenText}
 use Rattle.pid_file.specs.Reading.{refusal_of}
-use Rattle.pid_file.specs.Progress.{Shows}
+use Rattle.pid_file.specs.LinesRead.{Shows}
 use Rattle.pid_file.specs.WholeLines.{open_part, whole_lines}
 
 -- these bytes came, none of their whole lines was refused, and what is kept of the lines shows them

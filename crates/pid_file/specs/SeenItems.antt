@@ -17,7 +17,7 @@ abbrev pub has_path : List ℕ → Path → Bool
 has_path seen p = has_item nat_cmp seen (path_key p)
 
 -- the run and then the rest
-abbrev pub seen_items : {P : Type 0} → Seen P → List P
+abbrev pub seen_items : Seen → List ℕ
 seen_items s = s.run.items ++ s.rest.keys
 
 -- none is less than the one before it

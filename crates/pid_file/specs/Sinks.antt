@@ -16,8 +16,8 @@ Took takes old (entry ∷ entries) new = (between : _) × Took takes old entries
 pub record TookSome {S : Type 0} (takes : S → Numbered → S → Type 0) (old : S)
     (lines : List (List ℕ)) (new : S) : Type 0 where
   pub front : List (List ℕ)
-  pub behind : List (List ℕ)
-  pub parts : lines ≡ front ++ behind
+  pub after : List (List ℕ)
+  pub parts : lines ≡ front ++ after
   pub good : refusal_of front ≡ None
   pub took : Took takes old (numbered_of front) new
 
@@ -28,8 +28,8 @@ pub record FaultedAt {S F : Type 0} (takes : S → Numbered → S → Type 0)
     (old : S) (lines : List (List ℕ)) (fault : F) (new : S) : Type 0 where
   pub front : List (List ℕ)
   pub line : List ℕ
-  pub behind : List (List ℕ)
-  pub parts : lines ≡ front ++ line ∷ behind
+  pub after : List (List ℕ)
+  pub parts : lines ≡ front ++ line ∷ after
   pub good : refusal_of (front ++ line ∷ []) ≡ None
   pub entry : Numbered
   pub is_its : numbered_at (reverse front) line ≡ entry ∷ []

@@ -13,7 +13,7 @@ pub mod Wrapping
 pub mod InputTexts
 pub mod Paths
 pub mod Printing
-pub mod Progress
+pub mod LinesRead
 pub mod SeenPaths
 pub mod TextEnds
 pub mod WholeInputs

@@ -7,14 +7,14 @@ use Rattle.pid_file.specs.declared.text_end.TextEnd.TheVariants.{TooLarge, Memor
 use Rattle.pid_file.specs.declared.text_end.TextEnd.TheVariants.{WriteFault}
 
 -- a line's number, and the number and the word of its fault: line 3: 7 Duplicate
-abbrev pub line_told : ℕ → ℕ → List ℕ → List ℕ
-line_told line number word = codes "line " ++ decimal line ++ codes ": " ++ decimal number ++ 32
+abbrev pub line_report : ℕ → ℕ → List ℕ → List ℕ
+line_report line number word = codes "line " ++ decimal line ++ codes ": " ++ decimal number ++ 32
     ∷ word ++ 10 ∷ []
 
 -- the line that reports a fault of a text or out of memory, with its LF; nothing for the other ends
 abbrev pub fault_line : TextEnd → List ℕ
 fault_line Done = []
-fault_line (Line line kind) = line_told line (number_of kind) (word_of kind)
+fault_line (Line line kind) = line_report line (number_of kind) (word_of kind)
 fault_line TooManyEntries = codes "too many entries\n"
 fault_line TooLarge = codes "too large\n"
 fault_line Memory = codes "no memory\n"

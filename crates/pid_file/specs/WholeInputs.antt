@@ -1,13 +1,25 @@
 -- What is made of an input that is read to its end, up to a limit of bytes.
-use Rattle.std.specs.Prelude.{◌≡◌, ◌⊎◌, ℕ, ◌+◌, ◌≤◌, List, length, Option, Result, Ok, Err}
-use Rattle.std.specs.Io.KnownBytes.{IsAtEnd}
+use Rattle.std.specs.Prelude.{◌≡◌, ◌⊎◌, ℕ, ◌+◌, ◌≤◌, List, length, Option, Result, Ok, Err, IsSome}
+use Rattle.std.specs.Io.KnownBytes.{Consumes, IsAtEnd}
 use Rattle.pid_file.specs.Lines.{lines_of}
 use Rattle.pid_file.specs.Numbered.{Numbered}
 use Rattle.pid_file.specs.Sinks.{TookSome, FaultedAt, Ends}
+use Rattle.pid_file.specs.declared.io.Input.{Ghosts}
 use Rattle.pid_file.specs.declared.whole_input.InputEnd.{InputEnd}
 use Rattle.pid_file.specs.declared.whole_input.InputEnd.TheVariants.{ReadFault, TooLong, Cut}
 use Rattle.pid_file.specs.declared.whole_input.SkipEnd.{SkipEnd}
 use Rattle.pid_file.specs.declared.whole_input.SkipEnd.TheVariants as skips
+
+-- what is left of an input of which at most so many bytes, and one more, were read
+pub record LeavesInput {X : Type 0} (input : Ghosts X) (limit : ℕ) (old new : X) (failed : Type 0)
+    : Type 0 where
+  pub stops : (front : List ℕ) × Consumes (input.to_come old) (input.to_come new) front
+      × (length front ≤ limit + 1)
+  -- it has failed exactly if the reader keeps a fault
+  pub fault : failed → IsSome (input.read_fault new)
+  pub fault_first : IsSome (input.read_fault new) → failed
+  -- and nothing but reading was done to it
+  pub goes : input.goes old new
 
 -- the text was read whole: nothing is left after it, and it is short enough
 pub record IsWhole (limit : ℕ) (rest : Option (List ℕ)) (text : List ℕ) : Type 0 where

@@ -1,7 +1,7 @@
 -- What became of a writer, and of a line that it was to take.
-use Rattle.std.specs.Prelude.{ℕ, ◌⊎◌, List, Option, IsSome}
+use Rattle.std.specs.Prelude.{◌≡◌, ℕ, ◌⊎◌, List, Option, Some, Result, IsSome, IfErr}
 use Rattle.std.specs.Io.KnownBytes.{Appends}
-use Rattle.pid_file.specs.Sending.{SendsFront}
+use Rattle.pid_file.specs.Sending.{Sends, SendsFront}
 use Rattle.pid_file.specs.declared.io.Output.{Ghosts}
 use Rattle.pid_file.specs.declared.io.WriteFault.{WriteFault}
 
@@ -25,3 +25,9 @@ FailsWithin w line = IsSome w.fault × SendsFront w.before w.after line
 -- the writer took the line, or it failed within it
 abbrev pub TriesLine : WriterUse → List ℕ → Type 0
 TriesLine w line = Appends w.before w.after line ⊎ FailsWithin w line
+
+-- the writer took all of the bytes, or at a fault, which it keeps, a prefix of them that lacks some
+pub record Writes {W X : Type 0} (writer : Ghosts W) (result : Result X WriteFault) (old new : W)
+    (bytes : List ℕ) : Type 0 where
+  pub sent : Sends result (writer.taken old) (writer.taken new) bytes
+  pub fault : IfErr result (λ f. writer.write_fault new ≡ Some f)

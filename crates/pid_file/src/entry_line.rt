@@ -51,6 +51,7 @@ pub enum EntryKind {
 pub struct NamedPath<'a> {
     pub path: Path,
     pub name: &'a str,
+    pub ghost named: { IsTrue (name_test name.now) },
 }
 
 // The value of a hex digit in either case.
@@ -215,7 +216,6 @@ pub fn read_columns(place: EntryKind, bytes: &[u8]) -> Result<NamedPath<'_>, Lin
     ensures path { IfOk result (λ said. IsPathAt place said.path
         (digits_in (widths_of place) bytes.now)) }
     ensures name { IfOk result (λ said. said.name.now ≡ name_in (widths_of place) bytes.now) }
-    ensures named { IfOk result (λ said. IsTrue (name_test said.name.now)) }
     ensures good { IfOk result (λ _. columns_fault (widths_of place) bytes.now ≡ None) }
     ensures fault { IfErr result (λ kind. columns_fault (widths_of place) bytes.now ≡ Some kind) }
 {

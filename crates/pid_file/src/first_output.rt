@@ -1,15 +1,12 @@
 //! What the first program prints besides the result of `tidy` and `check`.
 ghost use Rattle.std.specs.Prelude.{◌≡◌, ◌⊎◌};
 
-use crate::io::write_all;
 use crate::plain::Plain;
-use crate::process::{report_failed, report_text_end};
+use crate::process::{NO_JOB, report_failed, report_text_end};
 use crate::text_end::TextEnd;
 use crate::watched::Watched;
+use crate::writing::write_all;
 use std::io::{ErrorKind, Write};
-
-/// The exit status if the arguments name no job.
-const UNKNOWN_WORDS: u8 = 2;
 
 /// Prints a page on `output`, and returns the exit status: 0, or 3 if it can't be written.
 pub fn show<O: Write + Drop, F: Write + Drop>(page: &str, output: O, faults: F) -> u8
@@ -33,7 +30,7 @@ pub fn report_no_words<F: Write + Drop>(kind: ErrorKind, faults: F) -> u8
                 &mut Plain::new(faults),
                 b"error: an argument is not valid UTF-8\n",
             );
-            UNKNOWN_WORDS
+            NO_JOB
         }
     }
 }

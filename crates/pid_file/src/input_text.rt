@@ -1,8 +1,8 @@
 //! What the text of an input says: its tree, and the number of its entries.
-ghost use Rattle.std.specs.Prelude.{◌≡◌, ◌↔◌, ◌+◌, ◌≤◌, ℕ, List, Err, IsSome, IfSome, length};
-ghost use Rattle.std.specs.Io.KnownBytes.{Consumes};
+ghost use Rattle.std.specs.Prelude.{◌≡◌, ◌↔◌, Err, IfSome};
 ghost use Rattle.pid_file.specs.Reading.{Reads};
 ghost use Rattle.pid_file.specs.InputTexts.{HasEntries, ReadsInput};
+ghost use Rattle.pid_file.specs.WholeInputs.{LeavesInput};
 ghost use Rattle.pid_file.specs.Steps.InputTexts.{without_fault};
 
 use crate::counter::{Counter, Never};
@@ -39,11 +39,8 @@ pub fn read_input<I: Input>(
     input: &mut I,
 ) -> Result<Tree, InputEnd<Never>>
     ensures end { IfSome (I.to_come input.old) (λ text. ReadsInput Reads limit result text) }
-    ensures stops { (front : List ℕ) × Consumes (I.to_come input.old) (I.to_come input.new) front
-        × (length front ≤ limit + 1) }
-    ensures fault { result ≡ Err InputEnd.ReadFault → IsSome (I.read_fault input.new) }
-    ensures fault_first { IsSome (I.read_fault input.new) → result ≡ Err InputEnd.ReadFault }
-    ensures goes { I.goes input.old input.new }
+    ensures leaves { LeavesInput I.Input limit input.old input.new
+        (result ≡ Err InputEnd.ReadFault) }
 {
     let mut sink = TreeSink::new(alloc);
     match cut_input(alloc, limit, input, &mut sink) {
@@ -63,11 +60,8 @@ pub fn count_input<I: Input>(
     input: &mut I,
 ) -> Result<u64, InputEnd<Never>>
     ensures end { IfSome (I.to_come input.old) (λ text. ReadsInput HasEntries limit result text) }
-    ensures stops { (front : List ℕ) × Consumes (I.to_come input.old) (I.to_come input.new) front
-        × (length front ≤ limit + 1) }
-    ensures fault { result ≡ Err InputEnd.ReadFault → IsSome (I.read_fault input.new) }
-    ensures fault_first { IsSome (I.read_fault input.new) → result ≡ Err InputEnd.ReadFault }
-    ensures goes { I.goes input.old input.new }
+    ensures leaves { LeavesInput I.Input limit input.old input.new
+        (result ≡ Err InputEnd.ReadFault) }
 {
     let mut counter = Counter { count: 0 };
     match cut_input(alloc, limit, input, &mut counter) {

@@ -14,15 +14,10 @@ ghost use Rattle.std.specs.Prelude.{
   None,
   Some,
   IfOk,
-  IfErr,
   IfSome,
   MatchResult,
-  OnOk,
-  drop,
 };
-ghost use Rattle.std.specs.List.{flat_map};
-ghost use Rattle.std.specs.Io.KnownBytes.{ReadConsumes, WriteAppends, Appends, Keeps};
-ghost use Rattle.pid_file.specs.Sending.{Sends};
+ghost use Rattle.std.specs.Io.KnownBytes.{ReadConsumes, WriteAppends};
 
 /// A read failed.
 #[derive(Clone, Copy)]
@@ -113,30 +108,4 @@ pub trait Output {
         ensures fault { MatchResult result (λ _. write_fault self.new ≡ None)
             (λ f. write_fault self.new ≡ Some f) }
         ensures kept { IfSome (write_fault self.old) (λ f. result ≡ Err f) };
-}
-
-/// Writes all of the bytes, or a prefix of them at a fault.
-pub fn write_all<W: Output>(out: &mut W, bytes: &[u8]) -> Result<(), WriteFault>
-    ensures sent { Sends result (W.taken out.old) (W.taken out.new) bytes.now }
-    ensures fault { IfErr result (λ f. W.write_fault out.new ≡ Some f) }
-{
-    let mut rest = bytes;
-    while !rest.is_empty() {
-        let count = out.write(rest)?;
-        let (_, behind) = rest.split_at(count);
-        rest = behind;
-    }
-    Ok(())
-}
-
-/// Writes the parts one after another, or a prefix of them at a fault.
-pub fn write_parts<W: Output>(out: &mut W, parts: &[&[u8]]) -> Result<(), WriteFault>
-    ensures sent { Sends result (W.taken out.old) (W.taken out.new)
-        (flat_map (λ part. part.now) parts.now) }
-    ensures fault { IfErr result (λ f. W.write_fault out.new ≡ Some f) }
-{
-    for part in parts {
-        write_all(out, part)?;
-    }
-    Ok(())
 }

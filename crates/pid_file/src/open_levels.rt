@@ -1,10 +1,9 @@
 //! The open levels, and what a line says below them.
-ghost use Rattle.std.specs.Prelude.{◌≡◌, ◌==◌, ℕ, List, true, false, Some, IfOk, IfErr};
+ghost use Rattle.std.specs.Prelude.{◌≡◌, ℕ, List, true, false};
 ghost use Rattle.std.specs.Str.{is_utf8 as utf8_bytes};
-ghost use Rattle.pid_file.specs.Marks.{is_idle as idle_line, depth as tabs, body as after_tabs};
-ghost use Rattle.pid_file.specs.Faults.{line_fault_of};
+ghost use Rattle.pid_file.specs.Marks.{is_idle as idle_line, depth as tabs};
 ghost use Rattle.pid_file.specs.OpenLevels.{IsOpenAt};
-ghost use Rattle.pid_file.specs.Steps.OpenLevels.{IsNamed, Says};
+ghost use Rattle.pid_file.specs.Steps.OpenLevels.{ReadsLine};
 ghost use Rattle.pid_file.specs.Steps.OpenLevels.{
   below as below_at,
   first_below as below_at_one,
@@ -94,41 +93,13 @@ fn place_below(levels: OpenLevels, depth: usize) -> Result<Option<EntryKind>, Li
     }
 }
 
-// Reads a nested line.
-fn read_nested<'b>(
-    levels: OpenLevels,
-    line: &'b [u8],
-    depth: usize,
-    body: &'b [u8],
-) -> Result<LineContent<'b>, LineKind>
-    requires text { utf8_bytes line.now ≡ true }
-    requires active { idle_line line.now ≡ false }
-    requires nested { (depth == 0) ≡ false }
-    requires depth { tabs line.now ≡ depth }
-    requires body { after_tabs line.now ≡ body.now }
-    ensures says { (earlier : List (List ℕ)) → IsOpenAt levels earlier
-        → IfOk result (λ s. Says levels earlier line.now s) }
-    ensures named { IfOk result (λ s. IsNamed s) }
-    ensures fault { (earlier : List (List ℕ)) → IsOpenAt levels earlier
-        → IfErr result (λ kind. line_fault_of earlier line.now ≡ Some kind) }
-{
-    let Some(place) = place_below(levels, depth)? else {
-        return Ok(LineContent::Nothing);
-    };
-    let named = read_columns(place, body)?;
-    Ok(LineContent::Entry(named))
-}
-
 // Reads a line of depth 0.
 fn read_head(line: &[u8]) -> Result<LineContent<'_>, LineKind>
     requires text { utf8_bytes line.now ≡ true }
     requires active { idle_line line.now ≡ false }
     requires flat { tabs line.now ≡ 0 }
-    ensures says { (levels : OpenLevels) (earlier : List (List ℕ))
-        → IfOk result (λ s. Says levels earlier line.now s) }
-    ensures named { IfOk result (λ s. IsNamed s) }
-    ensures fault { (earlier : List (List ℕ))
-        → IfErr result (λ kind. line_fault_of earlier line.now ≡ Some kind) }
+    ensures { (levels : OpenLevels) (earlier : List (List ℕ))
+        → ReadsLine levels earlier line.now result }
 {
     let (mark, behind) = split_mark(line);
     match mark {
@@ -150,11 +121,8 @@ fn read_head(line: &[u8]) -> Result<LineContent<'_>, LineKind>
 
 /// Reads a line below the open levels.
 pub fn read_line<'b>(levels: OpenLevels, line: &'b [u8]) -> Result<LineContent<'b>, LineKind>
-    ensures says { (earlier : List (List ℕ)) → IsOpenAt levels earlier
-        → IfOk result (λ s. Says levels earlier line.now s) }
-    ensures named { IfOk result (λ s. IsNamed s) }
-    ensures fault { (earlier : List (List ℕ)) → IsOpenAt levels earlier
-        → IfErr result (λ kind. line_fault_of earlier line.now ≡ Some kind) }
+    ensures { (earlier : List (List ℕ)) → IsOpenAt levels earlier
+        → ReadsLine levels earlier line.now result }
 {
     if !is_utf8(line) {
         return Err(LineKind::NotUtf8);
@@ -164,10 +132,13 @@ pub fn read_line<'b>(levels: OpenLevels, line: &'b [u8]) -> Result<LineContent<'
     }
     let (depth, body) = split_depth(line);
     if depth == 0 {
-        read_head(line)
-    } else {
-        read_nested(levels, line, depth, body)
+        return read_head(line);
     }
+    let Some(place) = place_below(levels, depth)? else {
+        return Ok(LineContent::Nothing);
+    };
+    let named = read_columns(place, body)?;
+    Ok(LineContent::Entry(named))
 }
 
 // The levels that are open after an entry.

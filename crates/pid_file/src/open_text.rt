@@ -5,14 +5,15 @@ ghost use Rattle.pid_file.specs.WholeLines.{ended_pieces, open_part, whole_lines
 ghost use Rattle.pid_file.specs.Numbered.{numbered_of};
 ghost use Rattle.pid_file.specs.Sinks.{Took, Ends};
 ghost use Rattle.pid_file.specs.OpenTexts.{IsLeftOpen};
-ghost use Rattle.pid_file.specs.Progress.{Shows};
+ghost use Rattle.pid_file.specs.LinesRead.{Shows};
 ghost use Rattle.pid_file.specs.Steps.LineEnds.{LineEnds};
 
+use crate::entry_line::NamedPath;
 use crate::line::without_cr;
+use crate::lines_read::LinesRead;
 use crate::pieces::split_line;
-use crate::progress::LinesRead;
 use crate::refusal::ReadRefusal;
-use crate::sink::{CutEnd, Sink};
+use crate::sink::{CutEnd, Entry, Sink};
 use std::alloc::Global;
 
 /// A text of which some chunks have come: its last line, which is still open, and what is kept of
@@ -37,10 +38,13 @@ fn take_line<S: Sink>(
     match progress.judge(line) {
         Err(refusal) => Err(CutEnd::Refused(refusal)),
         Ok(None) => Ok(()),
-        Ok(Some(entry)) => match sink.entry(&entry) {
-            Ok(()) => Ok(()),
-            Err(fault) => Err(CutEnd::Fault(fault)),
-        },
+        Ok(Some((line, named))) => {
+            let NamedPath { path, name } = named;
+            match sink.entry(&Entry { line, path, name }) {
+                Ok(()) => Ok(()),
+                Err(fault) => Err(CutEnd::Fault(fault)),
+            }
+        }
     }
 }
 

@@ -7,14 +7,12 @@ ghost use Rattle.std.specs.Prelude.{
   ◌++◌,
   codes,
   take,
-  Some,
-  IfErr,
   IfSome,
   is_some,
 };
 ghost use Rattle.pid_file.specs.Identifiers.{hex4 as four_digits};
 ghost use Rattle.pid_file.specs.PathTexts.{path_text};
-ghost use Rattle.pid_file.specs.Sending.{Sends};
+ghost use Rattle.pid_file.specs.Writing.{Writes};
 ghost use Rattle.std.specs.Ordering.{is_eq};
 ghost use Rattle.pid_file.specs.Trees.{text_cmp};
 ghost use Rattle.pid_file.specs.Printing.{
@@ -30,14 +28,14 @@ ghost use Rattle.pid_file.specs.Printing.{
 ghost use Rattle.pid_file.specs.Steps.Printing.{text_or_none};
 
 use crate::identifier::{Id16, hex2, hex4};
-use crate::io::{Output, WriteFault, write_all, write_parts};
+use crate::io::{Output, WriteFault};
 use crate::path::Path;
 use crate::tree::Tree;
+use crate::writing::{write_all, write_parts};
 
 /// Writes the first line of every canonical text.
 pub fn write_header<W: Output>(out: &mut W) -> Result<(), WriteFault>
-    ensures sent { Sends result (W.taken out.old) (W.taken out.new) (ended (header ∷ [])) }
-    ensures fault { IfErr result (λ f. W.write_fault out.new ≡ Some f) }
+    ensures { Writes W.Output result out.old out.new (ended (header ∷ [])) }
 {
     write_all(out, b"# PCI ID registry\n")
 }
@@ -77,9 +75,8 @@ fn is_same_vendor(vendor: Id16, other: Id16) -> bool
 
 /// Writes the line before the generic subsystems of a vendor.
 pub fn write_block<W: Output>(vendor: Id16, out: &mut W) -> Result<(), WriteFault>
-    ensures sent { Sends result (W.taken out.old) (W.taken out.new)
+    ensures { Writes W.Output result out.old out.new
         (ended ((codes "S " ++ four_digits vendor) ∷ [])) }
-    ensures fault { IfErr result (λ f. W.write_fault out.new ≡ Some f) }
 {
     let [a, b, c, d] = hex4(vendor);
     write_all(out, &[b'S', b' ', a, b, c, d, b'\n'])
@@ -87,9 +84,8 @@ pub fn write_block<W: Output>(vendor: Id16, out: &mut W) -> Result<(), WriteFaul
 
 /// Writes the line of an item.
 pub fn write_item<W: Output>(path: &Path, name: &str, out: &mut W) -> Result<(), WriteFault>
-    ensures sent { Sends result (W.taken out.old) (W.taken out.new)
+    ensures { Writes W.Output result out.old out.new
         (ended (item_line (path_text path.now, name.now) ∷ [])) }
-    ensures fault { IfErr result (λ f. W.write_fault out.new ≡ Some f) }
 {
     let label = Label::of(*path);
     let (front, _) = label.bytes.split_at(label.len);
@@ -168,9 +164,8 @@ pub fn write_after<W: Output>(
     name: &str,
     out: &mut W,
 ) -> Result<(), WriteFault>
-    ensures sent { Sends result (W.taken out.old) (W.taken out.new)
+    ensures { Writes W.Output result out.old out.new
         (ended (lines_after (text_or_none before) ((path_text path.now, name.now) ∷ []))) }
-    ensures fault { IfErr result (λ f. W.write_fault out.new ≡ Some f) }
 {
     if let Some(vendor) = opened_block(before, *path) {
         write_block(vendor, out)?;
@@ -181,8 +176,7 @@ pub fn write_after<W: Output>(
 /// Writes the text of a tree: the header, and the lines of each item in canonical order. If the
 /// writer fails, a prefix of the text was written, and not all of it.
 pub fn write_canonical<W: Output>(tree: &Tree, out: &mut W) -> Result<(), WriteFault>
-    ensures sent { Sends result (W.taken out.old) (W.taken out.new) (print tree.now) }
-    ensures fault { IfErr result (λ f. W.write_fault out.new ≡ Some f) }
+    ensures { Writes W.Output result out.old out.new (print tree.now) }
 {
     write_header(out)?;
     let mut before = None;

@@ -9,19 +9,23 @@ ghost use Rattle.std.specs.Prelude.{
   IsSome,
 };
 ghost use Rattle.std.specs.Io.KnownBytes.{Keeps};
-ghost use Rattle.pid_file.specs.ExitStatuses.{IsStatusFor, GotTidied, GotChecked};
+ghost use Rattle.pid_file.specs.ExitStatuses.{GotTidied, GotChecked};
 ghost use Rattle.pid_file.specs.TextEnds.{fault_line, status_of};
 ghost use Rattle.pid_file.specs.Steps.TextEnds.{failed_line};
 ghost use Rattle.pid_file.specs.Writing.{TriesLine, use_of};
 
 use crate::checking::check;
-use crate::io::{Output, write_all};
+use crate::io::Output;
 use crate::plain::Plain;
 use crate::text_end::TextEnd;
 use crate::tidying::tidy;
 use crate::watched::Watched;
+use crate::writing::write_all;
 use std::alloc::Global;
 use std::io::{BufWriter, Read, Write};
+
+/// The exit status if the arguments name no job.
+pub const NO_JOB: u8 = 2;
 
 /// The exit status if memory, the store or a file failed.
 pub const FAILED: u8 = 3;
@@ -40,7 +44,6 @@ pub fn run_tidy<I: Read + Drop, O: Write + Drop, F: Write + Drop>(
     output: O,
     faults: F,
 ) -> (u8, Option<O>, F)
-    ensures status { IfSome (I.remaining input) (λ text. IsStatusFor text result.0) }
     ensures wrote { IfSome (I.remaining input) (λ text. GotTidied text result.0 (record {
       output = O.contents output;
       output_after = option_and_then O.contents result.1;
@@ -80,8 +83,7 @@ pub fn run_check<I: Read + Drop, O: Write + Drop, F: Write + Drop>(
     output: O,
     faults: F,
 ) -> (u8, O, F)
-    ensures status { IfSome (I.remaining input) (λ text. IsStatusFor text result.0) }
-    ensures wrote { IfSome (I.remaining input) (λ text. GotChecked text result.0 (record {
+    ensures { IfSome (I.remaining input) (λ text. GotChecked text result.0 (record {
       output = O.contents output;
       output_after = O.contents result.1;
       faults = F.contents faults;

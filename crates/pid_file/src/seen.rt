@@ -1,4 +1,4 @@
-//! Items that were seen, most of which come in order.
+//! Keys of paths that were seen, most of which come in order.
 ghost use Rattle.std.specs.Prelude.{
   ◌≡◌,
   ◌∷◌,
@@ -11,28 +11,29 @@ ghost use Rattle.std.specs.Prelude.{
   IfOk,
   if◌then◌else◌,
 };
+ghost use Rattle.std.specs.Ordering.{nat_cmp};
 ghost use Rattle.pid_file.specs.SeenItems.{IsRising, has_item, seen_items};
 ghost use Rattle.pid_file.specs.Steps.SeenPaths.{IsOneMore};
 
 use std::alloc::{AllocError, Global};
 use std::collections::BTreeSet;
 
-/// The items that were seen: a run that rises, and the rest.
+/// The keys that were seen: a run that rises, and the rest.
 ///
-/// The paths of a text in canonical order fill the run alone, where a new one costs one comparison.
+/// Those of a text in canonical order fill the run alone, where a new one costs one comparison.
 #[derive(Drop)]
-pub struct Seen<P: Ord> {
+pub struct Seen {
     /// None is less than the one before it.
-    pub run: Vec<P>,
+    pub run: Vec<u128>,
     /// Those that were not greater than the last of the run.
-    pub rest: BTreeSet<P>,
+    pub rest: BTreeSet<u128>,
 }
 
-impl<P: Ord + Copy> Seen<P> {
+impl Seen {
     /// Nothing was seen.
-    pub fn new(alloc: Global) -> Seen<P>
+    pub fn new(alloc: Global) -> Seen
         ensures empty { seen_items result ≡ [] }
-        ensures rising { IsRising P.cmp result.run.items }
+        ensures rising { IsRising nat_cmp result.run.items }
     {
         Seen {
             run: Vec::new(alloc),
@@ -43,18 +44,18 @@ impl<P: Ord + Copy> Seen<P> {
     /// Forgets all items.
     pub fn clear(&mut self)
         ensures empty { seen_items self.new ≡ [] }
-        ensures rising { IsRising P.cmp self.new.run.items }
+        ensures rising { IsRising nat_cmp self.new.run.items }
     {
         self.run.clear();
         self.rest.clear();
     }
 
     // Whether the item is greater than all of the run.
-    fn is_above_run(&self, item: &P) -> bool
-        ensures absent { IsTrue result → IsRising P.cmp self.now.run.items
-            → has_item P.cmp self.now.run.items item.now ≡ false }
-        ensures rising { IsTrue result → IsRising P.cmp self.now.run.items
-            → IsRising P.cmp (self.now.run.items ++ item.now ∷ []) }
+    fn is_above_run(&self, item: &u128) -> bool
+        ensures absent { IsTrue result → IsRising nat_cmp self.now.run.items
+            → has_item nat_cmp self.now.run.items item.now ≡ false }
+        ensures rising { IsTrue result → IsRising nat_cmp self.now.run.items
+            → IsRising nat_cmp (self.now.run.items ++ item.now ∷ []) }
     {
         match self.run.last() {
             None => true,
@@ -62,21 +63,21 @@ impl<P: Ord + Copy> Seen<P> {
         }
     }
 
-    fn is_in_run(&self, item: &P) -> bool
-        ensures { IsRising P.cmp self.now.run.items
-            → result ≡ has_item P.cmp self.now.run.items item.now }
+    fn is_in_run(&self, item: &u128) -> bool
+        ensures { IsRising nat_cmp self.now.run.items
+            → result ≡ has_item nat_cmp self.now.run.items item.now }
     {
         self.run.binary_search(item).is_ok()
     }
 
     /// One more item, and whether it was not seen before.
-    pub fn insert(&mut self, item: P) -> Result<bool, AllocError>
-        ensures rising { IsRising P.cmp self.old.run.items → IsRising P.cmp self.new.run.items }
-        ensures added { IsRising P.cmp self.old.run.items
-            → IfOk result (λ added. added ≡ not (has_item P.cmp (seen_items self.old) item)) }
-        ensures updates { IsRising P.cmp self.old.run.items
+    pub fn insert(&mut self, item: u128) -> Result<bool, AllocError>
+        ensures rising { IsRising nat_cmp self.old.run.items → IsRising nat_cmp self.new.run.items }
+        ensures added { IsRising nat_cmp self.old.run.items
+            → IfOk result (λ added. added ≡ not (has_item nat_cmp (seen_items self.old) item)) }
+        ensures updates { IsRising nat_cmp self.old.run.items
             → IfOk result (λ added. IsTrue added
-            → IsOneMore P.cmp (seen_items self.old) item (seen_items self.new)) }
+            → IsOneMore nat_cmp (seen_items self.old) item (seen_items self.new)) }
     {
         if self.is_above_run(&item) {
             if self.rest.contains(&item) {

@@ -1,9 +1,8 @@
 //! The paths that were seen, of those that can come again.
 ghost use Rattle.std.specs.Prelude.{◌≡◌, ◌<◌, ◌^◌, false, IfOk, IsTrue, not};
-ghost use Rattle.pid_file.specs.PathTexts.{IsPath};
 ghost use Rattle.pid_file.specs.Steps.Flags.{IsOneMoreFlag};
 ghost use Rattle.pid_file.specs.SeenPaths.{AreRising, has_flag, has_seen};
-ghost use Rattle.pid_file.specs.Steps.SeenPaths.{with_path};
+ghost use Rattle.pid_file.specs.Steps.SeenPaths.{InsertsPath};
 
 use crate::identifier::Id16;
 use crate::path::{Path, key_of};
@@ -21,9 +20,9 @@ pub struct SeenPaths {
     /// Whether each vendor was seen; empty before the first.
     pub vendors: Vec<bool>,
     /// The keys of classes and of generic subsystems.
-    pub others: Seen<u128>,
+    pub others: Seen,
     /// The keys of what is below the last vendor or class.
-    pub below: Seen<u128>,
+    pub below: Seen,
 }
 
 // Sets the flag at a place, and answers whether it was not set before.
@@ -69,12 +68,7 @@ impl SeenPaths {
 
     /// One more path, and whether it was not seen before.
     pub fn insert(&mut self, path: Path) -> Result<bool, AllocError>
-        ensures in_range { IsPath path }
-        ensures rising { AreRising self.old → AreRising self.new }
-        ensures added { AreRising self.old
-            → IfOk result (λ added. added ≡ not (has_seen self.old path)) }
-        ensures updates { AreRising self.old → IfOk result (λ added. IsTrue added → (q : Path)
-            → IsPath q → has_seen self.new q ≡ with_path (has_seen self.old) path q) }
+        ensures { InsertsPath path result self.old self.new }
     {
         let key = key_of(path);
         match path {

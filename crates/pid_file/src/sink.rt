@@ -1,7 +1,7 @@
 //! What takes the entries of a text.
 ghost use Rattle.std.specs.Prelude.{◌≡◌, IsTrue, OnOk, IfErr};
 ghost use Rattle.pid_file.specs.Words.{is_name};
-ghost use Rattle.pid_file.specs.Numbered.{as_told};
+ghost use Rattle.pid_file.specs.Numbered.{as_numbered};
 
 use crate::path::Path;
 use crate::refusal::ReadRefusal;
@@ -30,8 +30,8 @@ pub trait Sink {
     /// Takes an entry, or fails with a fault.
     fn entry(&mut self, entry: &Entry<'_>) -> Result<(), Self::Fault>
         requires { IsTrue (is_name entry.now.name.now) }
-        ensures taken { OnOk result (takes self.old (as_told entry.now) self.new) }
-        ensures fault { IfErr result (λ f. faults self.old (as_told entry.now) f self.new) };
+        ensures taken { OnOk result (takes self.old (as_numbered entry.now) self.new) }
+        ensures fault { IfErr result (λ f. faults self.old (as_numbered entry.now) f self.new) };
 }
 
 /// Why no more of a text is read: the text is refused, or the sink faulted.

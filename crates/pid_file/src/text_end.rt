@@ -1,13 +1,14 @@
 //! How the reading of a text ends.
-ghost use Rattle.std.specs.Prelude.{◌≡◌, IfErr, Some};
+ghost use Rattle.std.specs.Prelude.{◌≡◌};
 ghost use Rattle.pid_file.specs.LineKinds.{number_of, word_of};
-ghost use Rattle.pid_file.specs.Sending.{Sends};
-ghost use Rattle.pid_file.specs.TextEnds.{fault_line, line_told, status_of};
+ghost use Rattle.pid_file.specs.TextEnds.{fault_line, line_report, status_of};
+ghost use Rattle.pid_file.specs.Writing.{Writes};
 ghost use Rattle.pid_file.specs.Steps.TextEnds.{end_of as end_made};
 
 use crate::fault_kind::LineKind;
-use crate::io::{Output, WriteFault, write_all, write_parts};
+use crate::io::{Output, WriteFault};
 use crate::refusal::ReadRefusal;
+use crate::writing::{write_all, write_parts};
 use itoa::Buffer;
 
 /// The longest text that is read, in bytes.
@@ -58,8 +59,7 @@ impl TextEnd {
 
     /// Writes the line that reports a fault of the text, or `no memory`. Allocates nothing.
     pub fn report_to<W: Output>(self, out: &mut W) -> Result<(), WriteFault>
-        ensures sent { Sends result (W.taken out.old) (W.taken out.new) (fault_line self) }
-        ensures fault { IfErr result (λ f. W.write_fault out.new ≡ Some f) }
+        ensures { Writes W.Output result out.old out.new (fault_line self) }
     {
         match self {
             TextEnd::Line { line, kind } => report_line(line, kind, out),
@@ -72,9 +72,8 @@ impl TextEnd {
 }
 
 fn report_line<W: Output>(line: usize, kind: LineKind, out: &mut W) -> Result<(), WriteFault>
-    ensures sent { Sends result (W.taken out.old) (W.taken out.new)
-        (line_told line (number_of kind) (word_of kind)) }
-    ensures fault { IfErr result (λ f. W.write_fault out.new ≡ Some f) }
+    ensures { Writes W.Output result out.old out.new
+        (line_report line (number_of kind) (word_of kind)) }
 {
     let mut line_digits = Buffer::new();
     let mut kind_digits = Buffer::new();

@@ -1,17 +1,13 @@
 //! Printing the canonical form of a text.
-ghost use Rattle.std.specs.Prelude.{◌≡◌, ◌⊎◌, ◌↔◌, ℕ, List, IsSome, IfSome, Err};
-ghost use Rattle.pid_file.specs.InputTexts.{ReadsInput, IsUsedUpTo};
-ghost use Rattle.pid_file.specs.Reading.{Reads};
+ghost use Rattle.std.specs.Prelude.{◌≡◌, ◌⊎◌, IsSome, IfSome};
 ghost use Rattle.pid_file.specs.Tidied.{IsTidied, PrintsNothing};
+ghost use Rattle.pid_file.specs.WholeInputs.{LeavesInput};
 
-use crate::counter::Never;
 use crate::input_text::read_input;
 use crate::io::{Input, Output};
 use crate::print::write_canonical;
 use crate::report::report_unread;
 use crate::text_end::{LARGEST, TextEnd};
-use crate::tree::Tree;
-use crate::whole_input::InputEnd;
 use std::alloc::Global;
 use std::mem;
 
@@ -31,35 +27,13 @@ pub fn tidy<I: Input, O: Output, F: Output>(
       faults = F.taken faults.old;
       faults_after = F.taken faults.new;
     })) }
-    ensures read_fault { (result ≡ TextEnd.ReadFault) ↔ IsSome (I.read_fault input.new) }
     ensures write_fault { result ≡ TextEnd.WriteFault
         → IsSome (O.write_fault output.new) ⊎ IsSome (F.write_fault faults.new) }
     ensures nothing_printed { PrintsNothing result (O.taken output.old) (O.taken output.new) }
-    ensures reads { IsUsedUpTo LARGEST (I.goes input.old input.new)
-        (I.to_come input.old) (I.to_come input.new) }
+    ensures leaves { LeavesInput I.Input LARGEST input.old input.new
+        (result ≡ TextEnd.ReadFault) }
 {
     let read = read_input(alloc, LARGEST, input);
-    print_read(read, output, faults)
-}
-
-// Prints the tree that was read, or why there is none.
-fn print_read<O: Output, F: Output>(
-    read: Result<Tree, InputEnd<Never>>,
-    output: &mut O,
-    faults: &mut F,
-) -> TextEnd
-    ensures tidied { (text : List ℕ) → ReadsInput Reads LARGEST read text
-        → IsTidied result text (record {
-          output = O.taken output.old;
-          output_after = O.taken output.new;
-          faults = F.taken faults.old;
-          faults_after = F.taken faults.new;
-        }) }
-    ensures read_fault { (result ≡ TextEnd.ReadFault) ↔ (read ≡ Err InputEnd.ReadFault) }
-    ensures write_fault { result ≡ TextEnd.WriteFault
-        → IsSome (O.write_fault output.new) ⊎ IsSome (F.write_fault faults.new) }
-    ensures nothing_printed { PrintsNothing result (O.taken output.old) (O.taken output.new) }
-{
     match read {
         Ok(tree) => {
             let printed = write_canonical(&tree, output);

@@ -1,9 +1,8 @@
 //! Whether a map holds the parent of each of its paths, found in one pass in order.
-ghost use Rattle.std.specs.Prelude.{◌≡◌, ◌↔◌, false, IsTrue, IfSome, IfNone, IsSomeAnd};
-ghost use Rattle.pid_file.specs.PathTexts.{IsPath, parent_of};
+ghost use Rattle.std.specs.Prelude.{◌≡◌, ◌↔◌, false, IsTrue, IfSome};
 ghost use Rattle.pid_file.specs.Trees.{IsTree};
 ghost use Rattle.pid_file.specs.Items.{tree_of};
-ghost use Rattle.pid_file.specs.Steps.Whole.{AreIn, AreSound, HasItem};
+ghost use Rattle.pid_file.specs.Steps.Whole.{AreIn, AreSound, HasItem, LooksAt};
 
 use crate::name::Name;
 use crate::path::Path;
@@ -36,11 +35,7 @@ impl Above {
     fn with(self, items: &BTreeMap<Path, Name>, path: Path) -> Option<Above>
         requires kept { AreIn items.now.entries self }
         requires there { HasItem items.now.entries path }
-        ensures kept { IfSome result (AreIn items.now.entries) }
-        ensures parent { IfSome result (λ _. IfSome (parent_of path) (HasItem items.now.entries)) }
-        ensures lacking { IfNone result (IsSomeAnd
-            (parent_of path) (λ q. HasItem items.now.entries q → ⊥)) }
-        ensures in_range { IsPath path }
+        ensures { LooksAt items.now.entries path result }
     {
         let Some(parent) = path.parent() else {
             return Some(Above {

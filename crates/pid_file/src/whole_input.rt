@@ -3,8 +3,6 @@ ghost use Rattle.std.specs.Prelude.{
   ◌≡◌,
   ◌↔◌,
   ◌++◌,
-  ◌+◌,
-  ◌≤◌,
   ℕ,
   List,
   [],
@@ -16,14 +14,13 @@ ghost use Rattle.std.specs.Prelude.{
   IfOk,
   IfErr,
   OnOk,
-  length,
 };
 ghost use Rattle.std.specs.Io.KnownBytes.{Consumes};
 ghost use Rattle.pid_file.specs.Lines.{lines_of};
 ghost use Rattle.pid_file.specs.OpenTexts.{IsLeftOpen};
 ghost use Rattle.pid_file.specs.Sinks.{Ends};
 ghost use Rattle.pid_file.specs.WholeLines.{whole_lines};
-ghost use Rattle.pid_file.specs.WholeInputs.{CutsInput};
+ghost use Rattle.pid_file.specs.WholeInputs.{CutsInput, LeavesInput};
 ghost use Rattle.pid_file.specs.Steps.WholeInputs.{FailsPiece, IsNoPiece, IsPiece};
 
 use crate::io::Input;
@@ -146,11 +143,8 @@ where
     K::Fault: Drop,
     ensures read { (text : List ℕ) × Consumes (I.to_come input.old) (I.to_come input.new) text
         × CutsInput K.takes K.faults limit result (I.to_come input.new) text sink.old sink.new }
-    ensures stops { (front : List ℕ) × Consumes (I.to_come input.old) (I.to_come input.new) front
-        × (length front ≤ limit + 1) }
-    ensures fault { result ≡ Err InputEnd.ReadFault → IsSome (I.read_fault input.new) }
-    ensures fault_first { IsSome (I.read_fault input.new) → result ≡ Err InputEnd.ReadFault }
-    ensures goes { I.goes input.old input.new }
+    ensures leaves { LeavesInput I.Input limit input.old input.new
+        (result ≡ Err InputEnd.ReadFault) }
 {
     let mut text = OpenText::new(alloc);
     let mut buffer = [0u8; BUFFER];

@@ -7,6 +7,7 @@ pub use Rattle.pid_file.specs.Words
 pub use Rattle.pid_file.specs.Trees
 pub use Rattle.pid_file.specs.LineKinds
 pub use Rattle.pid_file.specs.Sending
+pub mod CheckedWords
 pub mod Moments
 pub mod Reads
 pub mod Steps

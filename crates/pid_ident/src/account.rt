@@ -1,7 +1,9 @@
 //! Accounts.
-ghost use Rattle.std.specs.Prelude.{◌≡◌, ◌↔◌, false, IsTrue, IfOk, IsErrOf};
+ghost use Rattle.std.specs.Prelude.{◌≡◌, IfOk};
 ghost use Rattle.std.specs.List.{list_all};
 ghost use Rattle.pid_file.specs.Words.{is_account as account_test, is_account_byte as account_byte};
+ghost use Rattle.pid_ident.specs.CheckedWords.{IsWordOf};
+ghost use Rattle.pid_ident.specs.Steps.CheckedWords.{ShowsWord};
 
 use crate::word_fault::WordFault;
 use pid_file::is_empty;
@@ -29,8 +31,7 @@ impl Account {
     /// The text as the name of an account, kept byte for byte; `Bad` exactly when it breaks the
     /// rule.
     pub fn of(alloc: Global, text: &str) -> Result<Account, WordFault>
-        ensures ok { IfOk result (λ word. word ≡ text.now) }
-        ensures bad { IsErrOf result WordFault.Bad ↔ (account_test text.now ≡ false) }
+        ensures { IsWordOf account_test text.now result }
     {
         if !is_account(text) {
             return Err(WordFault::Bad);
@@ -42,8 +43,7 @@ impl Account {
 
     /// The bytes of the text that was checked. They keep the rule of accounts.
     pub fn as_str(&self) -> &str
-        ensures text { result.now ≡ self.now }
-        ensures checked { IsTrue (account_test self.now) }
+        ensures { ShowsWord account_test self.now result.now }
     {
         self.text.as_str()
     }

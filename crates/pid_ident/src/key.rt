@@ -1,7 +1,9 @@
 //! Keys of commands.
-ghost use Rattle.std.specs.Prelude.{◌≡◌, ◌↔◌, false, IsTrue, IfOk, IsErrOf};
+ghost use Rattle.std.specs.Prelude.{◌≡◌, IfOk};
 ghost use Rattle.std.specs.List.{list_all};
 ghost use Rattle.pid_file.specs.Words.{is_key as key_test, is_key_byte as key_byte};
+ghost use Rattle.pid_ident.specs.CheckedWords.{IsWordOf};
+ghost use Rattle.pid_ident.specs.Steps.CheckedWords.{ShowsWord};
 
 use crate::word_fault::WordFault;
 use pid_file::is_empty;
@@ -29,8 +31,7 @@ impl Key {
     /// The text as the key of a command, kept byte for byte; `Bad` exactly when it breaks the
     /// rule.
     pub fn of(alloc: Global, text: &str) -> Result<Key, WordFault>
-        ensures ok { IfOk result (λ word. word ≡ text.now) }
-        ensures bad { IsErrOf result WordFault.Bad ↔ (key_test text.now ≡ false) }
+        ensures { IsWordOf key_test text.now result }
     {
         if !is_key(text) {
             return Err(WordFault::Bad);
@@ -42,8 +43,7 @@ impl Key {
 
     /// The bytes of the text that was checked. They keep the rule of keys.
     pub fn as_str(&self) -> &str
-        ensures text { result.now ≡ self.now }
-        ensures checked { IsTrue (key_test self.now) }
+        ensures { ShowsWord key_test self.now result.now }
     {
         self.text.as_str()
     }

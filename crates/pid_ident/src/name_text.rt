@@ -1,6 +1,7 @@
 //! Names of items as values of a registry.
-ghost use Rattle.std.specs.Prelude.{◌≡◌, ◌↔◌, false, IfOk, IsErrOf};
+ghost use Rattle.std.specs.Prelude.{◌≡◌, IfOk};
 ghost use Rattle.pid_file.specs.Words.{is_name as name_test};
+ghost use Rattle.pid_ident.specs.CheckedWords.{IsWordOf};
 
 use crate::word_fault::WordFault;
 use pid_file::{Name, is_name};
@@ -19,8 +20,7 @@ pub trait NameText: Sized {
 
 impl NameText for Name {
     fn of(alloc: Global, text: &str) -> Result<Name, WordFault>
-        ensures ok { IfOk result (λ word. word ≡ text.now) }
-        ensures bad { IsErrOf result WordFault.Bad ↔ (name_test text.now ≡ false) }
+        ensures { IsWordOf name_test text.now result }
     {
         if !is_name(text) {
             return Err(WordFault::Bad);

@@ -6,7 +6,7 @@ ghost use Rattle.pid_ident.specs.PathReading.{path_of};
 mod parse;
 mod print;
 
-use parse::read_path;
+use parse::{class_path, device_path, generic_path};
 use pid_file::Path;
 use print::{front, push_parts};
 use std::alloc::{AllocError, Global};
@@ -29,7 +29,10 @@ impl PathText for Path {
         ensures none { IfNone result ((p : Path) → IsTextOf text.now p → ⊥) }
         ensures computed { result ≡ path_of text.now }
     {
-        read_path(text.as_bytes())
+        let bytes = text.as_bytes();
+        device_path(bytes)
+            .or(class_path(bytes))
+            .or(generic_path(bytes))
     }
 
     fn path_text(&self, alloc: Global) -> Result<String, AllocError>

@@ -1,6 +1,8 @@
 //! Notes, comments and reasons.
-ghost use Rattle.std.specs.Prelude.{◌≡◌, ◌↔◌, false, IsTrue, IfOk, IsErrOf};
+ghost use Rattle.std.specs.Prelude.{◌≡◌, IfOk};
 ghost use Rattle.pid_file.specs.Words.{is_text as text_test};
+ghost use Rattle.pid_ident.specs.CheckedWords.{IsWordOf};
+ghost use Rattle.pid_ident.specs.Steps.CheckedWords.{ShowsWord};
 
 use crate::word_fault::WordFault;
 use pid_file::are_printed;
@@ -29,8 +31,7 @@ impl Text {
     /// The text as a note, a comment or a reason, kept byte for byte; `Bad` exactly when it breaks
     /// the rule.
     pub fn of(alloc: Global, text: &str) -> Result<Text, WordFault>
-        ensures ok { IfOk result (λ word. word ≡ text.now) }
-        ensures bad { IsErrOf result WordFault.Bad ↔ (text_test text.now ≡ false) }
+        ensures { IsWordOf text_test text.now result }
     {
         if !is_text(text) {
             return Err(WordFault::Bad);
@@ -42,8 +43,7 @@ impl Text {
 
     /// The bytes of the text that was checked. They keep the rule of such texts.
     pub fn as_str(&self) -> &str
-        ensures text { result.now ≡ self.now }
-        ensures checked { IsTrue (text_test self.now) }
+        ensures { ShowsWord text_test self.now result.now }
     {
         self.text.as_str()
     }

@@ -92,7 +92,7 @@ pub fn lookup<N: Names>(
     };
     match flags.request {
         Some(request) => answer_request(alloc, names, request, flags.style, args, size),
-        None => or_memory(told(alloc, b"<pci_lookup_name: invalid request>")),
+        None => or_memory(answer_whole(alloc, b"<pci_lookup_name: invalid request>")),
     }
 }
 
@@ -107,7 +107,7 @@ fn or_memory<F>(answer: Result<Answer, AllocError>) -> Result<Answer, LookupRefu
 }
 
 // A text that is answered whole.
-fn told(alloc: Global, text: &[u8]) -> Result<Answer, AllocError>
+fn answer_whole(alloc: Global, text: &[u8]) -> Result<Answer, AllocError>
     ensures { IfOk result (λ answer. answer ≡ Answer.Text text.now) }
 {
     Ok(Answer::Text(AnswerText::of(Vec::from_slice(alloc, text)?)))

@@ -3,7 +3,7 @@ ghost use Rattle.std.specs.Prelude.{◌≡◌, ◌&&◌, ◌==◌, not, IfOk, Is
 ghost use Rattle.pid_file.specs.declared.path.Path.TheVariants as paths;
 ghost use Rattle.pid_lookup.specs.Found.{own_device, subsystem_name, under_device};
 ghost use Rattle.pid_lookup.specs.Flags.{has_bits};
-ghost use Rattle.pid_lookup.specs.Steps.Asking.{AsksNames, AsksNamesFor};
+ghost use Rattle.pid_lookup.specs.Steps.Asking.{AsksHolder, AsksHolderFor, AsksNamesFor};
 ghost use Rattle.pid_lookup.specs.Steps.FoundTexts.{IsFoundFor, found_one, nameless};
 
 use crate::args::{Args, class_byte, subclass_byte};
@@ -36,9 +36,8 @@ fn one<F>(name: Result<Option<Name>, F>) -> Result<Found, F>
 
 /// The names that a request is about.
 pub fn find<N: Names>(names: &mut N, request: Request, args: &Args) -> Result<Found, N::Fault>
-    ensures asks { AsksNames N.Names names.old names.new result
+    ensures { AsksHolder N.Names names.old names.new result
         (λ named found. IsFoundFor found named request args.now) }
-    ensures told { IfOk result (λ _. N.may_tell names.old) }
 {
     match request {
         Request::Vendor => {
@@ -59,9 +58,8 @@ pub fn find<N: Names>(names: &mut N, request: Request, args: &Args) -> Result<Fo
 }
 
 fn find_device<N: Names>(names: &mut N, args: &Args) -> Result<Option<Name>, N::Fault>
-    ensures asks { AsksNamesFor N.Names names.old names.new result
+    ensures { AsksHolderFor N.Names names.old names.new result
         (λ named. named (paths.Device args.now.vendor args.now.device)) }
-    ensures told { IfOk result (λ _. N.may_tell names.old) }
 {
     names.name_of(&Path::Device {
         vendor: args.vendor,
@@ -70,9 +68,8 @@ fn find_device<N: Names>(names: &mut N, args: &Args) -> Result<Option<Name>, N::
 }
 
 fn find_device_pair<N: Names>(names: &mut N, args: &Args) -> Result<Found, N::Fault>
-    ensures asks { AsksNames N.Names names.old names.new result
+    ensures { AsksHolder N.Names names.old names.new result
         (λ named found. IsFoundFor found named Request.VendorAndDevice args.now) }
-    ensures told { IfOk result (λ _. N.may_tell names.old) }
 {
     let vendor = args.vendor;
     let vendor = names.name_of(&Path::Vendor { vendor })?;
@@ -81,9 +78,8 @@ fn find_device_pair<N: Names>(names: &mut N, args: &Args) -> Result<Found, N::Fa
 }
 
 fn find_subsystem_pair<N: Names>(names: &mut N, args: &Args) -> Result<Found, N::Fault>
-    ensures asks { AsksNames N.Names names.old names.new result
+    ensures { AsksHolder N.Names names.old names.new result
         (λ named found. IsFoundFor found named Request.SubvendorAndSubsystem args.now) }
-    ensures told { IfOk result (λ _. N.may_tell names.old) }
 {
     let vendor = args.subvendor;
     let vendor = names.name_of(&Path::Vendor { vendor })?;
@@ -92,9 +88,8 @@ fn find_subsystem_pair<N: Names>(names: &mut N, args: &Args) -> Result<Found, N:
 }
 
 fn find_subsystem<N: Names>(names: &mut N, args: &Args) -> Result<Option<Name>, N::Fault>
-    ensures asks { AsksNamesFor N.Names names.old names.new result
+    ensures { AsksHolderFor N.Names names.old names.new result
         (λ named. subsystem_name named args.now) }
-    ensures told { IfOk result (λ _. N.may_tell names.old) }
 {
     if let Some(name) = find_under_device(names, args)? {
         return Ok(Some(name));
@@ -116,7 +111,7 @@ fn find_subsystem<N: Names>(names: &mut N, args: &Args) -> Result<Option<Name>, 
 fn find_under_device<N: Names>(names: &mut N, args: &Args) -> Result<Option<Name>, N::Fault>
     ensures asks { AsksNamesFor N.Names names.old names.new result
         (λ named. under_device named args.now) }
-    ensures told { IfOk result (λ name. IsSome name → N.may_tell names.old) }
+    ensures allowed { IfOk result (λ name. IsSome name → N.may_tell names.old) }
 {
     if args.vendor == 0 || args.device == 0 {
         return Ok(None);
@@ -130,9 +125,8 @@ fn find_under_device<N: Names>(names: &mut N, args: &Args) -> Result<Option<Name
 }
 
 fn find_class<N: Names>(names: &mut N, args: &Args) -> Result<Found, N::Fault>
-    ensures asks { AsksNames N.Names names.old names.new result
+    ensures { AsksHolder N.Names names.old names.new result
         (λ named found. IsFoundFor found named Request.Class args.now) }
-    ensures told { IfOk result (λ _. N.may_tell names.old) }
 {
     let class = class_byte(args);
     let subclass = subclass_byte(args);
@@ -146,9 +140,8 @@ fn find_class<N: Names>(names: &mut N, args: &Args) -> Result<Found, N::Fault>
 }
 
 fn find_progif<N: Names>(names: &mut N, args: &Args) -> Result<Found, N::Fault>
-    ensures asks { AsksNames N.Names names.old names.new result
+    ensures { AsksHolder N.Names names.old names.new result
         (λ named found. IsFoundFor found named Request.ProgIf args.now) }
-    ensures told { IfOk result (λ _. N.may_tell names.old) }
 {
     let path = Path::ProgIf {
         class: class_byte(args),

@@ -1,8 +1,9 @@
 //! A look-up in the text of an input.
-ghost use Rattle.std.specs.Prelude.{◌≡◌, ◌↔◌, true, IfSome, IfOk, IsErrOf};
+ghost use Rattle.std.specs.Prelude.{◌≡◌, ◌↔◌, true, Err, IfSome, IfOk, IsErrOf};
 ghost use Rattle.pid_lookup.specs.Flags.{is_bad};
 ghost use Rattle.pid_file.specs.InputTexts.{ReadsInput};
-ghost use Rattle.pid_lookup.specs.InText.{IsAnswerOfText, LeavesInput};
+ghost use Rattle.pid_file.specs.WholeInputs.{LeavesInput};
+ghost use Rattle.pid_lookup.specs.InText.{IsAnswerOfText};
 
 use crate::answer::Answer;
 use crate::answering::{LookupRefusal, lookup};
@@ -27,7 +28,8 @@ pub fn lookup_in<I: Input>(
         (λ text. ReadsInput (IsAnswerOfText flags args.now size) limit result text) }
     ensures bad_flags { IfOk result (λ found. IsErrOf found LookupRefusal.BadFlags
         ↔ (is_bad flags ≡ true)) }
-    ensures leaves { LeavesInput I.Input limit input.old input.new result }
+    ensures leaves { LeavesInput I.Input limit input.old input.new
+        (result ≡ Err InputEnd.ReadFault) }
 {
     laws::other_names_do_not_matter(); // proof only
     match names_in(alloc, limit, args, input) {

@@ -1,8 +1,8 @@
 //! The names of an input's text.
-ghost use Rattle.std.specs.Prelude.{IfSome, IfOk};
+ghost use Rattle.std.specs.Prelude.{◌≡◌, Err, IfSome, IfOk};
 ghost use Rattle.pid_file.specs.InputTexts.{ReadsInput};
+ghost use Rattle.pid_file.specs.WholeInputs.{LeavesInput};
 ghost use Rattle.pid_lookup.specs.Steps.AskedNames.{HasAsked, HasOnly, asked_paths};
-ghost use Rattle.pid_lookup.specs.InText.{LeavesInput};
 ghost use Rattle.pid_lookup.specs.Steps.Kept.{kept_map};
 
 use crate::args::Args;
@@ -23,7 +23,8 @@ pub fn names_in<I: Input>(
     ensures names { IfSome (I.to_come input.old)
         (λ text. ReadsInput (HasAsked args.now) limit result text) }
     ensures no_others { IfOk result (λ names. HasOnly (asked_paths args.now) (kept_map names)) }
-    ensures leaves { LeavesInput I.Input limit input.old input.new result }
+    ensures leaves { LeavesInput I.Input limit input.old input.new
+        (result ≡ Err InputEnd.ReadFault) }
 {
     let mut names = AskedNames::new(alloc, args);
     match cut_input(alloc, limit, input, &mut names) {

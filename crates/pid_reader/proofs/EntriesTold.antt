@@ -7,7 +7,7 @@ use Rattle.pid_ident.specs.PathReading.{parent_text}
 use Rattle.pid_file.specs.Trees.{text_cmp}
 use Rattle.pid_file.specs.Words.{is_name}
 use Rattle.pid_file.specs.Lines.{lines_of}
-use Rattle.pid_file.specs.LookingBack.{Item, entries_back, is_entry, path_at, name_at, is_told}
+use Rattle.pid_file.specs.LookingBack.{Item, entries_back, is_entry, path_at, name_at, is_known_path}
 use Rattle.pid_file.specs.Reading.{AreGood, history_of, refused, entries_of}
 use Rattle.pid_file.specs.Entries.{AreEntries}
 use Rattle.pid_reader.proofs.Clean.{clean}
@@ -26,7 +26,7 @@ entries : (lines : List (List ℕ)) → AreGood lines → AreEntries (entries_ba
 entries [] good = tt
 entries (line ∷ before) good =
     let c = clean before line good.0 in
-    elim (is_entry before line) as (λ b. is_entry before line ≡ b → (b && is_told before (path_at before line)) ≡ false → AreEntries (cond b (one (path_at before line) (name_at before line)) [] ++ entries_back before)) [
+    elim (is_entry before line) as (λ b. is_entry before line ≡ b → (b && is_known_path before (path_at before line)) ≡ false → AreEntries (cond b (one (path_at before line) (name_at before line)) [] ++ entries_back before)) [
       | true ↦ λ e new.
           let k = kept before line good.1 good.0 e in
           let named : is_name (name_at before line) ≡ true = name_test _ (rw e at c.name) in (

@@ -25,7 +25,7 @@ next_lines : (text piece rest line : List ℕ) → pieces_of text ≡ piece ∷ 
 next_lines text piece rest line parts is = ap (map drop_cr) parts ∙ ap (λ (l : List ℕ). l ∷ lines_of rest) (sym is)
 
 stands_on : (l m : Lines) (earlier : List (List ℕ)) (line : List ℕ) (s : LineContent) → StandsAfter l earlier → Says l.levels earlier line s → m.levels ≡ open_after l.levels s → m.number ≡ l.number + 1 → StandsAfter m (line ∷ earlier)
-stands_on l m earlier line s at says levels number = record { levels = rw levels says.behind; number = omega (arith, at.number, number) }
+stands_on l m earlier line s at says levels number = record { levels = rw levels says.after; number = omega (arith, at.number, number) }
 
 -- a line that is no entry
 pub left_quiet : (l m : Lines) (items : List (Result Numbered LineFault)) (piece line : List ℕ) (s : LineContent) → HasLeft l items → pieces_of l.rest.now ≡ piece ∷ pieces_of m.rest.now → line ≡ drop_cr piece → ((earlier : List (List ℕ)) → IsOpenAt l.levels earlier → Says l.levels earlier line s) → items_of s ≡ [] → m.levels ≡ open_after l.levels s → m.number ≡ l.number + 1 → HasLeft m items
@@ -43,7 +43,7 @@ left_entry l m items piece line s e n left parts is says one levels number n_is 
     let behind = told_from (line ∷ earlier) (lines_of m.rest.now) in
     let count : length earlier + 1 ≡ n = omega (arith, left.stands.number, n_is) in
     let step : told_from earlier (lines_of l.rest.now) ≡ as_ok (n, e) ∷ behind = ap (told_from earlier) (next_lines l.rest.now piece m.rest.now line parts is) ∙ told_step earlier line (lines_of m.rest.now) here.good ∙ (λ i. map as_ok (map (at_line (count i)) ((sym here.entry ∙ one) i)) ++ behind) in
-    record { behind = behind; are = left.are ∙ step; left = record { earlier = line ∷ earlier; stands = stands_on l m earlier line s left.stands here levels number; are = refl } }
+    record { after = behind; are = left.are ∙ step; left = record { earlier = line ∷ earlier; stands = stands_on l m earlier line s left.stands here levels number; are = refl } }
 
 -- a fault
 pub left_fault : (l m : Lines) (items : List (Result Numbered LineFault)) (piece rest line : List ℕ) (k : LineKind) (n : ℕ) → HasLeft l items → pieces_of l.rest.now ≡ piece ∷ pieces_of rest → line ≡ drop_cr piece → ((earlier : List (List ℕ)) → IsOpenAt l.levels earlier → line_fault_of earlier line ≡ Some k) → m.rest.now ≡ [] → m.levels ≡ l.levels → m.number ≡ l.number → n ≡ l.number + 1 → GivesFirst items (Err (record { line = n; kind = k })) m
@@ -52,7 +52,7 @@ left_fault l m items piece rest line k n left parts is fault none levels number 
     let count : length earlier + 1 ≡ n = omega (arith, left.stands.number, n_is) in
     let fault_at : ℕ → Result Numbered LineFault = λ c. Err (record { line = c; kind = k }) in
     let step : told_from earlier (lines_of l.rest.now) ≡ fault_at n ∷ [] = ap (told_from earlier) (next_lines l.rest.now piece rest line parts is) ∙ told_stop earlier line (lines_of rest) k (fault earlier left.stands.levels) ∙ ap (λ c. fault_at c ∷ []) count in
-    record { behind = []; are = left.are ∙ step; left = record { earlier = earlier; stands = record { levels = rw levels left.stands.levels; number = number ∙ left.stands.number }; are = ap (λ (t : List ℕ). told_from earlier (lines_of t)) (sym none) } }
+    record { after = []; are = left.are ∙ step; left = record { earlier = earlier; stands = record { levels = rw levels left.stands.levels; number = number ∙ left.stands.number }; are = ap (λ (t : List ℕ). told_from earlier (lines_of t)) (sym none) } }
 
 -- the end
 pub left_none : (l : Lines) (items : List (Result Numbered LineFault)) → HasLeft l items → l.rest.now ≡ [] → IsAtEnd items l

@@ -12,7 +12,7 @@ use Rattle.pid_file.specs.declared.line.Mark.TheVariants.{Devices, Classes, Gene
 use Rattle.pid_file.specs.Marks.{depth, mark, is_unknown, is_generics, inside}
 use Rattle.pid_file.specs.Levels.{front, levels, widths}
 use Rattle.pid_file.specs.Columns.{begins_with_ids, digits_in}
-use Rattle.pid_file.specs.LookingBack.{above, mark_at, parent_line, is_block, is_entry, widths_at, digits_at, name_at, head_path, path_at, entries_back, is_told}
+use Rattle.pid_file.specs.LookingBack.{above, mark_at, parent_line, is_block, is_entry, widths_at, digits_at, name_at, head_path, path_at, entries_back, is_known_path}
 use Rattle.pid_file.specs.Faults.{fault_of}
 use Rattle.pid_file.specs.Trees.{text_cmp}
 use Rattle.pid_reader.proofs.Cells.{AreDigits, hex4_is}
@@ -102,7 +102,7 @@ long_name n h = (name_parts n h).some
 -- a line that says a new item has no fault
 pub no_fault : (earlier : List (List ℕ)) (line path name : List ℕ) → Says earlier line path name → value_at text_cmp path (entries_back earlier) ≡ None → fault_of earlier line ≡ None
 no_fault earlier line path name s new =
-    let fresh : is_told earlier (path_at earlier line) ≡ false = rw (s.path_is, new) refl in
+    let fresh : is_known_path earlier (path_at earlier line) ≡ false = rw (s.path_is, new) refl in
     rw (fresh, s.utf8, s.entry, s.shallow, s.parent, s.no_block, s.ids, s.name_is, s.named, long_name name s.named) refl
 
 -- one more item is told
@@ -123,7 +123,7 @@ block_cells : (earlier : List (List ℕ)) (a b c d : ℕ) → AreDigits a b c d 
 block_cells earlier a b c d x there =
     let line = codes "S " ++ a ∷ b ∷ c ∷ d ∷ [] in
     let utf8 : is_utf8 line ≡ true = is_utf8-from_IsUtf8 line (utf8_cons 83 _ (omega arith) (utf8_cons 32 _ (omega arith) (utf8_cons a _ x.a_is.ascii (utf8_cons b _ x.b_is.ascii (utf8_cons c _ x.c_is.ascii (utf8_cons d _ x.d_is.ascii (IsUtf8-from_ascii [] (λ i. omega arith)))))))) in
-    let told : is_told earlier (codes "PC/" ++ digits_at earlier line) ≡ true = rw (x.a_is.lower, x.b_is.lower, x.c_is.lower, x.d_is.lower) there in
+    let told : is_known_path earlier (codes "PC/" ++ digits_at earlier line) ≡ true = rw (x.a_is.lower, x.b_is.lower, x.c_is.lower, x.d_is.lower) there in
     record {
       entries = refl;
       good = rw (told, utf8, x.a_is.hex, x.b_is.hex, x.c_is.hex, x.d_is.hex) refl;

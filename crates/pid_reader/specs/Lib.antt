@@ -11,7 +11,7 @@ pub use Rattle.pid_file.specs.Steps.EntryLines
 pub use Rattle.pid_file.specs.OpenLevels
 pub use Rattle.pid_file.specs.WholeLines
 pub use Rattle.pid_file.specs.Refusals
-pub use Rattle.pid_file.specs.Progress
+pub use Rattle.pid_file.specs.LinesRead
 pub use Rattle.pid_file.specs.SeenItems
 pub use Rattle.pid_file.specs.Sinks
 pub mod Cutters

@@ -6,7 +6,7 @@ use Rattle.pid_reader.specs.declared.line_fault.LineFault.{LineFault}
 use Rattle.pid_file.specs.declared.sink.Entry.{Entry}
 use Rattle.pid_reader.specs.declared.lines.Lines.{Lines}
 use Rattle.pid_file.specs.Lines.{lines_of}
-use Rattle.pid_file.specs.Numbered.{Numbered, as_told, numbered_at}
+use Rattle.pid_file.specs.Numbered.{Numbered, as_numbered, numbered_at}
 use Rattle.pid_file.specs.Faults.{line_fault_of}
 use Rattle.pid_file.specs.OpenLevels.{IsOpenAt}
 
@@ -16,9 +16,9 @@ as_ok entry = Ok entry
 -- what a line with this fault or none says: its fault, or its entry
 abbrev pub told_at : List (List ℕ) → List ℕ → Option LineKind → List (Result Numbered LineFault)
     → List (Result Numbered LineFault)
-told_at earlier line (Some kind) behind = Err (record { line = length earlier + 1; kind = kind })
+told_at earlier line (Some kind) after = Err (record { line = length earlier + 1; kind = kind })
     ∷ []
-told_at earlier line None behind = map as_ok (numbered_at earlier line) ++ behind
+told_at earlier line None after = map as_ok (numbered_at earlier line) ++ after
 
 -- what is said from some line on, with the lines before it, the nearest first
 abbrev pub told_from : List (List ℕ) → List (List ℕ) → List (Result Numbered LineFault)
@@ -38,7 +38,7 @@ pub record HasLeft (l : Lines) (items : List (Result Numbered LineFault)) : Type
   pub are : items ≡ told_from earlier (lines_of l.rest.now)
 
 abbrev pub item_told : Result Entry LineFault → Result Numbered LineFault
-item_told (Ok e) = Ok (as_told e)
+item_told (Ok e) = Ok (as_numbered e)
 item_told (Err f) = Err f
 
 -- nothing is left of these, now or later
@@ -49,9 +49,9 @@ pub record IsAtEnd (items : List (Result Numbered LineFault)) (new : Lines) : Ty
 -- the first of these was given, and the others are left
 pub record GivesFirst (items : List (Result Numbered LineFault)) (first : Result Numbered LineFault)
     (new : Lines) : Type 0 where
-  pub behind : List (Result Numbered LineFault)
-  pub are : items ≡ first ∷ behind
-  pub left : HasLeft new behind
+  pub after : List (Result Numbered LineFault)
+  pub are : items ≡ first ∷ after
+  pub left : HasLeft new after
 
 -- one call: the first of what is left is given, or nothing is left now or later
 abbrev pub Gives : Lines → Option (Result Entry LineFault) → Lines → Type 0

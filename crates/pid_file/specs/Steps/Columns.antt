@@ -14,11 +14,11 @@ pub record SaysNumber (width bound : ℕ) (say : ℕ → List ℕ) (bytes : List
   pub small : number < bound
   pub digits : are_digits width bytes ≡ true
   pub says : map to_ascii_lowercase (take width bytes) ≡ say number
-  pub behind : rest ≡ drop width bytes
+  pub after : rest ≡ drop width bytes
 
 -- the same, with a blank after the digits, which is not part of the rest
 pub record IsId (width bound : ℕ) (say : ℕ → List ℕ) (bytes : List ℕ) (number : ℕ) (rest : List ℕ) : Type 0 where
   pub small : number < bound
   pub begins : begins_with_id width bytes ≡ true
   pub says : map to_ascii_lowercase (take width bytes) ≡ say number
-  pub behind : rest ≡ drop (suc width) bytes
+  pub after : rest ≡ drop (suc width) bytes

@@ -73,4 +73,4 @@ pub record AreIds (place : EntryKind) (bytes : List ℕ) (first second : ℕ) (r
   pub small : first < bound_of place
   pub begins : begins_with_ids (widths_of place) bytes ≡ true
   pub says : digits_in (widths_of place) bytes ≡ digits_of place first second
-  pub behind : name_in (widths_of place) bytes ≡ trim_blanks rest
+  pub after : name_in (widths_of place) bytes ≡ trim_blanks rest

@@ -1,6 +1,6 @@
 -- Steps of OpenLevels.
 use Rattle.std.specs.Prelude.{ℕ, ◌==◌, if◌then◌else◌}
-use Rattle.std.specs.Prelude.{Option, Some, None, Result, Ok, Err}
+use Rattle.std.specs.Prelude.{Option, Some, None, Result, Ok, Err, MatchResult}
 use Rattle.pid_file.specs.declared.fault_kind.LineKind.{LineKind}
 use Rattle.pid_file.specs.declared.fault_kind.LineKind.TheVariants.{TooDeep, NoParent}
 use Rattle.pid_file.specs.declared.entry_line.EntryKind.{EntryKind}
@@ -11,11 +11,9 @@ use Rattle.pid_file.specs.declared.open_levels.OpenLevels.TheVariants.{Device, C
 use Rattle.pid_file.specs.declared.open_levels.OpenLevels.TheVariants.{Generics}
 use Rattle.pid_file.specs.Marks.{depth}
 use Rattle.std.specs.Prelude.{◌≡◌, true, false, List, [], ◌∷◌}
-use Rattle.std.specs.Prelude.{IsTrue}
 use Rattle.pid_file.specs.declared.path.Path.{Path}
 use Rattle.pid_file.specs.Identifiers.{hex4}
 use Rattle.pid_file.specs.PathTexts.{path_text}
-use Rattle.pid_file.specs.Words.{is_name}
 use Rattle.pid_file.specs.declared.open_levels.LineContent.{LineContent}
 use Rattle.pid_file.specs.Marks.{inside}
 use Rattle.pid_file.specs.Columns.{digits_in}
@@ -65,13 +63,6 @@ items_of said.Unknown = []
 items_of (said.Block v) = []
 items_of (said.Entry e) = (path_text e.path, e.name.now) ∷ []
 
--- the name of what is said is one
-abbrev pub IsNamed : LineContent → Type 0
-IsNamed said.Nothing = Unit {0}
-IsNamed said.Unknown = Unit {0}
-IsNamed (said.Block v) = Unit {0}
-IsNamed (said.Entry e) = IsTrue (is_name e.name.now)
-
 -- whether a line is the line of a block, and of which vendor
 abbrev pub IsBlockOf : LineContent → List ℕ → Type 0
 IsBlockOf said.Nothing line = is_block line ≡ false
@@ -102,4 +93,9 @@ pub record Says (at : OpenLevels) (earlier : List (List ℕ)) (line : List ℕ)
   pub good : line_fault_of earlier line ≡ None
   pub entry : items_of s ≡ entry_of earlier line
   pub block : IsBlockOf s line
-  pub behind : IsOpenAt (open_after at s) (line ∷ earlier)
+  pub after : IsOpenAt (open_after at s) (line ∷ earlier)
+
+-- what a line says is read, or what is wrong with it by its own bytes and the open levels
+abbrev pub ReadsLine : OpenLevels → List (List ℕ) → List ℕ → Result LineContent LineKind → Type 0
+ReadsLine at earlier line result = MatchResult result (Says at earlier line)
+    (λ kind. line_fault_of earlier line ≡ Some kind)

@@ -1,7 +1,8 @@
 -- What orders paths without their texts: the letter, and then the numbers; and numbers that are
 -- ordered so.
-use Rattle.std.specs.Prelude.{ℕ, ◌+◌, ◌*◌, List, [], ◌∷◌}
+use Rattle.std.specs.Prelude.{◌≡◌, ℕ, ◌+◌, ◌*◌, List, [], ◌∷◌}
 use Rattle.pid_file.specs.declared.path.Path.{Path}
+use Rattle.pid_file.specs.PathTexts.{IsPath}
 use Rattle.pid_file.specs.declared.path.Path.TheVariants.{Vendor, Device, Subsystem, Class, Subclass, ProgIf, Generic}
 
 abbrev pub letter_of : Path → ℕ
@@ -46,3 +47,8 @@ path_rest (Generic v d) = (d + 1) * 17179869184
 -- the whole path as one number
 abbrev pub path_key : Path → ℕ
 path_key path = path_head path * 18446744073709551616 + path_rest path
+
+-- the path is in range, and the number is what a path has so
+pub record IsNumberOf (number_of : Path → ℕ) (path : Path) (number : ℕ) : Type 0 where
+  pub in_range : IsPath path
+  pub is : number ≡ number_of path

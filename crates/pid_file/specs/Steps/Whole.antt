@@ -1,5 +1,5 @@
 -- Whether the items of a map make a tree, found item by item.
-use Rattle.std.specs.Prelude.{ℕ, List, [], ◌∷◌, IsSome, IfSome, IsTrue}
+use Rattle.std.specs.Prelude.{ℕ, List, [], ◌∷◌, Option, IsSome, IfSome, IfNone, IsSomeAnd, IsTrue}
 use Rattle.std.specs.Ordering.{is_eq}
 use Rattle.std.specs.Map.{lookup}
 use Rattle.pid_file.specs.declared.path.Path.{Path}
@@ -16,6 +16,14 @@ HasItem es q = IsSome (lookup (λ k. is_eq (path_cmp q k)) es)
 pub record AreIn (es : List (Path × List ℕ)) (a : Above) : Type 0 where
   pub head : IfSome a.head (HasItem es)
   pub below : IfSome a.below (HasItem es)
+
+-- the parent of a path of the list, if it has one, is there too, and what is kept after it; or it is
+-- not there
+pub record LooksAt (es : List (Path × List ℕ)) (path : Path) (next : Option Above) : Type 0 where
+  pub in_range : IsPath path
+  pub kept : IfSome next (AreIn es)
+  pub parent : IfSome next (λ _. IfSome (parent_of path) (HasItem es))
+  pub lacking : IfNone next (IsSomeAnd (parent_of path) (λ q. HasItem es q → ⊥))
 
 -- an item whose path is in range, whose name keeps the rule of names, and whose parent is in the
 -- list

@@ -11,17 +11,16 @@ ghost use Rattle.std.specs.Cmp.{
 ghost use Rattle.std.specs.Cmp.Lexicographic.{nat_list_cmp_total};
 ghost use Rattle.std.specs.Cmp.Rules.{comparing};
 ghost use Rattle.std.proofs.Common.{refl, rules};
-ghost use Rattle.pid_file.specs.PathTexts.{IsPath, path_text};
+ghost use Rattle.pid_file.specs.PathTexts.{path_text};
 ghost use Rattle.pid_file.specs.Steps.Paths.{path_cmp};
-ghost use Rattle.pid_file.specs.Steps.PathPlaces.{path_head, path_rest, path_key};
+ghost use Rattle.pid_file.specs.Steps.PathPlaces.{IsNumberOf, path_head, path_rest, path_key};
 
 use super::Path;
 use std::cmp::Ordering;
 
 // The letter and the first number: most paths differ there.
 fn head_of(path: Path) -> u64
-    ensures head { result ≡ path_head path }
-    ensures in_range { IsPath path }
+    ensures { IsNumberOf path_head path result }
 {
     match path {
         Path::Vendor { vendor } | Path::Device { vendor, .. } | Path::Subsystem { vendor, .. } => {
@@ -64,8 +63,7 @@ fn rest_of(path: Path) -> u64
 
 /// A number for each path, ordered as the paths are.
 pub(crate) fn key_of(path: Path) -> u128
-    ensures key { result ≡ path_key path }
-    ensures in_range { IsPath path }
+    ensures { IsNumberOf path_key path result }
 {
     head_of(path) as u128 * 18_446_744_073_709_551_616 + rest_of(path) as u128
 }

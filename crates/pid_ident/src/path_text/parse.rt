@@ -1,7 +1,6 @@
 //! The path of a text.
 ghost use Rattle.std.specs.Prelude.{◌≡◌, ◌+◌, ◌^◌, ◌<◌};
 ghost use Rattle.pid_ident.specs.PathReading.{
-  path_of,
   digit_at as value_at,
   two_at as two_digits_at,
   four_at as four_digits_at,
@@ -16,16 +15,8 @@ ghost use Rattle.pid_ident.specs.Steps.Shapes.{
 
 use pid_file::{Id8, Id16, Path};
 
-/// The path whose text it is.
-pub fn read_path(text: &[u8]) -> Option<Path>
-    ensures { result ≡ path_of text.now }
-{
-    device_path(text)
-        .or(class_path(text))
-        .or(generic_path(text))
-}
-
-fn device_path(text: &[u8]) -> Option<Path>
+/// The path of a vendor or of what is below one whose text it is.
+pub fn device_path(text: &[u8]) -> Option<Path>
     ensures { result ≡ device_of text.now }
 {
     if has_shape(text, b"PC/####") {
@@ -50,7 +41,8 @@ fn device_path(text: &[u8]) -> Option<Path>
     None
 }
 
-fn class_path(text: &[u8]) -> Option<Path>
+/// The path of a class or of what is below one whose text it is.
+pub fn class_path(text: &[u8]) -> Option<Path>
     ensures { result ≡ class_of text.now }
 {
     if has_shape(text, b"PD/##") {
@@ -74,7 +66,8 @@ fn class_path(text: &[u8]) -> Option<Path>
     None
 }
 
-fn generic_path(text: &[u8]) -> Option<Path>
+/// The path of a generic subsystem whose text it is.
+pub fn generic_path(text: &[u8]) -> Option<Path>
     ensures { result ≡ generic_of text.now }
 {
     if has_shape(text, b"PS/####/####") {

@@ -23,3 +23,14 @@ module _ {X F : Type 0} (names : Ghosts X F) where
       → ((Path → Option (List ℕ)) → A) → Type 0
   AsksNamesFor old new result wanted =
       AsksNames old new result (λ named answer. answer ≡ wanted named)
+
+  -- the same, and it comes to an answer only if the holder may answer
+  pub record AsksHolder {A : Type 0} (old new : X) (result : Result A F)
+      (Says : (Path → Option (List ℕ)) → A → Type 0) : Type 0 where
+    pub asks : AsksNames old new result Says
+    pub allowed : IfOk result (λ _. names.may_tell old)
+
+  abbrev pub AsksHolderFor : {A : Type 0} → X → X → Result A F
+      → ((Path → Option (List ℕ)) → A) → Type 0
+  AsksHolderFor old new result wanted =
+      AsksHolder old new result (λ named answer. answer ≡ wanted named)

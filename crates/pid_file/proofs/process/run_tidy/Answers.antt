@@ -3,7 +3,7 @@ use Rattle.std.specs.Io.Buffered.{writer_contents}
 use Rattle.pid_file.specs.ExitStatuses.{GotTidied}
 use Rattle.pid_file.specs.TextEnds.{status_of}
 use Rattle.pid_file.specs.Tidied.{IsTidied, Writers}
-use Rattle.pid_file.proofs.Flushed.{all_some, failed_status, got_nothing, got_same, got_tidied, map_some, through}
+use Rattle.pid_file.proofs.Flushed.{all_some, got_nothing, got_same, got_tidied, map_some, through}
 use Rattle.pid_file.proofs.process.run_tidy.Goals as goal
 use Rattle.pid_file.proofs.process.run_tidy.Goals.{in-Ok-flush, in-Err}
 
@@ -37,9 +37,6 @@ returns-clause-wrote g c =
 
 pub returns-clause-handed_back : goal.returns-clause-handed_back
 returns-clause-handed_back g c _ = refl
-
-pub returns-in_default-clause-status : goal.returns-in_default-clause-status
-returns-in_default-clause-status g c = all_some (g.I.Read.remaining c.args.input) (λ text. failed_status text c.report_text_end-status.result c.report_text_end-status.ensures.status)
 
 pub returns-in_default-clause-wrote : goal.returns-in_default-clause-wrote
 returns-in_default-clause-wrote g c = all_some (g.I.Read.remaining c.args.input) (λ text. got_nothing text c.report_text_end-status.result _ c.report_text_end-status.ensures.status)

@@ -9,23 +9,6 @@ use Rattle.pid_file.proofs.whole_input.cut_input.Goals as goal
 pub loop-outcome-init : goal.loop-outcome-init
 loop-outcome-init g c = ([], starts_read _ c.args.limit, record { holds = c.new-text.ensures; ends = (refl, refl) }, g.met.I.Input.stays _)
 
-pub returns-in_err-piece-clause-read : goal.returns-in_err-piece-clause-read
-returns-in_err-piece-clause-read g c =
-    let front = c.loop-outcome.invariant.0 in
-    let read = c.loop-outcome.invariant.1 in
-    let fed = c.loop-outcome.invariant.2 in
-    let p = err_from_is_err_and c.from_residual.result c.from_residual.ensures.1 in
-    let ends = ends_read _ _ _ _ _ front c.in_err-piece.field-0.0 read c.in_err-piece.ensures.failed in
-    let took = given_up g.K.Sink.takes g.K.Sink.faults c.loop-outcome.outcome c.args.sink.now c.loop-outcome.sink front ends.more fed.ends in
-    (front ++ ends.more, ends.consumed, rw p.1 (rw p.2 (cuts_by g.K.Sink.takes g.K.Sink.faults c.args.limit c.in_err-piece.field-0.0 _ _ c.args.sink.now c.loop-outcome.sink ends.skips took)))
-
-pub returns-in_err-piece-clause-stops : goal.returns-in_err-piece-clause-stops
-returns-in_err-piece-clause-stops g c =
-    let front = c.loop-outcome.invariant.0 in
-    let read = c.loop-outcome.invariant.1 in
-    let ends = ends_read _ _ _ _ _ front c.in_err-piece.field-0.0 read c.in_err-piece.ensures.failed in
-    (front ++ ends.more, ends.consumed, ends.short)
-
 pub loop-outcome-preserved : goal.loop-outcome-preserved
 loop-outcome-preserved g c =
     let front = c.loop-outcome.invariant.0 in
@@ -38,51 +21,51 @@ loop-outcome-preserved g c =
       g.met.I.Input.joins _ _ _ c.loop-outcome.invariant.3 c.in_ok-piece.ensures.goes,
     )
 
-pub returns-in_err-piece-clause-goes : goal.returns-in_err-piece-clause-goes
-returns-in_err-piece-clause-goes g c = g.met.I.Input.joins _ _ _ c.loop-outcome.invariant.3 c.in_err-piece.ensures.goes
-
-pub returns-in_err-piece-clause-fault : goal.returns-in_err-piece-clause-fault
-returns-in_err-piece-clause-fault g c faulted =
-    let p = err_from_is_err_and c.from_residual.result c.from_residual.ensures.1 in
-    c.in_err-piece.ensures.fault.0 (ap (λ (s : SkipEnd). Err s) (fault_cause c.from_residual.result c.in_err-piece.field-0.0 (p.1 ∙ ap (λ y. Err y) p.2) faulted))
-
-pub returns-in_err-piece-clause-fault_first : goal.returns-in_err-piece-clause-fault_first
-returns-in_err-piece-clause-fault_first g c some =
-    let p = err_from_is_err_and c.from_residual.result c.from_residual.ensures.1 in
-    cause_fault c.from_residual.result c.in_err-piece.field-0.0 (p.1 ∙ ap (λ y. Err y) p.2) (same_end _ c.in_err-piece.field-0.0 refl (c.in_err-piece.ensures.fault.1 some))
-
-pub returns-in-Ok-clause-read : goal.returns-in-Ok-clause-read
-returns-in-Ok-clause-read g c =
+pub returns-in_err-piece : goal.returns-in_err-piece
+returns-in_err-piece g c =
+    let front = c.loop-outcome.invariant.0 in
+    let read = c.loop-outcome.invariant.1 in
     let fed = c.loop-outcome.invariant.2 in
-    let all = whole_read _ _ _ _ _ c.loop-outcome.invariant.0 c.loop-outcome.invariant.1 (c.in_ok-piece.ensures.end (ap (λ o. Ok o) c.in_default.is)) in (c.loop-outcome.invariant.0, all.consumed, (all.whole, c.in-Ok.ensures.ends c.loop-outcome.invariant.0 c.args.sink.now fed.holds fed.ends))
+    let p = err_from_is_err_and c.from_residual.result c.from_residual.ensures.1 in
+    let is = p.1 ∙ ap (λ y. Err y) p.2 in
+    let ends = ends_read _ _ _ _ _ front c.in_err-piece.field-0.0 read c.in_err-piece.ensures.failed in
+    let took = given_up g.K.Sink.takes g.K.Sink.faults c.loop-outcome.outcome c.args.sink.now c.loop-outcome.sink front ends.more fed.ends in
+    record {
+      read = (front ++ ends.more, ends.consumed, rw p.1 (rw p.2 (cuts_by g.K.Sink.takes g.K.Sink.faults c.args.limit c.in_err-piece.field-0.0 _ _ c.args.sink.now c.loop-outcome.sink ends.skips took)));
+      leaves = record {
+        stops = (front ++ ends.more, ends.consumed, ends.short);
+        fault = λ faulted. c.in_err-piece.ensures.fault.0 (ap (λ (s : SkipEnd). Err s) (fault_cause c.from_residual.result c.in_err-piece.field-0.0 is faulted));
+        fault_first = λ some. cause_fault c.from_residual.result c.in_err-piece.field-0.0 is (same_end _ c.in_err-piece.field-0.0 refl (c.in_err-piece.ensures.fault.1 some));
+        goes = g.met.I.Input.joins _ _ _ c.loop-outcome.invariant.3 c.in_err-piece.ensures.goes;
+      };
+    }
 
-pub returns-in-Ok-clause-stops : goal.returns-in-Ok-clause-stops
-returns-in-Ok-clause-stops g c =
-    let all = whole_read _ _ _ _ _ c.loop-outcome.invariant.0 c.loop-outcome.invariant.1 (c.in_ok-piece.ensures.end (ap (λ o. Ok o) c.in_default.is)) in (c.loop-outcome.invariant.0, all.consumed, all.short)
-
-pub returns-in-Ok-clause-fault : goal.returns-in-Ok-clause-fault
-returns-in-Ok-clause-fault g c faulted = absurd (true≢false (ap is_ok faulted))
-
-pub returns-in-Ok-clause-fault_first : goal.returns-in-Ok-clause-fault_first
-returns-in-Ok-clause-fault_first g c some = absurd (true≢false (ap is_ok (c.in_ok-piece.ensures.fault.1 some)))
-
-pub returns-in-Ok-clause-goes : goal.returns-in-Ok-clause-goes
-returns-in-Ok-clause-goes g c = g.met.I.Input.joins _ _ _ c.loop-outcome.invariant.3 c.in_ok-piece.ensures.goes
-
-pub returns-in-Err-clause-read : goal.returns-in-Err-clause-read
-returns-in-Err-clause-read g c =
+pub returns-in-Ok : goal.returns-in-Ok
+returns-in-Ok g c =
+    let front = c.loop-outcome.invariant.0 in
     let fed = c.loop-outcome.invariant.2 in
-    let all = whole_read _ _ _ _ _ c.loop-outcome.invariant.0 c.loop-outcome.invariant.1 (c.in_ok-piece.ensures.end (ap (λ o. Ok o) c.in_default.is)) in (c.loop-outcome.invariant.0, all.consumed, (all.whole, c.in-Err.ensures.ends c.loop-outcome.invariant.0 c.args.sink.now fed.holds fed.ends))
+    let all = whole_read _ _ _ _ _ front c.loop-outcome.invariant.1 (c.in_ok-piece.ensures.end (ap (λ o. Ok o) c.in_default.is)) in
+    record {
+      read = (front, all.consumed, (all.whole, c.in-Ok.ensures.ends front c.args.sink.now fed.holds fed.ends));
+      leaves = record {
+        stops = (front, all.consumed, all.short);
+        fault = λ faulted. absurd (true≢false (ap is_ok faulted));
+        fault_first = λ some. absurd (true≢false (ap is_ok (c.in_ok-piece.ensures.fault.1 some)));
+        goes = g.met.I.Input.joins _ _ _ c.loop-outcome.invariant.3 c.in_ok-piece.ensures.goes;
+      };
+    }
 
-pub returns-in-Err-clause-stops : goal.returns-in-Err-clause-stops
-returns-in-Err-clause-stops g c =
-    let all = whole_read _ _ _ _ _ c.loop-outcome.invariant.0 c.loop-outcome.invariant.1 (c.in_ok-piece.ensures.end (ap (λ o. Ok o) c.in_default.is)) in (c.loop-outcome.invariant.0, all.consumed, all.short)
-
-pub returns-in-Err-clause-fault : goal.returns-in-Err-clause-fault
-returns-in-Err-clause-fault g c faulted = absurd (cut_no_fault _ c.in-Err.end refl faulted)
-
-pub returns-in-Err-clause-fault_first : goal.returns-in-Err-clause-fault_first
-returns-in-Err-clause-fault_first g c some = absurd (true≢false (ap is_ok (c.in_ok-piece.ensures.fault.1 some)))
-
-pub returns-in-Err-clause-goes : goal.returns-in-Err-clause-goes
-returns-in-Err-clause-goes g c = g.met.I.Input.joins _ _ _ c.loop-outcome.invariant.3 c.in_ok-piece.ensures.goes
+pub returns-in-Err : goal.returns-in-Err
+returns-in-Err g c =
+    let front = c.loop-outcome.invariant.0 in
+    let fed = c.loop-outcome.invariant.2 in
+    let all = whole_read _ _ _ _ _ front c.loop-outcome.invariant.1 (c.in_ok-piece.ensures.end (ap (λ o. Ok o) c.in_default.is)) in
+    record {
+      read = (front, all.consumed, (all.whole, c.in-Err.ensures.ends front c.args.sink.now fed.holds fed.ends));
+      leaves = record {
+        stops = (front, all.consumed, all.short);
+        fault = λ faulted. absurd (cut_no_fault _ c.in-Err.end refl faulted);
+        fault_first = λ some. absurd (true≢false (ap is_ok (c.in_ok-piece.ensures.fault.1 some)));
+        goes = g.met.I.Input.joins _ _ _ c.loop-outcome.invariant.3 c.in_ok-piece.ensures.goes;
+      };
+    }

@@ -39,7 +39,7 @@ pub returns-in-Ok-clause-good_flags : goal.returns-in-Ok-clause-good_flags
 returns-in-Ok-clause-good_flags g c = not_bad c.show_found-shown.result c.or_memory-in-Ok.result c.or_memory-in-Ok.ensures
 
 pub returns-in-Ok-clause-told : goal.returns-in-Ok-clause-told
-returns-in-Ok-clause-told g c = λ off. told_only c.show_found-shown.result c.or_memory-in-Ok.result _ c.or_memory-in-Ok.ensures c.in-Ok.ensures.told
+returns-in-Ok-clause-told g c = λ off. told_only c.show_found-shown.result c.or_memory-in-Ok.result _ c.or_memory-in-Ok.ensures c.in-Ok.ensures.allowed
 
 pub returns-in-Ok-clause-unasked : goal.returns-in-Ok-clause-unasked
 returns-in-Ok-clause-unasked g c = λ on f. not_names c.show_found-shown.result c.or_memory-in-Ok.result c.or_memory-in-Ok.ensures f

@@ -5,38 +5,38 @@ use Rattle.pid_lookup.proofs.FoundTexts.{for_vendor, for_device, for_subvendor, 
 use Rattle.pid_lookup.proofs.Questions.{one_asks, one_told}
 use Rattle.pid_lookup.proofs.find.find.Goals as goal
 
-pub returns-in-Vendor-clause-asks : goal.returns-in-Vendor-clause-asks
-returns-in-Vendor-clause-asks g c =
-    one_asks g.N.Names _ _ c.name_of.result c.one.result c.args.request requests.Vendor c.args.args.now (λ named. named (paths.Vendor c.args.args.now.vendor)) c.one.ensures c.in-Vendor.is
-    (record { found = c.name_of.ensures.found; fault = c.name_of.ensures.fault; caused = c.name_of.ensures.caused; kept = c.name_of.ensures.kept })
-    (λ named name is. for_vendor named c.args.args.now name is)
+pub returns-in-Vendor : goal.returns-in-Vendor
+returns-in-Vendor g c = record {
+  asks =
+      one_asks g.N.Names _ _ c.name_of.result c.one.result c.args.request requests.Vendor c.args.args.now (λ named. named (paths.Vendor c.args.args.now.vendor)) c.one.ensures c.in-Vendor.is
+      (record { found = c.name_of.ensures.found; fault = c.name_of.ensures.fault; caused = c.name_of.ensures.caused; kept = c.name_of.ensures.kept })
+      (λ named name is. for_vendor named c.args.args.now name is);
+  allowed = one_told c.name_of.result c.one.result _ c.one.ensures c.name_of.ensures.told;
+}
 
-pub returns-in-Vendor-clause-told : goal.returns-in-Vendor-clause-told
-returns-in-Vendor-clause-told g c = one_told c.name_of.result c.one.result _ c.one.ensures c.name_of.ensures.told
+pub returns-in-Device : goal.returns-in-Device
+returns-in-Device g c = record {
+  asks =
+      one_asks g.N.Names _ _ c.find_device.result c.one-in-Device.result c.args.request requests.Device c.args.args.now (λ named. named (paths.Device c.args.args.now.vendor c.args.args.now.device)) c.one-in-Device.ensures c.in-Device.is
+      c.find_device.ensures.asks
+      (λ named name is. for_device named c.args.args.now name is);
+  allowed = one_told c.find_device.result c.one-in-Device.result _ c.one-in-Device.ensures c.find_device.ensures.allowed;
+}
 
-pub returns-in-Device-clause-asks : goal.returns-in-Device-clause-asks
-returns-in-Device-clause-asks g c =
-    one_asks g.N.Names _ _ c.find_device.result c.one-in-Device.result c.args.request requests.Device c.args.args.now (λ named. named (paths.Device c.args.args.now.vendor c.args.args.now.device)) c.one-in-Device.ensures c.in-Device.is
-    c.find_device.ensures.asks
-    (λ named name is. for_device named c.args.args.now name is)
+pub returns-in-Subvendor : goal.returns-in-Subvendor
+returns-in-Subvendor g c = record {
+  asks =
+      one_asks g.N.Names _ _ c.name_of-in-Subvendor.result c.one-in-Subvendor.result c.args.request requests.Subvendor c.args.args.now (λ named. named (paths.Vendor c.args.args.now.subvendor)) c.one-in-Subvendor.ensures c.in-Subvendor.is
+      (record { found = c.name_of-in-Subvendor.ensures.found; fault = c.name_of-in-Subvendor.ensures.fault; caused = c.name_of-in-Subvendor.ensures.caused; kept = c.name_of-in-Subvendor.ensures.kept })
+      (λ named name is. for_subvendor named c.args.args.now name is);
+  allowed = one_told c.name_of-in-Subvendor.result c.one-in-Subvendor.result _ c.one-in-Subvendor.ensures c.name_of-in-Subvendor.ensures.told;
+}
 
-pub returns-in-Device-clause-told : goal.returns-in-Device-clause-told
-returns-in-Device-clause-told g c = one_told c.find_device.result c.one-in-Device.result _ c.one-in-Device.ensures c.find_device.ensures.told
-
-pub returns-in-Subvendor-clause-asks : goal.returns-in-Subvendor-clause-asks
-returns-in-Subvendor-clause-asks g c =
-    one_asks g.N.Names _ _ c.name_of-in-Subvendor.result c.one-in-Subvendor.result c.args.request requests.Subvendor c.args.args.now (λ named. named (paths.Vendor c.args.args.now.subvendor)) c.one-in-Subvendor.ensures c.in-Subvendor.is
-    (record { found = c.name_of-in-Subvendor.ensures.found; fault = c.name_of-in-Subvendor.ensures.fault; caused = c.name_of-in-Subvendor.ensures.caused; kept = c.name_of-in-Subvendor.ensures.kept })
-    (λ named name is. for_subvendor named c.args.args.now name is)
-
-pub returns-in-Subvendor-clause-told : goal.returns-in-Subvendor-clause-told
-returns-in-Subvendor-clause-told g c = one_told c.name_of-in-Subvendor.result c.one-in-Subvendor.result _ c.one-in-Subvendor.ensures c.name_of-in-Subvendor.ensures.told
-
-pub returns-in-Subsystem-clause-asks : goal.returns-in-Subsystem-clause-asks
-returns-in-Subsystem-clause-asks g c =
-    one_asks g.N.Names _ _ c.find_subsystem.result c.one-in-Subsystem.result c.args.request requests.Subsystem c.args.args.now (λ named. subsystem_name named c.args.args.now) c.one-in-Subsystem.ensures c.in-Subsystem.is
-    c.find_subsystem.ensures.asks
-    (λ named name is. for_subsystem named c.args.args.now name is)
-
-pub returns-in-Subsystem-clause-told : goal.returns-in-Subsystem-clause-told
-returns-in-Subsystem-clause-told g c = one_told c.find_subsystem.result c.one-in-Subsystem.result _ c.one-in-Subsystem.ensures c.find_subsystem.ensures.told
+pub returns-in-Subsystem : goal.returns-in-Subsystem
+returns-in-Subsystem g c = record {
+  asks =
+      one_asks g.N.Names _ _ c.find_subsystem.result c.one-in-Subsystem.result c.args.request requests.Subsystem c.args.args.now (λ named. subsystem_name named c.args.args.now) c.one-in-Subsystem.ensures c.in-Subsystem.is
+      c.find_subsystem.ensures.asks
+      (λ named name is. for_subsystem named c.args.args.now name is);
+  allowed = one_told c.find_subsystem.result c.one-in-Subsystem.result _ c.one-in-Subsystem.ensures c.find_subsystem.ensures.allowed;
+}

@@ -22,7 +22,7 @@ returns-in_err-end_line-clause-ends g c text start h took =
 pub returns-then-is_err-clause-ends : goal.returns-then-is_err-clause-ends
 returns-then-is_err-clause-ends g c text start h took =
     let rest = took_rest g.S.Sink.takes c.args.sink.now c.args.piece.now c.loop-front.rest.now c.loop-front.self c.loop-front.sink text (c.loop-front.invariant text h) c.in_default.ensures.parts start took in
-    inr (refl, record { front = whole_lines (text ++ c.args.piece.now); behind = []; parts = sym (append-nil (whole_lines (text ++ c.args.piece.now))); good = rest.0; took = rest.1 })
+    inr (refl, record { front = whole_lines (text ++ c.args.piece.now); after = []; parts = sym (append-nil (whole_lines (text ++ c.args.piece.now))); good = rest.0; took = rest.1 })
 
 pub returns-clause-holds : goal.returns-clause-holds
 returns-clause-holds g c text h =

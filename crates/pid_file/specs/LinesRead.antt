@@ -3,8 +3,8 @@ use Rattle.std.specs.Prelude.{◌≡◌, ℕ, Bool, true, List, Option, Some, No
 use Rattle.pid_file.specs.declared.path.Path.{Path}
 use Rattle.pid_file.specs.PathTexts.{IsPath, path_text}
 use Rattle.pid_file.specs.declared.open_levels.OpenLevels.{OpenLevels}
-use Rattle.pid_file.specs.declared.progress.LinesRead.{LinesRead}
-use Rattle.pid_file.specs.LookingBack.{above, head_path, entries_back, is_told}
+use Rattle.pid_file.specs.declared.lines_read.LinesRead.{LinesRead}
+use Rattle.pid_file.specs.LookingBack.{above, head_path, entries_back, is_known_path}
 use Rattle.pid_file.specs.OpenLevels.{IsOpenAt}
 use Rattle.pid_file.specs.SeenPaths.{AreRising, block_of, has_seen, is_nested}
 
@@ -23,11 +23,11 @@ IsUnder earlier q = open_head_path (above 1 earlier) ≡ Some (path_text (block_
 pub record IsShown (at : OpenLevels) (seen : Path → Bool) (entries lines : ℕ)
     (earlier : List (List ℕ)) : Type 0 where
   pub paths : (q : Path) → IsPath q → (is_nested q ≡ true → IsUnder earlier q)
-      → seen q ≡ is_told earlier (path_text q)
-  pub kin : (q : Path) → IsPath q → is_nested q ≡ true → is_told earlier (path_text q) ≡ true
-      → is_told earlier (path_text (block_of q)) ≡ true
+      → seen q ≡ is_known_path earlier (path_text q)
+  pub kin : (q : Path) → IsPath q → is_nested q ≡ true → is_known_path earlier (path_text q) ≡ true
+      → is_known_path earlier (path_text (block_of q)) ≡ true
   pub open_head : (q : Path) → IsPath q → is_nested q ≡ true → IsUnder earlier q
-      → is_told earlier (path_text (block_of q)) ≡ true
+      → is_known_path earlier (path_text (block_of q)) ≡ true
   pub count : entries ≡ length (entries_back earlier)
   pub levels : IsOpenAt at earlier
   pub number : lines ≡ length earlier

@@ -1,7 +1,7 @@
 use Rattle.std.proofs.Common.{take}
 use Rattle.std.specs.List.{flat_map}
 use Rattle.std.specs.Io.KnownBytes.{Appends}
-use Rattle.pid_file.proofs.io.write_parts.Given as goal
+use Rattle.pid_file.proofs.writing.write_parts.Given as goal
 
 abbrev pub invariant-loop-part : goal.invariant-loop-part
 invariant-loop-part g l = Appends (g.W.Output.taken l.fn.out) (g.W.Output.taken l.out) (flat_map (λ part. part.now) (take l.part-index l.parts))

@@ -1,32 +1,14 @@
 //! What is kept of the lines that were read.
-ghost use Rattle.std.specs.Prelude.{
-  ◌≡◌,
-  ◌+◌,
-  ◌∷◌,
-  ℕ,
-  [],
-  List,
-  None,
-  Some,
-  OnOk,
-  IfOk,
-  IfErr,
-  IfSome,
-  IsTrue,
-};
-ghost use Rattle.pid_file.specs.Words.{is_name};
-ghost use Rattle.pid_file.specs.Numbered.{numbered_at};
-ghost use Rattle.pid_file.specs.Steps.OpenLevels.{Says, IsNamed, open_after};
-ghost use Rattle.pid_file.specs.Refusals.{IsRefusal};
-ghost use Rattle.pid_file.specs.Steps.LineEnds.{refusal_at};
-ghost use Rattle.pid_file.specs.Progress.{Shows};
-ghost use Rattle.pid_file.specs.Steps.Progress.{given};
+ghost use Rattle.std.specs.Prelude.{◌≡◌, ◌+◌, ℕ, [], List};
+ghost use Rattle.pid_file.specs.LinesRead.{Shows};
+ghost use Rattle.pid_file.specs.Steps.LinesRead.{AdmitsLine};
+ghost use Rattle.pid_file.specs.Steps.OpenLevels.{Says, open_after};
 
+use crate::entry_line::NamedPath;
 use crate::fault_kind::LineKind;
 use crate::open_levels::{LineContent, OpenLevels, read_line};
 use crate::refusal::ReadRefusal;
 use crate::seen_paths::SeenPaths;
-use crate::sink::Entry;
 use std::alloc::Global;
 
 // How many entries a text may have: a choice of this project.
@@ -60,10 +42,10 @@ impl LinesRead {
 
     // The line with this number was read.
     fn pass(&mut self, number: usize, said: &LineContent<'_>)
-        ensures levels { self.new.levels ≡ open_after self.old.levels said.now }
-        ensures lines { self.new.lines ≡ number }
-        ensures seen { self.new.seen ≡ self.old.seen }
-        ensures entries { self.new.entries ≡ self.old.entries }
+        ensures { self.new ≡ record self.old {
+          levels = open_after self.old.levels said.now;
+          lines = number;
+        } }
     {
         self.levels = self.levels.after(said);
         self.lines = number;
@@ -74,16 +56,10 @@ impl LinesRead {
         &mut self,
         number: usize,
         said: LineContent<'b>,
-    ) -> Result<Option<Entry<'b>>, ReadRefusal>
-        requires { IsNamed said }
-        ensures taken { (earlier : List (List ℕ)) (line : List ℕ) → Shows self.old earlier
-            → number ≡ self.old.lines + 1 → Says self.old.levels earlier line said.entry →
-            IfOk result (λ o. Shows self.new (line ∷ earlier) × (refusal_at earlier line ≡ None)
-            × (given o ≡ numbered_at earlier line)) }
-        ensures named { IfOk result (λ o. IfSome o (λ entry. IsTrue (is_name entry.name.now))) }
-        ensures refused { (earlier : List (List ℕ)) (line : List ℕ) → Shows self.old earlier
-            → number ≡ self.old.lines + 1 → Says self.old.levels earlier line said.entry →
-            IfErr result (λ r. IsRefusal r (refusal_at earlier line)) }
+    ) -> Result<Option<(usize, NamedPath<'b>)>, ReadRefusal>
+        ensures { (earlier : List (List ℕ)) (line : List ℕ) → Shows self.old earlier
+            → number ≡ self.old.lines + 1 → Says self.old.levels earlier line said.entry
+            → AdmitsLine self.new earlier line result }
     {
         match said {
             LineContent::Nothing | LineContent::Unknown => {
@@ -112,23 +88,19 @@ impl LinesRead {
                 }
                 self.entries += 1;
                 self.pass(number, &said);
-                Ok(Some(Entry {
-                    line: number,
-                    path: named.path,
-                    name: named.name,
-                }))
+                Ok(Some((number, named)))
             }
         }
     }
 
-    /// Reads one more line: its entry, if it is one; or what is refused at it, or `Memory`.
-    pub fn judge<'b>(&mut self, line: &'b [u8]) -> Result<Option<Entry<'b>>, ReadRefusal>
-        ensures taken { (earlier : List (List ℕ)) → Shows self.old earlier →
-            IfOk result (λ o. Shows self.new (line.now ∷ earlier)
-            × (refusal_at earlier line.now ≡ None) × (given o ≡ numbered_at earlier line.now)) }
-        ensures named { IfOk result (λ o. IfSome o (λ entry. IsTrue (is_name entry.name.now))) }
-        ensures refused { (earlier : List (List ℕ)) → Shows self.old earlier
-            → IfErr result (λ r. IsRefusal r (refusal_at earlier line.now)) }
+    /// Reads one more line: its number and its entry, if it is one; or what is refused at it, or
+    /// `Memory`.
+    pub fn judge<'b>(
+        &mut self,
+        line: &'b [u8],
+    ) -> Result<Option<(usize, NamedPath<'b>)>, ReadRefusal>
+        ensures { (earlier : List (List ℕ)) → Shows self.old earlier
+            → AdmitsLine self.new earlier line.now result }
     {
         let Some(number) = self.lines.checked_add(1) else {
             return Err(ReadRefusal::Memory);

@@ -1,8 +1,0 @@
-use Rattle.std.proofs.lemmas.Result.{err_from_is_err_and}
-use Rattle.pid_file.proofs.SendingLemmas.{stopped, flat_map-split}
-use Rattle.pid_file.proofs.io.write_parts.Goals as goal
-
-pub returns-in_err-write_all-clause-sent : goal.returns-in_err-write_all-clause-sent
-returns-in_err-write_all-clause-sent g c =
-    let p = err_from_is_err_and c.from_residual.result c.from_residual.ensures.1 in
-    rw p.1 (stopped _ _ _ _ _ _ _ c.loop-part.invariant c.in_err-write_all.ensures.sent (flat_map-split (λ part. part.now) c.args.parts.now c.loop-part.part-index _ c.loop-part-test.true))
