@@ -132,9 +132,11 @@ def missing_evidence():
 
 def missing_clauses():
     """How many clauses SECURITY.md names after calls, and those that these calls have not. A name
-    after a call is another call of its crate, or a clause of one of them."""
+    after a call is another call of its crate, or a clause of one of them; or a field of the record
+    that is its one clause."""
     text = " ".join(text_of("SECURITY.md").split()).partition("A client of `serve`:")[2]
     clauses, missing, count = {}, [], 0
+    definitions = reading_list.Specs(), reading_list.Sources()
     for it in contracts.functions():
         found = re.findall(r"^\w+ (\w+) \{", "\n".join(it.clauses), re.M)
         clauses.setdefault(it.path, set()).update(found)
@@ -146,7 +148,9 @@ def missing_clauses():
                 calls.append(last)
                 continue
             count += 1
-            if not any(name in clauses.get(f"{crate}::{it}", ()) for it in calls):
+            if any(name in clauses.get(f"{crate}::{it}", ()) for it in calls):
+                continue
+            if name not in reading_list.says(*definitions, f"{crate}::{calls[0]}"):
                 missing.append(f"{call}: {name}")
     return count, missing
 

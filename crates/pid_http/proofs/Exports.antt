@@ -24,7 +24,7 @@ use Rattle.pid_http.specs.declared.api.format.Format.{Format}
 use Rattle.pid_http.specs.declared.api.question.Question.TheVariants.{Whole}
 use Rattle.pid_http.specs.declared.api.route.Whole.TheVariants.{Export}
 use Rattle.pid_http.specs.Steps.Handling.{WritesText, WritesOver}
-use Rattle.pid_http.specs.Known.{Known, Live, Between, Down, IsKnownOf, LivesOn, SessionState, IsStateOf}
+use Rattle.pid_http.specs.Known.{Known, Live, Between, Down, IsKnownOf, LivesOn, SessionState, IsSessionState}
 use Rattle.pid_http.specs.Steps.Going.{Goes, calls_join}
 use Rattle.pid_http.specs.Serving.{AreQuestions, IsPromised}
 
@@ -66,7 +66,7 @@ not_all P x is = absurd cc
 -- the text was written, so far
 pub written : {R : Type 0} (registry : Ghosts R) → ShowsWhileLive registry.showing registry.is_live → (old new : R) (Took : List ℕ → Type 0) (lives : LivesOn registry old new) → AreQuestions 1 lives.calls → (registry.showing.is_clean new → registry.showing.is_clean old)
     → (registry.showing.is_clean new → (h : History) → registry.showing.shows old h → registry.showing.shows new h) → (registry.showing.is_clean new → (h : History) → registry.showing.shows old h → Took (print (tree_of h))) → (registry.is_live old ≡ false → Took [])
-    → Leads registry.showing.is_clean (IsStateOf registry) old new (λ t u. (body : List ℕ) × WritesText registry t body u × Took body)
+    → Leads registry.showing.is_clean (IsSessionState registry) old new (λ t u. (body : List ℕ) × WritesText registry t body u × Took body)
 written registry alive old new Took lives nothing clean shown body off_body = record { good = clean; leads = leads }
   where
     over : registry.showing.is_clean new → (k : Known) → IsKnownOf registry old k → (now : Known) × IsKnownOf registry new now × ((b : List ℕ) × WritesOver k b now × Took b)
@@ -74,7 +74,7 @@ written registry alive old new Took lives nothing clean shown body off_body = re
     over good (Between before behind) fails = (Between before behind, subst (λ x. registry.showing.fails_between x before behind) (sym (lives.rests (alive.fallen old before behind fails))) fails, ([], refl, off_body (alive.fallen old before behind fails)))
     over good Down off = (Down, subst (λ x. registry.is_live x ≡ false) (sym (lives.rests off)) off, ([], refl, off_body off))
 
-    leads : registry.showing.is_clean new → (t : SessionState registry) → IsStateOf registry old t → (u : SessionState registry) × IsStateOf registry new u × ((b : List ℕ) × WritesText registry t b u × Took b)
+    leads : registry.showing.is_clean new → (t : SessionState registry) → IsSessionState registry old t → (u : SessionState registry) × IsSessionState registry new u × ((b : List ℕ) × WritesText registry t b u × Took b)
     leads good t is =
         let x = over good t.known is.is_known in (
           record { start = t.start; calls = t.calls ++ lives.calls; known = x.0 },

@@ -25,7 +25,7 @@ use Rattle.pid_http.specs.Api.Outcomes.{outcome_answer}
 use Rattle.pid_http.specs.Api.Replying.{IsReplyOf, IsBodyOf}
 use Rattle.pid_http.specs.Answering.{answer_over, IsMeaningRefused, LacksForm, RequestMeaning, Answered, Denied, Obeys, Asks, command_sent, command_meaning, import_meaning, known_answer, answer_to, format_of}
 use Rattle.pid_http.specs.declared.api.question.Question.{Question}
-use Rattle.pid_http.specs.Known.{Known, Live, Between, Down, IsKnownOf, LivesOn, IsStateOf, ByCalls}
+use Rattle.pid_http.specs.Known.{Known, Live, Between, Down, IsKnownOf, LivesOn, IsSessionState, ByCalls}
 use Rattle.pid_http.specs.Steps.Going.{Goes, calls_join}
 use Rattle.pid_http.specs.Steps.Replying.{IsCommandMet, IsBodyMet, IsMetBy, answer_or}
 use Rattle.pid_http.specs.Serving.{IsMeaningMet, IsMetOver, AnsweredOver, NotAsked, NotDone, InDoubt, AreCallsOver, AreQuestions, AreUndone, IsFailedAnswer, Refused, AsEver, Short, most_questions}
@@ -343,7 +343,7 @@ module _ {R : Type 0} (registry : Ghosts R) where
       (λ off. Refused (failed_so (Err e) format (λ (x : X). outcome_answer format (Err e)) meaning refused (a.failed off).0) one_question)
 
   -- what is known of the registry within its session
-  pub within_session : (old new : R) (P : Known → List Call → Known → Type 0) → Goes registry old new P → Leads registry.showing.is_clean (IsStateOf registry) old new (λ t u. ByCalls registry t u (λ calls. P t.known calls u.known))
+  pub within_session : (old new : R) (P : Known → List Call → Known → Type 0) → Goes registry old new P → Leads registry.showing.is_clean (IsSessionState registry) old new (λ t u. ByCalls registry t u (λ calls. P t.known calls u.known))
   within_session old new P g = record {
     good = g.served.good;
     leads = λ good t is.

@@ -14,7 +14,7 @@ use Rattle.pid_file.specs.declared.io.WriteFault.{WriteFault}
 use Rattle.pid_http_stream.specs.Causes.{EndsFor}
 use Rattle.pid_http_stream.proofs.Heads.{nothing_yet}
 use Rattle.pid_http.specs.Serving.{serving}
-use Rattle.pid_http.specs.Known.{SessionState, IsStateOf}
+use Rattle.pid_http.specs.Known.{SessionState, IsSessionState}
 
 -- no read was made
 pub memory_ends : (reader : ReaderState) (turns : ℕ) (write_fault : Option WriteFault)
@@ -42,10 +42,10 @@ module _ {R : Type 0} (registry : Ghosts R) where
 
   -- there was no memory to begin
   pub none_served : (r : R) (taken to_come : Option (List ℕ))
-      → Leads registry.showing.is_clean (IsStateOf registry) r r (λ t u. IfSome to_come (λ stream. IsServed (serving registry) (record { handler = t; handler_after = u; taken = taken; taken_after = taken }) stream to_come Memory 0))
+      → Leads registry.showing.is_clean (IsSessionState registry) r r (λ t u. IfSome to_come (λ stream. IsServed (serving registry) (record { handler = t; handler_after = u; taken = taken; taken_after = taken }) stream to_come Memory 0))
   none_served r taken to_come = record { good = λ g. g; leads = λ good t is. (t, is, none t taken to_come) }
 
   -- nor was anything read
   pub none_read : (r : R) (taken to_come : Option (List ℕ)) (moments : Option (List Moment))
-      → Leads registry.showing.is_clean (IsStateOf registry) r r (λ t _. IfSome to_come (λ stream. AllSince (IsCaughtUp (serving registry) t taken stream) moments moments))
+      → Leads registry.showing.is_clean (IsSessionState registry) r r (λ t _. IfSome to_come (λ stream. AllSince (IsCaughtUp (serving registry) t taken stream) moments moments))
   none_read r taken to_come moments = record { good = λ g. g; leads = λ good t is. (t, is, unread t taken to_come moments) }

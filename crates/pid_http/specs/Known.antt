@@ -36,7 +36,7 @@ module _ {R : Type 0} (registry : Ghosts R) where
     pub known : Known
 
   -- the registry is as this says
-  pub record IsStateOf (r : R) (t : SessionState) : Type 0 where
+  pub record IsSessionState (r : R) (t : SessionState) : Type 0 where
     pub is_known : IsKnownOf r t.known
     pub lead : CallsLead registry.showing t.start t.calls r
 

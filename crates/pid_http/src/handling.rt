@@ -20,7 +20,7 @@ pub(crate) struct Service<'r, 't, R: RegistryQueries> {
 impl<R: RegistryQueries> Handler for Service<'_, '_, R> {
     ghost use Rattle.std.specs.Prelude.{◌≡◌, refl};
     ghost use Rattle.pid_http.specs.Steps.Handling.{WritesText, exports_text, same_on};
-    ghost use Rattle.pid_http.specs.Known.{IsStateOf, LivesOn, SessionState};
+    ghost use Rattle.pid_http.specs.Known.{IsSessionState, LivesOn, SessionState};
     ghost use Rattle.pid_http.specs.Steps.Going.{lives_further, lives_still};
     ghost use Rattle.pid_http.specs.Serving.{serving};
     ghost use Rattle.pid_http.specs.Api.Questions.{question};
@@ -32,7 +32,7 @@ impl<R: RegistryQueries> Handler for Service<'_, '_, R> {
 
     ghost View = { SessionState R.RegistryCalls };
 
-    ghost stands = { λ a t. IsStateOf R.RegistryCalls a.registry.now t };
+    ghost stands = { λ a t. IsSessionState R.RegistryCalls a.registry.now t };
 
     ghost is_good = { λ a. R.RegistryCalls.showing.is_clean a.registry.now };
 

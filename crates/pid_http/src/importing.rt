@@ -2,6 +2,7 @@
 ghost use Rattle.std.specs.Prelude.{◌≡◌, [], Some, Err, IfSome, option_copied};
 ghost use Rattle.pid_moderation.specs.Files.{file_reading};
 ghost use Rattle.pid_moderation.specs.BeforeFile.{import_of};
+ghost use Rattle.pid_http_stream.specs.Replies.{Answer};
 ghost use Rattle.pid_http_stream.specs.Steps.Bodies.{ReadsOut};
 ghost use Rattle.pid_http.specs.Api.Outcomes.{outcome_answer};
 ghost use Rattle.pid_http.specs.Api.Replying.{MakesReply};
@@ -10,22 +11,19 @@ ghost use Rattle.pid_http.specs.Answering as meanings;
 ghost use Rattle.pid_http.specs.Answering.{import_meaning};
 ghost use Rattle.pid_http.specs.Steps.Replying.{RepliesToFile};
 
-use crate::api::{Format, Sender, outcome_reply};
+use crate::api::{Format, Sender, outcome_reply, refusal_reply};
 use pid_http_stream::{HttpReply, LONGEST_BODY, NoReply};
 use pid_ident::{Account, Input, Key};
-use pid_moderation::{Refusal, Reply as Outcome};
+use pid_moderation::Refusal;
 use pid_reader::skip_input;
 use pid_service_laws::{ImportEnd, RegistryQueries};
-use std::alloc::Global;
+use std::alloc::{AllocError, Global};
 
-fn import_reply(
-    alloc: Global,
-    format: Format,
-    outcome: Result<Outcome, Refusal>,
-) -> Result<HttpReply, NoReply>
-    ensures { MakesReply result (outcome_answer format outcome) }
+// The reply, if there was memory for it.
+fn made(reply: Result<HttpReply, AllocError>) -> Result<HttpReply, NoReply>
+    ensures { (given : Answer) → MakesReply reply given → MakesReply result given }
 {
-    match outcome_reply(alloc, format, outcome) {
+    match reply {
         Ok(reply) => Ok(reply),
         Err(_) => Err(NoReply),
     }
@@ -43,7 +41,7 @@ fn refuse<B: Input>(
     ensures replied { MakesReply result (outcome_answer format (Err refusal)) }
 {
     match skip_input(LONGEST_BODY, body) {
-        Ok(()) => import_reply(alloc, format, Err(refusal)),
+        Ok(()) => made(refusal_reply(alloc, format, refusal)),
         Err(_) => Err(NoReply),
     }
 }
@@ -63,7 +61,7 @@ fn take_in<R: RegistryQueries, B: Input>(
         (λ file. meanings.Obeys (import_of account key (file_reading file)) format) result }
 {
     match registry.import_from(account, key, body) {
-        Ok(reply) => import_reply(alloc, format, Ok(reply)),
+        Ok(reply) => made(outcome_reply(alloc, format, Ok(reply))),
         Err(ImportEnd::Refused(refusal)) => refuse(alloc, format, refusal, body),
         Err(ImportEnd::Body) => Err(NoReply),
     }

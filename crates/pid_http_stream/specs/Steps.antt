@@ -4,3 +4,4 @@ pub mod BodyLaws
 pub mod Intakes
 pub mod LineScans
 pub mod Loop
+pub mod Connections

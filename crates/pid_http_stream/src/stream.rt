@@ -16,7 +16,7 @@ ghost use Rattle.std.specs.Prelude.{
 };
 ghost use Rattle.pid_file.specs.Writing.{use_of};
 ghost use Rattle.pid_http_stream.specs.OneStream.{ServesStream, answering};
-ghost use Rattle.pid_http_stream.specs.Steps.Loop.{BreaksOff, HeadStands, Refuses, ServesRequest};
+ghost use Rattle.pid_http_stream.specs.Steps.Loop.{BreaksOff, HeadStands, EndsRefused, ServesRequest};
 ghost use Rattle.pid_http_stream.specs.Steps.Loop.{answered_so, attending, count_with, stop_end};
 
 use crate::body_input::BodyFault;
@@ -74,7 +74,7 @@ fn drop_front(held: &mut Vec<u8>, count: usize)
 
 // Writes a refusal.
 fn refuse<W: Output>(fault: StreamFault, out: &mut W) -> StreamEnd
-    ensures { Refuses fault (use_of W.Output out.old out.new) result }
+    ensures { EndsRefused fault (use_of W.Output out.old out.new) result }
 {
     let head = ReplyHead {
         status: fault.status(),

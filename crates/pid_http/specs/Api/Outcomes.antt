@@ -26,28 +26,32 @@ use Rattle.pid_http.specs.declared.api.format.Format.TheVariants as formats
 use Rattle.pid_moderation.specs.declared.refusal.Refusal.TheVariants as refusals
 use Rattle.pid_http.specs.declared.api.early.RefusedEarly.TheVariants as early
 
--- an accepted command is 200 OK; a refusal is ill-formed, not allowed to this account, not there,
--- against how things stand, a faulty file, or that the registry is full or failed
+-- ill-formed; not allowed to this account; not there; against how things stand; a faulty file;
+-- full, or failed
+abbrev pub status_of_refusal : Refusal → ℕ
+status_of_refusal refusals.BadPath = 400
+status_of_refusal refusals.BadName = 400
+status_of_refusal refusals.BadText = 400
+status_of_refusal refusals.NoAccount = 403
+status_of_refusal refusals.RankTooLow = 403
+status_of_refusal refusals.NoSubmission = 404
+status_of_refusal refusals.NotPending = 409
+status_of_refusal refusals.NotAuthor = 403
+status_of_refusal refusals.OwnDecision = 403
+status_of_refusal refusals.ParentMissing = 409
+status_of_refusal refusals.HasChildren = 409
+status_of_refusal refusals.NothingToDo = 409
+status_of_refusal (refusals.FileFault fault) = 422
+status_of_refusal refusals.Full = 503
+status_of_refusal refusals.Memory = 503
+status_of_refusal refusals.Store = 503
+status_of_refusal refusals.Failed = 503
+status_of_refusal refusals.Changed = 409
+
+-- an accepted command is 200 OK
 abbrev pub status_of_outcome : Result Reply Refusal → ℕ
 status_of_outcome (Ok reply) = 200
-status_of_outcome (Err refusals.BadPath) = 400
-status_of_outcome (Err refusals.BadName) = 400
-status_of_outcome (Err refusals.BadText) = 400
-status_of_outcome (Err refusals.NoAccount) = 403
-status_of_outcome (Err refusals.RankTooLow) = 403
-status_of_outcome (Err refusals.NoSubmission) = 404
-status_of_outcome (Err refusals.NotPending) = 409
-status_of_outcome (Err refusals.NotAuthor) = 403
-status_of_outcome (Err refusals.OwnDecision) = 403
-status_of_outcome (Err refusals.ParentMissing) = 409
-status_of_outcome (Err refusals.HasChildren) = 409
-status_of_outcome (Err refusals.NothingToDo) = 409
-status_of_outcome (Err (refusals.FileFault fault)) = 422
-status_of_outcome (Err refusals.Full) = 503
-status_of_outcome (Err refusals.Memory) = 503
-status_of_outcome (Err refusals.Store) = 503
-status_of_outcome (Err refusals.Failed) = 503
-status_of_outcome (Err refusals.Changed) = 409
+status_of_outcome (Err refusal) = status_of_refusal refusal
 
 -- {"kind":7,"line":3,"ok":false,"refused":14,"word":"FileFault"}
 abbrev pub fault_data : ℕ → ℕ → Data
@@ -82,14 +86,17 @@ outcome_answer format outcome = answer_in format (status_of_outcome outcome) (ou
 abbrev pub refused_answer : ℕ → ℕ → List ℕ → Answer
 refused_answer status n word = answer_with status Json (compact_text (refusal_data n word))
 
+-- {"ok":false,"refused":25,"word":"NoItem"}
+abbrev pub unanswered_data : Unanswered → Data
+unanswered_data why = refusal_data (unanswered_number why) (unanswered_word why)
+
 -- the answer to a question that has none
 abbrev pub unanswered_answer : ℕ → Unanswered → Answer
 unanswered_answer status why = refused_answer status (unanswered_number why) (unanswered_word why)
 
--- the answer if no item is at a path: {"ok":false,"refused":25,"word":"NoItem"}
+-- the answer if no item is at a path
 abbrev pub missing_answer : Format → Answer
-missing_answer format = answer_in format 404
-    (refusal_data (unanswered_number NoItem) (unanswered_word NoItem)) (unanswered_line NoItem)
+missing_answer format = answer_in format 404 (unanswered_data NoItem) (unanswered_line NoItem)
 
 -- the methods of the route; or the refusal
 abbrev pub early_answer : RefusedEarly → Answer

@@ -22,7 +22,8 @@ WritesOver (Between before behind) body k = k ≡ Between before behind
 WritesOver Down body k = k ≡ Down
 
 -- and nothing is sent for it, by one call
-abbrev pub WritesText : {R : Type 0} (registry : Ghosts R) → SessionState registry → List ℕ → SessionState registry → Type 0
+abbrev pub WritesText : {R : Type 0} (registry : Ghosts R) → SessionState registry → List ℕ
+    → SessionState registry → Type 0
 WritesText registry t body u = ByCalls registry t u
     (λ calls. AreQuestions 1 calls × WritesOver t.known body u.known)
 

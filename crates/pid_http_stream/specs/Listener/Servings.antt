@@ -1,7 +1,5 @@
 -- How the serving of connections ends.
 use Rattle.std.specs.Prelude.{◌≡◌, ◌↔◌, ℕ, ◌<◌, ◌≤◌, Bool, true, false}
-use Rattle.pid_http_stream.specs.Listener.Streams.{IsGivenMore}
-use Rattle.pid_http_stream.specs.declared.listener.server.StreamServer.{Ghosts}
 use Rattle.pid_http_stream.specs.declared.listener.serving.ServingEnd.{ServingEnd}
 use Rattle.pid_http_stream.specs.declared.listener.serving.ServingEnd.TheVariants.{All, NotLive}
 use Rattle.pid_http_stream.specs.declared.listener.serving.ServingEnd.TheVariants.{AcceptFault}
@@ -18,8 +16,3 @@ abbrev pub IsLiveAt : ServingEnd → ℕ → Bool × Bool → Type 0
 IsLiveAt All streams live = (live.0 ≡ true) × (live.1 ≡ true)
 IsLiveAt NotLive streams live = (live.0 ≡ true ↔ 0 < streams) × (live.1 ≡ false)
 IsLiveAt AcceptFault streams live = (live.0 ≡ true) × (live.1 ≡ true)
-
--- a server was given one stream
-pub record ServesOne {S : Type 0} (server : Ghosts S) (old new : S) : Type 0 where
-  pub goes : server.goes old new
-  pub counted : IsGivenMore 1 (server.given old) (server.given new)

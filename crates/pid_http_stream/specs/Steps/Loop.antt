@@ -201,7 +201,7 @@ EndsBroken faults.ReadFault old new end = (end ≡ ends.ReadFault) × (new ≡ o
 EndsBroken faults.TurnsSpent old new end = (end ≡ ends.TurnsSpent) × (new ≡ old)
 
 -- what is refused for this ends the stream so
-pub record Refuses (why : StreamFault) (w : WriterUse) (end : StreamEnd) : Type 0 where
+pub record EndsRefused (why : StreamFault) (w : WriterUse) (end : StreamEnd) : Type 0 where
   pub refused : WritesRefusal why w.before w.after end
   pub fault : end ≡ ends.WriteFault → IsSome w.fault
 

@@ -1,6 +1,6 @@
 //! One connection.
 ghost use Rattle.std.specs.Prelude.{◌≡◌, true};
-ghost use Rattle.pid_http_stream.specs.Listener.Servings.{ServesOne};
+ghost use Rattle.pid_http_stream.specs.Steps.Connections.{ServesOne};
 
 use crate::listener::closing::close;
 use crate::listener::connection_io::{Replies, Requests, send_held};
