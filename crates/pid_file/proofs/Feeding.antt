@@ -77,11 +77,6 @@ refused_line front line ys good = refused-append [] front (line ∷ ys) ∙ ap (
 or_else_front : (a b : Option ReadRefusal) → or_else a b ≡ None → a ≡ None
 or_else_front a b h = (good_cases a b h).0
 
-pub good_front : (front : List (List ℕ)) (line : List ℕ) → refusal_of (front ++ line ∷ []) ≡ None → (refusal_of front ≡ None) × (refusal_at (reverse front) line ≡ None)
-good_front front line h =
-    let p = good_cases (refusal_of front) (refused_from (reverse front) (line ∷ [])) (sym (refused-append [] front (line ∷ [])) ∙ h) in
-    (p.0, or_else_front (refusal_at (reverse front) line) None p.1)
-
 entries_line : (front : List (List ℕ)) (line : List ℕ) (ys : List (List ℕ)) → refusal_of front ≡ None → numbered_of (front ++ line ∷ ys) ≡ numbered_back (cond (is_some (refusal_at (reverse front) line)) (reverse front) (read_from (line ∷ reverse front) ys))
 entries_line front line ys good = ap numbered_back (read-append [] front (line ∷ ys) good)
 

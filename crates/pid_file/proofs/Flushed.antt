@@ -124,7 +124,7 @@ got_tidied Done text k w t sent told = record {
     tree = t.tree;
     reads = t.reads;
     printed = sent (print t.tree) t.printed;
-    nothing_told = kept_too k.faults k.faults_after w.faults w.faults_after (told (λ three. absurd cc)) t.nothing_told;
+    nothing_reported = kept_too k.faults k.faults_after w.faults w.faults_after (told (λ three. absurd cc)) t.nothing_reported;
   };
   refused = λ h. absurd cc;
 }

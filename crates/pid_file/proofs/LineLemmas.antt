@@ -162,37 +162,6 @@ more_no_block bytes mid n p h = block_as bytes mid n p ∙ h
 pub block_is : (bytes mid : List ℕ) (n : ℕ) → SaysNumber 4 65536 hex4 bytes n mid → is_empty (trim_blanks mid) ≡ true → (is_id 4 bytes ≡ true) × (map to_ascii_lowercase (take 4 bytes) ≡ hex4 n)
 block_is bytes mid n p h = (block_as bytes mid n p ∙ h, p.says)
 
--- one identifier, or two
-pub no_ids : (width : ℕ) (more : List ℕ) (bytes : List ℕ) → begins_with_id width bytes ≡ false → begins_with_ids (width ∷ more) bytes ≡ false
-no_ids width more bytes h = ap (λ t. t && begins_with_ids more (drop (suc width) bytes)) h
-
-pub short_ids : (place : EntryKind) (bytes rest : List ℕ) (n : ℕ) → widths_of place ≡ 2 ∷ [] → bound_of place ≡ 256 → digits_of place n 0 ≡ hex2 n → IsId 2 256 hex2 bytes n rest → AreIds place bytes n 0 rest
-short_ids place bytes rest n widths bound digits p = record {
-  small = subst (λ m. n < m) (sym bound) p.small;
-  begins = ap (λ (ws : List ℕ). begins_with_ids ws bytes) widths ∙ ap (λ t. t && true) p.begins;
-  says = ap (λ (ws : List ℕ). digits_in ws bytes) widths ∙ ap (λ (l : List ℕ). l ++ []) p.says ∙ sym digits;
-  after = ap (λ (ws : List ℕ). name_in ws bytes) widths ∙ ap (λ (l : List ℕ). trim_blanks l) (sym p.after);
-}
-
-pub long_ids : (place : EntryKind) (bytes rest : List ℕ) (n : ℕ) → widths_of place ≡ 4 ∷ [] → bound_of place ≡ 65536 → digits_of place n 0 ≡ hex4 n → IsId 4 65536 hex4 bytes n rest → AreIds place bytes n 0 rest
-long_ids place bytes rest n widths bound digits p = record {
-  small = subst (λ m. n < m) (sym bound) p.small;
-  begins = ap (λ (ws : List ℕ). begins_with_ids ws bytes) widths ∙ ap (λ t. t && true) p.begins;
-  says = ap (λ (ws : List ℕ). digits_in ws bytes) widths ∙ ap (λ (l : List ℕ). l ++ []) p.says ∙ sym digits;
-  after = ap (λ (ws : List ℕ). name_in ws bytes) widths ∙ ap (λ (l : List ℕ). trim_blanks l) (sym p.after);
-}
-
-pub two_ids : (v d : ℕ) (bytes mid rest : List ℕ) (a b : ℕ) → IsId 4 65536 hex4 bytes a mid → IsId 4 65536 hex4 mid b rest → AreIds (Subsystem v d) bytes a b rest
-two_ids v d bytes mid rest a b p q = record {
-  small = p.small;
-  begins = (λ i. p.begins i && (begins_with_id 4 (sym p.after i) && true)) ∙ ap (λ t. t && true) q.begins;
-  says = (λ i. p.says i ++ (map to_ascii_lowercase (take 4 (sym p.after i)) ++ [])) ∙ ap (λ (l : List ℕ). hex4 a ++ (l ++ [])) q.says;
-  after = ap (λ (l : List ℕ). trim_blanks (drop 5 l)) (sym p.after) ∙ ap (λ (l : List ℕ). trim_blanks l) (sym q.after);
-}
-
-pub no_second_id : (v d : ℕ) (bytes mid : List ℕ) (a : ℕ) → IsId 4 65536 hex4 bytes a mid → begins_with_id 4 mid ≡ false → begins_with_ids (widths_of (Subsystem v d)) bytes ≡ false
-no_second_id v d bytes mid a p none = (λ i. p.begins i && (begins_with_id 4 (sym p.after i) && true)) ∙ ap (λ t. t && true) none
-
 pub drop_cr-cr : (l : List ℕ) → 1 ≤ length l → get_or l (length l - 1) 0 ≡ 13 → drop_cr l ≡ take (length l - 1) l
 drop_cr-cr [] h e = absurd (omega arith)
 drop_cr-cr (b ∷ []) h e = let b_is : b ≡ 13 = e in rw b_is refl

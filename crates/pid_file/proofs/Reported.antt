@@ -54,7 +54,7 @@ keeps_fault end w reports is = (subst (λ e. ReportsEnd e w) is reports).failed.
 -- a text that was read whole, and what was made of it
 pub tidied : (o : Option (List ℕ)) (t : TreeMap) (w : Writers) → IfSome o (λ text. (length text ≤ LARGEST) × (refused text ≡ None) × Reads text t) → Appends w.output w.output_after (print t) → Keeps w.faults w.faults_after → IfSome o (λ text. IsTidied Done text w)
 tidied None t w read printed kept = tt
-tidied (Some text) t w read printed kept = record { tree = t; reads = record { short = read.0; good = read.1; reads = read.2 }; printed = printed; nothing_told = kept }
+tidied (Some text) t w read printed kept = record { tree = t; reads = record { short = read.0; good = read.1; reads = read.2 }; printed = printed; nothing_reported = kept }
 
 pub counted : (o : Option (List ℕ)) (n : ℕ) (old new : Option (List ℕ)) → IfSome o (λ text. (length text ≤ LARGEST) × (refused text ≡ None) × (n ≡ count_of text)) → Appends old new (ok_line n) → IfSome o (λ text. IsChecked Done text old new)
 counted None n old new read sent = tt

@@ -23,14 +23,14 @@ pub record Prints (text : List ℕ) (w : Writers) : Type 0 where
   pub tree : TreeMap
   pub reads : ReadsWithin text tree
   pub printed : Appends w.output w.output_after (print tree)
-  pub nothing_told : Keeps w.faults w.faults_after
+  pub nothing_reported : Keeps w.faults w.faults_after
 
 -- the text reads to a tree, and a prefix of the tree's text was printed
 pub record PrintsFront (text : List ℕ) (w : Writers) : Type 0 where
   pub tree : TreeMap
   pub reads : ReadsWithin text tree
   pub printed : SendsFront w.output w.output_after (print tree)
-  pub nothing_told : Keeps w.faults w.faults_after
+  pub nothing_reported : Keeps w.faults w.faults_after
 
 -- nothing was printed, and the reason was reported
 abbrev pub TellsOnly : TextEnd → List ℕ → Writers → Type 0

@@ -1,10 +1,10 @@
 //! Whether a path has children in a tree.
-ghost use Rattle.std.specs.Prelude.{◌≡◌, ◌↔◌, Some, false, IsTrue};
+ghost use Rattle.std.specs.Prelude.{◌≡◌, ◌↔◌, Some, IsTrue};
 ghost use Rattle.std.specs.BTreeMap.Range.{IsLeBy, IsInRange};
 ghost use Rattle.pid_file.specs.PathTexts.{parent_of, IsPath};
 ghost use Rattle.pid_file.specs.Steps.Paths.{path_cmp};
 ghost use Rattle.pid_tree.specs.Parents.{HasChild};
-ghost use Rattle.pid_tree.specs.Steps.Between.{HasNoneBetween};
+ghost use Rattle.pid_tree.specs.Steps.Between.{FindsChild};
 
 use pid_file::{Id8, Id16, Path, Tree};
 
@@ -23,9 +23,8 @@ pub fn has_child(tree: &Tree, path: Path) -> bool
 }
 
 fn has_device(tree: &Tree, vendor: Id16) -> bool
-    ensures found { IsTrue result → HasChild tree.now (Path.Vendor vendor) }
-    ensures none { result ≡ false → HasNoneBetween tree.now (Path.Vendor vendor)
-        (Path.Device vendor 0) (Path.Device vendor 65535) }
+    ensures { FindsChild tree.now (Path.Vendor vendor)
+        (Path.Device vendor 0) (Path.Device vendor 65535) result }
 {
     let least = Path::Device { vendor, device: 0 };
     let greatest = Path::Device {
@@ -36,9 +35,8 @@ fn has_device(tree: &Tree, vendor: Id16) -> bool
 }
 
 fn has_generic(tree: &Tree, vendor: Id16) -> bool
-    ensures found { IsTrue result → HasChild tree.now (Path.Vendor vendor) }
-    ensures none { result ≡ false → HasNoneBetween tree.now (Path.Vendor vendor)
-        (Path.Generic vendor 0) (Path.Generic vendor 65535) }
+    ensures { FindsChild tree.now (Path.Vendor vendor)
+        (Path.Generic vendor 0) (Path.Generic vendor 65535) result }
 {
     let least = Path::Generic { vendor, device: 0 };
     let greatest = Path::Generic {
@@ -49,9 +47,8 @@ fn has_generic(tree: &Tree, vendor: Id16) -> bool
 }
 
 fn has_subsystem(tree: &Tree, vendor: Id16, device: Id16) -> bool
-    ensures found { IsTrue result → HasChild tree.now (Path.Device vendor device) }
-    ensures none { result ≡ false → HasNoneBetween tree.now (Path.Device vendor device)
-        (Path.Subsystem vendor device 0 0) (Path.Subsystem vendor device 65535 65535) }
+    ensures { FindsChild tree.now (Path.Device vendor device)
+        (Path.Subsystem vendor device 0 0) (Path.Subsystem vendor device 65535 65535) result }
 {
     let least = Path::Subsystem {
         vendor,
@@ -69,9 +66,8 @@ fn has_subsystem(tree: &Tree, vendor: Id16, device: Id16) -> bool
 }
 
 fn has_subclass(tree: &Tree, class: Id8) -> bool
-    ensures found { IsTrue result → HasChild tree.now (Path.Class class) }
-    ensures none { result ≡ false → HasNoneBetween tree.now (Path.Class class)
-        (Path.Subclass class 0) (Path.Subclass class 255) }
+    ensures { FindsChild tree.now (Path.Class class)
+        (Path.Subclass class 0) (Path.Subclass class 255) result }
 {
     let least = Path::Subclass { class, subclass: 0 };
     let greatest = Path::Subclass {
@@ -82,9 +78,8 @@ fn has_subclass(tree: &Tree, class: Id8) -> bool
 }
 
 fn has_progif(tree: &Tree, class: Id8, subclass: Id8) -> bool
-    ensures found { IsTrue result → HasChild tree.now (Path.Subclass class subclass) }
-    ensures none { result ≡ false → HasNoneBetween tree.now (Path.Subclass class subclass)
-        (Path.ProgIf class subclass 0) (Path.ProgIf class subclass 255) }
+    ensures { FindsChild tree.now (Path.Subclass class subclass)
+        (Path.ProgIf class subclass 0) (Path.ProgIf class subclass 255) result }
 {
     let least = Path::ProgIf {
         class,
@@ -103,8 +98,7 @@ fn has_progif(tree: &Tree, class: Id8, subclass: Id8) -> bool
 fn has_child_between(tree: &Tree, path: Path, least: Path, greatest: Path) -> bool
     requires in_range { IsPath path }
     requires forward { IsLeBy path_cmp least greatest }
-    ensures found { IsTrue result → HasChild tree.now path }
-    ensures none { result ≡ false → HasNoneBetween tree.now path least greatest }
+    ensures { FindsChild tree.now path least greatest result }
 {
     for (key, _) in tree.items.range(least..=greatest) {
         if is_child(*key, path) {

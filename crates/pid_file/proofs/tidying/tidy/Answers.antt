@@ -14,7 +14,7 @@ returns-in-Ok-printed g c = record {
 
 pub returns-in-Err-printed : goal.returns-in-Err-printed
 returns-in-Err-printed g c = record {
-  tidied = map_some _ (λ text read. inl (record { tree = c.in-Ok.tree; reads = record { short = read.0; good = read.1; reads = read.2 }; printed = c.in-Err-printed.ensures.sent; nothing_told = Keeps-itself _ })) c.in-Ok.ensures.end;
+  tidied = map_some _ (λ text read. inl (record { tree = c.in-Ok.tree; reads = record { short = read.0; good = read.1; reads = read.2 }; printed = c.in-Err-printed.ensures.sent; nothing_reported = Keeps-itself _ })) c.in-Ok.ensures.end;
   write_fault = λ e. inl (rw c.in-Err-printed.ensures.fault refl);
   nothing_printed = tt;
   leaves = leaves_as g.I.Input _ _ _ _ _ (λ e. absurd (ok_no_fault _ e)) (λ e. absurd cc) c.in-Ok.ensures.leaves;

@@ -2,7 +2,7 @@ use Rattle.std.specs.BTreeMap.Range.{entries_between}
 use Rattle.std.specs.declared.ops.Bound.TheVariants.{Included}
 use Rattle.pid_file.specs.Steps.Paths.{path_cmp}
 use Rattle.std.proofs.Common.{sym, ◌∙◌}
-use Rattle.pid_tree.proofs.Between.{all_remain, fewer_remain}
+use Rattle.pid_tree.proofs.Between.{all_remain, fewer_remain, none_remain}
 use mathlib.Core.Bool.{true≢false}
 use Rattle.pid_tree.proofs.children.has_child_between.Goals as goal
 
@@ -11,3 +11,9 @@ loop-key-init c = all_remain c.tree.inside.items.entries _ _ _ _ _ c.tree.view_i
 
 pub loop-key-preserved : goal.loop-key-preserved
 loop-key-preserved c = fewer_remain _ _ _ _ _ _ (c.in-Some.key.now, c.in-Some.field-0-1.now) c.loop-key.invariant c.in-Some.ensures.steps c.is_child.ensures.in_range (λ is. true≢false (sym (c.is_child.ensures.answer.1 is) ∙ c.if-is_child.false))
+
+pub returns : goal.returns
+returns c = record {
+  found = λ yes. absurd cc;
+  none = λ _. none_remain c.args.tree.now c.args.path c.args.least c.args.greatest _ c.loop-key.invariant c.in-None.ensures.steps.0;
+}
