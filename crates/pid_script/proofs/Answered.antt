@@ -1,5 +1,5 @@
 -- Lines that were answered, and one more behind them.
-use Rattle.std.proofs.Common.{◌≡◌, ◌+◌, ℕ, List, [], ◌∷◌, ◌++◌, Option, Some, Ok, Err, refl, sym, ap, ◌∙◌, subst, inl, inr, append_assoc, false}
+use Rattle.std.proofs.Common.{◌≡◌, ◌+◌, ℕ, List, [], ◌∷◌, ◌++◌, Option, None, Some, Ok, Err, refl, sym, ap, ◌∙◌, subst, inl, inr, append_assoc, false}
 use Rattle.std.proofs.lemmas.List.{append-nil}
 use Rattle.std.specs.Io.KnownBytes.{Appends}
 use Rattle.std.specs.Prelude.{◌⊎◌}
@@ -13,7 +13,7 @@ use Rattle.pid_script.specs.declared.line_end.LineEnd.TheVariants.{Stopped, Writ
 use Rattle.pid_service_laws.specs.declared.registry_calls.RegistryCalls.{Ghosts}
 use Rattle.pid_script.specs.Calling.{CallsSend, CallsSendEither}
 use Rattle.pid_script.specs.Replies.{line_reply, calls_for, calls_for_lines, command_of, commands_of_lines, history_after, replies}
-use Rattle.pid_script.specs.Steps.Output.{Out, out, HasSaid, SaysStop, AnswersLine}
+use Rattle.pid_script.specs.Steps.Output.{Out, HasSaid, SaysStop, AnswersLine}
 use Rattle.pid_script.specs.ScriptLines.{Ask, ask_of}
 use Rattle.pid_script.specs.RegistryStates.{ShowsOrHasFailed, Becomes, BecomesEither, StopsAfter}
 use Rattle.pid_script.specs.StopLines.{IsBegun, StoppedBy, IsStopInPlace, IsStopText}
@@ -58,18 +58,18 @@ answers_out m h start first r now lines a none = record {
 }
 
 -- nothing is held, so nothing waits
-pub answered_out : {R : Type 0} (m : Ghosts R) (h : History) (start : Option (List ℕ)) (first r : R) (taken : Option (List ℕ)) (held : List ℕ) (lines : List (List ℕ)) → AnswersLines m h (passage first r start taken) lines → held ≡ [] → Answered m h start first r (out taken held) lines
-answered_out m h start first r taken held lines a none = record {
+pub answered_out : {R : Type 0} (m : Ghosts R) (h : History) (start : Option (List ℕ)) (first r : R) (now : Out) (lines : List (List ℕ)) → AnswersLines m h (passage first r start now.taken) lines → now.held ≡ [] → Answered m h start first r now lines
+answered_out m h start first r now lines a none = record {
   before = lines;
   waiting = [];
   parts = sym (append-nil lines);
   asked = refl;
-  between = taken;
+  between = now.taken;
   told = a.told;
   sent = [];
-  went = Appends-nil taken;
+  went = Appends-nil now.taken;
   rest = none;
-  room = none_fits held none;
+  room = none_fits now.held none;
   fits = a.fits;
   leaves = a.leaves;
   lives = a.lives;
@@ -78,7 +78,7 @@ answered_out m h start first r taken held lines a none = record {
 
 -- all that is held goes out
 pub flushed : {R : Type 0} (m : Ghosts R) (h : History) (start : Option (List ℕ)) (first r : R) (old : Out) (new : Option (List ℕ)) (lines : List (List ℕ)) → Answered m h start first r old lines → Appends old.taken new old.held → AnswersLines m h (passage first r start new) lines
-flushed m h start first r old new lines a went = answers_out m h start first r (out new []) lines (record {
+flushed m h start first r old new lines a went = answers_out m h start first r (record { taken = new; fault = None; held = [] }) lines (record {
   before = a.before;
   waiting = a.waiting;
   parts = a.parts;
@@ -144,8 +144,8 @@ more_held m h start first r new old left lines line a said none fits leaves live
 }
 
 -- the replies to all lines and to one more, where what is held goes out with it
-all_told : {R : Type 0} (m : Ghosts R) (h : History) (start : Option (List ℕ)) (first r : R) (old : Out) (new : Option (List ℕ)) (lines : List (List ℕ)) (text : List ℕ) → Answered m h start first r old lines → Appends old.taken new (old.held ++ text) → Appends start new (replies h lines ++ text)
-all_told m h start first r old new lines text a went =
+all_said : {R : Type 0} (m : Ghosts R) (h : History) (start : Option (List ℕ)) (first r : R) (old : Out) (new : Option (List ℕ)) (lines : List (List ℕ)) (text : List ℕ) → Answered m h start first r old lines → Appends old.taken new (old.held ++ text) → Appends start new (replies h lines ++ text)
+all_said m h start first r old new lines text a went =
     subst (Appends start new)
     (ap (λ (l : List ℕ). replies h a.before ++ l) (gone_on a.sent old.held (replies (history_after h a.before) a.waiting) text a.rest) ∙ sym (append_assoc (replies h a.before) (replies (history_after h a.before) a.waiting) text) ∙ ap (λ (l : List ℕ). l ++ text) (sym (replies_on a.before a.waiting h) ∙ ap (replies h) (sym a.parts)))
     (Appends-then start a.between new (replies h a.before) (a.sent ++ (old.held ++ text)) a.told (Appends-then a.between old.taken new a.sent (old.held ++ text) a.went went))
@@ -176,21 +176,21 @@ more_answered m x h start first r new old left lines line a e = by e.leaves.flus
 
     by : (command_of (ask_of line) ≡ []) ⊎ (left.held ≡ []) → Answered m h start first new left (lines ++ line ∷ [])
     by (inl none) = more_held m h start first r new old left lines line a e.tells none fits leaves lives calls
-    by (inr none) = answered_out m h start first new left.taken left.held (lines ++ line ∷ []) (record {
+    by (inr none) = answered_out m h start first new left (lines ++ line ∷ []) (record {
       fits = fits;
-      told = subst (Appends start left.taken) (sym (reply_more h lines line)) (all_told m h start first r old left.taken lines (line_reply (ask_of line) (history_after h lines)) a (said_all old left (line_reply (ask_of line) (history_after h lines)) e.tells none));
+      told = subst (Appends start left.taken) (sym (reply_more h lines line)) (all_said m h start first r old left.taken lines (line_reply (ask_of line) (history_after h lines)) a (said_all old left (line_reply (ask_of line) (history_after h lines)) e.tells none));
       leaves = leaves;
       lives = lives;
       calls = calls;
     }) none
 
 -- the text of the lines that wait, and of one more
-told_for : {R : Type 0} (m : Ghosts R) (first r : R) (h at k : History) (waiting : List (List ℕ)) (line text : List ℕ) → k ≡ history_after at waiting → Becomes m first h r k
+said_for : {R : Type 0} (m : Ghosts R) (first r : R) (h at k : History) (waiting : List (List ℕ)) (line text : List ℕ) → k ≡ history_after at waiting → Becomes m first h r k
     → (text ≡ line_reply (ask_of line) k) ⊎ IsStopText (StoppedBy m r k (ask_of line)) (IsBegun (ask_of line) k) text
     → IsTextFor m first h at (waiting ++ line ∷ []) (replies at waiting ++ text)
-told_for m first r h at k waiting line text same becomes (inl is) =
+said_for m first r h at k waiting line text same becomes (inl is) =
     Replied (ap (λ (l : List ℕ). replies at waiting ++ l) (is ∙ ap (line_reply (ask_of line)) same ∙ sym (replies_one line (history_after at waiting))) ∙ sym (replies_on waiting (line ∷ []) at))
-told_for m first r h at k waiting line text same becomes (inr stop) =
+said_for m first r h at k waiting line text same becomes (inr stop) =
     StoppedLast waiting line text refl (subst (λ g. IsStopText (StoppedBy m first h (ask_of line)) (IsBegun (ask_of line) g) text) same (stop_then m first r h k (ask_of line) (IsBegun (ask_of line) k) text becomes stop)) refl
 
 -- what calls sent for the lines before one, and none for that one
@@ -221,7 +221,7 @@ stopped_at m h start first r new old left text rest front lines line part behind
     lives = a.lives;
     text = tells.text;
     stop = stop_then m first r h (history_after h lines) (ask_of line) (IsBegun (ask_of line) (history_after h lines)) tells.text a.leaves tells.stop;
-    told = all_told m h start first r old left.taken lines tells.text a tells.told;
+    told = all_said m h start first r old left.taken lines tells.text a tells.told;
     leaves = stops_then m first r new h (history_after h lines) (command_of (ask_of line)) a.leaves leaves;
     calls = none_sent m first r new lines line a.calls sends;
   };
@@ -245,7 +245,7 @@ long_at m h start first r new old left all lines line behind parts a e = record 
   long = e.leaves.long;
   fits = a.fits;
   lives = a.lives;
-  told = subst (Appends start left.taken) (sym (reply_more h lines line)) (all_told m h start first r old left.taken lines (line_reply (ask_of line) (history_after h lines)) a e.tells);
+  told = subst (Appends start left.taken) (sym (reply_more h lines line)) (all_said m h start first r old left.taken lines (line_reply (ask_of line) (history_after h lines)) a e.tells);
   leaves = becomes_then m first r new h (history_after h lines) (history_after h lines) a.leaves e.leaves.becomes;
   calls = none_sent m first r new lines line a.calls e.sends;
 }
@@ -272,8 +272,8 @@ broken_at m h start first r new old left all lines line behind parts a e =
         between = a.between;
         told = a.told;
         text = replies at a.waiting ++ e.tells.text;
-        is = told_for m first r h at (history_after h lines) a.waiting line e.tells.text same a.leaves e.tells.is;
-        front = subst (SendsFront a.between left.taken) (gone_on a.sent old.held (replies at a.waiting) e.tells.text a.rest) (front-then a.between old.taken left.taken a.sent (old.held ++ e.tells.text) a.went e.tells.front);
+        is = said_for m first r h at (history_after h lines) a.waiting line e.tells.text same a.leaves e.tells.is;
+        front = subst (SendsFront a.between left.taken) (gone_on a.sent old.held (replies at a.waiting) e.tells.text a.rest) (front-then a.between old.taken left.taken a.sent (old.held ++ e.tells.text) a.went e.tells.front.0);
       };
       fits = subst (AllButLast IsNotTooLong) whole (but_one IsNotTooLong lines line a.fits);
       lives = λ f. subst (AllButLast CallsNot) whole (but_one CallsNot lines line (a.lives f));

@@ -2,7 +2,7 @@
 use mathlib.Core.Bool.{true≢false}
 use Rattle.std.proofs.Common.{◌≡◌, ℕ, true, List, [], ◌++◌, Option, Some, Result, Ok, Err, refl, sym, ap, ◌∙◌, subst, inl, inr, arith, false}
 use Rattle.std.specs.Io.KnownBytes.{Appends}
-use Rattle.std.specs.Prelude.{◌⊎◌, IsErrOf}
+use Rattle.std.specs.Prelude.{◌⊎◌, IsErrOf, IsSome}
 use Rattle.pid_ident.specs.Sending.{SendsFront}
 use Rattle.pid_file.specs.declared.io.WriteFault.{WriteFault as OutputFault}
 use Rattle.pid_file.specs.Printing.{print}
@@ -20,7 +20,7 @@ use Rattle.pid_script.specs.declared.line_end.LineEnd.{LineEnd}
 use Rattle.pid_script.specs.declared.line_end.LineEnd.TheVariants.{Stopped, WriteFault, TooLong}
 use Rattle.pid_service_laws.specs.declared.registry_calls.RegistryCalls.{Ghosts}
 use Rattle.pid_service_laws.specs.Moderating.{ExportsText, TakesWholeFront}
-use Rattle.pid_script.specs.Steps.Output.{out, IsGivenRefusal, IsGivenStop, IsNothing, TellsLine, IsReplyOrStop, GoesOnAfter, AnswersLine}
+use Rattle.pid_script.specs.Steps.Output.{Out, GoesOut, IsGivenRefusal, IsGivenStop, IsNothing, TellsLine, IsReplyOrStop, GoesOnAfter, AnswersLine}
 use Rattle.pid_script.specs.ScriptLines as lines
 use Rattle.pid_script.specs.RegistryStates.{ShowsOrHasFailed}
 use Rattle.pid_script.specs.StopLines.{is_stop, StoppedBy, IsStopText}
@@ -30,45 +30,45 @@ use Rattle.pid_script.proofs.SayLemmas.{Appends-nil, Appends-then, front-then, f
 use Rattle.pid_script.proofs.Causes.{faults_stop}
 
 -- what was held did not go out before an export
-pub export_unheld : {R : Type 0} (m : Ghosts R) (e : LineEnd) (h : History) (r : R) (a b : Option (List ℕ)) (was left : List ℕ) → e ≡ WriteFault → SendsFront a b was → AnswersLine m (Err e) lines.AsksExport h r (out a was) r (out b left)
-export_unheld m e h r a b was left is front = subst (λ x. AnswersLine m (Err x) lines.AsksExport h r (out a was) r (out b left)) (sym is) (record {
-  tells = record { text = print (tree_of h); is = inl refl; front = front-before a b was (print (tree_of h)) front };
+pub export_unheld : {R : Type 0} (m : Ghosts R) (e : LineEnd) (h : History) (r : R) (old left : Out) → GoesOut (Err e) old left old.held → AnswersLine m (Err e) lines.AsksExport h r old r left
+export_unheld m e h r old left sends = subst (λ x. AnswersLine m (Err x) lines.AsksExport h r old r left) (sym sends.0) (record {
+  tells = record { text = print (tree_of h); is = inl refl; front = (front-before old.taken left.taken old.held (print (tree_of h)) sends.1, sends.2) };
   leaves = record { shows = λ s. inl s; failed = λ _. refl };
   sends = inl (send_still m.showing r 1);
 })
 
 -- the whole text went out
-pub export_whole : {R : Type 0} (m : Ghosts R) (x : Unit {0}) (h : History) (r new : R) (a b c : Option (List ℕ)) (was left : List ℕ) → Appends a b was → left ≡ [] → (m.showing.shows r h → Appends b c (print (tree_of h))) → (m.showing.shows r h → m.showing.shows new h) → (m.is_live r ≡ false → ⊥) → Does m.showing r nothing_sent new → ShowsOrHasFailed m r h
-    → AnswersLine m (Ok x) lines.AsksExport h r (out a was) new (out c left)
-export_whole m x h r new a b c was left went none told kept failed does stands = record {
-  tells = out_then a b c was left (print (tree_of h)) none went (by stands);
+pub export_whole : {R : Type 0} (m : Ghosts R) (x : Unit {0}) (h : History) (r new : R) (old : Out) (b : Option (List ℕ)) (left : Out) → Appends old.taken b old.held → left.held ≡ [] → (m.showing.shows r h → Appends b left.taken (print (tree_of h))) → (m.showing.shows r h → m.showing.shows new h) → (m.is_live r ≡ false → ⊥) → Does m.showing r nothing_sent new → ShowsOrHasFailed m r h
+    → AnswersLine m (Ok x) lines.AsksExport h r old new left
+export_whole m x h r new old b left went none told kept failed does stands = record {
+  tells = out_then old b left (print (tree_of h)) none went (by stands);
   leaves = record { becomes = record { shows = kept; failed = λ f. absurd (failed f) }; lives = λ f. absurd (failed f); flushed = inr none; fits = λ e. cc };
   sends = send_none m.showing r new 1 (omega arith) does;
 }
   where
-    by : ShowsOrHasFailed m r h → Appends b c (print (tree_of h))
+    by : ShowsOrHasFailed m r h → Appends b left.taken (print (tree_of h))
     by (inl s) = told s
     by (inr f) = absurd (failed f)
 
 -- the writer failed within the text
-pub export_broken : {R : Type 0} (m : Ghosts R) (h : History) (r new : R) (a b c : Option (List ℕ)) (was left : List ℕ) → Appends a b was → (m.showing.shows r h → SendsFront b c (print (tree_of h))) → (m.showing.shows r h → m.showing.shows new h) → (m.is_live r ≡ false → ⊥) → Does m.showing r nothing_sent new → ShowsOrHasFailed m r h
-    → AnswersLine m (Err WriteFault) lines.AsksExport h r (out a was) new (out c left)
-export_broken m h r new a b c was left went told kept failed does stands = record {
-  tells = record { text = print (tree_of h); is = inl refl; front = front-then a b c was (print (tree_of h)) went (by stands) };
+pub export_broken : {R : Type 0} (m : Ghosts R) (h : History) (r new : R) (old : Out) (b : Option (List ℕ)) (left : Out) → Appends old.taken b old.held → IsSome left.fault → (m.showing.shows r h → SendsFront b left.taken (print (tree_of h))) → (m.showing.shows r h → m.showing.shows new h) → (m.is_live r ≡ false → ⊥) → Does m.showing r nothing_sent new → ShowsOrHasFailed m r h
+    → AnswersLine m (Err WriteFault) lines.AsksExport h r old new left
+export_broken m h r new old b left went fault told kept failed does stands = record {
+  tells = record { text = print (tree_of h); is = inl refl; front = (front-then old.taken b left.taken old.held (print (tree_of h)) went (by stands), fault) };
   leaves = record { shows = λ s. inl (kept s); failed = λ f. absurd (failed f) };
   sends = inl (send_none m.showing r new 1 (omega arith) does);
 }
   where
-    by : ShowsOrHasFailed m r h → SendsFront b c (print (tree_of h))
+    by : ShowsOrHasFailed m r h → SendsFront b left.taken (print (tree_of h))
     by (inl s) = told s
     by (inr f) = absurd (failed f)
 
 -- what an export told, by the fault
-pub write_told : (f : ExportFault) (w : OutputFault) (a b : Option (List ℕ)) (text : List ℕ) → f ≡ Write w → ExportsText {X = Unit {0}} (Err f) a b text → SendsFront a b text
-write_told f w a b text is told = subst (λ g. ExportsText {X = Unit {0}} (Err g) a b text) is told
+pub write_known : (f : ExportFault) (w : OutputFault) (a b : Option (List ℕ)) (text : List ℕ) → f ≡ Write w → ExportsText {X = Unit {0}} (Err f) a b text → SendsFront a b text
+write_known f w a b text is told = subst (λ g. ExportsText {X = Unit {0}} (Err g) a b text) is told
 
-pub refused_told : (f : ExportFault) (e : Refusal) (a b : Option (List ℕ)) (text : List ℕ) → f ≡ Refused e → ExportsText {X = Unit {0}} (Err f) a b text → IsMemoryOrStore e × TakesWholeFront a b text
-refused_told f e a b text is told = subst (λ g. ExportsText {X = Unit {0}} (Err g) a b text) is told
+pub refused_known : (f : ExportFault) (e : Refusal) (a b : Option (List ℕ)) (text : List ℕ) → f ≡ Refused e → ExportsText {X = Unit {0}} (Err f) a b text → IsMemoryOrStore e × TakesWholeFront a b text
+refused_known f e a b text is told = subst (λ g. ExportsText {X = Unit {0}} (Err g) a b text) is told
 
 fault_of : {X : Type 0} → Result X ExportFault → ExportFault → ExportFault
 fault_of (Ok x) other = other
@@ -77,6 +77,9 @@ fault_of (Err f) other = f
 pub fault_same : {X : Type 0} (f g : ExportFault) → IsErrOf {T = X} (Err f) g → f ≡ g
 unfolding fault_of
 fault_same {X} f g is = ap (λ (r : Result X ExportFault). fault_of r g) is
+
+pub of_fault : {X : Type 0} (f g : ExportFault) → f ≡ g → IsErrOf {T = X} (Err f) g
+of_fault f g is = ap Err is
 
 pub not_write : (f : ExportFault) (w : OutputFault) (e : Refusal) → f ≡ Write w → f ≡ Refused e → ⊥
 not_write f w e is other = let bad : Write w ≡ Refused e = sym is ∙ other in absurd cc
@@ -90,12 +93,12 @@ record BegunExport (a b : Option (List ℕ)) (text : List ℕ) : Type 0 where
   pub whole : IsWholeFront text front
   pub told : Appends a b front
 
-after_begun : {R : Type 0} (m : Ghosts R) (result : Result (Unit {0}) LineEnd) (e : Refusal) (h : History) (r new : R) (a b c d : Option (List ℕ)) (was now left : List ℕ)
-    → Appends a b was → now ≡ [] → BegunExport b c (print (tree_of h)) → ((f : Refusal) → IsGivenRefusal (Some e) f → StoppedBy m r h lines.AsksExport f) → is_stop e ≡ true → (m.showing.shows r h → m.showing.shows new h) → (m.is_live r ≡ false → new ≡ r)
-    → TellsLine result (refused_line e) (IsGivenStop (Some e)) (out c now) (out d left) → GoesOnAfter result (Some e) → (result ≡ Err TooLong → ⊥) → Does m.showing r nothing_sent new
-    → AnswersLine m result lines.AsksExport h r (out a was) new (out d left)
-after_begun m (Ok x) e h r new a b c d was now left went none begun cause stop kept failed t goes fits does = absurd (true≢false (sym stop ∙ goes))
-after_begun m (Err Stopped) e h r new a b c d was now left went none begun cause stop kept failed t goes fits does = record {
+after_begun : {R : Type 0} (m : Ghosts R) (result : Result (Unit {0}) LineEnd) (e : Refusal) (h : History) (r new : R) (old : Out) (b : Option (List ℕ)) (mid left : Out)
+    → Appends old.taken b old.held → mid.held ≡ [] → BegunExport b mid.taken (print (tree_of h)) → ((f : Refusal) → IsGivenRefusal (Some e) f → StoppedBy m r h lines.AsksExport f) → is_stop e ≡ true → (m.showing.shows r h → m.showing.shows new h) → (m.is_live r ≡ false → new ≡ r)
+    → TellsLine result (refused_line e) (IsGivenStop (Some e)) mid left → GoesOnAfter result (Some e) → Does m.showing r nothing_sent new
+    → AnswersLine m result lines.AsksExport h r old new left
+after_begun m (Ok x) e h r new old b mid left went none begun cause stop kept failed t goes does = absurd (true≢false (sym stop ∙ goes))
+after_begun m (Err Stopped) e h r new old b mid left went none begun cause stop kept failed t goes does = record {
   tells = record {
     text = begun.front ++ t.text;
     stop = record {
@@ -105,16 +108,16 @@ after_begun m (Err Stopped) e h r new a b c d was now left went none begun cause
       cause = cause t.stop.refusal t.stop.cause;
       is = ap (λ (l : List ℕ). begun.front ++ l) (t.stop.is ∙ ap (λ (l : List ℕ). l ++ refused_line t.stop.refusal) t.stop.front);
     };
-    told = Appends-then a b d was (begun.front ++ t.text) went (Appends-then b c d begun.front t.text begun.told (subst (λ (l : List ℕ). Appends c d (l ++ t.text)) none t.told));
+    told = Appends-then old.taken b left.taken old.held (begun.front ++ t.text) went (Appends-then b mid.taken left.taken begun.front t.text begun.told (subst (λ (l : List ℕ). Appends mid.taken left.taken (l ++ t.text)) none t.told));
   };
   leaves = record { stops = record { shows = λ s. inl (kept s); failed = failed }; fits = λ e. cc };
   sends = send_none m.showing r new 1 (omega arith) does;
 }
-after_begun m (Err WriteFault) e h r new a b c d was now left went none begun cause stop kept failed t goes fits does = record {
+after_begun m (Err WriteFault) e h r new old b mid left went none begun cause stop kept failed t goes does = record {
   tells = record {
     text = begun.front ++ t.text;
     is = inr (by t.is);
-    front = front-then a b d was (begun.front ++ t.text) went (front-then b c d begun.front t.text begun.told (subst (λ (l : List ℕ). SendsFront c d (l ++ t.text)) none t.front));
+    front = (front-then old.taken b left.taken old.held (begun.front ++ t.text) went (front-then b mid.taken left.taken begun.front t.text begun.told (subst (λ (l : List ℕ). SendsFront mid.taken left.taken (l ++ t.text)) none t.front.0)), t.front.1);
   };
   leaves = record { shows = λ s. inl (kept s); failed = failed };
   sends = inl (send_none m.showing r new 1 (omega arith) does);
@@ -129,16 +132,16 @@ after_begun m (Err WriteFault) e h r new a b c d was now left went none begun ca
       cause = cause s.refusal s.cause;
       is = ap (λ (l : List ℕ). begun.front ++ l) (s.is ∙ ap (λ (l : List ℕ). l ++ refused_line s.refusal) s.front);
     }
-after_begun m (Err TooLong) e h r new a b c d was now left went none begun cause stop kept failed t goes fits does = absurd (fits refl)
+after_begun m (Err TooLong) e h r new old b mid left went none begun cause stop kept failed t goes does = absurd goes
 
-pub export_refused : {R : Type 0} (m : Ghosts R) (result : Result (Unit {0}) LineEnd) (e : Refusal) (h : History) (r new : R) (a b c d : Option (List ℕ)) (was now left : List ℕ)
-    → Appends a b was → now ≡ [] → (m.showing.shows r h → IsMemoryOrStore e × TakesWholeFront b c (print (tree_of h))) → (m.is_live r ≡ false → (e ≡ Failed) × (new ≡ r) × (c ≡ b)) → (m.showing.shows r h → m.showing.shows new h) → ShowsOrHasFailed m r h
-    → ((reply : List ℕ) → IsReplyOrStop reply (Err e) → TellsLine result reply (IsGivenStop (Some e)) (out c now) (out d left)) → GoesOnAfter result (Some e) → (result ≡ Err TooLong → ⊥) → Does m.showing r nothing_sent new
-    → AnswersLine m result lines.AsksExport h r (out a was) new (out d left)
-export_refused m result e h r new a b c d was now left went none told failed kept stands sends goes fits does =
-    after_begun m result e h r new a b c d was now left went none (by stands) cause (stops stands) kept (λ f. (failed f).1) (sends (refused_line e) (inl refl)) goes fits does
+pub export_refused : {R : Type 0} (m : Ghosts R) (result : Result (Unit {0}) LineEnd) (e : Refusal) (h : History) (r new : R) (old : Out) (b : Option (List ℕ)) (mid left : Out)
+    → Appends old.taken b old.held → mid.held ≡ [] → (m.showing.shows r h → IsMemoryOrStore e × TakesWholeFront b mid.taken (print (tree_of h))) → (m.is_live r ≡ false → (e ≡ Failed) × (new ≡ r) × (mid.taken ≡ b)) → (m.showing.shows r h → m.showing.shows new h) → ShowsOrHasFailed m r h
+    → ((reply : List ℕ) → IsReplyOrStop reply (Err e) → TellsLine result reply (IsGivenStop (Some e)) mid left) → GoesOnAfter result (Some e) → Does m.showing r nothing_sent new
+    → AnswersLine m result lines.AsksExport h r old new left
+export_refused m result e h r new old b mid left went none told failed kept stands sends goes does =
+    after_begun m result e h r new old b mid left went none (by stands) cause (stops stands) kept (λ f. (failed f).1) (sends (refused_line e) (inl refl)) goes does
   where
-    by : ShowsOrHasFailed m r h → BegunExport b c (print (tree_of h))
+    by : ShowsOrHasFailed m r h → BegunExport b mid.taken (print (tree_of h))
     by (inl s) = record { front = (told s).1.front; whole = (told s).1.whole; told = (told s).1.told }
     by (inr f) = record { front = []; whole = record { behind = print (tree_of h); is = refl; whole = refl }; told = subst (λ x. Appends b x []) (sym (failed f).2) (Appends-nil b) }
 

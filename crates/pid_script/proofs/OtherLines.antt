@@ -1,9 +1,8 @@
 -- The answers to lines that ask nothing of the registry, and to those that do not fit.
 use Rattle.std.proofs.Common.{◌≡◌, ℕ, ◌<◌, false, List, [], ◌∷◌, ◌++◌, length, Option, Some, None, Result, Ok, Err, refl, sym, subst, inl, inr, arith}
 use Rattle.std.proofs.lemmas.List.{append-nil}
-use Rattle.std.specs.Prelude.{◌⊎◌, IfErr}
+use Rattle.std.specs.Prelude.{◌⊎◌}
 use Rattle.pid_reader.specs.Lines.{drop_cr, lines_of}
-use Rattle.pid_moderation.specs.declared.refusal.Refusal.{Refusal}
 use Rattle.pid_moderation.specs.declared.refusal.Refusal.TheVariants.{BadText, Memory, Failed}
 use Rattle.pid_moderation.specs.History.{History}
 use Rattle.pid_moderation.specs.ReplyLines.{refused_line}
@@ -12,29 +11,31 @@ use Rattle.pid_script.specs.declared.line_end.LineEnd.TheVariants.{Stopped, Writ
 use Rattle.pid_service_laws.specs.declared.registry_calls.RegistryCalls.{Ghosts}
 use Rattle.pid_script.specs.Replies.{command_of, history_after}
 use Rattle.pid_script.specs.RegistryStates.{StopsAfter}
-use Rattle.pid_script.specs.Steps.Output.{Out, out, IsGivenStop, SaysMemory, SaysStop, SaysTooLong, TellsLine, Unfit, NoMemory, AlreadyLong, AnswersLine}
+use Rattle.pid_script.specs.Steps.Output.{Out, SaysMemory, SaysStop, SaysText, SaysTooLong, Unfit, NoMemory, AlreadyLong, AnswersLine}
 use Rattle.pid_script.specs.Steps.Progress.{Answered, Ended}
 use Rattle.pid_script.specs.ScriptLines as lines
 use Rattle.pid_script.specs.ScriptLines.{Ask, LONGEST, ask_of}
 use Rattle.pid_script.specs.StopLines.{IsStopInPlace}
 use Rattle.pid_script.proofs.Answered.{broken_at, long_at, stopped_at}
 use Rattle.pid_script.proofs.Calling.{send_still}
-use Rattle.pid_script.proofs.SayLemmas.{Appends-nil}
+use Rattle.pid_script.proofs.SayLemmas.{Appends-nil, tells_said}
 use Rattle.pid_script.proofs.ScriptAsks.{begins_shorter, short_fits, too_long}
 use Rattle.pid_script.proofs.Causes.{none_begun, no_cause, own_cause}
-use Rattle.pid_script.proofs.Asked.{same, asked, always, none_goes, only_fault}
+use Rattle.pid_script.proofs.Asked.{same, asked, always, goes_fit, none_goes}
 
 -- a line that holds no question
-pub idle : {R : Type 0} (m : Ghosts R) (h : History) (r : R) (taken : Option (List ℕ)) (held : List ℕ) → AnswersLine m (Ok tt) lines.AsksNothing h r (out taken held) r (out taken held)
-idle m h r taken held = record {
-  tells = record { sent = []; told = Appends-nil taken; rest = append-nil held; room = λ less. less };
+pub idle : {R : Type 0} (m : Ghosts R) (h : History) (r : R) (o : Out) → AnswersLine m (Ok tt) lines.AsksNothing h r o r o
+idle m h r o = record {
+  tells = record { sent = []; told = Appends-nil o.taken; rest = append-nil o.held; room = λ less. less };
   leaves = record { becomes = same m r h; lives = λ _. refl; flushed = inl refl; fits = λ e. cc };
   sends = send_still m.showing r _;
 }
 
 -- a line that is no line of a script
-pub unclear : {R : Type 0} (m : Ghosts R) (result : Result (Unit {0}) LineEnd) (h : History) (r : R) (old left : Out) → ((given : Option Refusal) → TellsLine result (refused_line BadText) (IsGivenStop given) old left) → IfErr result (λ e. e ≡ WriteFault) → AnswersLine m result lines.Unclear h r old r left
-unclear m result h r old left told end = asked m result lines.Unclear h r r old left None refl (λ e. cc) (same m r h) (no_cause m r h lines.Unclear) (always result (m.is_live r ≡ false → (false ≡ false) ⊎ (None ≡ Some Failed)) (λ _. inl refl)) (none_goes result) (only_fault result end) (send_still m.showing r _) (told None)
+pub unclear : {R : Type 0} (m : Ghosts R) (result : Result (Unit {0}) LineEnd) (h : History) (r : R) (old left : Out) → SaysText result old left (refused_line BadText) → AnswersLine m result lines.Unclear h r old r left
+unclear m result h r old left says =
+    let goes = none_goes result (refused_line BadText) old left says in
+    asked m result lines.Unclear h r r old left None refl (λ e. cc) (same m r h) (no_cause m r h lines.Unclear) (always result (m.is_live r ≡ false → (false ≡ false) ⊎ (None ≡ Some Failed)) (λ _. inl refl)) goes (goes_fit result None goes) (send_still m.showing r _) (tells_said result None (refused_line BadText) old left says)
 
 -- a line that is too long
 pub long : {R : Type 0} (m : Ghosts R) (e : LineEnd) (h : History) (r : R) (old left : Out) → SaysTooLong e old left → AnswersLine m (Err e) lines.TooLong h r old r left

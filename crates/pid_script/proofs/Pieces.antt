@@ -3,7 +3,7 @@ use Rattle.std.proofs.Common.{◌≡◌, ◌<◌, ◌≤◌, ℕ, ◌+◌, true,
 use Rattle.std.proofs.lemmas.Bool.Decides.{nat_tests}
 use Rattle.std.proofs.lemmas.List.{append-nil, nil_from_length}
 use Rattle.std.specs.Io.KnownBytes.{Appends}
-use Rattle.std.specs.Prelude.{◌==◌, vec_len, OnOk, IfErr, OnErr}
+use Rattle.std.specs.Prelude.{◌==◌, vec_len, OnOk, IfErr}
 use Rattle.pid_ident.specs.Sending.{SendsFront}
 use Rattle.pid_reader.specs.Lines.{drop_cr, lines_of}
 use Rattle.pid_moderation.specs.History.{History}
@@ -12,7 +12,8 @@ use Rattle.pid_file.proofs.Cuts.{whole_line, open_after, whole_same, open_longer
 use Rattle.pid_script.specs.declared.line_end.LineEnd.{LineEnd}
 use Rattle.pid_script.specs.declared.line_end.LineEnd.TheVariants.{WriteFault}
 use Rattle.pid_service_laws.specs.declared.registry_calls.RegistryCalls.{Ghosts}
-use Rattle.pid_script.specs.Steps.Output.{Out, out, Unfit, AnswersLine}
+use Rattle.pid_file.specs.declared.io.Output as outputs
+use Rattle.pid_script.specs.Steps.Output.{Out, GoesOut, out, Unfit, AnswersLine}
 use Rattle.pid_script.specs.ScriptLines.{LONGEST, ask_of}
 use Rattle.pid_script.specs.RegistryStates.{ShowsOrHasFailed}
 use Rattle.pid_script.specs.Steps.Progress.{Answered, HasAnswered, Ended, EndsText}
@@ -147,17 +148,17 @@ pub half_whole : {R : Type 0} (m : Ghosts R) (piece rest : List ℕ) (old now : 
 half_whole m piece rest old now was left kept kept_now half none = half_kept m piece rest old now was left kept kept_now kept_now half (ap ended_pieces none) (sym (ap (λ (l : List ℕ). kept_now ++ l) none ∙ append-nil kept_now)) (λ short. short)
 
 -- with what `keep` says of it
-pub half_kept_on : {R O : Type 0} (m : Ghosts R) (took : O → Option (List ℕ)) (piece rest : List ℕ) (old now : R) (was : Out) (out_now out_next : O) (held held_next kept kept_now kept_next : List ℕ)
-    → IsHalfway m piece rest old now was (out (took out_now) held) kept kept_now → ended_pieces rest ≡ [] → kept_next ≡ kept_now ++ rest → length (drop_cr kept_next) ≤ LONGEST → out_next ≡ out_now → held_next ≡ held
+pub half_kept_on : {R O : Type 0} (m : Ghosts R) (writer : outputs.Ghosts O) (piece rest : List ℕ) (old now : R) (was : Out) (out_now out_next : O) (held held_next kept kept_now kept_next : List ℕ)
+    → IsHalfway m piece rest old now was (out writer out_now held) kept kept_now → ended_pieces rest ≡ [] → kept_next ≡ kept_now ++ rest → length (drop_cr kept_next) ≤ LONGEST → out_next ≡ out_now → held_next ≡ held
     → m.showing.is_clean now → (h : History) (start : Option (List ℕ)) (first : R) (text : List ℕ) → ShowsOrHasFailed m first h → HasAnswered m h start first old was kept text
-    → HasAnswered m h start first now (out (took out_next) held_next) kept_next (text ++ piece)
-half_kept_on m took piece rest old now was out_now out_next held held_next kept kept_now kept_next half no_lf is short silent still t h start first text stands a =
-    subst (λ o. HasAnswered m h start first now (out (took o) held_next) kept_next (text ++ piece)) (sym silent) (subst (λ l. HasAnswered m h start first now (out (took out_now) l) kept_next (text ++ piece)) (sym still)
-    (half_kept m piece rest old now was (out (took out_now) held) kept kept_now kept_next half no_lf is (λ _. short) t h start first text stands a))
+    → HasAnswered m h start first now (out writer out_next held_next) kept_next (text ++ piece)
+half_kept_on m writer piece rest old now was out_now out_next held held_next kept kept_now kept_next half no_lf is short silent still t h start first text stands a =
+    subst (λ o. HasAnswered m h start first now (out writer o held_next) kept_next (text ++ piece)) (sym silent) (subst (λ l. HasAnswered m h start first now (out writer out_now l) kept_next (text ++ piece)) (sym still)
+    (half_kept m piece rest old now was (out writer out_now held) kept kept_now kept_next half no_lf is (λ _. short) t h start first text stands a))
 
 -- the lines of a piece were answered, and what is held goes out
-piece_flushed : {R : Type 0} (m : Ghosts R) (h : History) (start : Option (List ℕ)) (first r : R) (old : Out) (new : Option (List ℕ)) (held kept text : List ℕ) → HasAnswered m h start first r old kept text → Appends old.taken new old.held → held ≡ [] → HasAnswered m h start first r (out new held) kept text
-piece_flushed m h start first r old new held kept text a went none = record { open_line = a.open_line; short = a.short; answered = answered_out m h start first r new held (whole_lines text) (flushed m h start first r old new (whole_lines text) a.answered went) none }
+piece_flushed : {R : Type 0} (m : Ghosts R) (h : History) (start : Option (List ℕ)) (first r : R) (old left : Out) (kept text : List ℕ) → HasAnswered m h start first r old kept text → Appends old.taken left.taken old.held → left.held ≡ [] → HasAnswered m h start first r left kept text
+piece_flushed m h start first r old left kept text a went none = record { open_line = a.open_line; short = a.short; answered = answered_out m h start first r left (whole_lines text) (flushed m h start first r old left.taken (whole_lines text) a.answered went) none }
 
 -- or not
 piece_broken : {R : Type 0} (m : Ghosts R) (h : History) (start : Option (List ℕ)) (first r : R) (old left : Out) (kept text more : List ℕ) → HasAnswered m h start first r old kept text → SendsFront old.taken left.taken old.held → Ended m WriteFault h start first r left (text ++ more) more
@@ -179,15 +180,15 @@ stop_last m (Ok x) h start first was new old left kept text a some stands ends =
 stop_last m (Err e) h start first was new old left kept text a some stands ends =
     ends_at m e h start first was new old left text [] text (whole_lines text) (drop_cr kept) [] [] (and_last text kept a.open_line some) (sym (append-nil text)) (and_last text kept a.open_line some) a.answered (ends (history_after h (whole_lines text)) (stands_now m h start first was old kept text stands a))
 
-pub piece_flushed_on : {R : Type 0} (m : Ghosts R) (r : Result (Unit {0}) LineEnd) (h : History) (start : Option (List ℕ)) (first now : R) (old : Out) (new : Option (List ℕ)) (held kept text : List ℕ) → HasAnswered m h start first now old kept text → OnOk r (Appends old.taken new old.held) → OnOk r (held ≡ []) → OnOk r (HasAnswered m h start first now (out new held) kept text)
-piece_flushed_on m (Ok x) h start first now old new held kept text a went none = piece_flushed m h start first now old new held kept text a went none
-piece_flushed_on m (Err e) h start first now old new held kept text a went none = tt
+pub piece_flushed_on : {R : Type 0} (m : Ghosts R) (r : Result (Unit {0}) LineEnd) (h : History) (start : Option (List ℕ)) (first now : R) (old left : Out) (kept text : List ℕ) → HasAnswered m h start first now old kept text → GoesOut r old left old.held → OnOk r (HasAnswered m h start first now left kept text)
+piece_flushed_on m (Ok x) h start first now old left kept text a sends = piece_flushed m h start first now old left kept text a sends.0 sends.1
+piece_flushed_on m (Err e) h start first now old left kept text a sends = tt
 
-pub piece_broken_on : {R : Type 0} (m : Ghosts R) (r : Result (Unit {0}) LineEnd) (h : History) (start : Option (List ℕ)) (first now : R) (old left : Out) (kept text more : List ℕ) → HasAnswered m h start first now old kept text → IfErr r (λ e. e ≡ WriteFault) → OnErr r (SendsFront old.taken left.taken old.held) → IfErr r (λ e. Ended m e h start first now left (text ++ more) more)
-piece_broken_on m (Ok x) h start first now old left kept text more a end front = tt
-piece_broken_on m (Err e) h start first now old left kept text more a end front = subst (λ x. Ended m x h start first now left (text ++ more) more) (sym end) (piece_broken m h start first now old left kept text more a front)
+pub piece_broken_on : {R : Type 0} (m : Ghosts R) (r : Result (Unit {0}) LineEnd) (h : History) (start : Option (List ℕ)) (first now : R) (old left : Out) (kept text more : List ℕ) → HasAnswered m h start first now old kept text → GoesOut r old left old.held → IfErr r (λ e. Ended m e h start first now left (text ++ more) more)
+piece_broken_on m (Ok x) h start first now old left kept text more a sends = tt
+piece_broken_on m (Err e) h start first now old left kept text more a sends = subst (λ x. Ended m x h start first now left (text ++ more) more) (sym sends.0) (piece_broken m h start first now old left kept text more a sends.1)
 
 -- all lines were answered, and what is held goes out, or not
-pub end_on : {R : Type 0} (m : Ghosts R) (r : Result (Unit {0}) LineEnd) (h : History) (start : Option (List ℕ)) (first now : R) (old left : Out) (text : List ℕ) → Answered m h start first now old (lines_of text) → IfErr r (λ e. e ≡ WriteFault) → OnOk r (Appends old.taken left.taken old.held) → OnErr r (SendsFront old.taken left.taken old.held) → EndsText m r h start first now left text
-end_on m (Ok x) h start first now old left text a end sent front = flushed m h start first now old left.taken (lines_of text) a sent
-end_on m (Err e) h start first now old left text a end sent front = subst (λ x. Ended m x h start first now left text []) (sym end) (broken m h start first now old left.taken (lines_of text) (lines_of text) [] (sym (append-nil (lines_of text))) a front)
+pub end_on : {R : Type 0} (m : Ghosts R) (r : Result (Unit {0}) LineEnd) (h : History) (start : Option (List ℕ)) (first now : R) (old left : Out) (text : List ℕ) → Answered m h start first now old (lines_of text) → GoesOut r old left old.held → EndsText m r h start first now left text
+end_on m (Ok x) h start first now old left text a sends = flushed m h start first now old left.taken (lines_of text) a sends.0
+end_on m (Err e) h start first now old left text a sends = subst (λ x. Ended m x h start first now left text []) (sym sends.0) (broken m h start first now old left.taken (lines_of text) (lines_of text) [] (sym (append-nil (lines_of text))) a sends.1)

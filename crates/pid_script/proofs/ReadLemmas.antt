@@ -15,7 +15,7 @@ use Rattle.pid_service_laws.specs.declared.registry_calls.RegistryCalls.{Ghosts}
 use Rattle.pid_script.specs.declared.script_end.ScriptEnd.{ScriptEnd}
 use Rattle.pid_script.specs.declared.script_end.ScriptEnd.TheVariants.{ReadFault as ReadEnd, WriteFault as WriteEnd, TurnsSpent}
 use Rattle.pid_script.specs.Steps.Progress.{HasAnswered, Ended, EndsText, script_end}
-use Rattle.pid_script.specs.Steps.Output.{Out, out}
+use Rattle.pid_script.specs.Steps.Output.{Out}
 use Rattle.pid_script.specs.Scripts.{passage, IsCutOff, IsScript, ReaderAndWriter, MakesReads, EndsWith, HasMore, Notes, BUFFER_ROOM}
 use Rattle.pid_script.specs.RegistryStates.{ShowsOrHasFailed}
 use Rattle.pid_script.specs.ScriptLines.{LONGEST}
@@ -103,12 +103,12 @@ ended_by r end s is none kept made = record { read_fault = by_reader r is; write
     by_writer (Err line_ends.WriteFault) is kept e = kept refl
     by_writer (Err line_ends.TooLong) is kept e = absurd cc
 
-pub some_told : {A : Type 0} (o : Option A) (x : A) → o ≡ Some x → IsSome o
-some_told None x e = cc
-some_told (Some y) x e = refl
+pub some_known : {A : Type 0} (o : Option A) (x : A) → o ≡ Some x → IsSome o
+some_known None x e = cc
+some_known (Some y) x e = refl
 
-pub none_read : {R : Type 0} (m : Ghosts R) (old : R) (taken come : Option (List ℕ)) (reads : ℕ) (held kept : List ℕ) → held ≡ [] → kept ≡ [] → HasRead m old old taken (out taken held) come come kept reads reads 0
-none_read m old taken come reads held kept nothing none = record {
+pub none_read : {R : Type 0} (m : Ghosts R) (old : R) (now : Out) (come : Option (List ℕ)) (reads : ℕ) (kept : List ℕ) → now.held ≡ [] → kept ≡ [] → HasRead m old old now.taken now come come kept reads reads 0
+none_read m old now come reads kept nothing none = record {
   was_honest = λ x. x;
   calls = go_still m.showing old;
   front = [];
@@ -123,12 +123,12 @@ none_read m old taken come reads held kept nothing none = record {
       waiting = [];
       parts = refl;
       asked = refl;
-      between = taken;
-      told = Appends-nil taken;
+      between = now.taken;
+      told = Appends-nil now.taken;
       sent = [];
-      went = Appends-nil taken;
+      went = Appends-nil now.taken;
       rest = nothing;
-      room = none_fits held nothing;
+      room = none_fits now.held nothing;
       fits = tt;
       leaves = record { shows = λ s. s; failed = λ f. refl };
       lives = λ f. tt;
@@ -178,7 +178,7 @@ pub read_failed : (s : ReaderAndWriter) (f : InputFault) (turn reads_now : ℕ) 
     → Consumes s.come now front → length front ≤ turn * BUFFER_ROOM → turn ≤ length front → Keeps now s.come_now
     → Notes turn (AllByRecursion HasMore) s.moments ms → IsNoted now taken ms s.moments_now → EndsWith ReadEnd s
 read_failed s f turn reads_now now taken ms front is less counted more read bounded some kept past noted = record {
-  read_fault = λ e. some_told s.read_fault f is;
+  read_fault = λ e. some_known s.read_fault f is;
   write_fault = λ e. absurd cc;
   failed = λ few fault. refl;
   reads = last_read ReadEnd s turn reads_now now taken ms front [] less counted more read bounded some (keeps_none now s.come_now kept) (omega arith) past noted (λ e. absurd cc);

@@ -1,9 +1,7 @@
 //! The answer to a line.
-ghost use Rattle.std.specs.Prelude.{◌≡◌, IsSome, Err};
 ghost use Rattle.pid_script.specs.ScriptLines as asks;
 ghost use Rattle.pid_script.specs.ScriptLines.{ask_of};
-ghost use Rattle.pid_script.specs.Calling.{CallsGo};
-ghost use Rattle.pid_script.specs.Steps.Output.{out, AnswersOver};
+ghost use Rattle.pid_script.specs.Steps.Output.{LeavesAnswer, out};
 
 use crate::fields::{read_command, read_path};
 use crate::line::{LineRequest, line_request};
@@ -28,11 +26,9 @@ fn obey<R: RegistryCalls, O: Output>(
     account: &str,
     form: &str,
 ) -> Result<(), LineEnd>
-    ensures calls { CallsGo R.showing registry.old registry.new }
-    ensures ends { AnswersOver R.RegistryCalls result (asks.AsksCommand verb account.now form.now)
-        registry.old (out (O.taken output.old) held.old.items) registry.new
-        (out (O.taken output.new) held.new.items) }
-    ensures fault { result ≡ Err LineEnd.WriteFault → IsSome (O.write_fault output.new) }
+    ensures { LeavesAnswer R.RegistryCalls result (asks.AsksCommand verb account.now form.now)
+        registry.old (out O.Output output.old held.old.items) registry.new
+        (out O.Output output.new held.new.items) }
 {
     match read_command(alloc, verb, account, form) {
         Ok(command) => {
@@ -51,11 +47,9 @@ fn read<R: RegistryCalls, O: Output>(
     held: &mut Vec<u8>,
     form: &str,
 ) -> Result<(), LineEnd>
-    ensures calls { CallsGo R.showing registry.old registry.new }
-    ensures ends { AnswersOver R.RegistryCalls result (asks.AsksName form.now) registry.old
-        (out (O.taken output.old) held.old.items) registry.new
-        (out (O.taken output.new) held.new.items) }
-    ensures fault { result ≡ Err LineEnd.WriteFault → IsSome (O.write_fault output.new) }
+    ensures { LeavesAnswer R.RegistryCalls result (asks.AsksName form.now)
+        registry.old (out O.Output output.old held.old.items) registry.new
+        (out O.Output output.new held.new.items) }
 {
     match read_path(alloc, form) {
         Ok(path) => {
@@ -74,11 +68,9 @@ fn lookup<R: RegistryCalls, O: Output>(
     held: &mut Vec<u8>,
     form: &str,
 ) -> Result<(), LineEnd>
-    ensures calls { CallsGo R.showing registry.old registry.new }
-    ensures ends { AnswersOver R.RegistryCalls result (asks.AsksLookup form.now) registry.old
-        (out (O.taken output.old) held.old.items) registry.new
-        (out (O.taken output.new) held.new.items) }
-    ensures fault { result ≡ Err LineEnd.WriteFault → IsSome (O.write_fault output.new) }
+    ensures { LeavesAnswer R.RegistryCalls result (asks.AsksLookup form.now)
+        registry.old (out O.Output output.old held.old.items) registry.new
+        (out O.Output output.new held.new.items) }
 {
     match read_lookup(alloc, form) {
         Ok(Some((flags, args, size))) => {
@@ -96,11 +88,9 @@ fn export<R: RegistryCalls, O: Output>(
     output: &mut O,
     held: &mut Vec<u8>,
 ) -> Result<(), LineEnd>
-    ensures calls { CallsGo R.showing registry.old registry.new }
-    ensures ends { AnswersOver R.RegistryCalls result asks.AsksExport registry.old
-        (out (O.taken output.old) held.old.items) registry.new
-        (out (O.taken output.new) held.new.items) }
-    ensures fault { result ≡ Err LineEnd.WriteFault → IsSome (O.write_fault output.new) }
+    ensures { LeavesAnswer R.RegistryCalls result asks.AsksExport
+        registry.old (out O.Output output.old held.old.items) registry.new
+        (out O.Output output.new held.new.items) }
 {
     if let Err(end) = flush(output, held) {
         return Err(end);
@@ -120,11 +110,9 @@ pub fn answer_line<R: RegistryCalls, O: Output>(
     held: &mut Vec<u8>,
     line: &[u8],
 ) -> Result<(), LineEnd>
-    ensures calls { CallsGo R.showing registry.old registry.new }
-    ensures ends { AnswersOver R.RegistryCalls result (ask_of line.now) registry.old
-        (out (O.taken output.old) held.old.items) registry.new
-        (out (O.taken output.new) held.new.items) }
-    ensures fault { result ≡ Err LineEnd.WriteFault → IsSome (O.write_fault output.new) }
+    ensures { LeavesAnswer R.RegistryCalls result (ask_of line.now)
+        registry.old (out O.Output output.old held.old.items) registry.new
+        (out O.Output output.new held.new.items) }
 {
     match line_request(line) {
         LineRequest::Nothing => Ok(()),

@@ -50,7 +50,7 @@ use pid_moderation::{Command, Refusal, Verb, command_of};
 use std::alloc::Global;
 
 // The most fields that a command has, its key among them.
-const MOST_FIELDS: usize = 4;
+const MOST_COMMAND_FIELDS: usize = 4;
 
 /// Whether a form has more fields than so many; none of them is decoded for it.
 pub fn has_more_fields(form: &str, most: usize) -> bool
@@ -105,7 +105,7 @@ pub fn read_command(
     ensures err { IfErr result (λ e. e ≢ Refusal.Memory
         → command_in_form verb account.now form.now ≡ Err e) }
 {
-    if has_more_fields(form, MOST_FIELDS) {
+    if has_more_fields(form, MOST_COMMAND_FIELDS) {
         return Err(Refusal::BadText);
     }
     let mut fields = fields_of(alloc, form)?;

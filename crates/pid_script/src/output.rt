@@ -2,25 +2,8 @@
 //!
 //! Replies are held until a command was answered, a read ends or there is no more room, so that
 //! many go out by one write. If there is no memory to hold them they go out at once.
-ghost use Rattle.std.specs.Prelude.{
-  ◌≡◌,
-  ◌≤◌,
-  ◌++◌,
-  length,
-  true,
-  false,
-  [],
-  Option,
-  Err,
-  IfErr,
-  IsSome,
-  OnOk,
-  OnErr,
-};
-ghost use Rattle.std.specs.Io.KnownBytes.{Appends};
-ghost use Rattle.pid_ident.specs.Sending.{SendsFront};
-ghost use Rattle.pid_moderation.specs.declared.refusal.Refusal.{Refusal};
-ghost use Rattle.pid_script.specs.Steps.Output.{out, SaysText, TellsLine, IsGivenStop};
+ghost use Rattle.std.specs.Prelude.{◌≡◌, ◌≤◌, ◌++◌, length, true, false, []};
+ghost use Rattle.pid_script.specs.Steps.Output.{SaysText, GoesOut, out};
 
 use crate::line_end::LineEnd;
 use pid_ident::{Output, write_all};
@@ -44,10 +27,7 @@ fn holds(held: &mut Vec<u8>, text: &[u8]) -> bool
 }
 
 fn send<O: Output>(output: &mut O, text: &[u8]) -> Result<(), LineEnd>
-    ensures sent { OnOk result (Appends (O.taken output.old) (O.taken output.new) text.now) }
-    ensures front { OnErr result (SendsFront (O.taken output.old) (O.taken output.new) text.now) }
-    ensures end { IfErr result (λ e. e ≡ LineEnd.WriteFault) }
-    ensures fault { result ≡ Err LineEnd.WriteFault → IsSome (O.write_fault output.new) }
+    ensures { GoesOut result (out O.Output output.old []) (out O.Output output.new []) text.now }
 {
     match write_all(output, text) {
         Ok(()) => Ok(()),
@@ -57,12 +37,8 @@ fn send<O: Output>(output: &mut O, text: &[u8]) -> Result<(), LineEnd>
 
 /// Writes what is held.
 pub fn flush<O: Output>(output: &mut O, held: &mut Vec<u8>) -> Result<(), LineEnd>
-    ensures sent { OnOk result (Appends (O.taken output.old) (O.taken output.new) held.old.items) }
-    ensures empty { OnOk result (held.new.items ≡ []) }
-    ensures front { OnErr result (SendsFront (O.taken output.old)
-        (O.taken output.new) held.old.items) }
-    ensures end { IfErr result (λ e. e ≡ LineEnd.WriteFault) }
-    ensures fault { result ≡ Err LineEnd.WriteFault → IsSome (O.write_fault output.new) }
+    ensures { GoesOut result (out O.Output output.old held.old.items)
+        (out O.Output output.new held.new.items) held.old.items }
 {
     if let Err(end) = send(output, held.as_slice()) {
         return Err(end);
@@ -73,13 +49,8 @@ pub fn flush<O: Output>(output: &mut O, held: &mut Vec<u8>) -> Result<(), LineEn
 
 /// Says a text: it is held after what is held already, or goes out after that.
 pub fn say<O: Output>(output: &mut O, held: &mut Vec<u8>, text: &[u8]) -> Result<(), LineEnd>
-    ensures told { SaysText result (out (O.taken output.old) held.old.items)
-        (out (O.taken output.new) held.new.items) text.now }
-    ensures tells { (given : Option Refusal)
-        → TellsLine result text.now (IsGivenStop given)
-        (out (O.taken output.old) held.old.items) (out (O.taken output.new) held.new.items) }
-    ensures end { IfErr result (λ e. e ≡ LineEnd.WriteFault) }
-    ensures fault { result ≡ Err LineEnd.WriteFault → IsSome (O.write_fault output.new) }
+    ensures { SaysText result (out O.Output output.old held.old.items)
+        (out O.Output output.new held.new.items) text.now }
 {
     if holds(held, text) {
         return Ok(());
@@ -92,13 +63,8 @@ pub fn say<O: Output>(output: &mut O, held: &mut Vec<u8>, text: &[u8]) -> Result
 
 /// Says a text, and writes all that is held.
 pub fn say_all<O: Output>(output: &mut O, held: &mut Vec<u8>, text: &[u8]) -> Result<(), LineEnd>
-    ensures sent { OnOk result (Appends (O.taken output.old) (O.taken output.new)
-        (held.old.items ++ text.now)) }
-    ensures empty { OnOk result (held.new.items ≡ []) }
-    ensures front { OnErr result (SendsFront (O.taken output.old) (O.taken output.new)
-        (held.old.items ++ text.now)) }
-    ensures end { IfErr result (λ e. e ≡ LineEnd.WriteFault) }
-    ensures fault { result ≡ Err LineEnd.WriteFault → IsSome (O.write_fault output.new) }
+    ensures { GoesOut result (out O.Output output.old held.old.items)
+        (out O.Output output.new held.new.items) (held.old.items ++ text.now) }
 {
     if let Err(end) = say(output, held, text) {
         return Err(end);

@@ -1,23 +1,6 @@
 //! The replies to lines.
-ghost use Rattle.std.specs.Prelude.{
-  ◌≡◌,
-  ◌++◌,
-  ◌∷◌,
-  [],
-  Option,
-  true,
-  false,
-  Ok,
-  Err,
-  IfOk,
-  IfErr,
-  OnErr,
-  OnOk,
-  IsSome,
-};
-ghost use Rattle.pid_moderation.specs.ReplyLines.{refused_line, outcome_line};
-ghost use Rattle.std.specs.Io.KnownBytes.{Appends};
-ghost use Rattle.pid_ident.specs.Sending.{SendsFront};
+ghost use Rattle.std.specs.Prelude.{◌≡◌, ◌++◌, ◌∷◌, [], true, false, Err, OnOk};
+ghost use Rattle.pid_moderation.specs.ReplyLines.{refused_line};
 ghost use Rattle.pid_moderation.specs.declared.refusal.Refusal.TheVariants as refusals;
 ghost use Rattle.pid_script.specs.StopLines.{is_stop as is_stopping};
 ghost use Rattle.pid_script.specs.Steps.Output.{
@@ -26,10 +9,8 @@ ghost use Rattle.pid_script.specs.Steps.Output.{
   SaysTooLong,
   TellsAnswer,
   TellsFound,
-  TellsLine,
   TellsName,
   SaysText,
-  IsGivenStop,
   GoesOnAfter,
   refusal_given,
   refusal_of_names,
@@ -43,9 +24,8 @@ use pid_moderation::{Refusal, Reply, write_reply_line};
 
 /// Says that memory ran out, which takes none.
 pub fn stop_for_memory<O: Output>(output: &mut O, held: &mut Vec<u8>) -> LineEnd
-    ensures told { SaysMemory result (out (O.taken output.old) held.old.items)
-        (out (O.taken output.new) held.new.items) }
-    ensures fault { result ≡ LineEnd.WriteFault → IsSome (O.write_fault output.new) }
+    ensures { SaysMemory result (out O.Output output.old held.old.items)
+        (out O.Output output.new held.new.items) }
 {
     match say_all(output, held, b"refused 16 Memory\n") {
         Ok(()) => LineEnd::Stopped,
@@ -55,9 +35,8 @@ pub fn stop_for_memory<O: Output>(output: &mut O, held: &mut Vec<u8>) -> LineEnd
 
 /// Says that a line is too long.
 pub fn refuse_long<O: Output>(output: &mut O, held: &mut Vec<u8>) -> LineEnd
-    ensures told { SaysTooLong result (out (O.taken output.old) held.old.items)
-        (out (O.taken output.new) held.new.items) }
-    ensures fault { result ≡ LineEnd.WriteFault → IsSome (O.write_fault output.new) }
+    ensures { SaysTooLong result (out O.Output output.old held.old.items)
+        (out O.Output output.new held.new.items) }
 {
     match say_all(output, held, b"refused 3 BadText\n") {
         Ok(()) => LineEnd::TooLong,
@@ -83,11 +62,8 @@ fn say_line<O: Output>(
     word: &[u8],
     text: &[u8],
 ) -> Result<(), LineEnd>
-    ensures tells { (given : Option Refusal)
-        → TellsLine result (word.now ++ text.now ++ 10 ∷ []) (IsGivenStop given)
-        (out (O.taken output.old) held.old.items) (out (O.taken output.new) held.new.items) }
-    ensures end { IfErr result (λ e. e ≡ LineEnd.WriteFault) }
-    ensures fault { result ≡ Err LineEnd.WriteFault → IsSome (O.write_fault output.new) }
+    ensures { SaysText result (out O.Output output.old held.old.items)
+        (out O.Output output.new held.new.items) (word.now ++ text.now ++ 10 ∷ []) }
 {
     if let Err(end) = say(output, held, word) {
         return Err(end);
@@ -105,12 +81,10 @@ pub fn send_answer<O: Output>(
     held: &mut Vec<u8>,
     answer: Result<Reply, Refusal>,
 ) -> Result<(), LineEnd>
-    ensures told { TellsAnswer result answer (out (O.taken output.old) held.old.items)
-        (out (O.taken output.new) held.new.items) }
+    ensures told { TellsAnswer result answer (out O.Output output.old held.old.items)
+        (out O.Output output.new held.new.items) }
     ensures goes_on { GoesOnAfter result (refusal_given answer) }
     ensures empty { OnOk result (held.new.items ≡ []) }
-    ensures fault { result ≡ Err LineEnd.WriteFault → IsSome (O.write_fault output.new) }
-    ensures fits { result ≡ Err LineEnd.TooLong → ⊥ }
 {
     if let Err(end) = flush(output, held) {
         return Err(end);
@@ -126,11 +100,8 @@ pub fn send_answer<O: Output>(
 
 /// Says that a line is not understood.
 pub fn send_bad_text<O: Output>(output: &mut O, held: &mut Vec<u8>) -> Result<(), LineEnd>
-    ensures told { (given : Option Refusal)
-        → TellsLine result (refused_line refusals.BadText) (IsGivenStop given)
-        (out (O.taken output.old) held.old.items) (out (O.taken output.new) held.new.items) }
-    ensures end { IfErr result (λ e. e ≡ LineEnd.WriteFault) }
-    ensures fault { result ≡ Err LineEnd.WriteFault → IsSome (O.write_fault output.new) }
+    ensures { SaysText result (out O.Output output.old held.old.items)
+        (out O.Output output.new held.new.items) (refused_line refusals.BadText) }
 {
     say(output, held, b"refused 3 BadText\n")
 }
@@ -141,11 +112,9 @@ pub fn send_name<O: Output>(
     held: &mut Vec<u8>,
     name: &Result<Option<Name>, Refusal>,
 ) -> Result<(), LineEnd>
-    ensures told { TellsName result name.now (out (O.taken output.old) held.old.items)
-        (out (O.taken output.new) held.new.items) }
+    ensures told { TellsName result name.now (out O.Output output.old held.old.items)
+        (out O.Output output.new held.new.items) }
     ensures goes_on { GoesOnAfter result (refusal_given name.now) }
-    ensures fault { result ≡ Err LineEnd.WriteFault → IsSome (O.write_fault output.new) }
-    ensures fits { result ≡ Err LineEnd.TooLong → ⊥ }
 {
     match name {
         Ok(Some(name)) => say_line(output, held, b"name ", name.as_str().as_bytes()),
@@ -160,11 +129,9 @@ pub fn send_found<O: Output>(
     held: &mut Vec<u8>,
     found: &Result<Answer, LookupRefusal<Refusal>>,
 ) -> Result<(), LineEnd>
-    ensures told { TellsFound result found.now (out (O.taken output.old) held.old.items)
-        (out (O.taken output.new) held.new.items) }
+    ensures told { TellsFound result found.now (out O.Output output.old held.old.items)
+        (out O.Output output.new held.new.items) }
     ensures goes_on { GoesOnAfter result (refusal_of_names found.now) }
-    ensures fault { result ≡ Err LineEnd.WriteFault → IsSome (O.write_fault output.new) }
-    ensures fits { result ≡ Err LineEnd.TooLong → ⊥ }
 {
     match found {
         Ok(Answer::Text(text)) => say_line(output, held, b"text ", text.as_bytes()),

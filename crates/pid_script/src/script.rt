@@ -13,22 +13,15 @@ ghost use Rattle.std.specs.Prelude.{
   ℕ,
   [],
   length,
-  IsSome,
   IfErr,
   OnOk,
-  Err,
 };
 ghost use Rattle.pid_ident.specs.Moments.{AllSince};
 ghost use Rattle.pid_reader.specs.Lines.{drop_cr};
 ghost use Rattle.pid_script.specs.ScriptLines.{LONGEST, ask_of};
-ghost use Rattle.pid_script.specs.Steps.Progress.{
-  AnswersPiece,
-  EndsInPiece,
-  EndsAll,
-};
-ghost use Rattle.pid_script.specs.Steps.Progress.{script_end};
+ghost use Rattle.pid_script.specs.Steps.Progress.{TakesEnd, TakesPiece, script_end};
 ghost use Rattle.pid_script.specs.Calling.{CallsGo};
-ghost use Rattle.pid_script.specs.Steps.Output.{out, AnswersOver, Unfit};
+ghost use Rattle.pid_script.specs.Steps.Output.{LeavesAnswer, Unfit, out};
 ghost use Rattle.pid_script.specs.Scripts.{
   passage,
   EndsWith,
@@ -65,8 +58,7 @@ fn keep<O: Output>(
     ensures silent { OnOk result (output.new ≡ output.old) }
     ensures still { OnOk result (held.new.items ≡ held.old.items) }
     ensures unfit { IfErr result (λ e. Unfit e (kept.old.items ++ piece.now)
-        (out (O.taken output.old) held.old.items) (out (O.taken output.new) held.new.items)) }
-    ensures fault { result ≡ Err LineEnd.WriteFault → IsSome (O.write_fault output.new) }
+        (out O.Output output.old held.old.items) (out O.Output output.new held.new.items)) }
 {
     if is_too_long(kept, piece) {
         return Err(refuse_long(output, held));
@@ -89,12 +81,10 @@ fn end_line<R: RegistryCalls, O: Output>(
     ensures empty { OnOk result (kept.new.items ≡ []) }
     // The memory of a line that was kept is let go before the next one.
     ensures let_go { OnOk result (0 < length kept.old.items → vec_capacity kept.new ≡ 0) }
-    ensures calls { CallsGo R.showing registry.old registry.new }
-    ensures ends { AnswersOver R.RegistryCalls result (ask_of
+    ensures answers { LeavesAnswer R.RegistryCalls result (ask_of
         (drop_cr (kept.old.items ++ front.now))) registry.old
-        (out (O.taken output.old) held.old.items) registry.new
-        (out (O.taken output.new) held.new.items) }
-    ensures fault { result ≡ Err LineEnd.WriteFault → IsSome (O.write_fault output.new) }
+        (out O.Output output.old held.old.items) registry.new
+        (out O.Output output.new held.new.items) }
 {
     if kept.is_empty() {
         return answer_line(alloc, registry, output, held, without_cr(front));
@@ -118,15 +108,9 @@ fn take_piece<R: RegistryCalls, O: Output>(
     kept: &mut Vec<u8>,
     piece: &[u8],
 ) -> Result<(), LineEnd>
-    ensures calls { CallsGo R.showing registry.old registry.new }
-    ensures empty { OnOk result (held.new.items ≡ []) }
-    ensures answered { AnswersPiece R.RegistryCalls result registry.old registry.new
-        (out (O.taken output.old) held.old.items) (out (O.taken output.new) held.new.items)
+    ensures { TakesPiece R.RegistryCalls result registry.old registry.new
+        (out O.Output output.old held.old.items) (out O.Output output.new held.new.items)
         kept.old.items kept.new.items piece.now }
-    ensures ended { EndsInPiece R.RegistryCalls result registry.old registry.new
-        (out (O.taken output.old) held.old.items) (out (O.taken output.new) held.new.items)
-        kept.old.items piece.now }
-    ensures fault { result ≡ Err LineEnd.WriteFault → IsSome (O.write_fault output.new) }
 {
     let mut rest = piece;
     while let Some((front, behind)) = split_line(rest) {
@@ -152,11 +136,9 @@ fn end_text<R: RegistryCalls, O: Output>(
     held: &mut Vec<u8>,
     kept: &[u8],
 ) -> Result<(), LineEnd>
-    ensures calls { CallsGo R.showing registry.old registry.new }
-    ensures ends { EndsAll R.RegistryCalls result registry.old registry.new
-        (out (O.taken output.old) held.old.items) (out (O.taken output.new) held.new.items)
+    ensures { TakesEnd R.RegistryCalls result registry.old registry.new
+        (out O.Output output.old held.old.items) (out O.Output output.new held.new.items)
         kept.now }
-    ensures fault { result ≡ Err LineEnd.WriteFault → IsSome (O.write_fault output.new) }
 {
     if kept.is_empty() {
         return flush(output, held);

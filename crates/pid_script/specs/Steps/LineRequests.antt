@@ -9,15 +9,15 @@ use Rattle.pid_script.specs.declared.line.LineRequest.TheVariants.{Nothing, Comm
 use Rattle.pid_script.specs.declared.line.LineRequest.TheVariants.{Lookup, Unclear, TooLong}
 
 -- the same as an ask of scripts
-abbrev pub ask_told : LineRequest → Ask
-ask_told Nothing = asks.AsksNothing
-ask_told (Command verb account form) = asks.AsksCommand verb account.now form.now
-ask_told Export = asks.AsksExport
-ask_told (Read form) = asks.AsksName form.now
-ask_told (Lookup form) = asks.AsksLookup form.now
-ask_told Unclear = asks.Unclear
-ask_told TooLong = asks.TooLong
+abbrev pub ask_known : LineRequest → Ask
+ask_known Nothing = asks.AsksNothing
+ask_known (Command verb account form) = asks.AsksCommand verb account.now form.now
+ask_known Export = asks.AsksExport
+ask_known (Read form) = asks.AsksName form.now
+ask_known (Lookup form) = asks.AsksLookup form.now
+ask_known Unclear = asks.Unclear
+ask_known TooLong = asks.TooLong
 
 -- two texts by their bytes
-abbrev pub parts_told : Option (Bor (List ℕ) × Bor (List ℕ)) → Option (List ℕ × List ℕ)
-parts_told pair = option_map (λ p. (p.0.now, p.1.now)) pair
+abbrev pub parts_known : Option (Bor (List ℕ) × Bor (List ℕ)) → Option (List ℕ × List ℕ)
+parts_known pair = option_map (λ p. (p.0.now, p.1.now)) pair

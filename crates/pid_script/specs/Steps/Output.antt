@@ -1,8 +1,10 @@
 -- What the functions that answer one line leave of the writer, of what is held for it, and of the
 -- registry.
 use Rattle.std.specs.Prelude.{◌≡◌, ◌⊎◌, ℕ, ◌<◌, ◌≤◌, true, false, List, [], ◌++◌, length, Option}
-use Rattle.std.specs.Prelude.{Some, None, Result, Ok, Err, MatchResult, IsErrAnd}
+use Rattle.std.specs.Prelude.{Some, None, IsSome, Result, Ok, Err, MatchResult, IsErrAnd}
 use Rattle.std.specs.Io.KnownBytes.{Appends}
+use Rattle.pid_file.specs.declared.io.Output as outputs
+use Rattle.pid_file.specs.declared.io.WriteFault.{WriteFault as OutputFault}
 use Rattle.pid_ident.specs.Sending.{SendsFront}
 use Rattle.pid_lookup.specs.declared.answer.Answer.{Answer}
 use Rattle.pid_lookup.specs.declared.answering.LookupRefusal.{LookupRefusal}
@@ -17,7 +19,7 @@ use Rattle.pid_moderation.specs.declared.command.Reply.{Reply}
 use Rattle.pid_script.specs.declared.line_end.LineEnd.{LineEnd}
 use Rattle.pid_script.specs.declared.line_end.LineEnd.TheVariants.{Stopped, WriteFault, TooLong}
 use Rattle.pid_service_laws.specs.declared.registry_calls.RegistryCalls.{Ghosts}
-use Rattle.pid_script.specs.Calling.{CallsSend, CallsSendEither}
+use Rattle.pid_script.specs.Calling.{CallsGo, CallsSend, CallsSendEither}
 use Rattle.pid_script.specs.ScriptLines as lines
 use Rattle.pid_script.specs.ScriptLines.{Ask}
 use Rattle.pid_script.specs.Replies.{BAD_FLAGS, answer_line, name_line, line_reply, command_of}
@@ -29,14 +31,15 @@ use Rattle.pid_script.specs.StopLines.{is_stop, IsStopInPlace, IsStopText}
 abbrev pub MOST_HELD : ℕ
 MOST_HELD = 65536
 
--- what a writer took, and what is held for it
+-- what a writer took, the fault that it keeps, and what is held for it
 pub record Out : Type 0 where
   pub taken : Option (List ℕ)
+  pub fault : Option OutputFault
   pub held : List ℕ
 
--- the two side by side
-abbrev pub out : Option (List ℕ) → List ℕ → Out
-out taken held = record { taken = taken; held = held }
+-- the same of a writer
+abbrev pub out : {O : Type 0} → outputs.Ghosts O → O → List ℕ → Out
+out writer o held = record { taken = writer.taken o; fault = writer.write_fault o; held = held }
 
 -- a text was said: some bytes went out, and the rest of what was held and said is held, in the room
 -- that there is
@@ -48,12 +51,18 @@ pub record HasSaid (old new : Out) (text : List ℕ) : Type 0 where
 
 -- the writer failed, and took a prefix of what was held and said, and not all of it
 abbrev pub SaysFront : Out → Out → List ℕ → Type 0
-SaysFront old new text = SendsFront old.taken new.taken (old.held ++ text)
+SaysFront old new text = SendsFront old.taken new.taken (old.held ++ text) × IsSome new.fault
 
 -- a text was said, or the writer failed within it
 abbrev pub SaysText : Result (Unit {0}) LineEnd → Out → Out → List ℕ → Type 0
 SaysText result old new text = MatchResult result (λ _. HasSaid old new text)
-    (λ _. SaysFront old new text)
+    (λ e. (e ≡ WriteFault) × SaysFront old new text)
+
+-- all of a text went out, and nothing is held any more; or the writer failed within it
+abbrev pub GoesOut : Result (Unit {0}) LineEnd → Out → Out → List ℕ → Type 0
+GoesOut result old new text = MatchResult result
+    (λ _. Appends old.taken new.taken text × (new.held ≡ []))
+    (λ e. (e ≡ WriteFault) × SendsFront old.taken new.taken text × IsSome new.fault)
 
 -- a refusal is the one that was given, and stops
 abbrev pub IsGivenRefusal : Option Refusal → Refusal → Type 0
@@ -143,11 +152,13 @@ TellsFound result (Err lookups.BadFlags) old new = TellsReply result BAD_FLAGS o
 TellsFound result (Err (lookups.Names refusal)) old new = TellsAnswer result (Err refusal) old new
 TellsFound result (Err lookups.Memory) old new = IsErrAnd result (λ end. SaysMemory end old new)
 
--- what was answered goes on if it is no stop
+-- what was answered goes on if it is no stop, and the line is not too long
 abbrev pub GoesOnAfter : Result (Unit {0}) LineEnd → Option Refusal → Type 0
 GoesOnAfter (Ok x) (Some refusal) = is_stop refusal ≡ false
 GoesOnAfter (Ok x) None = Unit {0}
-GoesOnAfter (Err end) given = Unit {0}
+GoesOnAfter (Err TooLong) given = ⊥
+GoesOnAfter (Err Stopped) given = Unit {0}
+GoesOnAfter (Err WriteFault) given = Unit {0}
 
 -- Why bytes of a line are not kept, and what was said: as far as they go the line is not too long,
 -- and that memory ran out was said; or it is too long already.
@@ -203,3 +214,11 @@ module _ {R : Type 0} (registry : Ghosts R) where
   abbrev pub AnswersOver : Result (Unit {0}) LineEnd → Ask → R → Out → R → Out → Type 0
   AnswersOver result ask r old new left =
       OverStanding registry r new (λ h. AnswersLine result ask h r old new left)
+
+  -- what the answer to a line leaves, whatever the registry showed
+  pub record LeavesAnswer (result : Result (Unit {0}) LineEnd) (ask : Ask) (r : R) (old : Out) (new : R)
+      (left : Out) : Type 0 where
+    pub calls : CallsGo registry.showing r new
+    pub ends : AnswersOver result ask r old new left
+    -- a fault of the writer is kept
+    pub fault : result ≡ Err WriteFault → IsSome left.fault

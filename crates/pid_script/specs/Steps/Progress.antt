@@ -1,6 +1,6 @@
 -- How far a script has come within the text that was read.
 use Rattle.std.specs.Prelude.{◌≡◌, ◌≤◌, ◌+◌, ℕ, List, [], ◌++◌, length, Option, Some, Result, Ok, Err, false}
-use Rattle.std.specs.Prelude.{IfErr, OnOk}
+use Rattle.std.specs.Prelude.{IfErr, IsSome, OnOk}
 use Rattle.std.specs.Io.KnownBytes.{Appends}
 use Rattle.pid_reader.specs.Lines.{drop_cr, lines_of}
 use Rattle.pid_reader.specs.WholeLines.{whole_lines, open_part}
@@ -11,7 +11,7 @@ use Rattle.pid_service_laws.specs.declared.registry_calls.RegistryCalls.{Ghosts}
 use Rattle.pid_script.specs.declared.script_end.ScriptEnd.{ScriptEnd}
 use Rattle.pid_script.specs.declared.script_end.ScriptEnd.TheVariants.{Done, WriteFault, TooLong}
 use Rattle.pid_script.specs.declared.script_end.ScriptEnd.TheVariants.{Stopped}
-use Rattle.pid_script.specs.Calling.{CallsSend}
+use Rattle.pid_script.specs.Calling.{CallsGo, CallsSend}
 use Rattle.pid_script.specs.Replies.{replies, calls_for_lines, commands_of_lines}
 use Rattle.pid_script.specs.Replies.{history_after}
 use Rattle.pid_script.specs.ScriptLines.{LONGEST}
@@ -87,10 +87,28 @@ module _ {R : Type 0} (registry : Ghosts R) where
       → ShowsOrHasFailed registry first h → HasAnswered h start first old was kept text
       → IfErr result (λ e. Ended e h start first new now ((text ++ piece) ++ more) more)
 
+  -- what the lines of a piece leave
+  pub record TakesPiece (result : Result (Unit {0}) LineEnd) (old new : R) (was now : Out)
+      (kept kept_after piece : List ℕ) : Type 0 where
+    pub calls : CallsGo registry.showing old new
+    pub empty : OnOk result (now.held ≡ [])
+    pub answered : AnswersPiece result old new was now kept kept_after piece
+    pub ended : EndsInPiece result old new was now kept piece
+    -- a fault of the writer is kept
+    pub fault : result ≡ Err line_ends.WriteFault → IsSome now.fault
+
   -- the text has ended, and its last line is answered, or ended it
   abbrev pub EndsAll : Result (Unit {0}) LineEnd → R → R → Out → Out → List ℕ → Type 0
   EndsAll result old new was now kept = FromAnswered old new was kept
       (λ h start first text. EndsText result h start first new now text)
+
+  -- what that leaves
+  pub record TakesEnd (result : Result (Unit {0}) LineEnd) (old new : R) (was now : Out)
+      (kept : List ℕ) : Type 0 where
+    pub calls : CallsGo registry.showing old new
+    pub ends : EndsAll result old new was now kept
+    -- a fault of the writer is kept
+    pub fault : result ≡ Err line_ends.WriteFault → IsSome now.fault
 
 -- the end of a script that such an end makes
 abbrev pub script_end : Result (Unit {0}) LineEnd → ScriptEnd

@@ -1,6 +1,6 @@
 use Rattle.std.specs.Fmt.{digits}
 use Rattle.pid_script.proofs.reply.send_bad_text.Goals as goal
 
-pub returns-clause-told : goal.returns-clause-told
+pub returns : goal.returns
 unfolding digits
-returns-clause-told g c = c.say.ensures.tells
+returns g c = c.say.ensures

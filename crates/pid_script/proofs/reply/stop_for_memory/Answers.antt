@@ -1,10 +1,10 @@
 use Rattle.std.specs.Fmt.{digits}
 use Rattle.pid_script.proofs.reply.stop_for_memory.Goals as goal
 
-pub returns-in-Ok-clause-told : goal.returns-in-Ok-clause-told
+pub returns-in-Ok : goal.returns-in-Ok
 unfolding digits
-returns-in-Ok-clause-told g c = c.in-Ok.ensures.sent
+returns-in-Ok g c = c.in-Ok.ensures.0
 
-pub returns-in-Err-clause-told : goal.returns-in-Err-clause-told
+pub returns-in-Err : goal.returns-in-Err
 unfolding digits
-returns-in-Err-clause-told g c = c.in-Err.ensures.front
+returns-in-Err g c = (c.in-Err.ensures.1, c.in-Err.ensures.2)

@@ -9,12 +9,12 @@ use Rattle.pid_script.proofs.Calling.{go_then}
 use Rattle.pid_script.proofs.script.run_script.Goals as goal
 
 pub loop-turn-init : goal.loop-turn-init
-loop-turn-init g c = (none_read g.R.RegistryCalls c.args.registry.now (g.O.Output.taken c.args.output.now) (g.I.Incoming.to_come c.args.input.now) (g.I.Incoming.reads c.args.input.now) c.new-held.result.items c.new-kept.result.items c.new-held.ensures.items c.new-kept.ensures.items, (g.met.I.Incoming.stays _, (unread g.R.RegistryCalls c.args.registry.now (g.O.Output.taken c.args.output.now) (g.I.Incoming.to_come c.args.input.now) (g.I.Incoming.moments c.args.input.now), ((no_turn, none_noted (g.I.Incoming.moments c.args.input.now)), search rules))))
+loop-turn-init g c = (none_read g.R.RegistryCalls c.args.registry.now (out g.O.Output c.args.output.now c.new-held.result.items) (g.I.Incoming.to_come c.args.input.now) (g.I.Incoming.reads c.args.input.now) c.new-kept.result.items c.new-held.ensures.items c.new-kept.ensures.items, (g.met.I.Incoming.stays _, (unread g.R.RegistryCalls c.args.registry.now (g.O.Output.taken c.args.output.now) (g.I.Incoming.to_come c.args.input.now) (g.I.Incoming.moments c.args.input.now), ((no_turn, none_noted (g.I.Incoming.moments c.args.input.now)), search rules))))
 
 pub loop-turn-preserved : goal.loop-turn-preserved
 loop-turn-preserved g c = (
   read_more g.R.RegistryCalls c.args.registry.now c.loop-turn.registry c.take_piece.new.registry
-      (g.O.Output.taken c.args.output.now) (out (g.O.Output.taken c.loop-turn.output) c.loop-turn.held.items) (out (g.O.Output.taken c.take_piece.new.output) c.take_piece.new.held.items)
+      (g.O.Output.taken c.args.output.now) (out g.O.Output c.loop-turn.output c.loop-turn.held.items) (out g.O.Output c.take_piece.new.output c.take_piece.new.held.items)
       (g.I.Incoming.to_come c.args.input.now) (g.I.Incoming.to_come c.loop-turn.input) (g.I.Incoming.to_come c.read_after.new.self)
       c.loop-turn.kept.items c.take_piece.new.kept.items (take c.in-Ok.count c.read_after.new.buffer)
       (g.I.Incoming.reads c.args.input.now) (g.I.Incoming.reads c.loop-turn.input) (g.I.Incoming.reads c.read_after.new.self) c.loop-turn._turn
@@ -23,7 +23,7 @@ loop-turn-preserved g c = (
     g.met.I.Incoming.joins _ _ _ c.loop-turn.invariant.1.0 c.read_after.ensures.goes,
     (
       calls_then g.R.RegistryCalls c.args.registry.now c.loop-turn.registry c.take_piece.new.registry (g.O.Output.taken c.args.output.now) (g.O.Output.taken c.loop-turn.output) (g.O.Output.taken c.take_piece.new.output) (g.I.Incoming.to_come c.args.input.now) (g.I.Incoming.moments c.args.input.now) (g.I.Incoming.moments c.read_after.new.self) c.take_piece.ensures.calls
-          (read_then g.R.RegistryCalls c.args.registry.now c.loop-turn.registry (g.O.Output.taken c.args.output.now) (g.I.Incoming.to_come c.args.input.now) (g.I.Incoming.to_come c.loop-turn.input) (out (g.O.Output.taken c.loop-turn.output) c.loop-turn.held.items) c.loop-turn.kept.items (g.I.Incoming.reads c.args.input.now) (g.I.Incoming.reads c.loop-turn.input) c.loop-turn._turn (g.I.Incoming.moments c.args.input.now) (g.I.Incoming.moments c.loop-turn.input) (g.I.Incoming.moments c.read_after.new.self) c.loop-turn.invariant.0 c.loop-turn.invariant.1.1.0 c.read_after.ensures.noted),
+          (read_then g.R.RegistryCalls c.args.registry.now c.loop-turn.registry (g.O.Output.taken c.args.output.now) (g.I.Incoming.to_come c.args.input.now) (g.I.Incoming.to_come c.loop-turn.input) (out g.O.Output c.loop-turn.output c.loop-turn.held.items) c.loop-turn.kept.items (g.I.Incoming.reads c.args.input.now) (g.I.Incoming.reads c.loop-turn.input) c.loop-turn._turn (g.I.Incoming.moments c.args.input.now) (g.I.Incoming.moments c.loop-turn.input) (g.I.Incoming.moments c.read_after.new.self) c.loop-turn.invariant.0 c.loop-turn.invariant.1.1.0 c.read_after.ensures.noted),
       (
         (
           λ some. c.in-Ok.ensures.fault,
@@ -38,7 +38,7 @@ loop-turn-preserved g c = (
 
 pub returns-in_default-clause-script : goal.returns-in_default-clause-script
 returns-in_default-clause-script g c = λ honest h stands.
-    cut_off g.R.RegistryCalls h (g.O.Output.taken c.args.output.now) c.args.registry.now c.loop-turn.registry (out (g.O.Output.taken c.loop-turn.output) c.loop-turn.held.items) c.loop-turn.kept.items c.loop-turn.invariant.0.front (g.I.Incoming.to_come c.args.input.now) (g.I.Incoming.to_come c.loop-turn.input) (g.I.Incoming.to_come c.read_after.new.self)
+    cut_off g.R.RegistryCalls h (g.O.Output.taken c.args.output.now) c.args.registry.now c.loop-turn.registry (out g.O.Output c.loop-turn.output c.loop-turn.held.items) c.loop-turn.kept.items c.loop-turn.invariant.0.front (g.I.Incoming.to_come c.args.input.now) (g.I.Incoming.to_come c.loop-turn.input) (g.I.Incoming.to_come c.read_after.new.self)
     c.loop-turn.invariant.0.consumed c.in_default.ensures.bytes c.loop-turn.invariant.0.empty (c.loop-turn.invariant.0.answered honest h stands)
 
 pub returns-in_default-clause-ended : goal.returns-in_default-clause-ended
@@ -55,12 +55,12 @@ returns-then-count-eq0-clause-script g c = λ honest h stands.
     let new = g.I.Incoming.to_come c.read_after.new.self in
     let now = g.I.Incoming.to_come c.loop-turn.input in
     let taken = g.O.Output.taken c.args.output.now in
-    let left = out (g.O.Output.taken c.end_text.new.output) c.end_text.new.held.items in
+    let left = out g.O.Output c.end_text.new.output c.end_text.new.held.items in
     subst (λ e. IfSome (g.I.Incoming.to_come c.args.input.now) (λ text. IsScript g.R.RegistryCalls e h (passage c.args.registry.now c.end_text.new.registry taken (g.O.Output.taken c.end_text.new.output)) text new)) (sym c.end_of.ensures)
     (all_read g.R.RegistryCalls c.end_text.result h taken c.args.registry.now c.end_text.new.registry left c.loop-turn.invariant.0.front (g.I.Incoming.to_come c.args.input.now) now new
     c.loop-turn.invariant.0.consumed (consumed_none now new c.in-Ok.count c.read_after.new.buffer c.if-count-eq0.true c.in-Ok.ensures.bytes.0) (c.in-Ok.ensures.bytes.1 c.if-count-eq0.true (has_room c.read_after.new.buffer whole))
     (c.end_text.ensures.ends honest h taken c.args.registry.now c.loop-turn.invariant.0.front stands
-    (subst (λ (l : List ℕ). HasAnswered g.R.RegistryCalls h taken c.args.registry.now c.loop-turn.registry (out (g.O.Output.taken c.loop-turn.output) c.loop-turn.held.items) l c.loop-turn.invariant.0.front) (sym c.deref.ensures.value) (c.loop-turn.invariant.0.answered was h stands))))
+    (subst (λ (l : List ℕ). HasAnswered g.R.RegistryCalls h taken c.args.registry.now c.loop-turn.registry (out g.O.Output c.loop-turn.output c.loop-turn.held.items) l c.loop-turn.invariant.0.front) (sym c.deref.ensures.value) (c.loop-turn.invariant.0.answered was h stands))))
 
 pub returns-then-count-eq0-clause-ended : goal.returns-then-count-eq0-clause-ended
 returns-then-count-eq0-clause-ended g c = let whole : length c.read_after.new.buffer ≡ 65536 = c.read_after.auto.buffer ∙ c.loop-turn.invariant.1.1.1.1 in
@@ -76,7 +76,7 @@ returns-in-Err-clause-script g c = λ honest h stands.
     let new = g.I.Incoming.to_come c.read_after.new.self in
     let now = g.I.Incoming.to_come c.loop-turn.input in
     let taken = g.O.Output.taken c.args.output.now in
-    let left = out (g.O.Output.taken c.take_piece.new.output) c.take_piece.new.held.items in
+    let left = out g.O.Output c.take_piece.new.output c.take_piece.new.held.items in
     subst (λ e. IfSome (g.I.Incoming.to_come c.args.input.now) (λ text. IsScript g.R.RegistryCalls e h (passage c.args.registry.now c.take_piece.new.registry taken (g.O.Output.taken c.take_piece.new.output)) text new)) (sym c.end_of-in-Err.ensures)
     (ended g.R.RegistryCalls c.in-Err.end h taken c.args.registry.now c.take_piece.new.registry left c.loop-turn.invariant.0.front (take c.in-Ok.count c.read_after.new.buffer) (g.I.Incoming.to_come c.args.input.now) now new
     c.loop-turn.invariant.0.consumed c.in-Ok.ensures.bytes.0
@@ -92,7 +92,7 @@ returns-in-Err-clause-goes g c = g.met.I.Incoming.joins _ _ _ c.loop-turn.invari
 
 pub returns-clause-script : goal.returns-clause-script
 returns-clause-script g c = λ honest h stands.
-    turns_over g.R.RegistryCalls h (g.O.Output.taken c.args.output.now) c.args.registry.now c.loop-turn.registry (out (g.O.Output.taken c.loop-turn.output) c.loop-turn.held.items) c.loop-turn.kept.items c.loop-turn.invariant.0.front (g.I.Incoming.to_come c.args.input.now) (g.I.Incoming.to_come c.loop-turn.input) c.loop-turn.invariant.0.consumed c.loop-turn.invariant.0.empty (c.loop-turn.invariant.0.answered honest h stands)
+    turns_over g.R.RegistryCalls h (g.O.Output.taken c.args.output.now) c.args.registry.now c.loop-turn.registry (out g.O.Output c.loop-turn.output c.loop-turn.held.items) c.loop-turn.kept.items c.loop-turn.invariant.0.front (g.I.Incoming.to_come c.args.input.now) (g.I.Incoming.to_come c.loop-turn.input) c.loop-turn.invariant.0.consumed c.loop-turn.invariant.0.empty (c.loop-turn.invariant.0.answered honest h stands)
 
 pub returns-clause-ended : goal.returns-clause-ended
 returns-clause-ended g c =
@@ -111,17 +111,17 @@ pub returns-clause-calls : goal.returns-clause-calls
 returns-clause-calls g c = c.loop-turn.invariant.0.calls
 
 pub returns-in_default-clause-caught_up : goal.returns-in_default-clause-caught_up
-returns-in_default-clause-caught_up g c = read_then g.R.RegistryCalls c.args.registry.now c.loop-turn.registry (g.O.Output.taken c.args.output.now) (g.I.Incoming.to_come c.args.input.now) (g.I.Incoming.to_come c.loop-turn.input) (out (g.O.Output.taken c.loop-turn.output) c.loop-turn.held.items) c.loop-turn.kept.items (g.I.Incoming.reads c.args.input.now) (g.I.Incoming.reads c.loop-turn.input) c.loop-turn._turn (g.I.Incoming.moments c.args.input.now) (g.I.Incoming.moments c.loop-turn.input) (g.I.Incoming.moments c.read_after.new.self) c.loop-turn.invariant.0 c.loop-turn.invariant.1.1.0 c.read_after.ensures.noted
+returns-in_default-clause-caught_up g c = read_then g.R.RegistryCalls c.args.registry.now c.loop-turn.registry (g.O.Output.taken c.args.output.now) (g.I.Incoming.to_come c.args.input.now) (g.I.Incoming.to_come c.loop-turn.input) (out g.O.Output c.loop-turn.output c.loop-turn.held.items) c.loop-turn.kept.items (g.I.Incoming.reads c.args.input.now) (g.I.Incoming.reads c.loop-turn.input) c.loop-turn._turn (g.I.Incoming.moments c.args.input.now) (g.I.Incoming.moments c.loop-turn.input) (g.I.Incoming.moments c.read_after.new.self) c.loop-turn.invariant.0 c.loop-turn.invariant.1.1.0 c.read_after.ensures.noted
 
 pub returns-then-count-eq0-clause-caught_up : goal.returns-then-count-eq0-clause-caught_up
 returns-then-count-eq0-clause-caught_up g c =
     calls_then g.R.RegistryCalls c.args.registry.now c.loop-turn.registry c.end_text.new.registry (g.O.Output.taken c.args.output.now) (g.O.Output.taken c.loop-turn.output) (g.O.Output.taken c.end_text.new.output) (g.I.Incoming.to_come c.args.input.now) (g.I.Incoming.moments c.args.input.now) (g.I.Incoming.moments c.read_after.new.self) c.end_text.ensures.calls
-    (read_then g.R.RegistryCalls c.args.registry.now c.loop-turn.registry (g.O.Output.taken c.args.output.now) (g.I.Incoming.to_come c.args.input.now) (g.I.Incoming.to_come c.loop-turn.input) (out (g.O.Output.taken c.loop-turn.output) c.loop-turn.held.items) c.loop-turn.kept.items (g.I.Incoming.reads c.args.input.now) (g.I.Incoming.reads c.loop-turn.input) c.loop-turn._turn (g.I.Incoming.moments c.args.input.now) (g.I.Incoming.moments c.loop-turn.input) (g.I.Incoming.moments c.read_after.new.self) c.loop-turn.invariant.0 c.loop-turn.invariant.1.1.0 c.read_after.ensures.noted)
+    (read_then g.R.RegistryCalls c.args.registry.now c.loop-turn.registry (g.O.Output.taken c.args.output.now) (g.I.Incoming.to_come c.args.input.now) (g.I.Incoming.to_come c.loop-turn.input) (out g.O.Output c.loop-turn.output c.loop-turn.held.items) c.loop-turn.kept.items (g.I.Incoming.reads c.args.input.now) (g.I.Incoming.reads c.loop-turn.input) c.loop-turn._turn (g.I.Incoming.moments c.args.input.now) (g.I.Incoming.moments c.loop-turn.input) (g.I.Incoming.moments c.read_after.new.self) c.loop-turn.invariant.0 c.loop-turn.invariant.1.1.0 c.read_after.ensures.noted)
 
 pub returns-in-Err-clause-caught_up : goal.returns-in-Err-clause-caught_up
 returns-in-Err-clause-caught_up g c =
     calls_then g.R.RegistryCalls c.args.registry.now c.loop-turn.registry c.take_piece.new.registry (g.O.Output.taken c.args.output.now) (g.O.Output.taken c.loop-turn.output) (g.O.Output.taken c.take_piece.new.output) (g.I.Incoming.to_come c.args.input.now) (g.I.Incoming.moments c.args.input.now) (g.I.Incoming.moments c.read_after.new.self) c.take_piece.ensures.calls
-    (read_then g.R.RegistryCalls c.args.registry.now c.loop-turn.registry (g.O.Output.taken c.args.output.now) (g.I.Incoming.to_come c.args.input.now) (g.I.Incoming.to_come c.loop-turn.input) (out (g.O.Output.taken c.loop-turn.output) c.loop-turn.held.items) c.loop-turn.kept.items (g.I.Incoming.reads c.args.input.now) (g.I.Incoming.reads c.loop-turn.input) c.loop-turn._turn (g.I.Incoming.moments c.args.input.now) (g.I.Incoming.moments c.loop-turn.input) (g.I.Incoming.moments c.read_after.new.self) c.loop-turn.invariant.0 c.loop-turn.invariant.1.1.0 c.read_after.ensures.noted)
+    (read_then g.R.RegistryCalls c.args.registry.now c.loop-turn.registry (g.O.Output.taken c.args.output.now) (g.I.Incoming.to_come c.args.input.now) (g.I.Incoming.to_come c.loop-turn.input) (out g.O.Output c.loop-turn.output c.loop-turn.held.items) c.loop-turn.kept.items (g.I.Incoming.reads c.args.input.now) (g.I.Incoming.reads c.loop-turn.input) c.loop-turn._turn (g.I.Incoming.moments c.args.input.now) (g.I.Incoming.moments c.loop-turn.input) (g.I.Incoming.moments c.read_after.new.self) c.loop-turn.invariant.0 c.loop-turn.invariant.1.1.0 c.read_after.ensures.noted)
 
 pub returns-clause-caught_up : goal.returns-clause-caught_up
 returns-clause-caught_up g c = c.loop-turn.invariant.1.1.0

@@ -5,7 +5,7 @@ use Rattle.pid_script.proofs.Pieces.{IsHalfway}
 use Rattle.pid_script.proofs.script.take_piece.Given as goal
 
 abbrev pub invariant-loop-front : goal.invariant-loop-front
-invariant-loop-front g l = IsHalfway g.R.RegistryCalls l.fn.piece l.rest l.fn.registry l.registry (out (g.O.Output.taken l.fn.output) l.fn.held.items) (out (g.O.Output.taken l.output) l.held.items) l.fn.kept.items l.kept.items
+invariant-loop-front g l = IsHalfway g.R.RegistryCalls l.fn.piece l.rest l.fn.registry l.registry (out g.O.Output l.fn.output l.fn.held.items) (out g.O.Output l.output l.held.items) l.fn.kept.items l.kept.items
 
 abbrev pub decreases-loop-front : goal.decreases-loop-front
 decreases-loop-front g l = length l.rest
