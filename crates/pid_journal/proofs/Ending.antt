@@ -7,6 +7,7 @@ use Rattle.pid_script.specs.Replies.{history_after}
 use Rattle.pid_service_laws.specs.declared.registry_calls.RegistryCalls.{Ghosts}
 use Rattle.pid_journal.specs.declared.file.JournalFile as files
 use Rattle.pid_journal.specs.Journals.{AreSegments, lines_in}
+use Rattle.pid_journal.specs.Openings.{IsNewName}
 use Rattle.pid_journal.specs.Steps.Segments.{EndsIn}
 use Rattle.pid_journal.proofs.Appending.{history_both}
 
@@ -17,9 +18,9 @@ named_in text h (n ∷ ns) name told =
     ap revision_of (history_both h (whole_lines (text n)) (lines_in text ns)) ∙ named_in text (history_after h (whole_lines (text n))) ns name told.2
 
 module _ {R J : Type 0} (registry : Ghosts R) (file : files.Ghosts J) (text : ℕ → List ℕ) (start : History) (names : List ℕ) (after : Option (List ℕ)) (new : R) (k : J) where
-  pub last_of : (ends : EndsIn registry file text start names after new k) → (names ≡ ends.front) ⊎ (after ≡ Some names)
+  pub last_of : (ends : EndsIn registry file text start names after new k) → ((names ≡ ends.front) × IsNewName names (revision_of (history_after start (lines_in text names)))) ⊎ (after ≡ Some names)
   last_of ends = elim ends.last [
-    | inl begins ↦ inl begins.0
+    | inl begins ↦ inl (begins.0, begins.2)
     | inr goes ↦ inr goes.2
   ]
 

@@ -1,6 +1,6 @@
 -- Segments in turn.
 use Rattle.std.proofs.Common.{◌≡◌, ◌⊎◌, inl, inr, ℕ, suc, ◌+◌, ◌<◌, ◌≤◌, Bool, true, false, List, [], ◌∷◌, ◌++◌, length, Option, Some, None, Result, Ok, Err, refl, sym, ap, subst, ◌∙◌, arith, append_assoc, append-nil}
-use Rattle.std.specs.Prelude.{IfSome, IsSorted, MatchResult, ◌==◌, nat_lt, cond}
+use Rattle.std.specs.Prelude.{IfOk, IfSome, IsSorted, MatchResult, ◌==◌, nat_lt, cond}
 use Rattle.std.specs.Ordering.{is_lt, nat_cmp}
 use Rattle.std.specs.declared.cmp.Ordering.TheVariants.{Less, Equal, Greater}
 use Rattle.std.proofs.lemmas.Bool.Decides.{nat_tests}
@@ -18,12 +18,13 @@ use Rattle.pid_journal.specs.declared.open_fault.OpenFault.{OpenFault}
 use Rattle.pid_journal.specs.declared.open_fault.OpenFault.TheVariants.{Newer}
 use Rattle.pid_journal.specs.Journals.{JournalLeads, lines_in}
 use Rattle.pid_journal.specs.Steps.Ways.{IsAlong, IsInSegments, IsOnWay}
-use Rattle.pid_journal.specs.Openings.{IsRefused, StopsAtOne}
+use Rattle.pid_journal.specs.Openings.{IsNewName, IsRefused, FollowsInTurn, StopsAtOne}
 use Rattle.pid_journal.specs.Steps.Opening.{ShowsAll}
-use Rattle.pid_journal.specs.Steps.Segments.{BeginsIn, EndsIn, EndsLast, FaultsAlong, FindsGap, FollowsAll, FollowsSegment, HasBegun, HasComeTo, HasComeToFirst, HasComeToLast, IsSameFolder, KeepsShown, LinesMayBeObeyed, NamesNew, PassesSegment, ShowsWithin, StaysQuiet, TellsRevision}
+use Rattle.pid_journal.specs.Steps.Segments.{BeginsIn, EndsIn, EndsLast, FaultsAlong, FindsGap, FollowsAll, FollowsSegment, HasBegun, HasComeTo, HasComeToFirst, HasComeToLast, IsSameFolder, KeepsShown, LinesMayBeObeyed, MayBegin, NamesNew, PassesSegment, ShowsWithin, StaysQuiet, TellsRevision}
 use Rattle.pid_journal.proofs.Along.{along_all, segments_along, stops_as, stops_at, stops_after}
 use Rattle.pid_journal.proofs.Appending.{history_both}
 use Rattle.pid_journal.proofs.Comparing.{last_same}
+use Rattle.pid_journal.proofs.ObeyedLines.{obeys_both}
 use Rattle.pid_journal.proofs.Places.{no_lines_left, same_by_revision}
 
 -- TWO PARTS OF A LIST, TWICE
@@ -117,6 +118,7 @@ pub record IsInTurn {R F J : Type 0} (w : Showing R) (folder : folders.Ghosts F 
   pub clean : w.is_clean now → w.is_clean old
   pub kept : moved ≡ false → StaysQuiet w folder old now f g
   pub at : (front : List ℕ) × (names ≡ front ++ name ∷ rest)
+  pub obeys : w.is_clean now → (all : List ℕ) → folder.names f ≡ Some all → (h : History) → w.shows old h → (m : History) × w.shows now m × FollowsInTurn (folder.text_in f) at.0 h m
   pub past : w.is_clean now → (h : History) → w.shows old h → HasBegun h names → (moved ≡ false) × w.shows now h
   pub begun : IsSorted nat_cmp names → ((at.0 ≡ []) × (moved ≡ false)) ⊎ HasComeToFirst w old now names
   pub turn : w.is_clean now → folder.names f ≡ Some names → (start : History) → IsMarked start → ShowsWithin w (folder.text_in f) start names old → HasTurn w (folder.text_in f) start names name rest now
@@ -158,6 +160,7 @@ module _ {R F J : Type 0} (w : Showing R) (folder : folders.Ghosts F J) where
     clean = λ clean. clean;
     kept = λ off. ((λ clean h shown. shown), refl);
     at = ([], is);
+    obeys = λ clean all known h shown. (h, shown, refl);
     past = λ clean h shown begun. (refl, shown);
     begun = λ sorted. inl (refl, refl);
     turn = λ clean known start marked shows. record { front = []; parts = is; shows = subst (λ (ns : List ℕ). ShowsWithin w (folder.text_in f) start ns r) is shows };
@@ -193,13 +196,18 @@ module _ {R F J : Type 0} (w : Showing R) (folder : folders.Ghosts F J) where
   pub turns : (old now new : R) (f g k : F) (names : List ℕ) (name next : ℕ) (rest later : List ℕ) (moved obeyed next_moved : Bool) → IsInTurn w folder old now f g names name rest moved → rest ≡ next ∷ later
       → IsSameFolder folder g k → (w.is_clean new → w.is_clean now) → (obeyed ≡ false → StaysQuiet w folder now new g k) → (next_moved ≡ false → (moved ≡ false) × (obeyed ≡ false)) → (moved ≡ false → obeyed ≡ false → next_moved ≡ false) → (w.is_clean new → (h : History) → w.shows now h → next ≤ revision_of h → (obeyed ≡ false) × w.shows new h)
       → (name ≤ next → HasComeTo w now new name)
+      → (w.is_clean new → (all : List ℕ) → folder.names g ≡ Some all → (h : History) → w.shows now h → (m : History) × w.shows new m × FollowsInTurn (folder.text_in g) (name ∷ []) h m)
       → (w.is_clean new → (all : List ℕ) → folder.names g ≡ Some all → Steps now new (folder.text_in g) name next later)
       → IsInTurn w folder old new f k names next later next_moved
-  turns old now new f g k names name next rest later moved obeyed next_moved turn is same honest kept both neither late come steps = record {
+  turns old now new f g k names name next rest later moved obeyed next_moved turn is same honest kept both neither late come obeys steps = record {
     same = (same.0 ∙ turn.same.0, same.1 ∙ turn.same.1);
     clean = λ clean. turn.clean (honest clean);
     kept = λ off. let offs = both off in both_quiet old now new f g k honest (turn.kept offs.0) (kept offs.1);
     at = (turn.at.0 ++ name ∷ [], next_at turn.at.0 names name next rest later turn.at.1 is);
+    obeys = λ clean all known h shown.
+        let far = turn.obeys (honest clean) all known h shown in
+        let one = obeys clean all (turn.same.0 ∙ known) far.0 far.1 in
+        (one.0, one.1, obeys_both (folder.text_in f) turn.at.0 (name ∷ []) h far.0 one.0 far.2 (subst (λ (text : ℕ → List ℕ). FollowsInTurn text (name ∷ []) far.0 one.0) turn.same.1 one.2));
     past = λ clean h shown begun.
         let past = turn.past (honest clean) h shown begun in
         let passed = late clean h past.1 (begun (turn.at.0 ++ name ∷ []) later next (next_at turn.at.0 names name next rest later turn.at.1 is)) in
@@ -256,6 +264,17 @@ pub read_names : (o : Option (List ℕ)) (names items : List ℕ) → o ≡ Some
 read_names None names items known said = absurd (let no : ⊥ = cc in no)
 read_names (Some all) names items known said = let same : all ≡ names = cc in said ∙ same
 
+-- of no names none is the last
+pub none_new : (names : List ℕ) (name : ℕ) → names ≡ [] → IsNewName names name
+none_new names name none [] last is = let both : [] ≡ last ∷ [] = sym none ∙ is in let no : ⊥ = cc in absurd no
+none_new names name none (x ∷ xs) last is = let both : [] ≡ x ∷ (xs ++ last ∷ []) = sym none ∙ is in let no : ⊥ = cc in absurd no
+
+differ : (a b : ℕ) → (a == b) ≡ false → a ≡ b → ⊥
+differ a b off is = grind (arith, nat_tests, off, is)
+
+pub other_last : (names front rest : List ℕ) (last at name : ℕ) → (last == name) ≡ false → names ≡ front ++ last ∷ [] → names ≡ rest ++ at ∷ [] → at ≡ name → ⊥
+other_last names front rest last at name off parts is same = differ last name off (last_same front rest last at (sym parts ∙ is) ∙ same)
+
 pub empty_leads : (h : History) → JournalLeads h [] h
 empty_leads h = record { whole = refl; told = tt; leads = refl }
 
@@ -287,9 +306,9 @@ module _ {R J : Type 0} (registry : Ghosts R) (file : files.Ghosts J) where
   }
 
   -- or in a new one
-  pub begins_in : (text : ℕ → List ℕ) (start : History) (names : List ℕ) (after : Option (List ℕ)) (new : R) (k : J) → file.safe k ≡ Some [] → registry.showing.shows new (history_after start (lines_in text names)) → NamesNew after names (history_after start (lines_in text names)) → EndsIn registry file text start names after new k
-  begins_in text start names after new k safe shown named =
-      record { front = names; last = inl (refl, named); shown = shown; kept = []; safe = safe; leads = empty_leads (history_after start (lines_in text names)); more = []; grows = refl }
+  pub begins_in : (text : ℕ → List ℕ) (start : History) (names : List ℕ) (after : Option (List ℕ)) (new : R) (k : J) → file.safe k ≡ Some [] → registry.showing.shows new (history_after start (lines_in text names)) → NamesNew after names (history_after start (lines_in text names)) → IsNewName names (revision_of (history_after start (lines_in text names))) → EndsIn registry file text start names after new k
+  begins_in text start names after new k safe shown named is_new =
+      record { front = names; last = inl (refl, named, is_new); shown = shown; kept = []; safe = safe; leads = empty_leads (history_after start (lines_in text names)); more = []; grows = refl }
 
   module _ {F : Type 0} (folder : folders.Ghosts F J) where
     pub skip_passes : (old new : R) (f : F) (name next n : ℕ) (x : Bool) → KeepsShown registry.showing old new → TellsRevision registry.showing old new (Ok n) → next ≤ n → PassesSegment registry file folder old new f name next (Ok x)
@@ -417,19 +436,43 @@ module _ {R J : Type 0} (registry : Ghosts R) (file : files.Ghosts J) where
         (is, stops_after registry.showing new start (lines_in (folder.text_in f) names) (kept clean _ (ends_shown (folder.text_in f) start names mid last ends)))
 
     -- a journal that goes on after the last segment
-    pub found : (old mid new : R) (f g z : F) (names : List ℕ) (last : Option J) (k : J) → (registry.showing.is_clean new → registry.showing.is_clean mid) → FollowsAll registry file folder old mid f names (Ok last) → KeepsShown registry.showing mid new
-        → folder.names g ≡ folder.names f → ((last ≡ Some k) × (folder.names z ≡ folder.names g)) ⊎ BeginsIn registry file folder mid new g z k
+    pub found : (old mid new : R) (f g z : F) (names begins : List ℕ) (last : Option J) (k : J) → begins ≡ names → (registry.showing.is_clean new → registry.showing.is_clean mid) → FollowsAll registry file folder old mid f names (Ok last) → KeepsShown registry.showing mid new
+        → folder.names g ≡ folder.names f → ((last ≡ Some k) × (folder.names z ≡ folder.names g)) ⊎ (BeginsIn registry file folder mid new g z k × ((last ≡ None) ⊎ MayBegin registry.showing mid new begins))
         → registry.showing.is_clean new → folder.names f ≡ Some names → (start : History) → IsMarked start → ShowsWithin registry.showing (folder.text_in f) start names old → EndsIn registry file (folder.text_in f) start names (folder.names z) new k
-    found old mid new f g z names last k honest follows kept same (inl (is, stays)) clean known start marked shows =
+    found old mid new f g z names begins last k read honest follows kept same (inl (is, stays)) clean known start marked shows =
         let ends = follows (honest clean) known start marked shows in
         let shown = kept clean (history_after start (lines_in (folder.text_in f) names)) (ends_shown (folder.text_in f) start names mid last ends) in
         ends_in (folder.text_in f) start names (folder.names z) mid new k (subst (λ (l : Option J). EndsLast registry file (folder.text_in f) start names mid l) is ends) shown (stays ∙ same ∙ known)
-    found old mid new f g z names last k honest follows kept same (inr begins) clean known start marked shows =
+    found old mid new f g z names begins last k read honest follows kept same (inr (says, why)) clean known start marked shows =
         let ends = follows (honest clean) known start marked shows in
         let there = ends_shown (folder.text_in f) start names mid last ends in
         let shown = kept clean (history_after start (lines_in (folder.text_in f) names)) there in
-        let b = begins names (same ∙ known) in
+        let b = says names (same ∙ known) in
         begins_in (folder.text_in f) start names (folder.names z) new k b.0 shown (b.2 clean (history_after start (lines_in (folder.text_in f) names)) there)
+        (elim why [
+          | inl none ↦ none_new names _ (subst (λ (l : Option J). EndsLast registry file (folder.text_in f) start names mid l) none ends).0
+          | inr may ↦ subst (λ (ns : List ℕ). IsNewName ns (revision_of (history_after start (lines_in (folder.text_in f) names)))) read (may clean (history_after start (lines_in (folder.text_in f) names)) there)
+        ])
+
+    -- a new segment is named by the revision of the registry
+    pub begins_named : (old new : R) (f g : F) (n : ℕ) (k : J) → KeepsShown registry.showing old new → TellsRevision registry.showing old new (Ok n) → IfSome (folder.names f) (λ all. (file.safe k ≡ Some []) × (folder.names g ≡ Some (all ++ n ∷ []))) → BeginsIn registry file folder old new f g k
+    begins_named old new f g n k kept told made names known =
+        let says = subst (λ (o : Option (List ℕ)). IfSome o (λ all. (file.safe k ≡ Some []) × (folder.names g ≡ Some (all ++ n ∷ [])))) known made in
+        (says.0, kept, λ clean h shown. says.1 ∙ ap (λ (m : ℕ). Some (names ++ m ∷ [])) (told clean h shown))
+
+    pub begins_none : (old new : R) (f g : F) (result : Result J OpenFault) (last : Option J) (names : List ℕ) → last ≡ None → IfOk result (BeginsIn registry file folder old new f g)
+        → IfOk result (λ k. ((last ≡ Some k) × (folder.names g ≡ folder.names f)) ⊎ (BeginsIn registry file folder old new f g k × ((last ≡ None) ⊎ MayBegin registry.showing old new names)))
+    begins_none old new f g (Ok k) last names none begun = inr (begun, inl none)
+    begins_none old new f g (Err fault) last names none begun = tt
+
+    -- after the last one, where the registry was asked before
+    pub begins_later : (old mid new : R) (f g : F) (result : Result J OpenFault) (last : Option J) (names : List ℕ) → (registry.showing.is_clean new → registry.showing.is_clean mid) → KeepsShown registry.showing old mid → KeepsShown registry.showing mid new → MayBegin registry.showing old mid names → IfOk result (BeginsIn registry file folder mid new f g)
+        → IfOk result (λ k. ((last ≡ Some k) × (folder.names g ≡ folder.names f)) ⊎ (BeginsIn registry file folder old new f g k × ((last ≡ None) ⊎ MayBegin registry.showing old new names)))
+    begins_later old mid new f g (Ok k) last names honest kept still may begun = inr (
+      λ all known. let b = begun all known in (b.0, (λ clean h shown. b.1 clean h (kept (honest clean) h shown)), (λ clean h shown. b.2 clean h (kept (honest clean) h shown))),
+      inr (λ clean h shown. may (honest clean) h shown),
+    )
+    begins_later old mid new f g (Err fault) last names honest kept still may begun = tt
 
     -- a gap before a new segment
     pub gap_found : (old mid new : R) (f g z : F) (names : List ℕ) (k : J) → StaysQuiet registry.showing folder old mid f g → (registry.showing.is_clean new → registry.showing.is_clean mid) → folder.names g ≡ folder.names f → BeginsIn registry file folder mid new g z k

@@ -14,6 +14,8 @@ pub mod Ending
 pub mod SegmentLines
 pub mod Imported
 pub mod InTurn
+pub mod ObeyedLines
+pub mod ObeyedInTurn
 pub mod Unread
 pub mod Marks
 pub mod Sessions

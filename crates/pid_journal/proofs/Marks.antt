@@ -65,6 +65,13 @@ pub counted_within : (safe : Option (List ℕ)) (all torn count : ℕ) → IfSom
 counted_within None all torn count counted up is = tt
 counted_within (Some bytes) all torn count counted up is = subst (λ (n : ℕ). MarksAreWithin bytes n) (sym (is ∙ ap (λ (n : ℕ). n - torn) counted)) (torn_within bytes (length bytes - torn) up)
 
+pub known_at : (o : Option (List ℕ)) (text : List ℕ) (P : List ℕ → Type 0) → o ≡ Some text → IfSome o P → P text
+known_at o text P is says = subst (λ (x : Option (List ℕ)). IfSome x P) is says
+
+-- and so many are cut off
+pub counted_cut : (safe : Option (List ℕ)) (text : List ℕ) (all torn count front : ℕ) → IfSome safe (λ bytes. all ≡ length bytes) → safe ≡ Some text → count ≡ all - torn → front ≡ length text - torn → front ≡ count
+counted_cut safe text all torn count front counted is cut left = left ∙ ap (λ (n : ℕ). n - torn) (sym (known_at safe text (λ bytes. all ≡ length bytes) is counted)) ∙ sym cut
+
 -- AN ENTRY
 
 no_more : (xs ys : List (List ℕ)) (x : List ℕ) (comment line : List ℕ) → xs ++ x ∷ [] ∷ ys ≡ comment ∷ line ∷ [] → line ≡ []

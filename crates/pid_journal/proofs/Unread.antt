@@ -1,6 +1,6 @@
 -- A file that is refused is imported over no history.
 use Rattle.std.proofs.Common.{◌≡◌, ◌⊎◌, inl, inr, ℕ, Bool, true, false, List, length, Option, Some, None, Result, Ok, Err, refl, sym, ap, subst, ◌∙◌}
-use Rattle.std.specs.Prelude.{if◌then◌else◌, nat_lt, IfOk, IsSome}
+use Rattle.std.specs.Prelude.{if◌then◌else◌, nat_lt, IsSome, MatchResult}
 use Rattle.pid_file.specs.Lines.{lines_of}
 use Rattle.pid_file.specs.Reading.{entries_of, refused}
 use Rattle.pid_file.specs.declared.refusal.ReadRefusal.{ReadRefusal}
@@ -11,6 +11,7 @@ use Rattle.pid_moderation.specs.declared.command.Reply.{Reply}
 use Rattle.pid_moderation.specs.declared.refusal.Refusal.{Refusal}
 use Rattle.pid_moderation.specs.declared.refusal.FileFault.{FileFault}
 use Rattle.pid_moderation.specs.BeforeFile.{import_of}
+use Rattle.pid_moderation.specs.Faults.{IsMemoryOrStore}
 use Rattle.pid_moderation.specs.CheckTables.{most_file_bytes}
 use Rattle.pid_moderation.specs.FactsOfViews.{facts_of}
 use Rattle.pid_moderation.specs.Files.{asks, fault_as, file_of, file_reading, read_as}
@@ -61,8 +62,8 @@ some_refusal : (o : Option ReadRefusal) → IsSome o → (r : ReadRefusal) × (o
 some_refusal None some = absurd (let no : ⊥ = cc in no)
 some_refusal (Some r) some = (r, refl)
 
-pub never : (result : Result Bool Refusal) (command : Command) (file text : List ℕ) → command.act ≡ Import file → text ≡ file → IfOk result (λ b. b ≡ true → IsSome (refused text)) → IfOk result (λ b. b ≡ true → (h : History) → after h (asks command) ≡ h)
-never (Err e) command file text is same told = tt
+pub never : (result : Result Bool Refusal) (command : Command) (file text : List ℕ) → command.act ≡ Import file → text ≡ file → MatchResult result (λ b. b ≡ true → IsSome (refused text)) IsMemoryOrStore → MatchResult result (λ b. b ≡ true → (h : History) → after h (asks command) ≡ h) IsMemoryOrStore
+never (Err e) command file text is same told = told
 never (Ok b) command file text is same told = λ on h.
     let some = some_refusal (refused file) (subst (λ (l : List ℕ). IsSome (refused l)) same (told on)) in
     ap (after h) (import_asks command file is) ∙ unaccepted h command.account command.key file some.0 some.1

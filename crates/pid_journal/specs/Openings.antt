@@ -1,6 +1,6 @@
 -- What an opening makes of a registry and of the folder of its journal: choices of this project.
-use Rattle.std.specs.Prelude.{◌≡◌, ◌⊎◌, ◌<◌, ◌≤◌, nat_le, ℕ, true, false, if◌then◌else◌, List, [], ◌∷◌, ◌++◌}
-use Rattle.std.specs.Prelude.{Option, Some, None, IfSome, option_map, unwrap_or}
+use Rattle.std.specs.Prelude.{◌≡◌, ◌≢◌, ◌⊎◌, ◌<◌, ◌≤◌, ◌+◌, nat_le, ℕ, Bool, true, false, ◌||◌, if◌then◌else◌}
+use Rattle.std.specs.Prelude.{List, [], ◌∷◌, ◌++◌, Option, Some, None, IfSome, is_some, option_map, unwrap_or}
 use Rattle.std.specs.Prelude.{Result, Ok, Err, MatchResult, IfErr, IfOk}
 use Rattle.std.specs.Option.{option_or}
 use Rattle.pid_file.specs.WholeLines.{whole_lines}
@@ -38,6 +38,53 @@ compared now told [] = told
 compared now told (line ∷ lines) = if unwrap_or (option_map (λ k. nat_le now.revision k.revision) told) false
     then told else compared now (if is_idle_line line then option_or (counts_said line) told else None) lines
 
+-- The greatest revision of a registry that is after all lines of a segment, which begins at this one.
+abbrev pub revision_after : ℕ → List (List ℕ) → ℕ
+revision_after most [] = most
+revision_after most (line ∷ lines) = revision_after (if is_idle_line line
+    then unwrap_or (option_map (λ k. k.revision) (counts_said line)) most else most + 1) lines
+
+-- What is no comment comes below one that says counts, with no other command in between.
+abbrev pub HaveNotes : Bool → List (List ℕ) → Type 0
+HaveNotes noted [] = Unit {0}
+HaveNotes noted (line ∷ lines) = (is_idle_line line ≡ false → noted ≡ true)
+    × HaveNotes (if is_idle_line line then is_some (counts_said line) || noted else false) lines
+
+-- A registry with these counts is where they are said, or after all lines if none are compared.
+abbrev pub StandsIn : Counts → ℕ → List (List ℕ) → Type 0
+StandsIn now begin lines = (compared now None lines ≡ Some now)
+    ⊎ ((compared now None lines ≡ None) × (now.revision ≤ revision_after begin lines))
+
+-- it has commands that come after all lines
+abbrev pub IsNewerThan : Counts → ℕ → List (List ℕ) → Type 0
+IsNewerThan now begin lines = (revision_after begin lines < now.revision)
+    × IfSome (compared now None lines) (λ k. k.revision < now.revision)
+
+-- no older counts, and others
+abbrev pub AreOthers : Counts → Option Counts → Type 0
+AreOthers now said = (k : Counts) × (said ≡ Some k) × (now.revision ≤ k.revision) × (k ≢ now)
+
+-- Lines of a segment lead from the one history to the other: of one that has begun, and in which a registry
+-- that shows the first is. Those that lead there come in turn.
+pub record ObeysIn (name : ℕ) (lines : List (List ℕ)) (h g : History) : Type 0 where
+  pub begun : name ≤ revision_of h
+  pub stands : StandsIn (counts_held h) name lines
+  pub before : List (List ℕ)
+  pub obeyed : List (List ℕ)
+  pub later : List (List ℕ)
+  pub parts : lines ≡ before ++ (obeyed ++ later)
+  pub leads : history_after h obeyed ≡ g
+
+-- the same of segments in turn, of which some may be left out
+abbrev pub FollowsInTurn : (ℕ → List ℕ) → List ℕ → (h g : History) → Type 0
+FollowsInTurn text [] h g = h ≡ g
+FollowsInTurn text (name ∷ names) h g = FollowsInTurn text names h g ⊎ ((next : History)
+    × ObeysIn name (whole_lines (text name)) h next × FollowsInTurn text names next g)
+
+-- these names do not end with this one
+abbrev pub IsNewName : List ℕ → ℕ → Type 0
+IsNewName names name = (front : List ℕ) (last : ℕ) → names ≡ front ++ last ∷ [] → last ≢ name
+
 -- the registry that is handed on, or back
 abbrev pub registry_left : {R J : Type 0} → Result (Opened R J) (R × OpenFault) → R
 registry_left (Ok opened) = opened.registry.registry
@@ -49,7 +96,8 @@ module _ {R F J : Type 0} (registry : Ghosts R) (folder : folders.Ghosts F J) (f
   -- one after it, named by the revision at which it begins; it has all lines that it had, and maybe a mark.
   pub record GoesOn (text : ℕ → List ℕ) (start : History) (names : List ℕ) (g : F) (p : Journaled R J) : Type 0 where
     pub front : List ℕ
-    pub last : (names ≡ front) ⊎ (folder.names g ≡ Some names)
+    pub last : ((names ≡ front) × IsNewName names (revision_of (history_after start (lines_in text names))))
+        ⊎ (folder.names g ≡ Some names)
     pub named : folder.names g ≡ Some (front ++ revision_of (history_after start (lines_in text front)) ∷ [])
     pub shows : PairShows registry file (history_after start (lines_in text front)) p
         (history_after start (lines_in text names))
@@ -68,13 +116,19 @@ module _ {R F J : Type 0} (registry : Ghosts R) (folder : folders.Ghosts F J) (f
     -- The first segment has begun, and before a gap the last one.
     pub begun : IfOk end (λ o. (above below : List ℕ) (n : ℕ) → names ≡ above ++ n ∷ below
         → (above ≡ []) ⊎ ((o.gap ≡ true) × (below ≡ [])) → n ≤ revision_of h)
-    -- If each segment has begun, the counts of the last one are compared: the same are no gap, older ones are
-    -- one, and any others are another registry's.
+    -- Whatever it answers, it obeyed no lines but of segments that have begun, and in which the registry was.
+    pub obeys : MatchResult end
+        (λ o. (g : History) × registry.showing.shows o.registry.registry g × FollowsInTurn (folder.text_in f) names h g)
+        (λ back. StopsAtOne registry.showing (FollowsInTurn (folder.text_in f) names h) back.0)
+    -- If each segment has begun, the registry is in the last one, or after a gap, or that says other counts.
     pub compares : (front : List ℕ) (name : ℕ) → names ≡ front ++ name ∷ []
         → ((above below : List ℕ) (n : ℕ) → names ≡ above ++ n ∷ below → n ≤ revision_of h)
-        → IfSome (compared (counts_held h) None (whole_lines (folder.text_in f name))) (λ k. MatchResult end
-        (λ o. (o.gap ≡ false → k ≡ counts_held h) × (o.gap ≡ true → k.revision < (counts_held h).revision))
-        (λ back. (back.1 ≡ Another) ⊎ IsRefused back.1))
+        → MatchResult end
+        (λ o. (o.gap ≡ false → StandsIn (counts_held h) name (whole_lines (folder.text_in f name)))
+        × (o.gap ≡ true → IsNewerThan (counts_held h) name (whole_lines (folder.text_in f name))))
+        (λ back. ((back.1 ≡ Another) × (HaveNotes false (whole_lines (folder.text_in f name))
+        → AreOthers (counts_held h) (compared (counts_held h) None (whole_lines (folder.text_in f name)))))
+        ⊎ IsRefused back.1)
 
   pub record OpensJournal (r : R) (f g : F) (result : Result (Opened R J) (R × OpenFault)) : Type 0 where
     -- a disk that has returned what was written up to the end has done so up to the beginning

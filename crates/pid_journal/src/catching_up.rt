@@ -3,6 +3,8 @@ ghost use Rattle.std.specs.Prelude.{
   ◌≡◌,
   ◌⊎◌,
   ◌-◌,
+  [],
+  ◌∷◌,
   ℕ,
   List,
   Some,
@@ -14,23 +16,20 @@ ghost use Rattle.std.specs.Prelude.{
 };
 ghost use Rattle.pid_service_laws.specs.CallLaws.{StaysClean};
 ghost use Rattle.pid_journal.specs.Openings.{IsRefused};
-ghost use Rattle.pid_journal.specs.Steps.Comparing.{ComparesSegment};
+ghost use Rattle.pid_journal.specs.Steps.Comparing.{Brings, ComparesSegment};
 ghost use Rattle.pid_journal.specs.Steps.Opening.{
   EndsFile,
+  IsLeftWhole,
   IsWholeUpTo,
   ObeysRest,
   StopsAlong,
 };
-ghost use Rattle.pid_journal.specs.Steps.Parts.{MayBeMarked};
 ghost use Rattle.pid_journal.specs.Steps.Places.{IsEndOf};
 ghost use Rattle.pid_journal.specs.Steps.Reads.{OfText, OnlyReads, left_in};
 ghost use Rattle.pid_journal.specs.Steps.Segments.{
   FollowsSegment,
   HasComeTo,
-  IsSameFolder,
-  KeepsShown,
   LinesMayBeObeyed,
-  StaysOrMoved,
 };
 
 use crate::file::JournalFile;
@@ -61,23 +60,6 @@ fn cut_torn<J: JournalFile>(journal: &mut J, torn: usize) -> Result<(), OpenFaul
     Ok(())
 }
 
-// Marks the last line of a file, if it is not marked yet.
-fn mark_last<R: RegistryQueries, J: JournalFile>(
-    alloc: Global,
-    registry: &mut R,
-    journal: &mut J,
-    is_marked: bool,
-)
-    ensures honest { StaysClean R.showing registry.old registry.new }
-    ensures kept { KeepsShown R.showing registry.old registry.new }
-    ensures marked { MayBeMarked R.showing registry.old registry.new (J.safe journal.old)
-        (J.safe journal.new) }
-{
-    if !is_marked {
-        mark_end(alloc, registry, journal);
-    }
-}
-
 // A registry obeys the lines that are left of a segment. What is no whole line there is cut off, and
 // the end is marked.
 fn obey_rest<R: RegistryQueries, F: JournalFolder>(
@@ -96,6 +78,7 @@ fn obey_rest<R: RegistryQueries, F: JournalFolder>(
         ObeysRest R.showing registry.old registry.new (F.Segment.JournalFile.safe journal.old)
         (F.Segment.JournalFile.safe journal.new) all (left_in text.old all))) }
     ensures fault { IfErr result (λ fault. IsRefused fault
+        × IsLeftWhole (F.Segment.JournalFile.safe journal.old) (F.Segment.JournalFile.safe journal.new)
         × OfText F.JournalFolder folder.old text.old (λ all.
         StopsAlong R.showing registry.old registry.new (left_in text.old all))) }
 {
@@ -107,7 +90,7 @@ fn obey_rest<R: RegistryQueries, F: JournalFolder>(
         Ok(()) => {}
         Err(fault) => return Err(fault),
     }
-    mark_last(alloc, registry, journal, text.is_marked());
+    mark_end(alloc, registry, journal, text.is_marked());
     Ok(())
 }
 
@@ -119,12 +102,10 @@ pub(crate) fn follow_segment<R: RegistryQueries, F: JournalFolder>(
     folder: &mut F,
     begin: u64,
 ) -> Result<F::Segment, OpenFault>
-    ensures honest { StaysClean R.showing registry.old registry.new }
-    ensures same { IsSameFolder F.JournalFolder folder.old folder.new }
+    ensures brings { Brings R.showing F.JournalFolder registry.old registry.new folder.old folder.new
+        (begin ∷ []) result }
     ensures followed { FollowsSegment R.RegistryCalls F.Segment.JournalFile F.JournalFolder
         registry.old registry.new folder.old begin result }
-    ensures stays { StaysOrMoved R.showing F.JournalFolder registry.old registry.new folder.old
-        folder.new result }
     ensures compared { ComparesSegment R.showing F.JournalFolder registry.old registry.new folder.old
         begin result }
     ensures come { MatchResult result (λ x. HasComeTo R.showing registry.old registry.new begin)

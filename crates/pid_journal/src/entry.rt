@@ -1,5 +1,5 @@
 //! Entries and marks that read back.
-ghost use Rattle.std.specs.Prelude.{◌≡◌, IfOk, IfErr, IfSome, string_bytes};
+ghost use Rattle.std.specs.Prelude.{◌≡◌, IfOk, IfSome, MatchResult, string_bytes};
 ghost use Rattle.pid_moderation.specs.Faults.{IsMemoryOrStore};
 ghost use Rattle.pid_moderation.specs.Files.{asks};
 ghost use Rattle.pid_moderation.specs.RegistryStatus.{registry_status_of};
@@ -85,9 +85,8 @@ pub fn entry_of(
     status: &Status,
     command: &Command,
 ) -> Result<String, Refusal>
-    ensures reads_back { IfOk result (λ entry. IsEntry (string_bytes entry)
-        (counts_in (registry_status_of status.now)) (asks command.now)) }
-    ensures fault { IfErr result IsMemoryOrStore }
+    ensures { MatchResult result (λ entry. IsEntry (string_bytes entry)
+        (counts_in (registry_status_of status.now)) (asks command.now)) IsMemoryOrStore }
 {
     let entry = compose(alloc, seconds, status, command)?;
     match read_entry(alloc, entry.as_bytes()) {

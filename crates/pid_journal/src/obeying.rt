@@ -91,7 +91,7 @@ impl<R: RegistryQueries, J: JournalFile> Journaled<R, J> {
             Ok(()) => {
                 let answer = self.registry.obey(command);
                 if !is_fault(&answer) {
-                    mark_end(self.alloc, &mut self.registry, &mut self.journal);
+                    mark_end(self.alloc, &mut self.registry, &mut self.journal, false);
                     return answer;
                 }
                 if !is_answering(&mut self.registry) {

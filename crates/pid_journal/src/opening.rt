@@ -1,15 +1,15 @@
 //! The journal of a folder, put in front of its registry.
-ghost use Rattle.std.specs.Prelude.{◌≡◌, ◌⊎◌, ℕ, List, Some, true, IfErr, IfOk};
+ghost use Rattle.std.specs.Prelude.{◌≡◌, ℕ, List, Some, false, true, IfOk};
 ghost use Rattle.pid_service_laws.specs.CallLaws.{StaysClean};
-ghost use Rattle.pid_journal.specs.Openings.{IsRefused, OpensJournal};
-ghost use Rattle.pid_journal.specs.Steps.Comparing.{ComparesGap};
+ghost use Rattle.pid_journal.specs.Openings.{IsNewName, OpensJournal};
+ghost use Rattle.pid_journal.specs.Steps.Comparing.{ComparesGap, ObeysSome};
 ghost use Rattle.pid_journal.specs.Steps.Segments.{
-  BeginsIn,
+  AsksOn,
+  BeginsSegment,
   FindsGap,
   FindsJournal,
+  FindsNext,
   HasComeToFirst,
-  KeepsShown,
-  LinesMayBeObeyed,
   StaysOrMoved,
 };
 
@@ -27,11 +27,8 @@ fn begin_segment<R: RegistryQueries, F: JournalFolder>(
     registry: &mut R,
     folder: &mut F,
 ) -> Result<F::Segment, OpenFault>
-    ensures honest { StaysClean R.showing registry.old registry.new }
-    ensures begun { IfOk result (BeginsIn R.RegistryCalls F.Segment.JournalFile F.JournalFolder
-        registry.old registry.new folder.old folder.new) }
-    ensures kept { KeepsShown R.showing registry.old registry.new }
-    ensures fault { IfErr result (λ fault. IsRefused fault × LinesMayBeObeyed fault) }
+    ensures { BeginsSegment R.RegistryCalls F.Segment.JournalFile F.JournalFolder registry.old
+        registry.new folder.old folder.new result }
 {
     let revision = match revision_of(registry) {
         Ok(revision) => revision,
@@ -43,6 +40,16 @@ fn begin_segment<R: RegistryQueries, F: JournalFolder>(
     }
 }
 
+// Whether the last of some names is this one.
+fn is_last(names: &[u64], name: u64) -> bool
+    ensures { result ≡ false → IsNewName names.now name }
+{
+    match names.split_last() {
+        Some((last, _)) => *last == name,
+        None => false,
+    }
+}
+
 // Whether a journal goes on in its last segment. One that is longer than so many bytes ends, but not
 // where the next one would have its name.
 fn goes_on<R: RegistryQueries, J: JournalFile>(
@@ -51,15 +58,13 @@ fn goes_on<R: RegistryQueries, J: JournalFile>(
     begins: &[u64],
     longest: u64,
 ) -> Result<bool, OpenFault>
-    ensures honest { StaysClean R.showing registry.old registry.new }
-    ensures kept { KeepsShown R.showing registry.old registry.new }
-    ensures fault { IfErr result (λ fault. IsRefused fault × LinesMayBeObeyed fault) }
+    ensures { AsksOn R.showing registry.old registry.new begins.now result }
 {
     if segment.count() <= longest {
         return Ok(true);
     }
     match revision_of(registry) {
-        Ok(revision) => Ok(begins.last().copied() == Some(revision)),
+        Ok(revision) => Ok(is_last(begins, revision)),
         Err(fault) => Err(fault),
     }
 }
@@ -72,13 +77,8 @@ fn segment_after<R: RegistryQueries, F: JournalFolder>(
     begins: &[u64],
     longest: u64,
 ) -> Result<F::Segment, OpenFault>
-    ensures honest { StaysClean R.showing registry.old registry.new }
-    ensures kept { KeepsShown R.showing registry.old registry.new }
-    ensures goes { IfOk result (λ segment.
-        ((last ≡ Some segment) × (F.names folder.new ≡ F.names folder.old))
-        ⊎ BeginsIn R.RegistryCalls F.Segment.JournalFile F.JournalFolder registry.old registry.new
-        folder.old folder.new segment) }
-    ensures fault { IfErr result (λ fault. IsRefused fault × LinesMayBeObeyed fault) }
+    ensures { FindsNext R.RegistryCalls F.Segment.JournalFile F.JournalFolder registry.old
+        registry.new folder.old folder.new last begins.now result }
 {
     let Some(segment) = last else {
         return begin_segment(registry, folder);
@@ -105,6 +105,8 @@ fn find_segment<R: RegistryQueries, F: JournalFolder>(
         F.Segment.JournalFile F.JournalFolder registry.old registry.new folder.old folder.new found.0) }
     ensures stays { StaysOrMoved R.showing F.JournalFolder registry.old registry.new folder.old
         folder.new result }
+    ensures obeys { (names : List ℕ) → F.names folder.old ≡ Some names → ObeysSome R.showing
+        F.JournalFolder registry.old registry.new folder.old names result }
     ensures compared { ComparesGap R.showing F.JournalFolder registry.old registry.new folder.old
         result }
     ensures begun { IfOk result (λ found. (names : List ℕ) → F.names folder.old ≡ Some names

@@ -117,7 +117,7 @@ pub fn find_place<F: JournalFolder>(
     ensures found { OfText F.JournalFolder folder.old text.old (λ all.
         FindsPlace (left_in text.old all) now begin result (λ x. left_in text.new all)) }
     ensures compared { OfText F.JournalFolder folder.old text.old (λ all.
-        Compares now (whole_lines (left_in text.old all)) result) }
+        Compares now begin (whole_lines (left_in text.old all)) result) }
 {
     let mut line = Vec::new(alloc);
     let mut place = Place {

@@ -2,6 +2,7 @@
 //! brought, and the line that is open.
 ghost use Rattle.std.specs.Prelude.{
   ◌≡◌,
+  ◌<◌,
   ◌≤◌,
   ◌++◌,
   [],
@@ -99,6 +100,7 @@ impl SegmentText {
             left_in self.new text ≡ drop self.old.read text)) }
         ensures end { IfOk result (λ more. more ≡ false → OfText F.JournalFolder folder.old
             self.old (λ text. (left_in self.new text ≡ []) × (drop self.new.read text ≡ []))) }
+        ensures grows { IfOk result (λ more. more ≡ true → self.old.read < self.new.read) }
     {
         let mut buffer = [0u8; BUFFER];
         let count = folder.read(self.begin, self.read, &mut buffer)?;

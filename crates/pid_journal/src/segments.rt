@@ -15,21 +15,17 @@ ghost use Rattle.std.specs.Prelude.{
   MatchResult,
 };
 ghost use Rattle.std.specs.Ordering.{nat_cmp};
-ghost use Rattle.pid_service_laws.specs.CallLaws.{StaysClean};
 ghost use Rattle.pid_journal.specs.Openings.{IsRefused};
-ghost use Rattle.pid_journal.specs.Steps.Comparing.{ComparesAll, SkipsLate};
+ghost use Rattle.pid_journal.specs.Steps.Comparing.{Brings, ComparesAll, SkipsLate};
 ghost use Rattle.pid_journal.specs.Steps.Segments.{
+  AsksRevision,
   FollowsAll,
   HasComeTo,
   HasComeToFirst,
   HasComeToLast,
-  IsSameFolder,
-  KeepsShown,
   LinesMayBeObeyed,
   PassesSegment,
-  StaysOrMoved,
-  StaysOrPassed,
-  TellsRevision,
+  StaysQuiet,
 };
 
 use crate::catching_up::follow_segment;
@@ -40,10 +36,7 @@ use std::alloc::Global;
 
 /// The revision of a registry.
 pub fn revision_of<R: RegistryQueries>(registry: &mut R) -> Result<u64, OpenFault>
-    ensures honest { StaysClean R.showing registry.old registry.new }
-    ensures kept { KeepsShown R.showing registry.old registry.new }
-    ensures told { TellsRevision R.showing registry.old registry.new result }
-    ensures fault { IfErr result (λ fault. IsRefused fault × LinesMayBeObeyed fault) }
+    ensures { AsksRevision R.showing registry.old registry.new result }
 {
     match registry.status() {
         Ok(status) => Ok(status.revision),
@@ -95,12 +88,12 @@ fn pass_segment<R: RegistryQueries, F: JournalFolder>(
     begin: u64,
     next: u64,
 ) -> Result<bool, OpenFault>
-    ensures honest { StaysClean R.showing registry.old registry.new }
-    ensures same { IsSameFolder F.JournalFolder folder.old folder.new }
+    ensures brings { Brings R.showing F.JournalFolder registry.old registry.new folder.old folder.new
+        (begin ∷ []) result }
     ensures passed { PassesSegment R.RegistryCalls F.Segment.JournalFile F.JournalFolder
         registry.old registry.new folder.old begin next result }
-    ensures stays { StaysOrPassed R.showing F.JournalFolder registry.old registry.new folder.old
-        folder.new result }
+    ensures still { IfOk result (λ moved. moved ≡ false → StaysQuiet R.showing F.JournalFolder
+        registry.old registry.new folder.old folder.new) }
     ensures late { SkipsLate R.showing registry.old registry.new next result }
     ensures never { IfErr result (λ fault. fault ≢ OpenFault.Newer) }
     ensures begun { IfOk result (λ x. begin ≤ next → HasComeTo R.showing registry.old registry.new begin) }
@@ -127,12 +120,10 @@ pub(crate) fn follow_all<R: RegistryQueries, F: JournalFolder>(
     folder: &mut F,
     begins: &[u64],
 ) -> Result<Option<F::Segment>, OpenFault>
-    ensures honest { StaysClean R.showing registry.old registry.new }
-    ensures same { IsSameFolder F.JournalFolder folder.old folder.new }
+    ensures brings { Brings R.showing F.JournalFolder registry.old registry.new folder.old folder.new
+        begins.now result }
     ensures followed { FollowsAll R.RegistryCalls F.Segment.JournalFile F.JournalFolder registry.old
         registry.new folder.old begins.now result }
-    ensures stays { StaysOrMoved R.showing F.JournalFolder registry.old registry.new folder.old
-        folder.new result }
     ensures compared { ComparesAll R.showing F.JournalFolder registry.old registry.new folder.old
         begins.now result }
     ensures come { IfErr result (λ fault. fault ≡ OpenFault.Newer → HasComeToLast R.RegistryCalls

@@ -1,5 +1,5 @@
 //! Imports that have no entry: no line says them, and no history accepts them.
-ghost use Rattle.std.specs.Prelude.{◌≡◌, true, IfErr, IfOk, IsSome};
+ghost use Rattle.std.specs.Prelude.{◌≡◌, true, IsSome, MatchResult};
 ghost use Rattle.pid_file.specs.Reading.{refused};
 ghost use Rattle.pid_moderation.specs.Faults.{IsMemoryOrStore};
 ghost use Rattle.pid_moderation.specs.Files.{asks};
@@ -12,8 +12,7 @@ use std::alloc::Global;
 
 // Whether the text of a file is refused.
 fn is_refused(alloc: Global, text: &[u8]) -> Result<bool, Refusal>
-    ensures told { IfOk result (λ b. b ≡ true → IsSome (refused text.now)) }
-    ensures fault { IfErr result IsMemoryOrStore }
+    ensures { MatchResult result (λ b. b ≡ true → IsSome (refused text.now)) IsMemoryOrStore }
 {
     match read_ids(alloc, text) {
         Ok(_) => Ok(false),
@@ -24,9 +23,8 @@ fn is_refused(alloc: Global, text: &[u8]) -> Result<bool, Refusal>
 
 /// Whether a command is an import whose file is not UTF-8. It changes nothing.
 pub fn has_no_line(alloc: Global, command: &Command) -> Result<bool, Refusal>
-    ensures never { IfOk result
-        (λ b. b ≡ true → (h : History) → after h (asks command.now) ≡ h) }
-    ensures fault { IfErr result IsMemoryOrStore }
+    ensures { MatchResult result
+        (λ b. b ≡ true → (h : History) → after h (asks command.now) ≡ h) IsMemoryOrStore }
 {
     let Act::Import { file } = &command.act else {
         return Ok(false);

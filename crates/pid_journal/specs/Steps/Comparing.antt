@@ -4,58 +4,59 @@ use Rattle.std.specs.Prelude.{Result, MatchResult}
 use Rattle.pid_file.specs.WholeLines.{whole_lines}
 use Rattle.pid_moderation.specs.History.{History}
 use Rattle.pid_moderation.specs.Views.{revision_of}
+use Rattle.pid_service_laws.specs.CallLaws.{StaysClean}
 use Rattle.pid_service_laws.specs.Registries.{Showing}
 use Rattle.pid_journal.specs.declared.counts.Counts.{Counts}
 use Rattle.pid_journal.specs.declared.folder.JournalFolder as folders
 use Rattle.pid_journal.specs.declared.open_fault.OpenFault.{OpenFault}
-use Rattle.pid_journal.specs.declared.open_fault.OpenFault.TheVariants.{Another, Missing, Newer}
+use Rattle.pid_journal.specs.declared.open_fault.OpenFault.TheVariants.{Another, Missing, Newer, Refused}
 use Rattle.pid_journal.specs.declared.placing.Place.{Place}
 use Rattle.pid_journal.specs.declared.placing.LineCounts.{LineCounts}
 use Rattle.pid_journal.specs.declared.placing.Step.{Step}
 use Rattle.pid_journal.specs.declared.placing.Step.TheVariants.{Here, Behind, Nowhere}
 use Rattle.pid_journal.specs.Journals.{counts_held}
-use Rattle.pid_journal.specs.Openings.{IsRefused, compared}
+use Rattle.pid_journal.specs.Openings.{HaveNotes, AreOthers, IsNewerThan, IsRefused, StandsIn, compared}
+use Rattle.pid_journal.specs.Openings.{FollowsInTurn, StopsAtOne, revision_after}
 use Rattle.pid_journal.specs.Steps.Places.{IsSaid}
-use Rattle.pid_journal.specs.Steps.Segments.{HasBegun}
+use Rattle.pid_journal.specs.Steps.Segments.{HasBegun, IsSameFolder, StaysOrMoved}
 
 -- The counts so far are older than the registry, and have the greatest revision that is allowed here.
 abbrev pub IsOlderAt : Option Counts → Counts → Place → Type 0
-IsOlderAt told now place = IfSome told (λ k. (place.most ≡ k.revision) × (k.revision < now.revision))
+IsOlderAt last now place = IfSome last (λ k. (place.most ≡ k.revision) × (k.revision < now.revision))
+    × (place.noted ≡ true → place.most < now.revision)
 
-abbrev pub ComparesOn : Step → Counts → Option Counts → List ℕ → List (List ℕ) → Type 0
-ComparesOn Here now told line lines = compared now told (line ∷ lines) ≡ Some now
-ComparesOn (Behind place) now told line lines = (next : Option Counts) × IsOlderAt next now place
-    × (compared now told (line ∷ lines) ≡ compared now next lines)
-ComparesOn Nowhere now told line lines = Unit {0}
+abbrev pub ComparesOn : Step → Counts → Option Counts → Place → List ℕ → List (List ℕ) → Type 0
+ComparesOn Here now last place line lines = compared now last (line ∷ lines) ≡ Some now
+ComparesOn (Behind next) now last place line lines = (more : Option Counts) × IsOlderAt more now next
+    × (compared now last (line ∷ lines) ≡ compared now more lines)
+    × (revision_after place.most (line ∷ lines) ≡ revision_after next.most lines)
+    × (HaveNotes place.noted (line ∷ lines) → HaveNotes next.noted lines)
+ComparesOn Nowhere now last place line lines = HaveNotes place.noted (line ∷ lines)
+    → AreOthers now (compared now last (line ∷ lines))
 
 abbrev pub ComparesLine : LineCounts → Counts → Place → Step → Type 0
-ComparesLine said now place step = (told : Option Counts) (line : List ℕ) (lines : List (List ℕ))
-    → IsSaid line said → IsOlderAt told now place → ComparesOn step now told line lines
+ComparesLine said now place step = (last : Option Counts) (line : List ℕ) (lines : List (List ℕ))
+    → IsSaid line said → IsOlderAt last now place → ComparesOn step now last place line lines
 
--- a fault where these counts are compared
-abbrev pub IsFaultAt : Counts → Counts → OpenFault → Type 0
-IsFaultAt k now Newer = k.revision < now.revision
-IsFaultAt k now Missing = ⊥
-IsFaultAt k now other = Unit {0}
+-- what a fault says of a registry that has come to the segment
+abbrev pub FaultsAt : OpenFault → Counts → ℕ → List (List ℕ) → Type 0
+FaultsAt (Refused refusal) now begin lines = Unit {0}
+FaultsAt Another now begin lines = HaveNotes false lines → AreOthers now (compared now None lines)
+FaultsAt Newer now begin lines = IsNewerThan now begin lines
+FaultsAt Missing now begin lines = ⊥
 
--- the counts that are compared are those of the registry
-abbrev pub Fits : Counts → List (List ℕ) → Type 0
-Fits now lines = IfSome (compared now None lines) (λ k. k ≡ now)
-
-abbrev pub FaultsAt : OpenFault → Counts → List (List ℕ) → Type 0
-FaultsAt fault now lines = IfSome (compared now None lines) (λ k. IsFaultAt k now fault)
-
-abbrev pub Compares : {X : Type 0} → Counts → List (List ℕ) → Result X OpenFault → Type 0
-Compares now lines result = MatchResult result (λ x. Fits now lines) (λ fault. FaultsAt fault now lines)
+abbrev pub Compares : {X : Type 0} → Counts → ℕ → List (List ℕ) → Result X OpenFault → Type 0
+Compares now begin lines result = MatchResult result (λ x. StandsIn now begin lines)
+    (λ fault. FaultsAt fault now begin lines)
 
 -- whether there is a gap
-abbrev pub FitsGap : Bool → Counts → List (List ℕ) → Type 0
-FitsGap gap now lines = IfSome (compared now None lines)
-    (λ k. (gap ≡ false → k ≡ now) × (gap ≡ true → k.revision < now.revision))
+abbrev pub FitsGap : Bool → Counts → ℕ → List (List ℕ) → Type 0
+FitsGap gap now begin lines = (gap ≡ false → StandsIn now begin lines)
+    × (gap ≡ true → IsNewerThan now begin lines)
 
-abbrev pub RefusesOther : OpenFault → Counts → List (List ℕ) → Type 0
-RefusesOther fault now lines = IfSome (compared now None lines)
-    (λ k. (fault ≡ Another) ⊎ IsRefused fault)
+abbrev pub RefusesOther : OpenFault → Counts → ℕ → List (List ℕ) → Type 0
+RefusesOther fault now begin lines = ((fault ≡ Another) × FaultsAt Another now begin lines)
+    ⊎ IsRefused fault
 
 module _ {R : Type 0} (w : Showing R) where
   -- a registry that has come to the beginning of the next segment
@@ -65,26 +66,41 @@ module _ {R : Type 0} (w : Showing R) where
 
   module _ {F J : Type 0} (folder : folders.Ghosts F J) where
     -- what holds of the counts of a registry that has come to a segment, and of its lines
-    abbrev pub OfSegment : R → R → F → ℕ → (Counts → List (List ℕ) → Type 0) → Type 0
+    abbrev pub OfSegment : R → R → F → ℕ → (Counts → ℕ → List (List ℕ) → Type 0) → Type 0
     OfSegment old new f name P = w.is_clean new → (names : List ℕ) → folder.names f ≡ Some names
         → (h : History) → w.shows old h → name ≤ revision_of h
-        → P (counts_held h) (whole_lines (folder.text_in f name))
+        → P (counts_held h) name (whole_lines (folder.text_in f name))
 
     -- the same of the last one of some
-    abbrev pub OfLast : R → R → F → List ℕ → (Counts → List (List ℕ) → Type 0) → Type 0
+    abbrev pub OfLast : R → R → F → List ℕ → (Counts → ℕ → List (List ℕ) → Type 0) → Type 0
     OfLast old new f names P = w.is_clean new → (front : List ℕ) (name : ℕ)
         → names ≡ front ++ name ∷ [] → folder.names f ≡ Some names → (h : History) → w.shows old h
-        → HasBegun h names → P (counts_held h) (whole_lines (folder.text_in f name))
+        → HasBegun h names → P (counts_held h) name (whole_lines (folder.text_in f name))
 
     abbrev pub ComparesSegment : {X : Type 0} → R → R → F → ℕ → Result X OpenFault → Type 0
-    ComparesSegment old new f name result = MatchResult result (λ x. OfSegment old new f name Fits)
+    ComparesSegment old new f name result = MatchResult result (λ x. OfSegment old new f name StandsIn)
         (λ fault. OfSegment old new f name (FaultsAt fault))
 
     abbrev pub ComparesAll : {X : Type 0} → R → R → F → List ℕ → Result X OpenFault → Type 0
-    ComparesAll old new f names result = MatchResult result (λ x. OfLast old new f names Fits)
+    ComparesAll old new f names result = MatchResult result (λ x. OfLast old new f names StandsIn)
         (λ fault. OfLast old new f names (FaultsAt fault))
 
     abbrev pub ComparesGap : {X : Type 0} → R → R → F → Result (X × Bool) OpenFault → Type 0
     ComparesGap old new f result = (names : List ℕ) → folder.names f ≡ Some names
         → MatchResult result (λ found. OfLast old new f names (FitsGap found.1))
         (λ fault. OfLast old new f names (RefusesOther fault))
+
+    -- What was obeyed are lines of these segments that have begun, in which the registry was.
+    abbrev pub ObeysSome : {X : Type 0} → R → R → F → List ℕ → Result X OpenFault → Type 0
+    ObeysSome old new f names result = w.is_clean new → (all : List ℕ) → folder.names f ≡ Some all
+        → (h : History) → w.shows old h → MatchResult result
+        (λ x. (g : History) × w.shows new g × FollowsInTurn (folder.text_in f) names h g)
+        (λ fault. StopsAtOne w (FollowsInTurn (folder.text_in f) names h) new)
+
+    -- what becomes of a registry that is brought on along these, and of the folder
+    pub record Brings {X : Type 0} (old new : R) (f g : F) (names : List ℕ)
+        (result : Result X OpenFault) : Type 0 where
+      pub honest : StaysClean w old new
+      pub same : IsSameFolder folder f g
+      pub stays : StaysOrMoved w folder old new f g result
+      pub obeys : ObeysSome old new f names result

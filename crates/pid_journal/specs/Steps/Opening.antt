@@ -7,6 +7,7 @@ use Rattle.pid_service_laws.specs.Registries.{Showing}
 use Rattle.pid_service_laws.specs.declared.registry_calls.RegistryCalls.{Ghosts}
 use Rattle.pid_journal.specs.declared.file.JournalFile as files
 use Rattle.pid_journal.specs.declared.open_fault.OpenFault.{OpenFault}
+use Rattle.pid_journal.specs.Doubts.{LeavesPart}
 use Rattle.pid_journal.specs.Journals.{counts_held, JournalLeads}
 use Rattle.pid_journal.specs.Openings.{IsRefused, StopsAtOne}
 use Rattle.pid_journal.specs.Steps.Notes.{IsMark}
@@ -21,11 +22,18 @@ pub record IsWholeUpTo (text : List ℕ) (count : ℕ) : Type 0 where
   pub whole : open_part front ≡ []
   pub torn : ended_pieces behind ≡ []
 
--- of the text of a file its whole lines are left
+-- of the text of a file its whole lines are left; after a fault maybe a prefix of what comes after them
 abbrev pub EndsFile : {J X : Type 0} → files.Ghosts J → J → J → List ℕ → ℕ → Result X OpenFault
     → Type 0
 EndsFile file j k text count result = MatchResult result (λ x. file.safe j ≡ Some text
-    → (up_to : IsWholeUpTo text count) → file.safe k ≡ Some up_to.front) IsRefused
+    → (up_to : IsWholeUpTo text count) → file.safe k ≡ Some up_to.front)
+    (λ fault. IsRefused fault × (file.safe j ≡ Some text
+    → (up_to : IsWholeUpTo text count) → LeavesPart (file.safe k) up_to.front up_to.behind))
+
+-- so it is after a fault, if not as it was
+abbrev pub IsLeftWhole : (old now : Option (List ℕ)) → Type 0
+IsLeftWhole old now = (now ≡ old) ⊎ ((text : List ℕ) → old ≡ Some text → (count : ℕ)
+    × (up_to : IsWholeUpTo text count) × LeavesPart now up_to.front up_to.behind)
 
 -- the same of so many bytes as are whole lines, and maybe a mark
 abbrev pub IsEnded : History → List ℕ → (old now : Option (List ℕ)) → Type 0

@@ -1,6 +1,7 @@
 -- What the steps of a command leave of a registry and of its journal.
 use Rattle.std.specs.Prelude.{◌≡◌, ◌⊎◌, ℕ, Bool, true, false, List, ◌∷◌, ◌++◌, length, Option, Some}
 use Rattle.pid_moderation.specs.History.{History}
+use Rattle.pid_service_laws.specs.CallLaws.{StaysClean}
 use Rattle.pid_service_laws.specs.Registries.{Showing}
 use Rattle.pid_journal.specs.declared.counts.Counts.{Counts}
 use Rattle.pid_journal.specs.declared.file.JournalFile as files
@@ -12,6 +13,7 @@ use Rattle.pid_journal.specs.Journals.{counts_held}
 use Rattle.pid_journal.specs.Doubts.{LeavesPart}
 use Rattle.pid_journal.specs.Pairs.{PairFailsBetween, PairShows, pair_showing}
 use Rattle.pid_journal.specs.Steps.Notes.{IsMark}
+use Rattle.pid_journal.specs.Steps.Segments.{KeepsShown}
 
 -- A registry was asked whether it is live.
 pub record IsProbed {R : Type 0} (w : Showing R) (is_live : R → Bool) (old new : R)
@@ -33,6 +35,12 @@ MayBeMarked w old new safe now = (text : List ℕ) → safe ≡ Some text
     → (now ≡ Some text) ⊎ ((mark : List ℕ) × (counts : Counts) × IsMark mark counts
     × (now ≡ Some (text ++ mark))
     × (w.is_clean new → (h : History) → w.shows old h → counts ≡ counts_held h))
+
+-- what a mark, or none, leaves of a registry and of the bytes of its journal
+pub record MarksEnd {R : Type 0} (w : Showing R) (old new : R) (safe now : Option (List ℕ)) : Type 0 where
+  pub honest : StaysClean w old new
+  pub kept : KeepsShown w old new
+  pub marked : MayBeMarked w old new safe now
 
 -- no mark is in an entry, nor after an LF that comes before it
 pub record IsUnmarked (entry : List ℕ) : Type 0 where

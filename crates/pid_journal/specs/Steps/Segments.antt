@@ -6,6 +6,7 @@ use Rattle.pid_moderation.specs.History.{History}
 use Rattle.pid_moderation.specs.Revisions.{IsMarked}
 use Rattle.pid_moderation.specs.Views.{revision_of}
 use Rattle.pid_script.specs.Replies.{history_after}
+use Rattle.pid_service_laws.specs.CallLaws.{StaysClean}
 use Rattle.pid_service_laws.specs.Registries.{Showing}
 use Rattle.pid_service_laws.specs.declared.registry_calls.RegistryCalls.{Ghosts}
 use Rattle.pid_journal.specs.declared.file.JournalFile as files
@@ -14,7 +15,7 @@ use Rattle.pid_journal.specs.declared.open_fault.OpenFault.{OpenFault}
 use Rattle.pid_journal.specs.declared.open_fault.OpenFault.TheVariants.{Another, Newer}
 use Rattle.pid_journal.specs.Journals.{JournalLeads, lines_in}
 use Rattle.pid_journal.specs.Steps.Ways.{IsAlong, IsInSegments, IsOnWay}
-use Rattle.pid_journal.specs.Openings.{IsRefused, StopsAtOne}
+use Rattle.pid_journal.specs.Openings.{IsNewName, IsRefused, StopsAtOne}
 use Rattle.pid_journal.specs.Steps.Opening.{ShowsAll}
 
 -- a fault that leaves open whether the registry obeyed lines
@@ -40,6 +41,10 @@ HasBegun h names = (above below : List ℕ) (name : ℕ) → names ≡ above ++ 
 abbrev pub HasComeTo : {R : Type 0} → Showing R → R → R → ℕ → Type 0
 HasComeTo w old new begin = w.is_clean new → (h : History) → w.shows old h → begin ≤ revision_of h
 
+-- a segment that begins where the registry stands is none of these that ends them
+abbrev pub MayBegin : {R : Type 0} → Showing R → R → R → List ℕ → Type 0
+MayBegin w old new names = w.is_clean new → (h : History) → w.shows old h → IsNewName names (revision_of h)
+
 -- so had it to where the first one of these begins
 abbrev pub HasComeToFirst : {R : Type 0} → Showing R → R → R → List ℕ → Type 0
 HasComeToFirst w old new names = (name : ℕ) (later : List ℕ) → names ≡ name ∷ later
@@ -56,15 +61,29 @@ module _ {R F J : Type 0} (w : Showing R) (folder : folders.Ghosts F J) where
   StaysOrMoved old new f g result = IfErr result
       (λ fault. LinesMayBeObeyed fault ⊎ StaysQuiet old new f g)
 
-  -- so does one that says that no line was obeyed
-  abbrev pub StaysOrPassed : R → R → F → F → Result Bool OpenFault → Type 0
-  StaysOrPassed old new f g result = StaysOrMoved old new f g result
-      × IfOk result (λ moved. moved ≡ false → StaysQuiet old new f g)
-
 -- the revision of the registry
 abbrev pub TellsRevision : {R : Type 0} → Showing R → R → R → Result ℕ OpenFault → Type 0
 TellsRevision w old new result = w.is_clean new → (h : History) → w.shows old h
     → MatchResult result (λ n. n ≡ revision_of h) IsRefused
+
+-- a fault after which lines may have been obeyed
+abbrev pub IsLateFault : {X : Type 0} → Result X OpenFault → Type 0
+IsLateFault result = IfErr result (λ fault. IsRefused fault × LinesMayBeObeyed fault)
+
+-- a registry was asked for its revision, and shows what it did
+pub record AsksRevision {R : Type 0} (w : Showing R) (old new : R) (result : Result ℕ OpenFault) : Type 0 where
+  pub honest : StaysClean w old new
+  pub kept : KeepsShown w old new
+  pub told : TellsRevision w old new result
+  pub fault : IsLateFault result
+
+-- so it is asked whether the journal goes on in the last one of these
+pub record AsksOn {R : Type 0} (w : Showing R) (old new : R) (names : List ℕ)
+    (result : Result Bool OpenFault) : Type 0 where
+  pub honest : StaysClean w old new
+  pub kept : KeepsShown w old new
+  pub ends : IfOk result (λ goes. goes ≡ false → MayBegin w old new names)
+  pub fault : IsLateFault result
 
 -- the registry shows a history on the way along which segments lead
 pub record ShowsWithin {R : Type 0} (w : Showing R) (text : ℕ → List ℕ) (h : History)
@@ -90,7 +109,8 @@ module _ {R J : Type 0} (registry : Ghosts R) (file : files.Ghosts J) where
   pub record EndsIn (text : ℕ → List ℕ) (start : History) (names : List ℕ) (after : Option (List ℕ))
       (new : R) (k : J) : Type 0 where
     pub front : List ℕ
-    pub last : ((names ≡ front) × NamesNew after names (history_after start (lines_in text names)))
+    pub last : ((names ≡ front) × NamesNew after names (history_after start (lines_in text names))
+        × IsNewName names (revision_of (history_after start (lines_in text names))))
         ⊎ ((name : ℕ) × (names ≡ front ++ name ∷ []) × (after ≡ Some names))
     pub shown : registry.showing.shows new (history_after start (lines_in text names))
     pub kept : List ℕ
@@ -131,6 +151,22 @@ module _ {R J : Type 0} (registry : Ghosts R) (file : files.Ghosts J) where
         → (file.safe k ≡ Some []) × KeepsShown registry.showing old new
         × (registry.showing.is_clean new → (h : History) → registry.showing.shows old h
         → NamesNew (folder.names g) names h)
+
+    -- so a registry is asked where a new segment begins
+    pub record BeginsSegment (old new : R) (f g : F) (result : Result J OpenFault) : Type 0 where
+      pub honest : StaysClean registry.showing old new
+      pub kept : KeepsShown registry.showing old new
+      pub begun : IfOk result (BeginsIn old new f g)
+      pub fault : IsLateFault result
+
+    -- or where the journal goes on after the last one
+    pub record FindsNext (old new : R) (f g : F) (last : Option J) (names : List ℕ)
+        (result : Result J OpenFault) : Type 0 where
+      pub honest : StaysClean registry.showing old new
+      pub kept : KeepsShown registry.showing old new
+      pub goes : IfOk result (λ k. ((last ≡ Some k) × (folder.names g ≡ folder.names f))
+          ⊎ (BeginsIn old new f g k × ((last ≡ None) ⊎ MayBegin registry.showing old new names)))
+      pub fault : IsLateFault result
 
     -- the last one of these has begun
     abbrev pub HasComeToLast : R → R → List ℕ → Type 0

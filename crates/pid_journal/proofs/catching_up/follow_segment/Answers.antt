@@ -1,4 +1,4 @@
-use Rattle.std.proofs.Common.{inr, ℕ, false, List, Some, Ok, Err, ap, sym, subst, ◌∙◌}
+use Rattle.std.proofs.Common.{inl, inr, refl, ℕ, false, List, [], ◌∷◌, Some, Ok, Err, ap, sym, subst, ◌∙◌}
 use Rattle.pid_file.specs.WholeLines.{whole_lines}
 use Rattle.pid_moderation.specs.History.{History}
 use Rattle.pid_journal.specs.Steps.Opening.{IsEnded, ObeysRest, StopsAlong}
@@ -6,11 +6,15 @@ use Rattle.pid_journal.specs.Steps.Places.{FindsPlace, IsAt, IsEndOf}
 use Rattle.pid_journal.specs.Steps.Reads.{left_in}
 use Rattle.pid_journal.specs.declared.open_fault.OpenFault.TheVariants.{Refused}
 use Rattle.pid_journal.specs.Journals.{counts_held}
-use Rattle.pid_journal.specs.Steps.Comparing.{FaultsAt, Fits}
-use Rattle.pid_journal.proofs.Comparing.{compares_refused, faults_held, fits_held, not_missing}
+use Rattle.pid_journal.specs.Openings.{StandsIn}
+use Rattle.pid_journal.specs.Steps.Comparing.{FaultsAt}
+use Rattle.pid_journal.proofs.Comparing.{compares_refused, faults_held, not_missing, stands_held}
+use Rattle.pid_script.specs.Replies.{history_after}
+use Rattle.pid_journal.proofs.ObeyedInTurn.{stops_still}
+use Rattle.pid_journal.proofs.ObeyedLines.{all_along, obeys_in}
 use Rattle.pid_journal.proofs.Along.{along_rest, stops_as, stops_at, way_along}
 use Rattle.pid_journal.proofs.Places.{leads_on}
-use Rattle.pid_journal.proofs.Resuming.{before_begin, come_to, counted_status, if_opened, segment_ended}
+use Rattle.pid_journal.proofs.Resuming.{before_begin, come_to, counted_status, if_opened, refused_moves, segment_ended}
 use Rattle.pid_journal.proofs.SegmentLines.{known_opened, text_at, text_back, text_whole}
 use Rattle.pid_journal.proofs.catching_up.follow_segment.Goals as goal
 
@@ -45,9 +49,6 @@ returns-in-Err-find_place-clause-followed g c clean names known h shown marked b
     let found = text_whole g.F.JournalFolder c.args.folder.now c.new-text.result c.args.begin (λ bytes all. FindsPlace {X = Unit {0}} bytes c.counts_of-now.result c.args.begin (Err c.in-Err-find_place.fault) (λ x. left_in c.find_place.new.text all)) c.new-text.ensures.begin c.new-text.ensures.left c.in-Err-find_place.ensures.found names known in
     (found h shown marked begins (counted_status _ shown told.0 ∙ sym c.counts_of-now.ensures) way, stops_at g.R.RegistryCalls.showing _ _ shown told.1 (way_along h shown false _ way))
 
-pub returns-in-Err-find_place-clause-stays : goal.returns-in-Err-find_place-clause-stays
-returns-in-Err-find_place-clause-stays g c = inr ((λ clean h shown. (c.in-Ok.ensures.told clean h shown).1), c.find_place.ensures.reads.quiet)
-
 -- the end of the segment
 pub returns-in-Ok-obey_rest-clause-followed : goal.returns-in-Ok-obey_rest-clause-followed
 returns-in-Ok-obey_rest-clause-followed g c clean names known h shown marked begins shows way =
@@ -75,8 +76,82 @@ returns-clause-followed g c clean names known h shown marked begins shows way =
     let found = text_whole g.F.JournalFolder c.args.folder.now c.new-text.result c.args.begin (λ bytes all. FindsPlace {X = Unit {0}} bytes c.counts_of-now.result c.args.begin (Ok tt) (λ x. left_in c.find_place.new.text all)) c.new-text.ensures.begin c.new-text.ensures.left c.in-Ok-find_place.ensures.found names known in
     let at : IsAt h shown text rest = found h shown marked begins (counted_status _ shown told.0 ∙ sym c.counts_of-now.ensures) way in
     let stops = text_at g.F.JournalFolder c.args.folder.now c.segment.new.self c.find_place.new.text c.args.begin (λ all. StopsAlong g.R.RegistryCalls.showing c.status.new.self c.obey_rest.new.registry (left_in c.find_place.new.text all))
-    ((c.segment.ensures.same.0 ∙ reads.same.0), (c.segment.ensures.same.1 ∙ reads.same.1)) (reads.begin ∙ c.new-text.ensures.begin) c.in-Err-obey_rest.ensures.fault.1 names known clean shown told.1 in
+    ((c.segment.ensures.same.0 ∙ reads.same.0), (c.segment.ensures.same.1 ∙ reads.same.1)) (reads.begin ∙ c.new-text.ensures.begin) c.in-Err-obey_rest.ensures.fault.2 names known clean shown told.1 in
     (c.in-Err-obey_rest.ensures.fault.0, stops_as g.R.RegistryCalls.showing c.obey_rest.new.registry _ _ (λ x along. along_rest h shown x text rest at along) stops)
+
+-- WHICH LINES
+
+pub returns-in-Err-clause-brings : goal.returns-in-Err-clause-brings
+returns-in-Err-clause-brings g c = record {
+  honest = c.status.ensures.calls.clean;
+  same = (refl, refl);
+  stays = inl tt;
+  obeys = stops_still g.R.RegistryCalls.showing g.F.JournalFolder c.args.registry.now c.status.new.self c.args.folder.now (c.args.begin ∷ []) (λ clean h shown. (c.in-Err.ensures.told clean h shown).1);
+}
+
+pub returns-then-now-begin-clause-brings : goal.returns-then-now-begin-clause-brings
+returns-then-now-begin-clause-brings g c = record {
+  honest = c.status.ensures.calls.clean;
+  same = (refl, refl);
+  stays = inl tt;
+  obeys = stops_still g.R.RegistryCalls.showing g.F.JournalFolder c.args.registry.now c.status.new.self c.args.folder.now (c.args.begin ∷ []) (λ clean h shown. (c.in-Ok.ensures.told clean h shown).1);
+}
+
+pub returns-in-Err-find_place-clause-brings : goal.returns-in-Err-find_place-clause-brings
+returns-in-Err-find_place-clause-brings g c = record {
+  honest = c.status.ensures.calls.clean;
+  same = c.find_place.ensures.reads.same;
+  stays = inr ((λ clean h shown. (c.in-Ok.ensures.told clean h shown).1), c.find_place.ensures.reads.quiet);
+  obeys = stops_still g.R.RegistryCalls.showing g.F.JournalFolder c.args.registry.now c.status.new.self c.args.folder.now (c.args.begin ∷ []) (λ clean h shown. (c.in-Ok.ensures.told clean h shown).1);
+}
+
+pub returns-in-Err-segment-clause-brings : goal.returns-in-Err-segment-clause-brings
+returns-in-Err-segment-clause-brings g c = record {
+  honest = c.status.ensures.calls.clean;
+  same = (c.segment.ensures.same.0 ∙ c.find_place.ensures.reads.same.0, c.segment.ensures.same.1 ∙ c.find_place.ensures.reads.same.1);
+  stays = inl tt;
+  obeys = stops_still g.R.RegistryCalls.showing g.F.JournalFolder c.args.registry.now c.status.new.self c.args.folder.now (c.args.begin ∷ []) (λ clean h shown. (c.in-Ok.ensures.told clean h shown).1);
+}
+
+pub returns-in-Ok-obey_rest-clause-brings : goal.returns-in-Ok-obey_rest-clause-brings
+returns-in-Ok-obey_rest-clause-brings g c = record {
+  honest = λ clean. c.status.ensures.calls.clean (c.obey_rest.ensures.honest clean);
+  same = (c.obey_rest.ensures.reads.same.0 ∙ (c.segment.ensures.same.0 ∙ c.find_place.ensures.reads.same.0), c.obey_rest.ensures.reads.same.1 ∙ (c.segment.ensures.same.1 ∙ c.find_place.ensures.reads.same.1));
+  stays = tt;
+  obeys = λ clean names known h shown.
+      let text = g.F.JournalFolder.text_in c.args.folder.now in
+      let rest = left_in c.find_place.new.text (text c.args.begin) in
+      let reads = c.find_place.ensures.reads in
+      let told = c.in-Ok.ensures.told (c.obey_rest.ensures.honest clean) h shown in
+      let held = counted_status _ h told.0 ∙ sym c.counts_of-now.ensures in
+      let stands = text_whole g.F.JournalFolder c.args.folder.now c.new-text.result c.args.begin (λ bytes all. StandsIn c.counts_of-now.result c.args.begin (whole_lines bytes)) c.new-text.ensures.begin c.new-text.ensures.left c.in-Ok-find_place.ensures.compared names known in
+      let end = text_whole g.F.JournalFolder c.args.folder.now c.new-text.result c.args.begin (λ bytes all. IsEndOf bytes (left_in c.find_place.new.text all)) c.new-text.ensures.begin c.new-text.ensures.left c.in-Ok-find_place.ensures.parts names known in
+      let obeyed = text_at g.F.JournalFolder c.args.folder.now c.segment.new.self c.find_place.new.text c.args.begin (λ all. ObeysRest g.R.RegistryCalls.showing c.status.new.self c.obey_rest.new.registry (g.F.Segment.JournalFile.safe c.in-Ok-segment.segment) (g.F.Segment.JournalFile.safe c.obey_rest.new.journal) all (left_in c.find_place.new.text all))
+      ((c.segment.ensures.same.0 ∙ reads.same.0), (c.segment.ensures.same.1 ∙ reads.same.1)) (reads.begin ∙ c.new-text.ensures.begin) c.in-Ok-obey_rest.ensures.obeyed names known clean h told.1 in (
+        history_after h (whole_lines rest),
+        obeyed.0,
+        obeys_in text c.args.begin rest h (history_after h (whole_lines rest)) (come_to h c.counts_of-now.result c.args.begin held c.if-now-begin.false) (stands_held c.counts_of-now.result (counts_held h) c.args.begin (whole_lines (text c.args.begin)) held stands) end (all_along h (whole_lines rest)),
+      );
+}
+
+pub returns-clause-brings : goal.returns-clause-brings
+returns-clause-brings g c = record {
+  honest = λ clean. c.status.ensures.calls.clean (c.obey_rest.ensures.honest clean);
+  same = (c.obey_rest.ensures.reads.same.0 ∙ (c.segment.ensures.same.0 ∙ c.find_place.ensures.reads.same.0), c.obey_rest.ensures.reads.same.1 ∙ (c.segment.ensures.same.1 ∙ c.find_place.ensures.reads.same.1));
+  stays = inl (refused_moves c.in-Err-obey_rest.fault c.in-Err-obey_rest.ensures.fault.0);
+  obeys = λ clean names known h shown.
+      let text = g.F.JournalFolder.text_in c.args.folder.now in
+      let rest = left_in c.find_place.new.text (text c.args.begin) in
+      let reads = c.find_place.ensures.reads in
+      let told = c.in-Ok.ensures.told (c.obey_rest.ensures.honest clean) h shown in
+      let held = counted_status _ h told.0 ∙ sym c.counts_of-now.ensures in
+      let stands = text_whole g.F.JournalFolder c.args.folder.now c.new-text.result c.args.begin (λ bytes all. StandsIn c.counts_of-now.result c.args.begin (whole_lines bytes)) c.new-text.ensures.begin c.new-text.ensures.left c.in-Ok-find_place.ensures.compared names known in
+      let end = text_whole g.F.JournalFolder c.args.folder.now c.new-text.result c.args.begin (λ bytes all. IsEndOf bytes (left_in c.find_place.new.text all)) c.new-text.ensures.begin c.new-text.ensures.left c.in-Ok-find_place.ensures.parts names known in
+      let stops = text_at g.F.JournalFolder c.args.folder.now c.segment.new.self c.find_place.new.text c.args.begin (λ all. StopsAlong g.R.RegistryCalls.showing c.status.new.self c.obey_rest.new.registry (left_in c.find_place.new.text all))
+      ((c.segment.ensures.same.0 ∙ reads.same.0), (c.segment.ensures.same.1 ∙ reads.same.1)) (reads.begin ∙ c.new-text.ensures.begin) c.in-Err-obey_rest.ensures.fault.2 names known clean h told.1 in
+      stops_as g.R.RegistryCalls.showing c.obey_rest.new.registry _ _
+      (λ x along. obeys_in text c.args.begin rest h x (come_to h c.counts_of-now.result c.args.begin held c.if-now-begin.false) (stands_held c.counts_of-now.result (counts_held h) c.args.begin (whole_lines (text c.args.begin)) held stands) end along) stops;
+}
 
 -- WHAT IS COMPARED
 
@@ -85,20 +160,20 @@ returns-then-now-begin-clause-compared g c clean names known h shown begun =
     not_missing h c.counts_of-now.result c.args.begin (whole_lines (g.F.JournalFolder.text_in c.args.folder.now c.args.begin)) (counted_status _ h (c.in-Ok.ensures.told clean h shown).0 ∙ sym c.counts_of-now.ensures) begun c.if-now-begin.true
 
 pub returns-in-Err-clause-compared : goal.returns-in-Err-clause-compared
-returns-in-Err-clause-compared g c clean names known h shown begun = compares_refused (counts_held h) (whole_lines (g.F.JournalFolder.text_in c.args.folder.now c.args.begin)) (Refused c.in-Err.refusal) tt
+returns-in-Err-clause-compared g c clean names known h shown begun = compares_refused (counts_held h) c.args.begin (whole_lines (g.F.JournalFolder.text_in c.args.folder.now c.args.begin)) (Refused c.in-Err.refusal) tt
 
 pub returns-in-Err-segment-clause-compared : goal.returns-in-Err-segment-clause-compared
-returns-in-Err-segment-clause-compared g c clean names known h shown begun = compares_refused (counts_held h) (whole_lines (g.F.JournalFolder.text_in c.args.folder.now c.args.begin)) (Refused c.in-Err-segment.refusal) tt
+returns-in-Err-segment-clause-compared g c clean names known h shown begun = compares_refused (counts_held h) c.args.begin (whole_lines (g.F.JournalFolder.text_in c.args.folder.now c.args.begin)) (Refused c.in-Err-segment.refusal) tt
 
 pub returns-in-Err-find_place-clause-compared : goal.returns-in-Err-find_place-clause-compared
 returns-in-Err-find_place-clause-compared g c clean names known h shown begun =
-    let compared = text_whole g.F.JournalFolder c.args.folder.now c.new-text.result c.args.begin (λ bytes all. FaultsAt c.in-Err-find_place.fault c.counts_of-now.result (whole_lines bytes)) c.new-text.ensures.begin c.new-text.ensures.left c.in-Err-find_place.ensures.compared names known in
-    faults_held c.in-Err-find_place.fault c.counts_of-now.result (counts_held h) (whole_lines (g.F.JournalFolder.text_in c.args.folder.now c.args.begin)) (counted_status _ h (c.in-Ok.ensures.told clean h shown).0 ∙ sym c.counts_of-now.ensures) compared
+    let compared = text_whole g.F.JournalFolder c.args.folder.now c.new-text.result c.args.begin (λ bytes all. FaultsAt c.in-Err-find_place.fault c.counts_of-now.result c.args.begin (whole_lines bytes)) c.new-text.ensures.begin c.new-text.ensures.left c.in-Err-find_place.ensures.compared names known in
+    faults_held c.in-Err-find_place.fault c.counts_of-now.result (counts_held h) c.args.begin (whole_lines (g.F.JournalFolder.text_in c.args.folder.now c.args.begin)) (counted_status _ h (c.in-Ok.ensures.told clean h shown).0 ∙ sym c.counts_of-now.ensures) compared
 
 pub returns-in-Ok-obey_rest-clause-compared : goal.returns-in-Ok-obey_rest-clause-compared
 returns-in-Ok-obey_rest-clause-compared g c clean names known h shown begun =
-    let compared = text_whole g.F.JournalFolder c.args.folder.now c.new-text.result c.args.begin (λ bytes all. Fits c.counts_of-now.result (whole_lines bytes)) c.new-text.ensures.begin c.new-text.ensures.left c.in-Ok-find_place.ensures.compared names known in
-    fits_held c.counts_of-now.result (counts_held h) (whole_lines (g.F.JournalFolder.text_in c.args.folder.now c.args.begin)) (counted_status _ h (c.in-Ok.ensures.told (c.obey_rest.ensures.honest clean) h shown).0 ∙ sym c.counts_of-now.ensures) compared
+    let compared = text_whole g.F.JournalFolder c.args.folder.now c.new-text.result c.args.begin (λ bytes all. StandsIn c.counts_of-now.result c.args.begin (whole_lines bytes)) c.new-text.ensures.begin c.new-text.ensures.left c.in-Ok-find_place.ensures.compared names known in
+    stands_held c.counts_of-now.result (counts_held h) c.args.begin (whole_lines (g.F.JournalFolder.text_in c.args.folder.now c.args.begin)) (counted_status _ h (c.in-Ok.ensures.told (c.obey_rest.ensures.honest clean) h shown).0 ∙ sym c.counts_of-now.ensures) compared
 
 -- the registry had come to where the segment begins
 pub returns-in-Ok-obey_rest-clause-come : goal.returns-in-Ok-obey_rest-clause-come

@@ -1,7 +1,8 @@
-use Rattle.std.proofs.Common.{Ok, refl, ◌∙◌}
-use Rattle.pid_journal.proofs.Comparing.{finds_newer, finds_refused, finds_same}
+use Rattle.std.proofs.Common.{Ok, refl, rules, ◌∙◌}
+use Rattle.pid_journal.proofs.Comparing.{finds_fault, finds_newer, finds_refused, finds_same}
 use Rattle.pid_journal.proofs.Along.{segments_along, stops_at}
 use Rattle.pid_journal.proofs.InTurn.{at_folder, both_quiet, fault_found, first_found, found, gap_found, quiet_newer, read_names}
+use Rattle.pid_journal.proofs.ObeyedInTurn.{obeys_at, obeys_before, obeys_still, stops_before, stops_found, stops_still}
 use Rattle.pid_journal.proofs.opening.find_segment.Goals as goal
 use Rattle.pid_journal.proofs.opening.find_segment.Goals.{in-Ok-begin_segment, in-Err-begin_segment}
 
@@ -10,8 +11,8 @@ returns-in-Ok-segment_after-clause-found g c clean names known start marked show
     let is = c.as_slice.ensures.value ∙ read_names (g.F.JournalFolder.names c.args.folder.now) names c.in-Ok.begins.items known c.in-Ok.ensures.read in
     let follows = at_folder g.R.RegistryCalls g.F.Segment.JournalFile g.F.JournalFolder c.args.registry.now c.follow_all.new.registry c.args.folder.now c.begins.new.self names c.as_slice.result.now (Ok c.in-Ok-follow_all.last) c.begins.ensures.same is c.in-Ok-follow_all.ensures.followed in (
       refl,
-      found g.R.RegistryCalls g.F.Segment.JournalFile g.F.JournalFolder c.args.registry.now c.follow_all.new.registry c.segment_after.new.registry c.args.folder.now c.follow_all.new.folder c.segment_after.new.folder names c.in-Ok-follow_all.last c.in-Ok-segment_after.segment
-          c.segment_after.ensures.honest follows c.segment_after.ensures.kept (c.follow_all.ensures.same.0 ∙ c.begins.ensures.same.0) c.in-Ok-segment_after.ensures.goes clean known start marked shows,
+      found g.R.RegistryCalls g.F.Segment.JournalFile g.F.JournalFolder c.args.registry.now c.follow_all.new.registry c.segment_after.new.registry c.args.folder.now c.follow_all.new.folder c.segment_after.new.folder names c.as_slice-2.result.now c.in-Ok-follow_all.last c.in-Ok-segment_after.segment (c.as_slice-2.ensures.value ∙ read_names (g.F.JournalFolder.names c.args.folder.now) names c.in-Ok.begins.items known c.in-Ok.ensures.read)
+          c.segment_after.ensures.honest follows c.segment_after.ensures.kept (c.follow_all.ensures.brings.same.0 ∙ c.begins.ensures.same.0) c.in-Ok-segment_after.ensures.goes clean known start marked shows,
     )
 
 -- A GAP
@@ -21,8 +22,8 @@ returns-in-Err-Newer-clause-gap g c =
     elim c.match-begin_segment.branch [
       | in-Ok-begin_segment w ↦
           rw w.result-is (λ gap. gap_found g.R.RegistryCalls g.F.Segment.JournalFile g.F.JournalFolder c.args.registry.now c.follow_all.new.registry c.begin_segment.new.registry c.args.folder.now c.follow_all.new.folder c.begin_segment.new.folder c.as_slice.result.now w.in-Ok-begin_segment.segment
-          (let stays = rw c.in-Err-Newer.field-0-is at c.in-Err-Newer.ensures.stays in both_quiet g.R.RegistryCalls.showing g.F.JournalFolder c.args.registry.now c.args.registry.now c.follow_all.new.registry c.args.folder.now c.begins.new.self c.follow_all.new.folder c.follow_all.ensures.honest ((λ clean h shown. shown), c.begins.ensures.unopened) (quiet_newer stays))
-          c.begin_segment.ensures.honest (c.follow_all.ensures.same.0 ∙ c.begins.ensures.same.0) w.in-Ok-begin_segment.ensures.begun
+          (let stays = rw c.in-Err-Newer.field-0-is at c.in-Err-Newer.ensures.brings.stays in both_quiet g.R.RegistryCalls.showing g.F.JournalFolder c.args.registry.now c.args.registry.now c.follow_all.new.registry c.args.folder.now c.begins.new.self c.follow_all.new.folder c.follow_all.ensures.brings.honest ((λ clean h shown. shown), c.begins.ensures.unopened) (quiet_newer stays))
+          c.begin_segment.ensures.honest (c.follow_all.ensures.brings.same.0 ∙ c.begins.ensures.same.0) w.in-Ok-begin_segment.ensures.begun
           (λ names known. c.as_slice.ensures.value ∙ read_names (g.F.JournalFolder.names c.args.folder.now) names c.in-Ok.begins.items known c.in-Ok.ensures.read)
           ((rw c.in-Err-Newer.field-0-is at c.in-Err-Newer.ensures.come) refl))
       | in-Err-begin_segment w ↦ rw w.result-is tt
@@ -40,10 +41,46 @@ returns-clause-found g c clean names known start marked shows =
     fault_found g.R.RegistryCalls g.F.Segment.JournalFile g.F.JournalFolder c.args.registry.now c.follow_all.new.registry c.segment_after.new.registry c.args.folder.now names c.in-Ok-follow_all.last c.in-Err-segment_after.fault
     c.in-Err-segment_after.ensures.fault.0 c.segment_after.ensures.honest c.segment_after.ensures.kept follows clean known start marked shows
 
+-- WHICH LINES
+
+pub returns-in-Err-clause-obeys : goal.returns-in-Err-clause-obeys
+returns-in-Err-clause-obeys g c names known = stops_still g.R.RegistryCalls.showing g.F.JournalFolder c.args.registry.now c.args.registry.now c.args.folder.now names (λ clean h shown. shown)
+
+pub returns-in-Err-follow_all-clause-obeys : goal.returns-in-Err-follow_all-clause-obeys
+returns-in-Err-follow_all-clause-obeys g c names known =
+    let is = c.as_slice.ensures.value ∙ read_names (g.F.JournalFolder.names c.args.folder.now) names c.in-Ok.begins.items known c.in-Ok.ensures.read in
+    stops_found g.R.RegistryCalls.showing g.F.JournalFolder c.args.registry.now c.follow_all.new.registry c.args.folder.now c.begins.new.self names c.as_slice.result.now c.begins.ensures.same is c.in-Err-follow_all.ensures.brings.obeys
+
+pub returns-in-Ok-segment_after-clause-obeys : goal.returns-in-Ok-segment_after-clause-obeys
+returns-in-Ok-segment_after-clause-obeys g c names known =
+    let is = c.as_slice.ensures.value ∙ read_names (g.F.JournalFolder.names c.args.folder.now) names c.in-Ok.begins.items known c.in-Ok.ensures.read in
+    obeys_before g.R.RegistryCalls.showing g.F.JournalFolder c.args.registry.now c.follow_all.new.registry c.segment_after.new.registry c.args.folder.now names c.segment_after.ensures.honest c.segment_after.ensures.kept
+    (obeys_at g.R.RegistryCalls.showing g.F.JournalFolder c.args.registry.now c.follow_all.new.registry c.args.folder.now c.begins.new.self names c.as_slice.result.now c.begins.ensures.same is c.in-Ok-follow_all.ensures.brings.obeys)
+
+pub returns-clause-obeys : goal.returns-clause-obeys
+returns-clause-obeys g c names known =
+    let is = c.as_slice.ensures.value ∙ read_names (g.F.JournalFolder.names c.args.folder.now) names c.in-Ok.begins.items known c.in-Ok.ensures.read in
+    stops_before g.R.RegistryCalls.showing g.F.JournalFolder c.args.registry.now c.follow_all.new.registry c.segment_after.new.registry c.args.folder.now names c.segment_after.ensures.honest c.segment_after.ensures.kept
+    (obeys_at g.R.RegistryCalls.showing g.F.JournalFolder c.args.registry.now c.follow_all.new.registry c.args.folder.now c.begins.new.self names c.as_slice.result.now c.begins.ensures.same is c.in-Ok-follow_all.ensures.brings.obeys)
+
+pub returns-in-Err-Newer-clause-obeys : goal.returns-in-Err-Newer-clause-obeys
+returns-in-Err-Newer-clause-obeys g c =
+    let stays = rw c.in-Err-Newer.field-0-is at c.in-Err-Newer.ensures.brings.stays in
+    let quiet = quiet_newer stays in
+    elim c.match-begin_segment.branch [
+      | in-Ok-begin_segment w ↦ rw w.result-is (λ names known. obeys_still g.R.RegistryCalls.showing g.F.JournalFolder c.args.registry.now c.begin_segment.new.registry c.args.folder.now names (λ clean h shown. c.begin_segment.ensures.kept clean h (quiet.0 (c.begin_segment.ensures.honest clean) h shown)))
+      | in-Err-begin_segment w ↦ rw w.result-is (λ names known. stops_still g.R.RegistryCalls.showing g.F.JournalFolder c.args.registry.now c.begin_segment.new.registry c.args.folder.now names (λ clean h shown. c.begin_segment.ensures.kept clean h (quiet.0 (c.begin_segment.ensures.honest clean) h shown)))
+    ]
+
 -- WHAT IS COMPARED
 
 pub returns-in-Err-clause-compared : goal.returns-in-Err-clause-compared
 returns-in-Err-clause-compared g c names known = finds_refused g.R.RegistryCalls.showing g.F.JournalFolder _ _ c.args.folder.now names _ tt
+
+pub returns-in-Err-follow_all-clause-compared : goal.returns-in-Err-follow_all-clause-compared
+returns-in-Err-follow_all-clause-compared g c names known =
+    finds_fault g.R.RegistryCalls.showing g.F.JournalFolder c.args.registry.now c.follow_all.new.registry c.follow_all.new.registry c.args.folder.now c.begins.new.self names c.as_slice.result.now c.in-Err-follow_all.fault c.begins.ensures.same (c.as_slice.ensures.value ∙ read_names (g.F.JournalFolder.names c.args.folder.now) names c.in-Ok.begins.items known c.in-Ok.ensures.read)
+    (λ clean. clean) (search rules) c.in-Err-follow_all.ensures.compared
 
 pub returns-in-Ok-segment_after-clause-compared : goal.returns-in-Ok-segment_after-clause-compared
 returns-in-Ok-segment_after-clause-compared g c names known =

@@ -32,6 +32,7 @@ returns-in-Ok g c = record {
           | inl none ↦ c.in-Ok.ensures.begun names known n below (is ∙ ap (λ (ns : List ℕ). ns ++ n ∷ below) none) clean h shown
           | inr (gap, none) ↦ (c.in-Ok.ensures.gap gap).1 names known above n (is ∙ ap (λ (ns : List ℕ). above ++ n ∷ ns) none) clean h shown
         ];
+        obeys = c.in-Ok.ensures.obeys names known clean names known h shown;
         compares = λ front name is begun. c.in-Ok.ensures.compared names known clean front name is known h shown begun;
       };
 }
@@ -48,6 +49,7 @@ returns-in-Err g c = record {
             (faults.0, stops_as g.R.RegistryCalls.showing _ _ _ (λ x along. along_segments text start x names on.0 along) faults.1);
         gap = tt;
         begun = tt;
+        obeys = c.in-Err.ensures.obeys names known clean names known h shown;
         compares = λ front name is begun. c.in-Err.ensures.compared names known clean front name is known h shown begun;
       };
 }

@@ -3,7 +3,7 @@ use Rattle.pid_file.specs.Lines.{drop_cr}
 use Rattle.pid_file.specs.WholeLines.{whole_lines}
 use Rattle.pid_journal.specs.Steps.Places.{IsSaid}
 use Rattle.pid_journal.specs.Steps.Reads.{IsAllRead, IsLine, left_in}
-use Rattle.pid_journal.proofs.Comparing.{compares_all, compares_first, compares_here, compares_on, compares_other}
+use Rattle.pid_journal.proofs.Comparing.{compares_all, compares_first, compares_here, compares_nowhere, compares_on}
 use Rattle.pid_journal.proofs.Places.{end_more, found_after, found_end, found_first, found_on, line_first, placed_at}
 use Rattle.pid_journal.proofs.Resuming.{if_ok}
 use Rattle.pid_journal.proofs.SegmentLines.{open_end, reads_both, reads_none, text_then}
@@ -13,7 +13,7 @@ pub loop-turn-init : goal.loop-turn-init
 loop-turn-init g c = record {
   reads = reads_none g.F.JournalFolder c.args.folder.now c.args.text.now;
   finds = λ names known. let all = left_in c.args.text.now (g.F.JournalFolder.text_in c.args.folder.now c.args.text.now.begin) in
-      (found_first all c.args.now c.args.begin, compares_first all c.args.now _);
+      (found_first all c.args.now c.args.begin, compares_first all c.args.now c.args.begin);
 }
 
 pub loop-turn-preserved : goal.loop-turn-preserved
@@ -30,8 +30,8 @@ loop-turn-preserved g c = record {
       let said = subst (λ (l : List ℕ). IsSaid l c.in-Ok-said_by.said) (c.without_cr.ensures ∙ ap drop_cr c.deref.ensures.value) c.in-Ok-said_by.ensures in (
         found_on text rest line behind c.args.now c.args.begin c.loop-turn.place c.in-Behind.next finds.0 taken.parts taken.one
             (λ shown h is placed. c.in-Behind.ensures.next shown h (drop_cr line) (whole_lines behind) is said placed),
-        compares_on text rest behind (drop_cr line) c.args.now c.loop-turn.place c.in-Behind.next finds.1 (line_first rest line behind taken.parts taken.one)
-            (c.in-Behind.ensures.compared finds.1.told (drop_cr line) (whole_lines behind) said finds.1.is),
+        compares_on text rest behind (drop_cr line) c.args.now c.args.begin c.loop-turn.place c.in-Behind.next finds.1 (line_first rest line behind taken.parts taken.one)
+            (c.in-Behind.ensures.compared finds.1.last (drop_cr line) (whole_lines behind) said finds.1.is),
       );
 }
 
@@ -52,7 +52,7 @@ pub returns-then-not-whole-clause-compared : goal.returns-then-not-whole-clause-
 returns-then-not-whole-clause-compared g c names known =
     let all = g.F.JournalFolder.text_in c.args.folder.now c.args.text.now.begin in
     let read = text_then g.F.JournalFolder c.args.folder.now c.loop-turn.folder c.args.text.now c.loop-turn.text (IsAllRead c.loop-turn.text c.take_line.new.self) c.loop-turn.invariant.reads (c.in-Ok.ensures.end c.if-not-whole.true) names known in
-    compares_all c.end_place.result (left_in c.args.text.now all) (left_in c.loop-turn.text all) c.args.now c.loop-turn.place (c.loop-turn.invariant.finds names known).1 read.torn c.end_place.ensures
+    compares_all c.end_place.result (left_in c.args.text.now all) (left_in c.loop-turn.text all) c.args.now c.args.begin c.loop-turn.place (c.loop-turn.invariant.finds names known).1 read.torn c.end_place.ensures
 
 -- at a comment
 pub returns-in-Here-clause-parts : goal.returns-in-Here-clause-parts
@@ -81,8 +81,8 @@ returns-in-Here-clause-compared g c names known =
     let line = c.take_line.new.line.items in
     let taken = text_then g.F.JournalFolder c.args.folder.now c.loop-turn.folder c.args.text.now c.loop-turn.text (λ x. IsLine (left_in c.loop-turn.text x) line (left_in c.take_line.new.self x)) c.loop-turn.invariant.reads (c.in-Ok.ensures.taken c.if-not-whole.false) names known in
     let at = (c.loop-turn.invariant.finds names known).1 in
-    compares_here (left_in c.args.text.now all) rest behind (drop_cr line) c.args.now c.loop-turn.place at (line_first rest line behind taken.parts taken.one)
-    (c.in-Here.ensures.compared at.told (drop_cr line) (whole_lines behind) (subst (λ (l : List ℕ). IsSaid l c.in-Ok-said_by.said) (c.without_cr.ensures ∙ ap drop_cr c.deref.ensures.value) c.in-Ok-said_by.ensures) at.is)
+    compares_here (left_in c.args.text.now all) rest behind (drop_cr line) c.args.now c.args.begin c.loop-turn.place at (line_first rest line behind taken.parts taken.one)
+    (c.in-Here.ensures.compared at.last (drop_cr line) (whole_lines behind) (subst (λ (l : List ℕ). IsSaid l c.in-Ok-said_by.said) (c.without_cr.ensures ∙ ap drop_cr c.deref.ensures.value) c.in-Ok-said_by.ensures) at.is)
 
 -- at a line that does not lead on
 pub returns-in-Nowhere-clause-found : goal.returns-in-Nowhere-clause-found
@@ -96,4 +96,12 @@ returns-in-Nowhere-clause-found g c names known start shown marked begins is way
     c.in-Nowhere.ensures.next shown r.here (drop_cr line) (whole_lines behind) is (subst (λ (l : List ℕ). IsSaid l c.in-Ok-said_by.said) (c.without_cr.ensures ∙ ap drop_cr c.deref.ensures.value) c.in-Ok-said_by.ensures) (placed_at shown r.here c.loop-turn.place rest line behind taken.parts taken.one r.placed)
 
 pub returns-in-Nowhere-clause-compared : goal.returns-in-Nowhere-clause-compared
-returns-in-Nowhere-clause-compared g c names known = compares_other c.args.now (whole_lines (left_in c.args.text.now (g.F.JournalFolder.text_in c.args.folder.now c.args.text.now.begin)))
+returns-in-Nowhere-clause-compared g c names known =
+    let all = g.F.JournalFolder.text_in c.args.folder.now c.args.text.now.begin in
+    let rest = left_in c.loop-turn.text all in
+    let behind = left_in c.take_line.new.self all in
+    let line = c.take_line.new.line.items in
+    let taken = text_then g.F.JournalFolder c.args.folder.now c.loop-turn.folder c.args.text.now c.loop-turn.text (λ x. IsLine (left_in c.loop-turn.text x) line (left_in c.take_line.new.self x)) c.loop-turn.invariant.reads (c.in-Ok.ensures.taken c.if-not-whole.false) names known in
+    let at = (c.loop-turn.invariant.finds names known).1 in
+    compares_nowhere (left_in c.args.text.now all) rest behind (drop_cr line) c.args.now c.args.begin c.loop-turn.place at (line_first rest line behind taken.parts taken.one)
+    (c.in-Nowhere.ensures.compared at.last (drop_cr line) (whole_lines behind) (subst (λ (l : List ℕ). IsSaid l c.in-Ok-said_by.said) (c.without_cr.ensures ∙ ap drop_cr c.deref.ensures.value) c.in-Ok-said_by.ensures) at.is)

@@ -44,7 +44,7 @@ returns-then-breaks_form-clause-failed g c off =
 pub returns-in_err-entry-clause-obeyed : goal.returns-in_err-entry-clause-obeyed
 returns-in_err-entry-clause-obeyed g c clean start h shows =
     let t = c.in_ok-status.ensures.told clean h shows.shown in
-    inr (fault_of c.from_residual-in_err-entry.result c.in_err-entry.field-0.0 c.from_residual-in_err-entry.ensures.1 c.in_err-entry.ensures.fault, inl (still_shows g.R.RegistryCalls g.J.JournalFile start h c.args.self.now c.status.new.self shows t.1))
+    inr (fault_of c.from_residual-in_err-entry.result c.in_err-entry.field-0.0 c.from_residual-in_err-entry.ensures.1 c.in_err-entry.ensures, inl (still_shows g.R.RegistryCalls g.J.JournalFile start h c.args.self.now c.status.new.self shows t.1))
 
 pub returns-in_err-entry-clause-failed : goal.returns-in_err-entry-clause-failed
 returns-in_err-entry-clause-failed g c off =
@@ -57,7 +57,7 @@ pub returns-clause-obeyed : goal.returns-clause-obeyed
 returns-clause-obeyed g c clean start h shows =
     let t = c.in_ok-status.ensures.told (c.obey_noted.ensures.honest clean) h shows.shown in
     c.obey_noted.ensures.obeyed clean start h (still_shows g.R.RegistryCalls g.J.JournalFile start h c.args.self.now c.status.new.self shows t.1)
-    (entry_at _ _ _ h (asks c.args.command) c.as_bytes.ensures.value t.0 c.in_ok-entry.ensures.reads_back)
+    (entry_at _ _ _ h (asks c.args.command) c.as_bytes.ensures.value t.0 c.in_ok-entry.ensures)
 
 pub returns-clause-failed : goal.returns-clause-failed
 returns-clause-failed g c off =
@@ -68,14 +68,14 @@ pub returns-then-branch-clause-obeyed : goal.returns-then-branch-clause-obeyed
 returns-then-branch-clause-obeyed g c clean start h shows =
     let t = c.in_ok-status.ensures.told (c.obey.ensures.honest clean) h shows.shown in
     unnoted g.R.RegistryCalls g.J.JournalFile start h (with_registry g.R.RegistryCalls g.J.JournalFile c.args.self.now c.status.new.self) c.obey.new.self c.obey.result (asks c.args.command)
-    (still_shows g.R.RegistryCalls g.J.JournalFile start h c.args.self.now c.status.new.self shows t.1) (c.in_ok-has_no_line.ensures.never c.if-branch.true h) (c.obey.ensures.obeys clean h t.1)
+    (still_shows g.R.RegistryCalls g.J.JournalFile start h c.args.self.now c.status.new.self shows t.1) (c.in_ok-has_no_line.ensures c.if-branch.true h) (c.obey.ensures.obeys clean h t.1)
 
 pub obey_noted-requires : goal.obey_noted-requires
-obey_noted-requires g c = subst IsUnmarked (sym c.as_bytes.ensures.value) (unmarked _ _ _ c.in_ok-entry.ensures.reads_back)
+obey_noted-requires g c = subst IsUnmarked (sym c.as_bytes.ensures.value) (unmarked _ _ _ c.in_ok-entry.ensures)
 
 -- WHAT COMES TO THE JOURNAL
 
 pub returns-clause-added : goal.returns-clause-added
 returns-clause-added g c =
     let counts = counts_in (registry_status_of c.in_ok-status.status) in
-    c.obey_noted.ensures.added counts (subst (λ (l : List ℕ). IsEntry l counts (asks c.args.command)) (sym c.as_bytes.ensures.value) c.in_ok-entry.ensures.reads_back)
+    c.obey_noted.ensures.added counts (subst (λ (l : List ℕ). IsEntry l counts (asks c.args.command)) (sym c.as_bytes.ensures.value) c.in_ok-entry.ensures)

@@ -1,0 +1,43 @@
+-- Which lines of segments lead from one history to another.
+use Rattle.std.proofs.Common.{inl, inr, ℕ, ◌≤◌, List, [], ◌∷◌, ◌++◌, refl, sym, ap, subst, ◌∙◌, append-nil}
+use Rattle.pid_file.specs.WholeLines.{whole_lines}
+use Rattle.pid_moderation.specs.History.{History}
+use Rattle.pid_moderation.specs.Views.{revision_of}
+use Rattle.pid_script.specs.Replies.{history_after}
+use Rattle.pid_journal.specs.Journals.{counts_held}
+use Rattle.pid_journal.specs.Openings.{FollowsInTurn, StandsIn}
+use Rattle.pid_journal.specs.Steps.Places.{IsEndOf}
+use Rattle.pid_journal.specs.Steps.Ways.{IsAlong}
+use Rattle.pid_journal.proofs.Appending.{whole_both}
+
+pub obeys_none : (text : ℕ → List ℕ) (names : List ℕ) (h : History) → FollowsInTurn text names h h
+obeys_none text [] h = refl
+obeys_none text (name ∷ names) h = inl (obeys_none text names h)
+
+pub obeys_both : (text : ℕ → List ℕ) (xs ys : List ℕ) (h m g : History) → FollowsInTurn text xs h m → FollowsInTurn text ys m g → FollowsInTurn text (xs ++ ys) h g
+obeys_both text [] ys h m g is more = subst (λ (x : History). FollowsInTurn text ys x g) (sym is) more
+obeys_both text (x ∷ xs) ys h m g (inl far) more = inl (obeys_both text xs ys h m g far more)
+obeys_both text (x ∷ xs) ys h m g (inr (next, one, far)) more = inr (next, one, obeys_both text xs ys next m g far more)
+
+-- of the first one alone
+pub obeys_first : (text : ℕ → List ℕ) (name : ℕ) (rest : List ℕ) (h g : History) → FollowsInTurn text (name ∷ []) h g → FollowsInTurn text (name ∷ rest) h g
+obeys_first text name rest h g one = obeys_both text (name ∷ []) rest h g g one (obeys_none text rest g)
+
+-- lines of a segment from where the registry stands
+pub obeys_in : (text : ℕ → List ℕ) (name : ℕ) (rest : List ℕ) (h g : History) → name ≤ revision_of h → StandsIn (counts_held h) name (whole_lines (text name)) → IsEndOf (text name) rest → IsAlong h (whole_lines rest) g → FollowsInTurn text (name ∷ []) h g
+obeys_in text name rest h g begun stands end along = inr (
+  g,
+  record {
+    begun = begun;
+    stands = stands;
+    before = whole_lines end.front;
+    obeyed = along.before;
+    later = along.later;
+    parts = ap whole_lines end.parts ∙ whole_both end.front rest end.whole ∙ ap (λ (ls : List (List ℕ)). whole_lines end.front ++ ls) along.parts;
+    leads = along.so_far;
+  },
+  refl,
+)
+
+pub all_along : (h : History) (lines : List (List ℕ)) → IsAlong h lines (history_after h lines)
+all_along h lines = record { before = lines; later = []; parts = sym (append-nil lines); so_far = refl }
