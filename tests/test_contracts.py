@@ -17,7 +17,7 @@ LONGEST = ("pid_file::read_nested", "pid_http_stream::read_more",
            "pid_http_stream::read_head")
 # What a clause of these crates has on average, in characters.
 CHARACTERS = 91
-ABOVE = ("pid_service", "pid_http", "pid_http_stream", "pid_script", "pid_cli_registry",
+ABOVE = ("pid_service", "pid_http", "pid_http_stream", "pid_script", "pid_cli",
          "pid_cli_jobs", "pid_cli_args")
 # Of each crate so many definitions, but those in Steps, are reached by no call that the lists of
 # PROMISES.md name: those of a double of tests. None is to be added.

@@ -1,10 +1,17 @@
 //! `pciids`: checks and prints pci.ids files, and keeps a moderated registry of PCI IDs.
 #![tactic(auto)]
 
+mod alone;
+mod exporting;
+pub mod laws;
+mod migrating;
+mod running;
+mod unopened;
+
+use crate::running::run_on_host;
 use pid_cli_args::terminal::Run;
 use pid_cli_args::{job_of, report_no_job};
 use pid_cli_help::Met;
-use pid_cli_registry::run_on_host;
 use pid_file::report_no_words;
 use sqlite_disk::Unknown;
 use std::process::ExitCode;

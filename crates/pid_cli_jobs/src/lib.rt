@@ -20,6 +20,7 @@ mod scripts;
 mod segment;
 mod serving;
 mod unopened;
+mod with_journal;
 
 pub use folder::{HostFolder, HostFolders};
 pub use host::Host;
@@ -35,3 +36,4 @@ pub use scripts::script;
 pub use segment::HostSegment;
 pub use serving::{Port, serve};
 pub use unopened::{Unopened, report_unopened};
+pub use with_journal::{run_import, run_script, run_serve};

@@ -1,0 +1,56 @@
+//! The migration of the tables at a path.
+ghost use Rattle.std.specs.Prelude.{◌≡◌};
+ghost use Rattle.pid_file.specs.Writing.{use_of};
+ghost use Rattle.pid_cli_jobs.specs.Lines.{PrintsLine, streams};
+ghost use Rattle.pid_cli.specs.Migrations.{Migrates, step_line};
+
+use crate::unopened::of_tables;
+use pid_cli_jobs::{Databases, JobEnd, print_line, report_unopened};
+use pid_ident::Output;
+use pid_service::Step;
+
+fn step_text(step: Step) -> &'static str
+    ensures { result.now ≡ step_line step }
+{
+    match step {
+        Step::Created => "created schema 2\n",
+        Step::Moved => "moved to schema 2\n",
+        Step::Already => "schema 2 already\n",
+    }
+}
+
+// Prints what a migration did, with exit status 0.
+fn print_step<O: Output>(step: Step, output: &mut O) -> JobEnd
+    ensures { PrintsLine result (use_of O.Output output.old output.new) (step_line step) 0 }
+{
+    print_line(step_text(step).as_bytes(), 0, output)
+}
+
+/// Moves the tables at a path to the newest schema, or creates them; opens no registry. Prints what
+/// was done, or reports why not.
+pub fn migrate<D: Databases, O: Output, F: Output>(
+    databases: &mut D,
+    path: &str,
+    output: &mut O,
+    faults: &mut F,
+) -> JobEnd
+    ensures { Migrates D.Kept.Store (D.is_at path.now) D.is_closed
+        (streams (use_of O.Output output.old output.new)
+        (use_of F.Output faults.old faults.new)) result }
+{
+    let conn = match databases.open(path) {
+        Ok(conn) => conn,
+        Err(why) => return report_unopened(why, faults),
+    };
+    match pid_service::migrate(databases.alloc(), conn) {
+        Ok((conn, step)) => {
+            let end = print_step(step, output);
+            databases.close(&mut Some(conn));
+            end
+        }
+        Err((fault, refused)) => {
+            drop(refused);
+            report_unopened(of_tables(fault), faults)
+        }
+    }
+}

@@ -1,5 +1,0 @@
-use Rattle.pid_cli_registry.proofs.Runs.{tables_sound}
-use Rattle.pid_cli_registry.proofs.laws.tables_leave_databases.Goals as goal
-
-pub returns : goal.returns
-returns g c = tables_sound g.S.Store
