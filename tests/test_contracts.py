@@ -13,8 +13,7 @@ CLAUSES = 5
 LONGER = ("pid_tables::import_file",)
 # Any function has fewer than so many, but for these.
 TOO_MANY = 8
-LONGEST = ("pid_file::read_nested", "pid_http_stream::read_more",
-           "pid_http_stream::read_head")
+LONGEST = ("pid_http_stream::read_more", "pid_http_stream::read_head")
 # What a clause of these crates has on average, in characters.
 CHARACTERS = 91
 ABOVE = ("pid_service", "pid_http", "pid_http_stream", "pid_script", "pid_cli",

@@ -6,7 +6,7 @@ ghost use Rattle.clap.specs.declared.error.kind.ErrorKind.TheVariants.{OutOfMemo
 
 use clap::Error;
 use clap::error::ErrorKind;
-use pid_file::{Plain, TextEnd, report_failed, report_text_end};
+use pid_file::{NO_JOB, Plain, TextEnd, report_failed, report_text_end};
 use std::io;
 use std::io::Write;
 
@@ -27,7 +27,7 @@ pub fn report_no_job<O: Write, F: Write>(
     }
     if error.use_stderr() {
         let _ = write!(faults, "{error}{}", hint(words));
-        return 2;
+        return NO_JOB;
     }
     match write!(output, "{error}") {
         Ok(()) => 0,
