@@ -13,7 +13,7 @@ mod reply;
 mod script;
 mod script_end;
 
-pub use line::LONGEST_LINE;
+pub use line::{LONGEST_LINE, is_idle};
 pub use line_command::command_in_line;
 pub use pid_service_laws::RegistryCalls;
 pub use script::run_script;
