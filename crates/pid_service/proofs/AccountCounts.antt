@@ -4,15 +4,7 @@ use Rattle.std.specs.Prelude.{◌||◌, IfSome, is_none, is_some}
 use Rattle.std.specs.List.{AllByRecursion, IsDistinct, list_any}
 use Rattle.std.specs.Str.{bytes_eq}
 use Rattle.std.proofs.lemmas.Slice.Eq.{bytes_eq-Decides}
-use Rattle.pid_moderation.specs.declared.change.Change.{Change}
-use Rattle.pid_moderation.specs.declared.change.Effect.{Effect}
-use Rattle.pid_moderation.specs.declared.change.Effect.TheVariants.{Ranked}
-use Rattle.pid_moderation.specs.declared.change.Receipt.{Receipt}
-use Rattle.pid_moderation.specs.declared.rank.Rank.{Rank}
-use Rattle.pid_moderation.specs.Changes.{FitsEffect, affected, changed, keeping}
-use Rattle.pid_moderation.specs.Views.{Views}
-use Rattle.pid_tables.specs.Rows.Accounts.{HasAccounts}
-use Rattle.pid_service.specs.KeptViews.{HoldsAccounts}
+use Rattle.pid_service.proofs.Words.{affected, Change, changed, Effect, FitsEffect, HasAccounts, HoldsAccounts, keeping, Rank, Ranked, Receipt, Views}
 
 -- they are the same where no rank is another one
 pub same_accounts : (accounts : Option ℕ) (v w : Views) → w.rank ≡ v.rank → HoldsAccounts accounts v → HoldsAccounts accounts w

@@ -1,33 +1,13 @@
 -- What a registry exports and answers to look-ups, as one under moderation.
 use Rattle.std.proofs.Common.{◌≡◌, ◌↔◌, ℕ, Bool, true, false, List, [], ◌∷◌, ◌++◌, Option, Result, Ok, Err, IfOk, refl, sym, ap, subst, ◌∙◌, append_assoc}
 use Rattle.std.specs.Prelude.{IsErrOf}
+use Rattle.pid_service.proofs.Words.{Answer, answer_of, Args, BadFlags, ended, ExportFault, ExportsText, ExportsTree, Failed, header, History, is_bad, IsWholeFront, Items, items_of, lines_after, LooksUp, LookupRefusal, MayGive, Names, open_part, print, Refusal, text_behind, text_of_items, tree_of, TreeMap}
 use Rattle.pid_service.proofs.ItemLines.{last_path, text_joined}
-use Rattle.pid_service.specs.ItemTexts.{text_behind, text_of_items}
-use Rattle.pid_ident.specs.Trees.{TreeMap}
-use Rattle.pid_lookup.specs.declared.answer.Answer.{Answer}
-use Rattle.pid_lookup.specs.declared.answering.LookupRefusal.{LookupRefusal}
-use Rattle.pid_lookup.specs.declared.answering.LookupRefusal.TheVariants.{BadFlags, Names, Memory}
-use Rattle.pid_lookup.specs.declared.args.Args.{Args}
-use Rattle.pid_lookup.specs.Answers.{answer_of}
-use Rattle.pid_lookup.specs.Flags.{is_bad}
-use Rattle.pid_moderation.specs.declared.refusal.Refusal.{Refusal}
-use Rattle.pid_moderation.specs.declared.refusal.Refusal.TheVariants.{Failed}
+use Rattle.pid_lookup.specs.declared.answering.LookupRefusal.TheVariants.{Memory}
 use Rattle.pid_service.proofs.Keeping.{true_not}
-use Rattle.pid_moderation.specs.History.{History}
-use Rattle.pid_moderation.specs.Items.{Items}
-use Rattle.pid_moderation.specs.Views.{items_of}
-use Rattle.pid_moderation.specs.Writes.{tree_of}
 use Rattle.pid_file.proofs.Cuts.{open_line, open_more, open_no_lf}
 use Rattle.pid_file.proofs.LineLemmas.{by_bool}
-use Rattle.pid_reader.specs.WholeLines.{open_part}
-use Rattle.pid_service.specs.Asking.{MayGive}
-use Rattle.pid_service_laws.specs.declared.faults.ExportFault.{ExportFault}
 use Rattle.pid_service_laws.specs.declared.faults.ExportFault.TheVariants.{Refused, Write}
-use Rattle.pid_service.specs.Steps.Exports.{ExportsTree}
-use Rattle.pid_file.specs.Printing.{ended, header, lines_after, print}
-use Rattle.pid_service_laws.specs.Moderating.{ExportsText}
-use Rattle.pid_service_laws.specs.Moderating.{LooksUp}
-use Rattle.pid_service_laws.specs.WholeFronts.{IsWholeFront}
 
 -- no line is open behind lines that each have their LF
 none_open : (lines : List (List ℕ)) → open_part (ended lines) ≡ []

@@ -1,13 +1,8 @@
 -- Why a question gets a fault.
 use Rattle.std.proofs.Common.{◌≡◌, sym, subst}
-use Rattle.sqlite.specs.Held.{Held}
-use Rattle.sqlite_trees.specs.declared.store.Store.{Ghosts}
-use Rattle.pid_tables.specs.Faults.{refusal_for}
-use Rattle.pid_moderation.specs.declared.refusal.Refusal.{Refusal}
 use Rattle.pid_tables.specs.Rows.Clauses as clauses
-use Rattle.pid_tables.specs.declared.rows.fault.TableFault.{TableFault}
-use Rattle.pid_tables.specs.declared.rows.fault.TableFault.TheVariants.{Memory, Store, NewerSchema, Damaged}
-use Rattle.pid_service.specs.Asking.{IsCausedAs}
+use Rattle.pid_tables.specs.declared.rows.fault.TableFault.TheVariants.{Memory, Store}
+use Rattle.pid_service.proofs.Words.{Damaged, Ghosts, Held, IsCausedAs, NewerSchema, Refusal, refusal_for, TableFault}
 
 module _ {S : Type 0} (store : Ghosts S) (old new : Held S) where
   pub caused_as : (fault : TableFault) → clauses.IsCaused store old new fault → IsCausedAs store old new (refusal_for fault)

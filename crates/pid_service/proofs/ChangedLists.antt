@@ -8,25 +8,13 @@ use Rattle.std.proofs.lemmas.List.{length-map, map-append, take_all, take_more}
 use Rattle.std.proofs.lemmas.List.Elements.{filter-append}
 use Rattle.pid_file.specs.PathTexts.{path_text}
 use Rattle.pid_file.specs.Trees.{text_cmp}
-use Rattle.pid_file.specs.declared.path.Path.{Path}
-use Rattle.pid_file.specs.declared.path.Path.TheVariants.{Vendor, Device, Subsystem, Generic, Class, Subclass, ProgIf}
-use Rattle.pid_moderation.specs.ChangePages.{Changed, changed_after, changed_of, is_later, numbered_in}
-use Rattle.pid_moderation.specs.Changes.{affected, keeping}
+use Rattle.pid_moderation.specs.ChangePages.{Changed}
 use Rattle.pid_moderation.proofs.Changing.{not_anew}
+use Rattle.pid_service.proofs.Words.{affected, AreChanged, changed_after, changed_of, ChangedItem, Class, comes_after, Decided, Device, Effect, Generic, HoldsChanges, is_later, Items, keeping, KeptChanges, name_at, numbered_in, PAGE, Path, ProgIf, Receipt, Subclass, Subsystem, Vendor, Views}
 use Rattle.pid_service.proofs.PendingNumbers.{take_short}
 use Rattle.pid_reader.proofs.Written.{both_true}
-use Rattle.pid_moderation.specs.Items.{Items, name_at}
-use Rattle.pid_moderation.specs.Views.{Views}
-use Rattle.pid_moderation.specs.declared.change.Effect.{Effect}
-use Rattle.pid_moderation.specs.declared.change.Effect.TheVariants.{Decided}
-use Rattle.pid_moderation.specs.declared.change.Receipt.{Receipt}
 use Rattle.pid_moderation.specs.declared.change.Write.{Write}
 use Rattle.pid_moderation.specs.declared.facts.State.{State}
-use Rattle.pid_moderation.specs.declared.lists.ChangedItem.{ChangedItem}
-use Rattle.pid_moderation.specs.declared.lists.TheConstants.{PAGE}
-use Rattle.pid_service.specs.declared.changes.KeptChanges.{KeptChanges}
-use Rattle.pid_service.specs.KeptViews.{AreChanged, HoldsChanges}
-use Rattle.pid_service.specs.Steps.KeptChanges.{comes_after}
 
 -- ---- what a change leaves
 

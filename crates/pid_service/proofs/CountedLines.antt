@@ -5,28 +5,10 @@ use Rattle.std.specs.declared.alloc.Global.{Global}
 use Rattle.std.proofs.lemmas.Bool.Decides.{nat_tests}
 use Rattle.std.proofs.Math.Nat.{min-le_left}
 use Rattle.std.proofs.lemmas.List.{map-append, reverse-append, reverse-reverse}
-use Rattle.pid_file.specs.declared.path.Path.{Path}
-use Rattle.pid_file.specs.declared.path.Path.TheVariants.{Vendor, Device, Subsystem, Class, Subclass, ProgIf, Generic}
 use Rattle.pid_file.proofs.Written.{ended-append}
-use Rattle.pid_ident.specs.Words.{is_name}
-use Rattle.pid_moderation.specs.Items.{Items}
-use Rattle.pid_moderation.specs.WellMade.{AllItems, IsItem}
-use Rattle.pid_reader.specs.Numbered.{Numbered, item_in}
-use Rattle.pid_reader.specs.Sinks.{Took}
-use Rattle.pid_tables.specs.Lists.EachItem.{placed_from}
-use Rattle.pid_file.specs.Labels.{label}
-use Rattle.pid_file.specs.Printing.{block_line, ended, header, item_line, label_of, opens_block}
-use Rattle.pid_file.specs.Steps.Printing.{text_or_none}
+use Rattle.pid_service.proofs.Words.{AllItems, block_after, block_line, Class, Device, ended, Extent, extent_in, Extents, extents_after, Generic, GrowingText, HasLines, header, HoldsText, is_name, IsItem, item_in, item_line, Items, KeptText, label, label_of, Lengthens, Numbered, opens_block, Path, placed_from, ProgIf, Subclass, Subsystem, TakesItem, text_behind, text_of_items, text_or_none, TextSink, Took, Vendor}
 use Rattle.pid_service.proofs.Labelled.{label_of_text}
-use Rattle.pid_service.specs.ItemTexts.{extents_after, text_behind, text_of_items}
-use Rattle.pid_service.specs.Steps.ItemTexts.{Extents}
-use Rattle.pid_service.specs.KeptViews.{HoldsText, extent_in}
 use Rattle.pid_ident.specs.PathTexts.{path_text}
-use Rattle.pid_service.specs.Steps.TextSinks.{HasLines, Lengthens, TakesItem, block_after}
-use Rattle.pid_service.specs.declared.items_text.GrowingText.{GrowingText}
-use Rattle.pid_service.specs.declared.items_text.TextSink.{TextSink}
-use Rattle.pid_service.specs.declared.kept_text.Extent.{Extent}
-use Rattle.pid_service.specs.declared.kept_text.KeptText.{KeptText}
 use Rattle.pid_service.proofs.ItemLines.{extents_joined, last_joined, last_path, text_first, text_joined}
 use Rattle.pid_service.proofs.WalkEnds.{placed_items}
 use Rattle.pid_service.proofs.RenewedTexts.{headed}

@@ -3,37 +3,11 @@ use Rattle.std.proofs.Common.{◌≡◌, ℕ, Bool, true, List, Option, Some, Re
 use Rattle.std.specs.Io.KnownBytes.{Appends}
 use Rattle.std.specs.Prelude.{Vec}
 use Rattle.std.specs.declared.alloc.Global.{Global}
-use Rattle.pid_ident.specs.Sending.{SendsFront}
-use Rattle.pid_file.specs.declared.io.WriteFault.{WriteFault}
-use Rattle.pid_tables.specs.Lists.Clauses.{IsCausedEnd}
-use Rattle.pid_tables.specs.declared.lists.walk.EachEnd.{EachEnd}
 use Rattle.pid_tables.specs.declared.lists.walk.EachEnd.TheVariants as ends
-use Rattle.pid_service.specs.ItemTexts.{text_of_items}
-use Rattle.pid_moderation.specs.History.{History}
-use Rattle.pid_moderation.specs.Views.{items_of, views_of}
-use Rattle.pid_moderation.specs.Writes.{tree_of}
-use Rattle.pid_file.specs.Printing.{print}
-use Rattle.pid_service_laws.specs.declared.faults.ExportFault.{ExportFault}
 use Rattle.pid_service_laws.specs.declared.faults.ExportFault.TheVariants.{Refused, Write}
-use Rattle.sqlite.specs.Held.{Held}
-use Rattle.sqlite_trees.specs.declared.store.Store.{Ghosts}
-use Rattle.pid_tables.specs.Faults.{refusal_for}
-use Rattle.pid_moderation.specs.declared.refusal.Refusal.{Refusal}
-use Rattle.pid_service.specs.Asking.{IsCausedAs, MayGive}
-use Rattle.pid_service.specs.Steps.Exports.{ExportsTree, WritesItems}
-use Rattle.pid_service.specs.Histories.{IsMemoryOrStore, Shows}
-use Rattle.pid_moderation.specs.declared.lists.Item.{Item}
-use Rattle.pid_service.specs.declared.changes.KeptChanges.{KeptChanges}
-use Rattle.pid_service.specs.declared.kept_text.KeptText.{KeptText}
-use Rattle.pid_tables.specs.Searches.KeptNumbers.{HoldsNumbers}
-use Rattle.pid_tables.specs.declared.searches.numbers.Searches.{Searches}
-use Rattle.pid_service.specs.KeptViews.{HoldsAccounts, HoldsChanges, HoldsText, HoldsTop, HoldsPending, kept_by, kept_views}
-use Rattle.pid_service.specs.Registries.{HasCleanDisk, OnlyReads, is_live}
-use Rattle.pid_lookup.specs.CacheAgreement.{Agrees}
-use Rattle.pid_lookup.specs.CacheEntries.{Entries}
-use Rattle.pid_moderation.specs.Items.{name_at}
-use Rattle.pid_service.specs.declared.registry.Registry.{Registry}
-use Rattle.pid_service.specs.Steps.Exporting.{IsToldAs}
+use Rattle.pid_service.specs.Histories.{IsMemoryOrStore}
+use Rattle.pid_service.specs.Registries.{HasCleanDisk, OnlyReads}
+use Rattle.pid_service.proofs.Words.{Agrees, EachEnd, Entries, ExportFault, ExportsTree, Ghosts, Held, History, HoldsAccounts, HoldsChanges, HoldsNumbers, HoldsPending, HoldsText, HoldsTop, is_live, IsCausedAs, IsCausedEnd, IsToldAs, Item, items_of, kept_by, kept_views, KeptChanges, KeptText, MayGive, name_at, print, Refusal, refusal_for, Registry, Searches, SendsFront, Shows, text_of_items, tree_of, views_of, WriteFault, WritesItems}
 use Rattle.pid_service.proofs.Causes.{caused_as}
 use Rattle.pid_service.proofs.Keeping.{true_not}
 

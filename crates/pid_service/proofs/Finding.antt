@@ -1,35 +1,15 @@
 -- From the end of a session to the next opening.
 use Rattle.std.proofs.Common.{◌≡◌, inl, inr, ℕ, List, [], Bool, true, false, Option, Some, None, Result, Ok, Err, option_map, refl, sym, subst, ◌∙◌, arith}
-use Rattle.sqlite.specs.Tree.{Trees}
-use Rattle.sqlite.specs.Held.{Held, state}
-use Rattle.sqlite_trees.specs.declared.store.Store.{Ghosts}
-use Rattle.pid_moderation.specs.History.{History, new_history}
-use Rattle.pid_moderation.specs.Items.{name_at}
-use Rattle.pid_moderation.specs.Revisions.{taken_over}
-use Rattle.pid_moderation.specs.Views.{Views, revision_of, since_of, views_of, without_numbers}
-use Rattle.pid_service_laws.specs.Registries.{ShowsAgain}
-use Rattle.pid_tables.specs.declared.rows.fault.TableFault.{TableFault}
 use Rattle.pid_tables.specs.Rows.Clauses as clauses
 use Rattle.pid_tables.specs.Rows.Clauses.{AtRest}
 use Rattle.pid_tables.specs.Rows.Faults.{IsMemoryOrStore}
-use Rattle.pid_tables.specs.Clauses.{IsOpened}
-use Rattle.pid_tables.specs.declared.rows.version.Version.{Version}
-use Rattle.pid_tables.specs.declared.rows.version.Version.TheVariants.{One, Two}
-use Rattle.pid_tables.specs.Rows.Leaves.{IsShown, found_in}
-use Rattle.pid_tables.specs.Rows.Schema.{schema_of}
-use Rattle.pid_tables.specs.Rows.Shows.{ShowsIn}
-use Rattle.pid_tables.specs.declared.migration.Step.{Step}
 use Rattle.pid_tables.specs.Clauses.{ShowsOrBlank}
-use Rattle.pid_tables.specs.Creation.{ListsNoTable}
 use Rattle.pid_tables.proofs.OpenLemmas.{LeavesCommitted, opened_bare, opened_rests, opened_shown}
+use Rattle.pid_service.proofs.Words.{connection, FailedOpening, FailsBetween, found_in, Ghosts, Held, History, is_live, IsAfterSession, IsAfterStop, IsOpened, IsReached, IsShown, KeepsBetween, KeepsHistory, LeavesTablesTo, ListsNoTable, Migration, moved_to, MovesTo, name_at, new_history, NextStop, One, OpensTo, Registry, revision_of, schema_of, Shows, ShowsAgain, ShowsIn, since_of, state, Step, TableFault, taken_over, Trees, Two, Version, Views, views_of, without_numbers}
 use Rattle.pid_service.proofs.Keeping.{true_not}
-use Rattle.pid_service.specs.declared.registry.Registry.{Registry}
-use Rattle.pid_service.specs.Histories.{FailsBetween, IsReached, Shows}
 use Rattle.pid_service.specs.Histories.{showing}
-use Rattle.pid_service.specs.SessionLaws.{KeepsBetween}
-use Rattle.pid_service.specs.Sessions.{FailedOpening, IsAfterSession, IsAfterStop, KeepsHistory, LeavesTablesTo, Migration, NextStop, Stop}
-use Rattle.pid_service.specs.Opening.{MovesTo, OpensTo, moved_to}
-use Rattle.pid_service.specs.Registries.{HasCleanDisk, connection, is_live}
+use Rattle.pid_service.specs.Sessions.{Stop}
+use Rattle.pid_service.specs.Registries.{HasCleanDisk}
 
 pub none_reached : IsReached new_history
 none_reached = record { mark = 0; commands = []; made = tt; reached = refl; marked = omega arith }

@@ -2,21 +2,13 @@
 use Rattle.std.proofs.Common.{◌≡◌, ℕ, true, List, Option, Some, None, refl, sym, subst, ◌∙◌}
 use Rattle.std.specs.Prelude.{Vec, filter, map}
 use Rattle.std.specs.declared.alloc.Global.{Global}
-use Rattle.pid_moderation.specs.declared.command.Command.{Command}
-use Rattle.pid_moderation.specs.History.{Asked, History, Imports, Reading, asked, is_import}
-use Rattle.pid_moderation.specs.Judgement.{Outcome, Refused, Repeated, Accepts, added, after, judge}
-use Rattle.pid_moderation.specs.PendingPages.{standings_from, waits_above}
-use Rattle.pid_moderation.specs.Views.{Submitted, Views, decided, rank_of, ranked, state_of, submits_of, submitted, views_of}
-use Rattle.pid_tables.specs.Searches.Filings.{filed_as}
-use Rattle.pid_tables.specs.Searches.KeptNumbers.{AreKeptFor, HoldsNumbers}
-use Rattle.pid_tables.specs.declared.searches.numbers.Searches.{Searches}
-use Rattle.pid_tables.specs.declared.searches.numbers.Searches.TheVariants.{Unread, Lacking, Kept}
+use Rattle.pid_moderation.specs.Judgement.{Refused}
+use Rattle.pid_moderation.specs.Views.{Submitted}
+use Rattle.pid_tables.specs.declared.searches.numbers.Searches.TheVariants.{Kept}
+use Rattle.pid_service.proofs.Words.{Accepts, added, after, AreKeptFor, Asked, asked, Command, decided, filed_as, History, HoldsAccounts, HoldsNumbers, HoldsPending, Imports, is_import, IsRightFor, judge, KeptViews, Lacking, LeavesTheRest, nothing, Outcome, rank_of, ranked, Reading, Repeated, Searches, standings_from, state_of, submits_of, submitted, Unread, Views, views_of, waits_above}
 use Rattle.pid_service.proofs.AccountCounts.{same_accounts}
 use Rattle.pid_service.proofs.Imported.{import_deed}
 use Rattle.pid_service.proofs.Keeping.{no_changes, no_items, no_top}
-use Rattle.pid_service.specs.KeptViews.{HoldsAccounts, HoldsPending, IsRightFor, nothing}
-use Rattle.pid_service.specs.declared.kept_views.KeptViews.{KeptViews}
-use Rattle.pid_service.specs.Steps.KeptItems.{LeavesTheRest}
 
 same_pending : (numbers : Option (Vec ℕ Global)) (v w : Views) → w.submits ≡ v.submits → w.state ≡ v.state → HoldsPending numbers v → HoldsPending numbers w
 same_pending None v w submits states holds = tt

@@ -1,32 +1,11 @@
 -- Why an import is answered with a fault.
 use Rattle.std.proofs.Common.{◌≡◌, ◌≢◌, ◌⊎◌, inl, inr, Bool, true, false, [], ℕ, List, Result, Ok, Err, IfErr, refl, sym, subst}
-use Rattle.sqlite.specs.Held.{Held, state}
-use Rattle.sqlite_trees.specs.declared.store.Store.{Ghosts}
-use Rattle.pid_moderation.specs.declared.command.Command.{Command}
-use Rattle.pid_moderation.specs.declared.command.Reply.{Reply}
-use Rattle.pid_moderation.specs.declared.facts.Facts.{Facts}
-use Rattle.pid_moderation.specs.declared.refusal.Refusal.{Refusal}
-use Rattle.pid_moderation.specs.declared.refusal.Refusal.TheVariants.{BadText, Memory}
-use Rattle.pid_moderation.specs.BeforeFile.{WaitsForFile, import_of}
-use Rattle.pid_moderation.specs.History.{Asked, Good, History, Reading, asked}
-use Rattle.pid_moderation.specs.Judgement.{judge, answer}
-use Rattle.pid_moderation.specs.Views.{Views, views_of}
-use Rattle.pid_service_laws.specs.Outcomes.{is_outcome}
-use Rattle.pid_tables.specs.declared.judging.Early.TheVariants.{Answered}
+use Rattle.pid_moderation.specs.declared.refusal.Refusal.TheVariants.{Memory}
 use Rattle.pid_tables.specs.declared.put_file.Stop.{Stop}
 use Rattle.pid_tables.specs.declared.put_file.Stop.TheVariants as stops
-use Rattle.pid_tables.specs.Clauses.{EarlyIsCaused}
-use Rattle.pid_tables.specs.ImportClauses.{EndsImport}
-use Rattle.pid_tables.specs.Importing.{RefusesImport}
-use Rattle.pid_tables.specs.Faults.{IsCausedRefusal}
-use Rattle.pid_tables.specs.Judging.{IsOpen}
-use Rattle.pid_service_laws.specs.declared.faults.ImportEnd.{ImportEnd}
-use Rattle.pid_service_laws.specs.declared.faults.ImportEnd.TheVariants.{Refused, Body}
-use Rattle.pid_service.specs.Asking.{IsCausedAs}
+use Rattle.pid_service_laws.specs.declared.faults.ImportEnd.TheVariants.{Refused}
 use Rattle.pid_service.specs.Histories.{IsMemoryOrStore}
-use Rattle.pid_service.specs.Importing.{OfRefusal}
-use Rattle.pid_service.specs.Obeying.{DependsOnFile}
-use Rattle.pid_service.specs.Steps.Importing.{AnswersPast, FaultStays, IsPlain}
+use Rattle.pid_service.proofs.Words.{answer, Answered, AnswersPast, Asked, asked, BadText, Body, Command, DependsOnFile, EarlyIsCaused, EndsImport, Facts, FaultStays, Ghosts, Good, Held, History, import_of, ImportEnd, is_outcome, IsCausedAs, IsCausedRefusal, IsOpen, IsPlain, judge, OfRefusal, Reading, Refusal, RefusesImport, Reply, state, Views, views_of, WaitsForFile}
 use Rattle.pid_service.proofs.Lasting.{no_outcome}
 
 -- every judgement is an outcome

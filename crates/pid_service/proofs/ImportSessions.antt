@@ -1,22 +1,9 @@
 -- What an import of an input promises is what sessions ask of it.
 use Rattle.std.proofs.Common.{◌≡◌, ◌⊎◌, inl, inr, ℕ, List, false, Result, Ok, Err, refl, sym, ap, ◌∙◌}
-use Rattle.pid_service.specs.Steps.Importing.{AnswersPast}
-use Rattle.sqlite_trees.specs.declared.store.Store.{Ghosts}
-use Rattle.pid_moderation.specs.declared.command.Reply.{Reply}
-use Rattle.pid_moderation.specs.declared.refusal.Refusal.{Refusal}
-use Rattle.pid_moderation.specs.declared.refusal.Refusal.TheVariants.{Failed}
-use Rattle.pid_moderation.specs.History.{Asked, History}
-use Rattle.pid_service_laws.specs.Calls.{nothing_sent, obeyed}
-use Rattle.pid_service_laws.specs.Registries.{Does}
-use Rattle.pid_service_laws.specs.declared.faults.ImportEnd.{ImportEnd}
-use Rattle.pid_service_laws.specs.declared.faults.ImportEnd.TheVariants.{Refused, Body}
-use Rattle.pid_service.specs.declared.registry.Registry.{Registry}
-use Rattle.pid_service.specs.Histories.{Shows}
-use Rattle.pid_service.specs.Importing.{ObeysImport}
-use Rattle.pid_service_laws.specs.Imports.{import_sent}
+use Rattle.pid_service_laws.specs.declared.faults.ImportEnd.TheVariants.{Refused}
 use Rattle.pid_service.specs.Sessions.{showing}
-use Rattle.pid_service.specs.Obeying.{Obeys}
-use Rattle.pid_service.specs.Registries.{HasCleanDisk, is_live}
+use Rattle.pid_service.specs.Registries.{HasCleanDisk}
+use Rattle.pid_service.proofs.Words.{AnswersPast, Asked, Body, Does, Failed, Ghosts, History, import_sent, ImportEnd, is_live, nothing_sent, obeyed, Obeys, ObeysImport, Refusal, Registry, Reply, Shows}
 
 -- what a registry that has failed answers
 abbrev pub IsOfFailed : Result Reply ImportEnd → Type 0

@@ -1,35 +1,12 @@
 -- What a registry shows after an import, by how far it came.
 use Rattle.std.proofs.Common.{◌≡◌, ◌≢◌, inl, inr, ℕ, ◌<◌, ◌≤◌, ◌+◌, ◌↔◌, true, false, List, [], ◌++◌, length, Option, Some, Result, Ok, Err, refl, sym, ap, subst, ◌∙◌, arith, length-append, append-nil}
 use Rattle.std.proofs.lemmas.Bool.Decides.{nat_tests}
-use Rattle.sqlite_trees.specs.declared.store.Store.{Ghosts}
-use Rattle.pid_moderation.specs.declared.command.Act.{Act}
-use Rattle.pid_moderation.specs.declared.command.Act.TheVariants.{Account, Submit, Comment, Withdraw, Approve, Reject, Import}
-use Rattle.pid_moderation.specs.declared.command.Command.{Command}
-use Rattle.pid_moderation.specs.declared.command.Reply.{Reply}
-use Rattle.pid_moderation.specs.declared.refusal.Refusal.{Refusal}
-use Rattle.pid_moderation.specs.declared.refusal.Refusal.TheVariants.{BadText, Failed}
-use Rattle.pid_moderation.specs.BeforeFile.{SettlesImport, import_of}
-use Rattle.pid_moderation.specs.CheckTables.{is_broken, most_file_bytes}
-use Rattle.pid_moderation.specs.History.{Asked, Deed, History, Imports, Reading, TooLong, asked, deed_of, is_import}
-use Rattle.pid_moderation.specs.Judgement.{judge, answer, after}
-use Rattle.pid_moderation.specs.Views.{views_of}
 use Rattle.pid_tables.specs.Rows.Clauses.{AtRest}
 use Rattle.pid_tables.specs.declared.put_file.Stop.{Stop}
 use Rattle.pid_tables.specs.declared.put_file.Stop.TheVariants as stops
-use Rattle.pid_tables.specs.ImportClauses.{EndsImport}
-use Rattle.pid_moderation.specs.Files.{asks, file_reading, reading_of}
-use Rattle.pid_tables.specs.Importing.{ReadsFile, RefusesImport, StopIsNotFailed}
-use Rattle.pid_tables.specs.Judging.{HasOneOutcome}
-use Rattle.pid_service_laws.specs.declared.faults.ImportEnd.{ImportEnd}
 use Rattle.pid_service_laws.specs.declared.faults.ImportEnd.TheVariants as imports
-use Rattle.pid_service.specs.declared.registry.Registry.{Registry}
-use Rattle.pid_service.specs.Histories.{IsMemoryOrStore, IsReached, Shows}
-use Rattle.pid_service.specs.Importing.{ObeysImport}
-use Rattle.pid_service_laws.specs.Imports.{ReadsImport}
-use Rattle.pid_service.specs.Steps.Importing.{AnswersPast, IsPlain}
-use Rattle.pid_service.specs.KeptViews.{KeepsNothing, KeepsRight, kept_views}
-use Rattle.pid_service.specs.Obeying.{Obeys}
-use Rattle.pid_service.specs.Registries.{connection, is_live}
+use Rattle.pid_service.specs.Histories.{IsMemoryOrStore}
+use Rattle.pid_service.proofs.Words.{Account, Act, after, answer, AnswersPast, Approve, Asked, asked, asks, BadText, Command, Comment, connection, Deed, deed_of, EndsImport, Failed, file_reading, Ghosts, HasOneOutcome, History, Import, import_of, ImportEnd, Imports, is_broken, is_import, is_live, IsPlain, IsReached, judge, KeepsNothing, KeepsRight, kept_views, most_file_bytes, Obeys, ObeysImport, Reading, reading_of, ReadsFile, ReadsImport, Refusal, RefusesImport, Registry, Reject, Reply, SettlesImport, Shows, StopIsNotFailed, Submit, TooLong, views_of, Withdraw}
 
 -- an import asks the same, whatever file its command has
 

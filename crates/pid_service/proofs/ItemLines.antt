@@ -3,16 +3,8 @@ use Rattle.std.proofs.Common.{◌≡◌, ℕ, List, [], ◌∷◌, ◌++◌, len
 use Rattle.std.proofs.lemmas.List.{map-append, reverse-append}
 use Rattle.std.specs.Io.KnownBytes.{Appends}
 use Rattle.pid_file.proofs.SendingLemmas.{Appends-nil, Appends-then}
-use Rattle.pid_moderation.specs.Items.{Items}
-use Rattle.pid_reader.specs.Numbered.{Numbered, item_in}
-use Rattle.pid_reader.specs.Sinks.{Took}
-use Rattle.pid_file.specs.Printing.{ended, lines_after}
-use Rattle.pid_file.specs.Steps.Printing.{text_or_none}
 use Rattle.pid_file.proofs.Written.{ended-append, lines-first}
-use Rattle.pid_service.specs.ItemTexts.{extents_after, text_behind}
-use Rattle.pid_service.specs.Steps.ItemTexts.{Extents}
-use Rattle.pid_service.specs.Steps.ExportSinks.{PrintsItem}
-use Rattle.pid_service.specs.declared.export_sink.ExportSink.{ExportSink}
+use Rattle.pid_service.proofs.Words.{ended, ExportSink, Extents, extents_after, item_in, Items, lines_after, Numbered, PrintsItem, text_behind, text_or_none, Took}
 
 -- the text of the last path, which is the one before where there are no items
 abbrev pub last_path : List ℕ → Items → List ℕ

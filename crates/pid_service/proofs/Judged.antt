@@ -1,24 +1,12 @@
 -- What the judgement says of the history after a command.
 use Rattle.std.proofs.Common.{◌≡◌, ◌≢◌, ◌⊎◌, inl, inr, Bool, true, false, [], Option, Some, None, Ok, Err, refl, subst, ap, ◌∙◌, ◌+◌, if◌then◌else◌, is_some}
 use Rattle.std.proofs.lemmas.Bool.{false≢true}
-use Rattle.pid_moderation.specs.declared.change.Change.{Change}
-use Rattle.pid_moderation.specs.declared.command.Act.{Act}
-use Rattle.pid_moderation.specs.declared.command.Act.TheVariants.{Account, Submit, Comment, Withdraw, Approve, Reject, Import}
-use Rattle.pid_moderation.specs.declared.command.Command.{Command}
-use Rattle.pid_moderation.specs.declared.command.Reply.{Reply}
-use Rattle.pid_moderation.specs.declared.refusal.Refusal.{Refusal}
-use Rattle.pid_moderation.specs.declared.refusal.Refusal.TheVariants.{BadPath, BadName, BadText, NoAccount, RankTooLow, NoSubmission, NotPending, NotAuthor, OwnDecision, ParentMissing, HasChildren, NothingToDo, FileFault, Full, Memory, Store, Failed, Changed}
-use Rattle.pid_moderation.specs.Changes.{changed, with_pairs, FitsViews}
-use Rattle.pid_moderation.specs.CheckTables.{checks, first_failing, is_ill_formed, reply_by_facts}
-use Rattle.pid_moderation.specs.Effects.{new_pairs, LeadsOn, FitsHistory}
-use Rattle.pid_moderation.specs.FactsOfViews.{facts_of}
-use Rattle.pid_moderation.specs.History.{Asked, History, Reading, asked, deed_of, is_import}
-use Rattle.pid_moderation.specs.Items.{Items, name_at}
-use Rattle.pid_moderation.specs.Judgement.{Outcome, Refused, Repeated, Accepts, unless, unless_kept, judge, answer, added, after}
-use Rattle.pid_moderation.specs.Views.{Views, views_of}
+use Rattle.pid_moderation.specs.declared.refusal.Refusal.TheVariants.{Memory, Store, Changed}
+use Rattle.pid_moderation.specs.Judgement.{Refused}
 use Rattle.pid_moderation.proofs.Changing.{not_anew}
 use Rattle.pid_tables.proofs.Refused.{refused_stays}
 use Rattle.pid_service.specs.Histories.{IsMemoryOrStore}
+use Rattle.pid_service.proofs.Words.{Accepts, Account, Act, added, after, answer, Approve, Asked, asked, BadName, BadPath, BadText, Change, changed, checks, Command, Comment, deed_of, facts_of, Failed, FileFault, first_failing, FitsHistory, FitsViews, Full, HasChildren, History, Import, is_ill_formed, is_import, Items, judge, LeadsOn, name_at, new_pairs, NoAccount, NoSubmission, NotAuthor, NothingToDo, NotPending, Outcome, OwnDecision, ParentMissing, RankTooLow, Reading, Refusal, Reject, Repeated, Reply, reply_by_facts, Submit, unless, unless_kept, Views, views_of, with_pairs, Withdraw}
 
 -- the outcome by its parts
 abbrev outcome : Bool → Option Reply → Option Refusal → Reply → Outcome

@@ -2,16 +2,7 @@
 use Rattle.std.proofs.Common.{◌≡◌, ℕ, Bool, true, false, Option, None, Result, Ok, Err, rules, refl, sym, subst, ◌∙◌}
 use Rattle.std.specs.Prelude.{Vec, not}
 use Rattle.std.specs.declared.alloc.Global.{Global}
-use Rattle.pid_lookup.specs.CacheAgreement.{Agrees}
-use Rattle.pid_moderation.specs.Items.{Items, name_at}
-use Rattle.pid_moderation.specs.Views.{Views}
-use Rattle.pid_moderation.specs.declared.lists.Item.{Item}
-use Rattle.pid_tables.specs.Searches.KeptNumbers.{HoldsNumbers}
-use Rattle.pid_tables.specs.declared.searches.numbers.Searches.{Searches}
-use Rattle.pid_service.specs.KeptViews.{HoldsAccounts, HoldsChanges, HoldsText, HoldsTop, HoldsPending, IsRightFor, KeepsNothing, nothing}
-use Rattle.pid_service.specs.declared.changes.KeptChanges.{KeptChanges}
-use Rattle.pid_service.specs.declared.kept_views.KeptItems.{KeptItems}
-use Rattle.pid_service.specs.declared.kept_views.KeptViews.{KeptViews}
+use Rattle.pid_service.proofs.Words.{Agrees, HoldsAccounts, HoldsChanges, HoldsNumbers, HoldsPending, HoldsText, HoldsTop, IsRightFor, Item, Items, KeepsNothing, KeptChanges, KeptItems, KeptViews, name_at, nothing, Searches, Views}
 
 -- what is true is not false
 pub true_not : {X : Type 0} (b : Bool) → b ≡ true → b ≡ false → X

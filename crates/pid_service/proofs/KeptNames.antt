@@ -6,21 +6,9 @@ use Rattle.std.proofs.lemmas.List.{append-nil, drop-map, length-map, take_all}
 use Rattle.std.proofs.lemmas.List.Elements.{filter-append}
 use Rattle.pid_file.proofs.Written.{ended-append}
 use Rattle.pid_file.specs.PathTexts.{path_text}
-use Rattle.pid_file.specs.Printing.{ended, item_line, label_of}
-use Rattle.pid_file.specs.Steps.Printing.{text_or_none}
-use Rattle.pid_file.specs.declared.path.Path.{Path}
-use Rattle.pid_moderation.specs.ItemPairs.{pair_of}
-use Rattle.pid_moderation.specs.Items.{Items}
-use Rattle.pid_moderation.specs.declared.lists.Item.{Item}
+use Rattle.pid_service.proofs.Words.{before_name, block_after, bytes_in, ended, Extent, extent_in, Extents, extents_after, Item, item_line, Items, label_of, last_extent, pair_of, Path, text_behind, text_of_items, text_or_none}
 use Rattle.pid_service.proofs.ItemLines.{last_path, text_first}
 use Rattle.pid_service.proofs.RenewedTexts.{cut_there, cut_whole, drop_extents, last_after, take_extents, take_front, drop_front}
-use Rattle.pid_service.specs.ItemTexts.{extents_after, text_behind, text_of_items}
-use Rattle.pid_service.specs.Steps.ItemTexts.{Extents}
-use Rattle.pid_service.specs.KeptViews.{extent_in}
-use Rattle.pid_service.specs.Steps.KeptChildren.{before_name}
-use Rattle.pid_service.specs.Steps.Renewing.{bytes_in, last_extent}
-use Rattle.pid_service.specs.Steps.TextSinks.{block_after}
-use Rattle.pid_service.specs.declared.kept_text.Extent.{Extent}
 
 -- ---- the name in the lines of an item
 

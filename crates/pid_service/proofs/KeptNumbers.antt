@@ -2,13 +2,8 @@
 use Rattle.std.proofs.Common.{◌≡◌, ℕ, Option, Some, subst}
 use Rattle.std.specs.Prelude.{Vec}
 use Rattle.std.specs.declared.alloc.Global.{Global}
-use Rattle.sqlite_trees.specs.declared.store.Store.{Ghosts}
-use Rattle.pid_moderation.specs.History.{History}
-use Rattle.pid_moderation.specs.Views.{views_of}
-use Rattle.pid_service.specs.declared.registry.Registry.{Registry}
-use Rattle.pid_service.specs.Histories.{Shows}
-use Rattle.pid_service.specs.KeptViews.{HoldsPending, kept_views, numbers_pending}
 use Rattle.pid_service.specs.Registries.{HasCleanDisk}
+use Rattle.pid_service.proofs.Words.{Ghosts, History, HoldsPending, kept_views, numbers_pending, Registry, Shows, views_of}
 
 module _ {S : Type 0} (store : Ghosts S) where
   -- numbers that are kept are those of what is pending

@@ -1,10 +1,7 @@
 -- The label of a path, and the one that the length of its text gives.
 use Rattle.std.proofs.Common.{◌≡◌, refl}
-use Rattle.pid_file.specs.declared.path.Path.{Path}
-use Rattle.pid_file.specs.declared.path.Path.TheVariants.{Vendor, Device, Subsystem, Class, Subclass, ProgIf, Generic}
 use Rattle.pid_file.specs.PathTexts.{path_text}
-use Rattle.pid_file.specs.Labels.{label}
-use Rattle.pid_file.specs.Printing.{label_of}
+use Rattle.pid_service.proofs.Words.{Class, Device, Generic, label, label_of, Path, ProgIf, Subclass, Subsystem, Vendor}
 
 pub label_of_text : (path : Path) → label_of (path_text path) ≡ label path
 label_of_text (Vendor v) = refl

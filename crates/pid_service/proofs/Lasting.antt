@@ -2,23 +2,10 @@
 use Rattle.std.proofs.Common.{◌≡◌, ◌≢◌, inl, inr, Bool, true, false, List, [], ◌∷◌, ◌++◌, Option, Some, None, Result, Ok, Err, IsErrAnd, is_some, refl, sym, subst, ◌∙◌}
 use Rattle.std.specs.Prelude.{IfErr, IfSome, IsSomeAnd, MatchResult}
 use Rattle.std.specs.List.{AllByRecursion}
-use Rattle.pid_service_laws.specs.Outcomes.{is_outcome}
-use Rattle.pid_moderation.specs.declared.command.Reply.{Reply}
-use Rattle.pid_moderation.specs.declared.refusal.Refusal.{Refusal}
-use Rattle.pid_moderation.specs.declared.refusal.Refusal.TheVariants.{BadText, Failed, Memory, Store}
-use Rattle.pid_service_laws.specs.declared.faults.ImportEnd.{ImportEnd}
-use Rattle.pid_service_laws.specs.declared.faults.ImportEnd.TheVariants.{Refused, Body}
-use Rattle.pid_service.specs.Asking.{MayGive}
-use Rattle.pid_service.specs.Histories.{IsMemoryOrStore, OverHistory}
-use Rattle.pid_moderation.specs.History.{Asked, Reading}
-use Rattle.sqlite_trees.specs.declared.store.Store.{Ghosts}
-use Rattle.pid_service.specs.declared.registry.Registry.{Registry}
-use Rattle.pid_service.specs.Importing.{EndIsNotFailed, EndLasts, IsEndFault, OfRefusal, leaves_live}
-use Rattle.pid_service.specs.Obeying.{ImportFaults, Lasts}
-use Rattle.pid_service.specs.Registries.{KeepsLimit, is_live}
-use Rattle.pid_service.specs.Steps.Importing.{EndStaysLive}
-use Rattle.pid_service.specs.Steps.Obeying.{StaysLive}
-use Rattle.pid_service.specs.Steps.Running.{fault_in}
+use Rattle.pid_moderation.specs.declared.refusal.Refusal.TheVariants.{Memory, Store}
+use Rattle.pid_service_laws.specs.declared.faults.ImportEnd.TheVariants.{Refused}
+use Rattle.pid_service.specs.Histories.{IsMemoryOrStore}
+use Rattle.pid_service.proofs.Words.{Asked, BadText, Body, EndIsNotFailed, EndLasts, EndStaysLive, Failed, fault_in, Ghosts, ImportEnd, ImportFaults, is_live, is_outcome, IsEndFault, KeepsLimit, Lasts, leaves_live, MayGive, OfRefusal, OverHistory, Reading, Refusal, Registry, Reply, StaysLive}
 use Rattle.pid_service.proofs.Runs.{no_fault}
 
 pub no_outcome : (e : Refusal) → IsMemoryOrStore e → is_outcome (Err e) ≡ true → ⊥

@@ -1,32 +1,13 @@
 -- What a registry shows after a command, by how far it came.
 use Rattle.std.proofs.Common.{◌≡◌, ◌⊎◌, inl, inr, Bool, true, false, Result, Ok, Err, IfErr, MatchResult, refl, sym, subst, ap, ◌∙◌, arith}
 use Rattle.pid_tables.proofs.Refused.{refused_stays}
-use Rattle.sqlite.specs.Held.{Held}
-use Rattle.sqlite_trees.specs.declared.store.Store.{Ghosts}
-use Rattle.pid_moderation.specs.declared.change.Change.{Change}
-use Rattle.pid_moderation.specs.declared.command.Reply.{Reply}
-use Rattle.pid_moderation.specs.declared.refusal.Refusal.{Refusal}
-use Rattle.pid_moderation.specs.declared.refusal.Refusal.TheVariants.{BadText, Memory}
-use Rattle.pid_moderation.specs.Changes.{changed, FitsViews}
-use Rattle.pid_moderation.specs.declared.command.Act.{Act}
-use Rattle.pid_moderation.specs.declared.command.Act.TheVariants.{Account, Submit, Comment, Withdraw, Approve, Reject, Import}
-use Rattle.pid_moderation.specs.declared.command.Command.{Command}
-use Rattle.pid_moderation.specs.History.{Asked, Deed, History, Reading, TooLong, asked, deed_of, is_import}
-use Rattle.pid_moderation.specs.Judgement.{judge, answer, after}
+use Rattle.pid_moderation.specs.declared.refusal.Refusal.TheVariants.{Memory}
 use Rattle.pid_moderation.specs.Judgement as Outcomes
-use Rattle.pid_moderation.specs.Views.{Views, views_of}
-use Rattle.pid_moderation.specs.WellMade.{HasGoodFile, IsWellMade}
-use Rattle.pid_tables.specs.Rows.Clauses.{AtRest, LeavesEither}
-use Rattle.pid_service.specs.declared.judging.Judged.{Judged}
-use Rattle.pid_service.specs.declared.judging.Judged.TheVariants.{Kept, Accepted}
-use Rattle.pid_service.specs.declared.registry.Registry.{Registry}
-use Rattle.pid_service.specs.Histories.{IsReached, Shows, IsMemoryOrStore}
-use Rattle.pid_service.specs.Asking.{IsCausedAs}
-use Rattle.pid_service.specs.Steps.Judging.{IsJudgedFor, JudgesCommand}
-use Rattle.pid_service.specs.KeptViews.{IsRightFor, KeepsNothing, kept_views}
-use Rattle.pid_service.specs.declared.kept_views.KeptViews.{KeptViews}
-use Rattle.pid_service.specs.Obeying.{IsAccepted, IsRefusedFor, Obeys}
-use Rattle.pid_service.specs.Registries.{HasCleanDisk, OnlyReads, connection, is_live}
+use Rattle.pid_tables.specs.Rows.Clauses.{AtRest}
+use Rattle.pid_service.specs.declared.judging.Judged.TheVariants.{Kept}
+use Rattle.pid_service.specs.Histories.{IsMemoryOrStore}
+use Rattle.pid_service.specs.Registries.{HasCleanDisk, OnlyReads}
+use Rattle.pid_service.proofs.Words.{Accepted, Account, Act, after, answer, Approve, Asked, asked, BadText, Change, changed, Command, Comment, connection, Deed, deed_of, FitsViews, Ghosts, HasGoodFile, Held, History, Import, is_import, is_live, IsAccepted, IsCausedAs, IsJudgedFor, IsReached, IsRefusedFor, IsRightFor, IsWellMade, judge, Judged, JudgesCommand, KeepsNothing, kept_views, KeptViews, LeavesEither, Obeys, Reading, Refusal, Registry, Reject, Reply, Shows, Submit, TooLong, Views, views_of, Withdraw}
 
 module _ {S : Type 0} (store : Ghosts S) where
   pub only_read : (old new : Registry S store) (h : History) → is_live new ≡ is_live old → OnlyReads store old new → kept_views new ≡ kept_views old → Shows store old h → Shows store new h

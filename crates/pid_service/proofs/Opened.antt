@@ -1,32 +1,17 @@
 -- What an opened database is, by what it was.
 use Rattle.std.proofs.Common.{◌≡◌, ◌⊎◌, inl, inr, Bool, true, false, IsTrue, Some, Result, Ok, Err, IfErr, IfOk, OnOk, MatchResult, refl, sym, subst}
-use Rattle.sqlite.specs.Held.{Held, state}
-use Rattle.sqlite.specs.State.{State, Survives}
+use Rattle.sqlite.specs.State.{State}
 use Rattle.sqlite.proofs.StateLemmas.{survives_then, survives_weaker}
-use Rattle.sqlite_trees.specs.declared.store.Store.{Ghosts}
-use Rattle.sqlite.specs.Effect.{Database}
-use Rattle.sqlite.specs.Tree.{Trees}
-use Rattle.pid_moderation.specs.History.{History, new_history}
-use Rattle.pid_moderation.specs.Views.{views_of}
-use Rattle.pid_tables.specs.declared.rows.fault.TableFault.{TableFault}
-use Rattle.pid_tables.specs.declared.rows.fault.TableFault.TheVariants.{Memory, Store, NewerSchema, Damaged}
-use Rattle.pid_tables.specs.declared.rows.version.Version.TheVariants.{One, Two}
+use Rattle.pid_tables.specs.declared.rows.fault.TableFault.TheVariants.{Memory, Store}
 use Rattle.pid_tables.specs.Rows.Faults.{IsMemoryOrStore}
 use Rattle.pid_tables.specs.Rows.Clauses as clauses
-use Rattle.pid_tables.specs.Rows.Leaves.{AtRest, OnlyReads, RestsIn}
-use Rattle.pid_tables.specs.Check.Checking.{Explains, FindsVersion}
-use Rattle.pid_tables.specs.Check.Shapes.{HasSomeTable}
-use Rattle.pid_tables.specs.AtOnce.{IsCommitted, IsOneStep, IsTakenBack}
+use Rattle.pid_tables.specs.Rows.Leaves.{AtRest, OnlyReads}
 use Rattle.pid_tables.specs.Clauses as tables
 use Rattle.pid_tables.proofs.AtOnceLemmas.{reads_back}
-use Rattle.pid_tables.specs.Creation.{RestsBare}
-use Rattle.pid_tables.specs.Bringing.{Brings, Left, Raised, Refuses, Fails, Stays}
-use Rattle.pid_tables.specs.declared.migration.Step.{Step}
-use Rattle.pid_tables.specs.declared.migration.Step.TheVariants.{Created, Moved, Already}
 use Rattle.pid_tables.specs.ShowsOrBlank.{ShowsOrBlank}
-use Rattle.pid_service.specs.Opening.{ExplainsNow, ExplainsOpening, HasWritten, KeepsTables, OpensAtOnce, IsFound, MayHaveMade, KeepsViews}
 use Rattle.pid_tables.proofs.OfRows.OnlyReading.{reads_then, rests_in_still}
 use Rattle.pid_tables.proofs.StandLemmas.{only_store_explains, seen_still}
+use Rattle.pid_service.proofs.Words.{Already, Brings, Created, Damaged, Database, Explains, ExplainsNow, ExplainsOpening, Fails, FindsVersion, Ghosts, HasSomeTable, HasWritten, Held, History, IsCommitted, IsFound, IsOneStep, IsTakenBack, KeepsTables, KeepsViews, Left, MayHaveMade, Moved, new_history, NewerSchema, One, OpensAtOnce, Raised, Refuses, RestsBare, RestsIn, state, Stays, Step, Survives, TableFault, Trees, Two, views_of}
 
 -- what a step tells where the tables were not there, were in schema 1, and were in the schema of today
 pub record Steps (s : State) (h : History) (New : Type 0) (Old : Type 0) (Today : Type 0) : Type 0 where

@@ -6,29 +6,13 @@ use Rattle.std.specs.List.{cons_option}
 use Rattle.std.proofs.lemmas.Bool.Decides.{nat_tests}
 use Rattle.std.proofs.lemmas.List.{append-nil, append_assoc, length-map, length_push, map-append, take_all, take-append-drop, take-append-le, take-map, take_more}
 use Rattle.std.proofs.lemmas.List.Elements.{filter-append}
-use Rattle.pid_moderation.specs.declared.change.Change.{Change}
-use Rattle.pid_moderation.specs.declared.change.Effect.{Effect}
-use Rattle.pid_moderation.specs.declared.change.Effect.TheVariants.{Decided, Submitted as Made}
-use Rattle.pid_moderation.specs.declared.change.Receipt.{Receipt}
+use Rattle.pid_moderation.specs.declared.change.Effect.TheVariants.{Submitted as Made}
 use Rattle.pid_moderation.specs.declared.change.Write.{Write}
-use Rattle.pid_moderation.specs.declared.command.Proposal.{Proposal}
-use Rattle.pid_file.specs.declared.path.Path.{Path}
 use Rattle.pid_moderation.specs.declared.facts.State.{State}
 use Rattle.pid_moderation.specs.declared.facts.State.TheVariants.{Pending as PendingState}
-use Rattle.pid_moderation.specs.declared.lists.Pending.{Pending}
-use Rattle.pid_moderation.specs.Changes.{FitsEffect, affected, changed, keeping}
-use Rattle.pid_moderation.specs.CheckTables.{is_pending}
-use Rattle.pid_moderation.specs.PendingPages.{standings_from, waits_above, pending_above, pending_in, told_of}
-use Rattle.pid_moderation.specs.Submissions.{Standing}
-use Rattle.pid_moderation.specs.Views.{Views, Submitted, submission_at}
-use Rattle.pid_tables.specs.Rows.Shows.{AreViews}
-use Rattle.pid_tables.specs.Lists.Laws.{PendingGoOn, pending_number}
-use Rattle.pid_tables.specs.Lists.Pages.{last_of}
-use Rattle.pid_tables.specs.Lists.Steps.PendingRows.{AreStandingIn}
+use Rattle.pid_moderation.specs.Views.{Submitted}
 use Rattle.pid_tables.proofs.OfLists.PendingLists.{page_in}
-use Rattle.pid_service.specs.KeptViews.{HoldsPending, numbers_pending}
-use Rattle.pid_tables.specs.Lists.ByNumber.{standings_at}
-use Rattle.pid_service.specs.Steps.PendingNumbers.{its_number}
+use Rattle.pid_service.proofs.Words.{affected, AreStandingIn, AreViews, Change, changed, Decided, Effect, FitsEffect, HoldsPending, is_pending, its_number, keeping, last_of, numbers_pending, Path, Pending, pending_above, pending_in, pending_number, PendingGoOn, Proposal, Receipt, Standing, standings_at, standings_from, submission_at, told_of, Views, waits_above}
 
 -- ---- what a change does
 

@@ -5,14 +5,8 @@ use Rattle.std.specs.declared.cmp.Ordering.TheVariants.{Less, Equal, Greater}
 use Rattle.std.proofs.Math.Seq.{drop-cons}
 use Rattle.std.proofs.lemmas.List.{drop-map, length-map, map_more, take-map}
 use Rattle.pid_file.specs.PathTexts.{path_text}
-use Rattle.pid_file.specs.Steps.Paths.{path_cmp}
-use Rattle.pid_file.specs.Steps.Printing.{text_or_none}
 use Rattle.pid_file.specs.Trees.{text_cmp}
-use Rattle.pid_file.specs.declared.path.Path.{Path}
-use Rattle.pid_service.specs.Steps.ItemTexts.{Extents}
-use Rattle.pid_service.specs.KeptViews.{extent_in}
-use Rattle.pid_service.specs.Steps.Renewing.{IsPlace, BeginsAt, bytes_in, last_extent}
-use Rattle.pid_service.specs.declared.kept_text.Extent.{Extent}
+use Rattle.pid_service.proofs.Words.{BeginsAt, bytes_in, Extent, extent_in, Extents, IsPlace, last_extent, Path, path_cmp, text_or_none}
 
 bytes_more : (xs : Extents) (e : List ℕ × ℕ) → bytes_in (xs ++ e ∷ []) ≡ bytes_in xs + e.1
 bytes_more [] e = omega arith

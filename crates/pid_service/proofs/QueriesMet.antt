@@ -1,22 +1,13 @@
 -- What a question to a registry comes to, as one under moderation.
 use Rattle.std.proofs.Common.{Option, Result, ap, subst, ◌∙◌, Bool}
-use Rattle.sqlite.specs.Held.{state}
-use Rattle.sqlite_trees.specs.declared.store.Store.{Ghosts}
 use Rattle.pid_file.specs.declared.io.Output as outputs
-use Rattle.pid_moderation.specs.declared.refusal.Refusal.{Refusal}
-use Rattle.pid_moderation.specs.History.{History}
 use Rattle.pid_service_laws.proofs.Calling.{looked_does}
-use Rattle.pid_service_laws.specs.declared.faults.ExportFault.{ExportFault}
 use Rattle.pid_tables.proofs.OfRows.OnlyReading.{reads_then}
+use Rattle.pid_service.proofs.Words.{Answers, AnswersIfThere, connection, ExportFault, Finds, FindsIfThere, Ghosts, History, is_live, IsExported, MayGive, OverHistory, Refusal, Registry, Shows, state}
 use Rattle.pid_service.proofs.Finding.{still_between}
 use Rattle.pid_service.proofs.ImportSessions.{LooksLaw}
 use Rattle.pid_service.proofs.Questions.{caused_since}
-use Rattle.pid_service.specs.declared.registry.Registry.{Registry}
-use Rattle.pid_service.specs.Asking.{Answers, AnswersIfThere, MayGive}
-use Rattle.pid_service.specs.Exporting.{IsExported}
-use Rattle.pid_service.specs.Histories.{OverHistory, Shows, showing}
-use Rattle.pid_service.specs.Registries.{connection, is_live}
-use Rattle.pid_service.specs.Steps.Asking.{Finds, FindsIfThere}
+use Rattle.pid_service.specs.Histories.{showing}
 
 module _ {S : Type 0} (store : Ghosts S) where
   -- each call that only looks is a call of the session that sends nothing

@@ -4,30 +4,18 @@ use Rattle.std.specs.List.{AllByRecursion}
 use Rattle.std.specs.Ordering.{is_lt}
 use Rattle.std.specs.Prelude.{map, take}
 use Rattle.std.proofs.lemmas.Bool.{le-ltb}
-use Rattle.sqlite.specs.Held.{Held, state}
 use Rattle.sqlite_trees.proofs.ListLemmas.{filter_none}
-use Rattle.sqlite_trees.specs.declared.store.Store.{Ghosts}
 use Rattle.pid_ident.specs.Trees.{text_cmp}
-use Rattle.pid_moderation.specs.ChangePages.{Changed, changed_after, is_later, numbered_in}
-use Rattle.pid_moderation.specs.History.{History}
-use Rattle.pid_moderation.specs.Items.{Items}
-use Rattle.pid_moderation.specs.Views.{Views, views_of}
-use Rattle.pid_moderation.specs.declared.refusal.Refusal.{Refusal}
-use Rattle.pid_moderation.specs.declared.refusal.Refusal.TheVariants.{Failed, Memory, Store}
-use Rattle.pid_tables.specs.Faults.{refusal_for}
+use Rattle.pid_moderation.specs.ChangePages.{Changed}
+use Rattle.pid_moderation.specs.declared.refusal.Refusal.TheVariants.{Memory, Store}
 use Rattle.pid_tables.proofs.OfCheck.Asking.{nothing_read}
 use Rattle.pid_tables.proofs.OfRows.CauseLemmas.{caused_later, passed_on}
 use Rattle.pid_tables.proofs.OfRows.OnlyReading.{reads_then}
-use Rattle.pid_tables.specs.Rows.Causes.{IsReadable}
 use Rattle.pid_tables.specs.Rows.Clauses as clauses
-use Rattle.pid_tables.specs.declared.rows.fault.TableFault.{TableFault}
 use Rattle.pid_tables.specs.declared.rows.fault.TableFault.TheVariants as faults
-use Rattle.pid_service.specs.declared.registry.Registry.{Registry}
-use Rattle.pid_service.specs.Asking.{IsCausedAs, MayGive}
-use Rattle.pid_service.specs.Histories.{IsMemoryOrStore, IsReached, Shows}
-use Rattle.pid_service.specs.KeptViews.{kept_views}
-use Rattle.pid_service.specs.Registries.{HasCleanDisk, OnlyReads, connection, is_live}
-use Rattle.pid_service.specs.Steps.Asking.{Finds, OnlyAsked, answered_as}
+use Rattle.pid_service.specs.Histories.{IsMemoryOrStore}
+use Rattle.pid_service.specs.Registries.{HasCleanDisk, OnlyReads}
+use Rattle.pid_service.proofs.Words.{answered_as, changed_after, connection, Failed, Finds, Ghosts, Held, History, is_later, is_live, IsCausedAs, IsReached, IsReadable, Items, kept_views, MayGive, numbered_in, OnlyAsked, Refusal, refusal_for, Registry, Shows, state, TableFault, Views, views_of}
 use Rattle.pid_service.proofs.Causes.{caused_as, caused_by}
 use Rattle.pid_service.proofs.Keeping.{true_not}
 use Rattle.pid_service.proofs.Obeyed.{only_read}

@@ -1,12 +1,8 @@
 -- What a file reads to, by its length.
 use Rattle.std.proofs.Common.{◌≡◌, ℕ, List, length, true, false, Bool, if◌then◌else◌, nat_lt, refl}
-use Rattle.pid_reader.specs.Lines.{lines_of}
-use Rattle.pid_reader.specs.Reading.{entries_of, refused}
-use Rattle.pid_moderation.specs.declared.command.Act.{Act}
-use Rattle.pid_moderation.specs.declared.command.Act.TheVariants.{Account, Submit, Comment, Withdraw, Approve, Reject, Import}
-use Rattle.pid_moderation.specs.CheckTables.{most_file_bytes, TellsLength}
-use Rattle.pid_moderation.specs.History.{Reading, TooLong}
-use Rattle.pid_moderation.specs.Files.{file_of, file_reading, read_as}
+use Rattle.pid_reader.specs.Reading.{refused}
+use Rattle.pid_moderation.specs.Files.{file_reading}
+use Rattle.pid_service.proofs.Words.{Account, Act, Approve, Comment, entries_of, file_of, Import, lines_of, most_file_bytes, read_as, Reading, Reject, Submit, TellsLength, TooLong, Withdraw}
 
 by_test : (b : Bool) (r : Reading) → b ≡ true → (if b then TooLong else r) ≡ TooLong
 by_test true r on = refl

@@ -4,25 +4,11 @@ use Rattle.std.specs.Prelude.{if◌then◌else◌}
 use Rattle.std.specs.FinMap.Entries.{is_sorted}
 use Rattle.std.proofs.lemmas.List.{map-append, take-map, drop-map}
 use Rattle.pid_file.specs.PathTexts.{path_text}
-use Rattle.pid_file.specs.Steps.Printing.{text_or_none}
 use Rattle.pid_file.specs.Trees.{text_cmp}
-use Rattle.pid_file.specs.declared.path.Path.{Path}
-use Rattle.pid_moderation.specs.Changes.{edited}
-use Rattle.pid_moderation.specs.Items.{Items}
-use Rattle.pid_moderation.specs.declared.change.Edit.{Edit}
-use Rattle.pid_moderation.specs.declared.change.Edit.TheVariants.{Add, Rename, Remove}
 use Rattle.pid_moderation.specs.declared.change.Write.{Write}
+use Rattle.pid_service.proofs.Words.{Add, Edit, edited, edited_item, Extent, extent_in, Extents, extents_after, GrowingText, has_lines, HasLines, IsKeptText, IsPlace, Items, KeptText, last_extent, new_items, OpensTheSame, Path, path_before, PutsLines, Remove, Rename, text_behind, text_of_items, text_or_none, TextPlace}
 use Rattle.pid_service.proofs.ItemLines.{extents_joined, last_path, text_joined}
 use Rattle.pid_service.proofs.RenewedTexts.{drop_extents, edited_parts, extents_follow, last_after, last_there, take_extents, text_after, text_before, text_follows, text_parts}
-use Rattle.pid_service.specs.ItemTexts.{extents_after, text_behind, text_of_items}
-use Rattle.pid_service.specs.Steps.ItemTexts.{Extents}
-use Rattle.pid_service.specs.KeptViews.{IsKeptText, extent_in}
-use Rattle.pid_service.specs.Steps.Renewing.{IsPlace, OpensTheSame, PutsLines, edited_item, has_lines, last_extent, path_before, new_items}
-use Rattle.pid_service.specs.Steps.TextSinks.{HasLines}
-use Rattle.pid_service.specs.declared.items_text.GrowingText.{GrowingText}
-use Rattle.pid_service.specs.declared.kept_text.Extent.{Extent}
-use Rattle.pid_service.specs.declared.kept_text.KeptText.{KeptText}
-use Rattle.pid_service.specs.declared.renewing.TextPlace.{TextPlace}
 
 -- the path after which what is behind comes, before the edit
 last_was : (there : Bool) (path : Path) (before : Option Path) → text_or_none (if there then Some path else before) ≡ (if there then path_text path else text_or_none before)

@@ -12,30 +12,16 @@ use Rattle.std.proofs.lemmas.List.{map-append, take_more}
 use Rattle.std.proofs.lemmas.List.Elements.{filter-append}
 use Rattle.pid_file.specs.PathTexts.{path_text}
 use Rattle.pid_file.specs.Trees.{text_cmp}
-use Rattle.pid_file.specs.declared.path.Path.{Path}
 use Rattle.pid_file.proofs.Maps.{same_texts}
-use Rattle.pid_moderation.specs.ChangePages.{Changed, changed_after, changed_of, is_later, numbered_in}
-use Rattle.pid_moderation.specs.Changes.{FitsEdit, FitsEffect, affected, changed, edited, keeping, renumbered, with_items}
-use Rattle.pid_moderation.specs.Items.{Items, has_name, name_at}
-use Rattle.pid_moderation.specs.Views.{Views, is_named_anew}
-use Rattle.pid_moderation.specs.declared.change.Edit.{Edit}
-use Rattle.pid_moderation.specs.declared.change.Edit.TheVariants.{Add, Rename, Remove}
-use Rattle.pid_moderation.specs.declared.change.Change.{Change}
-use Rattle.pid_moderation.specs.declared.change.Effect.{Effect}
-use Rattle.pid_moderation.specs.declared.change.Effect.TheVariants.{Decided}
-use Rattle.pid_moderation.specs.declared.change.Receipt.{Receipt}
+use Rattle.pid_moderation.specs.ChangePages.{Changed}
 use Rattle.pid_moderation.specs.declared.change.Write.{Write}
 use Rattle.pid_moderation.specs.declared.facts.State.{State}
-use Rattle.pid_moderation.specs.declared.lists.ChangedItem.{ChangedItem}
 use Rattle.pid_moderation.proofs.Changing.{not_anew}
 use Rattle.pid_tables.proofs.OfRows.SetLemmas.{name_left, name_put}
+use Rattle.pid_service.proofs.Words.{Add, affected, Change, changed, changed_after, changed_item, changed_of, ChangedItem, Decided, Edit, edited, edited_item, Effect, FitsEdit, FitsEffect, has_name, HoldsChanges, is_later, is_named_anew, is_on, Items, keeping, KeptChanges, name_at, numbered_in, on_side, Path, Receipt, Remove, Rename, renumbered, Views, with_edit, with_items}
 use Rattle.pid_service.proofs.ChangedLists.{after_nothing, both, kept_since, same_changes}
 use Rattle.pid_service.proofs.RenewedTexts.{below_less, edited_after, edited_there, less_is}
 use Rattle.pid_reader.proofs.Written.{both_true}
-use Rattle.pid_service.specs.KeptViews.{HoldsChanges}
-use Rattle.pid_service.specs.declared.changes.KeptChanges.{KeptChanges}
-use Rattle.pid_service.specs.Steps.KeptChanges.{changed_item, is_on, on_side, with_edit}
-use Rattle.pid_service.specs.Steps.Renewing.{edited_item}
 
 -- ---- where a path divides items
 

@@ -10,18 +10,11 @@ use Rattle.std.specs.declared.cmp.Ordering.{Ordering}
 use Rattle.std.specs.declared.cmp.Ordering.TheVariants.{Less, Equal, Greater}
 use Rattle.std.proofs.lemmas.List.{take-append-drop}
 use Rattle.pid_file.proofs.Maps.{same_texts}
-use Rattle.pid_file.specs.Printing.{block_line, ended, header, item_line, lines_after}
 use Rattle.pid_file.specs.Trees.{text_cmp}
-use Rattle.pid_moderation.specs.Changes.{edited}
-use Rattle.pid_moderation.specs.Items.{Items}
-use Rattle.pid_moderation.specs.declared.change.Edit.{Edit}
-use Rattle.pid_moderation.specs.declared.change.Edit.TheVariants.{Add, Rename, Remove}
+use Rattle.pid_service.proofs.Words.{Add, BeginsAt, block_line, bytes_in, Edit, edited, edited_item, ended, Extents, extents_after, header, item_line, Items, last_extent, lines_after, OpensTheSame, Remove, Rename, text_behind, text_of_items}
 use Rattle.pid_service.proofs.ItemLines.{last_path, text_first, text_joined}
 use Rattle.pid_reader.proofs.Written.{both_true}
 use Rattle.pid_service.proofs.ChangedLists.{both}
-use Rattle.pid_service.specs.ItemTexts.{extents_after, text_behind, text_of_items}
-use Rattle.pid_service.specs.Steps.ItemTexts.{Extents}
-use Rattle.pid_service.specs.Steps.Renewing.{OpensTheSame, BeginsAt, bytes_in, edited_item, last_extent}
 
 -- ---- extents
 

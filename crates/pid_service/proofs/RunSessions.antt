@@ -1,17 +1,11 @@
 -- What a run of a list promises is what sessions ask of it.
 use Rattle.std.proofs.Common.{◌≡◌, ◌⊎◌, inl, inr, ℕ, zero, suc, ◌+◌, ◌<◌, List, [], ◌∷◌, ◌++◌, length, take, drop, add-one, Option, Some, None, refl, sym, subst, ap, ◌∙◌, arith}
 use Rattle.std.specs.Prelude.{IsSomeAnd}
-use Rattle.sqlite_trees.specs.declared.store.Store.{Ghosts}
-use Rattle.pid_moderation.specs.declared.refusal.Refusal.{Refusal}
-use Rattle.pid_moderation.specs.History.{Asked, History}
-use Rattle.pid_moderation.specs.Judgement.{after, after_all}
 use Rattle.pid_service_laws.proofs.SessionLaws as sessions
 use Rattle.pid_service_laws.proofs.Joining.{after_more}
-use Rattle.pid_service.specs.declared.registry.Registry.{Registry}
-use Rattle.pid_service.specs.declared.running.RunReport.{RunReport}
-use Rattle.pid_service.specs.Histories.{FailsBetween, IsMemoryOrStore, Shows}
+use Rattle.pid_service.specs.Histories.{IsMemoryOrStore}
 use Rattle.pid_service.specs.Sessions.{showing}
-use Rattle.pid_service.specs.Running.{EndsRun, Runs}
+use Rattle.pid_service.proofs.Words.{after, after_all, Asked, EndsRun, FailsBetween, Ghosts, History, Refusal, Registry, RunReport, Runs, Shows}
 
 -- the next command, behind the first ones
 record IsNext (commands : List Asked) (n : ℕ) (c : Asked) : Type 0 where

@@ -2,20 +2,9 @@
 use Rattle.std.proofs.Common.{◌≡◌, inl, inr, ℕ, zero, suc, ◌+◌, ◌<◌, ◌≤◌, List, [], ◌∷◌, ◌++◌, length, take, drop, map, get_or, add-one, Option, Some, None, Result, Ok, Err, IfErr, IsErrAnd, is_ok, is_some, true, false, refl, sym, subst, ap, ◌∙◌, arith}
 use Rattle.pid_tables.proofs.Refused.{refused_stays}
 use Rattle.pid_service_laws.proofs.Joining.{after_more}
-use Rattle.sqlite_trees.specs.declared.store.Store.{Ghosts}
-use Rattle.pid_moderation.specs.declared.command.Command.{Command}
-use Rattle.pid_moderation.specs.declared.command.Reply.{Reply}
-use Rattle.pid_moderation.specs.declared.refusal.Refusal.{Refusal}
-use Rattle.pid_moderation.specs.declared.refusal.Refusal.TheVariants.{BadPath, BadName, BadText, NoAccount, RankTooLow, NoSubmission, NotPending, NotAuthor, OwnDecision, ParentMissing, HasChildren, NothingToDo, FileFault, Full, Memory, Store, Failed, Changed}
-use Rattle.pid_moderation.specs.History.{Asked, History}
-use Rattle.pid_moderation.specs.Judgement.{judge, answer, answers, after, after_all}
-use Rattle.pid_moderation.specs.Views.{views_of}
-use Rattle.pid_service.specs.declared.registry.Registry.{Registry}
-use Rattle.pid_service.specs.Histories.{Shows, IsMemoryOrStore}
-use Rattle.pid_service.specs.Obeying.{IsObeyed, Obeys}
-use Rattle.pid_service.specs.declared.running.RunReport.{RunReport}
-use Rattle.pid_service.specs.Running.{EndsRun, ObeysInTurn, Runs, RunsInTurn, EndsTurn}
-use Rattle.pid_service.specs.Steps.Running.{fault_in}
+use Rattle.pid_moderation.specs.declared.refusal.Refusal.TheVariants.{Memory, Store, Changed}
+use Rattle.pid_service.specs.Histories.{IsMemoryOrStore}
+use Rattle.pid_service.proofs.Words.{after, after_all, answer, answers, Asked, BadName, BadPath, BadText, Command, EndsRun, EndsTurn, Failed, fault_in, FileFault, Full, Ghosts, HasChildren, History, IsObeyed, judge, NoAccount, NoSubmission, NotAuthor, NothingToDo, NotPending, Obeys, ObeysInTurn, OwnDecision, ParentMissing, RankTooLow, Refusal, Registry, Reply, RunReport, Runs, RunsInTurn, Shows, views_of}
 
 -- one command more
 

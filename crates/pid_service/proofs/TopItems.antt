@@ -8,26 +8,13 @@ use Rattle.std.specs.Ordering.{eq_by_cmp, is_eq}
 use Rattle.std.specs.FinMap.Entries.{put, where_key, by_order}
 use Rattle.std.proofs.lemmas.List.{map-append, take_more}
 use Rattle.pid_file.proofs.Maps.{same_texts}
-use Rattle.pid_file.specs.PathTexts.{parent_of, path_text}
+use Rattle.pid_file.specs.PathTexts.{path_text}
 use Rattle.pid_file.specs.Trees.{text_cmp}
-use Rattle.pid_file.specs.declared.path.Path.{Path}
 use Rattle.pid_ident.proofs.PathReadingLemmas.{text_of_parent}
+use Rattle.pid_service.proofs.Words.{Add, affected, Change, changed, children_of, Decided, Edit, edited, Effect, HoldsTop, Item, Items, keeping, pair_of, parent_of, Path, Receipt, Remove, Rename, stands_below, Views}
 use Rattle.pid_service.proofs.RenewedChanges.{kept_items}
-use Rattle.pid_moderation.specs.Changes.{affected, changed, edited, keeping}
-use Rattle.pid_moderation.specs.Children.{children_of, stands_below}
-use Rattle.pid_moderation.specs.ItemPairs.{pair_of}
-use Rattle.pid_moderation.specs.Items.{Items}
-use Rattle.pid_moderation.specs.Views.{Views}
-use Rattle.pid_moderation.specs.declared.change.Change.{Change}
-use Rattle.pid_moderation.specs.declared.change.Edit.{Edit}
-use Rattle.pid_moderation.specs.declared.change.Edit.TheVariants.{Add, Rename, Remove}
-use Rattle.pid_moderation.specs.declared.change.Effect.{Effect}
-use Rattle.pid_moderation.specs.declared.change.Effect.TheVariants.{Decided}
-use Rattle.pid_moderation.specs.declared.change.Receipt.{Receipt}
 use Rattle.pid_moderation.specs.declared.change.Write.{Write}
 use Rattle.pid_moderation.specs.declared.facts.State.{State}
-use Rattle.pid_moderation.specs.declared.lists.Item.{Item}
-use Rattle.pid_service.specs.KeptViews.{HoldsTop}
 
 -- ---- what a change does
 

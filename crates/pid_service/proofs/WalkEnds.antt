@@ -2,23 +2,8 @@
 use Rattle.std.proofs.Common.{◌≡◌, ℕ, ◌+◌, List, [], ◌∷◌, ◌++◌, map, Option, None, Some, Result, Ok, Err, reverse, refl, sym, ap, subst, ◌∙◌}
 use Rattle.std.proofs.lemmas.List.{map-append, reverse-reverse}
 use Rattle.std.specs.Io.KnownBytes.{Appends}
-use Rattle.pid_ident.specs.Sending.{SendsFront}
-use Rattle.pid_file.specs.declared.io.WriteFault.{WriteFault}
-use Rattle.pid_file.specs.declared.path.Path.{Path}
 use Rattle.pid_file.proofs.SendingLemmas.{Appends-nil, Appends-then, stopped}
-use Rattle.pid_moderation.specs.Items.{Items}
-use Rattle.pid_tables.specs.declared.rows.fault.TableFault.{TableFault}
-use Rattle.pid_reader.specs.Numbered.{Numbered, item_in}
-use Rattle.pid_reader.specs.Sinks.{Took}
-use Rattle.pid_tables.specs.Lists.EachItem.{Walks, WalksSome, placed_from}
-use Rattle.pid_tables.specs.declared.lists.walk.EachEnd.{EachEnd}
-use Rattle.pid_tables.specs.declared.lists.walk.EachEnd.TheVariants.{Tables, Fault}
-use Rattle.pid_file.specs.Printing.{ended, header}
-use Rattle.pid_file.specs.Steps.Printing.{text_or_none}
-use Rattle.pid_service.specs.Steps.Exports.{WritesItems}
-use Rattle.pid_service.specs.Steps.ExportSinks.{PrintsItem, StopsWithin, lines_of_entry}
-use Rattle.pid_service.specs.ItemTexts.{text_behind, text_of_items}
-use Rattle.pid_service.specs.declared.export_sink.ExportSink.{ExportSink}
+use Rattle.pid_service.proofs.Words.{EachEnd, ended, ExportSink, Fault, header, item_in, Items, lines_of_entry, Numbered, Path, placed_from, PrintsItem, SendsFront, StopsWithin, TableFault, Tables, text_behind, text_of_items, text_or_none, Took, Walks, WalksSome, WriteFault, WritesItems}
 use Rattle.pid_service.proofs.ItemLines.{HasPrinted, last_path, text_first, text_joined, took_printed}
 
 pub placed_items : (place : ℕ) (items : Items) → map item_in (placed_from place items) ≡ items

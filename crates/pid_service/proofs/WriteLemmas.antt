@@ -1,10 +1,7 @@
 -- A change is written within one transaction.
 use Rattle.std.proofs.Common.{refl}
-use Rattle.pid_moderation.specs.declared.change.Effect.{Effect}
-use Rattle.pid_moderation.specs.declared.change.Effect.TheVariants.{Nothing, Ranked, Submitted, Remarked, Decided, Imported}
-use Rattle.pid_moderation.specs.Views.{Views}
-use Rattle.pid_tables.specs.Rows.Shows.{counts_of}
-use Rattle.pid_tables.specs.Applies.{CountsFit}
+use Rattle.pid_moderation.specs.declared.change.Effect.TheVariants.{Submitted}
+use Rattle.pid_service.proofs.Words.{counts_of, CountsFit, Decided, Effect, Imported, Nothing, Ranked, Remarked, Views}
 
 pub counted : (e : Effect) (v : Views) → CountsFit e (counts_of v) v
 counted Nothing v = refl

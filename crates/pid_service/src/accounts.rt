@@ -3,8 +3,8 @@ ghost use Rattle.std.specs.Prelude.{◌≡◌, ◌+◌, ℕ, IfSome};
 ghost use Rattle.pid_moderation.specs.Changes.{FitsEffect, affected};
 ghost use Rattle.pid_moderation.specs.Views.{Views};
 ghost use Rattle.pid_tables.specs.Rows.Accounts.{HasAccounts};
-ghost use Rattle.pid_tables.specs.Rows.Clauses.{Reads};
 ghost use Rattle.pid_service.specs.KeptViews.{HoldsAccounts};
+ghost use Rattle.pid_service.specs.Steps.Asking.{ReadsIn};
 
 use crate::registry::RestingTables;
 use pid_moderation::Effect;
@@ -36,7 +36,7 @@ pub(crate) fn count_accounts<S: Alter + Drop>(
     resting: &mut RestingTables<S>,
     kept: Option<u64>,
 ) -> Result<u64, TableFault>
-    ensures { Reads S.Store resting.old.tables.conn resting.new.tables.conn result
+    ensures { ReadsIn S.Store resting.old resting.new result
         (λ v n. HoldsAccounts kept v → HasAccounts v n) }
 {
     match kept {

@@ -1,11 +1,5 @@
 //! All items of the tables, written as a canonical text.
-ghost use Rattle.std.specs.Prelude.{◌≡◌, Err, IfErr, Some};
-ghost use Rattle.pid_service.specs.Steps.Exports.{WritesItems};
-ghost use Rattle.pid_tables.specs.declared.lists.walk.EachEnd.TheVariants as ends;
-ghost use Rattle.pid_file.specs.declared.io.WriteFault.{WriteFault as OutputFault};
-ghost use Rattle.pid_tables.specs.Lists.Clauses.{IsCausedEnd, OverViews};
-ghost use Rattle.pid_tables.specs.Rows.Causes.{IsReadable};
-ghost use Rattle.pid_tables.specs.Rows.Clauses.{OnlyReads};
+ghost use Rattle.pid_service.specs.Steps.Exports.{PrintsItems};
 
 use crate::export_sink::ExportSink;
 use crate::registry::RestingTables;
@@ -23,14 +17,7 @@ pub fn export_items<S: Alter + Drop, W: Output>(
     resting: &mut RestingTables<S>,
     out: &mut W,
 ) -> Result<(), EachEnd<WriteFault>>
-    ensures rests { OnlyReads S.Store resting.old.tables.conn resting.new.tables.conn }
-    ensures printed { OverViews S.Store resting.old.tables.conn resting.new.tables.conn
-        (λ v. WritesItems result (W.taken out.old) (W.taken out.new) v.items) }
-    ensures fault { (f : OutputFault) → result ≡ Err (ends.Fault f)
-        → W.write_fault out.new ≡ Some f }
-    ensures caused { OverViews S.Store resting.old.tables.conn resting.new.tables.conn
-        (λ v. IsReadable v → IfErr result
-        (IsCausedEnd S.Store resting.old.tables.conn resting.new.tables.conn)) }
+    ensures { PrintsItems S.Store W.Output resting.old resting.new out.old out.new result }
 {
     match write_header(out) {
         Err(fault) => Err(EachEnd::Fault(fault)),

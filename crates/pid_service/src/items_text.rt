@@ -14,10 +14,10 @@ ghost use Rattle.pid_service.specs.Steps.TextSinks.{AddsLines, HasLines, Lengthe
 ghost use Rattle.pid_service.specs.Steps.ItemTexts.{IsCountedText};
 ghost use Rattle.pid_ident.specs.PathTexts.{path_text};
 ghost use Rattle.pid_tables.specs.Rows.Causes.{IsReadable};
-ghost use Rattle.pid_tables.specs.Rows.Clauses.{Reads};
 ghost use Rattle.pid_tables.specs.declared.lists.walk.EachEnd.TheVariants as walks;
 ghost use Rattle.pid_file.specs.Printing.{ended, header, label_of, lines_after};
 ghost use Rattle.pid_file.specs.Steps.Printing.{text_or_none};
+ghost use Rattle.pid_service.specs.Steps.Asking.{ReadsIn};
 
 use crate::kept_text::{Extent, FIRST, KeptText, MOST_BYTES, extent_of};
 use crate::registry::RestingTables;
@@ -221,7 +221,7 @@ fn walked_text<S: Alter + Drop>(
     first: Option<GrowingText>,
 ) -> Result<ItemsText, TableFault>
     requires first { IfSome first (λ text. HasLines text (ended (header ∷ [])) []) }
-    ensures { Reads S.Store resting.old.tables.conn resting.new.tables.conn result
+    ensures { ReadsIn S.Store resting.old resting.new result
         (λ v found. IsReadable v → IsCountedText found.bytes found.text v.items) }
 {
     let mut sink = TextSink {
@@ -244,7 +244,7 @@ pub(crate) fn items_text<S: Alter + Drop>(
     resting: &mut RestingTables<S>,
     alloc: Global,
 ) -> Result<ItemsText, TableFault>
-    ensures { Reads S.Store resting.old.tables.conn resting.new.tables.conn result
+    ensures { ReadsIn S.Store resting.old resting.new result
         (λ v found. IsReadable v → IsCountedText found.bytes found.text v.items) }
 {
     match walked_text(resting, first_line(alloc)) {

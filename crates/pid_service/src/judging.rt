@@ -47,7 +47,7 @@ pub(crate) fn judge<S: Alter + Drop>(
     alloc: Global,
     command: &Command,
 ) -> Result<Judged, Refusal>
-    ensures { Judges S.Store resting.old.tables.conn resting.new.tables.conn command.now result }
+    ensures { Judges S.Store resting.old resting.new command.now result }
 {
     laws::reached_histories_are_kept(); // proof only
     match resting

@@ -36,7 +36,7 @@ fn judge_tables<S: Alter + Drop>(
     resting: &mut RestingTables<S>,
     alloc: Global,
 ) -> Result<(), TableFault>
-    ensures { JudgesTables S.Store resting.old.tables.conn resting.new.tables.conn result }
+    ensures { JudgesTables S.Store resting.old resting.new result }
 {
     laws::reached_histories_are_kept(); // proof only
     pid_tables::laws::all_is_committed_outside_transactions(&resting.tables.conn); // proof only
@@ -57,7 +57,7 @@ fn make_ready<S: Alter + Drop>(
     resting: &mut RestingTables<S>,
     alloc: Global,
 ) -> Result<(), TableFault>
-    ensures { IsMadeReady S.Store resting.old.tables.conn resting.new.tables.conn result }
+    ensures { IsMadeReady S.Store resting.old resting.new result }
 {
     laws::reached_histories_are_kept(); // proof only
     pid_tables::laws::all_is_committed_outside_transactions(&resting.tables.conn); // proof only

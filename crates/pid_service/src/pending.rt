@@ -2,9 +2,8 @@
 ghost use Rattle.std.specs.Prelude.{◌≡◌, map};
 ghost use Rattle.pid_moderation.specs.PendingPages.{pending_in, told_of};
 ghost use Rattle.pid_moderation.specs.QueuePages.{queue_in, queued_of};
-ghost use Rattle.pid_tables.specs.Rows.Clauses.{Reads};
 ghost use Rattle.pid_service.specs.KeptViews.{HoldsPending};
-ghost use Rattle.pid_service.specs.Steps.Asking.{Finds};
+ghost use Rattle.pid_service.specs.Steps.Asking.{Finds, ReadsIn};
 
 use crate::laws;
 use crate::pending_numbers::{numbers_above, read_pending_numbers};
@@ -21,7 +20,7 @@ pub(crate) fn pending_by<S: Alter + Drop>(
     numbers: &Option<Vec<u32>>,
     after: u32,
 ) -> Result<Vec<Pending>, TableFault>
-    ensures { Reads S.Store resting.old.tables.conn resting.new.tables.conn result
+    ensures { ReadsIn S.Store resting.old resting.new result
         (λ v page. HoldsPending numbers.now v
         → map told_of page.items ≡ pending_in PAGE after v) }
 {
@@ -41,7 +40,7 @@ pub(crate) fn queue_by<S: Alter + Drop>(
     numbers: &Option<Vec<u32>>,
     after: u32,
 ) -> Result<Vec<Queued>, TableFault>
-    ensures { Reads S.Store resting.old.tables.conn resting.new.tables.conn result
+    ensures { ReadsIn S.Store resting.old resting.new result
         (λ v queue. HoldsPending numbers.now v
         → map queued_of queue.items ≡ queue_in PAGE after v) }
 {

@@ -15,11 +15,11 @@ ghost use Rattle.std.specs.Prelude.{
   take,
 };
 ghost use Rattle.pid_moderation.specs.PendingPages.{told_of, pending_above};
-ghost use Rattle.pid_tables.specs.Rows.Clauses.{Reads};
 ghost use Rattle.pid_tables.specs.Lists.Laws.{pending_number};
 ghost use Rattle.pid_tables.specs.Lists.Pages.{last_of};
 ghost use Rattle.pid_service.specs.KeptViews.{HoldsPending};
 ghost use Rattle.pid_service.specs.Steps.PendingNumbers.{its_number};
+ghost use Rattle.pid_service.specs.Steps.Asking.{ReadsIn};
 
 use crate::registry::RestingTables;
 use pid_moderation::{PAGE, Pending};
@@ -68,7 +68,7 @@ pub(crate) fn read_pending_numbers<S: Alter + Drop>(
     resting: &mut RestingTables<S>,
     alloc: Global,
 ) -> Result<Option<Vec<u32>>, TableFault>
-    ensures { Reads S.Store resting.old.tables.conn resting.new.tables.conn result
+    ensures { ReadsIn S.Store resting.old resting.new result
         (λ v numbers. HoldsPending numbers v) }
 {
     pid_tables::lists::laws::pending_go_on(); // proof only
@@ -104,7 +104,7 @@ pub(crate) fn count_pending<S: Alter + Drop>(
     alloc: Global,
     numbers: &Option<Vec<u32>>,
 ) -> Result<u32, TableFault>
-    ensures { Reads S.Store resting.old.tables.conn resting.new.tables.conn result
+    ensures { ReadsIn S.Store resting.old resting.new result
         (λ v n. HoldsPending numbers.now v → n ≡ length (pending_above 0 v)) }
 {
     pid_tables::lists::laws::pending_go_on(); // proof only

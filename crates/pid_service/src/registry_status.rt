@@ -1,8 +1,8 @@
 //! How much a registry holds.
 ghost use Rattle.std.specs.Prelude.{◌≡◌};
 ghost use Rattle.pid_moderation.specs.RegistryStatus.{IsStatusIn, registry_status_of};
-ghost use Rattle.pid_tables.specs.Rows.Clauses.{Reads};
 ghost use Rattle.pid_service.specs.KeptViews.{HoldsAccounts, HoldsPending};
+ghost use Rattle.pid_service.specs.Steps.Asking.{ReadsIn};
 
 use crate::accounts::count_accounts;
 use crate::pending_numbers::count_pending;
@@ -19,7 +19,7 @@ pub(crate) fn status_by<S: Alter + Drop>(
     numbers: &Option<Vec<u32>>,
     accounts: Option<u64>,
 ) -> Result<Status, TableFault>
-    ensures { Reads S.Store resting.old.tables.conn resting.new.tables.conn result
+    ensures { ReadsIn S.Store resting.old resting.new result
         (λ v status. HoldsPending numbers.now v → HoldsAccounts accounts v
         → IsStatusIn v (registry_status_of status)) }
 {

@@ -5,9 +5,12 @@ use Rattle.pid_moderation.specs.declared.refusal.Refusal.{Refusal}
 use Rattle.pid_moderation.specs.declared.refusal.Refusal.TheVariants.{Failed, NoSubmission}
 use Rattle.pid_moderation.specs.History.{History}
 use Rattle.pid_service_laws.specs.Questions.{IsMissing}
+use Rattle.pid_moderation.specs.Views.{Views}
 use Rattle.pid_tables.specs.Faults.{refusal_for}
+use Rattle.pid_tables.specs.Rows.Clauses.{Reads}
 use Rattle.pid_tables.specs.declared.rows.fault.TableFault.{TableFault}
 use Rattle.pid_service.specs.declared.registry.Registry.{Registry}
+use Rattle.pid_service.specs.declared.registry.RestingTables.{RestingTables}
 use Rattle.pid_service.specs.Asking.{FaultIsCaused, MayGive}
 use Rattle.pid_service.specs.Histories.{IsMemoryOrStore, OverHistory, Shows}
 use Rattle.pid_service.specs.Registries.{OnlyReads, is_live}
@@ -18,6 +21,11 @@ answered_as (Ok found) = Ok found
 answered_as (Err fault) = Err (refusal_for fault)
 
 module _ {S : Type 0} (store : Ghosts S) where
+  -- tables at rest were read, and this was found
+  abbrev pub ReadsIn : {X : Type 0} → RestingTables S store → RestingTables S store
+      → Result X TableFault → (Views → X → Type 0) → Type 0
+  ReadsIn old new found Says = Reads store old.tables.conn new.tables.conn found Says
+
   -- the history that was shown is shown still, and the answer is by it
   abbrev pub TellsHistory : {X : Type 0} → Registry S store → Registry S store → Result X Refusal
       → (History → X → Type 0) → (History → Refusal → Type 0) → Type 0

@@ -1,6 +1,8 @@
 -- Steps of Exports.
-use Rattle.std.specs.Prelude.{◌≡◌, ℕ, List, ◌++◌, Option, Result, Ok, Err}
+use Rattle.std.specs.Prelude.{◌≡◌, ℕ, List, ◌++◌, Option, Some, Result, Ok, Err, IfErr}
 use Rattle.std.specs.Io.KnownBytes.{Appends}
+use Rattle.sqlite_trees.specs.declared.store.Store.{Ghosts}
+use Rattle.pid_file.specs.declared.io.Output as outputs
 use Rattle.pid_ident.specs.Sending.{SendsFront}
 use Rattle.pid_moderation.specs.History.{History}
 use Rattle.pid_moderation.specs.Items.{Items}
@@ -14,6 +16,10 @@ use Rattle.pid_service.specs.ItemTexts.{text_of_items}
 use Rattle.pid_file.specs.declared.io.WriteFault.{WriteFault}
 use Rattle.pid_tables.specs.declared.lists.walk.EachEnd.{EachEnd}
 use Rattle.pid_tables.specs.declared.lists.walk.EachEnd.TheVariants.{Tables, Fault}
+use Rattle.pid_tables.specs.Lists.Clauses.{IsCausedEnd, OverViews}
+use Rattle.pid_tables.specs.Rows.Causes.{IsReadable}
+use Rattle.pid_tables.specs.Rows.Clauses.{OnlyReads}
+use Rattle.pid_service.specs.declared.registry.RestingTables.{RestingTables}
 
 -- whole lines: the header and all lines of some items, the first ones
 abbrev pub TakesWholeLines : Option (List ℕ) → Option (List ℕ) → Items → Type 0
@@ -27,6 +33,17 @@ abbrev pub WritesItems : {X : Type 0} → Result X (EachEnd WriteFault) → Opti
 WritesItems (Ok x) old new items = Appends old new (text_of_items items)
 WritesItems (Err (Fault fault)) old new items = SendsFront old new (text_of_items items)
 WritesItems (Err (Tables fault)) old new items = TakesWholeLines old new items
+
+-- the items of tables at rest were printed
+pub record PrintsItems {S W : Type 0} (store : Ghosts S) (writer : outputs.Ghosts W)
+    (old new : RestingTables S store) (before after : W)
+    (result : Result (Unit {0}) (EachEnd WriteFault)) : Type 0 where
+  pub rests : OnlyReads store old.tables.conn new.tables.conn
+  pub printed : OverViews store old.tables.conn new.tables.conn
+      (λ v. WritesItems result (writer.taken before) (writer.taken after) v.items)
+  pub fault : (f : WriteFault) → result ≡ Err (Fault f) → writer.write_fault after ≡ Some f
+  pub caused : OverViews store old.tables.conn new.tables.conn
+      (λ v. IsReadable v → IfErr result (IsCausedEnd store old.tables.conn new.tables.conn))
 
 -- the same of a registry, whose refusal says why the tables failed
 abbrev pub ExportsTree : {X : Type 0} → Result X ExportFault → Option (List ℕ) → Option (List ℕ)

@@ -1,6 +1,5 @@
 -- Steps of an opening.
 use Rattle.std.specs.Prelude.{◌≡◌, false, IsTrue, Some, Result, IfErr, MatchResult}
-use Rattle.sqlite.specs.Held.{Held}
 use Rattle.sqlite_trees.specs.declared.store.Store.{Ghosts}
 use Rattle.pid_moderation.specs.History.{History}
 use Rattle.pid_moderation.specs.Views.{views_of}
@@ -10,30 +9,34 @@ use Rattle.pid_tables.specs.Rows.Clauses.{AtRest, HasCleanDisk, OnlyReads, is_op
 use Rattle.pid_tables.specs.Rows.Faults.{IsMemoryOrStore}
 use Rattle.pid_tables.specs.Check.Checking.{Explains, FindsVersion}
 use Rattle.pid_tables.specs.Clauses.{ShowsOrBlank}
+use Rattle.pid_service.specs.declared.registry.RestingTables.{RestingTables}
 use Rattle.pid_service.specs.Histories.{IsReached}
 use Rattle.pid_service.specs.Opening.{ExplainsOpening, KeepsTables, OpensAtOnce}
 
 module _ {S : Type 0} (store : Ghosts S) where
   -- tables in the schema of today were judged
-  pub record JudgesTables {X : Type 0} (old new : Held S) (result : Result X TableFault)
-      : Type 0 where
-    pub rests : OnlyReads store old new
-    pub same : IsTrue (is_open store new) → seen store new ≡ seen store old
-    pub good : HasCleanDisk store new → (h : History) → IsReached h
-        → AtRest store old (views_of h) → IfErr result IsMemoryOrStore
-    pub shut : HasCleanDisk store new → is_open store old ≡ false
+  pub record JudgesTables {X : Type 0} (old new : RestingTables S store)
+      (result : Result X TableFault) : Type 0 where
+    pub rests : OnlyReads store old.tables.conn new.tables.conn
+    pub same : IsTrue (is_open store new.tables.conn)
+        → seen store new.tables.conn ≡ seen store old.tables.conn
+    pub good : HasCleanDisk store new.tables.conn → (h : History) → IsReached h
+        → AtRest store old.tables.conn (views_of h) → IfErr result IsMemoryOrStore
+    pub shut : HasCleanDisk store new.tables.conn → is_open store old.tables.conn ≡ false
         → MatchResult result (λ _. ⊥) IsMemoryOrStore
-    pub told : HasCleanDisk store new → MatchResult result
-        (λ _. FindsVersion (seen store old) (Some Two)) (Explains (seen store old))
+    pub told : HasCleanDisk store new.tables.conn → MatchResult result
+        (λ _. FindsVersion (seen store old.tables.conn) (Some Two))
+        (Explains (seen store old.tables.conn))
 
   -- tables were made, or moved, and judged
-  pub record IsMadeReady {X : Type 0} (old new : Held S) (result : Result X TableFault)
-      : Type 0 where
-    pub at_once : OpensAtOnce store old new result
+  pub record IsMadeReady {X : Type 0} (old new : RestingTables S store)
+      (result : Result X TableFault) : Type 0 where
+    pub at_once : OpensAtOnce store old.tables.conn new.tables.conn result
     -- Those that show a history, or can be made, show it in the schema of today; or memory ran out
     -- or the store failed, and it is still shown.
-    pub ready : HasCleanDisk store new → (h : History) → IsReached h → ShowsOrBlank store old h
-        → MatchResult result (λ _. AtRest store new (views_of h))
-        (λ e. IsMemoryOrStore e × ShowsOrBlank store new h)
-    pub kept : KeepsTables store old new result
-    pub explains : ExplainsOpening store old new result
+    pub ready : HasCleanDisk store new.tables.conn → (h : History) → IsReached h
+        → ShowsOrBlank store old.tables.conn h
+        → MatchResult result (λ _. AtRest store new.tables.conn (views_of h))
+        (λ e. IsMemoryOrStore e × ShowsOrBlank store new.tables.conn h)
+    pub kept : KeepsTables store old.tables.conn new.tables.conn result
+    pub explains : ExplainsOpening store old.tables.conn new.tables.conn result

@@ -1,8 +1,6 @@
 use Rattle.std.proofs.Common.{◌≡◌, ◌+◌, refl, rules, subst}
 use Rattle.std.specs.Prelude.{IfSome}
-use Rattle.pid_moderation.specs.Changes.{affected}
-use Rattle.pid_tables.specs.Rows.Accounts.{HasAccounts}
-use Rattle.pid_service.specs.KeptViews.{HoldsAccounts}
+use Rattle.pid_service.proofs.Words.{affected, HasAccounts, HoldsAccounts}
 use Rattle.pid_service.proofs.AccountCounts.{new_account, one_counted}
 use Rattle.pid_service.proofs.accounts.accounts_after.Goals as goal
 

@@ -1,8 +1,7 @@
 use Rattle.std.proofs.Common.{◌≡◌, ℕ, List, [], ◌∷◌, ◌++◌, map, rules, ap, ◌∙◌}
 use Rattle.std.proofs.lemmas.List.{map-append}
 use Rattle.pid_file.specs.PathTexts.{path_text}
-use Rattle.pid_moderation.specs.ChangePages.{changed_of}
-use Rattle.pid_moderation.specs.declared.lists.ChangedItem.{ChangedItem}
+use Rattle.pid_service.proofs.Words.{changed_of, ChangedItem}
 use Rattle.pid_service.proofs.changes.add_copy.Goals as goal
 
 pub returns-in-Ok : goal.returns-in-Ok

@@ -1,10 +1,8 @@
 use Rattle.std.proofs.Common.{◌++◌, List, ap, arith, map, sym, ◌∙◌}
 use Rattle.std.proofs.lemmas.List.{take_all}
 use Rattle.pid_file.specs.PathTexts.{path_text}
-use Rattle.pid_moderation.specs.ChangePages.{changed_of}
-use Rattle.pid_moderation.specs.declared.lists.ChangedItem.{ChangedItem}
+use Rattle.pid_service.proofs.Words.{changed_of, ChangedItem, is_on, on_side}
 use Rattle.pid_service.proofs.RenewedChanges.{one_sided}
-use Rattle.pid_service.specs.Steps.KeptChanges.{is_on, on_side}
 use Rattle.pid_service.proofs.changes.add_side.Goals as goal
 
 pub loop-item-preserved : goal.loop-item-preserved

@@ -1,7 +1,6 @@
 use Rattle.std.proofs.Common.{◌≡◌, ◌++◌, map, take}
 use Rattle.pid_file.specs.PathTexts.{path_text}
-use Rattle.pid_moderation.specs.ChangePages.{changed_of}
-use Rattle.pid_service.specs.Steps.KeptChanges.{on_side}
+use Rattle.pid_service.proofs.Words.{changed_of, on_side}
 use Rattle.pid_service.proofs.changes.add_side.Given as goal
 
 abbrev pub invariant-loop-item : goal.invariant-loop-item

@@ -1,11 +1,9 @@
 use Rattle.std.proofs.Common.{◌≡◌, List, [], ◌∷◌, ◌++◌, map, rules, ap, sym, ◌∙◌}
 use Rattle.std.proofs.lemmas.List.{append-nil, map-append}
 use Rattle.pid_file.specs.PathTexts.{path_text}
-use Rattle.pid_moderation.specs.ChangePages.{Changed, changed_of}
-use Rattle.pid_moderation.specs.declared.change.Edit.{Edit}
-use Rattle.pid_moderation.specs.declared.lists.ChangedItem.{ChangedItem}
+use Rattle.pid_moderation.specs.ChangePages.{Changed}
+use Rattle.pid_service.proofs.Words.{changed_item, changed_of, ChangedItem, Edit}
 use Rattle.pid_service.proofs.RenewedChanges.{named_item}
-use Rattle.pid_service.specs.Steps.KeptChanges.{changed_item}
 use Rattle.pid_service.proofs.changes.add_written.Goals as goal
 
 pub returns-in-Ok : goal.returns-in-Ok

@@ -1,6 +1,5 @@
 use Rattle.std.proofs.Common.{arith, subst}
-use Rattle.pid_moderation.specs.ChangePages.{start_text}
-use Rattle.pid_service.specs.KeptViews.{HoldsChanges}
+use Rattle.pid_service.proofs.Words.{HoldsChanges, start_text}
 use Rattle.pid_service.proofs.ChangedLists.{page_kept}
 use Rattle.pid_service.proofs.changes.kept_page.Goals as goal
 

@@ -1,8 +1,6 @@
 use Rattle.std.proofs.Common.{arith, ap, filter, map, sym, List, ◌∙◌}
 use Rattle.std.proofs.lemmas.List.{take_all}
-use Rattle.pid_moderation.specs.ChangePages.{changed_of, start_text}
-use Rattle.pid_moderation.specs.declared.lists.ChangedItem.{ChangedItem}
-use Rattle.pid_service.specs.Steps.KeptChanges.{comes_after}
+use Rattle.pid_service.proofs.Words.{changed_of, ChangedItem, comes_after, start_text}
 use Rattle.pid_service.proofs.ChangedLists.{one_later}
 use Rattle.pid_service.proofs.changes.later_items.Goals as goal
 

@@ -1,6 +1,5 @@
 use Rattle.std.proofs.Common.{◌≡◌, filter, map, take}
-use Rattle.pid_moderation.specs.ChangePages.{changed_of, start_text}
-use Rattle.pid_service.specs.Steps.KeptChanges.{comes_after}
+use Rattle.pid_service.proofs.Words.{changed_of, comes_after, start_text}
 use Rattle.pid_service.proofs.changes.later_items.Given as goal
 
 abbrev pub invariant-loop-item : goal.invariant-loop-item

@@ -1,9 +1,7 @@
 use Rattle.std.proofs.Common.{◌<◌, arith, ap, map, sym, ◌∙◌}
 use Rattle.pid_file.specs.PathTexts.{path_text}
-use Rattle.pid_moderation.specs.ChangePages.{changed_of}
-use Rattle.pid_moderation.specs.Changes.{edited, with_items}
+use Rattle.pid_service.proofs.Words.{changed_of, edited, with_edit, with_items}
 use Rattle.pid_service.proofs.RenewedChanges.{changed_with}
-use Rattle.pid_service.specs.Steps.KeptChanges.{with_edit}
 use Rattle.pid_service.proofs.changes.renewed.Goals as goal
 
 pub returns-then-len-lt-PAGE : goal.returns-then-len-lt-PAGE

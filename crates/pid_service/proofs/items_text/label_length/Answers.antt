@@ -1,8 +1,6 @@
 use Rattle.std.proofs.Common.{◌≡◌, ℕ, inl, inr, length, refl, sym, subst}
-use Rattle.pid_file.specs.declared.path.Path.{Path}
-use Rattle.pid_file.specs.declared.path.Path.TheVariants.{Vendor, Device, Subsystem, Class, Subclass, ProgIf, Generic}
 use Rattle.pid_file.specs.PathTexts.{path_text}
-use Rattle.pid_file.specs.Printing.{label_of}
+use Rattle.pid_service.proofs.Words.{Class, Device, Generic, label_of, Path, ProgIf, Subclass, Subsystem, Vendor}
 use Rattle.pid_service.proofs.items_text.label_length.Goals as goal
 
 -- a path that is this one has a label as long as that of this one

@@ -1,8 +1,6 @@
 use Rattle.std.proofs.Common.{arith, refl}
 use Rattle.pid_ident.specs.PathTexts.{path_text}
-use Rattle.pid_file.specs.Printing.{label_of}
-use Rattle.pid_file.specs.Steps.Printing.{text_or_none}
-use Rattle.pid_service.specs.Steps.TextSinks.{block_after}
+use Rattle.pid_service.proofs.Words.{block_after, label_of, text_or_none}
 use Rattle.pid_service.proofs.CountedLines.{added_up, block_short, label_short}
 use Rattle.pid_service.proofs.items_text.lines_length.Goals as goal
 

@@ -1,9 +1,6 @@
 use Rattle.std.proofs.Common.{◌≡◌, false, inr, sym, ◌∙◌}
-use Rattle.pid_moderation.specs.FactsOfViews.{facts_of}
-use Rattle.pid_moderation.specs.History.{History, Reading, asked, is_import}
-use Rattle.pid_moderation.specs.Views.{views_of}
 use Rattle.pid_tables.specs.Rows.Clauses.{AtRest, HasCleanDisk}
-use Rattle.pid_service.specs.Histories.{IsReached}
+use Rattle.pid_service.proofs.Words.{asked, facts_of, History, is_import, IsReached, Reading, views_of}
 use Rattle.pid_service.proofs.Causes.{caused_by}
 use Rattle.pid_service.proofs.Obeyed.{told_or_short}
 use Rattle.pid_service.proofs.judging.judge.Goals as goal

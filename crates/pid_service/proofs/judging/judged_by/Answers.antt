@@ -1,7 +1,5 @@
-use Rattle.pid_moderation.specs.History.{asked}
-use Rattle.pid_moderation.specs.Judgement.{Accepts, judge}
-use Rattle.pid_moderation.specs.Views.{views_of}
 use Rattle.std.proofs.Common.{is_some, true, false, ◌≡◌, ap, sym, ◌∙◌}
+use Rattle.pid_service.proofs.Words.{Accepts, asked, judge, views_of}
 use Rattle.pid_service.proofs.Judged.{refusal_told, told_or_memory, leads, fits, newly_accepts, repeated_stays}
 use Rattle.pid_service.proofs.judging.judged_by.Goals as goal
 

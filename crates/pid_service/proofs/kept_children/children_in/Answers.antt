@@ -2,13 +2,9 @@ use Rattle.std.proofs.Common.{◌≡◌, ℕ, ◌+◌, [], map, refl, arith, sym
 use Rattle.std.specs.Prelude.{option_map, Vec}
 use Rattle.std.specs.declared.alloc.Global.{Global}
 use Rattle.pid_file.specs.PathTexts.{path_text}
-use Rattle.pid_moderation.specs.Children.{children_of, stands_below}
-use Rattle.pid_moderation.specs.ItemPairs.{pair_of}
-use Rattle.pid_moderation.specs.declared.lists.Item.{Item}
+use Rattle.pid_service.proofs.Words.{children_of, extent_in, extents_after, Item, pair_of, stands_below, text_of_items}
 use Rattle.pid_service.proofs.KeptNames.{all_taken, none_more, one_more}
 use Rattle.pid_service.proofs.Places.{before_more, start_more}
-use Rattle.pid_service.specs.ItemTexts.{extents_after, text_of_items}
-use Rattle.pid_service.specs.KeptViews.{extent_in}
 use Rattle.pid_service.proofs.kept_children.children_in.Goals as goal
 use Rattle.pid_service.proofs.kept_children.children_in.Goals.{then-is_below+else-not-add_child, else-is_below}
 

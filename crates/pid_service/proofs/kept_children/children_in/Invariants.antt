@@ -1,12 +1,7 @@
 use Rattle.std.proofs.Common.{◌≡◌, ◌+◌, ◌≤◌, [], map, take}
 use Rattle.std.specs.Prelude.{option_map}
 use Rattle.pid_file.specs.PathTexts.{path_text}
-use Rattle.pid_file.specs.Steps.Printing.{text_or_none}
-use Rattle.pid_moderation.specs.Children.{children_of}
-use Rattle.pid_moderation.specs.ItemPairs.{pair_of}
-use Rattle.pid_moderation.specs.Items.{Items}
-use Rattle.pid_service.specs.KeptViews.{IsKeptText, extent_in}
-use Rattle.pid_service.specs.Steps.Renewing.{bytes_in, last_extent}
+use Rattle.pid_service.proofs.Words.{bytes_in, children_of, extent_in, IsKeptText, Items, last_extent, pair_of, text_or_none}
 use Rattle.pid_service.proofs.kept_children.children_in.Given as goal
 
 abbrev pub invariant-loop-extent : goal.invariant-loop-extent

@@ -3,10 +3,8 @@ use Rattle.std.specs.Prelude.{option_map}
 use Rattle.std.proofs.lemmas.Map.Text.{is_eq-slice_cmp}
 use Rattle.pid_file.specs.PathTexts.{path_text}
 use Rattle.pid_ident.proofs.PathReadingLemmas.{text_of_parent}
-use Rattle.pid_moderation.specs.Children.{stands_below}
-use Rattle.pid_moderation.specs.Items.{is_parent}
-use Rattle.pid_file.specs.declared.path.Path.{Path}
 use Rattle.std.proofs.Common.{Option}
+use Rattle.pid_service.proofs.Words.{is_parent, Path, stands_below}
 use Rattle.pid_service.proofs.kept_children.is_below.Goals as goal
 
 pub returns-in-Some-above : goal.returns-in-Some-above

@@ -1,7 +1,6 @@
 use Rattle.std.proofs.Common.{◌≡◌, false, rules, subst}
 use Rattle.std.proofs.lemmas.Fn.{filter_same}
-use Rattle.pid_moderation.specs.CheckTables.{is_pending}
-use Rattle.pid_service.specs.KeptViews.{HoldsPending, numbers_pending}
+use Rattle.pid_service.proofs.Words.{HoldsPending, is_pending, numbers_pending}
 use Rattle.pid_service.proofs.PendingNumbers.{decided_holds, submitted_holds}
 use Rattle.pid_service.proofs.kept_views.pending_after.Goals as goal
 

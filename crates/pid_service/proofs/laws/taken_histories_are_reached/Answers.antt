@@ -1,6 +1,5 @@
 use Rattle.std.proofs.Common.{sym, arith}
-use Rattle.pid_moderation.specs.History.{Begins, accepted_count}
-use Rattle.pid_moderation.specs.Judgement.{after_all}
+use Rattle.pid_service.proofs.Words.{accepted_count, after_all, Begins}
 use Rattle.pid_service.proofs.laws.taken_histories_are_reached.Goals as goal
 
 pub returns : goal.returns

@@ -1,12 +1,7 @@
 use Rattle.std.proofs.Common.{Option, subst}
-use Rattle.sqlite.specs.Held.{state}
-use Rattle.pid_moderation.specs.Views.{views_of}
-use Rattle.pid_tables.specs.Check.Checking.{FindsVersion}
-use Rattle.pid_tables.specs.Rows.Clauses.{seen}
-use Rattle.pid_tables.specs.declared.rows.version.Version.{Version}
-use Rattle.pid_tables.specs.declared.rows.version.Version.TheVariants.{Two}
 use Rattle.pid_tables.proofs.OfRows.LeaveLemmas.{rests_in_two}
 use Rattle.pid_tables.proofs.StandLemmas.{seen_still}
+use Rattle.pid_service.proofs.Words.{FindsVersion, seen, state, Two, Version, views_of}
 use Rattle.pid_service.proofs.opening.judge_tables.Goals as goal
 
 pub returns-in-Err : goal.returns-in-Err

@@ -1,11 +1,7 @@
 use Rattle.std.proofs.Common.{inl}
-use Rattle.pid_moderation.specs.Views.{views_of}
-use Rattle.sqlite.specs.Held.{state}
-use Rattle.pid_tables.specs.Rows.Clauses.{seen}
-use Rattle.pid_tables.specs.Rows.Faults.{IsNotNewerSchema}
-use Rattle.pid_tables.specs.Check.Checking.{Explains}
 use Rattle.pid_tables.proofs.OfRows.LeaveLemmas.{rests_in_two}
 use Rattle.pid_tables.proofs.OfRows.OnlyReading.{reads_then}
+use Rattle.pid_service.proofs.Words.{Explains, IsNotNewerSchema, seen, state, views_of}
 use Rattle.pid_service.proofs.Opened.{back_after, brought_reads, committed_then_reads, explained_now, explains_now, judged_now, judged_ready, kept_ok, made_then_reads, moved_then_reads, once_then_reads, refused_reads, step_shown, step_rests, still_views, told_then}
 use Rattle.pid_service.proofs.opening.make_ready.Goals as goal
 

@@ -1,12 +1,9 @@
 use Rattle.std.proofs.Common.{◌≡◌, Ok, Err, IsTrue, inl, inr, refl, subst, sym, ap, ◌∙◌}
 use Rattle.std.specs.Prelude.{not}
-use Rattle.sqlite.specs.Held.{Held, state}
-use Rattle.sqlite_trees.specs.declared.store.Store.{Ghosts}
-use Rattle.pid_moderation.specs.Views.{views_of}
 use Rattle.pid_tables.proofs.OfRows.LeaveLemmas.{rests_in_two}
 use Rattle.pid_tables.proofs.AtOnceLemmas.{reads_back}
+use Rattle.pid_service.proofs.Words.{Ghosts, Held, MovesAtOnce, MovesJudged, MovesShown, MovesTo, state, views_of}
 use Rattle.pid_service.proofs.Keeping.{true_not}
-use Rattle.pid_service.specs.Opening.{MovesAtOnce, MovesJudged, MovesShown, MovesTo}
 use Rattle.pid_service.proofs.Opened.{moved, seen_back}
 use Rattle.pid_file.proofs.OneMoreLine.{not_false, not_true}
 use Rattle.pid_service.proofs.opening.migrate.Goals as goal
@@ -29,110 +26,94 @@ returns-then-not-is_autocommit-clause-shown g c = true_not c.args.conn.in_transa
 pub returns-then-not-is_autocommit-clause-judged : goal.returns-then-not-is_autocommit-clause-judged
 returns-then-not-is_autocommit-clause-judged g c = true_not c.args.conn.in_transaction (not_false c.args.conn.in_transaction (sym c.is_autocommit.ensures.value ∙ c.if-not-is_autocommit.true))
 
-pub returns-in-Ok-clause-busy : goal.returns-in-Ok-clause-busy
-returns-in-Ok-clause-busy g c on = true_not c.args.conn.in_transaction on (not_true c.args.conn.in_transaction (sym c.is_autocommit.ensures.value ∙ c.if-not-is_autocommit.false))
+pub returns-in-Ok : goal.returns-in-Ok
+returns-in-Ok g c = record {
+  busy = λ on. true_not c.args.conn.in_transaction on (not_true c.args.conn.in_transaction (sym c.is_autocommit.ensures.value ∙ c.if-not-is_autocommit.false));
+  history =
+      moved (λ x y. MovesTo g.S.Store x (Ok (y, c.in-Ok.step))) c.new-tables.ensures c.into_conn-conn.ensures
+      (record {
+        clean = c.migrate-moved.ensures.at_once.clean;
+        created = λ bare clean. c.in-Ok.ensures.shown.created clean bare;
+        moved = λ h reached older clean. c.in-Ok.ensures.shown.moved clean h (c.reached_histories_are_kept.ensures.sound h reached) older;
+        already = λ h reached rest clean.
+            let so = c.in-Ok.ensures.shown.already clean (views_of h) (rests_in_two (state g.S.Store c.new-tables.result.conn) (views_of h) rest) in
+            (so.0, so.1.kept (views_of h) rest);
+      });
+  at_once = λ off.
+      moved (λ x y. MovesAtOnce g.S.Store x (Ok (y, c.in-Ok.step))) c.new-tables.ensures c.into_conn-conn.ensures
+      (let old = state g.S.Store c.new-tables.result.conn in
+      let new = state g.S.Store c.migrate-moved.new.self.conn in
+      record {
+        settled = c.migrate-moved.ensures.at_once.settled;
+        once = c.migrate-moved.ensures.at_once.once;
+        back = tt;
+        made = c.migrate-moved.ensures.none.made;
+        done = λ clean none. c.in-Ok.ensures.none.done clean none;
+        moved = c.migrate-moved.ensures.judged.moved;
+        raised = λ clean is. c.in-Ok.ensures.judged.done clean is;
+        unchanged = λ is. seen_back old new (settled_still g.S.Store c.new-tables.ensures (c.is_autocommit.ensures.settled (c.is_autocommit.ensures.value ∙ ap not off))) (reads_back old new (c.in-Ok.ensures.judged.only_read is));
+        only_read = λ is. c.in-Ok.ensures.judged.only_read is;
+      });
+  shown = λ off.
+      moved (λ x y. MovesShown g.S.Store x (Ok (y, c.in-Ok.step))) c.new-tables.ensures c.into_conn-conn.ensures
+      (record {
+        left_alone = λ v rest clean. let so = c.in-Ok.ensures.shown.already clean v rest in (so.1, so.0);
+        explained = λ v rest clean. tt;
+        kept = λ clean version v rest. c.in-Ok.ensures.shown.kept clean version v rest;
+      });
+  judged = λ off.
+      moved (λ x y. MovesJudged g.S.Store x (Ok (y, c.in-Ok.step))) c.new-tables.ensures c.into_conn-conn.ensures
+      (record {
+        told = λ clean some. c.in-Ok.ensures.judged.found clean some;
+        named = λ clean is. c.in-Ok.ensures.judged.named clean is;
+        latest = λ clean opened. c.in-Ok.ensures.judged.latest clean opened;
+        bare = λ clean none. c.in-Ok.ensures.none.bare clean none;
+        met = λ clean none met. c.in-Ok.ensures.none.met clean none met;
+        shut = λ clean closed. c.in-Ok.ensures.none.shut clean closed;
+      });
+}
 
-pub returns-in-Err-clause-busy : goal.returns-in-Err-clause-busy
-returns-in-Err-clause-busy g c on = true_not c.args.conn.in_transaction on (not_true c.args.conn.in_transaction (sym c.is_autocommit.ensures.value ∙ c.if-not-is_autocommit.false))
-
--- ---- a step
-
-pub returns-in-Ok-clause-at_once : goal.returns-in-Ok-clause-at_once
-returns-in-Ok-clause-at_once g c off =
-    moved (λ x y. MovesAtOnce g.S.Store x (Ok (y, c.in-Ok.step))) c.new-tables.ensures c.into_conn-conn.ensures
-    (let old = state g.S.Store c.new-tables.result.conn in
-    let new = state g.S.Store c.migrate-moved.new.self.conn in
-    record {
-      settled = c.migrate-moved.ensures.at_once.settled;
-      once = c.migrate-moved.ensures.at_once.once;
-      back = tt;
-      made = c.migrate-moved.ensures.none.made;
-      done = λ clean none. c.in-Ok.ensures.none.done clean none;
-      moved = c.migrate-moved.ensures.judged.moved;
-      raised = λ clean is. c.in-Ok.ensures.judged.done clean is;
-      unchanged = λ is. seen_back old new (settled_still g.S.Store c.new-tables.ensures (c.is_autocommit.ensures.settled (c.is_autocommit.ensures.value ∙ ap not off))) (reads_back old new (c.in-Ok.ensures.judged.only_read is));
-      only_read = λ is. c.in-Ok.ensures.judged.only_read is;
-    })
-
-pub returns-in-Ok-clause-history : goal.returns-in-Ok-clause-history
-returns-in-Ok-clause-history g c =
-    moved (λ x y. MovesTo g.S.Store x (Ok (y, c.in-Ok.step))) c.new-tables.ensures c.into_conn-conn.ensures
-    (record {
-      clean = c.migrate-moved.ensures.at_once.clean;
-      created = λ bare clean. c.in-Ok.ensures.shown.created clean bare;
-      moved = λ h reached older clean. c.in-Ok.ensures.shown.moved clean h (c.reached_histories_are_kept.ensures.sound h reached) older;
-      already = λ h reached rest clean.
-          let so = c.in-Ok.ensures.shown.already clean (views_of h) (rests_in_two (state g.S.Store c.new-tables.result.conn) (views_of h) rest) in
-          (so.0, so.1.kept (views_of h) rest);
-    })
-
-pub returns-in-Ok-clause-shown : goal.returns-in-Ok-clause-shown
-returns-in-Ok-clause-shown g c off =
-    moved (λ x y. MovesShown g.S.Store x (Ok (y, c.in-Ok.step))) c.new-tables.ensures c.into_conn-conn.ensures
-    (record {
-      left_alone = λ v rest clean. let so = c.in-Ok.ensures.shown.already clean v rest in (so.1, so.0);
-      explained = λ v rest clean. tt;
-      kept = λ clean version v rest. c.in-Ok.ensures.shown.kept clean version v rest;
-    })
-
-pub returns-in-Ok-clause-judged : goal.returns-in-Ok-clause-judged
-returns-in-Ok-clause-judged g c off =
-    moved (λ x y. MovesJudged g.S.Store x (Ok (y, c.in-Ok.step))) c.new-tables.ensures c.into_conn-conn.ensures
-    (record {
-      told = λ clean some. c.in-Ok.ensures.judged.found clean some;
-      named = λ clean is. c.in-Ok.ensures.judged.named clean is;
-      latest = λ clean opened. c.in-Ok.ensures.judged.latest clean opened;
-      bare = λ clean none. c.in-Ok.ensures.none.bare clean none;
-      met = λ clean none met. c.in-Ok.ensures.none.met clean none met;
-      shut = λ clean closed. c.in-Ok.ensures.none.shut clean closed;
-    })
-
--- ---- a fault
-
-pub returns-in-Err-clause-at_once : goal.returns-in-Err-clause-at_once
-returns-in-Err-clause-at_once g c off =
-    moved (λ x y. MovesAtOnce g.S.Store x (Err (c.in-Err.fault, y))) c.new-tables.ensures c.into_conn-conn.ensures
-    (record {
-      settled = c.migrate-moved.ensures.at_once.settled;
-      once = c.migrate-moved.ensures.at_once.once;
-      back = c.in-Err.ensures.at_once.back;
-      made = c.migrate-moved.ensures.none.made;
-      done = λ clean none. tt;
-      moved = c.migrate-moved.ensures.judged.moved;
-      raised = λ clean. tt;
-      unchanged = seen_back (state g.S.Store c.new-tables.result.conn) (state g.S.Store c.migrate-moved.new.self.conn) (settled_still g.S.Store c.new-tables.ensures (c.is_autocommit.ensures.settled (c.is_autocommit.ensures.value ∙ ap not off))) c.in-Err.ensures.at_once.back;
-      only_read = λ clean told. c.in-Err.ensures.at_once.unchanged clean told;
-    })
-
-pub returns-in-Err-clause-history : goal.returns-in-Err-clause-history
-returns-in-Err-clause-history g c =
-    moved (λ x y. MovesTo g.S.Store x (Err (c.in-Err.fault, y))) c.new-tables.ensures c.into_conn-conn.ensures
-    (record {
-      clean = c.migrate-moved.ensures.at_once.clean;
-      created = λ bare clean. let so = c.in-Err.ensures.shown.created clean bare in (so.0, inr (inr (so.1, refl)));
-      moved = λ h reached older clean. let so = c.in-Err.ensures.shown.moved clean h (c.reached_histories_are_kept.ensures.sound h reached) older in (so.0, inr (inl so.1));
-      already = λ h reached rest clean.
-          let so = c.in-Err.ensures.shown.already clean (views_of h) (rests_in_two (state g.S.Store c.new-tables.result.conn) (views_of h) rest) in
-          (so.0, inl (so.1.kept (views_of h) rest));
-    })
-
-pub returns-in-Err-clause-shown : goal.returns-in-Err-clause-shown
-returns-in-Err-clause-shown g c off =
-    moved (λ x y. MovesShown g.S.Store x (Err (c.in-Err.fault, y))) c.new-tables.ensures c.into_conn-conn.ensures
-    (record {
-      left_alone = λ v rest clean. let so = c.in-Err.ensures.shown.already clean v rest in (so.1, so.0);
-      explained = λ v rest clean. c.in-Err.ensures.shown.told clean v rest;
-      kept = λ clean. tt;
-    })
-
-pub returns-in-Err-clause-judged : goal.returns-in-Err-clause-judged
-returns-in-Err-clause-judged g c off =
-    moved (λ x y. MovesJudged g.S.Store x (Err (c.in-Err.fault, y))) c.new-tables.ensures c.into_conn-conn.ensures
-    (record {
-      told = λ clean some. c.in-Err.ensures.judged.found clean some;
-      named = λ clean. tt;
-      latest = λ clean. tt;
-      bare = λ clean none. c.in-Err.ensures.none.bare clean none;
-      met = λ clean none met. c.in-Err.ensures.none.met clean none met;
-      shut = λ clean closed. c.in-Err.ensures.none.shut clean closed;
-    })
+pub returns-in-Err : goal.returns-in-Err
+returns-in-Err g c = record {
+  busy = λ on. true_not c.args.conn.in_transaction on (not_true c.args.conn.in_transaction (sym c.is_autocommit.ensures.value ∙ c.if-not-is_autocommit.false));
+  history =
+      moved (λ x y. MovesTo g.S.Store x (Err (c.in-Err.fault, y))) c.new-tables.ensures c.into_conn-conn.ensures
+      (record {
+        clean = c.migrate-moved.ensures.at_once.clean;
+        created = λ bare clean. let so = c.in-Err.ensures.shown.created clean bare in (so.0, inr (inr (so.1, refl)));
+        moved = λ h reached older clean. let so = c.in-Err.ensures.shown.moved clean h (c.reached_histories_are_kept.ensures.sound h reached) older in (so.0, inr (inl so.1));
+        already = λ h reached rest clean.
+            let so = c.in-Err.ensures.shown.already clean (views_of h) (rests_in_two (state g.S.Store c.new-tables.result.conn) (views_of h) rest) in
+            (so.0, inl (so.1.kept (views_of h) rest));
+      });
+  at_once = λ off.
+      moved (λ x y. MovesAtOnce g.S.Store x (Err (c.in-Err.fault, y))) c.new-tables.ensures c.into_conn-conn.ensures
+      (record {
+        settled = c.migrate-moved.ensures.at_once.settled;
+        once = c.migrate-moved.ensures.at_once.once;
+        back = c.in-Err.ensures.at_once.back;
+        made = c.migrate-moved.ensures.none.made;
+        done = λ clean none. tt;
+        moved = c.migrate-moved.ensures.judged.moved;
+        raised = λ clean. tt;
+        unchanged = seen_back (state g.S.Store c.new-tables.result.conn) (state g.S.Store c.migrate-moved.new.self.conn) (settled_still g.S.Store c.new-tables.ensures (c.is_autocommit.ensures.settled (c.is_autocommit.ensures.value ∙ ap not off))) c.in-Err.ensures.at_once.back;
+        only_read = λ clean told. c.in-Err.ensures.at_once.unchanged clean told;
+      });
+  shown = λ off.
+      moved (λ x y. MovesShown g.S.Store x (Err (c.in-Err.fault, y))) c.new-tables.ensures c.into_conn-conn.ensures
+      (record {
+        left_alone = λ v rest clean. let so = c.in-Err.ensures.shown.already clean v rest in (so.1, so.0);
+        explained = λ v rest clean. c.in-Err.ensures.shown.told clean v rest;
+        kept = λ clean. tt;
+      });
+  judged = λ off.
+      moved (λ x y. MovesJudged g.S.Store x (Err (c.in-Err.fault, y))) c.new-tables.ensures c.into_conn-conn.ensures
+      (record {
+        told = λ clean some. c.in-Err.ensures.judged.found clean some;
+        named = λ clean. tt;
+        latest = λ clean. tt;
+        bare = λ clean none. c.in-Err.ensures.none.bare clean none;
+        met = λ clean none met. c.in-Err.ensures.none.met clean none met;
+        shut = λ clean closed. c.in-Err.ensures.none.shut clean closed;
+      });
+}

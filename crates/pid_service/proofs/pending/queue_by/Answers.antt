@@ -1,6 +1,5 @@
 use Rattle.std.proofs.Common.{◌≡◌, map, ap, subst, ◌∙◌}
-use Rattle.pid_moderation.specs.QueuePages.{entry_in}
-use Rattle.pid_service.specs.KeptViews.{HoldsPending, numbers_pending}
+use Rattle.pid_service.proofs.Words.{entry_in, HoldsPending, numbers_pending}
 use Rattle.pid_service.proofs.PendingNumbers.{page_numbered}
 use Rattle.pid_service.proofs.Questions.{reads_as}
 use Rattle.pid_service.proofs.pending.queue_by.Goals as goal

@@ -1,13 +1,8 @@
 use Rattle.std.proofs.Common.{◌≡◌, ◌<◌, ◌+◌, map, length, ap, sym, subst, ◌∙◌, rules}
-use Rattle.sqlite.specs.Held.{state}
-use Rattle.pid_moderation.specs.PendingPages.{told_of, pending_above}
-use Rattle.pid_tables.specs.Rows.Causes.{IsCaused, IsReadable}
 use Rattle.pid_tables.proofs.OfRows.CauseLemmas.{caused_later, passed_on}
 use Rattle.pid_tables.proofs.OfRows.OnlyReading.{reads_then}
-use Rattle.pid_tables.specs.Lists.Laws.{pending_number}
-use Rattle.pid_tables.specs.Lists.Pages.{last_of}
 use Rattle.std.proofs.lemmas.List.{length-map}
-use Rattle.pid_service.specs.KeptViews.{HoldsPending, numbers_pending}
+use Rattle.pid_service.proofs.Words.{HoldsPending, IsCaused, IsReadable, last_of, numbers_pending, pending_above, pending_number, state, told_of}
 use Rattle.pid_service.proofs.PendingNumbers.{last_count, next_count}
 use Rattle.pid_service.proofs.pending_numbers.count_pending.Goals as goal
 

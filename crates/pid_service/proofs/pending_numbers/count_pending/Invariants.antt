@@ -1,7 +1,6 @@
 use Rattle.std.proofs.Common.{◌≡◌, ◌+◌, length}
-use Rattle.pid_moderation.specs.PendingPages.{pending_above}
-use Rattle.pid_moderation.specs.Views.{Views}
 use Rattle.pid_tables.specs.Rows.Clauses.{AtRest, HasCleanDisk, OnlyReads}
+use Rattle.pid_service.proofs.Words.{pending_above, Views}
 use Rattle.pid_service.proofs.pending_numbers.count_pending.Given as goal
 
 abbrev pub invariant-loop : goal.invariant-loop

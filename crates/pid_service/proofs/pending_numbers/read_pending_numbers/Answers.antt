@@ -1,11 +1,7 @@
 use Rattle.std.proofs.Common.{◌≡◌, ◌<◌, ◌++◌, map, length, true, ap, sym, ◌∙◌, rules}
-use Rattle.sqlite.specs.Held.{state}
-use Rattle.pid_moderation.specs.PendingPages.{told_of}
-use Rattle.pid_tables.specs.Rows.Causes.{IsCaused, IsReadable}
 use Rattle.pid_tables.proofs.OfRows.CauseLemmas.{caused_later, passed_on}
 use Rattle.pid_tables.proofs.OfRows.OnlyReading.{reads_then}
-use Rattle.pid_tables.specs.Lists.Laws.{pending_number}
-use Rattle.pid_tables.specs.Lists.Pages.{last_of}
+use Rattle.pid_service.proofs.Words.{IsCaused, IsReadable, last_of, pending_number, state, told_of}
 use Rattle.pid_service.proofs.PendingNumbers.{last_page, next_page, pending_past}
 use Rattle.pid_service.proofs.pending_numbers.read_pending_numbers.Goals as goal
 

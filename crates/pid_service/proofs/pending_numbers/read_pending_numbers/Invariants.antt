@@ -1,7 +1,6 @@
 use Rattle.std.proofs.Common.{◌≡◌, ◌++◌}
-use Rattle.pid_moderation.specs.Views.{Views}
 use Rattle.pid_tables.specs.Rows.Clauses.{AtRest, HasCleanDisk, OnlyReads}
-use Rattle.pid_service.specs.KeptViews.{numbers_pending}
+use Rattle.pid_service.proofs.Words.{numbers_pending, Views}
 use Rattle.pid_service.proofs.PendingNumbers.{pending_past}
 use Rattle.pid_service.proofs.pending_numbers.read_pending_numbers.Given as goal
 

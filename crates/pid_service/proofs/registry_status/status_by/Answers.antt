@@ -1,7 +1,6 @@
 use Rattle.std.proofs.Common.{◌≡◌, length}
-use Rattle.pid_moderation.specs.PendingPages.{pending_above}
 use Rattle.pid_tables.proofs.OfRows.OnlyReading.{reads_then}
-use Rattle.pid_tables.specs.Rows.Accounts.{HasAccounts}
+use Rattle.pid_service.proofs.Words.{HasAccounts, pending_above}
 use Rattle.pid_service.proofs.Questions.{faults_after}
 use Rattle.pid_service.proofs.registry_status.status_by.Goals as goal
 

@@ -2,10 +2,8 @@ use Rattle.std.proofs.Common.{◌≡◌, ℕ, ◌+◌, ◌≤◌, List, [], map,
 use Rattle.std.specs.List.{AllByRecursion}
 use Rattle.std.specs.declared.cmp.Ordering.TheVariants.{Greater}
 use Rattle.pid_file.specs.PathTexts.{path_text}
-use Rattle.pid_file.specs.Steps.Printing.{text_or_none}
 use Rattle.pid_file.specs.Trees.{text_cmp}
-use Rattle.pid_service.specs.KeptViews.{extent_in}
-use Rattle.pid_service.specs.Steps.Renewing.{bytes_in, last_extent}
+use Rattle.pid_service.proofs.Words.{bytes_in, extent_in, last_extent, text_or_none}
 use Rattle.pid_service.proofs.renewing.place_of.Given as goal
 
 abbrev pub invariant-loop-index : goal.invariant-loop-index

@@ -1,9 +1,7 @@
 use Rattle.std.proofs.Common.{List, map, subst}
 use Rattle.pid_file.specs.PathTexts.{path_text}
+use Rattle.pid_service.proofs.Words.{Extent, extent_in, IsPlace}
 use Rattle.pid_service.proofs.Renewed.{renewed}
-use Rattle.pid_service.specs.KeptViews.{extent_in}
-use Rattle.pid_service.specs.Steps.Renewing.{IsPlace}
-use Rattle.pid_service.specs.declared.kept_text.Extent.{Extent}
 use Rattle.pid_service.proofs.renewing.renew.Goals as goal
 
 pub returns-in-Some-new_lines : goal.returns-in-Some-new_lines

@@ -1,8 +1,7 @@
 use Rattle.std.proofs.Common.{sym, subst, ◌∷◌, ◌++◌, []}
-use Rattle.pid_moderation.specs.Writes.{tree_of}
-use Rattle.pid_service_laws.specs.CrashPrefix.{IsAfterPrefixes}
 use Rattle.pid_service_laws.proofs.Calling.{session_more, no_session}
 use Rattle.pid_service.specs.Histories.{showing}
+use Rattle.pid_service.proofs.Words.{IsAfterPrefixes, tree_of}
 use Rattle.pid_service.proofs.sessions.reopened_registries_show_prefixes.Goals as goal
 
 pub returns : goal.returns

@@ -1,8 +1,7 @@
 use Rattle.std.proofs.Common.{◌≡◌, ℕ, List, [], ◌∷◌, ◌++◌, map, rules, ap, ◌∙◌}
 use Rattle.std.proofs.lemmas.List.{map-append}
 use Rattle.pid_file.specs.PathTexts.{path_text}
-use Rattle.pid_moderation.specs.ItemPairs.{pair_of}
-use Rattle.pid_moderation.specs.declared.lists.Item.{Item}
+use Rattle.pid_service.proofs.Words.{Item, pair_of}
 use Rattle.pid_service.proofs.top.add_copy.Goals as goal
 
 pub returns-in-Ok : goal.returns-in-Ok

@@ -1,18 +1,8 @@
 use Rattle.std.proofs.Common.{◌≡◌, ℕ, false, Option, Some, None, refl, rules, sym, subst, ◌∙◌}
 use Rattle.std.specs.Prelude.{Vec}
 use Rattle.std.specs.declared.alloc.Global.{Global}
-use Rattle.pid_moderation.specs.declared.change.Change.{Change}
-use Rattle.pid_moderation.specs.declared.change.Receipt.{Receipt}
-use Rattle.pid_moderation.specs.Changes.{affected, changed, keeping}
-use Rattle.pid_moderation.specs.Items.{Items, name_at}
-use Rattle.pid_moderation.specs.Views.{Views}
-use Rattle.pid_moderation.specs.declared.lists.Item.{Item}
-use Rattle.pid_tables.specs.Searches.KeptNumbers.{HoldsNumbers}
-use Rattle.pid_service.specs.KeptViews.{HoldsChanges, HoldsText, HoldsTop, HoldsPending}
-use Rattle.pid_tables.specs.declared.searches.numbers.Searches.{Searches}
+use Rattle.pid_service.proofs.Words.{affected, Change, changed, HoldsChanges, HoldsNumbers, HoldsPending, HoldsText, HoldsTop, Item, Items, keeping, KeptChanges, KeptText, name_at, Receipt, Searches, Views}
 use Rattle.pid_service.proofs.AccountCounts.{still_accounts}
-use Rattle.pid_service.specs.declared.changes.KeptChanges.{KeptChanges}
-use Rattle.pid_service.specs.declared.kept_text.KeptText.{KeptText}
 use Rattle.pid_service.proofs.Keeping.{same_items}
 use Rattle.pid_service.proofs.PendingNumbers.{still_pending}
 use Rattle.pid_service.proofs.RenewedChanges.{still_changes, kept_items}

@@ -1,16 +1,11 @@
 use Rattle.std.proofs.Common.{◌≡◌, ℕ, List, Option, Some, IfSome, inl, refl, rules, sym, ap, subst, ◌∙◌}
 use Rattle.std.specs.FinMap.{entries, get, get-entries}
 use Rattle.std.specs.FinMap.Entries.{find}
-use Rattle.sqlite.specs.Held.{state}
 use Rattle.pid_ident.specs.PathTexts.{path_text}
 use Rattle.pid_ident.specs.Trees.{text_cmp}
-use Rattle.pid_moderation.specs.History.{History}
-use Rattle.pid_moderation.specs.Items.{name_at}
-use Rattle.pid_moderation.specs.Views.{items_of, views_of}
-use Rattle.pid_moderation.specs.Writes.{tree_of}
 use Rattle.pid_tables.proofs.OfCheck.Asking.{nothing_read}
+use Rattle.pid_service.proofs.Words.{connection, History, items_of, name_at, state, tree_of, views_of}
 use Rattle.pid_service.proofs.Causes.{caused_by}
-use Rattle.pid_service.specs.Registries.{connection}
 use Rattle.pid_service.proofs.Keeping.{true_not}
 use Rattle.pid_service.proofs.Questions.{asked_then, caused_since}
 use Rattle.pid_service.proofs.names.RegistryNames.name_of.Goals as goal

@@ -1,9 +1,6 @@
 use Rattle.std.proofs.Common.{◌≡◌, Option, ap, refl, rules, subst, ◌∙◌}
-use Rattle.pid_moderation.specs.Views.{items_of}
-use Rattle.pid_service.specs.KeptViews.{HoldsText}
-use Rattle.pid_service.specs.declared.kept_text.KeptText.{KeptText}
+use Rattle.pid_service.proofs.Words.{HoldsText, is_live, items_of, KeptText}
 use Rattle.pid_service.proofs.Questions.{answered_here, answers_read, failed_here, found_from}
-use Rattle.pid_service.specs.Registries.{is_live}
 use Rattle.pid_service.proofs.registry.Registry.children_below.Goals as goal
 
 pub returns-then-not-self : goal.returns-then-not-self

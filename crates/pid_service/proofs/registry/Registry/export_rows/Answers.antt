@@ -1,13 +1,8 @@
 use Rattle.std.proofs.Common.{◌≡◌, ℕ, List, Some, Err, refl, rules, ap, subst, ◌∙◌}
 use Rattle.std.specs.Io.KnownBytes.{Appends}
-use Rattle.sqlite.specs.Held.{state}
-use Rattle.pid_ident.specs.Sending.{SendsFront}
-use Rattle.pid_moderation.specs.Views.{views_of}
-use Rattle.pid_moderation.specs.Writes.{tree_of}
-use Rattle.pid_file.specs.Printing.{print}
-use Rattle.pid_moderation.specs.declared.refusal.Refusal.TheVariants.{Failed}
 use Rattle.pid_service_laws.specs.declared.faults.ExportFault.TheVariants.{Refused, Write}
 use Rattle.pid_tables.proofs.OfCheck.Asking.{nothing_read}
+use Rattle.pid_service.proofs.Words.{Failed, print, SendsFront, state, tree_of, views_of}
 use Rattle.pid_service.proofs.QueriesMet.{looks}
 use Rattle.pid_service.proofs.Exported.{same_write, text_told, told_by, told_cause, told_gives, told_tree, told_writes, whole_tree, write_not}
 use Rattle.pid_service.proofs.Keeping.{ok_not, true_not}

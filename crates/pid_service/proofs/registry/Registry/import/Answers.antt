@@ -1,9 +1,5 @@
 use Rattle.std.proofs.Common.{◌≡◌, ◌≤◌, IfErr, length, refl, rules, subst, true}
-use Rattle.pid_moderation.specs.declared.command.Command.{Command}
-use Rattle.pid_moderation.specs.CheckTables.{most_file_bytes}
-use Rattle.pid_moderation.specs.History.{asked, is_import}
-use Rattle.pid_moderation.specs.Files.{file_reading}
-use Rattle.pid_service.specs.Obeying.{Obeys}
+use Rattle.pid_service.proofs.Words.{asked, Command, file_reading, is_import, most_file_bytes, Obeys}
 use Rattle.pid_service.proofs.ImportCauses.{Faults}
 use Rattle.pid_service.proofs.Keeping.{true_not}
 use Rattle.pid_service.proofs.Lasting.{lasting}

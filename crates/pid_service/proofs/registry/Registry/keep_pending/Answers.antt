@@ -45,5 +45,3 @@ pub returns-in-Err : goal.returns-in-Err
 returns-in-Err g c =
     answers_fault g.S.Store c.args.self.now _ c.in-Err.fault c.refusal_of.result _ c.if-not-self.false refl refl c.read_pending_numbers.ensures.rests c.refusal_of.ensures.same c.refusal_of.ensures.fault
     (λ clean h shows. c.in-Err.ensures.told clean (views_of h) shows.tables (c.reached_histories_are_kept.ensures.readable h shows.history))
-
--- ---- the numbers were read before

@@ -1,13 +1,6 @@
 use Rattle.std.proofs.Common.{◌≡◌, inl, inr, true, false, Ok, ap, refl, sym, rules, ◌∙◌}
-use Rattle.pid_moderation.specs.History.{Asked, History, is_import}
-use Rattle.pid_moderation.specs.CheckTables.{is_broken}
-use Rattle.pid_moderation.specs.Judgement.{answer}
-use Rattle.pid_moderation.specs.Views.{views_of}
-use Rattle.pid_moderation.specs.Files.{asks, file_of, file_reading, reading_of}
-use Rattle.pid_service.specs.Histories.{Shows}
-use Rattle.pid_service.specs.Obeying.{Obeys}
 use Rattle.pid_service.specs.Registries.{HasCleanDisk}
-use Rattle.pid_service.specs.Steps.Judging.{JudgesCommand}
+use Rattle.pid_service.proofs.Words.{answer, Asked, asks, file_of, file_reading, History, is_broken, is_import, JudgesCommand, Obeys, reading_of, Shows, views_of}
 use Rattle.pid_service.proofs.ImportCauses.{bad_text}
 use Rattle.pid_service.proofs.Imported.{file_given}
 use Rattle.pid_service.proofs.Keeping.{true_not}

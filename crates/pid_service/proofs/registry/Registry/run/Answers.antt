@@ -1,10 +1,7 @@
 use Rattle.std.proofs.Common.{◌≡◌, ℕ, ◌+◌, ◌<◌, ◌≤◌, List, [], ◌∷◌, Some, length, vec_capacity, vec_len, length-append, take, drop, map, suc, not, true, false, is_ok, is_some, inl, refl, rules, sym, ap, subst, ◌∙◌, arith}
-use Rattle.pid_moderation.specs.declared.refusal.Refusal.TheVariants.{Failed, Memory}
-use Rattle.pid_moderation.specs.History.{Asked}
-use Rattle.pid_moderation.specs.Judgement.{after_all}
-use Rattle.pid_moderation.specs.Files.{asks}
+use Rattle.pid_moderation.specs.declared.refusal.Refusal.TheVariants.{Memory}
 use Rattle.std.specs.List.{AllByRecursion}
-use Rattle.pid_service.specs.Running.{ObeysInTurn, ReplyIsNotFailed}
+use Rattle.pid_service.proofs.Words.{after_all, Asked, asks, Failed, ObeysInTurn, ReplyIsNotFailed}
 use Rattle.pid_service.proofs.Keeping.{true_not}
 use Rattle.pid_service.proofs.Lasting.{given_live, on_after, some_fault}
 use Rattle.pid_service.proofs.Runs.{ends_at, next_is, no_room, none_next, none_of, obeyed_more, one_more, runs_all, runs_none, so_many, some_not, turn_ends, turn_more, turn_none, turn_short, turn_stops}

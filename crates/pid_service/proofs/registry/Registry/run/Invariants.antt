@@ -1,11 +1,7 @@
 use Rattle.std.proofs.Common.{◌≡◌, ◌≤◌, true, length, take, map, vec_capacity, vec_len}
 use Rattle.std.specs.List.{AllByRecursion}
-use Rattle.pid_moderation.specs.History.{History}
-use Rattle.pid_moderation.specs.Judgement.{answers, after_all}
-use Rattle.pid_moderation.specs.Files.{asks}
-use Rattle.pid_service.specs.Histories.{Shows}
-use Rattle.pid_service.specs.Registries.{HasCleanDisk, KeepsLimit, is_live}
-use Rattle.pid_service.specs.Running.{ReplyIsNotFailed, ObeysInTurn}
+use Rattle.pid_service.specs.Registries.{HasCleanDisk}
+use Rattle.pid_service.proofs.Words.{after_all, answers, asks, History, is_live, KeepsLimit, ObeysInTurn, ReplyIsNotFailed, Shows}
 use Rattle.pid_service.proofs.registry.Registry.run.Given as goal
 
 abbrev pub invariant-loop-command : goal.invariant-loop-command

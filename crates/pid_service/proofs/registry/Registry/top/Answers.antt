@@ -1,9 +1,7 @@
 use Rattle.std.proofs.Common.{Option, subst, ◌∙◌}
 use Rattle.std.specs.Prelude.{Vec}
 use Rattle.std.specs.declared.alloc.Global.{Global}
-use Rattle.pid_moderation.specs.declared.lists.Item.{Item}
-use Rattle.pid_moderation.specs.Views.{views_of}
-use Rattle.pid_service.specs.KeptViews.{HoldsTop}
+use Rattle.pid_service.proofs.Words.{HoldsTop, Item, views_of}
 use Rattle.pid_service.proofs.Keeping.{true_not}
 use Rattle.pid_service.proofs.Questions.{answered_here, failed_here, short_here}
 use Rattle.pid_service.proofs.TopItems.{copied_holds}

@@ -1,11 +1,6 @@
 use Rattle.std.proofs.Common.{rules, refl}
-use Rattle.sqlite.specs.Held.{state}
-use Rattle.pid_moderation.specs.History.{History}
-use Rattle.pid_moderation.specs.Writes.{tree_of}
-use Rattle.pid_moderation.specs.declared.refusal.Refusal.TheVariants.{Failed}
 use Rattle.pid_tables.proofs.OfCheck.Asking.{nothing_read}
-use Rattle.pid_service.specs.Histories.{Shows}
-use Rattle.pid_service.specs.Steps.Asking.{OnlyAsked}
+use Rattle.pid_service.proofs.Words.{Failed, History, OnlyAsked, Shows, state, tree_of}
 use Rattle.pid_service.proofs.QueriesMet.{looks}
 use Rattle.pid_service.proofs.Keeping.{true_not}
 use Rattle.pid_service.proofs.CallsMet.{failed_gives, looked_up}

@@ -1,9 +1,8 @@
 use Rattle.pid_moderation.specs.Files.{asks}
 use Rattle.pid_service.proofs.registry_calls.RegistryRegistryCalls.obey.Goals as goal
 
-pub returns-clause-calls : goal.returns-clause-calls
-returns-clause-calls g c =
-    c.clauses_meet_sessions.ensures.obeys c.args.self.now c.obey_lent-answer.new.self (asks c.args.command) c.obey_lent-answer.result c.obey_lent-answer.ensures.clean c.obey_lent-answer.ensures.failed c.obey_lent-answer.ensures.obeyed
-
-pub returns-clause-own : goal.returns-clause-own
-returns-clause-own g c = c.obey_lent-answer.ensures
+pub returns : goal.returns
+returns g c = record {
+  calls = c.clauses_meet_sessions.ensures.obeys c.args.self.now c.obey_lent-answer.new.self (asks c.args.command) c.obey_lent-answer.result c.obey_lent-answer.ensures.clean c.obey_lent-answer.ensures.failed c.obey_lent-answer.ensures.obeyed;
+  own = c.obey_lent-answer.ensures;
+}

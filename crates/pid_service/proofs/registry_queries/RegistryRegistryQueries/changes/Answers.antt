@@ -1,13 +1,8 @@
 use Rattle.std.proofs.Common.{◌≡◌, ◌≤◌, ℕ, List, map, take, Err, Option, refl, rules, arith, ap, subst, sym, ◌∙◌}
 use Rattle.std.specs.Option.{option_copied}
-use Rattle.pid_file.specs.declared.path.Path.{Path}
-use Rattle.pid_moderation.specs.ChangePages.{ChangePage, Changed, changed_after, changed_of, start_text}
-use Rattle.pid_moderation.specs.declared.lists.ChangedItem.{ChangedItem}
-use Rattle.pid_moderation.specs.Views.{since_of, views_of}
-use Rattle.pid_moderation.specs.declared.lists.TheConstants.{PAGE}
+use Rattle.pid_moderation.specs.ChangePages.{Changed}
 use Rattle.pid_tables.proofs.OfRows.OnlyReading.{reads_then}
-use Rattle.pid_service.specs.KeptViews.{HoldsChanges}
-use Rattle.pid_service.specs.declared.changes.KeptChanges.{KeptChanges}
+use Rattle.pid_service.proofs.Words.{changed_after, changed_of, ChangedItem, ChangePage, HoldsChanges, KeptChanges, PAGE, Path, since_of, start_text, views_of}
 use Rattle.pid_service.proofs.Keeping.{true_not}
 use Rattle.pid_service.proofs.Obeyed.{only_read}
 use Rattle.pid_service.proofs.QueriesMet.{promised}

@@ -1,7 +1,6 @@
 use Rattle.std.proofs.Common.{◌≡◌, length, rules, refl, ap, ◌∙◌}
-use Rattle.sqlite.specs.Held.{state}
-use Rattle.pid_moderation.specs.Views.{views_of}
 use Rattle.pid_tables.proofs.OfCheck.Asking.{nothing_read}
+use Rattle.pid_service.proofs.Words.{state, views_of}
 use Rattle.pid_service.proofs.Exported.{text_kept, text_told}
 use Rattle.pid_service.proofs.Keeping.{true_not}
 use Rattle.pid_service.proofs.QueriesMet.{promised}

@@ -1,7 +1,5 @@
 use Rattle.std.proofs.Common.{◌≡◌, ℕ, List, Option, ap, refl, ◌∙◌}
-use Rattle.pid_moderation.specs.History.{History}
-use Rattle.pid_moderation.specs.Views.{rank_of}
-use Rattle.pid_moderation.specs.declared.rank.Rank.{Rank}
+use Rattle.pid_service.proofs.Words.{History, Rank, rank_of}
 use Rattle.pid_service.proofs.QueriesMet.{promised}
 use Rattle.pid_service.proofs.Questions.{answers_read, failed_here}
 use Rattle.pid_service.proofs.registry_queries.RegistryRegistryQueries.rank.Goals as goal

@@ -1,7 +1,5 @@
 use Rattle.std.proofs.Common.{◌≡◌, ap, refl, true}
-use Rattle.pid_moderation.specs.RegistryStatus.{RegistryStatus, registry_status_of}
-use Rattle.pid_moderation.specs.Views.{views_of}
-use Rattle.pid_service.specs.Registries.{is_live}
+use Rattle.pid_service.proofs.Words.{is_live, registry_status_of, RegistryStatus, views_of}
 use Rattle.pid_service.proofs.Keeping.{true_not}
 use Rattle.pid_service.proofs.QueriesMet.{promised}
 use Rattle.pid_service.proofs.Questions.{answers_fault, answers_refused, answers_then, live_after}

@@ -1,7 +1,6 @@
 use Rattle.std.proofs.Common.{inl, inr, refl, rules}
-use Rattle.sqlite.specs.Held.{state}
 use Rattle.pid_tables.proofs.OfCheck.Asking.{nothing_read}
-use Rattle.pid_moderation.specs.Views.{views_of}
+use Rattle.pid_service.proofs.Words.{state, views_of}
 use Rattle.pid_service.proofs.Causes.{caused_by}
 use Rattle.pid_service.proofs.QueriesMet.{promised_if_there}
 use Rattle.pid_service.proofs.Keeping.{true_not}
