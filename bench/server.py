@@ -385,6 +385,8 @@ ROWS = [
         of_both_sizes(same("/submissions?author=author-1"), middle), 3),
     Row("submissions-path", "the one for a path, the second of all, so", OURS,
         of_both_sizes(same("/submissions?path=PC/0000/0001"), middle), 3),
+    Row("submissions-next", "the same, first after a change", OURS,
+        next_of_both(same("/submissions?path=PC/0000/0001")), 3),
     Row("account", "`GET /account`, 1,000,000 submissions / 1,000", OURS,
         of_both_sizes(same("/account?who=root")), 5),
     Row("status", "`GET /status`, so", OURS, of_both_sizes(same("/status")), 5),

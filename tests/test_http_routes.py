@@ -17,6 +17,9 @@ MANY = b"".join(b"%04x  a\n" % vendor for vendor in range(65_536)) + b"".join(
     b"\t%04x  a\n" % device for device in range(34_465)
 )
 
+# More than a server holds of a body, and fewer than it takes.
+LONG = b"10ec  Realtek\n" + b"#" * 3_000_000
+
 # The target, the account and the body of a command, and the refusal, 0 where it is accepted.
 COMMANDS = [
     ("/account", "root", b"who=alice&rank=0", 0),
@@ -78,6 +81,7 @@ COMMANDS = [
     ("/withdraw", "alice", b"num=4", 0),
     ("/withdraw", "alice", b"num=4", 8),
     ("/import", None, b"10ec  Realtek\n", 3),
+    ("/import", None, LONG, 3),
     ("/import", "carol", b"10ec  Realtek\n", 4),
     ("/import", "bob", b"10ec  Realtek\n", 5),
     ("/import", "mona", b"10ec  Realtek\n10ec \n", 14),

@@ -12,7 +12,7 @@ import time
 
 import pytest
 
-from program import HEADER, REAL_FILE, WHOLE
+from program import HEADER, REAL_FILE, WHOLE, into_left
 from registry import asked, script, work
 from script_rows import ROWS
 
@@ -27,6 +27,23 @@ def look_up(folder, text, *words):
     with open(path, "wb") as file:
         file.write(text)
     return work(b"", "lookup", "--ids", path, *words)
+
+
+def test_nobody_reads(cases, folder):
+    """A reader that has gone away shows by the status alone, whatever the job."""
+    path, names = os.path.join(folder, "r.db"), os.path.join(folder, "names")
+    with open(names, "wb") as file:
+        file.write(ROW_10)
+    cases.equal("a registry", script(path, "import root file=8086++Intel")[2], 0)
+    for text, *words in (
+        (b"", "export", "--db", path),
+        (b"export\n", "script", "--db", path),
+        (b"pending\n", "script"),
+        (b"", "lookup", "--ids", names, "--flags", "1", "--vendor", "8086"),
+        (b"", "import", "--db", path, "--account", "root", names),
+        (b"", "migrate", "--db", path),
+    ):
+        cases.equal(f"{' '.join(words)}: nobody reads", into_left(text, *words), (b"", 3))
 
 
 def test_look_ups(cases, folder):

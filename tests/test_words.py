@@ -50,19 +50,6 @@ def of_folder(*words):
     return ran.stdout, ran.stderr, ran.returncode
 
 
-def into_left(text, *words):
-    """What the program reports if the reader of its standard output has gone away."""
-    there, here = os.pipe()
-    os.close(there)
-    try:
-        ran = subprocess.run(
-            [program.PROGRAM, *words], input=text, stdout=here, stderr=subprocess.PIPE, timeout=60
-        )
-    finally:
-        os.close(here)
-    return ran.stderr, ran.returncode
-
-
 def first_line(text):
     """The first line of the output, what is reported and the status, if nothing more than that line
     is read."""
@@ -104,7 +91,7 @@ def test_asked_for(cases, either):
         cases.equal(word, (ran.out, ran.err, ran.status), (b"pciids 0.1.0\n", b"", 0))
     for words in (["--help"], ["help"], ["check", "-h"], ["--version"], ["-V"]):
         cases.equal(f"{words}: no room for it", into_full(*words), (b"file: failed\n", 3))
-        cases.equal(f"{words}: nobody reads it", into_left(b"", *words), (b"", 3))
+        cases.equal(f"{words}: nobody reads it", program.into_left(b"", *words), (b"", 3))
 
 
 def test_wrong_arguments(cases):
@@ -141,11 +128,11 @@ def test_files_that_fail(cases, either):
         cases.equal(
             f"{words}: a folder as the input", of_folder(*words), (b"", b"file: failed\n", 3)
         )
-        cases.equal(f"{words}: nobody reads the output", into_left(TEXT, *words), (b"", 3))
-    cases.equal("check: nobody reads the fault", into_left(b"\t1237  X", "check"), (b"", 3))
+        cases.equal(f"{words}: nobody reads the output", program.into_left(TEXT, *words), (b"", 3))
+    cases.equal("check: nobody reads the fault", program.into_left(b"\t1237  X", "check"), (b"", 3))
     cases.equal(
         "tidy: a fault, and nobody reads the output",
-        into_left(b"\t1237  X"),
+        program.into_left(b"\t1237  X"),
         (b"line 1: 3 NoParent\n", 1),
     )
     many = b"".join(b"%04x  a name\n" % vendor for vendor in range(65_536))

@@ -65,6 +65,19 @@ def run(text, *words):
     return Ran(subprocess.run(words, input=text, capture_output=True, timeout=60))
 
 
+def into_left(text, *words):
+    """What the program reports, and its status, if the reader of its standard output has gone."""
+    there, here = os.pipe()
+    os.close(there)
+    try:
+        ran = subprocess.run(
+            [PROGRAM, *words], input=text, stdout=here, stderr=subprocess.PIPE, timeout=60
+        )
+    finally:
+        os.close(here)
+    return ran.stderr, ran.returncode
+
+
 def tidy(text):
     """Without arguments the program prints the canonical text."""
     return run(text)
