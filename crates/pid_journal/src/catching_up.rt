@@ -16,7 +16,7 @@ ghost use Rattle.std.specs.Prelude.{
 };
 ghost use Rattle.pid_service_laws.specs.CallLaws.{StaysClean};
 ghost use Rattle.pid_journal.specs.Openings.{IsRefused};
-ghost use Rattle.pid_journal.specs.Steps.Comparing.{Brings, ComparesSegment};
+ghost use Rattle.pid_journal.specs.Steps.Comparing.{BringsOn, ComparesSegment};
 ghost use Rattle.pid_journal.specs.Steps.Opening.{
   EndsFile,
   IsLeftWhole,
@@ -102,8 +102,8 @@ pub(crate) fn follow_segment<R: RegistryQueries, F: JournalFolder>(
     folder: &mut F,
     begin: u64,
 ) -> Result<F::Segment, OpenFault>
-    ensures brings { Brings R.showing F.JournalFolder registry.old registry.new folder.old folder.new
-        (begin ∷ []) result }
+    ensures brings { BringsOn R.showing F.JournalFolder registry.old registry.new folder.old
+        folder.new (begin ∷ []) result }
     ensures followed { FollowsSegment R.RegistryCalls F.Segment.JournalFile F.JournalFolder
         registry.old registry.new folder.old begin result }
     ensures compared { ComparesSegment R.showing F.JournalFolder registry.old registry.new folder.old

@@ -1,7 +1,6 @@
 //! Where in a journal a registry stands.
 ghost use Rattle.std.specs.Prelude.{◌≡◌, ◌<◌, ◌≤◌, IfOk, MatchResult};
 ghost use Rattle.pid_file.specs.WholeLines.{whole_lines};
-ghost use Rattle.pid_script.specs.ScriptLines.{is_idle_line};
 ghost use Rattle.pid_journal.specs.Steps.Comparing.{Compares, ComparesLine};
 ghost use Rattle.pid_journal.specs.Steps.Places.{FindsPlace, IsEndOf, IsSaid, IsNextPlace};
 ghost use Rattle.pid_journal.specs.Steps.Reads.{OfText, OnlyReads, left_in};
@@ -12,6 +11,7 @@ use crate::open_fault::OpenFault;
 use crate::segment_text::SegmentText;
 use pid_moderation::Refusal;
 use pid_reader::without_cr;
+use pid_script::is_idle;
 use std::alloc::{AllocError, Global};
 
 /// What a line says of what was held.
@@ -39,13 +39,6 @@ pub enum Step {
     Here,
     Behind(Place),
     Nowhere,
-}
-
-// Whether a line is empty, or a comment.
-fn is_idle(line: &[u8]) -> bool
-    ensures { result ≡ is_idle_line line.now }
-{
-    matches!(line, [] | [b'#', ..])
 }
 
 fn said_by(alloc: Global, line: &[u8]) -> Result<LineCounts, AllocError>

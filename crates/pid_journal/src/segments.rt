@@ -16,7 +16,7 @@ ghost use Rattle.std.specs.Prelude.{
 };
 ghost use Rattle.std.specs.Ordering.{nat_cmp};
 ghost use Rattle.pid_journal.specs.Openings.{IsRefused};
-ghost use Rattle.pid_journal.specs.Steps.Comparing.{Brings, ComparesAll, SkipsLate};
+ghost use Rattle.pid_journal.specs.Steps.Comparing.{BringsOn, ComparesAll, SkipsLate};
 ghost use Rattle.pid_journal.specs.Steps.Segments.{
   AsksRevision,
   FollowsAll,
@@ -88,8 +88,8 @@ fn pass_segment<R: RegistryQueries, F: JournalFolder>(
     begin: u64,
     next: u64,
 ) -> Result<bool, OpenFault>
-    ensures brings { Brings R.showing F.JournalFolder registry.old registry.new folder.old folder.new
-        (begin ∷ []) result }
+    ensures brings { BringsOn R.showing F.JournalFolder registry.old registry.new folder.old
+        folder.new (begin ∷ []) result }
     ensures passed { PassesSegment R.RegistryCalls F.Segment.JournalFile F.JournalFolder
         registry.old registry.new folder.old begin next result }
     ensures still { IfOk result (λ moved. moved ≡ false → StaysQuiet R.showing F.JournalFolder
@@ -120,8 +120,8 @@ pub(crate) fn follow_all<R: RegistryQueries, F: JournalFolder>(
     folder: &mut F,
     begins: &[u64],
 ) -> Result<Option<F::Segment>, OpenFault>
-    ensures brings { Brings R.showing F.JournalFolder registry.old registry.new folder.old folder.new
-        begins.now result }
+    ensures brings { BringsOn R.showing F.JournalFolder registry.old registry.new folder.old
+        folder.new begins.now result }
     ensures followed { FollowsAll R.RegistryCalls F.Segment.JournalFile F.JournalFolder registry.old
         registry.new folder.old begins.now result }
     ensures compared { ComparesAll R.showing F.JournalFolder registry.old registry.new folder.old

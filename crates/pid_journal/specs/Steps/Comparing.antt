@@ -98,7 +98,7 @@ module _ {R : Type 0} (w : Showing R) where
         (λ fault. StopsAtOne w (FollowsInTurn (folder.text_in f) names h) new)
 
     -- what becomes of a registry that is brought on along these, and of the folder
-    pub record Brings {X : Type 0} (old new : R) (f g : F) (names : List ℕ)
+    pub record BringsOn {X : Type 0} (old new : R) (f g : F) (names : List ℕ)
         (result : Result X OpenFault) : Type 0 where
       pub honest : StaysClean w old new
       pub same : IsSameFolder folder f g
