@@ -1,41 +1,45 @@
 //! Why a pci.ids file could not be read, or was refused.
 
 use crate::terminal::prefix::Prefix;
-use crate::terminal::say::{say_cannot, say_of};
+use crate::terminal::say::say;
 use pid_cli_help::{looks_of, reason_of};
 use pid_file::LARGEST;
 use std::fs;
 use std::fs::File;
 use std::io::ErrorKind;
 
+const OPEN: &str = "cannot open ";
+
+const READ: &str = "cannot read ";
+
 /// How a regular file begins; or which step fails, and why. What is no regular file is not opened,
 /// since that may wait.
 pub fn prefix_of(rt: &HostRuntime, path: &str) -> Result<Prefix, (&'static str, ErrorKind)> {
     match fs::metadata(rt, path) {
-        Err(error) => Err(("open", error.kind())),
-        Ok(found) if found.is_dir() => Err(("read", ErrorKind::IsADirectory)),
-        Ok(found) if !found.is_file() => Err(("read", ErrorKind::Other)),
+        Err(error) => Err((OPEN, error.kind())),
+        Ok(found) if found.is_dir() => Err((READ, ErrorKind::IsADirectory)),
+        Ok(found) if !found.is_file() => Err((READ, ErrorKind::Other)),
         Ok(_) => match File::open(rt, path) {
-            Err(error) => Err(("open", error.kind())),
-            Ok(mut file) => Prefix::read(&mut file).map_err(|error| ("read", error.kind())),
+            Err(error) => Err((OPEN, error.kind())),
+            Ok(mut file) => Prefix::read(&mut file).map_err(|error| (READ, error.kind())),
         },
     }
 }
 
 /// Says why a file could not be opened or read. It is looked at again.
 pub fn explain_unread(rt: &HostRuntime, path: &str) {
-    let (step, fault) = match prefix_of(rt, path) {
-        Ok(_) => ("read", ErrorKind::Other),
+    let (front, fault) = match prefix_of(rt, path) {
+        Ok(_) => (READ, ErrorKind::Other),
         Err(fault) => fault,
     };
-    say_cannot(rt, step, path, reason_of(fault));
+    say(rt, front, path, ": ", reason_of(fault));
 }
 
 /// Says what a file looks like whose lines were refused, if its first bytes say it.
 pub fn explain_looks(rt: &HostRuntime, path: &str) {
     if let Ok(prefix) = prefix_of(rt, path) {
         if let Some(looks) = looks_of(prefix.as_bytes()) {
-            say_of(rt, path, looks);
+            say(rt, "", path, " ", looks);
         }
     }
 }
@@ -44,7 +48,7 @@ pub fn explain_looks(rt: &HostRuntime, path: &str) {
 pub fn explain_size(rt: &HostRuntime, path: &str) {
     if let Ok(found) = fs::metadata(rt, path) {
         if found.len() > LARGEST as u64 {
-            say_of(rt, path, "is larger than 4,194,304 bytes");
+            say(rt, "", path, " ", "is larger than 4,194,304 bytes");
         }
     }
 }

@@ -2,12 +2,14 @@
 
 use crate::job::Job;
 use crate::terminal::files::prefix_of;
+use crate::terminal::say::say;
+use itoa::Buffer;
 use pid_cli_help::reason_of;
 use sqlite_disk::Unknown;
 use sqlite_std_file::{OpenError, open};
 use std::fs;
 use std::fs::File;
-use std::io::{ErrorKind, Write};
+use std::io::ErrorKind;
 use std::net::{IpAddr, Ipv4Addr, SocketAddr, TcpListener};
 
 /// How each SQLite database begins.
@@ -75,9 +77,9 @@ pub fn explain_port(rt: &HostRuntime, job: Job<'_>) {
         return;
     };
     let address = SocketAddr::new(IpAddr::V4(Ipv4Addr::new(127, 0, 0, 1)), port);
-    let (step, reason) = match TcpListener::bind(rt, address) {
-        Err(error) => ("listen on", reason_of(error.kind())),
-        Ok(_) => ("go on with", "it failed, but is free now"),
+    let (front, reason) = match TcpListener::bind(rt, address) {
+        Err(error) => ("cannot listen on port ", reason_of(error.kind())),
+        Ok(_) => ("cannot go on with port ", "it failed, but is free now"),
     };
-    let _ = write!(rt.stderr(), "pciids: cannot {step} port {port}: {reason}\n");
+    say(rt, front, Buffer::new().format(port), ": ", reason);
 }

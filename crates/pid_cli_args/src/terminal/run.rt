@@ -5,13 +5,13 @@ use crate::terminal::files::{explain_looks, explain_size, explain_unread};
 use crate::terminal::lines::{Lines, ScriptInput, script_input};
 use crate::terminal::prefix::Prefix;
 use crate::terminal::reasons::{explain_port, reason_of_folder, reason_of_store};
-use crate::terminal::say::{say_cannot, say_of};
+use crate::terminal::say::say;
 use crate::terminal::seen::{Looks, Seen};
 use crate::terminal::values::{explain_lookup, explain_sender};
 use pid_cli_help::{Met, Noted, explain_streams, is_for_a_person, report_input};
 use std::cell::Cell;
 use std::fs;
-use std::io::{Stderr, Stdin, Stdout, Write};
+use std::io::{Stderr, Stdin, Stdout};
 
 /// A run, and what is said of it at a terminal. Where standard error is no terminal, only a registry
 /// that an `export` made is spoken of.
@@ -91,14 +91,11 @@ impl<'r> Run<'r> {
             return;
         }
         self.is_awaited.set(false);
-        let (how, journal) = match journal {
-            Some(folder) if is_by_journal => ("it was made, with the commands of ", folder),
-            _ => ("a new, empty registry was made", ""),
+        let (between, what) = match journal {
+            Some(folder) if is_by_journal => (MADE_BY, folder),
+            _ => (" was not there: ", "a new, empty registry was made"),
         };
-        let _ = write!(
-            self.rt.stderr(),
-            "pciids: {path} was not there: {how}{journal}\n"
-        );
+        say(self.rt, "", path, between, what);
     }
 
     fn explain_fault(&self, fault: &str, read: &Met, written: &Met) {
@@ -108,16 +105,11 @@ impl<'r> Run<'r> {
             ("file: failed", Some(ids)) if written.fault.is_none() => explain_unread(rt, ids),
             ("file: failed", _) => explain_streams(rt, 3, read, written),
             ("socket: failed", _) => explain_port(rt, self.job),
-            ("open: Store", _) => say_cannot(rt, "open", registry, reason_of_store(rt, registry)),
-            ("open: Damaged", _) => say_of(rt, registry, DAMAGED),
-            ("journal: Another", _) => say_of(rt, journal, ANOTHER),
-            ("journal: Missing", _) => say_of(rt, journal, MISSING),
-            ("journal: failed", _) => say_cannot(
-                rt,
-                "open",
-                journal,
-                reason_of_folder(rt, journal),
-            ),
+            ("open: Store", _) => say(rt, OPEN, registry, ": ", reason_of_store(rt, registry)),
+            ("open: Damaged", _) => say(rt, "", registry, " ", DAMAGED),
+            ("journal: Another", _) => say(rt, "", journal, " ", ANOTHER),
+            ("journal: Missing", _) => say(rt, "", journal, " ", MISSING),
+            ("journal: failed", _) => say(rt, OPEN, journal, ": ", reason_of_folder(rt, journal)),
             (fault, Some(ids)) if fault.starts_with("line ") => explain_looks(rt, ids),
             _ => {}
         }
@@ -142,6 +134,10 @@ impl<'r> Run<'r> {
         }
     }
 }
+
+const OPEN: &str = "cannot open ";
+
+const MADE_BY: &str = " was not there: it was made, with the commands of ";
 
 const DAMAGED: &str = "is damaged: see 'When something fails' in OPERATE.md";
 

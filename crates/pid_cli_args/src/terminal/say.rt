@@ -2,12 +2,7 @@
 
 use std::io::Write;
 
-/// Says what a file or a folder is or does.
-pub fn say_of(rt: &HostRuntime, path: &str, what: &str) {
-    let _ = write!(rt.stderr(), "pciids: {path} {what}\n");
-}
-
-/// Says that a file or a folder cannot be opened or read, and why.
-pub fn say_cannot(rt: &HostRuntime, step: &str, path: &str, why: &str) {
-    let _ = write!(rt.stderr(), "pciids: cannot {step} {path}: {why}\n");
+/// Says what a file is or does, or after a front such as `cannot open `, why not.
+pub fn say(rt: &HostRuntime, front: &str, path: &str, between: &str, what: &str) {
+    let _ = write!(rt.stderr(), "pciids: {front}{path}{between}{what}\n");
 }

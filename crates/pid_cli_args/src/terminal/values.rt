@@ -6,23 +6,28 @@ use std::io::Write;
 
 /// Says which values of a lookup break their rules.
 pub fn explain_lookup(rt: &HostRuntime, words: &LookupArgs<'_>) {
-    let values = [
-        ("flags", Some(words.flags), 1, 8, "1 to 8 hex digits"),
-        ("size", words.size, 1, 9, "1 to 9 decimal digits"),
-        ("vendor", words.vendor, 4, 4, "4 hex digits"),
-        ("device", words.device, 4, 4, "4 hex digits"),
-        ("subvendor", words.subvendor, 4, 4, "4 hex digits"),
-        ("subdevice", words.subdevice, 4, 4, "4 hex digits"),
-        ("class", words.class, 4, 4, "4 hex digits"),
-        ("progif", words.progif, 2, 2, "2 hex digits"),
-    ];
-    for (name, value, least, most, rule) in values {
-        let Some(value) = value else {
-            continue;
-        };
-        if value.len() < least || value.len() > most || !are_digits(value, name != "size") {
-            explain(rt, name, rule, value);
-        }
+    explain_digits(rt, "flags", Some(words.flags), (1, 8), "1 to 8 hex digits");
+    explain_digits(rt, "size", words.size, (1, 9), "1 to 9 decimal digits");
+    explain_digits(rt, "vendor", words.vendor, (4, 4), "4 hex digits");
+    explain_digits(rt, "device", words.device, (4, 4), "4 hex digits");
+    explain_digits(rt, "subvendor", words.subvendor, (4, 4), "4 hex digits");
+    explain_digits(rt, "subdevice", words.subdevice, (4, 4), "4 hex digits");
+    explain_digits(rt, "class", words.class, (4, 4), "4 hex digits");
+    explain_digits(rt, "progif", words.progif, (2, 2), "2 hex digits");
+}
+
+fn explain_digits(
+    rt: &HostRuntime,
+    name: &str,
+    value: Option<&str>,
+    (least, most): (usize, usize),
+    rule: &str,
+) {
+    let Some(value) = value else {
+        return;
+    };
+    if value.len() < least || value.len() > most || !are_digits(value, name != "size") {
+        explain(rt, name, rule, value);
     }
 }
 
