@@ -12,6 +12,7 @@ use Rattle.pid_moderation.specs.Items.{Items}
 use Rattle.pid_moderation.specs.Judgement.{Outcome, Refused, Repeated, Accepts, unless, unless_kept, judge, answer}
 use Rattle.pid_moderation.specs.Views.{Views, views_of}
 use Rattle.pid_moderation.proofs.NeverFailed.{is_judged, judged_answer}
+use Rattle.pid_moderation.proofs.ReceiptsStay.{facts-kept}
 use Rattle.pid_service_laws.specs.Outcomes.{is_outcome}
 
 abbrev pub asks : List ℕ → Option (List ℕ) → Deed → Asked
@@ -21,21 +22,6 @@ abbrev pub entry : Asked → Reply → Accepted
 entry c reply = record { asked = c; reply = reply }
 
 -- THE KEPT REPLY
-
-with_item-kept : (v : Views) (o : Option NamedSubmission) (f : Facts) → (with_item_facts v o f).kept ≡ f.kept
-with_item-kept v None f = refl
-with_item-kept v (Some s) f = refl
-
-looked_at-kept : (v : Views) (w : Wanted) (f : Facts) → (looked_at v w f).kept ≡ f.kept
-looked_at-kept v (ItemOf n) f = with_item-kept v (named v n) f
-looked_at-kept v w f = refl
-
-with_file-kept : (items : Items) (deed : Deed) (f : Facts) → (with_file items deed f).kept ≡ f.kept
-with_file-kept items (Imports reading) f = refl
-with_file-kept items deed f = refl
-
-facts-kept : (v : Views) (c : Asked) → (facts_of v c).kept ≡ kept_in v c.account c.key
-facts-kept v c = with_file-kept v.items c.deed (looked_at v (wanted c.deed) (known v c.account c.key)) ∙ looked_at-kept v (wanted c.deed) (known v c.account c.key)
 
 -- a judgement, of what it looks at
 abbrev shown : Bool → Option Reply → Option Refusal → Reply → Outcome

@@ -12,11 +12,9 @@ use Rattle.pid_moderation.specs.Views.{views_of, kept_of, receipted}
 use Rattle.pid_service_laws.specs.Acknowledged.{IsAcceptedIn}
 use Rattle.pid_service_laws.specs.KeptReplies.{IsKept, KeepsOutcome, KeepsSent}
 use Rattle.pid_service_laws.specs.Sessions.{Sent, AreJudged, after_sent, commands_in}
+use Rattle.pid_moderation.proofs.Knowing.{same_text}
 use Rattle.pid_service_laws.proofs.Judging.{asks, entry, old_key}
 use Rattle.pid_service_laws.proofs.Staying.{stay}
-
-same_text : (t : List ℕ) → bytes_eq t t ≡ true
-same_text t = (bytes_eq-Decides t t).1 refl
 
 pub own_kept : (h : History) (account key : List ℕ) (deed : Deed) (reply : Reply) → kept_in (views_of (More (entry (asks account (Some key) deed) reply) h)) account (Some key) ≡ Some reply
 own_kept h account key deed reply = rw (same_text account, same_text key) refl

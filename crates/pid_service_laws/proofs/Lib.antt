@@ -7,4 +7,3 @@ pub mod Settling
 pub mod SessionLaws
 pub mod Calling
 pub mod WorkedSessions
-pub mod WorkedRegistry

@@ -27,7 +27,8 @@ use pid_moderation::{
     SubmissionPage,
 };
 
-/// A registry under moderation, as HTTP asks it.
+/// A registry under moderation, as HTTP asks it: by questions, and by `import_from`, which obeys an
+/// import whose file comes as an input.
 ///
 /// Each question is answered by the history that the registry shows, while its store returns what
 /// was written to it. It is refused if memory runs out, or if the store or the registry has failed.
