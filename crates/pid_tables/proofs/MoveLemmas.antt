@@ -1,5 +1,5 @@
 -- What the move of the tables leaves.
-use Rattle.std.proofs.Common.{◌≡◌, inl, inr, true, false, Ok, Err, Result, IsErrAnd, IfErr, IfOk, OnErr, OnOk, IsTrue, refl, sym, subst, ◌∙◌}
+use Rattle.std.proofs.Common.{◌≡◌, inl, inr, true, false, Ok, Err, Result, IsErrAnd, IfErr, IfOk, OnErr, OnOk, IsTrue, refl, sym, subst, ◌∙◌, arith}
 use Rattle.sqlite.proofs.Callers.{survives_begin}
 use Rattle.sqlite.proofs.StateLemmas.{survives_then}
 use Rattle.sqlite.specs.Effect.{Database}
@@ -102,6 +102,10 @@ known (Ok x) p = p
 known (Err e) p = tt
 
 -- ---- calls in a transaction
+
+-- nothing was asked of the transaction
+pub goes_nowhere : {X : Type 0} (s : State) (e : TableFault) (r : Result X TableFault) → IsErrAnd r (λ y. y ≡ e) → GoesOn s s r
+goes_nowhere s e r is = record { survives = record { clean = omega arith; shield = λ h. h; counts = omega arith; limit = refl; closes = λ clean opened. inl opened; crash = λ clean db may. inl may }; was_open = λ clean opened. opened; committed = λ clean inside opened. refl; going = λ clean inside. not_on_ok r e _ is }
 
 pub goes_value : {X Y : Type 0} (a b : State) (x : X) (y : Y) → GoesOn {E = TableFault} a b (Ok x) → GoesOn {E = TableFault} a b (Ok y)
 goes_value a b x y goes = record { survives = goes.survives; was_open = goes.was_open; committed = goes.committed; going = goes.going }

@@ -40,7 +40,7 @@ ghost use Rattle.pid_tables.specs.Rows.Clauses.{
   is_open,
   seen,
 };
-ghost use Rattle.pid_tables.specs.Rows.Steps.Clauses.{ChangesTo, GoesOn, LeadsTo};
+ghost use Rattle.pid_tables.specs.Rows.Steps.Clauses.{ChangesTo, LeadsTo};
 
 use crate::putting::{Put, put_text};
 use crate::rows::TableFault;
@@ -67,9 +67,7 @@ fn submit<S: Alter>(
     proposal: &Proposal,
     note: &Text,
 ) -> Result<(), TableFault>
-    ensures same_reference { batch.new.conn.ghost_name ≡ batch.old.conn.ghost_name }
-    ensures goes { GoesOn S.Store batch.old.conn.now batch.new.conn.now result }
-    ensures shows { LeadsTo S.Store batch.old.conn.now batch.new.conn.now result
+    ensures { LeadsTo S.Store batch.old batch.new result
         (record {
           IsFor = λ c v. number ≡ length v.submits + 1;
           recount = λ c. record c { submissions = number };
@@ -91,9 +89,7 @@ fn edit_item<S: Alter>(
     edit: &Edit,
     revision: u64,
 ) -> Result<(), TableFault>
-    ensures same_reference { batch.new.conn.ghost_name ≡ batch.old.conn.ghost_name }
-    ensures goes { GoesOn S.Store batch.old.conn.now batch.new.conn.now result }
-    ensures shows { ChangesTo S.Store batch.old.conn.now batch.new.conn.now result
+    ensures { ChangesTo S.Store batch.old batch.new result
         (λ v. FitsEdit edit.now (name_at path.now v.items))
         (λ v. with_items revision (edited path.now edit.now v.items) v) }
 {
@@ -112,9 +108,7 @@ fn decision<S: Alter>(
     write: &Option<Write>,
     revision: u64,
 ) -> Result<(), TableFault>
-    ensures same_reference { batch.new.conn.ghost_name ≡ batch.old.conn.ghost_name }
-    ensures goes { GoesOn S.Store batch.old.conn.now batch.new.conn.now result }
-    ensures shows { LeadsTo S.Store batch.old.conn.now batch.new.conn.now result
+    ensures { LeadsTo S.Store batch.old batch.new result
         (record {
           IsFor = λ c v. IsSome (submission_at number v.submits) × FitsWrite write.now v.items;
           recount = recounted (Effect.Decided number state.now write.now);
@@ -140,9 +134,7 @@ fn write_effect<S: Alter>(
     effect: &Effect,
     revision: u64,
 ) -> Result<(), TableFault>
-    ensures same_reference { batch.new.conn.ghost_name ≡ batch.old.conn.ghost_name }
-    ensures goes { GoesOn S.Store batch.old.conn.now batch.new.conn.now result }
-    ensures shows { LeadsTo S.Store batch.old.conn.now batch.new.conn.now result
+    ensures { LeadsTo S.Store batch.old batch.new result
         (turn_of effect.now (affected revision effect.now)) }
 {
     match effect {
@@ -175,9 +167,7 @@ fn write_change<S: Alter>(
     alloc: Global,
     change: &Change,
 ) -> Result<(), TableFault>
-    ensures same_reference { batch.new.conn.ghost_name ≡ batch.old.conn.ghost_name }
-    ensures goes { GoesOn S.Store batch.old.conn.now batch.new.conn.now result }
-    ensures shows { WritesChange S.Store batch.old.conn.now batch.new.conn.now result change.now }
+    ensures { WritesChange S.Store batch.old batch.new result change.now }
 {
     write_effect(batch, alloc, &change.effect, change.revision)?;
     set_revision(batch, change.revision)?;

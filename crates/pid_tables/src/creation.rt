@@ -30,14 +30,13 @@ ghost use Rattle.pid_tables.specs.Steps.MakingTables.{
 };
 ghost use Rattle.pid_tables.specs.Steps.Making.{
   AddsLabels,
-  CarriesOut,
   MakesRegistry,
+  CarriesInside,
   all_statements,
   all_tables,
   label_statements,
 };
 ghost use Rattle.pid_tables.specs.Rows.Clauses.{HasCleanDisk, is_open, seen};
-ghost use Rattle.pid_tables.specs.Rows.Steps.Clauses.{GoesOn};
 ghost use Rattle.pid_tables.specs.Clauses.{
   IsNameTaken,
   MakesNew,
@@ -84,15 +83,12 @@ const ITEM_SINCE: &str =
         CASCADE, since INTEGER NOT NULL) STRICT";
 
 fn make_table<S: Alter>(tx: &mut Transaction<'_, S>, sql: &str) -> Result<(), TableFault>
-    ensures same_reference { tx.new.conn.ghost_name ≡ tx.old.conn.ghost_name }
-    ensures goes { GoesOn S.Store tx.old.conn.now tx.new.conn.now result }
+    ensures works { CarriesInside S.Store tx.old tx.new result ((sql.now, []) ∷ []) }
     ensures made { (before : List Table) (table : Table) → Creates before sql.now table
         → (making before).tables ≡ before
         → Makes S.Store tx.old.conn.now tx.new.conn.now result before (before ++ table ∷ []) }
     ensures takes { (name : List ℕ) → IsMakerOf sql.now name
         → Takes S.Store tx.old.conn.now tx.new.conn.now result (name ∷ []) }
-    ensures carried { CarriesOut S.Store tx.old.conn.now tx.new.conn.now result
-        ((sql.now, []) ∷ []) }
 {
     write_one(tx, sql, &[])
 }
@@ -104,8 +100,8 @@ fn make_three<S: Alter>(
     second: &str,
     third: &str,
 ) -> Result<(), TableFault>
-    ensures same_reference { tx.new.conn.ghost_name ≡ tx.old.conn.ghost_name }
-    ensures goes { GoesOn S.Store tx.old.conn.now tx.new.conn.now result }
+    ensures works { CarriesInside S.Store tx.old tx.new result
+        ((first.now, []) ∷ (second.now, []) ∷ (third.now, []) ∷ []) }
     ensures made { (before : List Table) (a b c : Table)
         → CreatesInTurn before ((first.now, a) ∷ (second.now, b) ∷ (third.now, c) ∷ [])
         → Makes S.Store tx.old.conn.now tx.new.conn.now result before
@@ -113,8 +109,6 @@ fn make_three<S: Alter>(
     ensures takes { (a b c : List ℕ) → IsMakerOf first.now a → IsMakerOf second.now b
         → IsMakerOf third.now c
         → Takes S.Store tx.old.conn.now tx.new.conn.now result (a ∷ b ∷ c ∷ []) }
-    ensures carried { CarriesOut S.Store tx.old.conn.now tx.new.conn.now result
-        ((first.now, []) ∷ (second.now, []) ∷ (third.now, []) ∷ []) }
 {
     make_table(tx, first)?;
     make_table(tx, second)?;
@@ -122,11 +116,9 @@ fn make_three<S: Alter>(
 }
 
 fn make_tables<S: Alter>(tx: &mut Transaction<'_, S>) -> Result<(), TableFault>
-    ensures same_reference { tx.new.conn.ghost_name ≡ tx.old.conn.ghost_name }
-    ensures goes { GoesOn S.Store tx.old.conn.now tx.new.conn.now result }
+    ensures works { CarriesInside S.Store tx.old tx.new result all_statements }
     ensures made { Makes S.Store tx.old.conn.now tx.new.conn.now result [] all_tables }
     ensures takes { Takes S.Store tx.old.conn.now tx.new.conn.now result table_names }
-    ensures carried { CarriesOut S.Store tx.old.conn.now tx.new.conn.now result all_statements }
 {
     make_three(tx, META, ACCOUNT, ITEM)?;
     make_three(tx, SUBMISSION, REMARK, RECEIPT)?;
@@ -138,16 +130,14 @@ fn add_label<S: Alter>(
     label: &str,
     value: u32,
 ) -> Result<(), TableFault>
-    ensures same_reference { tx.new.conn.ghost_name ≡ tx.old.conn.ghost_name }
-    ensures goes { GoesOn S.Store tx.old.conn.now tx.new.conn.now result }
+    ensures works { CarriesInside S.Store tx.old tx.new result
+        ((new_label_text, Text label.now ∷ number value ∷ []) ∷ []) }
     ensures never { IfErr result IsNotNewerSchema }
     ensures added { HasCleanDisk S.Store tx.new.conn.now → IsTrue tx.old.conn.now.in_transaction
         → (m : Map (List ℕ) ℕ) → HasOnlyMeta m (seen S.Store tx.old.conn.now)
         → m label.now ≡ None
         → MatchResult result (λ _. HasOnlyMeta (with_label label.now value m)
         (seen S.Store tx.new.conn.now)) IsMemoryOrStore }
-    ensures carried { CarriesOut S.Store tx.old.conn.now tx.new.conn.now result
-        ((new_label_text, Text label.now ∷ number value ∷ []) ∷ []) }
 {
     let label = label.to_sql();
     let value = value.to_sql();
@@ -159,12 +149,10 @@ fn add_label<S: Alter>(
 }
 
 fn add_labels<S: Alter>(tx: &mut Transaction<'_, S>) -> Result<(), TableFault>
-    ensures same_reference { tx.new.conn.ghost_name ≡ tx.old.conn.ghost_name }
-    ensures goes { GoesOn S.Store tx.old.conn.now tx.new.conn.now result }
+    ensures works { CarriesInside S.Store tx.old tx.new result label_statements }
     ensures never { IfErr result IsNotNewerSchema }
     ensures added { AddsLabels S.Store tx.old.conn.now tx.new.conn.now result (λ _. None)
         (meta_of (record { items = 0; submissions = 0 }) 0) }
-    ensures carried { CarriesOut S.Store tx.old.conn.now tx.new.conn.now result label_statements }
 {
     add_label(tx, "revision", 0)?;
     add_label(tx, "submissions", 0)?;
@@ -173,16 +161,13 @@ fn add_labels<S: Alter>(tx: &mut Transaction<'_, S>) -> Result<(), TableFault>
 }
 
 fn make_registry<S: Alter>(tx: &mut Transaction<'_, S>) -> Result<(), TableFault>
-    ensures same_reference { tx.new.conn.ghost_name ≡ tx.old.conn.ghost_name }
-    ensures goes { GoesOn S.Store tx.old.conn.now tx.new.conn.now result }
+    ensures works { CarriesInside S.Store tx.old tx.new result registry_statements }
     ensures filled { MakesRegistry S.Store tx.old.conn.now tx.new.conn.now result }
     ensures never { HasCleanDisk S.Store tx.new.conn.now → IsTrue tx.old.conn.now.in_transaction
         → IfErr result IsNotNewerSchema }
     ensures refused { HasCleanDisk S.Store tx.new.conn.now → IsTrue tx.old.conn.now.in_transaction
         → (IsTrue (is_open S.Store tx.old.conn.now) → IsNameTaken S.Store tx.old.conn.now)
         → MatchResult result (λ _. ⊥) IsNotNewerSchema }
-    ensures carried { CarriesOut S.Store tx.old.conn.now tx.new.conn.now result
-        registry_statements }
 {
     make_tables(tx)?;
     add_labels(tx)?;

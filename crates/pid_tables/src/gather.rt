@@ -76,7 +76,6 @@ impl<S: Alter + Drop> Tables<S> {
         account: &Account,
         key: &Option<Key>,
     ) -> Result<KnownFacts, TableFault>
-        requires { self.old.conn.in_transaction ≡ false }
         ensures { Reads S.Store self.old.conn self.new.conn result
             (λ v known. bare known ≡ known_of v account.now key.now) }
     {
@@ -89,7 +88,7 @@ impl<S: Alter + Drop> Tables<S> {
                 revision,
             });
         };
-        let kept = kept_reply(&mut self.conn, account.as_str(), key.as_str())?;
+        let kept = kept_reply(self, account.as_str(), key.as_str())?;
         Ok(KnownFacts {
             rank,
             kept,
@@ -102,10 +101,9 @@ impl<S: Alter + Drop> Tables<S> {
         alloc: Global,
         number: u32,
     ) -> Result<Option<NamedSubmission>, TableFault>
-        requires { self.old.conn.in_transaction ≡ false }
         ensures { Reads S.Store self.old.conn self.new.conn result (λ v named. named ≡ named_in v number) }
     {
-        match standing(&mut self.conn, alloc, number) {
+        match standing(self, alloc, number) {
             Ok(None) => Ok(None),
             Ok(Some(found)) => Ok(Some(NamedSubmission {
                 author: found.author,
@@ -119,16 +117,14 @@ impl<S: Alter + Drop> Tables<S> {
 
     /// The name of the item at a path.
     pub fn item(&mut self, alloc: Global, path: &Path) -> Result<Option<Name>, TableFault>
-        requires { self.old.conn.in_transaction ≡ false }
         ensures { Reads S.Store self.old.conn self.new.conn result
             (λ v name. name ≡ name_at (path_text path.now) v.items) }
     {
         let path = path.path_text(alloc)?;
-        item_name(&mut self.conn, alloc, path.as_str())
+        item_name(self, alloc, path.as_str())
     }
 
     fn has_parent(&mut self, alloc: Global, path: Path) -> Result<bool, TableFault>
-        requires { self.old.conn.in_transaction ≡ false }
         ensures { Reads S.Store self.old.conn self.new.conn result
             (λ v there. there ≡ holds_parent (parent_text (path_text path)) v.items) }
     {
@@ -142,7 +138,6 @@ impl<S: Alter + Drop> Tables<S> {
     }
 
     fn place_at(&mut self, alloc: Global, path: Path) -> Result<ItemPlace, TableFault>
-        requires { self.old.conn.in_transaction ≡ false }
         ensures { Reads S.Store self.old.conn self.new.conn result
             (λ v place. AllItems v.items → HoldsParents v.items
             → place ≡ record {
@@ -154,7 +149,7 @@ impl<S: Alter + Drop> Tables<S> {
     {
         let items = self.items()?;
         let has_parent = self.has_parent(alloc, path)?;
-        let has_children = has_children(&mut self.conn, alloc, path)?;
+        let has_children = has_children(self, alloc, path)?;
         match self.item(alloc, &path) {
             Ok(present) => Ok(ItemPlace {
                 items,
@@ -173,11 +168,10 @@ impl<S: Alter + Drop> Tables<S> {
         number: u32,
         known: KnownFacts,
     ) -> Result<Facts, TableFault>
-        requires { self.old.conn.in_transaction ≡ false }
         ensures { Reads S.Store self.old.conn self.new.conn result
             (λ v facts. facts ≡ looked_at v (RemarksOf number) (bare known)) }
     {
-        let remarks = remark_count(&mut self.conn, number)?;
+        let remarks = remark_count(self, number)?;
         match self.submission_facts(alloc, number) {
             Ok(named) => {
                 let mut facts = plain_facts(known, None, 0, named);
@@ -195,7 +189,6 @@ impl<S: Alter + Drop> Tables<S> {
         number: u32,
         known: KnownFacts,
     ) -> Result<Facts, TableFault>
-        requires { self.old.conn.in_transaction ≡ false }
         ensures { Reads S.Store self.old.conn self.new.conn result
             (λ v facts. AllItems v.items → HoldsParents v.items
             → facts ≡ with_item_facts v (named_in v number) (bare known)) }
@@ -232,7 +225,6 @@ impl<S: Alter + Drop> Tables<S> {
         rows: Rows<'_>,
         known: KnownFacts,
     ) -> Result<Facts, TableFault>
-        requires { self.old.conn.in_transaction ≡ false }
         ensures { Reads S.Store self.old.conn self.new.conn result
             (λ v facts. AllItems v.items → HoldsParents v.items
             → facts ≡ looked_at v (wanted_by rows.entry) (bare known)) }
@@ -267,7 +259,6 @@ impl<S: Alter + Drop> Tables<S> {
         key: &Option<Key>,
         rows: Rows<'_>,
     ) -> Result<Facts, TableFault>
-        requires { self.old.conn.in_transaction ≡ false }
         ensures { Reads S.Store self.old.conn self.new.conn result
             (λ v facts. AllItems v.items → HoldsParents v.items
             → facts ≡ facts_at v account.now key.now (wanted_by rows.entry)) }

@@ -1,5 +1,4 @@
 //! What is known of an import before its file is read.
-ghost use Rattle.std.specs.Prelude.{◌≡◌, false};
 ghost use Rattle.pid_moderation.specs.History.{History};
 ghost use Rattle.pid_moderation.specs.Sound.{IsSound};
 ghost use Rattle.pid_moderation.specs.Views.{views_of};
@@ -33,7 +32,6 @@ pub fn judge_import<S: Alter + Drop>(
     alloc: Global,
     command: &Command,
 ) -> Early
-    requires { tables.old.conn.in_transaction ≡ false }
     ensures rests { OnlyReads S.Store tables.old.conn tables.new.conn }
     ensures judged { HasCleanDisk S.Store tables.new.conn → (h : History) → IsSound h
         → AtRest S.Store tables.old.conn (views_of h) → IsJudgedEarly h command.now result }

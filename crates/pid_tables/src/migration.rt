@@ -58,27 +58,27 @@ pub enum Step {
 }
 
 // Whether there are tables, and their labels name schema 2. Labels that cannot be read name none.
-fn is_current<S: Alter>(conn: &mut Connection<S>) -> Result<bool, TableFault>
-    requires { conn.old.in_transaction ≡ false }
-    ensures rests { OnlyReads S.Store conn.old conn.new }
-    ensures bare { HasCleanDisk S.Store conn.new → HasNoTable (seen S.Store conn.old).schema
+fn is_current<S: Alter + Drop>(tables: &mut Tables<S>) -> Result<bool, TableFault>
+    ensures rests { OnlyReads S.Store tables.old.conn tables.new.conn }
+    ensures bare { HasCleanDisk S.Store tables.new.conn
+        → HasNoTable (seen S.Store tables.old.conn).schema
         → IfOk result (λ is. is ≡ false) }
-    ensures shown { HasCleanDisk S.Store conn.new
+    ensures shown { HasCleanDisk S.Store tables.new.conn
         → (version : Version) (counts : Counts) (numbers : Numbers) (v : Views)
-        → (IsTrue (is_open S.Store conn.old)
-        → ShowsKeeping version counts numbers (seen S.Store conn.old) v)
+        → (IsTrue (is_open S.Store tables.old.conn)
+        → ShowsKeeping version counts numbers (seen S.Store tables.old.conn) v)
         → IfOk result (λ is. is ≡ is_latest version) }
-    ensures named { HasCleanDisk S.Store conn.new
-        → IfOk result (λ is. is ≡ true → NamesLatest (seen S.Store conn.old)) }
-    ensures was_open { HasCleanDisk S.Store conn.new
-        → OnOk result (IsTrue (is_open S.Store conn.old)) }
+    ensures named { HasCleanDisk S.Store tables.new.conn
+        → IfOk result (λ is. is ≡ true → NamesLatest (seen S.Store tables.old.conn)) }
+    ensures was_open { HasCleanDisk S.Store tables.new.conn
+        → OnOk result (IsTrue (is_open S.Store tables.old.conn)) }
     ensures only_store { IfErr result IsMemoryOrStore }
 {
     crate::check::laws::schemas_have_tables(); // proof only
-    if !has_some_table(conn)? {
+    if !has_some_table(tables)? {
         return Ok(false);
     }
-    match schema_number(conn) {
+    match schema_number(tables) {
         Ok(number) => Ok(number == LATEST),
         Err(TableFault::Damaged) => Ok(false),
         Err(fault) => Err(fault),
@@ -128,7 +128,6 @@ impl<S: Alter + Drop> Tables<S> {
     // The schema of the tables; none if there is no table. Those of schema 1 are judged, those of
     // schema 2 are not.
     fn schema_found(&mut self, alloc: Global) -> Result<Option<Version>, TableFault>
-        requires { self.old.conn.in_transaction ≡ false }
         ensures rests { OnlyReads S.Store self.old.conn self.new.conn }
         ensures same { IsTrue (is_open S.Store self.new.conn)
             → (seen S.Store self.new.conn) ≡ (seen S.Store self.old.conn) }
@@ -139,7 +138,7 @@ impl<S: Alter + Drop> Tables<S> {
     {
         crate::check::laws::sound_histories_are_registries(); // proof only
         crate::laws::all_is_committed_outside_transactions(&self.conn); // proof only
-        if is_current(&mut self.conn)? {
+        if is_current(self)? {
             return Ok(Some(Version::Two));
         }
         self.check(alloc)
@@ -156,7 +155,6 @@ impl<S: Alter + Drop> Tables<S> {
     /// than `Memory` and `Store` changes nothing; after those two the connection shows what it
     /// showed, and the call may be made again.
     pub fn migrate(&mut self, alloc: Global) -> Result<Step, TableFault>
-        requires { self.old.conn.in_transaction ≡ false }
         // Whatever there is, it is one step.
         ensures at_once { WritesAtOnce S.Store self.old.conn self.new.conn result }
         ensures shown { MigratesShown S.Store self.old.conn self.new.conn result }

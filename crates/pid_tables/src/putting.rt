@@ -5,7 +5,6 @@ ghost use Rattle.pid_tables.specs.Puts.{put_over};
 ghost use Rattle.pid_tables.specs.Steps.Clauses.{TellsWithin};
 ghost use Rattle.pid_tables.specs.Rows.Steps.Answers.{name_row};
 ghost use Rattle.pid_tables.specs.Rows.Writes.{with_name};
-ghost use Rattle.pid_tables.specs.Rows.Steps.Clauses.{ChangesTo, GoesOn};
 
 use crate::rows::TableFault;
 use crate::rows::item::{add_item, rename_item};
@@ -45,11 +44,7 @@ fn compare<S: Alter>(
     path: &str,
     name: &str,
 ) -> Result<Put, TableFault>
-    ensures same_reference { batch.new.conn.ghost_name ≡ batch.old.conn.ghost_name }
-    ensures goes { GoesOn S.Store batch.old.conn.now batch.new.conn.now result }
-    ensures shows { ChangesTo S.Store batch.old.conn.now batch.new.conn.now result (λ v. Unit {0})
-        (λ v. v) }
-    ensures found { TellsWithin S.Store batch.old.conn.now batch.new.conn.now result
+    ensures { TellsWithin S.Store batch.old batch.new result (λ v. v)
         (λ v put. put ≡ put_over name.now (name_at path.now v.items)) }
 {
     let path = path.to_sql();
@@ -63,11 +58,8 @@ pub(crate) fn put_text<S: Alter>(
     name: &str,
     revision: u64,
 ) -> Result<Put, TableFault>
-    ensures same_reference { batch.new.conn.ghost_name ≡ batch.old.conn.ghost_name }
-    ensures goes { GoesOn S.Store batch.old.conn.now batch.new.conn.now result }
-    ensures shows { ChangesTo S.Store batch.old.conn.now batch.new.conn.now result (λ v. Unit {0})
-        (with_name revision path.now name.now) }
-    ensures told { TellsWithin S.Store batch.old.conn.now batch.new.conn.now result
+    ensures { TellsWithin S.Store batch.old batch.new result
+        (with_name revision path.now name.now)
         (λ v put. put ≡ put_over name.now (name_at path.now v.items)) }
 {
     let put = compare(batch, path, name)?;

@@ -16,11 +16,13 @@ use sqlite::{Alter, Connection};
 #[derive(Drop)]
 pub struct Tables<S: Alter + Drop> {
     pub conn: Connection<S>,
+    ghost settled: { conn.in_transaction ≡ false },
 }
 
 impl<S: Alter + Drop> Tables<S> {
     /// The tables of an open connection, which is kept as it is: nothing is read, made or checked.
     pub fn new(conn: Connection<S>) -> Tables<S>
+        requires { conn.in_transaction ≡ false }
         ensures { result.conn ≡ conn }
     {
         Tables { conn }
@@ -40,13 +42,12 @@ impl<S: Alter + Drop> Tables<S> {
     /// What the labels have is what the query of the label answers first, whatever other tables
     /// there are; if that is no number of 32 bits, the tables are `Damaged`.
     pub fn version(&mut self) -> Result<u32, TableFault>
-        requires { self.old.conn.in_transaction ≡ false }
         ensures rests { OnlyReads S.Store self.old.conn self.new.conn }
         ensures told { Tells S.Store self.old.conn self.new.conn result (λ v n. n ≡ 2) }
         ensures shown { TellsSchema S.Store self.old.conn self.new.conn result }
     {
-        if has_some_table(&mut self.conn)? {
-            schema_number(&mut self.conn)
+        if has_some_table(self)? {
+            schema_number(self)
         } else {
             Ok(0)
         }

@@ -1,5 +1,5 @@
 -- Steps of Clauses: what private clauses say of a transaction.
-use Rattle.std.specs.Prelude.{Result, IfOk, IsTrue, MatchResult}
+use Rattle.std.specs.Prelude.{◌≡◌, Result, IfOk, IsTrue, MatchResult}
 use Rattle.sqlite_trees.specs.declared.store.Store.{Ghosts}
 use Rattle.pid_moderation.specs.declared.change.Change.{Change}
 use Rattle.pid_moderation.specs.Changes.{changed, FitsViews}
@@ -12,6 +12,8 @@ use Rattle.pid_tables.specs.Applies.{CountsFit}
 use Rattle.std.specs.Prelude.{ℕ, List, Option}
 use Rattle.sqlite.specs.Held.{Held, state}
 use Rattle.sqlite.specs.Table.{Table}
+use Rattle.sqlite.specs.declared.transaction.Transaction.{Transaction}
+use Rattle.pid_tables.specs.Rows.Steps.Turns.{GoesOn, LeadsTo, changing}
 use Rattle.pid_tables.specs.declared.rows.version.Version.{Version}
 use Rattle.pid_tables.specs.declared.rows.version.Version.TheVariants.{One}
 use Rattle.pid_tables.specs.Steps.MakingTables as making
@@ -29,11 +31,16 @@ module _ {S : Type 0} (store : Ghosts S) where
   abbrev pub FindsShown : Held S → Held S → Result (Option Version) TableFault → Type 0
   FindsShown old new result = steps.FindsShown (state store old) (state store new) result
 
-  -- what is answered is so of the views that the transaction showed
-  abbrev pub TellsWithin : {X : Type 0} → Held S → Held S → Result X TableFault
-      → (Views → X → Type 0) → Type 0
-  TellsWithin old new result Says = HasCleanDisk store new → (c : Counts) (v : Views)
-      → ShowsCounting c (seen store old) v → IfOk result (Says v)
+  -- A call in a transaction, which goes on: it makes the views the next ones, and what it answers
+  -- is so of those that the transaction showed.
+  pub record TellsWithin {X : Type 0} (old new : Transaction S) (result : Result X TableFault)
+      (next : Views → Views) (Says : Views → X → Type 0) : Type 0 where
+    pub same_reference : new.conn.ghost_name ≡ old.conn.ghost_name
+    pub goes : GoesOn (state store old.conn.now) (state store new.conn.now) result
+    pub shows : LeadsTo (state store old.conn.now) (state store new.conn.now) result
+        (changing (λ v. Unit {0}) next)
+    pub told : HasCleanDisk store new.conn.now → (c : Counts) (v : Views)
+        → ShowsCounting c (seen store old.conn.now) v → IfOk result (Says v)
 
   -- If the transaction, while it is open, shows views in schema 1, it answers a value only with it
   -- showing the same in schema 2, and a fault only if there is no memory, or if the store failed or
@@ -44,9 +51,14 @@ module _ {S : Type 0} (store : Ghosts S) where
       → (IsTrue (is_open store old) → ShowsKeeping One c (numbers_in v) (seen store old) v)
       → MatchResult result (λ _. ShowsCounting c (seen store new) v) IsMemoryOrStore
 
-  -- if the transaction shows views to which the change fits, it shows the changed ones then
-  abbrev pub WritesChange : {X : Type 0} → Held S → Held S → Result X TableFault → Change → Type 0
-  WritesChange old new result change = HasCleanDisk store new → IsTrue old.in_transaction
-      → (counts : Counts) (v : Views) → ShowsCounting counts (seen store old) v
-      → CountsFit change.effect counts v → FitsViews change v
-      → MatchResult result (λ _. Shows (seen store new) (changed change v)) IsMemoryOrStore
+  -- a call in a transaction, which goes on: if that shows views to which the change fits, it shows
+  -- the changed ones then
+  pub record WritesChange {X : Type 0} (old new : Transaction S) (result : Result X TableFault)
+      (change : Change) : Type 0 where
+    pub same_reference : new.conn.ghost_name ≡ old.conn.ghost_name
+    pub goes : GoesOn (state store old.conn.now) (state store new.conn.now) result
+    pub shows : HasCleanDisk store new.conn.now → IsTrue old.conn.now.in_transaction
+        → (counts : Counts) (v : Views) → ShowsCounting counts (seen store old.conn.now) v
+        → CountsFit change.effect counts v → FitsViews change v
+        → MatchResult result (λ _. Shows (seen store new.conn.now) (changed change v))
+        IsMemoryOrStore

@@ -1,7 +1,8 @@
 -- Steps of Making: the first rows of a new registry.
-use Rattle.std.specs.Prelude.{ℕ, List, [], ◌∷◌, ◌++◌, codes, Result, IsTrue, MatchResult, OnOk}
-use Rattle.sqlite.specs.Held.{Held}
+use Rattle.std.specs.Prelude.{◌≡◌, ℕ, List, [], ◌∷◌, ◌++◌, codes, Result, IsTrue, MatchResult, OnOk}
+use Rattle.sqlite.specs.Held.{Held, state}
 use Rattle.sqlite.specs.Table.{Table}
+use Rattle.sqlite.specs.declared.transaction.Transaction.{Transaction}
 use Rattle.sqlite.specs.declared.types.Value.TheVariants.{Text}
 use Rattle.sqlite_trees.specs.declared.store.Store.{Ghosts}
 use Rattle.pid_moderation.specs.History.{new_history}
@@ -13,6 +14,7 @@ use Rattle.pid_tables.specs.Rows.PairRows.{Map}
 use Rattle.pid_tables.specs.Rows.Schema as tables
 use Rattle.pid_tables.specs.Rows.Schema.{latest}
 use Rattle.pid_tables.specs.Rows.Shows.{Shows}
+use Rattle.pid_tables.specs.Rows.Steps.Turns.{GoesOn}
 use Rattle.pid_tables.specs.Rows.TableRows.{number}
 use Rattle.pid_tables.specs.Creation.{AreMade}
 use Rattle.pid_tables.specs.Statements as texts
@@ -53,6 +55,13 @@ module _ {S : Type 0} (store : Ghosts S) where
       → Type 0
   CarriesOut old new result statements = HasCleanDisk store new → IsTrue old.in_transaction
       → OnOk result (CarriedOut store statements old new)
+
+  -- a step of the making inside a transaction, which goes on
+  pub record CarriesInside {X : Type 0} (old new : Transaction S) (result : Result X TableFault)
+      (statements : List Statement) : Type 0 where
+    pub same_reference : new.conn.ghost_name ≡ old.conn.ghost_name
+    pub goes : GoesOn (state store old.conn.now) (state store new.conn.now) result
+    pub carried : CarriesOut old.conn.now new.conn.now result statements
 
   -- a step that adds labels: meta has these rows before, and those then
   abbrev pub AddsLabels : {X : Type 0} → Held S → Held S → Result X TableFault → Map (List ℕ) ℕ

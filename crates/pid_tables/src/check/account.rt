@@ -1,6 +1,5 @@
 //! Accounts: each has a name and a rank, `root` is one, and some account is an administrator.
-ghost use Rattle.std.specs.Prelude.{◌≡◌, ◌↔◌, false, IsTrue};
-ghost use Rattle.pid_tables.specs.Rows.Clauses.{OnlyReads};
+ghost use Rattle.std.specs.Prelude.{◌↔◌, false, IsTrue};
 ghost use Rattle.pid_tables.specs.Check.Conditions.{IsAccountRow};
 ghost use Rattle.pid_tables.specs.Check.Steps.Clauses.{KeepsTable};
 ghost use Rattle.pid_tables.specs.Check.Steps.Keeping.{KeepsAccounts};
@@ -10,8 +9,9 @@ use crate::check::read::{RowFold, fold_rows};
 use crate::check::shape::Table;
 use crate::check::value::{is_number_at, is_within, text_at};
 use crate::rows::TableFault;
+use crate::tables::Tables;
 use pid_ident::is_account;
-use sqlite::{Alter, Connection, Row};
+use sqlite::{Alter, Row};
 use std::alloc::Global;
 use std::collections::BTreeSet;
 
@@ -59,13 +59,11 @@ impl RowFold for Accounts {
 }
 
 /// Reads the accounts, and judges whether they are those of a registry.
-pub(crate) fn read_accounts<S: Alter>(
-    conn: &mut Connection<S>,
+pub(crate) fn read_accounts<S: Alter + Drop>(
+    tables: &mut Tables<S>,
     alloc: Global,
 ) -> Result<Accounts, TableFault>
-    requires { conn.old.in_transaction ≡ false }
-    ensures rests { OnlyReads S.Store conn.old conn.new }
-    ensures keeps { KeepsTable S.Store conn.old conn.new result table.Account
+    ensures { KeepsTable S.Store tables.old.conn tables.new.conn result table.Account
         KeepsAccounts }
 {
     let mut accounts = Accounts {
@@ -74,7 +72,7 @@ pub(crate) fn read_accounts<S: Alter>(
         administrator: false,
         names: BTreeSet::new(alloc),
     };
-    fold_rows(conn, Table::Account, &mut accounts)?;
+    fold_rows(tables, Table::Account, &mut accounts)?;
     accounts.good &= accounts.names.contains("root") & accounts.administrator;
     Ok(accounts)
 }

@@ -3,8 +3,6 @@ ghost use Rattle.std.specs.Prelude.{
   ◌≡◌,
   ◌⊎◌,
   ◌↔◌,
-  ◌++◌,
-  ◌∷◌,
   ℕ,
   List,
   [],
@@ -15,6 +13,7 @@ ghost use Rattle.std.specs.Prelude.{
 };
 ghost use Rattle.std.specs.BTreeMap.{get_by_text};
 ghost use Rattle.sqlite.specs.Order.{Row as Values};
+ghost use Rattle.pid_tables.specs.Check.Steps.Reading.{TakesRow};
 ghost use Rattle.pid_tables.specs.Check.Steps.AuthorSets.{
   AreAuthorsOf,
   HasPlace,
@@ -103,9 +102,7 @@ fn insert_place(
 
 /// Adds the number and the author of a row.
 pub(crate) fn add_author(authors: &mut Authors, alloc: Global, row: &Row) -> Result<(), TableFault>
-    ensures added { (rows : List Values) → AreAuthorsOf authors.old rows
-        → OnOk result (AreAuthorsOf authors.new (rows ++ row.now ∷ [])) }
-    ensures only_store { IfErr result IsMemoryOrStore }
+    ensures { TakesRow result (AreAuthorsOf authors.old) (AreAuthorsOf authors.new) row.now }
 {
     let Some(submission) = number_at(row, 0) else {
         return Ok(());

@@ -18,23 +18,21 @@ use crate::check::shape::{SIX, has_some_table, some_can, tables_of};
 use crate::check::tables::read_tables;
 use crate::rows::{TableFault, Version};
 use crate::tables::Tables;
-use sqlite::{Alter, Connection};
+use sqlite::Alter;
 use std::alloc::Global;
 
-fn check_rows<S: Alter>(
-    conn: &mut Connection<S>,
+fn check_rows<S: Alter + Drop>(
+    tables: &mut Tables<S>,
     alloc: Global,
     version: Version,
     labels: Labels,
 ) -> Result<(), TableFault>
-    requires { conn.old.in_transaction ≡ false }
-    ensures rests { OnlyReads S.Store conn.old conn.new }
-    ensures told { JudgesRows S.Store conn.old conn.new result
+    ensures { JudgesRows S.Store tables.old.conn tables.new.conn result
         (λ d. HasTables version d.schema × ShowsLabels d labels)
         (λ d x. ShowsRegistry version d) (TellsDamage version) }
 {
     let revision = revision_told(labels);
-    let judged = read_tables(conn, alloc, version, revision)?;
+    let judged = read_tables(tables, alloc, version, revision)?;
     if !judged.good {
         return Err(TableFault::Damaged);
     }
@@ -45,25 +43,25 @@ fn check_rows<S: Alter>(
 }
 
 // The schema of the tables, where each of the six is there.
-fn check_tables<S: Alter>(
-    conn: &mut Connection<S>,
+fn check_tables<S: Alter + Drop>(
+    tables: &mut Tables<S>,
     alloc: Global,
 ) -> Result<Option<Version>, TableFault>
-    requires { conn.old.in_transaction ≡ false }
-    ensures rests { OnlyReads S.Store conn.old conn.new }
-    ensures told { HasCleanDisk S.Store conn.new → HasEachTable (seen S.Store conn.old).schema
-        → MatchResult result (FindsVersion (seen S.Store conn.old))
-        (Explains (seen S.Store conn.old)) }
+    ensures rests { OnlyReads S.Store tables.old.conn tables.new.conn }
+    ensures told { HasCleanDisk S.Store tables.new.conn
+        → HasEachTable (seen S.Store tables.old.conn).schema
+        → MatchResult result (FindsVersion (seen S.Store tables.old.conn))
+        (Explains (seen S.Store tables.old.conn)) }
 {
-    let found = tables_of(conn)?;
-    let labels = read_labels(conn)?;
+    let found = tables_of(tables)?;
+    let labels = read_labels(tables)?;
     if let Some(number) = labels.later {
         return Err(TableFault::NewerSchema(number));
     }
     let Some(version) = found else {
         return Err(TableFault::Damaged);
     };
-    check_rows(conn, alloc, version, labels)?;
+    check_rows(tables, alloc, version, labels)?;
     Ok(found)
 }
 
@@ -81,7 +79,6 @@ impl<S: Alter + Drop> Tables<S> {
     /// answers `Memory` and `Store` otherwise, and changes nothing. Other tables, indexes and views
     /// are allowed.
     pub fn check(&mut self, alloc: Global) -> Result<Option<Version>, TableFault>
-        requires { self.old.conn.in_transaction ≡ false }
         ensures rests { OnlyReads S.Store self.old.conn self.new.conn }
         ensures shut { HasCleanDisk S.Store self.new.conn → is_open S.Store self.old.conn ≡ false
             → MatchResult result (λ x. ⊥) IsMemoryOrStore }
@@ -98,11 +95,11 @@ impl<S: Alter + Drop> Tables<S> {
             → MatchResult result (λ found. found ≡ Some schema) IsMemoryOrStore }
     {
         crate::check::laws::sound_histories_are_registries(); // proof only
-        if !some_can(&mut self.conn, &SIX, false)? {
-            return check_tables(&mut self.conn, alloc);
+        if !some_can(self, &SIX, false)? {
+            return check_tables(self, alloc);
         }
-        if has_some_table(&mut self.conn)? {
-            return check_lacking(&mut self.conn);
+        if has_some_table(self)? {
+            return check_lacking(self);
         }
         Ok(None)
     }

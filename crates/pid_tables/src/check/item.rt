@@ -14,7 +14,6 @@ ghost use Rattle.std.specs.Prelude.{
   IfErr,
   OnOk,
 };
-ghost use Rattle.pid_tables.specs.Rows.Clauses.{OnlyReads};
 ghost use Rattle.std.specs.BTreeSet.{contains};
 ghost use Rattle.sqlite.specs.Order.{Row as Values};
 ghost use Rattle.pid_ident.specs.PathTexts.{IsPath, parent_of};
@@ -34,9 +33,10 @@ use crate::check::read::{RowFold, checked_next, fold_rows};
 use crate::check::shape::Table;
 use crate::check::words::{has_name, path_at};
 use crate::rows::TableFault;
+use crate::tables::Tables;
 use pid_ident::Path;
 use pid_moderation::ITEMS;
-use sqlite::{Alter, Connection, Row};
+use sqlite::{Alter, Row};
 use std::alloc::Global;
 use std::collections::BTreeSet;
 
@@ -114,13 +114,11 @@ impl RowFold for Items {
 }
 
 /// Reads the items, and judges whether they are those of a registry.
-pub(crate) fn read_items<S: Alter>(
-    conn: &mut Connection<S>,
+pub(crate) fn read_items<S: Alter + Drop>(
+    tables: &mut Tables<S>,
     alloc: Global,
 ) -> Result<Items, TableFault>
-    requires { conn.old.in_transaction ≡ false }
-    ensures rests { OnlyReads S.Store conn.old conn.new }
-    ensures keeps { KeepsTable S.Store conn.old conn.new result table.Item
+    ensures { KeepsTable S.Store tables.old.conn tables.new.conn result table.Item
         KeepsItems }
 {
     let mut items = Items {
@@ -128,7 +126,7 @@ pub(crate) fn read_items<S: Alter>(
         count: 0,
         paths: BTreeSet::new(alloc),
     };
-    fold_rows(conn, Table::Item, &mut items)?;
+    fold_rows(tables, Table::Item, &mut items)?;
     items.good &= (items.count <= ITEMS as u64) & hold_parents(&items.paths);
     Ok(items)
 }

@@ -16,7 +16,6 @@ ghost use Rattle.std.specs.Prelude.{
 };
 ghost use Rattle.sqlite.specs.Order.{Row as Values};
 ghost use Rattle.pid_moderation.specs.CheckTables.{most_revision};
-ghost use Rattle.pid_tables.specs.Rows.Clauses.{OnlyReads};
 ghost use Rattle.pid_tables.specs.Check.Conditions.{label_row, AreLabels};
 ghost use Rattle.pid_tables.specs.Check.Steps.Clauses.{KeepsTable};
 ghost use Rattle.pid_tables.specs.Check.Steps.Labels.{
@@ -34,8 +33,9 @@ use crate::check::read::{RowFold, fold_rows};
 use crate::check::shape::Table;
 use crate::check::value::{is_text_at, number_at};
 use crate::rows::{LATEST, TableFault, Version};
+use crate::tables::Tables;
 use pid_moderation::REVISIONS;
-use sqlite::{Alter, Connection, Row};
+use sqlite::{Alter, Row};
 
 // The number under a label.
 fn labelled(row: &Row, label: &str) -> Option<u64>
@@ -163,10 +163,8 @@ impl RowFold for Labels {
 }
 
 /// Reads the labels.
-pub(crate) fn read_labels<S: Alter>(conn: &mut Connection<S>) -> Result<Labels, TableFault>
-    requires { conn.old.in_transaction ≡ false }
-    ensures rests { OnlyReads S.Store conn.old conn.new }
-    ensures keeps { KeepsTable S.Store conn.old conn.new result table.Meta
+pub(crate) fn read_labels<S: Alter + Drop>(tables: &mut Tables<S>) -> Result<Labels, TableFault>
+    ensures { KeepsTable S.Store tables.old.conn tables.new.conn result table.Meta
         TakesLabels }
 {
     let mut labels = Labels {
@@ -177,7 +175,7 @@ pub(crate) fn read_labels<S: Alter>(conn: &mut Connection<S>) -> Result<Labels, 
         submissions: Occurrence::Never,
         revision: Occurrence::Never,
     };
-    fold_rows(conn, Table::Meta, &mut labels)?;
+    fold_rows(tables, Table::Meta, &mut labels)?;
     Ok(labels)
 }
 

@@ -2,17 +2,13 @@
 ghost use Rattle.std.specs.Prelude.{
   ◌≡◌,
   ◌↔◌,
-  ◌++◌,
-  ◌∷◌,
   List,
   [],
   length,
   IsTrue,
-  IfErr,
-  OnOk,
 };
 ghost use Rattle.sqlite.specs.Order.{Row as Values};
-ghost use Rattle.pid_tables.specs.Rows.Faults.{IsMemoryOrStore};
+ghost use Rattle.pid_tables.specs.Check.Steps.Reading.{TakesRow};
 ghost use Rattle.pid_tables.specs.Check.Steps.NumberSets.{AreNumbersOf, CountFromOne};
 
 use crate::check::value::number_at;
@@ -40,9 +36,7 @@ pub(crate) fn no_numbers(alloc: Global) -> Numbers
 
 /// Adds the number of a row.
 pub(crate) fn add_number(numbers: &mut Numbers, row: &Row) -> Result<(), TableFault>
-    ensures added { (rows : List Values) → AreNumbersOf numbers.old rows
-        → OnOk result (AreNumbersOf numbers.new (rows ++ row.now ∷ [])) }
-    ensures only_store { IfErr result IsMemoryOrStore }
+    ensures { TakesRow result (AreNumbersOf numbers.old) (AreNumbersOf numbers.new) row.now }
 {
     let Some(num) = number_at(row, 0) else {
         return Ok(());

@@ -1,13 +1,13 @@
 //! The rows of one table, one at a time.
-ghost use Rattle.std.specs.Prelude.{◌≡◌, ◌++◌, ◌∷◌, List, [], suc, false, IfOk, IfErr, OnOk};
+ghost use Rattle.std.specs.Prelude.{◌≡◌, ◌++◌, ◌∷◌, List, [], suc, IfOk, IfErr, OnOk};
 ghost use Rattle.sqlite.specs.Order.{Row as Values};
-ghost use Rattle.pid_tables.specs.Rows.Clauses.{OnlyReads};
 ghost use Rattle.pid_tables.specs.Rows.Faults.{IsMemoryOrStore};
 ghost use Rattle.pid_tables.specs.Check.Steps.Clauses.{KeepsTable};
 
 use crate::check::shape::{Table, query};
 use crate::rows::TableFault;
-use sqlite::{Alter, Connection, Row};
+use crate::tables::Tables;
+use sqlite::{Alter, Row};
 
 /// Keeps of rows what judging them needs.
 pub(crate) trait RowFold {
@@ -25,19 +25,17 @@ pub(crate) trait RowFold {
 }
 
 /// Hands each row of a table to a keeper, in some order: no list of them is made.
-pub(crate) fn fold_rows<S: Alter, K: RowFold>(
-    conn: &mut Connection<S>,
+pub(crate) fn fold_rows<S: Alter + Drop, K: RowFold>(
+    tables: &mut Tables<S>,
     table: Table,
     keeper: &mut K,
 ) -> Result<(), TableFault>
-    requires { conn.old.in_transaction ≡ false }
-    ensures rests { OnlyReads S.Store conn.old conn.new }
-    ensures keeps { KeepsTable S.Store conn.old conn.new result table
+    ensures { KeepsTable S.Store tables.old.conn tables.new.conn result table
         (λ rows x. K.keeps keeper.old [] keeper.old
         → K.keeps keeper.old rows keeper.new) }
 {
     let sql = query(table);
-    let mut rows = conn.query(sql, &[])?;
+    let mut rows = tables.conn.query(sql, &[])?;
     'rows: for _ in 0..usize::MAX {
         let Some(row) = rows.next()? else {
             return Ok(());

@@ -4,7 +4,6 @@ ghost use Rattle.sqlite.specs.declared.types.Value.TheVariants.{Text as TextValu
 ghost use Rattle.sqlite.specs.Order.{column, Row as Values};
 ghost use Rattle.pid_ident.specs.Words.{is_key as key_test};
 ghost use Rattle.pid_tables.specs.Rows.TableRows.{number};
-ghost use Rattle.pid_tables.specs.Rows.Clauses.{OnlyReads};
 ghost use Rattle.pid_tables.specs.Check.Conditions.{IsReceiptRow};
 ghost use Rattle.pid_tables.specs.Check.Steps.Clauses.{KeepsTable};
 ghost use Rattle.pid_tables.specs.Check.Steps.Keeping.{AreOfAuthors};
@@ -21,9 +20,10 @@ use crate::check::read::{RowFold, fold_rows};
 use crate::check::shape::Table;
 use crate::check::value::{is_number_at, number_at, text_at};
 use crate::rows::TableFault;
+use crate::tables::Tables;
 use pid_ident::{is_account, is_key};
 use pid_moderation::ITEMS;
-use sqlite::{Alter, Connection, Row};
+use sqlite::{Alter, Row};
 
 fn sums_within_limit(added: u64, renamed: u64, same: u64) -> bool
     ensures { IsTrue result ↔ (added + renamed + same ≤ 100000) }
@@ -134,19 +134,17 @@ impl RowFold for ReceiptFold<'_> {
 
 /// Reads the receipts, and judges whether they are those of a registry whose submissions have these
 /// authors.
-pub(crate) fn read_receipts<S: Alter>(
-    conn: &mut Connection<S>,
+pub(crate) fn read_receipts<S: Alter + Drop>(
+    tables: &mut Tables<S>,
     authors: &Authors,
 ) -> Result<bool, TableFault>
-    requires { conn.old.in_transaction ≡ false }
-    ensures rests { OnlyReads S.Store conn.old conn.new }
-    ensures keeps { KeepsTable S.Store conn.old conn.new result table.Receipt
+    ensures { KeepsTable S.Store tables.old.conn tables.new.conn result table.Receipt
         (AreOfAuthors authors.now) }
 {
     let mut keeper = ReceiptFold {
         authors,
         good: true,
     };
-    fold_rows(conn, Table::Receipt, &mut keeper)?;
+    fold_rows(tables, Table::Receipt, &mut keeper)?;
     Ok(keeper.good)
 }

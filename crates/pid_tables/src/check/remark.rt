@@ -1,8 +1,7 @@
 //! Remarks: those on a submission count from 1, and none is empty.
-ghost use Rattle.std.specs.Prelude.{◌≡◌, ◌↔◌, ◌++◌, ◌∷◌, List, [], false, IsTrue, IfErr, OnOk};
-ghost use Rattle.sqlite.specs.Order.{Row as Values};
-ghost use Rattle.pid_tables.specs.Rows.Clauses.{OnlyReads};
+ghost use Rattle.std.specs.Prelude.{◌↔◌, false, IsTrue};
 ghost use Rattle.pid_tables.specs.Check.Conditions.{AreRemarks};
+ghost use Rattle.pid_tables.specs.Check.Steps.Reading.{TakesRow};
 ghost use Rattle.pid_tables.specs.Check.Steps.Clauses.{KeepsTable};
 ghost use Rattle.pid_tables.specs.Check.Steps.Keeping.{IsPartJudged};
 ghost use Rattle.pid_tables.specs.declared.check.shape.Table.TheVariants as table;
@@ -12,23 +11,21 @@ ghost use Rattle.pid_tables.specs.Check.Steps.PlaceSets.{
   FollowsPlace,
   IsRemark,
 };
-ghost use Rattle.pid_tables.specs.Rows.Faults.{IsMemoryOrStore};
 
 use crate::check::read::{RowFold, fold_rows};
 use crate::check::shape::Table;
 use crate::check::value::{has_number, has_words, number_at};
 use crate::check::words::has_filled_text;
 use crate::rows::TableFault;
+use crate::tables::Tables;
 use pid_moderation::REMARKS;
-use sqlite::{Alter, Connection, Row};
+use sqlite::{Alter, Row};
 use std::alloc::Global;
 use std::collections::BTreeSet;
 
 // Adds the place of a row.
 fn add_place(places: &mut BTreeSet<(u64, u64)>, row: &Row) -> Result<(), TableFault>
-    ensures added { (rows : List Values) → ArePlacesOf places.old rows
-        → OnOk result (ArePlacesOf places.new (rows ++ row.now ∷ [])) }
-    ensures only_store { IfErr result IsMemoryOrStore }
+    ensures { TakesRow result (ArePlacesOf places.old) (ArePlacesOf places.new) row.now }
 {
     let Some(submission) = number_at(row, 0) else {
         return Ok(());
@@ -105,19 +102,17 @@ impl RowFold for RemarkFold {
 }
 
 /// Reads the remarks, and judges whether they are those of a registry.
-pub(crate) fn read_remarks<S: Alter>(
-    conn: &mut Connection<S>,
+pub(crate) fn read_remarks<S: Alter + Drop>(
+    tables: &mut Tables<S>,
     alloc: Global,
 ) -> Result<bool, TableFault>
-    requires { conn.old.in_transaction ≡ false }
-    ensures rests { OnlyReads S.Store conn.old conn.new }
-    ensures keeps { KeepsTable S.Store conn.old conn.new result table.Remark
+    ensures { KeepsTable S.Store tables.old.conn tables.new.conn result table.Remark
         (IsPartJudged AreRemarks) }
 {
     let mut keeper = RemarkFold {
         good: true,
         places: BTreeSet::new(alloc),
     };
-    fold_rows(conn, Table::Remark, &mut keeper)?;
+    fold_rows(tables, Table::Remark, &mut keeper)?;
     Ok(keeper.good & follow_each(&keeper.places))
 }

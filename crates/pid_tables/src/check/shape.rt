@@ -21,6 +21,7 @@ ghost use Rattle.pid_moderation.specs.Views.{Views};
 ghost use Rattle.pid_tables.specs.Rows.Steps.Queries.{IsQuery};
 ghost use Rattle.pid_tables.specs.Rows.Schema.{pid_schema};
 ghost use Rattle.pid_tables.specs.Check.Steps.Asking.{AsksTables};
+ghost use Rattle.pid_tables.specs.Check.Steps.Clauses.{Asks};
 ghost use Rattle.pid_tables.specs.Check.Shapes.{CanBeAsked, HasEachTable};
 ghost use Rattle.pid_tables.specs.Check.Steps.Shapes.{HasTablesOf};
 ghost use Rattle.pid_tables.specs.Check.Queries.{query_of};
@@ -28,14 +29,13 @@ ghost use Rattle.pid_tables.specs.Rows.Clauses.{
   AtRest,
   HasCleanDisk,
   IsCaused,
-  OnlyReads,
   Reads,
   is_open,
-  seen,
 };
 
 use crate::rows::{TableFault, Version};
-use sqlite::{Alter, Connection, Error};
+use crate::tables::Tables;
+use sqlite::{Alter, Error};
 
 // No text is refused as damage but one that is not understood.
 fn unasked(error: Error) -> Result<bool, TableFault>
@@ -50,20 +50,19 @@ fn unasked(error: Error) -> Result<bool, TableFault>
 }
 
 /// Whether a query can be asked: whether its text is understood.
-pub(crate) fn can_ask<S: Alter>(conn: &mut Connection<S>, sql: &str) -> Result<bool, TableFault>
-    requires { conn.old.in_transaction ≡ false }
-    ensures rests { OnlyReads S.Store conn.old conn.new }
-    ensures same { HasCleanDisk S.Store conn.new
-        → IfOk result (λ asked. (seen S.Store conn.new) ≡ (seen S.Store conn.old)) }
-    ensures asked { HasCleanDisk S.Store conn.new
-        → IfOk result (λ asked. IsTrue asked ↔ CanBeAsked (seen S.Store conn.old).schema sql.now) }
-    ensures was_open { HasCleanDisk S.Store conn.new
-        → OnOk result (IsTrue (is_open S.Store conn.old)) }
-    ensures only_store { IfErr result IsMemoryOrStore }
-    ensures caused { HasCleanDisk S.Store conn.new → (v : Views) → AtRest S.Store conn.old v
-        → IsQuery pid_schema sql.now [] → IfErr result (IsCaused S.Store conn.old conn.new) }
+pub(crate) fn can_ask<S: Alter + Drop>(
+    tables: &mut Tables<S>,
+    sql: &str,
+) -> Result<bool, TableFault>
+    ensures asks { Asks S.Store tables.old.conn tables.new.conn result
+        (λ d asked. IsTrue asked ↔ CanBeAsked d.schema sql.now) }
+    ensures was_open { HasCleanDisk S.Store tables.new.conn
+        → OnOk result (IsTrue (is_open S.Store tables.old.conn)) }
+    ensures caused { HasCleanDisk S.Store tables.new.conn → (v : Views)
+        → AtRest S.Store tables.old.conn v → IsQuery pid_schema sql.now []
+        → IfErr result (IsCaused S.Store tables.old.conn tables.new.conn) }
 {
-    match conn.prepare(sql).err() {
+    match tables.conn.prepare(sql).err() {
         None => Ok(true),
         Some(error) => unasked(error),
     }
@@ -122,27 +121,21 @@ pub(crate) fn query(table: Table) -> &'static str
 }
 
 /// Whether the query of one of the tables can be asked; or, if `can` is false, cannot be.
-pub(crate) fn some_can<S: Alter>(
-    conn: &mut Connection<S>,
-    tables: &[Table],
+pub(crate) fn some_can<S: Alter + Drop>(
+    tables: &mut Tables<S>,
+    listed: &[Table],
     can: bool,
 ) -> Result<bool, TableFault>
-    requires { conn.old.in_transaction ≡ false }
-    ensures rests { OnlyReads S.Store conn.old conn.new }
-    ensures same { HasCleanDisk S.Store conn.new
-        → IfOk result (λ some. (seen S.Store conn.new) ≡ (seen S.Store conn.old)) }
-    ensures asked { HasCleanDisk S.Store conn.new
-        → IfOk result (λ some. IsTrue some
-        ↔ Any (λ t. IsTrue can ↔ CanBeAsked (seen S.Store conn.old).schema (query_of t))
-        tables.now) }
-    ensures was_open { HasCleanDisk S.Store conn.new → 0 < length tables.now
-        → OnOk result (IsTrue (is_open S.Store conn.old)) }
-    ensures only_store { IfErr result IsMemoryOrStore }
-    ensures caused { HasCleanDisk S.Store conn.new → (v : Views) → AtRest S.Store conn.old v
-        → IfErr result (IsCaused S.Store conn.old conn.new) }
+    ensures asks { Asks S.Store tables.old.conn tables.new.conn result (λ d some. IsTrue some
+        ↔ Any (λ t. IsTrue can ↔ CanBeAsked d.schema (query_of t)) listed.now) }
+    ensures was_open { HasCleanDisk S.Store tables.new.conn → 0 < length listed.now
+        → OnOk result (IsTrue (is_open S.Store tables.old.conn)) }
+    ensures caused { HasCleanDisk S.Store tables.new.conn → (v : Views)
+        → AtRest S.Store tables.old.conn v
+        → IfErr result (IsCaused S.Store tables.old.conn tables.new.conn) }
 {
-    for table in tables {
-        if can_ask(conn, query(*table))? == can {
+    for table in listed {
+        if can_ask(tables, query(*table))? == can {
             return Ok(true);
         }
     }
@@ -151,28 +144,24 @@ pub(crate) fn some_can<S: Alter>(
 
 /// Whether some of the seven tables is there: whether a query of its columns by their names can be
 /// prepared. Nothing is said of its rows.
-pub fn has_some_table<S: Alter>(conn: &mut Connection<S>) -> Result<bool, TableFault>
-    requires { conn.old.in_transaction ≡ false }
-    ensures reads { Reads S.Store conn.old conn.new result (λ v some. some ≡ true) }
-    ensures found { AsksTables S.Store conn.old conn.new result }
+pub fn has_some_table<S: Alter + Drop>(tables: &mut Tables<S>) -> Result<bool, TableFault>
+    ensures reads { Reads S.Store tables.old.conn tables.new.conn result (λ v some. some ≡ true) }
+    ensures found { AsksTables S.Store tables.old.conn tables.new.conn result }
 {
-    some_can(conn, &SEVEN, true)
+    some_can(tables, &SEVEN, true)
 }
 
 /// Of which schema the tables are, if each of the six is there.
-pub(crate) fn tables_of<S: Alter>(conn: &mut Connection<S>) -> Result<Option<Version>, TableFault>
-    requires { conn.old.in_transaction ≡ false }
-    ensures rests { OnlyReads S.Store conn.old conn.new }
-    ensures same { HasCleanDisk S.Store conn.new
-        → IfOk result (λ found. (seen S.Store conn.new) ≡ (seen S.Store conn.old)) }
-    ensures found { HasCleanDisk S.Store conn.new → HasEachTable (seen S.Store conn.old).schema
-        → IfOk result (λ found. HasTablesOf found (seen S.Store conn.old).schema) }
-    ensures only_store { IfErr result IsMemoryOrStore }
+pub(crate) fn tables_of<S: Alter + Drop>(
+    tables: &mut Tables<S>,
+) -> Result<Option<Version>, TableFault>
+    ensures { Asks S.Store tables.old.conn tables.new.conn result
+        (λ d found. HasEachTable d.schema → HasTablesOf found d.schema) }
 {
-    if !can_ask(conn, ANY_SINCE)? {
+    if !can_ask(tables, ANY_SINCE)? {
         return Ok(Some(Version::One));
     }
-    if can_ask(conn, query(Table::Since))? {
+    if can_ask(tables, query(Table::Since))? {
         return Ok(Some(Version::Two));
     }
     Ok(None)

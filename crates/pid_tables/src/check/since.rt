@@ -1,6 +1,5 @@
 //! The numbers of changes: each item has one, which is at most the revision.
-ghost use Rattle.std.specs.Prelude.{◌≡◌, ◌↔◌, false, IsTrue};
-ghost use Rattle.pid_tables.specs.Rows.Clauses.{OnlyReads};
+ghost use Rattle.std.specs.Prelude.{◌↔◌, false, IsTrue};
 ghost use Rattle.pid_tables.specs.Check.Conditions.{IsSinceRow};
 ghost use Rattle.pid_tables.specs.Check.Steps.PathSets.{HasPath};
 ghost use Rattle.pid_tables.specs.Check.Steps.Clauses.{KeepsTable};
@@ -12,8 +11,9 @@ use crate::check::read::{RowFold, fold_rows};
 use crate::check::shape::Table;
 use crate::check::value::is_within;
 use crate::rows::TableFault;
+use crate::tables::Tables;
 use pid_ident::Path;
-use sqlite::{Alter, Connection, Row};
+use sqlite::{Alter, Row};
 use std::alloc::Global;
 use std::collections::BTreeSet;
 
@@ -52,15 +52,13 @@ impl RowFold for SinceFold {
 
 /// Reads the numbers of changes, and judges whether they go with the paths of the items and the
 /// revision.
-pub(crate) fn read_sinces<S: Alter>(
-    conn: &mut Connection<S>,
+pub(crate) fn read_sinces<S: Alter + Drop>(
+    tables: &mut Tables<S>,
     items: &BTreeSet<Path>,
     revision: u64,
     alloc: Global,
 ) -> Result<bool, TableFault>
-    requires { conn.old.in_transaction ≡ false }
-    ensures rests { OnlyReads S.Store conn.old conn.new }
-    ensures keeps { KeepsTable S.Store conn.old conn.new result table.Since
+    ensures { KeepsTable S.Store tables.old.conn tables.new.conn result table.Since
         (GoWith items.now revision) }
 {
     let mut keeper = SinceFold {
@@ -68,6 +66,6 @@ pub(crate) fn read_sinces<S: Alter>(
         good: true,
         paths: BTreeSet::new(alloc),
     };
-    fold_rows(conn, Table::Since, &mut keeper)?;
+    fold_rows(tables, Table::Since, &mut keeper)?;
     Ok(keeper.good & items.is_subset(&keeper.paths))
 }

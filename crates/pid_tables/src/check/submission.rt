@@ -21,7 +21,6 @@ ghost use Rattle.pid_tables.specs.Check.Steps.NamesRead.{
   IsDecidedAmong,
   IsSubmissionAmong,
 };
-ghost use Rattle.pid_tables.specs.Rows.Clauses.{OnlyReads};
 ghost use Rattle.pid_tables.specs.Check.Steps.Clauses.{KeepsTable};
 ghost use Rattle.pid_tables.specs.Check.Steps.Keeping.{AreFit, KeepsSubmissions};
 ghost use Rattle.pid_tables.specs.declared.check.shape.Table.TheVariants as table;
@@ -33,7 +32,8 @@ use crate::check::shape::Table;
 use crate::check::value::{is_text_at, number_at, text_at};
 use crate::check::words::{has_filled_text, has_name, has_path, has_text};
 use crate::rows::TableFault;
-use sqlite::{Alter, Connection, Row};
+use crate::tables::Tables;
+use sqlite::{Alter, Row};
 use std::alloc::Global;
 use std::collections::BTreeSet;
 
@@ -163,14 +163,12 @@ pub(crate) struct Submissions {
 
 /// Reads the submissions, and judges whether they are those of a registry with accounts of these
 /// names.
-pub(crate) fn read_submissions<S: Alter>(
-    conn: &mut Connection<S>,
+pub(crate) fn read_submissions<S: Alter + Drop>(
+    tables: &mut Tables<S>,
     names: &BTreeSet<String>,
     alloc: Global,
 ) -> Result<Submissions, TableFault>
-    requires { conn.old.in_transaction ≡ false }
-    ensures rests { OnlyReads S.Store conn.old conn.new }
-    ensures keeps { KeepsTable S.Store conn.old conn.new result table.Submission
+    ensures { KeepsTable S.Store tables.old.conn tables.new.conn result table.Submission
         (KeepsSubmissions names.now) }
 {
     let mut keeper = SubmissionFold {
@@ -184,7 +182,7 @@ pub(crate) fn read_submissions<S: Alter>(
         numbers: no_numbers(alloc),
         authors: no_authors(alloc),
     };
-    fold_rows(conn, Table::Submission, &mut keeper)?;
+    fold_rows(tables, Table::Submission, &mut keeper)?;
     let fits = keeper.fit.good & (keeper.fit.greatest <= keeper.count);
     Ok(Submissions {
         good: fits & count_from_one(&keeper.numbers, keeper.count),

@@ -1,8 +1,6 @@
 //! The tables of a schema, one after the other: of each is kept whether its rows are good, and what
 //! judging the others takes. Whatever was found, each is read.
-ghost use Rattle.std.specs.Prelude.{◌≡◌, false};
 ghost use Rattle.pid_tables.specs.Rows.Faults.{IsMemoryOrStore};
-ghost use Rattle.pid_tables.specs.Rows.Clauses.{OnlyReads};
 ghost use Rattle.pid_tables.specs.Check.Shapes.{HasTables, HasEachTable};
 ghost use Rattle.pid_tables.specs.Check.Steps.Keeping.{ShowsNamed, ShowsSubmitted, ShowsJudged};
 ghost use Rattle.pid_tables.specs.Check.Steps.Clauses.{JudgesRows};
@@ -14,7 +12,8 @@ use crate::check::remark::read_remarks;
 use crate::check::since::read_sinces;
 use crate::check::submission::read_submissions;
 use crate::rows::{TableFault, Version};
-use sqlite::{Alter, Connection};
+use crate::tables::Tables;
+use sqlite::Alter;
 use std::alloc::Global;
 
 /// What is kept of some tables: whether all their rows are good, and how many the first of them
@@ -34,18 +33,16 @@ pub(crate) struct Judged {
 }
 
 // The items, and in schema 2 their numbers.
-fn read_named<S: Alter>(
-    conn: &mut Connection<S>,
+fn read_named<S: Alter + Drop>(
+    tables: &mut Tables<S>,
     alloc: Global,
     version: Version,
     revision: u64,
 ) -> Result<Part, TableFault>
-    requires { conn.old.in_transaction ≡ false }
-    ensures rests { OnlyReads S.Store conn.old conn.new }
-    ensures told { JudgesRows S.Store conn.old conn.new result
+    ensures { JudgesRows S.Store tables.old.conn tables.new.conn result
         (λ d. HasTables version d.schema) (ShowsNamed version revision) (λ d. IsMemoryOrStore) }
 {
-    let items = read_items(conn, alloc)?;
+    let items = read_items(tables, alloc)?;
     let count = items.count;
     match version {
         Version::One => Ok(Part {
@@ -53,7 +50,7 @@ fn read_named<S: Alter>(
             count,
         }),
         Version::Two => {
-            let dated = read_sinces(conn, &items.paths, revision, alloc)?;
+            let dated = read_sinces(tables, &items.paths, revision, alloc)?;
             Ok(Part {
                 good: items.good & dated,
                 count,
@@ -63,20 +60,21 @@ fn read_named<S: Alter>(
 }
 
 // The submissions, with the accounts and the receipts.
-fn read_submitted<S: Alter>(conn: &mut Connection<S>, alloc: Global) -> Result<Part, TableFault>
-    requires { conn.old.in_transaction ≡ false }
-    ensures rests { OnlyReads S.Store conn.old conn.new }
-    ensures told { JudgesRows S.Store conn.old conn.new result
+fn read_submitted<S: Alter + Drop>(
+    tables: &mut Tables<S>,
+    alloc: Global,
+) -> Result<Part, TableFault>
+    ensures { JudgesRows S.Store tables.old.conn tables.new.conn result
         (λ d. HasEachTable d.schema) ShowsSubmitted (λ d. IsMemoryOrStore) }
 {
-    let accounts = read_accounts(conn, alloc)?;
+    let accounts = read_accounts(tables, alloc)?;
     let listed = accounts.good;
-    let read = read_submissions(conn, &accounts.names, alloc);
+    let read = read_submissions(tables, &accounts.names, alloc);
     drop(accounts);
     let submissions = read?;
     let good = listed & submissions.good;
     let count = submissions.count;
-    let kept = read_receipts(conn, &submissions.authors);
+    let kept = read_receipts(tables, &submissions.authors);
     drop(submissions);
     let receipts = kept?;
     Ok(Part {
@@ -86,20 +84,18 @@ fn read_submitted<S: Alter>(conn: &mut Connection<S>, alloc: Global) -> Result<P
 }
 
 /// Reads and judges the tables of a schema other than `meta`, which has this revision.
-pub(crate) fn read_tables<S: Alter>(
-    conn: &mut Connection<S>,
+pub(crate) fn read_tables<S: Alter + Drop>(
+    tables: &mut Tables<S>,
     alloc: Global,
     version: Version,
     revision: u64,
 ) -> Result<Judged, TableFault>
-    requires { conn.old.in_transaction ≡ false }
-    ensures rests { OnlyReads S.Store conn.old conn.new }
-    ensures told { JudgesRows S.Store conn.old conn.new result
+    ensures { JudgesRows S.Store tables.old.conn tables.new.conn result
         (λ d. HasTables version d.schema) (ShowsJudged version revision) (λ d. IsMemoryOrStore) }
 {
-    let submitted = read_submitted(conn, alloc)?;
-    let named = read_named(conn, alloc, version, revision)?;
-    let remarks = read_remarks(conn, alloc)?;
+    let submitted = read_submitted(tables, alloc)?;
+    let named = read_named(tables, alloc, version, revision)?;
+    let remarks = read_remarks(tables, alloc)?;
     Ok(Judged {
         good: submitted.good & named.good & remarks,
         items: named.count,

@@ -4,14 +4,13 @@ ghost use Rattle.std.specs.Prelude.{
   ◌∷◌,
   [],
   List,
-  false,
   map,
   Some,
 };
 ghost use Rattle.std.specs.Option.{option_copied};
 ghost use Rattle.sqlite_value.specs.Value.{owned};
-ghost use Rattle.pid_tables.specs.Rows.Clauses.{OnlyReads, Reads};
-ghost use Rattle.pid_tables.specs.Lists.Steps.Clauses.{TellsOf};
+ghost use Rattle.pid_tables.specs.Rows.Clauses.{Reads};
+ghost use Rattle.pid_tables.specs.Lists.Steps.Clauses.{ReadsOf};
 ghost use Rattle.pid_tables.specs.Lists.Steps.Adding.{Adds};
 ghost use Rattle.pid_tables.specs.Rows.TableRows.{number};
 ghost use Rattle.pid_moderation.specs.ChangePages.{
@@ -58,9 +57,7 @@ impl<S: Alter + Drop> Tables<S> {
         alloc: Global,
         row: &Row,
     ) -> Result<(), TableFault>
-        requires { self.old.conn.in_transaction ≡ false }
-        ensures rests { OnlyReads S.Store self.old.conn self.new.conn }
-        ensures told { TellsOf S.Store self.old.conn self.new.conn result
+        ensures { ReadsOf S.Store self.old.conn self.new.conn result
             (λ v item. IsChangeIn v item row.now)
             (λ item _. Adds changed_of items.old.items items.new.items (item ∷ [])) }
     {
@@ -74,9 +71,7 @@ impl<S: Alter + Drop> Tables<S> {
 
     // The items of rows, in their order.
     fn changed_items(&mut self, alloc: Global, rows: &[Row]) -> Result<Vec<ChangedItem>, TableFault>
-        requires { self.old.conn.in_transaction ≡ false }
-        ensures rests { OnlyReads S.Store self.old.conn self.new.conn }
-        ensures told { TellsOf S.Store self.old.conn self.new.conn result
+        ensures { ReadsOf S.Store self.old.conn self.new.conn result
             (λ v (all : List Changed). AreChangesIn v all rows.now)
             (λ all items. map changed_of items.items ≡ all) }
     {
@@ -100,7 +95,6 @@ impl<S: Alter + Drop> Tables<S> {
         since: u64,
         after: Option<&Path>,
     ) -> Result<Changes, TableFault>
-        requires { self.old.conn.in_transaction ≡ false }
         ensures { Reads S.Store self.old.conn self.new.conn result
             (λ v changes. AreHeld v → told_page changes
             ≡ changes_in PAGE since (start_text (option_copied after.entry)) v) }
@@ -110,7 +104,7 @@ impl<S: Alter + Drop> Tables<S> {
         let after = start.as_str().to_sql();
         let since = clamp_to_i64(since);
         let rows = read_rows(
-            &mut self.conn,
+            self,
             "SELECT path, since FROM item_since WHERE path > ?1 AND since > ?2 ORDER BY path LIMIT 100",
             &[after, since],
         );

@@ -36,7 +36,7 @@ use pid_ident::{Name, Path, PathText, hex4};
 use pid_moderation::Item;
 use pid_reader::{Entry, Sink};
 use sqlite::types::ValueRef;
-use sqlite::{Alter, Connection, Row};
+use sqlite::{Alter, Row};
 use std::alloc::Global;
 
 fn is_child(item: Path, path: Path) -> bool
@@ -80,16 +80,15 @@ fn add_children(
 
 // Keeps the items that are directly below the path, of those whose paths go on after the text of
 // the two parts and a slash.
-fn add_under<S: Alter>(
+fn add_under<S: Alter + Drop>(
     kept: &mut Vec<Item>,
-    conn: &mut Connection<S>,
+    tables: &mut Tables<S>,
     alloc: Global,
     front: &[u8],
     rest: &[u8],
     path: Path,
 ) -> Result<(), TableFault>
-    requires { conn.old.in_transaction ≡ false }
-    ensures { Reads S.Store conn.old conn.new result (λ v _. AreViews v
+    ensures { Reads S.Store tables.old.conn tables.new.conn result (λ v _. AreViews v
         × Adds pair_of kept.old.items kept.new.items
         (children_among path (under (front.now ++ rest.now) v.items))) }
 {
@@ -97,7 +96,7 @@ fn add_under<S: Alter>(
     let low = ValueRef::Text(range.low.as_slice());
     let high = ValueRef::Text(range.high.as_slice());
     let rows = read_rows(
-        conn,
+        tables,
         "SELECT path, name FROM item WHERE path > ?1 AND path < ?2 ORDER BY path",
         &[low, high],
     )?;
@@ -139,7 +138,6 @@ impl Sink for Tops {
 
 impl<S: Alter + Drop> Tables<S> {
     fn at_the_top(&mut self, alloc: Global) -> Result<Vec<Item>, TableFault>
-        requires { self.old.conn.in_transaction ≡ false }
         ensures { Reads S.Store self.old.conn self.new.conn result
             (λ v items. map pair_of items.items ≡ children_of None v.items) }
     {
@@ -163,7 +161,6 @@ impl<S: Alter + Drop> Tables<S> {
     /// Vendors and classes have no range of their own, so all items are walked over. It holds of
     /// views whose paths are paths, as those of every history are.
     pub fn children(&mut self, alloc: Global, above: Option<Path>) -> Result<Vec<Item>, TableFault>
-        requires { self.old.conn.in_transaction ≡ false }
         ensures { Reads S.Store self.old.conn self.new.conn result
             (λ v items. AreChildren (option_map path_text above) v items.items) }
     {
@@ -172,21 +169,14 @@ impl<S: Alter + Drop> Tables<S> {
         };
         let text = path.path_text(alloc)?;
         let mut kept = Vec::new(alloc);
-        let added = add_under(&mut kept, &mut self.conn, alloc, b"", text.as_bytes(), path);
+        let added = add_under(&mut kept, self, alloc, b"", text.as_bytes(), path);
         drop(text);
         added?;
         match path {
             Path::Vendor { vendor } => {
                 // its generic subsystems, as PS/8086/.. of PC/8086
                 let digits = hex4(vendor);
-                add_under(
-                    &mut kept,
-                    &mut self.conn,
-                    alloc,
-                    b"PS/",
-                    digits.as_slice(),
-                    path,
-                )?;
+                add_under(&mut kept, self, alloc, b"PS/", digits.as_slice(), path)?;
                 Ok(kept)
             }
             _ => Ok(kept),

@@ -5,7 +5,6 @@ ghost use Rattle.std.specs.Prelude.{
   [],
   ℕ,
   List,
-  false,
   map,
   MatchResult,
 };
@@ -32,7 +31,7 @@ use crate::rows::value::number_at;
 use crate::tables::Tables;
 use pid_moderation::{PAGE, Pending};
 use sqlite::types::ToSql;
-use sqlite::{Alter, Connection, Row};
+use sqlite::{Alter, Row};
 use std::alloc::Global;
 
 fn add_pending(page: &mut Vec<Pending>, row: &Row, alloc: Global) -> Result<(), TableFault>
@@ -59,17 +58,16 @@ fn page_of(rows: &[Row], alloc: Global) -> Result<Vec<Pending>, TableFault>
 }
 
 // Adds the submission with a number, as a pending one; nothing if there is none.
-fn add_numbered<S: Alter>(
+fn add_numbered<S: Alter + Drop>(
     page: &mut Vec<Pending>,
-    conn: &mut Connection<S>,
+    tables: &mut Tables<S>,
     alloc: Global,
     number: u32,
 ) -> Result<(), TableFault>
-    requires { conn.old.in_transaction ≡ false }
-    ensures { Reads S.Store conn.old conn.new result
+    ensures { Reads S.Store tables.old.conn tables.new.conn result
         (λ v _. Adds told_of page.old.items page.new.items (standings_at (number ∷ []) v)) }
 {
-    match standing(conn, alloc, number)? {
+    match standing(tables, alloc, number)? {
         None => Ok(()),
         Some(submission) => push_last(page, Pending { number, submission }),
     }
@@ -80,13 +78,12 @@ impl<S: Alter + Drop> Tables<S> {
     /// and then from the last number that was listed, pages go through all that are pending.
     /// Decided ones are passed over, row by row.
     pub fn pending_page(&mut self, alloc: Global, after: u32) -> Result<Vec<Pending>, TableFault>
-        requires { self.old.conn.in_transaction ≡ false }
         ensures { Reads S.Store self.old.conn self.new.conn result
             (λ v page. map told_of page.items ≡ pending_in PAGE after v) }
     {
         let after = after.to_sql();
         let rows = read_rows(
-            &mut self.conn,
+            self,
             "SELECT author, path, form, name, note, state, decider, reason, num FROM submission \
                 WHERE state = 0 AND num > ?1 ORDER BY num LIMIT 100",
             &[after],
@@ -98,13 +95,12 @@ impl<S: Alter + Drop> Tables<S> {
     /// are pending: one that was decided is listed too. A number that no submission has is passed over.
     /// Each is read by its key.
     pub fn pending_at(&mut self, alloc: Global, numbers: &[u32]) -> Result<Vec<Pending>, TableFault>
-        requires { self.old.conn.in_transaction ≡ false }
         ensures { Reads S.Store self.old.conn self.new.conn result
             (λ v page. map told_of page.items ≡ standings_at numbers.now v) }
     {
         let mut page = Vec::new(alloc);
         for number in numbers {
-            add_numbered(&mut page, &mut self.conn, alloc, *number)?;
+            add_numbered(&mut page, self, alloc, *number)?;
         }
         Ok(page)
     }

@@ -1,5 +1,5 @@
 //! Pages of the queue of a moderator: pending submissions, each with what a decision asks for.
-ghost use Rattle.std.specs.Prelude.{◌≡◌, ◌∷◌, [], false, map};
+ghost use Rattle.std.specs.Prelude.{◌≡◌, ◌∷◌, [], map};
 ghost use Rattle.pid_moderation.specs.PendingPages.{told_of};
 ghost use Rattle.pid_moderation.specs.QueuePages.{entry_in, queue_in, queued_of};
 ghost use Rattle.pid_tables.specs.Rows.Clauses.{Reads};
@@ -22,11 +22,10 @@ impl<S: Alter + Drop> Tables<S> {
         alloc: Global,
         pending: Pending,
     ) -> Result<(), TableFault>
-        requires { self.old.conn.in_transaction ≡ false }
         ensures { Reads S.Store self.old.conn self.new.conn result
             (λ v _. Adds queued_of queue.old.items queue.new.items (entry_in v (told_of pending) ∷ [])) }
     {
-        match remark_count(&mut self.conn, pending.number) {
+        match remark_count(self, pending.number) {
             Err(fault) => {
                 drop(pending);
                 Err(fault)
@@ -52,7 +51,6 @@ impl<S: Alter + Drop> Tables<S> {
 
     // Pending submissions, each with the rest.
     fn queue_of(&mut self, alloc: Global, page: Vec<Pending>) -> Result<Vec<Queued>, TableFault>
-        requires { self.old.conn.in_transaction ≡ false }
         ensures { Reads S.Store self.old.conn self.new.conn result
             (λ v queue. map queued_of queue.items ≡ map (entry_in v) (map told_of page.items)) }
     {
@@ -67,7 +65,6 @@ impl<S: Alter + Drop> Tables<S> {
     /// with the name that its path has today and the count of the remarks on it. Decided ones are
     /// passed over, row by row; the rest of an entry is read by its key.
     pub fn queue_page(&mut self, alloc: Global, after: u32) -> Result<Vec<Queued>, TableFault>
-        requires { self.old.conn.in_transaction ≡ false }
         ensures { Reads S.Store self.old.conn self.new.conn result
             (λ v queue. map queued_of queue.items ≡ queue_in PAGE after v) }
     {
@@ -78,7 +75,6 @@ impl<S: Alter + Drop> Tables<S> {
     /// The same for the submissions with these numbers, for a caller that knows which are pending. A
     /// number that no submission has is passed over. All is read by keys.
     pub fn queue_at(&mut self, alloc: Global, numbers: &[u32]) -> Result<Vec<Queued>, TableFault>
-        requires { self.old.conn.in_transaction ≡ false }
         ensures { Reads S.Store self.old.conn self.new.conn result
             (λ v queue. map queued_of queue.items ≡ map (entry_in v) (standings_at numbers.now v)) }
     {

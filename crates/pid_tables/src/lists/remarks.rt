@@ -5,7 +5,6 @@ ghost use Rattle.std.specs.Prelude.{
   [],
   ℕ,
   List,
-  false,
   map,
   option_map,
   take,
@@ -33,7 +32,7 @@ use crate::rows::value::number_at;
 use crate::tables::Tables;
 use pid_moderation::{PAGE, PlacedRemark, RemarkPage};
 use sqlite::types::ToSql;
-use sqlite::{Alter, Connection, Row};
+use sqlite::{Alter, Row};
 use std::alloc::Global;
 
 fn add_remark(page: &mut Vec<PlacedRemark>, row: &Row, alloc: Global) -> Result<(), TableFault>
@@ -60,20 +59,19 @@ fn remarks_of(rows: &[Row], alloc: Global) -> Result<Vec<PlacedRemark>, TableFau
 
 // The first remarks after a place, `PAGE` at most, in their order. They are read by their key, from
 // the first one on.
-fn remarks_after<S: Alter>(
-    conn: &mut Connection<S>,
+fn remarks_after<S: Alter + Drop>(
+    tables: &mut Tables<S>,
     alloc: Global,
     number: u32,
     after: u32,
 ) -> Result<Vec<PlacedRemark>, TableFault>
-    requires { conn.old.in_transaction ≡ false }
-    ensures { Reads S.Store conn.old conn.new result
+    ensures { Reads S.Store tables.old.conn tables.new.conn result
         (λ v page. map placed_of page.items ≡ take PAGE (placed_after after (v.remarks number))) }
 {
     let number = number.to_sql();
     let after = after.to_sql();
     let rows = read_rows(
-        conn,
+        tables,
         "SELECT author, body, seq FROM remark WHERE num = ?1 AND seq > ?2 ORDER BY seq LIMIT 100",
         &[number, after],
     )?;
@@ -90,13 +88,12 @@ impl<S: Alter + Drop> Tables<S> {
         number: u32,
         after: u32,
     ) -> Result<Option<RemarkPage>, TableFault>
-        requires { self.old.conn.in_transaction ≡ false }
         ensures { Reads S.Store self.old.conn self.new.conn result
             (λ v page. option_map remark_page_of page ≡ remark_page_in PAGE number after v) }
     {
-        let remarks = remarks_after(&mut self.conn, alloc, number, after)?;
-        let count = remark_count(&mut self.conn, number)?;
-        match standing(&mut self.conn, alloc, number)? {
+        let remarks = remarks_after(self, alloc, number, after)?;
+        let count = remark_count(self, number)?;
+        match standing(self, alloc, number)? {
             Some(submission) => Ok(Some(RemarkPage {
                 number,
                 submission,

@@ -1,5 +1,5 @@
 //! A submission with the remarks on it.
-ghost use Rattle.std.specs.Prelude.{◌≡◌, ◌∷◌, [], List, false, map, option_map, MatchResult};
+ghost use Rattle.std.specs.Prelude.{◌≡◌, ◌∷◌, [], List, map, option_map, MatchResult};
 ghost use Rattle.std.specs.List.{AllByRecursion};
 ghost use Rattle.pid_moderation.specs.Views.{Remark};
 ghost use Rattle.pid_tables.specs.Rows.Steps.Answers.{remark_shown};
@@ -17,7 +17,7 @@ use crate::rows::submission::standing;
 use crate::tables::Tables;
 use pid_moderation::{Comment, Discussion};
 use sqlite::types::ToSql;
-use sqlite::{Alter, Connection, Row};
+use sqlite::{Alter, Row};
 use std::alloc::Global;
 
 fn add_comment(comments: &mut Vec<Comment>, row: &Row, alloc: Global) -> Result<(), TableFault>
@@ -41,18 +41,17 @@ fn comments_of(rows: &[Row], alloc: Global) -> Result<Vec<Comment>, TableFault>
     Ok(comments)
 }
 
-fn comments<S: Alter>(
-    conn: &mut Connection<S>,
+fn comments<S: Alter + Drop>(
+    tables: &mut Tables<S>,
     alloc: Global,
     number: u32,
 ) -> Result<Vec<Comment>, TableFault>
-    requires { conn.old.in_transaction ≡ false }
-    ensures { Reads S.Store conn.old conn.new result
+    ensures { Reads S.Store tables.old.conn tables.new.conn result
         (λ v comments. map remark_of comments.items ≡ v.remarks number) }
 {
     let number = number.to_sql();
     let rows = read_rows(
-        conn,
+        tables,
         "SELECT author, body FROM remark WHERE num = ?1 ORDER BY seq",
         &[number],
     )?;
@@ -66,12 +65,11 @@ impl<S: Alter + Drop> Tables<S> {
         alloc: Global,
         number: u32,
     ) -> Result<Option<Discussion>, TableFault>
-        requires { self.old.conn.in_transaction ≡ false }
         ensures { Reads S.Store self.old.conn self.new.conn result
             (λ v d. option_map discussion_of d ≡ discussion_in v number) }
     {
-        let remarks = comments(&mut self.conn, alloc, number)?;
-        match standing(&mut self.conn, alloc, number)? {
+        let remarks = comments(self, alloc, number)?;
+        match standing(self, alloc, number)? {
             Some(submission) => Ok(Some(Discussion {
                 submission,
                 remarks,

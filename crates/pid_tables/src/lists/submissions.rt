@@ -1,15 +1,15 @@
 //! Pages of the submissions for a path or of an author, the latest first.
-ghost use Rattle.std.specs.Prelude.{◌≡◌, false, map};
+ghost use Rattle.std.specs.Prelude.{◌≡◌, map};
 ghost use Rattle.std.specs.Option.{option_copied};
 ghost use Rattle.pid_moderation.specs.SubmissionPages.{
   listed_of,
   submission_page_of,
   submissions_of,
 };
-ghost use Rattle.pid_tables.specs.Rows.Clauses.{OnlyReads, Reads};
+ghost use Rattle.pid_tables.specs.Rows.Clauses.{Reads};
 ghost use Rattle.pid_tables.specs.Rows.Steps.Answers.{value_row};
 ghost use Rattle.pid_tables.specs.Lists.Steps.Adding.{Adds};
-ghost use Rattle.pid_tables.specs.Lists.Steps.Clauses.{TellsOf};
+ghost use Rattle.pid_tables.specs.Lists.Steps.Clauses.{ReadsOf};
 ghost use Rattle.pid_tables.specs.Lists.Steps.SubmissionRows.{
   AreListedIn,
   IsListedIn,
@@ -32,20 +32,19 @@ use crate::tables::Tables;
 use pid_ident::{Account, Path};
 use pid_moderation::{Listed, PAGE, SEARCHED, SubmissionPage};
 use sqlite::types::ToSql;
-use sqlite::{Alter, Connection, Row};
+use sqlite::{Alter, Row};
 use std::alloc::Global;
 
 // The numbers above `low` and up to `last` of the submissions for a path and of an author, the
 // latest first, at most a page of them. The empty text stands for every path or author.
-fn number_rows<'x, S: Alter>(
-    conn: &mut Connection<S>,
+fn number_rows<'x, S: Alter + Drop>(
+    tables: &mut Tables<S>,
     low: u32,
     last: u32,
     path: &'x str,
     author: &'x str,
 ) -> Result<Vec<Row>, TableFault>
-    requires { conn.old.in_transaction ≡ false }
-    ensures { Reads S.Store conn.old conn.new result
+    ensures { Reads S.Store tables.old.conn tables.new.conn result
         (λ v rows. rows.items ≡ map value_row (numbers_among (latest_asked PAGE (record {
           low = low;
           last = last;
@@ -58,7 +57,7 @@ fn number_rows<'x, S: Alter>(
     let path = path.to_sql();
     let author = author.to_sql();
     read_rows(
-        conn,
+        tables,
         "SELECT num FROM submission WHERE num > ?1 AND num <= ?2 AND (?3 = '' OR path = ?3) \
             AND (?4 = '' OR author = ?4) ORDER BY num DESC LIMIT 100",
         &[low, last, path, author],
@@ -67,21 +66,19 @@ fn number_rows<'x, S: Alter>(
 
 // Adds the submission whose number a row has, and the count of the remarks on it; nothing if there
 // is none.
-fn add_listed<S: Alter>(
+fn add_listed<S: Alter + Drop>(
     page: &mut Vec<Listed>,
-    conn: &mut Connection<S>,
+    tables: &mut Tables<S>,
     alloc: Global,
     row: &Row,
 ) -> Result<(), TableFault>
-    requires { conn.old.in_transaction ≡ false }
-    ensures rests { OnlyReads S.Store conn.old conn.new }
-    ensures told { TellsOf S.Store conn.old conn.new result
+    ensures { ReadsOf S.Store tables.old.conn tables.new.conn result
         (λ v more. IsListedIn v more row.now)
         (λ more _. Adds listed_of page.old.items page.new.items more) }
 {
     let number = number_at(row, 0)?;
-    let remarks = remark_count(conn, number)?;
-    match standing(conn, alloc, number)? {
+    let remarks = remark_count(tables, number)?;
+    match standing(tables, alloc, number)? {
         None => Ok(()),
         Some(submission) => {
             let found = Listed {
@@ -95,20 +92,18 @@ fn add_listed<S: Alter>(
 }
 
 // The submissions whose numbers the rows have.
-fn listed_at<S: Alter>(
-    conn: &mut Connection<S>,
+fn listed_at<S: Alter + Drop>(
+    tables: &mut Tables<S>,
     alloc: Global,
     rows: &[Row],
 ) -> Result<Vec<Listed>, TableFault>
-    requires { conn.old.in_transaction ≡ false }
-    ensures rests { OnlyReads S.Store conn.old conn.new }
-    ensures told { TellsOf S.Store conn.old conn.new result
+    ensures { ReadsOf S.Store tables.old.conn tables.new.conn result
         (λ v listed. AreListedIn v listed rows.now)
         (λ listed page. map listed_of page.items ≡ listed) }
 {
     let mut page = Vec::new(alloc);
     for row in rows {
-        add_listed(&mut page, conn, alloc, row)?;
+        add_listed(&mut page, tables, alloc, row)?;
     }
     Ok(page)
 }
@@ -171,7 +166,6 @@ impl<S: Alter + Drop> Tables<S> {
         author: Option<&Account>,
         before: u32,
     ) -> Result<SubmissionPage, TableFault>
-        requires { self.old.conn.in_transaction ≡ false }
         ensures { Reads S.Store self.old.conn self.new.conn result
             (λ v page. submission_page_of page ≡ submissions_of PAGE SEARCHED (record {
               path = option_copied path.entry;
@@ -184,10 +178,10 @@ impl<S: Alter + Drop> Tables<S> {
         let low = last.saturating_sub(SEARCHED as u32);
         let author = author_or_any(author);
         let path = text_or_empty(alloc, path)?;
-        let rows = number_rows(&mut self.conn, low, last, path.as_str(), author);
+        let rows = number_rows(self, low, last, path.as_str(), author);
         drop(path);
         let rows = rows?;
-        let listed = listed_at(&mut self.conn, alloc, rows.as_slice());
+        let listed = listed_at(self, alloc, rows.as_slice());
         drop(rows);
         let submissions = listed?;
         let before = next_of(submissions.as_slice(), low + 1);

@@ -90,7 +90,6 @@ impl<S: Alter + Drop> Tables<S> {
     /// If it fails, the sink took the items before one, in their order, and faulted at that one,
     /// or was handed no more: nothing that it took is taken back.
     pub fn each_item<K: Sink>(&mut self, sink: &mut K) -> Result<(), EachEnd<K::Fault>>
-        requires { self.old.conn.in_transaction ≡ false }
         ensures rests { OnlyReads S.Store self.old.conn self.new.conn }
         ensures told { OverViews S.Store self.old.conn self.new.conn
             (λ v. Walks K.takes K.faults result (placed_from 1 v.items) sink.old sink.new) }

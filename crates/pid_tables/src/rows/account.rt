@@ -3,7 +3,7 @@ ghost use Rattle.std.specs.Prelude.{◌≡◌, true, false, codes, is_none};
 ghost use Rattle.pid_tables.specs.Rows.Accounts.{HasAccounts};
 ghost use Rattle.pid_tables.specs.Rows.Steps.Writes.{with_rank};
 ghost use Rattle.pid_tables.specs.Rows.Clauses.{Reads};
-ghost use Rattle.pid_tables.specs.Rows.Steps.Clauses.{ChangesTo, GoesOn};
+ghost use Rattle.pid_tables.specs.Rows.Steps.Clauses.{ChangesTo};
 
 use crate::rows::fault::TableFault;
 use crate::rows::run::{read_rows, write_one};
@@ -36,9 +36,7 @@ pub fn set_rank<S: Alter>(
     rank: Rank,
     is_new: bool,
 ) -> Result<(), TableFault>
-    ensures same_reference { tx.new.conn.ghost_name ≡ tx.old.conn.ghost_name }
-    ensures goes { GoesOn S.Store tx.old.conn.now tx.new.conn.now result }
-    ensures shows { ChangesTo S.Store tx.old.conn.now tx.new.conn.now result
+    ensures { ChangesTo S.Store tx.old tx.new result
         (λ v. is_new ≡ is_none (v.rank who.now)) (with_rank who.now rank) }
 {
     let name = who.as_str().to_sql();
@@ -50,15 +48,10 @@ impl<S: Alter + Drop> Tables<S> {
     /// The rank of an account, or none if there is no such account. A number that is no rank's is
     /// `Damaged`.
     pub fn rank(&mut self, name: &str) -> Result<Option<Rank>, TableFault>
-        requires { self.old.conn.in_transaction ≡ false }
         ensures { Reads S.Store self.old.conn self.new.conn result (λ v rank. rank ≡ v.rank name.now) }
     {
         let name = name.to_sql();
-        let rows = read_rows(
-            &mut self.conn,
-            "SELECT rank FROM account WHERE name = ?1",
-            &[name],
-        )?;
+        let rows = read_rows(self, "SELECT rank FROM account WHERE name = ?1", &[name])?;
         match rows.first() {
             Some(row) => Ok(Some(rank_at(row, 0)?)),
             None => Ok(None),
@@ -67,10 +60,9 @@ impl<S: Alter + Drop> Tables<S> {
 
     /// How many accounts there are. The rows are held in memory while they are counted.
     pub fn accounts(&mut self) -> Result<u64, TableFault>
-        requires { self.old.conn.in_transaction ≡ false }
         ensures { Reads S.Store self.old.conn self.new.conn result (λ v n. HasAccounts v n) }
     {
-        let rows = read_rows(&mut self.conn, "SELECT rank FROM account", &[])?;
+        let rows = read_rows(self, "SELECT rank FROM account", &[])?;
         Ok(rows.len() as u64)
     }
 }

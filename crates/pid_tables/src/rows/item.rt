@@ -7,7 +7,7 @@ ghost use Rattle.pid_moderation.specs.Items.{
 };
 ghost use Rattle.sqlite.specs.Order.{column};
 ghost use Rattle.sqlite.specs.declared.types.Value.TheVariants.{Text as TextValue};
-ghost use Rattle.pid_tables.specs.Rows.Steps.Both.{RunsBoth};
+ghost use Rattle.pid_tables.specs.Rows.Steps.Both.{WritesBoth};
 ghost use Rattle.pid_tables.specs.Rows.Steps.Ranges.{holds_under};
 ghost use Rattle.pid_tables.specs.Rows.TableRows.{number};
 ghost use Rattle.pid_ident.specs.PathTexts.{path_text};
@@ -17,15 +17,16 @@ ghost use Rattle.pid_tables.specs.Rows.Steps.Unread.{IsDamagedRow, ReadsAsItem};
 ghost use Rattle.pid_tables.specs.Rows.Writes.{with_name};
 ghost use Rattle.pid_tables.specs.Rows.Steps.Writes.{without_item};
 ghost use Rattle.pid_tables.specs.Rows.Clauses.{Reads};
-ghost use Rattle.pid_tables.specs.Rows.Steps.Clauses.{ChangesTo, GoesOn};
+ghost use Rattle.pid_tables.specs.Rows.Steps.Clauses.{ChangesTo};
 
 use crate::rows::fault::TableFault;
 use crate::rows::run::{read_rows, write_one};
 use crate::rows::value::{name_at, path_at, stored};
+use crate::tables::Tables;
 use pid_ident::{Name, Path, PathText, hex4};
 use pid_moderation::Item;
 use sqlite::types::{ToSql, ValueRef};
-use sqlite::{Alter, Connection, Row, Transaction};
+use sqlite::{Alter, Row, Transaction};
 use std::alloc::{AllocError, Global};
 
 // Runs two statements in turn: one with a path and a name, one with the path and a number. A number
@@ -38,14 +39,12 @@ fn write_both<S: Alter>(
     name: &str,
     since: u64,
 ) -> Result<(), TableFault>
-    ensures same_reference { tx.new.conn.ghost_name ≡ tx.old.conn.ghost_name }
-    ensures goes { GoesOn S.Store tx.old.conn.now tx.new.conn.now result }
-    ensures runs { RunsBoth S.Store (record {
+    ensures { WritesBoth S.Store (record {
       first = naming.now;
       named = TextValue path.now ∷ TextValue name.now ∷ [];
       second = numbering.now;
       numbered = TextValue path.now ∷ number since ∷ [];
-    }) tx.old.conn.now tx.new.conn.now result }
+    }) tx.old tx.new result }
 {
     let path = path.to_sql();
     let name = name.to_sql();
@@ -64,9 +63,7 @@ pub fn add_item<S: Alter>(
     name: &str,
     since: u64,
 ) -> Result<(), TableFault>
-    ensures same_reference { tx.new.conn.ghost_name ≡ tx.old.conn.ghost_name }
-    ensures goes { GoesOn S.Store tx.old.conn.now tx.new.conn.now result }
-    ensures shows { ChangesTo S.Store tx.old.conn.now tx.new.conn.now result
+    ensures { ChangesTo S.Store tx.old tx.new result
         (λ v. item_at path.now v.items ≡ None) (with_name since path.now name.now) }
 {
     write_both(
@@ -88,9 +85,7 @@ pub fn rename_item<S: Alter>(
     name: &str,
     since: u64,
 ) -> Result<(), TableFault>
-    ensures same_reference { tx.new.conn.ghost_name ≡ tx.old.conn.ghost_name }
-    ensures goes { GoesOn S.Store tx.old.conn.now tx.new.conn.now result }
-    ensures shows { ChangesTo S.Store tx.old.conn.now tx.new.conn.now result
+    ensures { ChangesTo S.Store tx.old tx.new result
         (λ v. IsSome (item_at path.now v.items)
         × (has_name name.now (item_at path.now v.items) ≡ false))
         (with_name since path.now name.now) }
@@ -107,9 +102,7 @@ pub fn rename_item<S: Alter>(
 
 /// Takes the item of a path away, if there is one, with its number. Items below it stay.
 pub fn remove_item<S: Alter>(tx: &mut Transaction<'_, S>, path: &str) -> Result<(), TableFault>
-    ensures same_reference { tx.new.conn.ghost_name ≡ tx.old.conn.ghost_name }
-    ensures goes { GoesOn S.Store tx.old.conn.now tx.new.conn.now result }
-    ensures shows { ChangesTo S.Store tx.old.conn.now tx.new.conn.now result (λ v. Unit {0})
+    ensures { ChangesTo S.Store tx.old tx.new result (λ v. Unit {0})
         (without_item path.now) }
 {
     let path = path.to_sql();
@@ -118,16 +111,16 @@ pub fn remove_item<S: Alter>(tx: &mut Transaction<'_, S>, path: &str) -> Result<
 
 /// The name of the item at a path, or none if the path has no item or the text is no path's.
 /// A stored text that is no name is `Damaged`.
-pub fn item_name<S: Alter>(
-    conn: &mut Connection<S>,
+pub fn item_name<S: Alter + Drop>(
+    tables: &mut Tables<S>,
     alloc: Global,
     path: &str,
 ) -> Result<Option<Name>, TableFault>
-    requires { conn.old.in_transaction ≡ false }
-    ensures { Reads S.Store conn.old conn.new result (λ v name. name ≡ item_at path.now v.items) }
+    ensures { Reads S.Store tables.old.conn tables.new.conn result
+        (λ v name. name ≡ item_at path.now v.items) }
 {
     let key = path.to_sql();
-    let rows = read_rows(conn, "SELECT name FROM item WHERE path = ?1", &[key])?;
+    let rows = read_rows(tables, "SELECT name FROM item WHERE path = ?1", &[key])?;
     match rows.first() {
         Some(row) => Ok(Some(name_at(row, alloc, 0)?)),
         None => Ok(None),
@@ -153,21 +146,20 @@ pub fn range_below(alloc: Global, front: &[u8], rest: &[u8]) -> Result<Range, Al
 }
 
 // Whether some item's path goes on after the text of the two parts and a slash.
-fn any_below<S: Alter>(
-    conn: &mut Connection<S>,
+fn any_below<S: Alter + Drop>(
+    tables: &mut Tables<S>,
     alloc: Global,
     front: &[u8],
     rest: &[u8],
 ) -> Result<bool, TableFault>
-    requires { conn.old.in_transaction ≡ false }
-    ensures { Reads S.Store conn.old conn.new result
+    ensures { Reads S.Store tables.old.conn tables.new.conn result
         (λ v some. AreViews v × (some ≡ holds_under (front.now ++ rest.now) v.items)) }
 {
     let range = range_below(alloc, front, rest)?;
     let low = ValueRef::Text(range.low.as_slice());
     let high = ValueRef::Text(range.high.as_slice());
     let rows = read_rows(
-        conn,
+        tables,
         "SELECT path FROM item WHERE path > ?1 AND path < ?2 LIMIT 1",
         &[low, high],
     )?;
@@ -175,24 +167,23 @@ fn any_below<S: Alter>(
 }
 
 /// Whether some item has the path as its parent. A generic subsystem counts for its vendor.
-pub fn has_children<S: Alter>(
-    conn: &mut Connection<S>,
+pub fn has_children<S: Alter + Drop>(
+    tables: &mut Tables<S>,
     alloc: Global,
     path: Path,
 ) -> Result<bool, TableFault>
-    requires { conn.old.in_transaction ≡ false }
-    ensures { Reads S.Store conn.old conn.new result
+    ensures { Reads S.Store tables.old.conn tables.new.conn result
         (λ v some. AllItems v.items → HoldsParents v.items
         → some ≡ are_children (path_text path) v.items) }
 {
     let text = path.path_text(alloc)?;
-    let below = any_below(conn, alloc, b"", text.as_bytes());
+    let below = any_below(tables, alloc, b"", text.as_bytes());
     drop(text);
     if below? {
         return Ok(true);
     }
     match path {
-        Path::Vendor { vendor } => any_below(conn, alloc, b"PS/", hex4(vendor).as_slice()),
+        Path::Vendor { vendor } => any_below(tables, alloc, b"PS/", hex4(vendor).as_slice()),
         _ => Ok(false),
     }
 }

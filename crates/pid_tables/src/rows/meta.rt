@@ -1,7 +1,6 @@
 //! The table of counts and of the revision.
 ghost use Rattle.std.specs.Prelude.{
   ◌≡◌,
-  false,
   Some,
   IsSome,
   IfOk,
@@ -34,20 +33,18 @@ ghost use Rattle.pid_tables.specs.Rows.Steps.Shows.{meta_of};
 ghost use Rattle.pid_tables.specs.Rows.Steps.Turns.{recounting};
 ghost use Rattle.pid_tables.specs.Rows.Steps.Writes.{with_revision};
 ghost use Rattle.pid_tables.specs.Rows.Clauses.{HasCleanDisk, OnlyReads, Reads, Tells, seen};
-ghost use Rattle.pid_tables.specs.Rows.Steps.Clauses.{ChangesTo, GoesOn, LeadsTo};
+ghost use Rattle.pid_tables.specs.Rows.Steps.Clauses.{ChangesTo, LeadsTo};
 
 use crate::rows::fault::TableFault;
 use crate::rows::run::{read_inside, read_rows, write_one};
 use crate::rows::value::{number_at, stored, whole_at};
 use crate::tables::Tables;
 use sqlite::types::ToSql;
-use sqlite::{Alter, Connection, Row, Transaction};
+use sqlite::{Alter, Row, Transaction};
 
 /// Writes how many items there are into the table of counts. It does not count them.
 pub fn count_items<S: Alter>(tx: &mut Transaction<'_, S>, count: u32) -> Result<(), TableFault>
-    ensures same_reference { tx.new.conn.ghost_name ≡ tx.old.conn.ghost_name }
-    ensures goes { GoesOn S.Store tx.old.conn.now tx.new.conn.now result }
-    ensures shows { LeadsTo S.Store tx.old.conn.now tx.new.conn.now result
+    ensures { LeadsTo S.Store tx.old tx.new result
         (recounting (λ c. record c { items = count })) }
 {
     let label = "items".to_sql();
@@ -64,9 +61,7 @@ pub fn count_submissions<S: Alter>(
     tx: &mut Transaction<'_, S>,
     count: u32,
 ) -> Result<(), TableFault>
-    ensures same_reference { tx.new.conn.ghost_name ≡ tx.old.conn.ghost_name }
-    ensures goes { GoesOn S.Store tx.old.conn.now tx.new.conn.now result }
-    ensures shows { LeadsTo S.Store tx.old.conn.now tx.new.conn.now result
+    ensures { LeadsTo S.Store tx.old tx.new result
         (recounting (λ c. record c { submissions = count })) }
 {
     let label = "submissions".to_sql();
@@ -81,9 +76,7 @@ pub fn count_submissions<S: Alter>(
 /// Writes how many commands were accepted. A number that 63 bits do not hold is refused with
 /// `Store`.
 pub fn set_revision<S: Alter>(tx: &mut Transaction<'_, S>, revision: u64) -> Result<(), TableFault>
-    ensures same_reference { tx.new.conn.ghost_name ≡ tx.old.conn.ghost_name }
-    ensures goes { GoesOn S.Store tx.old.conn.now tx.new.conn.now result }
-    ensures shows { ChangesTo S.Store tx.old.conn.now tx.new.conn.now result (λ v. Unit {0})
+    ensures { ChangesTo S.Store tx.old tx.new result (λ v. Unit {0})
         (with_revision revision) }
 {
     let label = "revision".to_sql();
@@ -98,9 +91,7 @@ pub fn set_revision<S: Alter>(tx: &mut Transaction<'_, S>, revision: u64) -> Res
 /// Reads one row and drops it: an answer of `Ok` means that the connection is open and the
 /// transaction goes on.
 pub fn probe_transaction<S: Alter>(tx: &mut Transaction<'_, S>) -> Result<(), TableFault>
-    ensures same_reference { tx.new.conn.ghost_name ≡ tx.old.conn.ghost_name }
-    ensures goes { GoesOn S.Store tx.old.conn.now tx.new.conn.now result }
-    ensures shows { ChangesTo S.Store tx.old.conn.now tx.new.conn.now result (λ v. Unit {0})
+    ensures { ChangesTo S.Store tx.old tx.new result (λ v. Unit {0})
         (λ v. v) }
 {
     let label = "schema".to_sql();
@@ -108,36 +99,34 @@ pub fn probe_transaction<S: Alter>(tx: &mut Transaction<'_, S>) -> Result<(), Ta
     Ok(())
 }
 
-fn value_rows<S: Alter>(conn: &mut Connection<S>, label: &str) -> Result<Vec<Row>, TableFault>
-    requires { conn.old.in_transaction ≡ false }
-    ensures reads { Reads S.Store conn.old conn.new result
+fn value_rows<S: Alter + Drop>(tables: &mut Tables<S>, label: &str) -> Result<Vec<Row>, TableFault>
+    ensures reads { Reads S.Store tables.old.conn tables.new.conn result
         (λ v rows. slice_get rows.items 0
         ≡ option_map value_row (meta_of (counts_of v) v.revision label.now)) }
-    ensures shows { HasCleanDisk S.Store conn.new
-        → IfOk result (λ rows. ShowsValues (seen S.Store conn.old) label.now rows.items) }
-    ensures only_store { HasCleanDisk S.Store conn.new → (query : Compiled)
-        → understood (seen S.Store conn.old).schema value_text ≡ Ok query
+    ensures shows { HasCleanDisk S.Store tables.new.conn
+        → IfOk result (λ rows. ShowsValues (seen S.Store tables.old.conn) label.now rows.items) }
+    ensures only_store { HasCleanDisk S.Store tables.new.conn → (query : Compiled)
+        → understood (seen S.Store tables.old.conn).schema value_text ≡ Ok query
         → IfErr result IsMemoryOrStore }
     ensures never { IfErr result IsNotNewerSchema }
 {
     let label = label.to_sql();
-    read_rows(conn, "SELECT value FROM meta WHERE label = ?1", &[label])
+    read_rows(tables, "SELECT value FROM meta WHERE label = ?1", &[label])
 }
 
 // The number of one of the three labels that both schemas have.
-fn count<S: Alter>(conn: &mut Connection<S>, label: &str) -> Result<u32, TableFault>
-    requires { conn.old.in_transaction ≡ false }
-    ensures rests { OnlyReads S.Store conn.old conn.new }
+fn count<S: Alter + Drop>(tables: &mut Tables<S>, label: &str) -> Result<u32, TableFault>
+    ensures rests { OnlyReads S.Store tables.old.conn tables.new.conn }
     ensures found { ((c : Counts) → IsSome (labels_of One c 0 label.now))
-        → Tells S.Store conn.old conn.new result
+        → Tells S.Store tables.old.conn tables.new.conn result
         (λ v n. Some n ≡ meta_of (counts_of v) v.revision label.now) }
-    ensures shown { HasCleanDisk S.Store conn.new
-        → IfOk result (ShowsNumber (seen S.Store conn.old) label.now) }
-    ensures refused { HasCleanDisk S.Store conn.new
-        → IfErr result (IsDamageOf (ShowsNoNumber (seen S.Store conn.old) label.now)) }
+    ensures shown { HasCleanDisk S.Store tables.new.conn
+        → IfOk result (ShowsNumber (seen S.Store tables.old.conn) label.now) }
+    ensures refused { HasCleanDisk S.Store tables.new.conn
+        → IfErr result (IsDamageOf (ShowsNoNumber (seen S.Store tables.old.conn) label.now)) }
     ensures never { IfErr result IsNotNewerSchema }
 {
-    let rows = value_rows(conn, label)?;
+    let rows = value_rows(tables, label)?;
     match rows.first() {
         Some(row) => number_at(row, 0),
         None => Err(TableFault::Damaged),
@@ -147,49 +136,46 @@ fn count<S: Alter>(conn: &mut Connection<S>, label: &str) -> Result<u32, TableFa
 /// The number of the schema, by the table of counts: 1 or 2 in tables that this program made,
 /// another in those of a later one. A number that is missing, or that 32 bits do not hold, is
 /// `Damaged`.
-pub fn schema_number<S: Alter>(conn: &mut Connection<S>) -> Result<u32, TableFault>
-    requires { conn.old.in_transaction ≡ false }
-    ensures reads { Reads S.Store conn.old conn.new result (λ v n. n ≡ latest) }
+pub fn schema_number<S: Alter + Drop>(tables: &mut Tables<S>) -> Result<u32, TableFault>
+    ensures reads { Reads S.Store tables.old.conn tables.new.conn result (λ v n. n ≡ latest) }
     // Whatever the schema: it is what the query of the label answers first, and `Damaged` if
     // that is no number.
-    ensures shown { HasCleanDisk S.Store conn.new
-        → MatchResult result (ShowsNumber (seen S.Store conn.old) (codes "schema"))
-        (IsDamageOf (ShowsNoNumber (seen S.Store conn.old) (codes "schema"))) }
+    ensures shown { HasCleanDisk S.Store tables.new.conn
+        → MatchResult result (ShowsNumber (seen S.Store tables.old.conn) (codes "schema"))
+        (IsDamageOf (ShowsNoNumber (seen S.Store tables.old.conn) (codes "schema"))) }
     // The same by what storage has, if the table was made first, whatever comes after it.
-    ensures stored { HasCleanDisk S.Store conn.new → IsMetaFirst (seen S.Store conn.old).schema
-        → MatchResult result (HasLabel (seen S.Store conn.old).trees (codes "schema"))
-        (ExplainsNumber (seen S.Store conn.old).trees (codes "schema")) }
+    ensures stored { HasCleanDisk S.Store tables.new.conn
+        → IsMetaFirst (seen S.Store tables.old.conn).schema
+        → MatchResult result (HasLabel (seen S.Store tables.old.conn).trees (codes "schema"))
+        (ExplainsNumber (seen S.Store tables.old.conn).trees (codes "schema")) }
     ensures never { IfErr result IsNotNewerSchema }
 {
-    count(conn, "schema")
+    count(tables, "schema")
 }
 
 impl<S: Alter + Drop> Tables<S> {
     /// How many items there are, by the table of counts. A count that is missing, or that 32 bits do
     /// not hold, is `Damaged`.
     pub fn items(&mut self) -> Result<u32, TableFault>
-        requires { self.old.conn.in_transaction ≡ false }
         ensures { Reads S.Store self.old.conn self.new.conn result (λ v n. n ≡ length v.items) }
     {
-        count(&mut self.conn, "items")
+        count(self, "items")
     }
 
     /// How many submissions there are, by the table of counts. A count that is missing, or that 32 bits
     /// do not hold, is `Damaged`.
     pub fn submissions(&mut self) -> Result<u32, TableFault>
-        requires { self.old.conn.in_transaction ≡ false }
         ensures { Reads S.Store self.old.conn self.new.conn result (λ v n. n ≡ length v.submits) }
     {
-        count(&mut self.conn, "submissions")
+        count(self, "submissions")
     }
 
     /// How many commands were accepted, by the table of counts. A number that is missing, or that is no
     /// whole number, is `Damaged`.
     pub fn revision(&mut self) -> Result<u64, TableFault>
-        requires { self.old.conn.in_transaction ≡ false }
         ensures { Reads S.Store self.old.conn self.new.conn result (λ v n. n ≡ v.revision) }
     {
-        let rows = value_rows(&mut self.conn, "revision")?;
+        let rows = value_rows(self, "revision")?;
         match rows.first() {
             Some(row) => whole_at(row, 0),
             None => Err(TableFault::Damaged),

@@ -1,5 +1,5 @@
 //! The table of receipts: replies kept under accounts and keys.
-ghost use Rattle.std.specs.Prelude.{◌≡◌, false, None};
+ghost use Rattle.std.specs.Prelude.{◌≡◌, None};
 ghost use Rattle.pid_tables.specs.Rows.TableRows.{
   first_number,
   reply_kind,
@@ -8,15 +8,16 @@ ghost use Rattle.pid_tables.specs.Rows.TableRows.{
 };
 ghost use Rattle.pid_tables.specs.Rows.Steps.Writes.{with_reply};
 ghost use Rattle.pid_tables.specs.Rows.Clauses.{Reads};
-ghost use Rattle.pid_tables.specs.Rows.Steps.Clauses.{ChangesTo, GoesOn};
+ghost use Rattle.pid_tables.specs.Rows.Steps.Clauses.{ChangesTo};
 
 use crate::rows::fault::TableFault;
 use crate::rows::run::{read_rows, write_one};
 use crate::rows::value::reply_at;
+use crate::tables::Tables;
 use pid_ident::{Account, Key};
 use pid_moderation::Reply;
 use sqlite::types::ToSql;
-use sqlite::{Alter, Connection, Transaction};
+use sqlite::{Alter, Transaction};
 
 // The kind of a reply and its numbers, 0 where it has none.
 fn numbers(reply: Reply) -> (u32, u32, u32, u32)
@@ -44,9 +45,7 @@ pub fn keep_reply<S: Alter>(
     key: &Key,
     reply: Reply,
 ) -> Result<(), TableFault>
-    ensures same_reference { tx.new.conn.ghost_name ≡ tx.old.conn.ghost_name }
-    ensures goes { GoesOn S.Store tx.old.conn.now tx.new.conn.now result }
-    ensures shows { ChangesTo S.Store tx.old.conn.now tx.new.conn.now result
+    ensures { ChangesTo S.Store tx.old tx.new result
         (λ v. v.kept account.now key.now ≡ None)
         (with_reply account.now key.now reply) }
 {
@@ -66,19 +65,18 @@ pub fn keep_reply<S: Alter>(
 
 /// The reply that is kept under an account and a key, or none if there is none. Numbers that
 /// are no reply's are `Damaged`.
-pub fn kept_reply<S: Alter>(
-    conn: &mut Connection<S>,
+pub fn kept_reply<S: Alter + Drop>(
+    tables: &mut Tables<S>,
     account: &str,
     key: &str,
 ) -> Result<Option<Reply>, TableFault>
-    requires { conn.old.in_transaction ≡ false }
-    ensures { Reads S.Store conn.old conn.new result
+    ensures { Reads S.Store tables.old.conn tables.new.conn result
         (λ v reply. reply ≡ v.kept account.now key.now) }
 {
     let account = account.to_sql();
     let key = key.to_sql();
     let rows = read_rows(
-        conn,
+        tables,
         "SELECT kind, a, b, c FROM receipt WHERE account = ?1 AND token = ?2",
         &[account, key],
     )?;

@@ -1,19 +1,20 @@
 //! The table of remarks on submissions.
-ghost use Rattle.std.specs.Prelude.{◌≡◌, ◌+◌, false, length, IfOk, IfErr};
+ghost use Rattle.std.specs.Prelude.{◌≡◌, ◌+◌, length, IfOk, IfErr};
 ghost use Rattle.sqlite.specs.Order.{column};
 ghost use Rattle.sqlite.specs.declared.types.Value.TheVariants.{Text as TextValue};
 ghost use Rattle.pid_tables.specs.Rows.Steps.Unread.{IsDamagedRow, ReadsAsRemark};
 ghost use Rattle.pid_tables.specs.Rows.Steps.Writes.{with_remark};
 ghost use Rattle.pid_tables.specs.Rows.Clauses.{Reads};
-ghost use Rattle.pid_tables.specs.Rows.Steps.Clauses.{ChangesTo, GoesOn};
+ghost use Rattle.pid_tables.specs.Rows.Steps.Clauses.{ChangesTo};
 
 use crate::rows::fault::TableFault;
 use crate::rows::run::{read_rows, write_one};
 use crate::rows::value::{account_at, number_at, words_at};
+use crate::tables::Tables;
 use pid_ident::{Account, Text};
 use pid_moderation::Comment;
 use sqlite::types::ToSql;
-use sqlite::{Alter, Connection, Row, Transaction};
+use sqlite::{Alter, Row, Transaction};
 use std::alloc::Global;
 
 /// Adds a remark after the last one on its submission. `number` is the submission's, and `place`
@@ -26,9 +27,7 @@ pub fn add_remark<S: Alter>(
     author: &Account,
     text: &Text,
 ) -> Result<(), TableFault>
-    ensures same_reference { tx.new.conn.ghost_name ≡ tx.old.conn.ghost_name }
-    ensures goes { GoesOn S.Store tx.old.conn.now tx.new.conn.now result }
-    ensures shows { ChangesTo S.Store tx.old.conn.now tx.new.conn.now result
+    ensures { ChangesTo S.Store tx.old tx.new result
         (λ v. place ≡ length (v.remarks number) + 1)
         (with_remark number (record { author = author.now; text = text.now })) }
 {
@@ -45,14 +44,13 @@ pub fn add_remark<S: Alter>(
 
 /// How many remarks there are on the submission with a number: the place of the last one. No such
 /// submission has 0.
-pub fn remark_count<S: Alter>(conn: &mut Connection<S>, number: u32) -> Result<u32, TableFault>
-    requires { conn.old.in_transaction ≡ false }
-    ensures { Reads S.Store conn.old conn.new result
+pub fn remark_count<S: Alter + Drop>(tables: &mut Tables<S>, number: u32) -> Result<u32, TableFault>
+    ensures { Reads S.Store tables.old.conn tables.new.conn result
         (λ v count. count ≡ length (v.remarks number)) }
 {
     let number = number.to_sql();
     let rows = read_rows(
-        conn,
+        tables,
         "SELECT seq FROM remark WHERE num = ?1 ORDER BY seq DESC LIMIT 1",
         &[number],
     )?;

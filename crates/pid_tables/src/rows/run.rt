@@ -1,14 +1,14 @@
 //! One statement at a time.
-ghost use Rattle.std.specs.Prelude.{◌≡◌, false, true, IfOk, IfErr};
+ghost use Rattle.std.specs.Prelude.{true, IfOk};
 ghost use Rattle.sqlite.specs.Values.{bound};
 ghost use Rattle.sqlite.specs.Held.{Held};
-ghost use Rattle.pid_tables.specs.Rows.Faults.{IsNotNewerSchema};
 ghost use Rattle.pid_tables.specs.Rows.Clauses.{HasCleanDisk, OnlyReads};
-ghost use Rattle.pid_tables.specs.Rows.Steps.Clauses.{FaultsQuery, GoesOn, RunsWrite, Shown};
+ghost use Rattle.pid_tables.specs.Rows.Steps.Clauses.{FaultsQuery, ReadsInside, Shown, WritesOne};
 
 use crate::rows::fault::TableFault;
+use crate::tables::Tables;
 use sqlite::types::ValueRef;
-use sqlite::{Alter, Connection, Row, Transaction};
+use sqlite::{Alter, Row, Transaction};
 
 /// Runs one statement that writes, inside a transaction. The parameters are those of the text, `?1`
 /// first. A text that the schema does not know is `Damaged`; what the database refuses is `Store`.
@@ -17,11 +17,7 @@ pub fn write_one<S: Alter>(
     sql: &str,
     params: &[ValueRef<'_>],
 ) -> Result<(), TableFault>
-    ensures same_reference { tx.new.conn.ghost_name ≡ tx.old.conn.ghost_name }
-    ensures goes { GoesOn S.Store tx.old.conn.now tx.new.conn.now result }
-    ensures runs { RunsWrite S.Store sql.now (bound params.now) tx.old.conn.now tx.new.conn.now
-        result }
-    ensures never { IfErr result IsNotNewerSchema }
+    ensures { WritesOne S.Store sql.now (bound params.now) tx.old tx.new result }
 {
     tx.execute(sql, params)?;
     Ok(())
@@ -34,13 +30,7 @@ pub fn read_inside<S: Alter>(
     sql: &str,
     params: &[ValueRef<'_>],
 ) -> Result<Vec<Row>, TableFault>
-    ensures same_reference { tx.new.conn.ghost_name ≡ tx.old.conn.ghost_name }
-    ensures goes { GoesOn S.Store tx.old.conn.now tx.new.conn.now result }
-    ensures shown { HasCleanDisk S.Store tx.new.conn.now
-        → IfOk result (λ rows. Shown S.Store sql.now
-        (bound params.now) tx.old.conn.now tx.new.conn.now rows.items) }
-    ensures faults { FaultsQuery S.Store sql.now (bound params.now) tx.old.conn.now tx.new.conn.now
-        result }
+    ensures { ReadsInside S.Store sql.now (bound params.now) tx.old tx.new result }
 {
     Ok(tx.query_all(sql, params)?)
 }
@@ -48,19 +38,19 @@ pub fn read_inside<S: Alter>(
 /// The rows of one query, in a transaction of its own, which is rolled back; all are held in memory
 /// at once. The parameters are those of the text, `?1` first. A text that the schema does not know
 /// is `Damaged`.
-pub fn read_rows<S: Alter>(
-    conn: &mut Connection<S>,
+pub fn read_rows<S: Alter + Drop>(
+    tables: &mut Tables<S>,
     sql: &str,
     params: &[ValueRef<'_>],
 ) -> Result<Vec<Row>, TableFault>
-    requires { conn.old.in_transaction ≡ false }
-    ensures rests { OnlyReads S.Store conn.old conn.new }
-    ensures shown { HasCleanDisk S.Store conn.new
+    ensures rests { OnlyReads S.Store tables.old.conn tables.new.conn }
+    ensures shown { HasCleanDisk S.Store tables.new.conn
         → IfOk result (λ rows. (mid : Held S)
         × Shown S.Store sql.now (bound params.now)
-        (record conn.old { in_transaction = true }) mid rows.items) }
-    ensures faults { FaultsQuery S.Store sql.now (bound params.now) conn.old conn.new result }
+        (record tables.old.conn { in_transaction = true }) mid rows.items) }
+    ensures faults { FaultsQuery S.Store sql.now (bound params.now) tables.old.conn tables.new.conn
+        result }
 {
-    let mut tx = conn.transaction();
+    let mut tx = tables.conn.transaction();
     read_inside(&mut tx, sql, params)
 }

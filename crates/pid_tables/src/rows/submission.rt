@@ -2,7 +2,6 @@
 ghost use Rattle.std.specs.Prelude.{
   ◌≡◌,
   ◌+◌,
-  false,
   length,
   [],
   IfOk,
@@ -18,15 +17,16 @@ ghost use Rattle.pid_tables.specs.Rows.Steps.Standings.{ReadsTo};
 ghost use Rattle.pid_tables.specs.Rows.Steps.Unread.{IsDamagedRow, ReadsAsStanding};
 ghost use Rattle.pid_tables.specs.Rows.Steps.Writes.{with_submission, with_state};
 ghost use Rattle.pid_tables.specs.Rows.Clauses.{Reads};
-ghost use Rattle.pid_tables.specs.Rows.Steps.Clauses.{ChangesTo, GoesOn};
+ghost use Rattle.pid_tables.specs.Rows.Steps.Clauses.{ChangesTo};
 
 use crate::rows::fault::TableFault;
 use crate::rows::run::{read_rows, write_one};
 use crate::rows::value::{account_at, path_at, proposal_at, state_at, words_at};
+use crate::tables::Tables;
 use pid_ident::{Account, Path, PathText, Text};
 use pid_moderation::{Proposal, State, Submission};
 use sqlite::types::ToSql;
-use sqlite::{Alter, Connection, Row, Transaction};
+use sqlite::{Alter, Row, Transaction};
 use std::alloc::Global;
 
 // The form of a proposal and the name that it proposes.
@@ -52,9 +52,7 @@ pub fn add_submission<'x, S: Alter>(
     proposal: &'x Proposal,
     note: &'x Text,
 ) -> Result<(), TableFault>
-    ensures same_reference { tx.new.conn.ghost_name ≡ tx.old.conn.ghost_name }
-    ensures goes { GoesOn S.Store tx.old.conn.now tx.new.conn.now result }
-    ensures shows { ChangesTo S.Store tx.old.conn.now tx.new.conn.now result
+    ensures { ChangesTo S.Store tx.old tx.new result
         (λ v. number ≡ length v.submits + 1)
         (with_submission (record {
           author = author.now;
@@ -100,9 +98,7 @@ pub fn decide<S: Alter>(
     number: u32,
     state: &State,
 ) -> Result<(), TableFault>
-    ensures same_reference { tx.new.conn.ghost_name ≡ tx.old.conn.ghost_name }
-    ensures goes { GoesOn S.Store tx.old.conn.now tx.new.conn.now result }
-    ensures shows { ChangesTo S.Store tx.old.conn.now tx.new.conn.now result
+    ensures { ChangesTo S.Store tx.old tx.new result
         (λ v. IsSome (submission_at number v.submits))
         (with_state number state.now) }
 {
@@ -148,19 +144,18 @@ pub fn submission_of(row: &Row, alloc: Global) -> Result<Submission, TableFault>
 
 /// The submission with a number, as it stands, or none if there is none. A row that is no
 /// submission's is `Damaged`.
-pub fn standing<S: Alter>(
-    conn: &mut Connection<S>,
+pub fn standing<S: Alter + Drop>(
+    tables: &mut Tables<S>,
     alloc: Global,
     number: u32,
 ) -> Result<Option<Submission>, TableFault>
-    requires { conn.old.in_transaction ≡ false }
-    ensures { Reads S.Store conn.old conn.new result
+    ensures { Reads S.Store tables.old.conn tables.new.conn result
         (λ v s. option_map standing_of s ≡ standing_in v number) }
 {
     pid_ident::laws::texts_have_one_path(); // proof only
     let number = number.to_sql();
     let rows = read_rows(
-        conn,
+        tables,
         "SELECT author, path, form, name, note, state, decider, reason FROM submission \
             WHERE num = ?1",
         &[number],

@@ -12,7 +12,7 @@ use crate::rows::value::text_at;
 use crate::searches::numbers::{Kept, Searches, add_number};
 use crate::tables::Tables;
 use sqlite::types::ToSql;
-use sqlite::{Alter, Connection, Row};
+use sqlite::{Alter, Row};
 use std::alloc::Global;
 use std::collections::BTreeMap;
 
@@ -23,14 +23,13 @@ const ROWS: usize = 1_000;
 const TIMES: u32 = 10_001;
 
 // The paths and the authors of the submissions above a number, `ROWS` at most.
-fn filing_rows<S: Alter>(conn: &mut Connection<S>, after: u32) -> Result<Vec<Row>, TableFault>
-    requires { conn.old.in_transaction ≡ false }
-    ensures { Reads S.Store conn.old conn.new result
+fn filing_rows<S: Alter + Drop>(tables: &mut Tables<S>, after: u32) -> Result<Vec<Row>, TableFault>
+    ensures { Reads S.Store tables.old.conn tables.new.conn result
         (λ v rows. rows.items ≡ map filing_row (take ROWS (drop after v.submits))) }
 {
     let after = after.to_sql();
     read_rows(
-        conn,
+        tables,
         "SELECT path, author FROM submission WHERE num > ?1 ORDER BY num LIMIT 1000",
         &[after],
     )
@@ -74,7 +73,6 @@ fn add_rows(kept: &mut Kept, alloc: Global, after: u32, rows: &[Row]) -> bool
 impl<S: Alter + Drop> Tables<S> {
     /// The numbers of all submissions, if memory is there and they are at most 10,000,000.
     pub fn read_numbers(&mut self, alloc: Global) -> Result<Searches, TableFault>
-        requires { self.old.conn.in_transaction ≡ false }
         ensures { Reads S.Store self.old.conn self.new.conn result (λ v numbers. HoldsNumbers numbers v) }
     {
         let mut kept = Kept {
@@ -83,7 +81,7 @@ impl<S: Alter + Drop> Tables<S> {
         };
         for time in 0..TIMES {
             let after = time * ROWS as u32;
-            let rows = filing_rows(&mut self.conn, after)?;
+            let rows = filing_rows(self, after)?;
             if !add_rows(&mut kept, alloc, after, rows.as_slice()) {
                 return Ok(Searches::Lacking);
             }

@@ -4,7 +4,6 @@ ghost use Rattle.std.specs.Prelude.{
   ◌∷◌,
   ◌&&◌,
   [],
-  false,
   length,
   map,
   option_map,
@@ -34,7 +33,7 @@ use crate::searches::numbers::{Searches, list_below};
 use crate::tables::Tables;
 use pid_ident::{Account, Path};
 use pid_moderation::{Listed, PAGE, Submission, SubmissionPage};
-use sqlite::{Alter, Connection};
+use sqlite::Alter;
 use std::alloc::Global;
 
 // Whether the path is the one that is wanted, if one is.
@@ -68,27 +67,26 @@ fn is_of(path: Option<&Path>, author: Option<&Account>, submission: &Submission)
 }
 
 // Adds the submission with a number, if it is sought, and the count of the remarks on it.
-fn add_sought<S: Alter>(
+fn add_sought<S: Alter + Drop>(
     page: &mut Vec<Listed>,
-    conn: &mut Connection<S>,
+    tables: &mut Tables<S>,
     alloc: Global,
     number: u32,
     path: Option<&Path>,
     author: Option<&Account>,
 ) -> Result<(), TableFault>
-    requires { conn.old.in_transaction ≡ false }
-    ensures { Reads S.Store conn.old conn.new result
+    ensures { Reads S.Store tables.old.conn tables.new.conn result
         (λ v _. Adds listed_of page.old.items page.new.items (found_among (option_copied path.entry)
         (option_copied author.entry) (number ∷ []) v)) }
 {
-    match standing(conn, alloc, number)? {
+    match standing(tables, alloc, number)? {
         None => Ok(()),
         Some(submission) => {
             if !is_of(path, author, &submission) {
                 drop(submission);
                 return Ok(());
             }
-            match remark_count(conn, number) {
+            match remark_count(tables, number) {
                 Ok(remarks) => {
                     let found = Listed {
                         number,
@@ -107,15 +105,14 @@ fn add_sought<S: Alter>(
 }
 
 // The submissions that are sought among these numbers, the last one first, at most a page of them.
-fn sought_at<S: Alter>(
-    conn: &mut Connection<S>,
+fn sought_at<S: Alter + Drop>(
+    tables: &mut Tables<S>,
     alloc: Global,
     numbers: &[u32],
     path: Option<&Path>,
     author: Option<&Account>,
 ) -> Result<Vec<Listed>, TableFault>
-    requires { conn.old.in_transaction ≡ false }
-    ensures { Reads S.Store conn.old conn.new result
+    ensures { Reads S.Store tables.old.conn tables.new.conn result
         (λ v page. map listed_of page.items ≡ take PAGE (found_among (option_copied path.entry)
         (option_copied author.entry) (reverse numbers.now) v)) }
 {
@@ -125,7 +122,7 @@ fn sought_at<S: Alter>(
             return Ok(page);
         }
         let number = numbers[numbers.len() - 1 - at];
-        add_sought(&mut page, conn, alloc, number, path, author)?;
+        add_sought(&mut page, tables, alloc, number, path, author)?;
     }
     Ok(page)
 }
@@ -140,7 +137,6 @@ impl<S: Alter + Drop> Tables<S> {
         author: Option<&Account>,
         before: u32,
     ) -> Result<Vec<Listed>, TableFault>
-        requires { self.old.conn.in_transaction ≡ false }
         ensures { Reads S.Store self.old.conn self.new.conn result
             (λ v page. HoldsNumbers numbers.now v → map listed_of page.items ≡ take PAGE (sought_in (record {
               path = option_copied path.entry;
@@ -152,7 +148,7 @@ impl<S: Alter + Drop> Tables<S> {
             return self.walk(alloc, path, author, before);
         };
         match list_below(kept, alloc, path, author, before) {
-            Some(list) => sought_at(&mut self.conn, alloc, list, path, author),
+            Some(list) => sought_at(self, alloc, list, path, author),
             None => self.walk(alloc, path, author, before),
         }
     }
@@ -168,7 +164,6 @@ impl<S: Alter + Drop> Tables<S> {
         author: Option<&Account>,
         before: u32,
     ) -> Result<SubmissionPage, TableFault>
-        requires { self.old.conn.in_transaction ≡ false }
         ensures { Reads S.Store self.old.conn self.new.conn result (λ v page. HoldsNumbers numbers.now v
             → submission_page_of page ≡ submissions_of PAGE (length v.submits) (record {
               path = option_copied path.entry;

@@ -1,5 +1,5 @@
 //! A walk over all submissions.
-ghost use Rattle.std.specs.Prelude.{◌≡◌, ◌++◌, false, map, take, IfErr, OnOk};
+ghost use Rattle.std.specs.Prelude.{◌≡◌, ◌++◌, map, take, IfErr, OnOk};
 ghost use Rattle.std.specs.Option.{option_copied};
 ghost use Rattle.pid_moderation.specs.SubmissionPages.{listed_of, sought_in};
 ghost use Rattle.pid_tables.specs.Rows.Clauses.{Reads};
@@ -33,7 +33,6 @@ impl<S: Alter + Drop> Tables<S> {
         author: Option<&Account>,
         before: u32,
     ) -> Result<Vec<Listed>, TableFault>
-        requires { self.old.conn.in_transaction ≡ false }
         ensures { Reads S.Store self.old.conn self.new.conn result
             (λ v found. map listed_of found.items ≡ take PAGE (sought_in (record {
               path = option_copied path.entry;

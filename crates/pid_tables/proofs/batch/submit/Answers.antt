@@ -6,30 +6,22 @@ use Rattle.pid_tables.proofs.OfRows.GoingLemmas.{earlier, goes_then}
 use Rattle.pid_tables.proofs.MoveLemmas.{goes_fault}
 use Rattle.pid_tables.proofs.batch.submit.Goals as goal
 
-pub returns-clause-shows : goal.returns-clause-shows
-returns-clause-shows g c clean inside counts v shows last =
-    let early = earlier (state g.S.Store c.add_submission.new.tx.conn.now) _ c.count_submissions.ensures.goes.survives clean in
-    let first = c.in_ok-add_submission.ensures in
-    c.count_submissions.ensures.shows clean (first.goes.going early inside).1 counts _ (first.shows early inside counts v shows last) tt
+pub returns : goal.returns
+returns g c = record {
+  same_reference = c.count_submissions.ensures.same_reference ∙ c.add_submission.ensures.same_reference;
+  goes =
+      goes_then (state g.S.Store c.args.batch.now.conn.now) (state g.S.Store c.add_submission.new.tx.conn.now) (state g.S.Store c.count_submissions.new.tx.conn.now) _ c.count_submissions.result c.in_ok-add_submission.ensures.goes c.count_submissions.ensures.goes;
+  shows = λ clean inside counts v shows last.
+      let early = earlier (state g.S.Store c.add_submission.new.tx.conn.now) _ c.count_submissions.ensures.goes.survives clean in
+      let first = c.in_ok-add_submission.ensures in
+      c.count_submissions.ensures.shows clean (first.goes.going early inside).1 counts _ (first.shows early inside counts v shows last) tt;
+}
 
-pub returns-in_err-add_submission-clause-shows : goal.returns-in_err-add_submission-clause-shows
-returns-in_err-add_submission-clause-shows g c clean inside counts v shows last =
-    passed_on c.from_residual.result _ _ IsMemoryOrStore c.from_residual.ensures.1 (c.in_err-add_submission.ensures.shows clean inside counts v shows last)
-
--- ---- what the transaction goes on with
-
-pub returns-in_err-add_submission-clause-goes : goal.returns-in_err-add_submission-clause-goes
-returns-in_err-add_submission-clause-goes g c =
-    goes_fault (state g.S.Store c.args.batch.now.conn.now) (state g.S.Store c.add_submission.new.tx.conn.now) _ c.from_residual.result c.from_residual.ensures.1 c.in_err-add_submission.ensures.goes
-
-pub returns-clause-goes : goal.returns-clause-goes
-returns-clause-goes g c =
-    goes_then (state g.S.Store c.args.batch.now.conn.now) (state g.S.Store c.add_submission.new.tx.conn.now) (state g.S.Store c.count_submissions.new.tx.conn.now) _ c.count_submissions.result c.in_ok-add_submission.ensures.goes c.count_submissions.ensures.goes
-
--- ---- the connection is lent on
-
-pub returns-in_err-add_submission-clause-same_reference : goal.returns-in_err-add_submission-clause-same_reference
-returns-in_err-add_submission-clause-same_reference g c = c.add_submission.ensures.same_reference
-
-pub returns-clause-same_reference : goal.returns-clause-same_reference
-returns-clause-same_reference g c = c.count_submissions.ensures.same_reference ∙ c.add_submission.ensures.same_reference
+pub returns-in_err-add_submission : goal.returns-in_err-add_submission
+returns-in_err-add_submission g c = record {
+  same_reference = c.add_submission.ensures.same_reference;
+  goes =
+      goes_fault (state g.S.Store c.args.batch.now.conn.now) (state g.S.Store c.add_submission.new.tx.conn.now) _ c.from_residual.result c.from_residual.ensures.1 c.in_err-add_submission.ensures.goes;
+  shows = λ clean inside counts v shows last.
+      passed_on c.from_residual.result _ _ IsMemoryOrStore c.from_residual.ensures.1 (c.in_err-add_submission.ensures.shows clean inside counts v shows last);
+}

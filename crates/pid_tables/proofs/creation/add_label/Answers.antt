@@ -17,7 +17,11 @@ returns-clause-added g c clean inside m has none =
     (rw (c.to_sql-label.ensures, c.to_sql-value.ensures) at (c.write_one.ensures.runs.ran clean inside))
     (c.write_one.ensures.runs.only_store clean pid_schema (λ opened. has.schema) (insert_writes (insert_meta_is Two)))
 
-pub returns-clause-carried : goal.returns-clause-carried
-returns-clause-carried g c clean inside =
-    carried_one g.S.Store new_label_text (Text c.args.label.now ∷ number c.args.value ∷ []) c.args.tx.now.conn.now c.write_one.new.tx.conn.now c.write_one.result
-    (rw (c.to_sql-label.ensures, c.to_sql-value.ensures) at (c.write_one.ensures.runs.ran clean inside))
+pub returns-clause-works : goal.returns-clause-works
+returns-clause-works g c = record {
+  same_reference = c.write_one.ensures.same_reference;
+  goes = c.write_one.ensures.goes;
+  carried = λ clean inside.
+      carried_one g.S.Store new_label_text (Text c.args.label.now ∷ number c.args.value ∷ []) c.args.tx.now.conn.now c.write_one.new.tx.conn.now c.write_one.result
+      (rw (c.to_sql-label.ensures, c.to_sql-value.ensures) at (c.write_one.ensures.runs.ran clean inside));
+}

@@ -37,7 +37,7 @@ returns-in_err-make_registry-clause-at_once g c =
     let end = c.drop-batch.new.self.0 in
     let same = same_undone g c in
     let first = c.make_registry.new.tx.conn.now in
-    let goes = rw c.transaction-batch.ensures.begun at c.make_registry.ensures.goes in
+    let goes = rw c.transaction-batch.ensures.begun at c.make_registry.ensures.works.goes in
     subst (λ h. WritesAtOnce old (state g.S.Store h) c.from_residual.result) same
     (reads_at_once old (state g.S.Store end) c.from_residual.result (reads_begun g.S.Store c.args.conn.now first end c.make_registry.result (clean_if_open (g.S.Store.view first.store) (g.met.S.Store.shut_if_dirty first.store))
     (clean_if_open (g.S.Store.view end.store) (g.met.S.Store.shut_if_dirty end.store)) goes c.drop-batch.ensures.ended c.drop-batch.ensures.undone c.drop-batch.ensures.survives))
@@ -48,7 +48,7 @@ returns-in_err-make_registry-clause-statements g c =
     let end = c.drop-batch.new.self.0 in
     let same = same_undone g c in
     let first = c.make_registry.new.tx.conn.now in
-    let goes = rw c.transaction-batch.ensures.begun at c.make_registry.ensures.goes in
+    let goes = rw c.transaction-batch.ensures.begun at c.make_registry.ensures.works.goes in
     let made = IsMadeBy g.S.Store registry_statements c.args.conn.now in
     subst (λ h. Carries g.S.Store registry_statements c.args.conn.now h c.from_residual.result) same (record {
       survives = reads_never made old (state g.S.Store end) (reads_begun g.S.Store c.args.conn.now first end c.make_registry.result (clean_if_open (g.S.Store.view first.store) (g.met.S.Store.shut_if_dirty first.store))
@@ -62,7 +62,7 @@ returns-in_err-make_registry-clause-makes g c =
     let end = c.drop-batch.new.self.0 in
     let same = same_undone g c in
     let first = c.make_registry.new.tx.conn.now in
-    let goes = rw c.transaction-batch.ensures.begun at c.make_registry.ensures.goes in
+    let goes = rw c.transaction-batch.ensures.begun at c.make_registry.ensures.works.goes in
     let filled = rw c.transaction-batch.ensures.begun at c.in_err-make_registry.ensures.filled in
     subst (λ h. MakesNew old (state g.S.Store h) c.from_residual.result) same (record {
       made = λ rest. not_on_ok c.from_residual.result _ _ c.from_residual.ensures.1;
@@ -81,7 +81,7 @@ returns-in_err-make_registry-clause-spares g c =
     let end = c.drop-batch.new.self.0 in
     let same = same_undone g c in
     let first = c.make_registry.new.tx.conn.now in
-    let goes = rw c.transaction-batch.ensures.begun at c.make_registry.ensures.goes in
+    let goes = rw c.transaction-batch.ensures.begun at c.make_registry.ensures.works.goes in
     let filled = rw c.transaction-batch.ensures.begun at c.in_err-make_registry.ensures.filled in
     let refused = rw c.transaction-batch.ensures.begun at c.in_err-make_registry.ensures.refused in
     let never = rw c.transaction-batch.ensures.begun at c.in_err-make_registry.ensures.never in
@@ -103,7 +103,7 @@ returns-clause-at_once g c =
     let first = c.make_registry.new.tx.conn.now in
     let end = c.commit.new.batch.0 in
     let same = same_ended g c in
-    let goes = rw c.transaction-batch.ensures.begun at c.in_ok-make_registry.ensures.goes in
+    let goes = rw c.transaction-batch.ensures.begun at c.in_ok-make_registry.ensures.works.goes in
     subst (λ h. WritesAtOnce (state g.S.Store c.args.conn.now) (state g.S.Store h) c.commit.result) same
     (commit_at_once g.S.Store c.args.conn.now first end (Ok c.in_ok-make_registry.field-0) goes c.commit.ensures.survives (clean_if_open (g.S.Store.view end.store) (g.met.S.Store.shut_if_dirty end.store)) c.commit.result c.commit.ensures.ended
     (λ clean. c.commit.ensures.ends.undone clean (goes.going (earlier (state g.S.Store first) (state g.S.Store end) c.commit.ensures.survives clean) refl).1)
@@ -115,8 +115,8 @@ returns-clause-statements g c =
     let first = c.make_registry.new.tx.conn.now in
     let end = c.commit.new.batch.0 in
     let same = same_ended g c in
-    let goes = rw c.transaction-batch.ensures.begun at c.in_ok-make_registry.ensures.goes in
-    let carried = rw c.transaction-batch.ensures.begun at c.in_ok-make_registry.ensures.carried in
+    let goes = rw c.transaction-batch.ensures.begun at c.in_ok-make_registry.ensures.works.goes in
+    let carried = rw c.transaction-batch.ensures.begun at c.in_ok-make_registry.ensures.works.carried in
     let made = IsMadeBy g.S.Store registry_statements old in
     let is_made : HasCleanDisk (state g.S.Store first) → made (seen g.S.Store first).trees = λ clean. record {
       was_open = goes.was_open clean (goes.going clean refl).0;
@@ -138,7 +138,7 @@ returns-clause-makes g c =
     let first = c.make_registry.new.tx.conn.now in
     let end = c.commit.new.batch.0 in
     let same = same_ended g c in
-    let goes = rw c.transaction-batch.ensures.begun at c.in_ok-make_registry.ensures.goes in
+    let goes = rw c.transaction-batch.ensures.begun at c.in_ok-make_registry.ensures.works.goes in
     let shows = rw c.transaction-batch.ensures.begun at c.in_ok-make_registry.ensures.filled in
     subst (λ h. MakesNew old (state g.S.Store h) c.commit.result) same (record {
       made = λ rest. c.commit.ensures.stands (views_of new_history) (λ clean. ((goes.going clean refl).0, shows clean refl rest.empty));
@@ -157,7 +157,7 @@ returns-clause-spares g c =
     let mid = state g.S.Store first in
     let end = c.commit.new.batch.0 in
     let same = same_ended g c in
-    let goes = rw c.transaction-batch.ensures.begun at c.in_ok-make_registry.ensures.goes in
+    let goes = rw c.transaction-batch.ensures.begun at c.in_ok-make_registry.ensures.works.goes in
     let refused = rw c.transaction-batch.ensures.begun at c.in_ok-make_registry.ensures.refused in
     let begun = state g.S.Store (record c.args.conn.now { in_transaction = true }) in
     let reads : (IsTrue old.is_open → IsNameTaken old) → OnlyReads old (state g.S.Store end) = λ met.

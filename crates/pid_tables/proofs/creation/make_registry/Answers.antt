@@ -24,14 +24,14 @@ returns-clause-filled g c clean inside made =
     let b = state g.S.Store c.make_tables.new.tx.conn.now in
     let d = state g.S.Store c.add_labels.new.tx.conn.now in
     let second = earlier d (state g.S.Store c.write_one.new.tx.conn.now) c.write_one.ensures.goes.survives clean in
-    let first = earlier b d c.add_labels.ensures.goes.survives second in
+    let first = earlier b d c.add_labels.ensures.works.goes.survives second in
     let one = c.in_ok-make_tables.ensures in
     let two = c.in_ok-add_labels.ensures in
-    let within = (one.goes.going first inside).1 in
+    let within = (one.works.goes.going first inside).1 in
     let has = two.added second within (all_made b.now (one.made first inside made)) in
     let shown = shows_nothing d.now has in
     led c.write_one.result (account_added d (state g.S.Store c.write_one.new.tx.conn.now) _ nothing_yet shown (codes "root") Administrator refl)
-    (rw (c.to_sql-name.ensures, c.to_sql-rank.ensures, c.from.ensures, c.number.ensures) at (c.write_one.ensures.runs.ran clean (two.goes.going second within).1))
+    (rw (c.to_sql-name.ensures, c.to_sql-rank.ensures, c.from.ensures, c.number.ensures) at (c.write_one.ensures.runs.ran clean (two.works.goes.going second within).1))
     (c.write_one.ensures.runs.only_store clean pid_schema (λ opened. shown.schema) (insert_writes (insert_account_is Two)))
 
 -- ---- where a name is taken
@@ -42,18 +42,18 @@ returns-in_err-make_tables-clause-refused g c clean inside met = passed_on c.fro
 pub returns-in_err-add_labels-clause-refused : goal.returns-in_err-add_labels-clause-refused
 returns-in_err-add_labels-clause-refused g c clean inside met =
     let b = state g.S.Store c.make_tables.new.tx.conn.now in
-    let first = earlier b (state g.S.Store c.add_labels.new.tx.conn.now) c.add_labels.ensures.goes.survives clean in
+    let first = earlier b (state g.S.Store c.add_labels.new.tx.conn.now) c.add_labels.ensures.works.goes.survives clean in
     let one = c.in_ok-make_tables.ensures in
-    absurd (none_met _ _ (one.takes first inside) (met (one.goes.was_open first (one.goes.going first inside).0)))
+    absurd (none_met _ _ (one.takes first inside) (met (one.works.goes.was_open first (one.works.goes.going first inside).0)))
 
 pub returns-clause-refused : goal.returns-clause-refused
 returns-clause-refused g c clean inside met =
     let b = state g.S.Store c.make_tables.new.tx.conn.now in
     let d = state g.S.Store c.add_labels.new.tx.conn.now in
     let second = earlier d (state g.S.Store c.write_one.new.tx.conn.now) c.write_one.ensures.goes.survives clean in
-    let first = earlier b d c.add_labels.ensures.goes.survives second in
+    let first = earlier b d c.add_labels.ensures.works.goes.survives second in
     let one = c.in_ok-make_tables.ensures in
-    absurd (none_met _ _ (one.takes first inside) (met (one.goes.was_open first (one.goes.going first inside).0)))
+    absurd (none_met _ _ (one.takes first inside) (met (one.works.goes.was_open first (one.works.goes.going first inside).0)))
 
 -- ---- no fault tells a later schema
 
@@ -65,53 +65,45 @@ returns-in_err-add_labels-clause-never g c clean inside = passed_from c.from_res
 
 -- ---- what was carried out
 
-pub returns-clause-carried : goal.returns-clause-carried
-returns-clause-carried g c clean inside =
-    let a = c.args.tx.now.conn.now in
-    let b = c.make_tables.new.tx.conn.now in
-    let d = c.add_labels.new.tx.conn.now in
-    let e = c.write_one.new.tx.conn.now in
-    let second = earlier (state g.S.Store d) (state g.S.Store e) c.write_one.ensures.goes.survives clean in
-    let first = earlier (state g.S.Store b) (state g.S.Store d) c.add_labels.ensures.goes.survives second in
-    let one = c.in_ok-make_tables.ensures in
-    let two = c.in_ok-add_labels.ensures in
-    let within = (one.goes.going first inside).1 in
-    carried_then g.S.Store (all_statements ++ label_statements) (root_statement ∷ []) a d e c.write_one.result
-    (carried_both g.S.Store all_statements label_statements a b d (one.carried first inside) (two.carried second within))
-    (carried_one g.S.Store new_account_text (Text (codes "root") ∷ number 3 ∷ []) d e c.write_one.result
-    (rw (c.to_sql-name.ensures, c.to_sql-rank.ensures, c.from.ensures, c.number.ensures) at (c.write_one.ensures.runs.ran clean (two.goes.going second within).1)))
+pub returns-clause-works : goal.returns-clause-works
+returns-clause-works g c = record {
+  same_reference = c.write_one.ensures.same_reference ∙ (c.add_labels.ensures.works.same_reference ∙ c.make_tables.ensures.works.same_reference);
+  goes =
+      let b = state g.S.Store c.make_tables.new.tx.conn.now in
+      let e = state g.S.Store c.write_one.new.tx.conn.now in
+      goes_then (state g.S.Store c.args.tx.now.conn.now) b e _ c.write_one.result c.in_ok-make_tables.ensures.works.goes
+      (goes_then b (state g.S.Store c.add_labels.new.tx.conn.now) e _ c.write_one.result c.in_ok-add_labels.ensures.works.goes c.write_one.ensures.goes);
+  carried = λ clean inside.
+      let a = c.args.tx.now.conn.now in
+      let b = c.make_tables.new.tx.conn.now in
+      let d = c.add_labels.new.tx.conn.now in
+      let e = c.write_one.new.tx.conn.now in
+      let second = earlier (state g.S.Store d) (state g.S.Store e) c.write_one.ensures.goes.survives clean in
+      let first = earlier (state g.S.Store b) (state g.S.Store d) c.add_labels.ensures.works.goes.survives second in
+      let one = c.in_ok-make_tables.ensures in
+      let two = c.in_ok-add_labels.ensures in
+      let within = (one.works.goes.going first inside).1 in
+      carried_then g.S.Store (all_statements ++ label_statements) (root_statement ∷ []) a d e c.write_one.result
+      (carried_both g.S.Store all_statements label_statements a b d (one.works.carried first inside) (two.works.carried second within))
+      (carried_one g.S.Store new_account_text (Text (codes "root") ∷ number 3 ∷ []) d e c.write_one.result
+      (rw (c.to_sql-name.ensures, c.to_sql-rank.ensures, c.from.ensures, c.number.ensures) at (c.write_one.ensures.runs.ran clean (two.works.goes.going second within).1)));
+}
 
 -- ---- what the transaction goes on with
 
-pub returns-in_err-make_tables-clause-goes : goal.returns-in_err-make_tables-clause-goes
-returns-in_err-make_tables-clause-goes g c =
-    goes_fault (state g.S.Store c.args.tx.now.conn.now) (state g.S.Store c.make_tables.new.tx.conn.now) _ c.from_residual.result c.from_residual.ensures.1 c.in_err-make_tables.ensures.goes
+pub returns-in_err-make_tables-clause-works : goal.returns-in_err-make_tables-clause-works
+returns-in_err-make_tables-clause-works g c = record {
+  same_reference = c.make_tables.ensures.works.same_reference;
+  goes =
+      goes_fault (state g.S.Store c.args.tx.now.conn.now) (state g.S.Store c.make_tables.new.tx.conn.now) _ c.from_residual.result c.from_residual.ensures.1 c.in_err-make_tables.ensures.works.goes;
+  carried = λ clean inside. not_on_ok c.from_residual.result _ _ c.from_residual.ensures.1;
+}
 
-pub returns-in_err-add_labels-clause-goes : goal.returns-in_err-add_labels-clause-goes
-returns-in_err-add_labels-clause-goes g c =
-    goes_fault_after (state g.S.Store c.args.tx.now.conn.now) (state g.S.Store c.make_tables.new.tx.conn.now) (state g.S.Store c.add_labels.new.tx.conn.now) _ _
-    c.from_residual-in_err-add_labels.result c.from_residual-in_err-add_labels.ensures.1 c.in_ok-make_tables.ensures.goes c.in_err-add_labels.ensures.goes
-
-pub returns-clause-goes : goal.returns-clause-goes
-returns-clause-goes g c =
-    let b = state g.S.Store c.make_tables.new.tx.conn.now in
-    let e = state g.S.Store c.write_one.new.tx.conn.now in
-    goes_then (state g.S.Store c.args.tx.now.conn.now) b e _ c.write_one.result c.in_ok-make_tables.ensures.goes
-    (goes_then b (state g.S.Store c.add_labels.new.tx.conn.now) e _ c.write_one.result c.in_ok-add_labels.ensures.goes c.write_one.ensures.goes)
-
-pub returns-in_err-make_tables-clause-carried : goal.returns-in_err-make_tables-clause-carried
-returns-in_err-make_tables-clause-carried g c clean inside = not_on_ok c.from_residual.result _ _ c.from_residual.ensures.1
-
-pub returns-in_err-add_labels-clause-carried : goal.returns-in_err-add_labels-clause-carried
-returns-in_err-add_labels-clause-carried g c clean inside = not_on_ok c.from_residual-in_err-add_labels.result _ _ c.from_residual-in_err-add_labels.ensures.1
-
--- ---- the connection is lent on
-
-pub returns-in_err-make_tables-clause-same_reference : goal.returns-in_err-make_tables-clause-same_reference
-returns-in_err-make_tables-clause-same_reference g c = c.make_tables.ensures.same_reference
-
-pub returns-in_err-add_labels-clause-same_reference : goal.returns-in_err-add_labels-clause-same_reference
-returns-in_err-add_labels-clause-same_reference g c = c.add_labels.ensures.same_reference ∙ c.make_tables.ensures.same_reference
-
-pub returns-clause-same_reference : goal.returns-clause-same_reference
-returns-clause-same_reference g c = c.write_one.ensures.same_reference ∙ (c.add_labels.ensures.same_reference ∙ c.make_tables.ensures.same_reference)
+pub returns-in_err-add_labels-clause-works : goal.returns-in_err-add_labels-clause-works
+returns-in_err-add_labels-clause-works g c = record {
+  same_reference = c.add_labels.ensures.works.same_reference ∙ c.make_tables.ensures.works.same_reference;
+  goes =
+      goes_fault_after (state g.S.Store c.args.tx.now.conn.now) (state g.S.Store c.make_tables.new.tx.conn.now) (state g.S.Store c.add_labels.new.tx.conn.now) _ _
+      c.from_residual-in_err-add_labels.result c.from_residual-in_err-add_labels.ensures.1 c.in_ok-make_tables.ensures.works.goes c.in_err-add_labels.ensures.works.goes;
+  carried = λ clean inside. not_on_ok c.from_residual-in_err-add_labels.result _ _ c.from_residual-in_err-add_labels.ensures.1;
+}

@@ -13,5 +13,9 @@ pub returns-clause-takes : goal.returns-clause-takes
 returns-clause-takes g c name it clean inside =
     taken c.args.sql.now name (state g.S.Store c.args.tx.now.conn.now) (state g.S.Store c.write_one.new.tx.conn.now) it c.write_one.result (c.write_one.ensures.runs.ran clean inside) c.write_one.ensures.never
 
-pub returns-clause-carried : goal.returns-clause-carried
-returns-clause-carried g c clean inside = carried_one g.S.Store c.args.sql.now [] c.args.tx.now.conn.now c.write_one.new.tx.conn.now c.write_one.result (c.write_one.ensures.runs.ran clean inside)
+pub returns-clause-works : goal.returns-clause-works
+returns-clause-works g c = record {
+  same_reference = c.write_one.ensures.same_reference;
+  goes = c.write_one.ensures.goes;
+  carried = λ clean inside. carried_one g.S.Store c.args.sql.now [] c.args.tx.now.conn.now c.write_one.new.tx.conn.now c.write_one.result (c.write_one.ensures.runs.ran clean inside);
+}

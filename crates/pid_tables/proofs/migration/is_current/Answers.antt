@@ -25,7 +25,7 @@ pub returns-in-Ok-clause-shown : goal.returns-in-Ok-clause-shown
 returns-in-Ok-clause-shown g c clean version counts numbers v shows =
     let found = c.in_ok-has_some_table.ensures.found in
     let early = c.schema_number.ensures.reads.rests.clean clean in
-    let db = (state g.S.Store c.has_some_table.new.conn).now in
+    let db = (state g.S.Store c.has_some_table.new.tables.conn).now in
     let there = subst (λ (d : Database). ShowsKeeping version counts numbers d v) (sym (found.same early)) (shows (found.was_open early)) in
     second_is_latest version c.in-Ok.number (schema_told db v there c.in-Ok.number (c.in-Ok.ensures.stored clean (exactly_first version db.schema there.schema)))
 
@@ -33,13 +33,13 @@ pub returns-in-Err-Damaged-clause-shown : goal.returns-in-Err-Damaged-clause-sho
 returns-in-Err-Damaged-clause-shown g c clean version counts numbers v shows =
     let found = c.in_ok-has_some_table.ensures.found in
     let early = c.schema_number.ensures.reads.rests.clean clean in
-    let db = (state g.S.Store c.has_some_table.new.conn).now in
+    let db = (state g.S.Store c.has_some_table.new.tables.conn).now in
     let there = subst (λ (d : Database). ShowsKeeping version counts numbers d v) (sym (found.same early)) (shows (found.was_open early)) in
     absurd (schema_there db v there (subst (ExplainsNumber db.trees (codes "schema")) c.in-Err-Damaged.field-0-is (c.in-Err-Damaged.ensures.stored clean (exactly_first version db.schema there.schema))))
 
 pub returns-in-Ok-clause-named : goal.returns-in-Ok-clause-named
 returns-in-Ok-clause-named g c clean is =
-    let db = (state g.S.Store c.has_some_table.new.conn).now in
+    let db = (state g.S.Store c.has_some_table.new.tables.conn).now in
     subst NamesLatest (c.in_ok-has_some_table.ensures.found.same (c.schema_number.ensures.reads.rests.clean clean)) (names_latest db (inl (shown_second db c.in-Ok.number is (c.in-Ok.ensures.shown clean))))
 
 pub returns-in-Ok-clause-bare : goal.returns-in-Ok-clause-bare

@@ -27,7 +27,7 @@ same_ended g c = search rules
 
 pub returns-clause-moved : goal.returns-clause-moved
 returns-clause-moved g c v rest =
-    let goes = rw c.transaction-batch.ensures.begun at c.in_ok-move_tables.ensures.goes in
+    let goes = rw c.transaction-batch.ensures.begun at c.in_ok-move_tables.ensures.works.goes in
     let shows = rw c.transaction-batch.ensures.begun at c.in_ok-move_tables.ensures.shows in
     let end = c.commit.new.batch.0 in
     let same = same_ended g c in
@@ -39,7 +39,7 @@ returns-in_err-move_tables-clause-kept g c v rest =
     let end = c.drop-batch.new.self.0 in
     let same = same_undone g c in
     let first = c.move_tables.new.tx.conn.now in
-    let goes = rw c.transaction-batch.ensures.begun at c.move_tables.ensures.goes in
+    let goes = rw c.transaction-batch.ensures.begun at c.move_tables.ensures.works.goes in
     on_err c.from_residual.result (subst (λ h. RestsIn One (state g.S.Store h) v) same
     (rests_in_still (state g.S.Store c.args.conn.now) (state g.S.Store end) v
     (reads_begun g.S.Store c.args.conn.now first end c.move_tables.result (clean_if_open (g.S.Store.view first.store) (g.met.S.Store.shut_if_dirty first.store))
@@ -50,7 +50,7 @@ returns-clause-kept g c v rest =
     let end = c.commit.new.batch.0 in
     let same = same_ended g c in
     let first = c.move_tables.new.tx.conn.now in
-    let goes = rw c.transaction-batch.ensures.begun at c.in_ok-move_tables.ensures.goes in
+    let goes = rw c.transaction-batch.ensures.begun at c.in_ok-move_tables.ensures.works.goes in
     let shows = rw c.transaction-batch.ensures.begun at c.in_ok-move_tables.ensures.shows in
     subst (λ h. OnErr c.commit.result (RestsIn One (state g.S.Store h) v)) same
     (failed_rests g.S.Store One c.args.conn.now first end (Ok c.in_ok-move_tables.field-0) c.commit.result v (clean_if_open (g.S.Store.view end.store) (g.met.S.Store.shut_if_dirty end.store))
@@ -72,7 +72,7 @@ returns-clause-only_store g c clean v rest =
     let end = c.commit.new.batch.0 in
     let same = same_ended g c in
     let late = subst (λ h. HasCleanDisk (state g.S.Store h)) (sym same) clean in
-    let goes = rw c.transaction-batch.ensures.begun at c.in_ok-move_tables.ensures.goes in
+    let goes = rw c.transaction-batch.ensures.begun at c.in_ok-move_tables.ensures.works.goes in
     all_only_store (state g.S.Store first) (state g.S.Store end) c.commit.result
     (c.commit.ensures.ends.caused late (goes.going (earlier (state g.S.Store first) (state g.S.Store end) c.commit.ensures.survives late) refl).1)
 
@@ -84,7 +84,7 @@ returns-in_err-move_tables-clause-at_once g c =
     let end = c.drop-batch.new.self.0 in
     let same = same_undone g c in
     let first = c.move_tables.new.tx.conn.now in
-    let goes = rw c.transaction-batch.ensures.begun at c.move_tables.ensures.goes in
+    let goes = rw c.transaction-batch.ensures.begun at c.move_tables.ensures.works.goes in
     subst (λ h. WritesAtOnce old (state g.S.Store h) c.from_residual.result) same
     (reads_at_once old (state g.S.Store end) c.from_residual.result (reads_begun g.S.Store c.args.conn.now first end c.move_tables.result
     (clean_if_open (g.S.Store.view first.store) (g.met.S.Store.shut_if_dirty first.store)) (clean_if_open (g.S.Store.view end.store) (g.met.S.Store.shut_if_dirty end.store))
@@ -95,7 +95,7 @@ returns-clause-at_once g c =
     let first = c.move_tables.new.tx.conn.now in
     let end = c.commit.new.batch.0 in
     let same = same_ended g c in
-    let goes = rw c.transaction-batch.ensures.begun at c.in_ok-move_tables.ensures.goes in
+    let goes = rw c.transaction-batch.ensures.begun at c.in_ok-move_tables.ensures.works.goes in
     subst (λ h. WritesAtOnce (state g.S.Store c.args.conn.now) (state g.S.Store h) c.commit.result) same
     (commit_at_once g.S.Store c.args.conn.now first end (Ok c.in_ok-move_tables.field-0) goes c.commit.ensures.survives (clean_if_open (g.S.Store.view end.store) (g.met.S.Store.shut_if_dirty end.store)) c.commit.result c.commit.ensures.ended
     (λ clean. c.commit.ensures.ends.undone clean (goes.going (earlier (state g.S.Store first) (state g.S.Store end) c.commit.ensures.survives clean) refl).1)
@@ -110,7 +110,7 @@ returns-clause-never g c clean =
     let end = c.commit.new.batch.0 in
     let same = same_ended g c in
     let late = subst (λ h. HasCleanDisk (state g.S.Store h)) (sym same) clean in
-    let goes = rw c.transaction-batch.ensures.begun at c.in_ok-move_tables.ensures.goes in
+    let goes = rw c.transaction-batch.ensures.begun at c.in_ok-move_tables.ensures.works.goes in
     all_never c.commit.result (all_only_store (state g.S.Store first) (state g.S.Store end) c.commit.result
     (c.commit.ensures.ends.caused late (goes.going (earlier (state g.S.Store first) (state g.S.Store end) c.commit.ensures.survives late) refl).1))
 
@@ -122,7 +122,7 @@ returns-in_err-move_tables-clause-statements g c =
     let end = c.drop-batch.new.self.0 in
     let same = same_undone g c in
     let first = c.move_tables.new.tx.conn.now in
-    let goes = rw c.transaction-batch.ensures.begun at c.move_tables.ensures.goes in
+    let goes = rw c.transaction-batch.ensures.begun at c.move_tables.ensures.works.goes in
     let made = IsMadeBy g.S.Store move_statements c.args.conn.now in
     subst (λ h. Carries g.S.Store move_statements c.args.conn.now h c.from_residual.result) same (record {
       survives = reads_never made old (state g.S.Store end) (reads_begun g.S.Store c.args.conn.now first end c.move_tables.result (clean_if_open (g.S.Store.view first.store) (g.met.S.Store.shut_if_dirty first.store))
@@ -136,8 +136,8 @@ returns-clause-statements g c =
     let first = c.move_tables.new.tx.conn.now in
     let end = c.commit.new.batch.0 in
     let same = same_ended g c in
-    let goes = rw c.transaction-batch.ensures.begun at c.in_ok-move_tables.ensures.goes in
-    let carried = rw c.transaction-batch.ensures.begun at c.in_ok-move_tables.ensures.carried in
+    let goes = rw c.transaction-batch.ensures.begun at c.in_ok-move_tables.ensures.works.goes in
+    let carried = rw c.transaction-batch.ensures.begun at c.in_ok-move_tables.ensures.works.carried in
     let made = IsMadeBy g.S.Store move_statements old in
     let is_made : HasCleanDisk (state g.S.Store first) → made (seen g.S.Store first).trees = λ clean. record {
       was_open = goes.was_open clean (goes.going clean refl).0;

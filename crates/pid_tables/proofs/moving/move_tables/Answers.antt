@@ -79,77 +79,65 @@ returns-in_err-write_one-3-clause-never g c = passed_on c.from_residual-in_err-w
 
 -- ---- what was carried out
 
-pub returns-clause-carried : goal.returns-clause-carried
-returns-clause-carried g c clean inside =
-    let start = c.args.tx.now.conn.now in
-    let a = c.write_one.new.tx.conn.now in
-    let b = c.write_one-2.new.tx.conn.now in
-    let d = c.write_one-3.new.tx.conn.now in
-    let end = c.write_one-4.new.tx.conn.now in
-    let third = earlier (state g.S.Store d) (state g.S.Store end) c.write_one-4.ensures.goes.survives clean in
-    let second = earlier (state g.S.Store b) (state g.S.Store d) c.write_one-3.ensures.goes.survives third in
-    let first = earlier (state g.S.Store a) (state g.S.Store b) c.write_one-2.ensures.goes.survives second in
-    let one = c.in_ok-write_one.ensures in
-    let two = c.in_ok-write_one-2.ensures in
-    let three = c.in_ok-write_one-3.ensures in
-    let in_one = (one.goes.going first inside).1 in
-    let in_two = (two.goes.going second in_one).1 in
-    let made = one.runs.ran first inside in
-    let filled = two.runs.ran second in_one in
-    let added = rw (c.to_sql-revision.ensures, c.to_sql-none.ensures) at (three.runs.ran third in_two) in
-    let schema = Text (codes "schema") ∷ number 2 ∷ [] in
-    carried_then g.S.Store ((item_since_text, []) ∷ (item_since_rows_text, []) ∷ (new_label_text, Text (codes "revision") ∷ number 0 ∷ []) ∷ []) ((label_text, schema) ∷ []) start d end c.write_one-4.result
-    (a, made.0, made.1, (b, filled.0, filled.1, (d, added.0, added.1, refl)))
-    (carried_one g.S.Store label_text schema d end c.write_one-4.result
-    (rw (c.to_sql-schema.ensures, c.to_sql-latest.ensures) at (c.write_one-4.ensures.runs.ran clean (three.goes.going third in_two).1)))
+pub returns-clause-works : goal.returns-clause-works
+returns-clause-works g c = record {
+  same_reference = c.write_one-4.ensures.same_reference ∙ (c.write_one-3.ensures.same_reference ∙ (c.write_one-2.ensures.same_reference ∙ c.write_one.ensures.same_reference));
+  goes =
+      let a = state g.S.Store c.write_one.new.tx.conn.now in
+      let b = state g.S.Store c.write_one-2.new.tx.conn.now in
+      let end = state g.S.Store c.write_one-4.new.tx.conn.now in
+      goes_then (state g.S.Store c.args.tx.now.conn.now) a end _ c.write_one-4.result c.in_ok-write_one.ensures.goes
+      (goes_then a b end _ c.write_one-4.result c.in_ok-write_one-2.ensures.goes
+      (goes_then b (state g.S.Store c.write_one-3.new.tx.conn.now) end _ c.write_one-4.result c.in_ok-write_one-3.ensures.goes c.write_one-4.ensures.goes));
+  carried = λ clean inside.
+      let start = c.args.tx.now.conn.now in
+      let a = c.write_one.new.tx.conn.now in
+      let b = c.write_one-2.new.tx.conn.now in
+      let d = c.write_one-3.new.tx.conn.now in
+      let end = c.write_one-4.new.tx.conn.now in
+      let third = earlier (state g.S.Store d) (state g.S.Store end) c.write_one-4.ensures.goes.survives clean in
+      let second = earlier (state g.S.Store b) (state g.S.Store d) c.write_one-3.ensures.goes.survives third in
+      let first = earlier (state g.S.Store a) (state g.S.Store b) c.write_one-2.ensures.goes.survives second in
+      let one = c.in_ok-write_one.ensures in
+      let two = c.in_ok-write_one-2.ensures in
+      let three = c.in_ok-write_one-3.ensures in
+      let in_one = (one.goes.going first inside).1 in
+      let in_two = (two.goes.going second in_one).1 in
+      let made = one.runs.ran first inside in
+      let filled = two.runs.ran second in_one in
+      let added = rw (c.to_sql-revision.ensures, c.to_sql-none.ensures) at (three.runs.ran third in_two) in
+      let schema = Text (codes "schema") ∷ number 2 ∷ [] in
+      carried_then g.S.Store ((item_since_text, []) ∷ (item_since_rows_text, []) ∷ (new_label_text, Text (codes "revision") ∷ number 0 ∷ []) ∷ []) ((label_text, schema) ∷ []) start d end c.write_one-4.result
+      (a, made.0, made.1, (b, filled.0, filled.1, (d, added.0, added.1, refl)))
+      (carried_one g.S.Store label_text schema d end c.write_one-4.result
+      (rw (c.to_sql-schema.ensures, c.to_sql-latest.ensures) at (c.write_one-4.ensures.runs.ran clean (three.goes.going third in_two).1)));
+}
 
-pub returns-in_err-write_one-clause-carried : goal.returns-in_err-write_one-clause-carried
-returns-in_err-write_one-clause-carried g c clean inside = not_on_ok c.from_residual.result _ _ c.from_residual.ensures.1
+pub returns-in_err-write_one-clause-works : goal.returns-in_err-write_one-clause-works
+returns-in_err-write_one-clause-works g c = record {
+  same_reference = c.write_one.ensures.same_reference;
+  goes =
+      goes_fault (state g.S.Store c.args.tx.now.conn.now) (state g.S.Store c.write_one.new.tx.conn.now) _ c.from_residual.result c.from_residual.ensures.1 c.in_err-write_one.ensures.goes;
+  carried = λ clean inside. not_on_ok c.from_residual.result _ _ c.from_residual.ensures.1;
+}
 
-pub returns-in_err-write_one-2-clause-carried : goal.returns-in_err-write_one-2-clause-carried
-returns-in_err-write_one-2-clause-carried g c clean inside = not_on_ok c.from_residual-in_err-write_one-2.result _ _ c.from_residual-in_err-write_one-2.ensures.1
+pub returns-in_err-write_one-2-clause-works : goal.returns-in_err-write_one-2-clause-works
+returns-in_err-write_one-2-clause-works g c = record {
+  same_reference = c.write_one-2.ensures.same_reference ∙ c.write_one.ensures.same_reference;
+  goes =
+      goes_fault_after (state g.S.Store c.args.tx.now.conn.now) (state g.S.Store c.write_one.new.tx.conn.now) (state g.S.Store c.write_one-2.new.tx.conn.now) _ _
+      c.from_residual-in_err-write_one-2.result c.from_residual-in_err-write_one-2.ensures.1 c.in_ok-write_one.ensures.goes c.in_err-write_one-2.ensures.goes;
+  carried = λ clean inside. not_on_ok c.from_residual-in_err-write_one-2.result _ _ c.from_residual-in_err-write_one-2.ensures.1;
+}
 
-pub returns-in_err-write_one-3-clause-carried : goal.returns-in_err-write_one-3-clause-carried
-returns-in_err-write_one-3-clause-carried g c clean inside = not_on_ok c.from_residual-in_err-write_one-3.result _ _ c.from_residual-in_err-write_one-3.ensures.1
-
--- ---- what the transaction goes on with
-
-pub returns-in_err-write_one-clause-goes : goal.returns-in_err-write_one-clause-goes
-returns-in_err-write_one-clause-goes g c =
-    goes_fault (state g.S.Store c.args.tx.now.conn.now) (state g.S.Store c.write_one.new.tx.conn.now) _ c.from_residual.result c.from_residual.ensures.1 c.in_err-write_one.ensures.goes
-
-pub returns-in_err-write_one-2-clause-goes : goal.returns-in_err-write_one-2-clause-goes
-returns-in_err-write_one-2-clause-goes g c =
-    goes_fault_after (state g.S.Store c.args.tx.now.conn.now) (state g.S.Store c.write_one.new.tx.conn.now) (state g.S.Store c.write_one-2.new.tx.conn.now) _ _
-    c.from_residual-in_err-write_one-2.result c.from_residual-in_err-write_one-2.ensures.1 c.in_ok-write_one.ensures.goes c.in_err-write_one-2.ensures.goes
-
-pub returns-in_err-write_one-3-clause-goes : goal.returns-in_err-write_one-3-clause-goes
-returns-in_err-write_one-3-clause-goes g c =
-    let start = state g.S.Store c.args.tx.now.conn.now in
-    let a = state g.S.Store c.write_one.new.tx.conn.now in
-    let b = state g.S.Store c.write_one-2.new.tx.conn.now in
-    goes_fault_after start b (state g.S.Store c.write_one-3.new.tx.conn.now) _ _ c.from_residual-in_err-write_one-3.result c.from_residual-in_err-write_one-3.ensures.1
-    (goes_then start a b _ (Ok c.in_ok-write_one-2.field-0) c.in_ok-write_one.ensures.goes c.in_ok-write_one-2.ensures.goes) c.in_err-write_one-3.ensures.goes
-
-pub returns-clause-goes : goal.returns-clause-goes
-returns-clause-goes g c =
-    let a = state g.S.Store c.write_one.new.tx.conn.now in
-    let b = state g.S.Store c.write_one-2.new.tx.conn.now in
-    let end = state g.S.Store c.write_one-4.new.tx.conn.now in
-    goes_then (state g.S.Store c.args.tx.now.conn.now) a end _ c.write_one-4.result c.in_ok-write_one.ensures.goes
-    (goes_then a b end _ c.write_one-4.result c.in_ok-write_one-2.ensures.goes
-    (goes_then b (state g.S.Store c.write_one-3.new.tx.conn.now) end _ c.write_one-4.result c.in_ok-write_one-3.ensures.goes c.write_one-4.ensures.goes))
-
--- ---- the connection is lent on
-
-pub returns-in_err-write_one-clause-same_reference : goal.returns-in_err-write_one-clause-same_reference
-returns-in_err-write_one-clause-same_reference g c = c.write_one.ensures.same_reference
-
-pub returns-in_err-write_one-2-clause-same_reference : goal.returns-in_err-write_one-2-clause-same_reference
-returns-in_err-write_one-2-clause-same_reference g c = c.write_one-2.ensures.same_reference ∙ c.write_one.ensures.same_reference
-
-pub returns-in_err-write_one-3-clause-same_reference : goal.returns-in_err-write_one-3-clause-same_reference
-returns-in_err-write_one-3-clause-same_reference g c = c.write_one-3.ensures.same_reference ∙ (c.write_one-2.ensures.same_reference ∙ c.write_one.ensures.same_reference)
-
-pub returns-clause-same_reference : goal.returns-clause-same_reference
-returns-clause-same_reference g c = c.write_one-4.ensures.same_reference ∙ (c.write_one-3.ensures.same_reference ∙ (c.write_one-2.ensures.same_reference ∙ c.write_one.ensures.same_reference))
+pub returns-in_err-write_one-3-clause-works : goal.returns-in_err-write_one-3-clause-works
+returns-in_err-write_one-3-clause-works g c = record {
+  same_reference = c.write_one-3.ensures.same_reference ∙ (c.write_one-2.ensures.same_reference ∙ c.write_one.ensures.same_reference);
+  goes =
+      let start = state g.S.Store c.args.tx.now.conn.now in
+      let a = state g.S.Store c.write_one.new.tx.conn.now in
+      let b = state g.S.Store c.write_one-2.new.tx.conn.now in
+      goes_fault_after start b (state g.S.Store c.write_one-3.new.tx.conn.now) _ _ c.from_residual-in_err-write_one-3.result c.from_residual-in_err-write_one-3.ensures.1
+      (goes_then start a b _ (Ok c.in_ok-write_one-2.field-0) c.in_ok-write_one.ensures.goes c.in_ok-write_one-2.ensures.goes) c.in_err-write_one-3.ensures.goes;
+  carried = λ clean inside. not_on_ok c.from_residual-in_err-write_one-3.result _ _ c.from_residual-in_err-write_one-3.ensures.1;
+}

@@ -18,40 +18,30 @@ use Rattle.pid_tables.proofs.putting.compare.Goals as goal
 
 -- ---- the row is that of the item, if it is there
 
-pub returns-clause-found : goal.returns-clause-found
-returns-clause-found g c clean counts v shows =
-    let found = name_found (state g.S.Store c.args.batch.now.conn.now) (state g.S.Store c.read_inside.new.tx.conn.now) counts v shows c.in_ok-rows.rows.items c.args.path.now (rw c.to_sql-path.ensures at (c.in_ok-rows.ensures.shown clean)) in
-    let item = name_at c.args.path.now v.items in
-    let put = c.put_by.ensures item (ap (λ l. slice_get l 0) c.as_slice.ensures.value ∙ found) in
-    subst (λ (r : Result Put TableFault). IfOk r (λ put. put ≡ put_over c.args.name.now item)) (sym put) refl
-
-pub returns-clause-shows : goal.returns-clause-shows
-returns-clause-shows g c clean inside counts v shows _ =
-    let shown = c.in_ok-rows.ensures.shown clean in
-    let found = name_found (state g.S.Store c.args.batch.now.conn.now) (state g.S.Store c.read_inside.new.tx.conn.now) counts v shows c.in_ok-rows.rows.items c.args.path.now (rw c.to_sql-path.ensures at shown) in
-    let put = c.put_by.ensures (name_at c.args.path.now v.items) (ap (λ l. slice_get l 0) c.as_slice.ensures.value ∙ found) in
-    subst (λ (r : Result Put TableFault). MatchResult r (λ _. ShowsCounting counts (state g.S.Store c.read_inside.new.tx.conn.now).now v) IsMemoryOrStore) (sym put)
-    (shows_still select_item _ (state g.S.Store c.args.batch.now.conn.now) (state g.S.Store c.read_inside.new.tx.conn.now) c.in_ok-rows.rows.items counts v (select_item_is Two).plain shows shown)
-
-pub returns-clause-goes : goal.returns-clause-goes
-returns-clause-goes g c = goes_still (state g.S.Store c.args.batch.now.conn.now) (state g.S.Store c.read_inside.new.tx.conn.now) _ c.put_by.result c.in_ok-rows.ensures.goes
+pub returns : goal.returns
+returns g c = record {
+  same_reference = c.read_inside.ensures.same_reference;
+  goes = goes_still (state g.S.Store c.args.batch.now.conn.now) (state g.S.Store c.read_inside.new.tx.conn.now) _ c.put_by.result c.in_ok-rows.ensures.goes;
+  shows = λ clean inside counts v shows _.
+      let shown = c.in_ok-rows.ensures.shown clean in
+      let found = name_found (state g.S.Store c.args.batch.now.conn.now) (state g.S.Store c.read_inside.new.tx.conn.now) counts v shows c.in_ok-rows.rows.items c.args.path.now (rw c.to_sql-path.ensures at shown) in
+      let put = c.put_by.ensures (name_at c.args.path.now v.items) (ap (λ l. slice_get l 0) c.as_slice.ensures.value ∙ found) in
+      subst (λ (r : Result Put TableFault). MatchResult r (λ _. ShowsCounting counts (state g.S.Store c.read_inside.new.tx.conn.now).now v) IsMemoryOrStore) (sym put)
+      (shows_still select_item _ (state g.S.Store c.args.batch.now.conn.now) (state g.S.Store c.read_inside.new.tx.conn.now) c.in_ok-rows.rows.items counts v (select_item_is Two).plain shows shown);
+  told = λ clean counts v shows.
+      let found = name_found (state g.S.Store c.args.batch.now.conn.now) (state g.S.Store c.read_inside.new.tx.conn.now) counts v shows c.in_ok-rows.rows.items c.args.path.now (rw c.to_sql-path.ensures at (c.in_ok-rows.ensures.shown clean)) in
+      let item = name_at c.args.path.now v.items in
+      let put = c.put_by.ensures item (ap (λ l. slice_get l 0) c.as_slice.ensures.value ∙ found) in
+      subst (λ (r : Result Put TableFault). IfOk r (λ put. put ≡ put_over c.args.name.now item)) (sym put) refl;
+}
 
 -- ---- the query fails
 
-pub returns-in_err-rows-clause-shows : goal.returns-in_err-rows-clause-shows
-returns-in_err-rows-clause-shows g c clean inside counts v shows _ =
-    passed_on c.from_residual.result _ _ IsMemoryOrStore c.from_residual.ensures.1 (c.in_err-rows.ensures.faults.only_store clean pid_schema shows.schema (select_item_is Two).plain)
-
-pub returns-in_err-rows-clause-goes : goal.returns-in_err-rows-clause-goes
-returns-in_err-rows-clause-goes g c = goes_fault (state g.S.Store c.args.batch.now.conn.now) (state g.S.Store c.read_inside.new.tx.conn.now) _ c.from_residual.result c.from_residual.ensures.1 c.in_err-rows.ensures.goes
-
-pub returns-in_err-rows-clause-found : goal.returns-in_err-rows-clause-found
-returns-in_err-rows-clause-found g c clean counts v shows = not_ok c.from_residual.result _ _ c.from_residual.ensures.1
-
--- ---- the connection is lent on
-
-pub returns-in_err-rows-clause-same_reference : goal.returns-in_err-rows-clause-same_reference
-returns-in_err-rows-clause-same_reference g c = c.read_inside.ensures.same_reference
-
-pub returns-clause-same_reference : goal.returns-clause-same_reference
-returns-clause-same_reference g c = c.read_inside.ensures.same_reference
+pub returns-in_err-rows : goal.returns-in_err-rows
+returns-in_err-rows g c = record {
+  same_reference = c.read_inside.ensures.same_reference;
+  goes = goes_fault (state g.S.Store c.args.batch.now.conn.now) (state g.S.Store c.read_inside.new.tx.conn.now) _ c.from_residual.result c.from_residual.ensures.1 c.in_err-rows.ensures.goes;
+  shows = λ clean inside counts v shows _.
+      passed_on c.from_residual.result _ _ IsMemoryOrStore c.from_residual.ensures.1 (c.in_err-rows.ensures.faults.only_store clean pid_schema shows.schema (select_item_is Two).plain);
+  told = λ clean counts v shows. not_ok c.from_residual.result _ _ c.from_residual.ensures.1;
+}

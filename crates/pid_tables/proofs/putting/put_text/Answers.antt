@@ -23,19 +23,15 @@ record Wrote (old mid new : State) (r : Result (Unit {0}) TableFault) (n : ℕ) 
   back : HasCleanDisk new → HasCleanDisk mid
   shows : LeadsTo old new r (naming n path name)
 
-pub returns-in_err-put-clause-shows : goal.returns-in_err-put-clause-shows
-returns-in_err-put-clause-shows g c clean inside counts v shows _ =
-    passed_on c.from_residual.result _ _ IsMemoryOrStore c.from_residual.ensures.1 (c.in_err-put.ensures.shows clean inside counts v shows tt)
-
-pub returns-in_err-put-clause-goes : goal.returns-in_err-put-clause-goes
-returns-in_err-put-clause-goes g c =
-    goes_fault (state g.S.Store c.args.batch.now.conn.now) (state g.S.Store c.compare.new.batch.conn.now) _ c.from_residual.result c.from_residual.ensures.1 c.in_err-put.ensures.goes
-
-pub returns-in_err-put-clause-told : goal.returns-in_err-put-clause-told
-returns-in_err-put-clause-told g c clean counts v shows = not_ok c.from_residual.result _ _ c.from_residual.ensures.1
-
-pub returns-in_err-put-clause-same_reference : goal.returns-in_err-put-clause-same_reference
-returns-in_err-put-clause-same_reference g c = c.compare.ensures.same_reference
+pub returns-in_err-put : goal.returns-in_err-put
+returns-in_err-put g c = record {
+  same_reference = c.compare.ensures.same_reference;
+  goes =
+      goes_fault (state g.S.Store c.args.batch.now.conn.now) (state g.S.Store c.compare.new.batch.conn.now) _ c.from_residual.result c.from_residual.ensures.1 c.in_err-put.ensures.goes;
+  shows = λ clean inside counts v shows _.
+      passed_on c.from_residual.result _ _ IsMemoryOrStore c.from_residual.ensures.1 (c.in_err-put.ensures.shows clean inside counts v shows tt);
+  told = λ clean counts v shows. not_ok c.from_residual.result _ _ c.from_residual.ensures.1;
+}
 
 pub returns : goal.returns
 returns g c =
@@ -55,7 +51,7 @@ returns g c =
             back = earlier mid end second.goes.survives;
             shows = λ clean inside counts v shows _.
                 let early = earlier mid end second.goes.survives clean in
-                second.shows clean (first.goes.going early inside).1 counts v (first.shows early inside counts v shows tt) (none_there name (name_at path v.items) (sym w.in-Added.is ∙ first.found early counts v shows));
+                second.shows clean (first.goes.going early inside).1 counts v (first.shows early inside counts v shows tt) (none_there name (name_at path v.items) (sym w.in-Added.is ∙ first.told early counts v shows));
           }))
       | in-Renamed w ↦
           let end = state g.S.Store w.rename_item-written.new.tx.conn.now in
@@ -65,13 +61,13 @@ returns g c =
             back = earlier mid end second.goes.survives;
             shows = λ clean inside counts v shows _.
                 let early = earlier mid end second.goes.survives clean in
-                second.shows clean (first.goes.going early inside).1 counts v (first.shows early inside counts v shows tt) (other_there name (name_at path v.items) (sym w.in-Renamed.is ∙ first.found early counts v shows));
+                second.shows clean (first.goes.going early inside).1 counts v (first.shows early inside counts v shows tt) (other_there name (name_at path v.items) (sym w.in-Renamed.is ∙ first.told early counts v shows));
           }))
       | in-Same w ↦
           subst (λ b. Wrote old mid (state g.S.Store b.conn.now) c.match-put.written n path name) (sym w.batch-is) (subst (λ r. Wrote old mid mid r n path name) (sym w.written-is) (record {
             goes = goes_value old mid _ _ first.goes;
             back = λ clean. clean;
-            shows = λ clean inside counts v shows _. still_with n path name counts v mid (same_there name (name_at path v.items) (sym w.in-Same.is ∙ first.found clean counts v shows)) (first.shows clean inside counts v shows tt);
+            shows = λ clean inside counts v shows _. still_with n path name counts v mid (same_there name (name_at path v.items) (sym w.in-Same.is ∙ first.told clean counts v shows)) (first.shows clean inside counts v shows tt);
           }))
     ] in
     let same : c.match-put.batch.conn.ghost_name ≡ c.args.batch.now.conn.ghost_name = elim c.match-put.branch [
@@ -83,7 +79,7 @@ returns g c =
       same_reference = same;
       goes = goes_value old new _ _ (subst (λ r. GoesOn old new r) c.in_ok-written.was wrote.goes);
       shows = subst (λ r. LeadsTo old new r (naming n path name)) c.in_ok-written.was wrote.shows;
-      told = λ clean counts v shows. first.found (wrote.back clean) counts v shows;
+      told = λ clean counts v shows. first.told (wrote.back clean) counts v shows;
     }
 
 pub returns-in_err-written : goal.returns-in_err-written
@@ -104,7 +100,7 @@ returns-in_err-written g c =
             back = earlier mid end second.goes.survives;
             shows = λ clean inside counts v shows _.
                 let early = earlier mid end second.goes.survives clean in
-                second.shows clean (first.goes.going early inside).1 counts v (first.shows early inside counts v shows tt) (none_there name (name_at path v.items) (sym w.in-Added.is ∙ first.found early counts v shows));
+                second.shows clean (first.goes.going early inside).1 counts v (first.shows early inside counts v shows tt) (none_there name (name_at path v.items) (sym w.in-Added.is ∙ first.told early counts v shows));
           }))
       | in-Renamed w ↦
           let end = state g.S.Store w.rename_item-written.new.tx.conn.now in
@@ -114,13 +110,13 @@ returns-in_err-written g c =
             back = earlier mid end second.goes.survives;
             shows = λ clean inside counts v shows _.
                 let early = earlier mid end second.goes.survives clean in
-                second.shows clean (first.goes.going early inside).1 counts v (first.shows early inside counts v shows tt) (other_there name (name_at path v.items) (sym w.in-Renamed.is ∙ first.found early counts v shows));
+                second.shows clean (first.goes.going early inside).1 counts v (first.shows early inside counts v shows tt) (other_there name (name_at path v.items) (sym w.in-Renamed.is ∙ first.told early counts v shows));
           }))
       | in-Same w ↦
           subst (λ b. Wrote old mid (state g.S.Store b.conn.now) c.match-put.written n path name) (sym w.batch-is) (subst (λ r. Wrote old mid mid r n path name) (sym w.written-is) (record {
             goes = goes_value old mid _ _ first.goes;
             back = λ clean. clean;
-            shows = λ clean inside counts v shows _. still_with n path name counts v mid (same_there name (name_at path v.items) (sym w.in-Same.is ∙ first.found clean counts v shows)) (first.shows clean inside counts v shows tt);
+            shows = λ clean inside counts v shows _. still_with n path name counts v mid (same_there name (name_at path v.items) (sym w.in-Same.is ∙ first.told clean counts v shows)) (first.shows clean inside counts v shows tt);
           }))
     ] in
     let same : c.match-put.batch.conn.ghost_name ≡ c.args.batch.now.conn.ghost_name = elim c.match-put.branch [

@@ -1,21 +1,36 @@
--- What clauses say of a connection in a transaction: the definitions of Reading, of what the
--- connections show.
-use Rattle.std.specs.Prelude.{List, Result}
+-- What clauses say of a connection that the check only reads: the definitions of Reading, of what
+-- the connections show.
+use Rattle.std.specs.Prelude.{◌≡◌, List, Result, IfOk, IfErr}
 use Rattle.sqlite.specs.Effect.{Database}
 use Rattle.sqlite.specs.Held.{Held, state}
 use Rattle.sqlite.specs.Order.{Row}
 use Rattle.sqlite_trees.specs.declared.store.Store.{Ghosts}
 use Rattle.pid_tables.specs.declared.rows.fault.TableFault.{TableFault}
 use Rattle.pid_tables.specs.declared.check.shape.Table.{Table}
+use Rattle.pid_tables.specs.Rows.Clauses.{HasCleanDisk, OnlyReads, seen}
+use Rattle.pid_tables.specs.Rows.Faults.{IsMemoryOrStore}
 use Rattle.pid_tables.specs.Check.Steps.Reading as reading
 
 module _ {S : Type 0} (store : Ghosts S) where
-  abbrev pub JudgesRows : {X : Type 0} → Held S → Held S → Result X TableFault → (Database → Type 0)
-      → (Database → X → Type 0) → (Database → TableFault → Type 0) → Type 0
-  JudgesRows old new result Has Says Fails = reading.JudgesRows (state store old)
-      (state store new) result Has Says Fails
+  -- a read of rows of which it is known what they are among
+  pub record JudgesRows {X : Type 0} (old new : Held S) (result : Result X TableFault)
+      (Has : Database → Type 0) (Says : Database → X → Type 0)
+      (Fails : Database → TableFault → Type 0) : Type 0 where
+    pub rests : OnlyReads store old new
+    pub told : reading.JudgesRows (state store old) (state store new) result Has Says Fails
 
-  abbrev pub KeepsTable : {X : Type 0} → Held S → Held S → Result X TableFault → Table
-      → (List Row → X → Type 0) → Type 0
-  KeepsTable old new result table Says = reading.KeepsTable (state store old)
-      (state store new) result table Says
+  -- a read of the rows of one table
+  pub record KeepsTable {X : Type 0} (old new : Held S) (result : Result X TableFault)
+      (table : Table) (Says : List Row → X → Type 0) : Type 0 where
+    pub rests : OnlyReads store old new
+    pub keeps : reading.KeepsTable (state store old) (state store new) result table Says
+
+  -- a question about the schema, whose answer is so of the database
+  pub record Asks {X : Type 0} (old new : Held S) (result : Result X TableFault)
+      (Says : Database → X → Type 0) : Type 0 where
+    pub rests : OnlyReads store old new
+    -- what it sees stays the same
+    pub same : HasCleanDisk store new → IfOk result (λ x. seen store new ≡ seen store old)
+    pub asked : HasCleanDisk store new → IfOk result (Says (seen store old))
+    -- a fault says nothing of the tables
+    pub only_store : IfErr result IsMemoryOrStore

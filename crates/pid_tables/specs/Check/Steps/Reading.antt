@@ -1,5 +1,5 @@
 -- What calls in a transaction say of the rows that the transaction shows.
-use Rattle.std.specs.Prelude.{◌≡◌, List, Result, MatchResult}
+use Rattle.std.specs.Prelude.{◌≡◌, ◌++◌, ◌∷◌, [], List, Result, MatchResult, IfErr, OnOk}
 use Rattle.sqlite.specs.Effect.{Database}
 use Rattle.sqlite.specs.Order.{Row}
 use Rattle.sqlite.specs.State.{State, HasCleanDisk}
@@ -34,3 +34,10 @@ TellsDamage version d Memory = Unit {0}
 TellsDamage version d Store = Unit {0}
 TellsDamage version d (NewerSchema n) = ⊥
 TellsDamage version d Damaged = ShowsDamage version d
+
+-- One row more: what was so of the rows before is then so of them and this one. A fault is
+-- that of the memory or of the store.
+pub record TakesRow {X : Type 0} (result : Result X TableFault) (Was Is : List Row → Type 0)
+    (row : Row) : Type 0 where
+  pub added : (rows : List Row) → Was rows → OnOk result (Is (rows ++ row ∷ []))
+  pub only_store : IfErr result IsMemoryOrStore

@@ -1,14 +1,16 @@
 -- Two statements that write, one after the other.
 use Rattle.std.specs.Prelude.{◌≡◌, ℕ, List, Result, Ok, MatchResult, IsTrue}
-use Rattle.sqlite.specs.Held.{Held}
+use Rattle.sqlite.specs.Held.{Held, state}
 use Rattle.sqlite.specs.Listing.{understood}
 use Rattle.sqlite.specs.Order.{Row}
 use Rattle.sqlite.specs.Schema.{Schema}
+use Rattle.sqlite.specs.declared.transaction.Transaction.{Transaction}
 use Rattle.sqlite_trees.specs.declared.store.Store.{Ghosts}
 use Rattle.pid_tables.specs.declared.rows.fault.TableFault.{TableFault}
 use Rattle.pid_tables.specs.Rows.Clauses.{Executes, HasCleanDisk, seen}
 use Rattle.pid_tables.specs.Rows.Faults.{IsMemoryOrStore}
 use Rattle.pid_tables.specs.Rows.Steps.Queries.{IsWriteAs}
+use Rattle.pid_tables.specs.Rows.Steps.Turns.{GoesOn}
 
 -- the texts, each with its parameters
 pub record Both : Type 0 where
@@ -33,3 +35,10 @@ module _ {S : Type 0} (store : Ghosts S) where
       → IsWriteAs both.second (understood schema both.second)
       → MatchResult result (λ _. (mid : Held S) × Ran both.first both.named old mid
       × Ran both.second both.numbered mid new) IsMemoryOrStore
+
+  -- both in turn, and the transaction goes on
+  pub record WritesBoth {X : Type 0} (both : Both) (old new : Transaction S)
+      (result : Result X TableFault) : Type 0 where
+    pub same_reference : new.conn.ghost_name ≡ old.conn.ghost_name
+    pub goes : GoesOn (state store old.conn.now) (state store new.conn.now) result
+    pub runs : RunsBoth both old.conn.now new.conn.now result

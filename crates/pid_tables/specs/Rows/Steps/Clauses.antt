@@ -1,15 +1,17 @@
--- Steps of Clauses: what private clauses say of one statement.
-use Rattle.std.specs.Prelude.{◌≡◌, ℕ, List, Result, Ok, OnOk, IfErr, IsTrue}
+-- Steps of Clauses: what private clauses say of one statement, and of calls in a transaction.
+use Rattle.std.specs.Prelude.{◌≡◌, ℕ, List, Result, Vec, Ok, OnOk, IfOk, IfErr, IsTrue}
+use Rattle.std.specs.declared.alloc.Global.{Global}
 use Rattle.sqlite.specs.Given.{IsPlain}
 use Rattle.sqlite.specs.Held.{Held, state}
 use Rattle.sqlite.specs.Listing.{understood}
 use Rattle.sqlite.specs.Order.{Row}
 use Rattle.sqlite.specs.Schema.{Schema}
+use Rattle.sqlite.specs.declared.transaction.Transaction.{Transaction}
 use Rattle.sqlite_trees.specs.declared.store.Store.{Ghosts}
 use Rattle.pid_moderation.specs.Views.{Views}
 use Rattle.pid_tables.specs.declared.rows.fault.TableFault.{TableFault}
 use Rattle.pid_tables.specs.Rows.Faults.{IsMemoryOrStore, IsNotNewerSchema}
-use Rattle.pid_tables.specs.Rows.Steps.Turns.{Turn}
+use Rattle.pid_tables.specs.Rows.Steps.Turns.{Turn, changing}
 use Rattle.pid_tables.specs.Rows.Steps.Queries.{IsQuery, IsWriteAs}
 use Rattle.sqlite.specs.State as states
 use Rattle.pid_tables.specs.Rows.Steps.Turns as turns
@@ -43,17 +45,35 @@ module _ {S : Type 0} (store : Ghosts S) where
     -- whatever it is, it reports no later schema
     pub never : IfErr result IsNotNewerSchema
 
-  abbrev pub GoesOn : {X E : Type 0} → Held S → Held S → Result X E → Type 0
-  GoesOn old new result = turns.GoesOn (state store old) (state store new) result
+  -- One statement that writes, and the transaction goes on.
+  pub record WritesOne {X : Type 0} (sql : List ℕ) (params : Row) (old new : Transaction S)
+      (result : Result X TableFault) : Type 0 where
+    -- the connection is the same
+    pub same_reference : new.conn.ghost_name ≡ old.conn.ghost_name
+    -- nothing is committed
+    pub goes : turns.GoesOn (state store old.conn.now) (state store new.conn.now) result
+    pub runs : RunsWrite sql params old.conn.now new.conn.now result
+    -- whatever it is, it reports no later schema
+    pub never : IfErr result IsNotNewerSchema
 
-  abbrev pub LeadsTo : {X : Type 0} → Held S → Held S → Result X TableFault → Turn → Type 0
-  LeadsTo old new result turn = turns.LeadsTo (state store old) (state store new) result turn
+  -- One query, and the transaction goes on.
+  pub record ReadsInside (sql : List ℕ) (params : Row) (old new : Transaction S)
+      (result : Result (Vec Row Global) TableFault) : Type 0 where
+    pub same_reference : new.conn.ghost_name ≡ old.conn.ghost_name
+    pub goes : turns.GoesOn (state store old.conn.now) (state store new.conn.now) result
+    -- the rows are those of the query
+    pub shown : HasCleanDisk store new.conn.now
+        → IfOk result (λ rows. Shown sql params old.conn.now new.conn.now rows.items)
+    pub faults : FaultsQuery sql params old.conn.now new.conn.now result
+
+  -- A call in a transaction, which goes on, makes this turn of the views.
+  pub record LeadsTo {X : Type 0} (old new : Transaction S) (result : Result X TableFault)
+      (turn : Turn) : Type 0 where
+    pub same_reference : new.conn.ghost_name ≡ old.conn.ghost_name
+    pub goes : turns.GoesOn (state store old.conn.now) (state store new.conn.now) result
+    pub shows : turns.LeadsTo (state store old.conn.now) (state store new.conn.now) result turn
 
   -- the same, if the counts stay as they are
-  abbrev pub ChangesTo : {X : Type 0} → Held S → Held S → Result X TableFault → (Views → Type 0)
-      → (Views → Views) → Type 0
-  ChangesTo old new result IsFor next = LeadsTo old new result (record {
-    IsFor = λ c v. IsFor v;
-    recount = λ c. c;
-    next = next;
-  })
+  abbrev pub ChangesTo : {X : Type 0} → Transaction S → Transaction S → Result X TableFault
+      → (Views → Type 0) → (Views → Views) → Type 0
+  ChangesTo old new result IsFor next = LeadsTo old new result (changing IsFor next)

@@ -27,6 +27,10 @@ pub record Turn : Type 1 where
 abbrev pub recounting : (Counts → Counts) → Turn
 recounting recount = record { IsFor = λ c v. Unit {0}; recount = recount; next = λ v. v }
 
+-- the views alone are changed, of those that it is for
+abbrev pub changing : (Views → Type 0) → (Views → Views) → Turn
+changing IsFor next = record { IsFor = λ c v. IsFor v; recount = λ c. c; next = next }
+
 -- If the transaction shows what the turn is for, the call answers a value only with the
 -- transaction showing what comes next, and a fault only if there is no memory or the store
 -- failed or refused.

@@ -14,10 +14,10 @@ use Rattle.pid_tables.proofs.check.shape.has_some_table.Goals as goal
 
 pub returns-clause-found : goal.returns-clause-found
 returns-clause-found g c = record {
-  asked = λ clean. if_ok c.some_can.result (λ asked judged. some_table c.args.conn.now.schema asked judged) (c.some_can.ensures.asked clean);
+  asked = λ clean. if_ok c.some_can.result (λ asked judged. some_table c.args.tables.now.conn.schema asked judged) (c.some_can.ensures.asks.asked clean);
   was_open = λ clean. c.some_can.ensures.was_open clean (omega arith);
-  same = c.some_can.ensures.same;
-  only_store = c.some_can.ensures.only_store;
+  same = c.some_can.ensures.asks.same;
+  only_store = c.some_can.ensures.asks.only_store;
 }
 
 -- where views are shown some table is there
@@ -28,8 +28,8 @@ told old new v (Err e) rest opened judged caused = λ readable. caused
 
 pub returns-clause-reads : goal.returns-clause-reads
 returns-clause-reads g c = record {
-  rests = c.some_can.ensures.rests;
+  rests = c.some_can.ensures.asks.rests;
   told = λ clean v rest.
-      told (state g.S.Store c.args.conn.now) (state g.S.Store c.some_can.new.conn) v c.some_can.result rest (c.some_can.ensures.was_open clean (omega arith)) (if_ok c.some_can.result (λ asked judged. some_table c.args.conn.now.schema asked judged) (c.some_can.ensures.asked clean))
+      told (state g.S.Store c.args.tables.now.conn) (state g.S.Store c.some_can.new.tables.conn) v c.some_can.result rest (c.some_can.ensures.was_open clean (omega arith)) (if_ok c.some_can.result (λ asked judged. some_table c.args.tables.now.conn.schema asked judged) (c.some_can.ensures.asks.asked clean))
       (c.some_can.ensures.caused clean v rest);
 }

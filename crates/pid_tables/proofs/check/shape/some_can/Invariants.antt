@@ -8,5 +8,5 @@ use Rattle.pid_tables.proofs.OfCheck.Asking.{IsSame}
 use Rattle.pid_tables.proofs.check.shape.some_can.Given as goal
 
 abbrev pub invariant-loop-table : goal.invariant-loop-table
-invariant-loop-table g l = IsSame (state g.S.Store l.fn.conn) (state g.S.Store l.conn) × (HasCleanDisk (state g.S.Store l.conn) → (k : ℕ) (d : Table) → k < l.table-index → ¬ (IsTrue l.can ↔ CanBeAsked (state g.S.Store l.fn.conn).now.schema (query_of (get_or l.tables k d))))
-    × (l.table-index ≡ 0 → l.conn ≡ l.fn.conn) × (HasCleanDisk (state g.S.Store l.conn) → 0 < l.table-index → IsTrue (state g.S.Store l.fn.conn).is_open)
+invariant-loop-table g l = IsSame (state g.S.Store l.fn.tables.conn) (state g.S.Store l.tables.conn) × (HasCleanDisk (state g.S.Store l.tables.conn) → (k : ℕ) (d : Table) → k < l.table-index → ¬ (IsTrue l.can ↔ CanBeAsked (state g.S.Store l.fn.tables.conn).now.schema (query_of (get_or l.listed k d))))
+    × (l.table-index ≡ 0 → l.tables.conn ≡ l.fn.tables.conn) × (HasCleanDisk (state g.S.Store l.tables.conn) → 0 < l.table-index → IsTrue (state g.S.Store l.fn.tables.conn).is_open)

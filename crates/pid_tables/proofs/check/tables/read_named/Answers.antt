@@ -10,38 +10,38 @@ use Rattle.pid_tables.proofs.OfCheck.Complete.{tables_each}
 use Rattle.pid_tables.proofs.OfCheck.KeepingFacts.{first_named, second_named}
 use Rattle.pid_tables.proofs.check.tables.read_named.Goals as goal
 
-pub returns-in_err-items-clause-told : goal.returns-in_err-items-clause-told
-returns-in_err-items-clause-told g c clean d is has =
-    passed_on c.from_residual.result _ _ IsMemoryOrStore c.from_residual.ensures.1 (c.in_err-items.ensures.keeps clean d is (tables_each _ d.schema has _ (inr (inr (inl refl)))))
+pub returns-in_err-items : goal.returns-in_err-items
+returns-in_err-items g c = record {
+  rests = c.read_items.ensures.rests;
+  told = λ clean d is has.
+      passed_on c.from_residual.result _ _ IsMemoryOrStore c.from_residual.ensures.1 (c.in_err-items.ensures.keeps clean d is (tables_each _ d.schema has _ (inr (inr (inl refl)))));
+}
 
-pub returns-in-One-clause-told : goal.returns-in-One-clause-told
-returns-in-One-clause-told g c clean d is has =
-    let one = c.in_ok-items.ensures.keeps clean d is (tables_each _ d.schema has _ (inr (inr (inl refl)))) in
-    (first_named c.args.version c.args.revision d c.in_ok-items.items one.0 c.in-One.is, one.1)
+pub returns-in-One : goal.returns-in-One
+returns-in-One g c = record {
+  rests = c.read_items.ensures.rests;
+  told = λ clean d is has.
+      let one = c.in_ok-items.ensures.keeps clean d is (tables_each _ d.schema has _ (inr (inr (inl refl)))) in
+      (first_named c.args.version c.args.revision d c.in_ok-items.items one.0 c.in-One.is, one.1);
+}
 
-pub returns-in_err-dated-in-Two-clause-told : goal.returns-in_err-dated-in-Two-clause-told
-returns-in_err-dated-in-Two-clause-told g c clean d is has =
-    let mid : HasCleanDisk (state g.S.Store c.read_items.new.conn) = c.read_sinces.ensures.rests.clean clean in
-    let one = c.in_ok-items.ensures.keeps mid d is (tables_each _ d.schema has _ (inr (inr (inl refl)))) in
-    let tables = subst (λ (v : Version). HasTables v d.schema) c.in-Two.is has in
-    passed_on c.from_residual-in_err-dated-in-Two.result _ _ IsMemoryOrStore c.from_residual-in_err-dated-in-Two.ensures.1 (c.in_err-dated-in-Two.ensures.keeps clean d one.1 tables.2)
+pub returns-in_err-dated-in-Two : goal.returns-in_err-dated-in-Two
+returns-in_err-dated-in-Two g c = record {
+  rests = reads_then (state g.S.Store c.args.tables.now.conn) (state g.S.Store c.read_items.new.tables.conn) (state g.S.Store c.read_sinces.new.tables.conn) c.read_items.ensures.rests c.read_sinces.ensures.rests;
+  told = λ clean d is has.
+      let mid : HasCleanDisk (state g.S.Store c.read_items.new.tables.conn) = c.read_sinces.ensures.rests.clean clean in
+      let one = c.in_ok-items.ensures.keeps mid d is (tables_each _ d.schema has _ (inr (inr (inl refl)))) in
+      let tables = subst (λ (v : Version). HasTables v d.schema) c.in-Two.is has in
+      passed_on c.from_residual-in_err-dated-in-Two.result _ _ IsMemoryOrStore c.from_residual-in_err-dated-in-Two.ensures.1 (c.in_err-dated-in-Two.ensures.keeps clean d one.1 tables.2);
+}
 
-pub returns-clause-told : goal.returns-clause-told
-returns-clause-told g c clean d is has =
-    let mid : HasCleanDisk (state g.S.Store c.read_items.new.conn) = c.read_sinces.ensures.rests.clean clean in
-    let one = c.in_ok-items.ensures.keeps mid d is (tables_each _ d.schema has _ (inr (inr (inl refl)))) in
-    let tables = subst (λ (v : Version). HasTables v d.schema) c.in-Two.is has in
-    let two = c.in_ok-dated-in-Two.ensures.keeps clean d one.1 tables.2 in
-    (second_named c.args.version c.args.revision d c.in_ok-items.items one.0 c.in-Two.is c.in_ok-dated-in-Two.dated two.0, two.1)
-
-pub returns-in_err-dated-in-Two-clause-rests : goal.returns-in_err-dated-in-Two-clause-rests
-returns-in_err-dated-in-Two-clause-rests g c = reads_then (state g.S.Store c.args.conn.now) (state g.S.Store c.read_items.new.conn) (state g.S.Store c.read_sinces.new.conn) c.read_items.ensures.rests c.read_sinces.ensures.rests
-
-pub returns-clause-rests : goal.returns-clause-rests
-returns-clause-rests g c = reads_then (state g.S.Store c.args.conn.now) (state g.S.Store c.read_items.new.conn) (state g.S.Store c.read_sinces.new.conn) c.read_items.ensures.rests c.read_sinces.ensures.rests
-
-pub returns-in_err-items-clause-rests : goal.returns-in_err-items-clause-rests
-returns-in_err-items-clause-rests g c = c.read_items.ensures.rests
-
-pub returns-in-One-clause-rests : goal.returns-in-One-clause-rests
-returns-in-One-clause-rests g c = c.read_items.ensures.rests
+pub returns : goal.returns
+returns g c = record {
+  rests = reads_then (state g.S.Store c.args.tables.now.conn) (state g.S.Store c.read_items.new.tables.conn) (state g.S.Store c.read_sinces.new.tables.conn) c.read_items.ensures.rests c.read_sinces.ensures.rests;
+  told = λ clean d is has.
+      let mid : HasCleanDisk (state g.S.Store c.read_items.new.tables.conn) = c.read_sinces.ensures.rests.clean clean in
+      let one = c.in_ok-items.ensures.keeps mid d is (tables_each _ d.schema has _ (inr (inr (inl refl)))) in
+      let tables = subst (λ (v : Version). HasTables v d.schema) c.in-Two.is has in
+      let two = c.in_ok-dated-in-Two.ensures.keeps clean d one.1 tables.2 in
+      (second_named c.args.version c.args.revision d c.in_ok-items.items one.0 c.in-Two.is c.in_ok-dated-in-Two.dated two.0, two.1);
+}

@@ -18,11 +18,11 @@ pub returns : goal.returns
 returns g c = record {
   rests = c.in_ok-rows.ensures.rests;
   told = λ clean v rest.
-      let old = state g.S.Store c.args.conn.now in
-      let new = state g.S.Store c.read_rows.new.conn in
+      let old = state g.S.Store c.args.tables.now.conn in
+      let new = state g.S.Store c.read_rows.new.tables.conn in
       let low = c.in_ok-range.range.low.items in
       let high = c.in_ok-range.range.high.items in
-      let found = at_rest g.S.Store c.args.conn.now new v select_range _ (Ok c.in_ok-rows.rows) (λ rows. rows.items) (λ rows. AreViews v × (rows.items ≡ map item_shown (between low high v.items))) rest
+      let found = at_rest g.S.Store c.args.tables.now.conn new v select_range _ (Ok c.in_ok-rows.rows) (λ rows. rows.items) (λ rows. AreViews v × (rows.items ≡ map item_shown (between low high v.items))) rest
       (λ mid rows shows h. (shows.views, range_found _ (counts_of v) v shows low high _ mid refl rows.items h))
       (rw (c.as_slice.ensures.value, c.as_slice-2.ensures.value) at (c.in_ok-rows.ensures.shown clean)) tt in
       read_or_caused old new v c.add_children.result _ _ (λ readable. kept_items (λ e. is_between low high e.0) v.items readable.items)
@@ -34,6 +34,6 @@ pub returns-in_err-rows : goal.returns-in_err-rows
 returns-in_err-rows g c = record {
   rests = c.in_err-rows.ensures.rests;
   told = λ clean v rest.
-      passed_on c.from_residual-in_err-rows.result _ _ (λ fault. IsReadable v → IsCaused (state g.S.Store c.args.conn.now) (state g.S.Store c.read_rows.new.conn) fault) c.from_residual-in_err-rows.ensures.1
+      passed_on c.from_residual-in_err-rows.result _ _ (λ fault. IsReadable v → IsCaused (state g.S.Store c.args.tables.now.conn) (state g.S.Store c.read_rows.new.tables.conn) fault) c.from_residual-in_err-rows.ensures.1
       (λ readable. c.in_err-rows.ensures.faults.caused clean pid_schema (λ opened. (rest.shows opened).schema) (rw (c.as_slice.ensures.value, c.as_slice-2.ensures.value) (range_query c.in_ok-range.range.low.items c.in_ok-range.range.high.items)));
 }

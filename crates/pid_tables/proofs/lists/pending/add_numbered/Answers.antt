@@ -17,6 +17,6 @@ pub returns-in-Some : goal.returns-in-Some
 returns-in-Some g c = record {
   rests = c.in_ok-standing.ensures.rests;
   told = λ clean v rest.
-      kept_one told_of c.args.page.now.items c.push_last.new.list.items _ _ c.push_last.result (state g.S.Store c.args.conn.now) (state g.S.Store c.standing.new.conn) v
+      kept_one told_of c.args.page.now.items c.push_last.new.list.items _ _ c.push_last.result (state g.S.Store c.args.tables.now.conn) (state g.S.Store c.standing.new.tables.conn) v
       c.push_last.ensures.items c.push_last.ensures.full (by_number v c.args.number (Some (standing_of c.in-Some.submission)) (rw c.in-Some.is at (c.in_ok-standing.ensures.told clean v rest)));
 }

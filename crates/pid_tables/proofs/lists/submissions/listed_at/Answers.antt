@@ -33,26 +33,26 @@ loop-row-preserved g c =
           ∙ ap (map (listing_in v)) (sym (filter_map-append (standing_at v) (take c.loop-row.row-index are.numbers) (next.it ∷ [])) ∙ ap (λ l. standings_at l v) (sym next.more)),
     )
 
-pub returns-clause-told : goal.returns-clause-told
-returns-clause-told g c clean v listed rest are =
-    c.loop-row.invariant.1 clean v listed rest are
-    ∙ ap (λ l. map (listing_in v) (standings_at l v)) (take_all c.loop-row.row-index are.numbers (let done = c.loop-row-test.false in let long = ap length are.shown ∙ length-map are.numbers value_row in omega (arith, done, long))) ∙ sym are.are
+pub returns : goal.returns
+returns g c = record {
+  rests = c.loop-row.invariant.0;
+  told = λ clean v listed rest are.
+      c.loop-row.invariant.1 clean v listed rest are
+      ∙ ap (λ l. map (listing_in v) (standings_at l v)) (take_all c.loop-row.row-index are.numbers (let done = c.loop-row-test.false in let long = ap length are.shown ∙ length-map are.numbers value_row in omega (arith, done, long))) ∙ sym are.are;
+}
 
-pub returns-in_err-add_listed-clause-told : goal.returns-in_err-add_listed-clause-told
-returns-in_err-add_listed-clause-told g c clean v listed rest are =
-    let one = c.in_err-add_listed.ensures in
-    let before = c.loop-row.invariant in
-    let old = state g.S.Store c.args.conn.now in
-    let mid = state g.S.Store c.loop-row.conn in
-    let new = state g.S.Store c.add_listed.new.conn in
-    let next = next_of value_row are.numbers c.args.rows.now c.loop-row.row-index c.row-item.result are.shown c.loop-row-test.true in
-    let row = listed_next v listed c.args.rows.now are _ c.loop-row.row-index next in
-    passed_on c.from_residual.result _ _ (λ fault. IsReadable v → IsCaused old new fault) c.from_residual.ensures.1
-    (λ readable. caused_later old mid new (λ _. ⊥) c.in_err-add_listed.field-0.0 before.0.survives one.rests.survives.counts (one.rests.clean clean)
-    (one.told clean v (map (listing_in v) (standings_at (next.it ∷ []) v)) (before.0.kept v rest) (record { number = row.number; shown = c.row-item.is ∙ row.shown; fits = row.fits; is = row.is }) readable))
-
-pub returns-clause-rests : goal.returns-clause-rests
-returns-clause-rests g c = c.loop-row.invariant.0
-
-pub returns-in_err-add_listed-clause-rests : goal.returns-in_err-add_listed-clause-rests
-returns-in_err-add_listed-clause-rests g c = reads_then _ _ _ c.loop-row.invariant.0 c.in_err-add_listed.ensures.rests
+pub returns-in_err-add_listed : goal.returns-in_err-add_listed
+returns-in_err-add_listed g c = record {
+  rests = reads_then _ _ _ c.loop-row.invariant.0 c.in_err-add_listed.ensures.rests;
+  told = λ clean v listed rest are.
+      let one = c.in_err-add_listed.ensures in
+      let before = c.loop-row.invariant in
+      let old = state g.S.Store c.args.tables.now.conn in
+      let mid = state g.S.Store c.loop-row.tables.conn in
+      let new = state g.S.Store c.add_listed.new.tables.conn in
+      let next = next_of value_row are.numbers c.args.rows.now c.loop-row.row-index c.row-item.result are.shown c.loop-row-test.true in
+      let row = listed_next v listed c.args.rows.now are _ c.loop-row.row-index next in
+      passed_on c.from_residual.result _ _ (λ fault. IsReadable v → IsCaused old new fault) c.from_residual.ensures.1
+      (λ readable. caused_later old mid new (λ _. ⊥) c.in_err-add_listed.field-0.0 before.0.survives one.rests.survives.counts (one.rests.clean clean)
+      (one.told clean v (map (listing_in v) (standings_at (next.it ∷ []) v)) (before.0.kept v rest) (record { number = row.number; shown = c.row-item.is ∙ row.shown; fits = row.fits; is = row.is }) readable));
+}

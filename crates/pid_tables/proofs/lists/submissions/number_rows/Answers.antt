@@ -12,7 +12,7 @@ returns g c = record {
   rests = c.read_rows.ensures.rests;
   told = λ clean v rest.
       let asked : WantedRows = record { low = c.args.low; last = c.args.last; path = c.args.path.now; author = c.args.author.now } in
-      at_rest g.S.Store c.args.conn.now (state g.S.Store c.read_rows.new.conn) v select_numbers _ c.read_rows.result (λ rows. rows.items) _ rest
+      at_rest g.S.Store c.args.tables.now.conn (state g.S.Store c.read_rows.new.tables.conn) v select_numbers _ c.read_rows.result (λ rows. rows.items) _ rest
       (λ new rows shows h. numbers_found _ (counts_of v) v shows asked _ new refl rows.items h)
       (rw (c.to_sql-low.ensures, c.to_sql-last.ensures, c.to_sql-path.ensures, c.to_sql-author.ensures) at (c.read_rows.ensures.shown clean))
       ((rw (c.to_sql-low.ensures, c.to_sql-last.ensures, c.to_sql-path.ensures, c.to_sql-author.ensures) at (c.read_rows.ensures.faults.caused clean pid_schema (λ opened. (rest.shows opened).schema))) (numbers_query asked));

@@ -16,20 +16,24 @@ some_there : {X : Type 0} (o : Option X) → is_none o ≡ false → IsSome o
 some_there None h = sym h
 some_there (Some x) h = refl
 
-pub returns-clause-shows : goal.returns-clause-shows
-returns-clause-shows g c clean inside counts v shows fits =
-    let old = state g.S.Store c.args.tx.now.conn.now in
-    let new = state g.S.Store c.write_one.new.tx.conn.now in
-    let who = c.args.who.now in
-    elim (cases_Bool c.args.is_new) [
-      | inl is_new ↦
-          let text = c.ranking.ensures.new is_new in
-          led c.write_one.result (account_added old new counts v shows who c.args.rank (none_there (v.rank who) (sym fits ∙ is_new)))
-          (rw (text, c.to_sql-name.ensures, c.to_sql-rank.ensures, c.as_str.ensures.text, c.from.ensures, c.number.ensures) at (c.write_one.ensures.runs.ran clean inside))
-          (c.write_one.ensures.runs.only_store clean pid_schema (λ opened. shows.schema) (subst (λ t. IsWriteAs t (understood pid_schema t)) (sym text) (insert_writes (insert_account_is Two))))
-      | inr known ↦
-          let text = c.ranking.ensures.known known in
-          led c.write_one.result (rank_changed old new counts v shows who c.args.rank (some_there (v.rank who) (sym fits ∙ known)))
-          (rw (text, c.to_sql-name.ensures, c.to_sql-rank.ensures, c.as_str.ensures.text, c.from.ensures, c.number.ensures) at (c.write_one.ensures.runs.ran clean inside))
-          (c.write_one.ensures.runs.only_store clean pid_schema (λ opened. shows.schema) (subst (λ t. IsWriteAs t (understood pid_schema t)) (sym text) (update_writes (update_account_is Two))))
-    ]
+pub returns : goal.returns
+returns g c = record {
+  same_reference = c.write_one.ensures.same_reference;
+  goes = c.write_one.ensures.goes;
+  shows = λ clean inside counts v shows fits.
+      let old = state g.S.Store c.args.tx.now.conn.now in
+      let new = state g.S.Store c.write_one.new.tx.conn.now in
+      let who = c.args.who.now in
+      elim (cases_Bool c.args.is_new) [
+        | inl is_new ↦
+            let text = c.ranking.ensures.new is_new in
+            led c.write_one.result (account_added old new counts v shows who c.args.rank (none_there (v.rank who) (sym fits ∙ is_new)))
+            (rw (text, c.to_sql-name.ensures, c.to_sql-rank.ensures, c.as_str.ensures.text, c.from.ensures, c.number.ensures) at (c.write_one.ensures.runs.ran clean inside))
+            (c.write_one.ensures.runs.only_store clean pid_schema (λ opened. shows.schema) (subst (λ t. IsWriteAs t (understood pid_schema t)) (sym text) (insert_writes (insert_account_is Two))))
+        | inr known ↦
+            let text = c.ranking.ensures.known known in
+            led c.write_one.result (rank_changed old new counts v shows who c.args.rank (some_there (v.rank who) (sym fits ∙ known)))
+            (rw (text, c.to_sql-name.ensures, c.to_sql-rank.ensures, c.as_str.ensures.text, c.from.ensures, c.number.ensures) at (c.write_one.ensures.runs.ran clean inside))
+            (c.write_one.ensures.runs.only_store clean pid_schema (λ opened. shows.schema) (subst (λ t. IsWriteAs t (understood pid_schema t)) (sym text) (update_writes (update_account_is Two))))
+      ];
+}

@@ -21,7 +21,7 @@ returns g c = record {
       let low = c.in_ok-range.range.low.items in
       let high = c.in_ok-range.range.high.items in
       let rows = c.in_ok-rows.rows.items in
-      let found = rows_at_rest g.S.Store c.args.conn.now v select_between _ rows (AreViews v × IsFirstWithin low high v.items rows) rest (λ mid shows h. (shows.views, between_found _ mid (counts_of v) v shows low high rows h))
+      let found = rows_at_rest g.S.Store c.args.tables.now.conn v select_between _ rows (AreViews v × IsFirstWithin low high v.items rows) rest (λ mid shows h. (shows.views, between_found _ mid (counts_of v) v shows low high rows h))
       (rw (c.as_slice.ensures.value, c.as_slice-2.ensures.value) at (c.in_ok-rows.ensures.shown clean)) in
       let many : vec_len c.in_ok-rows.rows ≡ length rows = search rules in
       (found.0, ap not (c.is_empty.ensures ∙ ap (λ n. n == 0) many) ∙ rows_within low high v.items rows found.1 ∙ (λ i. holds_between (c.in_ok-range.ensures.low i) (c.in_ok-range.ensures.high i) v.items));
@@ -31,6 +31,6 @@ pub returns-in_err-rows : goal.returns-in_err-rows
 returns-in_err-rows g c = record {
   rests = c.in_err-rows.ensures.rests;
   told = λ clean v rest.
-      passed_on c.from_residual-in_err-rows.result _ _ (λ fault. IsReadable v → IsCaused (state g.S.Store c.args.conn.now) (state g.S.Store c.read_rows.new.conn) fault) c.from_residual-in_err-rows.ensures.1
+      passed_on c.from_residual-in_err-rows.result _ _ (λ fault. IsReadable v → IsCaused (state g.S.Store c.args.tables.now.conn) (state g.S.Store c.read_rows.new.tables.conn) fault) c.from_residual-in_err-rows.ensures.1
       (λ readable. c.in_err-rows.ensures.faults.caused clean pid_schema (λ opened. (rest.shows opened).schema) (rw (c.as_slice.ensures.value, c.as_slice-2.ensures.value) (between_query Two c.in_ok-range.range.low.items c.in_ok-range.range.high.items)));
 }

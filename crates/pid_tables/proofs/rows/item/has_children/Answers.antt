@@ -27,7 +27,7 @@ returns-in-Vendor g c = record {
       let below = first.told (second.rests.clean clean) v rest in
       let text = c.as_bytes.ensures.value ∙ c.in_ok-text.ensures in
       let digits = c.as_slice.ensures ∙ c.hex4.ensures in
-      told_then (state g.S.Store c.args.conn.now) (state g.S.Store c.any_below-below.new.conn) (state g.S.Store c.any_below.new.conn) v c.any_below.result
+      told_then (state g.S.Store c.args.tables.now.conn) (state g.S.Store c.any_below-below.new.tables.conn) (state g.S.Store c.any_below.new.tables.conn) v c.any_below.result
       (λ some. AreViews v × (some ≡ holds_under (codes "PS/" ++ c.as_slice.result.now) v.items)) (λ some. AllItems v.items → HoldsParents v.items → some ≡ has_children (path_text c.args.path) v.items)
       first.rests second.rests clean
       (λ some generic all parents. generic_children v.items below.0.sorted all parents c.args.path c.in-Vendor.vendor some c.in-Vendor.is (sym (below.1 ∙ ap (λ t. holds_under t v.items) text) ∙ c.if-branch.false) (generic.1 ∙ ap (λ d. holds_under (codes "PS/" ++ d) v.items) digits))

@@ -17,7 +17,7 @@ pub returns-in-Some : goal.returns-in-Some
 returns-in-Some g c = record {
   rests = c.in_ok-rows.ensures.rests;
   told = λ clean v rest.
-      let found = name_first g.S.Store c.args.conn.now v rest c.in_ok-rows.rows.items c.args.path.now (rw c.to_sql-key.ensures at (c.in_ok-rows.ensures.shown clean)) in
+      let found = name_first g.S.Store c.args.tables.now.conn v rest c.in_ok-rows.rows.items c.args.path.now (rw c.to_sql-key.ensures at (c.in_ok-rows.ensures.shown clean)) in
       name_read (name_at c.args.path.now v.items) c.in-Some.row.now c.in_ok-name_at-in-Some.field-0 (c.in-Some.ensures.value ∙ ap (λ l. slice_get l 0) c.deref.ensures.value ∙ found) c.in_ok-name_at-in-Some.ensures.read;
 }
 
@@ -25,7 +25,7 @@ pub returns : goal.returns
 returns g c = record {
   rests = c.in_ok-rows.ensures.rests;
   told = λ clean v rest.
-      let found = name_first g.S.Store c.args.conn.now v rest c.in_ok-rows.rows.items c.args.path.now (rw c.to_sql-key.ensures at (c.in_ok-rows.ensures.shown clean)) in
+      let found = name_first g.S.Store c.args.tables.now.conn v rest c.in_ok-rows.rows.items c.args.path.now (rw c.to_sql-key.ensures at (c.in_ok-rows.ensures.shown clean)) in
       no_row name_row (name_at c.args.path.now v.items) (c.in-None.ensures.value ∙ ap (λ l. slice_get l 0) c.deref.ensures.value ∙ found);
 }
 
@@ -33,9 +33,9 @@ pub returns-in_err-name_at-in-Some : goal.returns-in_err-name_at-in-Some
 returns-in_err-name_at-in-Some g c = record {
   rests = c.in_ok-rows.ensures.rests;
   told = λ clean v rest.
-      let old = state g.S.Store c.args.conn.now in
-      let new = state g.S.Store c.read_rows.new.conn in
-      let found = name_first g.S.Store c.args.conn.now v rest c.in_ok-rows.rows.items c.args.path.now (rw c.to_sql-key.ensures at (c.in_ok-rows.ensures.shown clean)) in
+      let old = state g.S.Store c.args.tables.now.conn in
+      let new = state g.S.Store c.read_rows.new.tables.conn in
+      let found = name_first g.S.Store c.args.tables.now.conn v rest c.in_ok-rows.rows.items c.args.path.now (rw c.to_sql-key.ensures at (c.in_ok-rows.ensures.shown clean)) in
       passed_on c.from_residual-in_err-name_at-in-Some.result _ _ (λ fault. IsReadable v → IsCaused old new fault) c.from_residual-in_err-name_at-in-Some.ensures.1
       (λ readable. caused_unread old new c.in_err-name_at-in-Some.field-0.0 (name_written v.items c.args.path.now c.in-Some.row.now readable.items (c.in-Some.ensures.value ∙ ap (λ l. slice_get l 0) c.deref.ensures.value ∙ found)) c.in_err-name_at-in-Some.ensures.unread);
 }
@@ -44,6 +44,6 @@ pub returns-in_err-rows : goal.returns-in_err-rows
 returns-in_err-rows g c = record {
   rests = c.in_err-rows.ensures.rests;
   told = λ clean v rest.
-      passed_on c.from_residual.result _ _ (λ fault. IsReadable v → IsCaused (state g.S.Store c.args.conn.now) (state g.S.Store c.read_rows.new.conn) fault) c.from_residual.ensures.1
+      passed_on c.from_residual.result _ _ (λ fault. IsReadable v → IsCaused (state g.S.Store c.args.tables.now.conn) (state g.S.Store c.read_rows.new.tables.conn) fault) c.from_residual.ensures.1
       (λ readable. (rw c.to_sql-key.ensures at (c.in_err-rows.ensures.faults.caused clean pid_schema (λ opened. (rest.shows opened).schema))) (item_query Two c.args.path.now));
 }

@@ -6,9 +6,13 @@ use Rattle.pid_tables.proofs.OfRows.WriteFaults.{led, delete_writes}
 use Rattle.pid_tables.proofs.OfRows.WriteRows.{item_removed}
 use Rattle.pid_tables.proofs.rows.item.remove_item.Goals as goal
 
-pub returns-clause-shows : goal.returns-clause-shows
-returns-clause-shows g c clean inside counts v shows fits =
-    let old = state g.S.Store c.args.tx.now.conn.now in
-    let new = state g.S.Store c.write_one.new.tx.conn.now in
-    led c.write_one.result (item_removed old new counts v shows c.args.path.now)
-    (rw (c.to_sql-path.ensures) at (c.write_one.ensures.runs.ran clean inside)) (c.write_one.ensures.runs.only_store clean pid_schema (λ opened. shows.schema) (delete_writes (delete_item_is Two)))
+pub returns : goal.returns
+returns g c = record {
+  same_reference = c.write_one.ensures.same_reference;
+  goes = c.write_one.ensures.goes;
+  shows = λ clean inside counts v shows fits.
+      let old = state g.S.Store c.args.tx.now.conn.now in
+      let new = state g.S.Store c.write_one.new.tx.conn.now in
+      led c.write_one.result (item_removed old new counts v shows c.args.path.now)
+      (rw (c.to_sql-path.ensures) at (c.write_one.ensures.runs.ran clean inside)) (c.write_one.ensures.runs.only_store clean pid_schema (λ opened. shows.schema) (delete_writes (delete_item_is Two)));
+}

@@ -6,10 +6,14 @@ use Rattle.pid_tables.proofs.OfRows.WriteFaults.{led_on, update_writes}
 use Rattle.pid_tables.proofs.OfRows.WriteRows.{item_renamed, number_changed}
 use Rattle.pid_tables.proofs.rows.item.rename_item.Goals as goal
 
-pub returns-clause-shows : goal.returns-clause-shows
-returns-clause-shows g c clean inside counts v shows fits =
-    let old = state g.S.Store c.args.tx.now.conn.now in
-    let path = c.args.path.now in
-    let name = c.args.name.now in
-    led_on c.write_both.result (λ both. number_changed (state g.S.Store both.0) (state g.S.Store c.write_both.new.tx.conn.now) counts v path name c.args.since (item_renamed old (state g.S.Store both.0) counts v shows path name fits.0 both.1) fits.0 fits.1 both.2)
-    (c.write_both.ensures.runs clean inside pid_schema shows.schema (update_writes (update_item_is Two)) (λ mid ran. (item_renamed old (state g.S.Store mid) counts v shows path name fits.0 ran).schema) (update_writes update_since_is))
+pub returns : goal.returns
+returns g c = record {
+  same_reference = c.write_both.ensures.same_reference;
+  goes = c.write_both.ensures.goes;
+  shows = λ clean inside counts v shows fits.
+      let old = state g.S.Store c.args.tx.now.conn.now in
+      let path = c.args.path.now in
+      let name = c.args.name.now in
+      led_on c.write_both.result (λ both. number_changed (state g.S.Store both.0) (state g.S.Store c.write_both.new.tx.conn.now) counts v path name c.args.since (item_renamed old (state g.S.Store both.0) counts v shows path name fits.0 both.1) fits.0 fits.1 both.2)
+      (c.write_both.ensures.runs clean inside pid_schema shows.schema (update_writes (update_item_is Two)) (λ mid ran. (item_renamed old (state g.S.Store mid) counts v shows path name fits.0 ran).schema) (update_writes update_since_is));
+}

@@ -16,7 +16,7 @@ use Rattle.pid_tables.proofs.rows.meta.count.Goals as goal
 pub returns-in-Some-clause-found : goal.returns-in-Some-clause-found
 returns-in-Some-clause-found g c known clean v rest =
     let found = c.in_ok-rows.ensures.reads.told clean v rest in
-    value_read (state g.S.Store c.args.conn.now) (state g.S.Store c.value_rows.new.conn) v c.in-Some.row.now c.number_at.result (meta_of (counts_of v) v.revision c.args.label.now)
+    value_read (state g.S.Store c.args.tables.now.conn) (state g.S.Store c.value_rows.new.tables.conn) v c.in-Some.row.now c.number_at.result (meta_of (counts_of v) v.revision c.args.label.now)
     (c.in-Some.ensures.value ∙ ap (λ l. slice_get l 0) c.deref.ensures.value ∙ found) (meta_fits v c.args.label.now (known (counts_of v))) c.number_at.ensures.read c.number_at.ensures.unread
 
 pub returns-clause-found : goal.returns-clause-found
@@ -28,18 +28,18 @@ returns-clause-found g c known clean v rest readable =
 
 pub returns-in-Some-clause-shown : goal.returns-in-Some-clause-shown
 returns-in-Some-clause-shown g c clean =
-    number_shown (state g.S.Store c.args.conn.now).now c.args.label.now _ c.in-Some.row.now (c.in_ok-rows.ensures.shows clean) (c.in-Some.ensures.value ∙ ap (λ l. slice_get l 0) c.deref.ensures.value) c.number_at.result c.number_at.ensures.read
+    number_shown (state g.S.Store c.args.tables.now.conn).now c.args.label.now _ c.in-Some.row.now (c.in_ok-rows.ensures.shows clean) (c.in-Some.ensures.value ∙ ap (λ l. slice_get l 0) c.deref.ensures.value) c.number_at.result c.number_at.ensures.read
 
 pub returns-in-Some-clause-refused : goal.returns-in-Some-clause-refused
 returns-in-Some-clause-refused g c clean =
-    number_refused (state g.S.Store c.args.conn.now).now c.args.label.now _ c.in-Some.row.now (c.in_ok-rows.ensures.shows clean) (c.in-Some.ensures.value ∙ ap (λ l. slice_get l 0) c.deref.ensures.value) c.number_at.result c.number_at.ensures.unread
+    number_refused (state g.S.Store c.args.tables.now.conn).now c.args.label.now _ c.in-Some.row.now (c.in_ok-rows.ensures.shows clean) (c.in-Some.ensures.value ∙ ap (λ l. slice_get l 0) c.deref.ensures.value) c.number_at.result c.number_at.ensures.unread
 
 pub returns-clause-refused : goal.returns-clause-refused
-returns-clause-refused g c clean = none_shown (state g.S.Store c.args.conn.now).now c.args.label.now _ (c.in_ok-rows.ensures.shows clean) (c.in-None.ensures.value ∙ ap (λ l. slice_get l 0) c.deref.ensures.value)
+returns-clause-refused g c clean = none_shown (state g.S.Store c.args.tables.now.conn).now c.args.label.now _ (c.in_ok-rows.ensures.shows clean) (c.in-None.ensures.value ∙ ap (λ l. slice_get l 0) c.deref.ensures.value)
 
 pub returns-in_err-rows-clause-refused : goal.returns-in_err-rows-clause-refused
 returns-in_err-rows-clause-refused g c clean =
-    let db = (state g.S.Store c.args.conn.now).now in
+    let db = (state g.S.Store c.args.tables.now.conn).now in
     passed_from c.from_residual.result _ (IsDamageOf (ShowsNoNumber db c.args.label.now)) c.from_residual.ensures.1
     (query_refused db c.args.label.now _ (c.in_err-rows.ensures.only_store clean) c.in_err-rows.ensures.never)
 

@@ -6,9 +6,13 @@ use Rattle.pid_tables.proofs.OfRows.WriteFaults.{led, update_writes}
 use Rattle.pid_tables.proofs.OfRows.WriteRows.{submissions_counted}
 use Rattle.pid_tables.proofs.rows.meta.count_submissions.Goals as goal
 
-pub returns-clause-shows : goal.returns-clause-shows
-returns-clause-shows g c clean inside counts v shows fits =
-    let old = state g.S.Store c.args.tx.now.conn.now in
-    let new = state g.S.Store c.write_one.new.tx.conn.now in
-    led c.write_one.result (submissions_counted old new counts v shows c.args.count)
-    (rw (c.to_sql-label.ensures, c.to_sql-value.ensures) at (c.write_one.ensures.runs.ran clean inside)) (c.write_one.ensures.runs.only_store clean pid_schema (λ opened. shows.schema) (update_writes (update_meta_is Two)))
+pub returns : goal.returns
+returns g c = record {
+  same_reference = c.write_one.ensures.same_reference;
+  goes = c.write_one.ensures.goes;
+  shows = λ clean inside counts v shows fits.
+      let old = state g.S.Store c.args.tx.now.conn.now in
+      let new = state g.S.Store c.write_one.new.tx.conn.now in
+      led c.write_one.result (submissions_counted old new counts v shows c.args.count)
+      (rw (c.to_sql-label.ensures, c.to_sql-value.ensures) at (c.write_one.ensures.runs.ran clean inside)) (c.write_one.ensures.runs.only_store clean pid_schema (λ opened. shows.schema) (update_writes (update_meta_is Two)));
+}

@@ -12,6 +12,6 @@ returns-clause-shown g c clean = both c.count.result _ _ (c.count.ensures.shown 
 
 pub returns-clause-stored : goal.returns-clause-stored
 returns-clause-stored g c clean made =
-    let db = (state g.S.Store c.args.conn.now).now in
+    let db = (state g.S.Store c.args.tables.now.conn).now in
     both c.count.result _ _ (told_stored db made (codes "schema") c.count.result (c.count.ensures.shown clean))
     (refused_stored db made (codes "schema") c.count.result (c.count.ensures.refused clean))

@@ -6,14 +6,24 @@ use Rattle.pid_tables.proofs.OfRows.CauseLemmas.{passed_on}
 use Rattle.pid_tables.proofs.OfRows.KeyTexts.{update_meta_is}
 use Rattle.pid_tables.proofs.OfRows.WriteFaults.{led, update_writes}
 use Rattle.pid_tables.proofs.OfRows.WriteRows.{revision_written}
+use Rattle.std.proofs.Common.{refl}
+use Rattle.pid_tables.proofs.MoveLemmas.{goes_nowhere}
 use Rattle.pid_tables.proofs.rows.meta.set_revision.Goals as goal
 
-pub returns-clause-shows : goal.returns-clause-shows
-returns-clause-shows g c clean inside counts v shows fits =
-    let old = state g.S.Store c.args.tx.now.conn.now in
-    let new = state g.S.Store c.write_one.new.tx.conn.now in
-    led c.write_one.result (revision_written old new counts v shows c.args.revision)
-    (rw (c.to_sql-label.ensures, c.in_ok-value.ensures) at (c.write_one.ensures.runs.ran clean inside)) (c.write_one.ensures.runs.only_store clean pid_schema (λ opened. shows.schema) (update_writes (update_meta_is Two)))
+pub returns : goal.returns
+returns g c = record {
+  same_reference = c.write_one.ensures.same_reference;
+  goes = c.write_one.ensures.goes;
+  shows = λ clean inside counts v shows fits.
+      let old = state g.S.Store c.args.tx.now.conn.now in
+      let new = state g.S.Store c.write_one.new.tx.conn.now in
+      led c.write_one.result (revision_written old new counts v shows c.args.revision)
+      (rw (c.to_sql-label.ensures, c.in_ok-value.ensures) at (c.write_one.ensures.runs.ran clean inside)) (c.write_one.ensures.runs.only_store clean pid_schema (λ opened. shows.schema) (update_writes (update_meta_is Two)));
+}
 
-pub returns-in_err-value-clause-shows : goal.returns-in_err-value-clause-shows
-returns-in_err-value-clause-shows g c clean inside counts v shows fits = passed_on c.from_residual.result _ _ IsMemoryOrStore c.from_residual.ensures.1 c.in_err-value.ensures
+pub returns-in_err-value : goal.returns-in_err-value
+returns-in_err-value g c = record {
+  same_reference = refl;
+  goes = goes_nowhere (state g.S.Store c.args.tx.now.conn.now) _ c.from_residual.result c.from_residual.ensures.1;
+  shows = λ clean inside counts v shows fits. passed_on c.from_residual.result _ _ IsMemoryOrStore c.from_residual.ensures.1 c.in_err-value.ensures;
+}

@@ -14,13 +14,13 @@ pub returns-clause-reads : goal.returns-clause-reads
 returns-clause-reads g c = record {
   rests = c.read_rows.ensures.rests;
   told = λ clean v rest.
-      at_rest g.S.Store c.args.conn.now (state g.S.Store c.read_rows.new.conn) v select_meta _ c.read_rows.result (λ rows. rows.items) _ rest (λ new rows shows h. value_found _ new (counts_of v) v shows rows.items c.args.label.now h)
+      at_rest g.S.Store c.args.tables.now.conn (state g.S.Store c.read_rows.new.tables.conn) v select_meta _ c.read_rows.result (λ rows. rows.items) _ rest (λ new rows shows h. value_found _ new (counts_of v) v shows rows.items c.args.label.now h)
       (rw (c.to_sql-label.ensures) at (c.read_rows.ensures.shown clean)) ((rw c.to_sql-label.ensures at (c.read_rows.ensures.faults.caused clean pid_schema (λ opened. (rest.shows opened).schema))) (meta_query Two c.args.label.now));
 }
 
 pub returns-clause-shows : goal.returns-clause-shows
 returns-clause-shows g c clean =
-    values_shown g.S.Store c.args.label.now (state g.S.Store (record c.args.conn.now { in_transaction = true })) c.read_rows.result (rw (c.to_sql-label.ensures) at (c.read_rows.ensures.shown clean))
+    values_shown g.S.Store c.args.label.now (state g.S.Store (record c.args.tables.now.conn { in_transaction = true })) c.read_rows.result (rw (c.to_sql-label.ensures) at (c.read_rows.ensures.shown clean))
 
 pub returns-clause-only_store : goal.returns-clause-only_store
 returns-clause-only_store g c clean query is = c.read_rows.ensures.faults.only_store clean _ refl (asked_plain _ query is)

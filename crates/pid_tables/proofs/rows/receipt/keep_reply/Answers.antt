@@ -6,9 +6,13 @@ use Rattle.pid_tables.proofs.OfRows.WriteFaults.{led, insert_writes}
 use Rattle.pid_tables.proofs.OfRows.WriteRows.{reply_kept}
 use Rattle.pid_tables.proofs.rows.receipt.keep_reply.Goals as goal
 
-pub returns-clause-shows : goal.returns-clause-shows
-returns-clause-shows g c clean inside counts v shows fits =
-    let old = state g.S.Store c.args.tx.now.conn.now in
-    let new = state g.S.Store c.write_one.new.tx.conn.now in
-    led c.write_one.result (reply_kept old new counts v shows c.args.account.now c.args.key.now c.args.reply fits)
-    (rw (c.to_sql-account.ensures, c.to_sql-key.ensures, c.to_sql-kind.ensures, c.to_sql-first.ensures, c.to_sql-second.ensures, c.to_sql-third.ensures, c.as_str.ensures.text, c.as_str-2.ensures.text, c.numbers-kind.ensures.kind, c.numbers-kind.ensures.first, c.numbers-kind.ensures.second, c.numbers-kind.ensures.third) at (c.write_one.ensures.runs.ran clean inside)) (c.write_one.ensures.runs.only_store clean pid_schema (λ opened. shows.schema) (insert_writes (insert_receipt_is Two)))
+pub returns : goal.returns
+returns g c = record {
+  same_reference = c.write_one.ensures.same_reference;
+  goes = c.write_one.ensures.goes;
+  shows = λ clean inside counts v shows fits.
+      let old = state g.S.Store c.args.tx.now.conn.now in
+      let new = state g.S.Store c.write_one.new.tx.conn.now in
+      led c.write_one.result (reply_kept old new counts v shows c.args.account.now c.args.key.now c.args.reply fits)
+      (rw (c.to_sql-account.ensures, c.to_sql-key.ensures, c.to_sql-kind.ensures, c.to_sql-first.ensures, c.to_sql-second.ensures, c.to_sql-third.ensures, c.as_str.ensures.text, c.as_str-2.ensures.text, c.numbers-kind.ensures.kind, c.numbers-kind.ensures.first, c.numbers-kind.ensures.second, c.numbers-kind.ensures.third) at (c.write_one.ensures.runs.ran clean inside)) (c.write_one.ensures.runs.only_store clean pid_schema (λ opened. shows.schema) (insert_writes (insert_receipt_is Two)));
+}

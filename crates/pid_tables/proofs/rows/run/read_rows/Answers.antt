@@ -1,11 +1,10 @@
-use Rattle.std.proofs.Common.{◌≡◌, ℕ, true, rules, arith, subst, Ok, Err, Result, IfOk, IfErr, List, ◌≤◌}
+use Rattle.std.proofs.Common.{ℕ, true, Ok, Err, Result, IfOk, IfErr, List, ◌≤◌}
 use Rattle.sqlite.specs.Order.{Row}
 use Rattle.sqlite.specs.Values.{bound}
 use Rattle.sqlite.specs.Held.{Held, state}
 use Rattle.sqlite.specs.State.{State, HasCleanDisk, Shown}
 use Rattle.sqlite_trees.specs.declared.store.Store.{Ghosts}
 use Rattle.sqlite.proofs.StateLemmas.{clean_if_open}
-use Rattle.pid_tables.specs.Rows.Leaves.{OnlyReads}
 use Rattle.pid_tables.specs.Rows.Causes.{IsCaused}
 use Rattle.pid_tables.specs.declared.rows.fault.TableFault.{TableFault}
 use Rattle.pid_tables.specs.declared.rows.fault.TableFault.TheVariants.{Memory, Store, NewerSchema, Damaged}
@@ -23,20 +22,16 @@ there g sql params old mid (Err e) rows h = tt
 pub returns-clause-rests : goal.returns-clause-rests
 returns-clause-rests g c =
     let end = c.drop-tx.new.self.0 in
-    let same : end ≡ c.conn-1.given.0 = search rules in
     let first = c.read_inside.new.tx.conn.now in
     let goes = rw c.transaction-tx.ensures.begun at c.read_inside.ensures.goes in
-    subst (λ h. OnlyReads (state g.S.Store c.args.conn.now) (state g.S.Store h)) same
-    (reads_begun g.S.Store c.args.conn.now first end c.read_inside.result (clean_if_open (g.S.Store.view first.store) (g.met.S.Store.shut_if_dirty first.store))
-    (clean_if_open (g.S.Store.view end.store) (g.met.S.Store.shut_if_dirty end.store)) goes c.drop-tx.ensures.ended c.drop-tx.ensures.undone c.drop-tx.ensures.survives)
+    reads_begun g.S.Store c.args.tables.now.conn first end c.read_inside.result (clean_if_open (g.S.Store.view first.store) (g.met.S.Store.shut_if_dirty first.store))
+    (clean_if_open (g.S.Store.view end.store) (g.met.S.Store.shut_if_dirty end.store)) goes c.drop-tx.ensures.ended c.drop-tx.ensures.undone c.drop-tx.ensures.survives
 
 pub returns-clause-shown : goal.returns-clause-shown
 returns-clause-shown g c clean =
-    let end = c.drop-tx.new.self.0 in
-    let same : end ≡ c.conn-1.given.0 = search rules in
-    let late : HasCleanDisk (state g.S.Store end) = search rules in
-    let mid : HasCleanDisk (state g.S.Store c.read_inside.new.tx.conn.now) = omega (arith, c.drop-tx.ensures.survives.clean) in
-    there g.S.Store c.args.sql.now (bound c.args.params.now) _ c.read_inside.new.tx.conn.now c.read_inside.result (λ v. v.items) (rw c.transaction-tx.ensures.begun at (c.read_inside.ensures.shown mid))
+    let first = c.read_inside.new.tx.conn.now in
+    let mid = earlier (state g.S.Store first) (state g.S.Store c.drop-tx.new.self.0) c.drop-tx.ensures.survives clean in
+    there g.S.Store c.args.sql.now (bound c.args.params.now) _ first c.read_inside.result (λ v. v.items) (rw c.transaction-tx.ensures.begun at (c.read_inside.ensures.shown mid))
 
 -- why the query faults, once the transaction is over
 module _ {S : Type 0} (g : Ghosts S) {X : Type 0} (sql : List ℕ) (params : Row) (old mid end : Held S) (r : Result X TableFault) (before : HasCleanDisk (state g end) → HasCleanDisk (state g mid)) (more : (state g mid).faults ≤ (state g end).faults) where
@@ -61,7 +56,5 @@ pub returns-clause-faults : goal.returns-clause-faults
 returns-clause-faults g c =
     let first = c.read_inside.new.tx.conn.now in
     let end = c.drop-tx.new.self.0 in
-    let same : end ≡ c.conn-1.given.0 = search rules in
     let told = rw c.transaction-tx.ensures.begun at c.read_inside.ensures.faults in
-    subst (λ h. FaultsQuery g.S.Store c.args.sql.now (bound c.args.params.now) c.args.conn.now h c.read_inside.result) same
-    (faults_later g.S.Store c.args.sql.now (bound c.args.params.now) c.args.conn.now first end c.read_inside.result (earlier (state g.S.Store first) (state g.S.Store end) c.drop-tx.ensures.survives) c.drop-tx.ensures.survives.counts told)
+    faults_later g.S.Store c.args.sql.now (bound c.args.params.now) c.args.tables.now.conn first end c.read_inside.result (earlier (state g.S.Store first) (state g.S.Store end) c.drop-tx.ensures.survives) c.drop-tx.ensures.survives.counts told

@@ -1,4 +1,4 @@
-use Rattle.std.proofs.Common.{ℕ, sym, subst, Ok, IfErr, OnOk, inl, inr}
+use Rattle.std.proofs.Common.{ℕ, sym, subst, Ok, IfErr, OnOk, inl, inr, rules}
 use Rattle.std.proofs.lemmas.Bool.{cases_Bool}
 use Rattle.std.proofs.lemmas.Result.{err_from_is_err_and}
 use Rattle.sqlite.specs.Values.{bound}
@@ -12,22 +12,24 @@ use Rattle.pid_tables.proofs.OfRows.FaultLemmas.{failed, moved, not_later}
 use Rattle.pid_tables.proofs.OfRows.WriteFaults.{write_only_store}
 use Rattle.pid_tables.proofs.rows.run.write_one.Goals as goal
 
-pub returns-in_err-execute-clause-runs : goal.returns-in_err-execute-clause-runs
-returns-in_err-execute-clause-runs g c =
-    let p = err_from_is_err_and c.from_residual.result c.from_residual.ensures.1 in
-    let old = state g.S.Store c.args.tx.now.conn.now in
-    let new = state g.S.Store c.execute.new.self.conn.now in
-    record {
-      ran = λ clean inside. subst (λ r. OnOk r ((count : ℕ) × Executes c.args.sql.now (bound c.args.params.now) old new (Ok count))) (sym p.1) tt;
-      only_store = λ clean schema has write.
-          let told : IsMemoryOrStore (fault_of_sql c.in_err-execute.field-0.0) = elim (cases_Bool old.in_transaction) [
-            | inl inside ↦ write_only_store schema c.args.sql.now (bound c.args.params.now) old _ has write _ (c.in_err-execute.ensures.runs clean inside)
-            | inr ended ↦ moved c.in_err-execute.field-0.0 (SqliteFailure code.TransactionState) (let is = (c.in_err-execute.ensures.ended ended).0 in cc) (failed code.TransactionState)
-          ] in
-          subst (λ r. IfErr r IsMemoryOrStore) (sym p.1) (subst IsMemoryOrStore (sym p.2) told);
-    }
-
-pub returns-in_err-execute-clause-never : goal.returns-in_err-execute-clause-never
-returns-in_err-execute-clause-never g c =
-    let p = err_from_is_err_and c.from_residual.result c.from_residual.ensures.1 in
-    subst (λ r. IfErr r IsNotNewerSchema) (sym p.1) (subst IsNotNewerSchema (sym p.2) (not_later _))
+pub returns-in_err-execute : goal.returns-in_err-execute
+returns-in_err-execute g c = record {
+  same_reference = c.execute.ensures.same_reference;
+  goes = search rules;
+  runs =
+      let p = err_from_is_err_and c.from_residual.result c.from_residual.ensures.1 in
+      let old = state g.S.Store c.args.tx.now.conn.now in
+      let new = state g.S.Store c.execute.new.self.conn.now in
+      record {
+        ran = λ clean inside. subst (λ r. OnOk r ((count : ℕ) × Executes c.args.sql.now (bound c.args.params.now) old new (Ok count))) (sym p.1) tt;
+        only_store = λ clean schema has write.
+            let told : IsMemoryOrStore (fault_of_sql c.in_err-execute.field-0.0) = elim (cases_Bool old.in_transaction) [
+              | inl inside ↦ write_only_store schema c.args.sql.now (bound c.args.params.now) old _ has write _ (c.in_err-execute.ensures.runs clean inside)
+              | inr ended ↦ moved c.in_err-execute.field-0.0 (SqliteFailure code.TransactionState) (let is = (c.in_err-execute.ensures.ended ended).0 in cc) (failed code.TransactionState)
+            ] in
+            subst (λ r. IfErr r IsMemoryOrStore) (sym p.1) (subst IsMemoryOrStore (sym p.2) told);
+      };
+  never =
+      let p = err_from_is_err_and c.from_residual.result c.from_residual.ensures.1 in
+      subst (λ r. IfErr r IsNotNewerSchema) (sym p.1) (subst IsNotNewerSchema (sym p.2) (not_later _));
+}

@@ -20,18 +20,26 @@ others (Approved decider) not = tt
 others (Rejected decider reason) not = tt
 others Withdrawn not = not refl
 
-pub returns-in-Withdrawn-clause-shows : goal.returns-in-Withdrawn-clause-shows
-returns-in-Withdrawn-clause-shows g c clean inside counts v shows fits =
-    let old = state g.S.Store c.args.tx.now.conn.now in
-    let new = state g.S.Store c.write_one.new.tx.conn.now in
-    subst (λ s. MatchResult c.write_one.result (λ _. ShowsCounting counts new.now (with_state c.args.number s v)) IsMemoryOrStore) (sym c.in-Withdrawn.is)
-    (led c.write_one.result (submission_withdrawn old new counts v shows c.args.number fits)
-    (rw (c.to_sql.ensures) at (c.write_one.ensures.runs.ran clean inside)) (c.write_one.ensures.runs.only_store clean pid_schema (λ opened. shows.schema) (update_writes (withdraw_submission_is Two))))
+pub returns-in-Withdrawn : goal.returns-in-Withdrawn
+returns-in-Withdrawn g c = record {
+  same_reference = c.write_one.ensures.same_reference;
+  goes = c.write_one.ensures.goes;
+  shows = λ clean inside counts v shows fits.
+      let old = state g.S.Store c.args.tx.now.conn.now in
+      let new = state g.S.Store c.write_one.new.tx.conn.now in
+      subst (λ s. MatchResult c.write_one.result (λ _. ShowsCounting counts new.now (with_state c.args.number s v)) IsMemoryOrStore) (sym c.in-Withdrawn.is)
+      (led c.write_one.result (submission_withdrawn old new counts v shows c.args.number fits)
+      (rw (c.to_sql.ensures) at (c.write_one.ensures.runs.ran clean inside)) (c.write_one.ensures.runs.only_store clean pid_schema (λ opened. shows.schema) (update_writes (withdraw_submission_is Two))));
+}
 
-pub returns-clause-shows : goal.returns-clause-shows
-returns-clause-shows g c clean inside counts v shows fits =
-    let old = state g.S.Store c.args.tx.now.conn.now in
-    let new = state g.S.Store c.write_one-2.new.tx.conn.now in
-    led c.write_one-2.result (submission_decided old new counts v shows c.args.number c.args.state.now (others c.args.state.now c.in_default.not-Withdrawn) fits)
-    (rw (c.to_sql-number.ensures, c.to_sql-told.ensures, c.to_sql-decider.ensures, c.to_sql-reason.ensures, c.state_columns-told.ensures.number, c.state_columns-told.ensures.decider, c.state_columns-told.ensures.reason) at (c.write_one-2.ensures.runs.ran clean inside))
-    (c.write_one-2.ensures.runs.only_store clean pid_schema (λ opened. shows.schema) (update_writes (update_submission_is Two)))
+pub returns : goal.returns
+returns g c = record {
+  same_reference = c.write_one-2.ensures.same_reference;
+  goes = c.write_one-2.ensures.goes;
+  shows = λ clean inside counts v shows fits.
+      let old = state g.S.Store c.args.tx.now.conn.now in
+      let new = state g.S.Store c.write_one-2.new.tx.conn.now in
+      led c.write_one-2.result (submission_decided old new counts v shows c.args.number c.args.state.now (others c.args.state.now c.in_default.not-Withdrawn) fits)
+      (rw (c.to_sql-number.ensures, c.to_sql-told.ensures, c.to_sql-decider.ensures, c.to_sql-reason.ensures, c.state_columns-told.ensures.number, c.state_columns-told.ensures.decider, c.state_columns-told.ensures.reason) at (c.write_one-2.ensures.runs.ran clean inside))
+      (c.write_one-2.ensures.runs.only_store clean pid_schema (λ opened. shows.schema) (update_writes (update_submission_is Two)));
+}

@@ -43,7 +43,7 @@ returns-in-Ok g c =
           let author : Option (List ℕ) = option_copied c.args.author in
           let stands : standing_in v c.args.number ≡ Some (standing_of c.in-Some.submission) = sym (rw c.in-Some.is at (one.told (two.rests.clean clean) v rest)) in
           let count = two.told clean v (one.rests.kept v rest) in
-          kept_one listed_of c.args.page.now.items c.push_last.new.list.items _ _ c.push_last.result (state g.S.Store c.args.conn.now) (state g.S.Store c.remark_count.new.conn) v c.push_last.ensures.items c.push_last.ensures.full
+          kept_one listed_of c.args.page.now.items c.push_last.new.list.items _ _ c.push_last.result (state g.S.Store c.args.tables.now.conn) (state g.S.Store c.remark_count.new.tables.conn) v c.push_last.ensures.items c.push_last.ensures.full
           ((λ i. record { number = c.args.number; standing = standing_of c.in-Some.submission; remarks = count i } ∷ [])
           ∙ sym (one_found path author v c.args.number (standing_of c.in-Some.submission) stands (sym c.is_of.ensures ∙ of_it)));
     }
@@ -55,5 +55,5 @@ returns-in-Err g c =
     record {
       rests = reads_then _ _ _ one.rests two.rests;
       told = λ clean v rest readable.
-          caused_later (state g.S.Store c.args.conn.now) (state g.S.Store c.standing.new.conn) (state g.S.Store c.remark_count.new.conn) (λ _. ⊥) c.in-Err.fault one.rests.survives two.rests.survives.counts (two.rests.clean clean) (two.told clean v (one.rests.kept v rest) readable);
+          caused_later (state g.S.Store c.args.tables.now.conn) (state g.S.Store c.standing.new.tables.conn) (state g.S.Store c.remark_count.new.tables.conn) (λ _. ⊥) c.in-Err.fault one.rests.survives two.rests.survives.counts (two.rests.clean clean) (two.told clean v (one.rests.kept v rest) readable);
     }

@@ -30,9 +30,9 @@ pub returns-in_err-add_sought : goal.returns-in_err-add_sought
 returns-in_err-add_sought g c =
     let one = c.in_err-add_sought.ensures in
     let before = c.loop-at.invariant in
-    let old = state g.S.Store c.args.conn.now in
-    let mid = state g.S.Store c.loop-at.conn in
-    let new = state g.S.Store c.add_sought.new.conn in
+    let old = state g.S.Store c.args.tables.now.conn in
+    let mid = state g.S.Store c.loop-at.tables.conn in
+    let new = state g.S.Store c.add_sought.new.tables.conn in
     record {
       rests = reads_then _ _ _ before.0 one.rests;
       told = λ clean v rest.

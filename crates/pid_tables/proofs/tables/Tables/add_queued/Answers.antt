@@ -16,7 +16,7 @@ returns-in-Err-item g c =
     let one = c.in-Ok.ensures in
     let two = c.in-Err-item.ensures in
     let old = state g.S.Store c.args.self.now.conn in
-    let mid = state g.S.Store c.remark_count.new.conn in
+    let mid = state g.S.Store c.remark_count.new.tables.conn in
     let new = state g.S.Store c.item.new.self.conn in
     record {
       rests = reads_then _ _ _ one.rests two.rests;

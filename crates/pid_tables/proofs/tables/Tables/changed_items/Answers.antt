@@ -24,25 +24,25 @@ loop-row-preserved g c =
           one.told clean v next.it (before.0.kept v rest) (stands, c.row-item.is ∙ next.is) ∙ ap (λ l. l ++ next.it ∷ []) (before.1 (one.rests.clean clean) v all rest change) ∙ sym next.more,
     )
 
-pub returns-in_err-add_changed-clause-told : goal.returns-in_err-add_changed-clause-told
-returns-in_err-add_changed-clause-told g c clean v all rest (named, is) =
-    let one = c.in_err-add_changed.ensures in
-    let before = c.loop-row.invariant in
-    let old = state g.S.Store c.args.self.now.conn in
-    let mid = state g.S.Store c.loop-row.self.conn in
-    let new = state g.S.Store c.add_changed.new.self.conn in
-    let next = next_of since_shown all c.args.rows.now c.loop-row.row-index c.row-item.result is c.loop-row-test.true in
-    let stands = all_has (λ (item : Changed). name_at item.path v.items ≡ Some item.name) all next.it named next.there in
-    passed_on c.from_residual.result _ _ (λ fault. IsReadable v → IsCaused old new fault) c.from_residual.ensures.1
-    (λ readable. caused_later old mid new (λ _. ⊥) c.in_err-add_changed.field-0.0 before.0.survives one.rests.survives.counts (one.rests.clean clean)
-    (one.told clean v next.it (before.0.kept v rest) (stands, c.row-item.is ∙ next.is) readable))
+pub returns-in_err-add_changed : goal.returns-in_err-add_changed
+returns-in_err-add_changed g c = record {
+  rests = reads_then _ _ _ c.loop-row.invariant.0 c.in_err-add_changed.ensures.rests;
+  told = λ clean v all rest (named, is).
+      let one = c.in_err-add_changed.ensures in
+      let before = c.loop-row.invariant in
+      let old = state g.S.Store c.args.self.now.conn in
+      let mid = state g.S.Store c.loop-row.self.conn in
+      let new = state g.S.Store c.add_changed.new.self.conn in
+      let next = next_of since_shown all c.args.rows.now c.loop-row.row-index c.row-item.result is c.loop-row-test.true in
+      let stands = all_has (λ (item : Changed). name_at item.path v.items ≡ Some item.name) all next.it named next.there in
+      passed_on c.from_residual.result _ _ (λ fault. IsReadable v → IsCaused old new fault) c.from_residual.ensures.1
+      (λ readable. caused_later old mid new (λ _. ⊥) c.in_err-add_changed.field-0.0 before.0.survives one.rests.survives.counts (one.rests.clean clean)
+      (one.told clean v next.it (before.0.kept v rest) (stands, c.row-item.is ∙ next.is) readable));
+}
 
-pub returns-in_err-add_changed-clause-rests : goal.returns-in_err-add_changed-clause-rests
-returns-in_err-add_changed-clause-rests g c = reads_then _ _ _ c.loop-row.invariant.0 c.in_err-add_changed.ensures.rests
-
-pub returns-clause-rests : goal.returns-clause-rests
-returns-clause-rests g c = c.loop-row.invariant.0
-
-pub returns-clause-told : goal.returns-clause-told
-returns-clause-told g c clean v all rest change =
-    c.loop-row.invariant.1 clean v all rest change ∙ take_all c.loop-row.row-index all (let done = c.loop-row-test.false in let long = ap length change.1 ∙ length-map all since_shown in omega (arith, done, long))
+pub returns : goal.returns
+returns g c = record {
+  rests = c.loop-row.invariant.0;
+  told = λ clean v all rest change.
+      c.loop-row.invariant.1 clean v all rest change ∙ take_all c.loop-row.row-index all (let done = c.loop-row-test.false in let long = ap length change.1 ∙ length-map all since_shown in omega (arith, done, long));
+}

@@ -51,7 +51,7 @@ returns-in_err-items g c =
     let three = c.in_err-items.ensures in
     let both = reads_then _ _ _ one.rests two.rests in
     let old = state g.S.Store c.args.self.now.conn in
-    let mid = state g.S.Store c.read_rows-rows.new.conn in
+    let mid = state g.S.Store c.read_rows-rows.new.tables.conn in
     let new = state g.S.Store c.changed_items-listed.new.self.conn in
     let floor = held c.args.since in
     record {
@@ -70,7 +70,7 @@ returns-in_err-rows g c =
     let two = c.in_err-rows.ensures in
     let old = state g.S.Store c.args.self.now.conn in
     let mid = state g.S.Store c.revision.new.self.conn in
-    let new = state g.S.Store c.read_rows-rows.new.conn in
+    let new = state g.S.Store c.read_rows-rows.new.tables.conn in
     record {
       rests = reads_then _ _ _ one.rests two.rests;
       told = λ clean v rest.

@@ -17,7 +17,7 @@ use Rattle.pid_tables.proofs.tables.Tables.check.Goals as goal
 
 pub returns-then-not-branch-clause-rests : goal.returns-then-not-branch-clause-rests
 returns-then-not-branch-clause-rests g c =
-    reads_then (state g.S.Store c.args.self.now.conn) (state g.S.Store c.some_can.new.conn) (state g.S.Store c.check_tables.new.conn) c.in_ok-some_can.ensures.rests c.check_tables.ensures.rests
+    reads_then (state g.S.Store c.args.self.now.conn) (state g.S.Store c.some_can.new.tables.conn) (state g.S.Store c.check_tables.new.tables.conn) c.in_ok-some_can.ensures.asks.rests c.check_tables.ensures.rests
 
 pub returns-then-not-branch-clause-shut : goal.returns-then-not-branch-clause-shut
 returns-then-not-branch-clause-shut g c clean shut = absurd (off_on _ shut (c.in_ok-some_can.ensures.was_open (c.check_tables.ensures.rests.clean clean) (omega arith)))
@@ -25,16 +25,16 @@ returns-then-not-branch-clause-shut g c clean shut = absurd (off_on _ shut (c.in
 pub returns-then-not-branch-clause-told : goal.returns-then-not-branch-clause-told
 returns-then-not-branch-clause-told g c clean =
     let mid = c.check_tables.ensures.rests.clean clean in
-    let one = c.in_ok-some_can.ensures.same mid in
-    let each = (each_table c.args.self.now.conn.schema _ (c.in_ok-some_can.ensures.asked mid)).0 (ap not c.if-not-branch.true) in
+    let one = c.in_ok-some_can.ensures.asks.same mid in
+    let each = (each_table c.args.self.now.conn.schema _ (c.in_ok-some_can.ensures.asks.asked mid)).0 (ap not c.if-not-branch.true) in
     subst (λ d. MatchResult c.check_tables.result (FindsVersion d) (Explains d)) one (c.check_tables.ensures.told clean (subst (λ (d : Database). HasEachTable d.schema) (sym one) each))
 
 pub returns-then-branch-clause-rests : goal.returns-then-branch-clause-rests
 returns-then-branch-clause-rests g c =
     let a = state g.S.Store c.args.self.now.conn in
-    let b = state g.S.Store c.some_can.new.conn in
-    let d = state g.S.Store c.has_some_table.new.conn in
-    reads_then a d (state g.S.Store c.check_lacking.new.conn) (reads_then a b d c.in_ok-some_can.ensures.rests c.in_ok-has_some_table.ensures.reads.rests) c.check_lacking.ensures.rests
+    let b = state g.S.Store c.some_can.new.tables.conn in
+    let d = state g.S.Store c.has_some_table.new.tables.conn in
+    reads_then a d (state g.S.Store c.check_lacking.new.tables.conn) (reads_then a b d c.in_ok-some_can.ensures.asks.rests c.in_ok-has_some_table.ensures.reads.rests) c.check_lacking.ensures.rests
 
 pub returns-then-branch-clause-shut : goal.returns-then-branch-clause-shut
 returns-then-branch-clause-shut g c clean shut = absurd (off_on _ shut (c.in_ok-some_can.ensures.was_open (c.in_ok-has_some_table.ensures.reads.rests.clean (c.check_lacking.ensures.rests.clean clean)) (omega arith)))
@@ -44,19 +44,19 @@ returns-then-branch-clause-told g c clean =
     let a = (state g.S.Store c.args.self.now.conn).now in
     let late = c.check_lacking.ensures.rests.clean clean in
     let mid = c.in_ok-has_some_table.ensures.reads.rests.clean late in
-    let one = c.in_ok-some_can.ensures.same mid in
+    let one = c.in_ok-some_can.ensures.asks.same mid in
     let two = c.in_ok-has_some_table.ensures.found.same late in
     let some = subst (λ (x : Database). HasSomeTable x.schema) one ((c.in_ok-has_some_table.ensures.found.asked late).0 c.if-branch.true) in
-    lacked a c.check_lacking.result some (λ each. not_both _ ((each_table c.args.self.now.conn.schema _ (c.in_ok-some_can.ensures.asked mid)).1 each) c.if-not-branch.false) (subst (λ (x : Database). MatchResult c.check_lacking.result (λ found. ⊥) (ExplainsLater x)) (two ∙ one) (c.check_lacking.ensures.told clean))
+    lacked a c.check_lacking.result some (λ each. not_both _ ((each_table c.args.self.now.conn.schema _ (c.in_ok-some_can.ensures.asks.asked mid)).1 each) c.if-not-branch.false) (subst (λ (x : Database). MatchResult c.check_lacking.result (λ found. ⊥) (ExplainsLater x)) (two ∙ one) (c.check_lacking.ensures.told clean))
 
 pub returns-in_err-some_can-clause-told : goal.returns-in_err-some_can-clause-told
 returns-in_err-some_can-clause-told g c clean =
     let a = (state g.S.Store c.args.self.now.conn).now in
-    passed_on c.from_residual.result _ _ (Explains a) c.from_residual.ensures.1 (only_store a _ c.in_err-some_can.ensures.only_store)
+    passed_on c.from_residual.result _ _ (Explains a) c.from_residual.ensures.1 (only_store a _ c.in_err-some_can.ensures.asks.only_store)
 
 pub returns-in_err-has_some_table-clause-rests : goal.returns-in_err-has_some_table-clause-rests
 returns-in_err-has_some_table-clause-rests g c =
-    reads_then (state g.S.Store c.args.self.now.conn) (state g.S.Store c.some_can.new.conn) (state g.S.Store c.has_some_table.new.conn) c.in_ok-some_can.ensures.rests c.in_err-has_some_table.ensures.reads.rests
+    reads_then (state g.S.Store c.args.self.now.conn) (state g.S.Store c.some_can.new.tables.conn) (state g.S.Store c.has_some_table.new.tables.conn) c.in_ok-some_can.ensures.asks.rests c.in_err-has_some_table.ensures.reads.rests
 
 pub returns-in_err-has_some_table-clause-shut : goal.returns-in_err-has_some_table-clause-shut
 returns-in_err-has_some_table-clause-shut g c clean shut = absurd (off_on _ shut (c.in_ok-some_can.ensures.was_open (c.in_err-has_some_table.ensures.reads.rests.clean clean) (omega arith)))
@@ -68,14 +68,14 @@ returns-in_err-has_some_table-clause-told g c clean =
 
 pub returns-clause-rests : goal.returns-clause-rests
 returns-clause-rests g c =
-    reads_then (state g.S.Store c.args.self.now.conn) (state g.S.Store c.some_can.new.conn) (state g.S.Store c.has_some_table.new.conn) c.in_ok-some_can.ensures.rests c.in_ok-has_some_table.ensures.reads.rests
+    reads_then (state g.S.Store c.args.self.now.conn) (state g.S.Store c.some_can.new.tables.conn) (state g.S.Store c.has_some_table.new.tables.conn) c.in_ok-some_can.ensures.asks.rests c.in_ok-has_some_table.ensures.reads.rests
 
 pub returns-clause-shut : goal.returns-clause-shut
 returns-clause-shut g c clean shut = absurd (off_on _ shut (c.in_ok-some_can.ensures.was_open (c.in_ok-has_some_table.ensures.reads.rests.clean clean) (omega arith)))
 
 pub returns-clause-told : goal.returns-clause-told
 returns-clause-told g c clean = λ some.
-    let one = c.in_ok-some_can.ensures.same (c.in_ok-has_some_table.ensures.reads.rests.clean clean) in
+    let one = c.in_ok-some_can.ensures.asks.same (c.in_ok-has_some_table.ensures.reads.rests.clean clean) in
     off_on _ c.if-branch.false ((c.in_ok-has_some_table.ensures.found.asked clean).1 (subst (λ (x : Database). HasSomeTable x.schema) (sym one) some))
 
 pub returns-then-not-branch-clause-good : goal.returns-then-not-branch-clause-good
@@ -94,7 +94,7 @@ returns-clause-good g c clean h sound within schema rest =
     good_found schema s (views_of h) (Ok None) rest (c.sound_histories_are_registries.ensures h sound within schema s.now) (returns-clause-shut g c clean) (told_stored s.now (Ok None) (returns-clause-told g c clean))
 
 pub returns-in_err-some_can-clause-good : goal.returns-in_err-some_can-clause-good
-returns-in_err-some_can-clause-good g c clean h sound within schema rest = passed_on c.from_residual.result _ _ IsMemoryOrStore c.from_residual.ensures.1 c.in_err-some_can.ensures.only_store
+returns-in_err-some_can-clause-good g c clean h sound within schema rest = passed_on c.from_residual.result _ _ IsMemoryOrStore c.from_residual.ensures.1 c.in_err-some_can.ensures.asks.only_store
 
 pub returns-in_err-has_some_table-clause-good : goal.returns-in_err-has_some_table-clause-good
 returns-in_err-has_some_table-clause-good g c clean h sound within schema rest = passed_on c.from_residual-in_err-has_some_table.result _ _ IsMemoryOrStore c.from_residual-in_err-has_some_table.ensures.1 c.in_err-has_some_table.ensures.found.only_store

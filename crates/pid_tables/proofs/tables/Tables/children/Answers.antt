@@ -42,8 +42,8 @@ returns-in_err-add_under-in-Vendor g c =
     let one = c.in_ok-added.ensures in
     let two = c.in_err-add_under-in-Vendor.ensures in
     let old = state g.S.Store c.args.self.now.conn in
-    let mid = state g.S.Store c.add_under-added.new.conn in
-    let new = state g.S.Store c.add_under.new.conn in
+    let mid = state g.S.Store c.add_under-added.new.tables.conn in
+    let new = state g.S.Store c.add_under.new.tables.conn in
     record {
       rests = reads_then _ _ _ one.rests two.rests;
       told = λ clean v rest.

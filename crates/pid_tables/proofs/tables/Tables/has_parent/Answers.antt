@@ -12,7 +12,7 @@ pub returns-in-None : goal.returns-in-None
 returns-in-None g c =
     let none : parent_of c.args.path ≡ None = sym c.parent.ensures.parent ∙ c.in-None.is in
     record {
-      rests = nothing_read (state g.S.Store c.args.self.now.conn) c.requires;
+      rests = nothing_read (state g.S.Store c.args.self.now.conn) c.args.self.now.settled;
       told = λ clean v rest. sym (ap (λ (o : Option (List ℕ)). holds_parent o v.items) (text_of_parent c.args.path ∙ ap (λ (o : Option Path). option_map path_text o) none));
     }
 

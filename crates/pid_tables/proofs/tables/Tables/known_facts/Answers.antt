@@ -9,14 +9,14 @@ returns-in_err-revision g c =
 
 pub returns-in_err-kept : goal.returns-in_err-kept
 returns-in_err-kept g c =
-    rw c.in-Some.is (fault_after g.S.Store c.args.self.now.conn c.revision.new.self.conn c.kept_reply.new.conn (reads_then _ _ _ c.rank.ensures.rests c.revision.ensures.rests) c.in_err-kept.field-0.0 c.from_residual-in_err-kept.result c.from_residual-in_err-kept.ensures.1 c.in_err-kept.ensures)
+    rw c.in-Some.is (fault_after g.S.Store c.args.self.now.conn c.revision.new.self.conn c.kept_reply.new.tables.conn (reads_then _ _ _ c.rank.ensures.rests c.revision.ensures.rests) c.in_err-kept.field-0.0 c.from_residual-in_err-kept.result c.from_residual-in_err-kept.ensures.1 c.in_err-kept.ensures)
 
 pub returns-in_err-rank : goal.returns-in_err-rank
 returns-in_err-rank g c = fault_first g.S.Store c.args.self.now.conn c.rank.new.self.conn c.in_err-rank.field-0.0 c.from_residual.result c.from_residual.ensures.1 c.in_err-rank.ensures
 
 pub returns : goal.returns
 returns g c =
-    rw c.in-Some.is (value_after g.S.Store c.args.self.now.conn c.revision.new.self.conn c.kept_reply.new.conn (reads_then _ _ _ c.rank.ensures.rests c.revision.ensures.rests) _ _ c.in_ok-kept.ensures
+    rw c.in-Some.is (value_after g.S.Store c.args.self.now.conn c.revision.new.self.conn c.kept_reply.new.tables.conn (reads_then _ _ _ c.rank.ensures.rests c.revision.ensures.rests) _ _ c.in_ok-kept.ensures
     (λ clean v rest says.
     let kept = rw (c.as_str-2.ensures.text, c.as_str-3.ensures.text) at says in
     let number = c.in_ok-revision.ensures.told clean v (c.rank.ensures.rests.kept v rest) in

@@ -28,7 +28,7 @@ returns-in_err-add_numbered g c =
     let before = c.loop-number.invariant in
     let old = state g.S.Store c.args.self.now.conn in
     let mid = state g.S.Store c.loop-number.self.conn in
-    let new = state g.S.Store c.add_numbered.new.conn in
+    let new = state g.S.Store c.add_numbered.new.tables.conn in
     record {
       rests = reads_then _ _ _ before.0 one.rests;
       told = λ clean v rest.

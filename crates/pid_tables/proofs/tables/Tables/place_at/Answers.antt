@@ -12,16 +12,16 @@ returns-in_err-has_parent g c =
 
 pub returns-in_err-has_children : goal.returns-in_err-has_children
 returns-in_err-has_children g c =
-    fault_after g.S.Store c.args.self.now.conn c.has_parent.new.self.conn c.has_children.new.conn (reads_then _ _ _ c.items.ensures.rests c.has_parent.ensures.rests) c.in_err-has_children.field-0.0
+    fault_after g.S.Store c.args.self.now.conn c.has_parent.new.self.conn c.has_children.new.tables.conn (reads_then _ _ _ c.items.ensures.rests c.has_parent.ensures.rests) c.in_err-has_children.field-0.0
     c.from_residual-in_err-has_children.result c.from_residual-in_err-has_children.ensures.1 c.in_err-has_children.ensures
 
 pub returns-in-Err : goal.returns-in-Err
 returns-in-Err g c =
-    fault_after g.S.Store c.args.self.now.conn c.has_children.new.conn c.item.new.self.conn (reads_then _ _ _ (reads_then _ _ _ c.items.ensures.rests c.has_parent.ensures.rests) c.has_children.ensures.rests) c.in-Err.fault (Err c.in-Err.fault) refl c.in-Err.ensures
+    fault_after g.S.Store c.args.self.now.conn c.has_children.new.tables.conn c.item.new.self.conn (reads_then _ _ _ (reads_then _ _ _ c.items.ensures.rests c.has_parent.ensures.rests) c.has_children.ensures.rests) c.in-Err.fault (Err c.in-Err.fault) refl c.in-Err.ensures
 
 pub returns-in-Ok : goal.returns-in-Ok
 returns-in-Ok g c =
-    value_after g.S.Store c.args.self.now.conn c.has_children.new.conn c.item.new.self.conn (reads_then _ _ _ (reads_then _ _ _ c.items.ensures.rests c.has_parent.ensures.rests) c.has_children.ensures.rests) _ _ c.in-Ok.ensures
+    value_after g.S.Store c.args.self.now.conn c.has_children.new.tables.conn c.item.new.self.conn (reads_then _ _ _ (reads_then _ _ _ c.items.ensures.rests c.has_parent.ensures.rests) c.has_children.ensures.rests) _ _ c.in-Ok.ensures
     (λ clean v rest there all parents.
     let late = c.has_children.ensures.rests.clean clean in
     let first = c.items.ensures.rests.kept v rest in

@@ -33,7 +33,7 @@ returns-in_err-rank_at-in-Some g c = record {
   rests = c.in_ok-rows.ensures.rests;
   told = λ clean v rest.
       let old = state g.S.Store c.args.self.now.conn in
-      let new = state g.S.Store c.read_rows.new.conn in
+      let new = state g.S.Store c.read_rows.new.tables.conn in
       let found = rank_first g.S.Store c.args.self.now.conn v rest c.in_ok-rows.rows.items c.args.name.now (rw c.to_sql-name.ensures at (c.in_ok-rows.ensures.shown clean)) in
       passed_on c.from_residual-in_err-rank_at-in-Some.result _ _ (λ fault. IsReadable v → IsCaused old new fault) c.from_residual-in_err-rank_at-in-Some.ensures.1
       (λ readable. caused_unread old new c.in_err-rank_at-in-Some.field-0.0 (rank_written (v.rank c.args.name.now) c.in-Some.row.now (c.in-Some.ensures.value ∙ ap (λ l. slice_get l 0) c.deref.ensures.value ∙ found)) c.in_err-rank_at-in-Some.ensures.unread);
@@ -43,6 +43,6 @@ pub returns-in_err-rows : goal.returns-in_err-rows
 returns-in_err-rows g c = record {
   rests = c.in_err-rows.ensures.rests;
   told = λ clean v rest.
-      passed_on c.from_residual.result _ _ (λ fault. IsReadable v → IsCaused (state g.S.Store c.args.self.now.conn) (state g.S.Store c.read_rows.new.conn) fault) c.from_residual.ensures.1
+      passed_on c.from_residual.result _ _ (λ fault. IsReadable v → IsCaused (state g.S.Store c.args.self.now.conn) (state g.S.Store c.read_rows.new.tables.conn) fault) c.from_residual.ensures.1
       (λ readable. (rw c.to_sql-name.ensures at (c.in_err-rows.ensures.faults.caused clean pid_schema (λ opened. (rest.shows opened).schema))) (account_query Two c.args.name.now));
 }

@@ -44,7 +44,7 @@ returns-in_err-rows g c =
     let before = c.loop-time.invariant in
     let old = state g.S.Store c.args.self.now.conn in
     let mid = state g.S.Store c.loop-time.self.conn in
-    let new = state g.S.Store c.filing_rows.new.conn in
+    let new = state g.S.Store c.filing_rows.new.tables.conn in
     record {
       rests = reads_then _ _ _ before.0 one.rests;
       told = λ clean v rest.

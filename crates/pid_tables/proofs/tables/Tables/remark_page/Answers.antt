@@ -16,8 +16,8 @@ returns-in_err-count g c =
     let one = c.in_ok-remarks.ensures in
     let two = c.in_err-count.ensures in
     let old = state g.S.Store c.args.self.now.conn in
-    let mid = state g.S.Store c.remarks_after.new.conn in
-    let new = state g.S.Store c.remark_count.new.conn in
+    let mid = state g.S.Store c.remarks_after.new.tables.conn in
+    let new = state g.S.Store c.remark_count.new.tables.conn in
     record {
       rests = reads_then _ _ _ one.rests two.rests;
       told = λ clean v rest.
@@ -32,8 +32,8 @@ returns-in_err-submission g c =
     let three = c.in_err-submission.ensures in
     let both = reads_then _ _ _ one.rests two.rests in
     let old = state g.S.Store c.args.self.now.conn in
-    let mid = state g.S.Store c.remark_count.new.conn in
-    let new = state g.S.Store c.standing.new.conn in
+    let mid = state g.S.Store c.remark_count.new.tables.conn in
+    let new = state g.S.Store c.standing.new.tables.conn in
     record {
       rests = reads_then _ _ _ both three.rests;
       told = λ clean v rest.

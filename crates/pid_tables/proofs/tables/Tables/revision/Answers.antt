@@ -12,7 +12,7 @@ returns-in-Some g c = record {
   rests = c.in_ok-rows.ensures.reads.rests;
   told = λ clean v rest.
       let found = c.in_ok-rows.ensures.reads.told clean v rest in
-      whole_read (state g.S.Store c.args.self.now.conn) (state g.S.Store c.value_rows.new.conn) v c.in-Some.row.now c.whole_at.result v.revision
+      whole_read (state g.S.Store c.args.self.now.conn) (state g.S.Store c.value_rows.new.tables.conn) v c.in-Some.row.now c.whole_at.result v.revision
       (some_same (c.in-Some.ensures.value ∙ ap (λ l. slice_get l 0) c.deref.ensures.value ∙ found)) c.whole_at.ensures.read c.whole_at.ensures.unread;
 }
 

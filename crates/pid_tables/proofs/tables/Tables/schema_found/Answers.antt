@@ -17,18 +17,18 @@ use Rattle.pid_tables.proofs.tables.Tables.schema_found.Goals as goal
 
 pub returns-in_err-is_current-clause-same : goal.returns-in_err-is_current-clause-same
 returns-in_err-is_current-clause-same g c =
-    seen_still (state g.S.Store c.args.self.now.conn) (state g.S.Store c.is_current.new.conn) (c.all_is_committed_outside_transactions.ensures c.requires) c.is_current.ensures.rests
+    seen_still (state g.S.Store c.args.self.now.conn) (state g.S.Store c.is_current.new.tables.conn) (c.all_is_committed_outside_transactions.ensures c.args.self.now.settled) c.is_current.ensures.rests
 
 pub returns-then-branch-clause-same : goal.returns-then-branch-clause-same
 returns-then-branch-clause-same g c =
-    seen_still (state g.S.Store c.args.self.now.conn) (state g.S.Store c.is_current.new.conn) (c.all_is_committed_outside_transactions.ensures c.requires) c.is_current.ensures.rests
+    seen_still (state g.S.Store c.args.self.now.conn) (state g.S.Store c.is_current.new.tables.conn) (c.all_is_committed_outside_transactions.ensures c.args.self.now.settled) c.is_current.ensures.rests
 
 pub returns-clause-same : goal.returns-clause-same
 returns-clause-same g c =
     let old = state g.S.Store c.args.self.now.conn in
-    let mid = state g.S.Store c.is_current.new.conn in
+    let mid = state g.S.Store c.is_current.new.tables.conn in
     let new = state g.S.Store c.check.new.self.conn in
-    seen_still old new (c.all_is_committed_outside_transactions.ensures c.requires) (reads_then old mid new c.is_current.ensures.rests c.check.ensures.rests)
+    seen_still old new (c.all_is_committed_outside_transactions.ensures c.args.self.now.settled) (reads_then old mid new c.is_current.ensures.rests c.check.ensures.rests)
 
 -- ---- what is shown
 
@@ -54,8 +54,8 @@ returns-then-branch-clause-shown g c = record {
 pub returns-clause-shown : goal.returns-clause-shown
 returns-clause-shown g c =
     let old = state g.S.Store c.args.self.now.conn in
-    let mid = state g.S.Store c.is_current.new.conn in
-    let still = seen_still old mid (c.all_is_committed_outside_transactions.ensures c.requires) c.is_current.ensures.rests in
+    let mid = state g.S.Store c.is_current.new.tables.conn in
+    let still = seen_still old mid (c.all_is_committed_outside_transactions.ensures c.args.self.now.settled) c.is_current.ensures.rests in
     record {
       shut = λ clean closed. absurd (true≢false (sym (c.in_ok-is_current.ensures.was_open (c.check.ensures.rests.clean clean)) ∙ closed));
       bare = λ clean none. none_found old.now c.check.result none (told_before old mid c.check.result still (c.check.ensures.shut clean) (c.check.ensures.told clean));
@@ -78,6 +78,6 @@ returns-then-branch-clause-told g c clean = Named refl (c.in_ok-is_current.ensur
 pub returns-clause-told : goal.returns-clause-told
 returns-clause-told g c clean =
     let old = state g.S.Store c.args.self.now.conn in
-    let mid = state g.S.Store c.is_current.new.conn in
-    let still = seen_still old mid (c.all_is_committed_outside_transactions.ensures c.requires) c.is_current.ensures.rests in
+    let mid = state g.S.Store c.is_current.new.tables.conn in
+    let still = seen_still old mid (c.all_is_committed_outside_transactions.ensures c.args.self.now.settled) c.is_current.ensures.rests in
     as_standing old.now c.check.result (told_before old mid c.check.result still (c.check.ensures.shut clean) (c.check.ensures.told clean))

@@ -11,8 +11,8 @@ returns-in_err-submission g c =
     let one = c.in_ok-remarks.ensures in
     let two = c.in_err-submission.ensures in
     let old = state g.S.Store c.args.self.now.conn in
-    let mid = state g.S.Store c.comments.new.conn in
-    let new = state g.S.Store c.standing.new.conn in
+    let mid = state g.S.Store c.comments.new.tables.conn in
+    let new = state g.S.Store c.standing.new.tables.conn in
     record {
       rests = reads_then _ _ _ one.rests two.rests;
       told = λ clean v rest.

@@ -46,8 +46,8 @@ returns-in_err-submissions g c =
     let listed = c.in_err-submissions.ensures in
     let both = reads_then _ _ _ counted.rests found.rests in
     let old = state g.S.Store c.args.self.now.conn in
-    let mid = state g.S.Store c.number_rows-rows.new.conn in
-    let new = state g.S.Store c.listed_at-listed.new.conn in
+    let mid = state g.S.Store c.number_rows-rows.new.tables.conn in
+    let new = state g.S.Store c.listed_at-listed.new.tables.conn in
     record {
       rests = reads_then _ _ _ both listed.rests;
       told = λ clean v rest.
@@ -64,7 +64,7 @@ returns-in_err-rows g c =
     let two = c.in_err-rows.ensures in
     let old = state g.S.Store c.args.self.now.conn in
     let mid = state g.S.Store c.submissions.new.self.conn in
-    let new = state g.S.Store c.number_rows-rows.new.conn in
+    let new = state g.S.Store c.number_rows-rows.new.tables.conn in
     record {
       rests = reads_then _ _ _ one.rests two.rests;
       told = λ clean v rest.

@@ -33,7 +33,7 @@ returns-in-Item g c = rw c.in-Item.is c.item_facts.ensures
 
 pub returns-in-Nothing : goal.returns-in-Nothing
 returns-in-Nothing g c = rw c.in-Nothing.is (record {
-  rests = nothing_read (state g.S.Store c.args.self.now.conn) c.requires;
+  rests = nothing_read (state g.S.Store c.args.self.now.conn) c.args.self.now.settled;
   told = λ clean v rest all parents. c.plain_facts-in-Nothing.ensures;
 })
 
