@@ -8,7 +8,8 @@ use std::fs;
 use std::fs::File;
 use std::io::ErrorKind;
 
-const OPEN: &str = "cannot open ";
+/// Before a path, and why.
+pub const OPEN: &str = "cannot open ";
 
 const READ: &str = "cannot read ";
 

@@ -1,7 +1,7 @@
 //! A run of the program, with a person at the terminal.
 
 use crate::job::Job;
-use crate::terminal::files::{explain_looks, explain_size, explain_unread};
+use crate::terminal::files::{OPEN, explain_looks, explain_size, explain_unread};
 use crate::terminal::lines::{Lines, ScriptInput, script_input};
 use crate::terminal::prefix::Prefix;
 use crate::terminal::reasons::{explain_port, reason_of_folder, reason_of_store};
@@ -134,8 +134,6 @@ impl<'r> Run<'r> {
         }
     }
 }
-
-const OPEN: &str = "cannot open ";
 
 const MADE_BY: &str = " was not there: it was made, with the commands of ";
 
