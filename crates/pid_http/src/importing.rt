@@ -1,15 +1,14 @@
 //! Imports, whose file is the body of the request, read as it comes.
-ghost use Rattle.std.specs.Prelude.{◌≡◌, [], Some, Err, IfSome, option_copied};
+ghost use Rattle.std.specs.Prelude.{◌≡◌, Err, IfSome, option_copied};
 ghost use Rattle.pid_moderation.specs.Files.{file_reading};
 ghost use Rattle.pid_moderation.specs.BeforeFile.{import_of};
 ghost use Rattle.pid_http_stream.specs.Replies.{Answer};
-ghost use Rattle.pid_http_stream.specs.Steps.Bodies.{ReadsOut};
 ghost use Rattle.pid_http.specs.Api.Outcomes.{outcome_answer};
 ghost use Rattle.pid_http.specs.Api.Replying.{MakesReply};
 ghost use Rattle.pid_http.specs.Api.Senders.{sending_in};
 ghost use Rattle.pid_http.specs.Answering as meanings;
 ghost use Rattle.pid_http.specs.Answering.{import_meaning};
-ghost use Rattle.pid_http.specs.Steps.Replying.{RepliesToFile};
+ghost use Rattle.pid_http.specs.Steps.Replying.{AnswersAfter, RepliesToFile};
 
 use crate::api::{Format, Sender, outcome_reply, refusal_reply};
 use pid_http_stream::{HttpReply, LONGEST_BODY, NoReply};
@@ -36,9 +35,7 @@ fn refuse<B: Input>(
     refusal: Refusal,
     body: &mut B,
 ) -> Result<HttpReply, NoReply>
-    ensures read { ReadsOut B.Input body.old body.new result }
-    ensures ended { B.to_come body.old ≡ Some [] → B.to_come body.new ≡ Some [] }
-    ensures replied { MakesReply result (outcome_answer format (Err refusal)) }
+    ensures { AnswersAfter B.Input body.old body.new (outcome_answer format (Err refusal)) result }
 {
     match skip_input(LONGEST_BODY, body) {
         Ok(()) => made(refusal_reply(alloc, format, refusal)),
@@ -55,9 +52,7 @@ fn take_in<R: RegistryQueries, B: Input>(
     key: Option<Key>,
     body: &mut B,
 ) -> Result<HttpReply, NoReply>
-    ensures read { ReadsOut B.Input body.old body.new result }
-    ensures replied { RepliesToFile R.RegistryCalls registry.old registry.new
-        (B.to_come body.old) (B.to_come body.new)
+    ensures { RepliesToFile R.RegistryCalls B.Input registry.old registry.new body.old body.new
         (λ file. meanings.Obeys (import_of account key (file_reading file)) format) result }
 {
     match registry.import_from(account, key, body) {
@@ -93,9 +88,7 @@ pub(crate) fn import<R: RegistryQueries, B: Input>(
     sender: Option<Sender<'_>>,
     body: &mut B,
 ) -> Result<HttpReply, NoReply>
-    ensures read { ReadsOut B.Input body.old body.new result }
-    ensures replied { RepliesToFile R.RegistryCalls registry.old registry.new
-        (B.to_come body.old) (B.to_come body.new)
+    ensures { RepliesToFile R.RegistryCalls B.Input registry.old registry.new body.old body.new
         (import_meaning format (sending_in sender.entry)) result }
 {
     match sender {

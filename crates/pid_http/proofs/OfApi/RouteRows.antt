@@ -8,7 +8,7 @@ use Rattle.matchit.specs.Router.{RouteOf, InsertsRead}
 use Rattle.matchit.specs.declared.error.InsertError.{InsertError}
 use Rattle.matchit.specs.declared.error.InsertError.TheVariants.{Conflict, InvalidParam, InvalidParamSegment, InvalidCatchAll, OutOfMemory}
 use Rattle.matchit.proofs.OnLiterals.{matchit_on_literals}
-use Rattle.pid_http.specs.Api.Routes.{all_routes, paths, Route, with_all, with_read}
+use Rattle.pid_http.specs.Api.Routes.{all_routes, paths, with_all, with_read}
 use Rattle.pid_http.specs.Api.Steps.Inserting.{Entry, all_new, paths_of, reads_new, row_of}
 
 -- what `insert` does where it does not fail

@@ -3,6 +3,7 @@ use Rattle.std.specs.Prelude.{◌≡◌, ◌≤◌, ◌⊎◌, ℕ, true, false,
 use Rattle.std.specs.Prelude.{Option, Some, Result}
 use Rattle.std.specs.Prelude.{Ok, Err, IsErrAnd, MatchResult}
 use Rattle.std.specs.Io.KnownBytes.{IsAtEnd}
+use Rattle.pid_file.specs.declared.io.Input as inputs
 use Rattle.pid_service_laws.specs.declared.registry_calls.RegistryCalls.{Ghosts}
 use Rattle.pid_service_laws.specs.Calls.{Call, obeyed}
 use Rattle.pid_moderation.specs.History.{Asked}
@@ -19,7 +20,9 @@ use Rattle.pid_http_stream.specs.declared.handler.ReplyBody.{ReplyBody}
 use Rattle.pid_http_stream.specs.declared.handler.ReplyBody.TheVariants.{Bytes, Written}
 use Rattle.pid_http_stream.specs.declared.reply_head.ReplyHead.{ReplyHead}
 use Rattle.pid_http.specs.declared.api.format.Format.{Format}
+use Rattle.pid_http_stream.specs.Steps.Bodies.{ReadsOut}
 use Rattle.pid_http.specs.Api.Outcomes.{outcome_answer}
+use Rattle.pid_http.specs.Api.Replying.{MakesReply}
 use Rattle.pid_http.specs.Answering.{RequestMeaning}
 use Rattle.pid_http.specs.Known.{Known, Live, Between, Down}
 use Rattle.pid_http.specs.Steps.Going.{Goes}
@@ -71,10 +74,21 @@ abbrev pub Replies : {R E : Type 0} → (registry : Ghosts R) → R → R
 Replies registry old new meaning result = Goes registry old new
     (λ k calls now. IsMetBy k meaning result calls now)
 
+-- the body is read to its end, and then answered so
+pub record AnswersAfter {I E : Type 0} (body : inputs.Ghosts I) (old new : I) (given : Answer)
+    (result : Result HttpReply E)
+    : Type 0 where
+  pub read : ReadsOut body old new result
+  pub ended : body.to_come old ≡ Some [] → body.to_come new ≡ Some []
+  pub replied : MakesReply result given
+
 -- what comes of it if the body is a file that is read as it comes, known and not too long
-abbrev pub RepliesToFile : {R E : Type 0} → (registry : Ghosts R) → R
-    → R → Option (List ℕ) → Option (List ℕ) → (List ℕ → RequestMeaning) → Result HttpReply E
-    → Type 0
-RepliesToFile registry old new to_come left meaning result = Goes registry old new
-    (λ k calls now. (file : List ℕ) → to_come ≡ Some file → length file ≤ LONGEST_BODY
-    → IsMetAfter k (meaning file) result left calls now)
+pub record RepliesToFile {R I E : Type 0} (registry : Ghosts R) (body : inputs.Ghosts I)
+    (old new : R) (input input_after : I) (meaning : List ℕ → RequestMeaning)
+    (result : Result HttpReply E)
+    : Type 0 where
+  pub read : ReadsOut body input input_after result
+  pub replied : Goes registry old new
+      (λ k calls now. (file : List ℕ) → body.to_come input ≡ Some file
+      → length file ≤ LONGEST_BODY
+      → IsMetAfter k (meaning file) result (body.to_come input_after) calls now)

@@ -1,4 +1,4 @@
-use Rattle.std.proofs.Common.{rules, arith, refl, sym, subst, ◌∙◌, inl}
+use Rattle.std.proofs.Common.{arith, refl, sym, subst, ◌∙◌, inl}
 use Rattle.std.specs.Prelude.{IfSome}
 use Rattle.pid_http_stream.specs.Steps.Bodies.{turns_at}
 use Rattle.pid_http_stream.specs.Steps.BodyLaws.{no_turns, more_turns}
