@@ -116,8 +116,7 @@ pub(crate) fn children_in(alloc: Global, text: &KeptText, above: Option<Path>) -
     Some(found)
 }
 
-// Up to so many items below a path are sooner read from their rows than found in the text, which is
-// walked over whole.
+// Up to so many items below a path are always read from their rows: the text is walked over whole.
 const FEW: usize = 256;
 
 // Whether a path is below another one, at any depth.
@@ -129,8 +128,8 @@ fn is_within(path: Path, above: Path) -> bool {
     }
 }
 
-// Whether to look for what is below a path in the text, and not in the rows. What is found is the
-// same. Where all have their own rows, a row costs as much as a walk over some 128 of them.
+// Whether what is below a path is sooner found in the text than in the rows. Both have the same: this
+// decides about time alone. To read a row takes as long as to walk over some 128 items.
 fn is_sooner_in_text(extents: &[Extent], above: Option<Path>) -> bool {
     let Some(above) = above else {
         return true;
