@@ -14,6 +14,8 @@ SLOW = 1_000
 # Shares that a test uses up before more of them comes, however slow the machine is; and times that
 # it waits for. Whoever is at PROXY names visitors.
 PROXY = "127.0.0.4"
+# Owns no file of the test.
+NOBODY = 65_534
 SHARES = {
     "host": f"set_real_ip_from {PROXY}; real_ip_header X-Forwarded-For;",
     "pciids_limits": (
@@ -202,6 +204,27 @@ def pages(cases, front):
         cases.equal(f"front: {path.decode()} is no redirect: {told}", is_refused, True)
 
 
+def links(cases, front):
+    """Whoever writes what is published, or the epoch, can't have nginx show by a link what others
+    own, such as the key of the certificate."""
+    key = os.path.join(front.folder, "key.pem")
+    os.mkdir(os.path.join(front.folder, "others"))
+    front.write("others/8086.jsonl", "PRIVATE")
+    for path, place, target, want in (
+        ("/history/2026-10.jsonl", "public/history/2026-10.jsonl", key, 403),
+        ("/history/PD/8086.jsonl", "public/history/PD", f"{front.folder}/others", 403),
+        ("/pci.ids.asc", "public/pci.ids.asc", key, 403),
+        ("/item/PC/1022", "public/item/PC/1022.html", key, 404),
+        ("/epoch", "shown/epoch", key, 403),
+    ):
+        link = os.path.join(front.folder, place)
+        os.symlink(target, f"{link}.new")
+        os.lchown(f"{link}.new", NOBODY, NOBODY)
+        os.replace(f"{link}.new", link)
+        status, _, body = front.curl(path)
+        cases.equal(f"front: a link at {path}", (status, b"PRIVATE" in body), (want, False))
+
+
 def limits(cases, front):
     """The text itself is asked for six times at once at most; the published file goes on."""
     live = ("-H", "Cache-Control: no-cache", "--interface", "127.0.0.2")
@@ -350,6 +373,7 @@ def test_front(cases):
             limits(cases, front)
             networks(cases, front)
             shares(cases, front)
+            links(cases, front)
         finally:
             front.close()
         front = Front(os.path.join(folder, "short"), recorder.port, **IN_SHORT)

@@ -168,6 +168,7 @@ class Front:
             ),
             "pciids-headers": (),
             "pciids-page": (),
+            "pciids-published": (("/var/lib/pciids-public", f"{self.folder}/public"),),
             "pciids-question": (),
             "pciids-command": (),
             "pciids-join": (),
@@ -175,7 +176,6 @@ class Front:
             "pciids-site": (
                 ("/usr/share/pciids-registry/site", SITE),
                 ("/run/pciids-join", f"{self.folder}/join"),
-                ("/var/lib/pciids-public", f"{self.folder}/public"),
                 ("/run/pciids-epoch", f"{self.folder}/shown"),
                 ("listen 443", f"listen {own}"),
                 ("listen 80;", f"listen 127.0.0.1:{free_port()};"),

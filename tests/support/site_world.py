@@ -198,7 +198,8 @@ class Nginx:
         for name in PEOPLE:
             words = ["htpasswd", "-bB", "-C", "4", passwords, name, f"pw-{name}"]
             subprocess.run(words, **quiet)
-        for name in ("headers", "limits", "page", "question", "command", "join", "unit", "site"):
+        for name in ("headers", "limits", "page", "published", "question", "command", "join",
+                     "unit", "site"):
             with open(f"{CONFIG}/pciids-{name}.conf", encoding="utf-8") as file:
                 text = self.in_place(file.read(), behind)
             with open(f"{folder}/pciids-{name}.conf", "w", encoding="utf-8") as file:
