@@ -332,6 +332,22 @@ def test_security(cases):
     cases.equal("it names clauses", count > 4, True)
 
 
+def test_root(cases):
+    """What is meant for root opens no file of the user pciids with a tool that does what the file
+    says: an `edit()` in a view of a database runs a command, and `tar` unpacks programs of root."""
+    count = 0
+    for page in ("docs/OPERATE.md", "docs/FAILURES.md"):
+        text = text_of(page)
+        blocks = re.findall(r"^```(?:sh)?\n(.*?)^```$", text, re.M | re.S)
+        lines = "".join(blocks).replace("\\\n", " ").splitlines()
+        in_prose = re.findall(r"`([^`\n]+\n?[^`\n]+)`", prose_of(page))
+        for line in [*lines, *(it.replace("\n", " ") for it in in_prose)]:
+            if re.search(r"(^|[ /])(sqlite3 .*\.db|tar .*-x)", line):
+                count += 1
+                cases.equal(line, "runuser -u pciids -- " in line, True)
+    cases.equal("they open some", count > 3, True)
+
+
 def test_refusals(cases):
     cases.equal("as the definitions have them", refusals.shown(), refusals.defined())
 
