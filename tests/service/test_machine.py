@@ -136,7 +136,7 @@ def install(story):
 
 def by(user):
     """What stands before a command that another user runs."""
-    return f"setpriv --reuid={user} --regid={user} --clear-groups"
+    return f"setpriv --reuid={user} --regid=$(id -g {user}) --clear-groups"
 
 
 def sandbox(story):
@@ -151,6 +151,7 @@ def sandbox(story):
     ask = ASK + "/account -H 'X-Account: root' -d 'who=eve&rank=3'"
     story.fails("the port, from the host", "curl -s --max-time 5 http://127.0.0.1:8086/pending")
     for user in ("www-data", "nobody", "pciids"):
+        story.works(f"something, by {user}", f"{by(user)} true")
         story.fails(f"the socket, by {user}", f"{by(user)} {ask}")
     story.works("the socket, by the web server", f"{by('pciids-web')} {IS_UP}")
     as_root = "ps -eo user:20,args | grep -c '^root .*[/ ]pciids '"
@@ -301,6 +302,22 @@ def moderated(story):
     story.same("the list of vendors has it", where, "1")
 
 
+def linked(story):
+    """What nginx may read and the user pciids may not is shown to nobody by a link of that user.
+    And no user of the host takes the locks of publishing."""
+    path = "pci.ids.bz2.asc"
+    for target in ("/etc/pciids/key.pem", "/etc/pciids/accounts/passwords"):
+        link = f"{by('pciids')} ln -sfT {target} /var/lib/pciids-public/{path}"
+        story.works(f"a link to {target}", link)
+        shown = f"{ASK_SITE} -o /dev/null -w '%{{http_code}}' https://{HOST}/{path}"
+        story.same(f"the link to {target} is not shown", shown, "403")
+    story.machine.run(f"rm /var/lib/pciids-public/{path}")
+    for it in ("public", "mirror"):
+        lock = f"flock -n /var/lib/pciids-{it} true 2> /dev/null"
+        story.works(f"the lock of {it} is free", f"{by('pciids')} {lock}")
+        story.fails(f"the lock of {it}, by another user", f"{by('nobody')} {lock}")
+
+
 def stops(story):
     """A stop is a stop, and whatever is killed, the server comes back."""
     hold = "systemctl is-active pciids"
@@ -395,7 +412,11 @@ def kept(story):
     story.example("Backup and restore")
     told = story.example("Backup and restore", **{"2026-11-25T031700Z": copy})
     story.cases.equal("machine: what a copy has", told, f"ok 1\n{revision}")
+    odd = '"/var/lib/pciids/replaced.2999\';odd;\'Z"'
+    story.works("a name that no restore gives", f"{by('pciids')} mkdir {odd}")
     told = story.example("Backup and restore", **{"2026-11-25T031700Z": copy})
+    story.cases.equal("machine: it is not printed for root", "odd" in told, False)
+    story.machine.run(f"rmdir {odd}")
     story.cases.equal("machine: the copies are listed", copy in told.split(), True)
     story.is_up("the server is back after a restore")
     story.same("the registry is as it was", f"{ASK}/pci.ids", "# PCI ID registry\n8086  Intel")
@@ -738,6 +759,7 @@ def test_machine(cases):
         web(story)
         joined(story)
         moderated(story)
+        linked(story)
         stops(story)
         left(story)
         kept(story)
