@@ -1,7 +1,6 @@
 //! What a line is by its own bytes.
 ghost use Rattle.std.specs.Prelude.{◌≡◌, ◌+◌, ◌≤◌, length};
 ghost use Rattle.std.specs.Str.{is_utf8 as utf8_bytes};
-ghost use Rattle.pid_file.specs.Bytes.{is_blank as blank_byte};
 ghost use Rattle.pid_file.specs.Lines.{drop_cr};
 ghost use Rattle.pid_file.specs.Marks.{
   trim_blanks as trimmed,
@@ -45,22 +44,12 @@ pub fn is_utf8(bytes: &[u8]) -> bool
     }
 }
 
-/// Whether it is a space or a tab.
-pub fn is_blank(byte: u8) -> bool
-    ensures { result ≡ blank_byte byte }
-{
-    byte == b' ' || byte == b'\t'
-}
-
 /// Without its leading blanks.
 pub fn trim_blanks(bytes: &[u8]) -> &[u8]
     ensures { result.now ≡ trimmed bytes.now }
 {
     let mut rest = bytes;
-    while let [first, behind @ ..] = rest {
-        if !is_blank(*first) {
-            break;
-        }
+    while let [b' ' | b'\t', behind @ ..] = rest {
         rest = behind;
     }
     rest
