@@ -1,8 +1,10 @@
 //! What can be wrong with a line of `pci.ids`.
 ghost use Rattle.std.specs.Prelude.{◌≡◌};
 
+use std::fmt;
+
 /// What is wrong with a line. Of several faults of one line the first of this order is reported.
-#[derive(Clone, Copy, Debug, PartialEq, Eq)]
+#[derive(Clone, Copy, PartialEq, Eq)]
 pub enum LineKind {
     /// The bytes are not UTF-8.
     NotUtf8,
@@ -57,5 +59,11 @@ impl LineKind {
             LineKind::Duplicate => "Duplicate",
             LineKind::VendorMissing => "VendorMissing",
         }
+    }
+}
+
+impl fmt::Debug for LineKind {
+    fn fmt<W: fmt::Write>(&self, f: &mut fmt::Formatter<W>) -> fmt::Result {
+        f.write_str(self.word())
     }
 }
