@@ -51,6 +51,16 @@ reported_checked WriteFault text old new reported = inr reported
 pub keeps_fault : (end : TextEnd) (w : WriterUse) → ReportsEnd end w → end ≡ WriteFault → IsSome w.fault
 keeps_fault end w reports is = (subst (λ e. ReportsEnd e w) is reports).failed.0
 
+-- ends that are not the same
+pub done_no_write_fault : Done ≡ WriteFault → ⊥
+done_no_write_fault e = cc
+
+pub done_no_read_fault : Done ≡ ReadFault → ⊥
+done_no_read_fault e = cc
+
+pub no_read_fault : WriteFault ≡ ReadFault → ⊥
+no_read_fault e = cc
+
 -- a text that was read whole, and what was made of it
 pub tidied : (o : Option (List ℕ)) (t : TreeMap) (w : Writers) → IfSome o (λ text. (length text ≤ LARGEST) × (refused text ≡ None) × Reads text t) → Appends w.output w.output_after (print t) → Keeps w.faults w.faults_after → IfSome o (λ text. IsTidied Done text w)
 tidied None t w read printed kept = tt
