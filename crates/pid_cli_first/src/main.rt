@@ -7,11 +7,10 @@
 
 use pid_cli_help::{
     FirstJob, Met, Noted, explain_streams, first_job_of, is_for_a_person, refuse_argument,
-    refuse_command, report_input,
+    refuse_command, report_input, words_given,
 };
 use pid_file::{NO_JOB, report_no_words, run_check, run_tidy, show};
 use std::process::ExitCode;
-use std::{env, io};
 
 // The exit status if only the whole program can do the job. Nothing was read or written.
 const OTHER_JOB: u8 = 4;
@@ -21,10 +20,6 @@ fn main(rt: HostRuntime) -> ExitCode {
         Ok(words) => run(&rt, first_job_of(words.as_slice())),
         Err(error) => report_no_words(error.kind(), rt.stderr()),
     })
-}
-
-fn words_given(rt: &HostRuntime) -> io::Result<Vec<String>> {
-    Ok(env::args(rt)?.collect(rt.alloc())?)
 }
 
 // Does the job, and at a terminal says more.

@@ -7,12 +7,25 @@ pub fn is_for_a_person(rt: &HostRuntime) -> bool {
     rt.stderr().is_terminal()
 }
 
+/// Writes the parts of a line to standard error, up to the first that fails.
+pub(crate) fn say(rt: &HostRuntime, parts: &[&str]) {
+    for part in parts {
+        if rt.stderr().write_all(part.as_bytes()).is_err() {
+            return;
+        }
+    }
+}
+
 /// Says what is read from a terminal, and how to end it.
 pub fn report_input(rt: &HostRuntime, what: &str) {
     if rt.stdin().is_terminal() {
-        let _ = write!(
-            rt.stderr(),
-            "pciids: reading {what} from the terminal; end it with Ctrl-D, or see pciids --help\n"
+        say(
+            rt,
+            &[
+                "pciids: reading ",
+                what,
+                " from the terminal; end it with Ctrl-D, or see pciids --help\n",
+            ],
         );
     }
 }
@@ -20,24 +33,22 @@ pub fn report_input(rt: &HostRuntime, what: &str) {
 /// Says which standard stream failed and why, if the exit status is 3; or what the input looks like
 /// that was refused, if it is 1.
 pub fn explain_streams(rt: &HostRuntime, status: u8, input: &Met, output: &Met) {
-    if let Some((front, why)) = reason_for(status, input, output) {
-        let _ = write!(rt.stderr(), "pciids: {front} {why}\n");
+    match (status, input.fault, output.fault) {
+        (1, _, _) => {
+            if let Some(looks) = input.looks {
+                explain(rt, "standard input", looks);
+            }
+        }
+        (3, Some(fault), _) => explain(rt, "cannot read standard input:", reason_of(fault)),
+        (3, None, Some(fault)) if fault != ErrorKind::BrokenPipe => {
+            explain(rt, "cannot write standard output:", reason_of(fault));
+        }
+        _ => {}
     }
 }
 
-// What to say of the streams: which one, and why.
-fn reason_for(status: u8, input: &Met, output: &Met) -> Option<(&'static str, &'static str)> {
-    match status {
-        1 => Some(("standard input", input.looks?)),
-        3 => match input.fault {
-            Some(fault) => Some(("cannot read standard input:", reason_of(fault))),
-            None => match output.fault? {
-                ErrorKind::BrokenPipe => None,
-                fault => Some(("cannot write standard output:", reason_of(fault))),
-            },
-        },
-        _ => None,
-    }
+fn explain(rt: &HostRuntime, front: &str, why: &str) {
+    say(rt, &["pciids: ", front, " ", why, "\n"]);
 }
 
 /// Why the system did not do what it was asked to.

@@ -1,5 +1,6 @@
 //! What the arguments ask the first program for.
 use crate::pages::{HELP, VERSION_PAGE, page_of};
+use std::{env, io};
 
 /// What the first program can do by itself, and what it leaves to the whole program.
 #[derive(Clone, Copy)]
@@ -14,6 +15,11 @@ pub enum FirstJob<'a> {
     NoArgument { command: &'a str, word: &'a str },
     /// Anything else: the whole program does it, or says what is wrong with it.
     Other,
+}
+
+/// The arguments of the process, the first of which is the program's name.
+pub fn words_given(rt: &HostRuntime) -> io::Result<Vec<String>> {
+    Ok(env::args(rt)?.collect(rt.alloc())?)
 }
 
 /// What the arguments ask for. The first of them is the program's name.

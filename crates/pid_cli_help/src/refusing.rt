@@ -1,17 +1,20 @@
 //! What the first program says of arguments that name no job.
+use crate::explaining::say;
 use crate::pages::USAGE_PAGE;
 use crate::similar::similar_commands;
-use std::io::Write;
 
 /// Reports that a word is no command, with a tip if there is memory for it.
 pub fn refuse_command(rt: &HostRuntime, word: &str) {
-    let _ = write!(rt.stderr(), "error: unrecognized subcommand '{word}'\n\n");
+    say(rt, &["error: unrecognized subcommand '", word, "'\n\n"]);
     if let Ok(similar) = similar_commands(rt.alloc(), word) {
         report_tip(rt, similar.as_slice());
     }
-    let _ = write!(
-        rt.stderr(),
-        "{USAGE_PAGE}To read a file, redirect standard input: pciids < FILE\n"
+    say(
+        rt,
+        &[
+            USAGE_PAGE,
+            "To read a file, redirect standard input: pciids < FILE\n",
+        ],
     );
 }
 
@@ -22,18 +25,25 @@ fn report_tip(rt: &HostRuntime, similar: &[(f64, &'static str)]) {
         _ => "  tip: some similar subcommands exist: '",
     };
     for (_, command) in similar {
-        let _ = write!(rt.stderr(), "{front}{command}");
+        say(rt, &[front, *command]);
         front = "', '";
     }
-    let _ = write!(rt.stderr(), "'\n\n");
+    say(rt, &["'\n\n"]);
 }
 
 /// Reports that a command takes no argument, as the name of a file.
 pub fn refuse_argument(rt: &HostRuntime, command: &str, word: &str) {
-    let _ = write!(
-        rt.stderr(),
-        "error: unexpected argument '{word}' found\n\nUsage: pciids {command} < FILE\n\n\
-         For more information, try '--help'.\n\
-         To read a file, redirect standard input: pciids {command} < FILE\n"
+    say(
+        rt,
+        &[
+            "error: unexpected argument '",
+            word,
+            "' found\n\nUsage: pciids ",
+            command,
+            " < FILE\n\nFor more information, try '--help'.\n\
+             To read a file, redirect standard input: pciids ",
+            command,
+            " < FILE\n",
+        ],
     );
 }

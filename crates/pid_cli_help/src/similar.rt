@@ -10,7 +10,9 @@ const ALIKE: f64 = 0.7;
 pub fn similar_commands(alloc: Global, word: &str) -> Result<Vec<(f64, &'static str)>, AllocError> {
     let mut similar = Vec::new(alloc);
     for command in &COMMANDS {
-        add_if_like(alloc, &mut similar, word, command)?;
+        if add_if_like(alloc, &mut similar, word, command).is_err() {
+            return Err(AllocError);
+        }
     }
     Ok(similar)
 }
@@ -21,10 +23,14 @@ fn add_if_like(
     word: &str,
     command: &'static str,
 ) -> Result<(), AllocError> {
-    let likeness = jaro(alloc, word, command)?;
+    let Ok(likeness) = jaro(alloc, word, command) else {
+        return Err(AllocError);
+    };
     if likeness > ALIKE {
         let place = place_of(similar.as_slice(), likeness).min(similar.len());
-        similar.insert(place, (likeness, command))?;
+        if similar.insert(place, (likeness, command)).is_err() {
+            return Err(AllocError);
+        }
     }
     Ok(())
 }
