@@ -12,7 +12,7 @@ is_live r = r.live
 
 -- the connection whose tables it keeps
 abbrev pub connection : {S : Type 0} {store : Ghosts S} → Registry S store → Held S
-connection r = r.resting.tables.conn
+connection r = r.tables.conn
 
 module _ {S : Type 0} (store : Ghosts S) where
   -- so far the disk has returned what was written

@@ -6,9 +6,8 @@ ghost use Rattle.pid_tables.specs.Rows.Accounts.{HasAccounts};
 ghost use Rattle.pid_service.specs.KeptViews.{HoldsAccounts};
 ghost use Rattle.pid_service.specs.Steps.Asking.{ReadsIn};
 
-use crate::registry::RestingTables;
 use pid_moderation::Effect;
-use pid_tables::TableFault;
+use pid_tables::{TableFault, Tables};
 use sqlite::Alter;
 
 /// How many accounts there are after a change.
@@ -33,14 +32,14 @@ pub(crate) fn accounts_after(count: Option<u64>, effect: &Effect) -> Option<u64>
 
 /// How many accounts there are, by the number that is kept; if none is, their rows are counted.
 pub(crate) fn count_accounts<S: Alter + Drop>(
-    resting: &mut RestingTables<S>,
+    tables: &mut Tables<S>,
     kept: Option<u64>,
 ) -> Result<u64, TableFault>
-    ensures { ReadsIn S.Store resting.old resting.new result
+    ensures { ReadsIn S.Store tables.old tables.new result
         (λ v n. HoldsAccounts kept v → HasAccounts v n) }
 {
     match kept {
         Some(count) => Ok(count),
-        None => resting.tables.accounts(),
+        None => tables.accounts(),
     }
 }

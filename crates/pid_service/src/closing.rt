@@ -7,7 +7,7 @@ ghost use Rattle.pid_service.specs.Histories.{Shows};
 ghost use Rattle.pid_service.specs.KeptViews.{kept_by};
 ghost use Rattle.pid_service.specs.Registries.{connection, is_live as lives};
 
-use crate::registry::{Registry, RestingTables};
+use crate::registry::Registry;
 use sqlite::{Alter, Connection};
 
 impl<S: Alter + Drop> Registry<S> {
@@ -34,8 +34,7 @@ impl<S: Alter + Drop> Registry<S> {
         // Of a registry that shows a history the tables show it.
         ensures shown { (h : History) → Shows S.Store self h → AtRest S.Store result (views_of h) }
     {
-        let Registry { resting, .. } = self;
-        let RestingTables { tables } = resting;
+        let Registry { tables, .. } = self;
         tables.into_conn()
     }
 }

@@ -36,7 +36,7 @@ impl<S: Alter + Drop> Registry<S> {
                 Err(fault) => Err(ExportFault::Write(fault)),
             };
         }
-        match export_items(&mut self.resting, output) {
+        match export_items(&mut self.tables, output) {
             Ok(()) => Ok(()),
             Err(end) => Err(export_fault(end)),
         }

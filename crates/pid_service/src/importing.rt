@@ -124,7 +124,7 @@ impl<S: Alter + Drop> Registry<S> {
         pid_service_laws::judgements_are_outcomes(); // proof only
         self.kept.forget_items();
         match import_file(
-            &mut self.resting.tables.conn,
+            &mut self.tables.conn,
             self.alloc,
             facts,
             items,
@@ -160,7 +160,7 @@ impl<S: Alter + Drop> Registry<S> {
         pid_tables::laws::texts_read_to_files(); // proof only
         pid_tables::laws::long_files_are_refused(); // proof only
         pid_service_laws::judgements_are_outcomes(); // proof only
-        match judge_import(&mut self.resting.tables, self.alloc, command) {
+        match judge_import(&mut self.tables, self.alloc, command) {
             Early::Answered(answer) => answer_past(true, answer, input),
             Early::Open { mut facts, items } => {
                 let end = self.carry_in(&mut facts, items, command, input);

@@ -2,10 +2,9 @@
 ghost use Rattle.pid_service.specs.Steps.Exports.{PrintsItems};
 
 use crate::export_sink::ExportSink;
-use crate::registry::RestingTables;
 use pid_file::write_header;
 use pid_ident::{Output, WriteFault};
-use pid_tables::EachEnd;
+use pid_tables::{EachEnd, Tables};
 use sqlite::Alter;
 
 /// Writes the header and then the lines of each item in the canonical order, while the item is lent
@@ -14,16 +13,16 @@ use sqlite::Alter;
 /// The tables stay as they are. If they can't be read on, what was written ends with a whole line;
 /// if the writer fails (`Fault`), maybe within one. It keeps what it took until then.
 pub fn export_items<S: Alter + Drop, W: Output>(
-    resting: &mut RestingTables<S>,
+    tables: &mut Tables<S>,
     out: &mut W,
 ) -> Result<(), EachEnd<WriteFault>>
-    ensures { PrintsItems S.Store W.Output resting.old resting.new out.old out.new result }
+    ensures { PrintsItems S.Store W.Output tables.old tables.new out.old out.new result }
 {
     match write_header(out) {
         Err(fault) => Err(EachEnd::Fault(fault)),
         Ok(()) => {
             let mut sink = ExportSink::new(out);
-            resting.tables.each_item(&mut sink)
+            tables.each_item(&mut sink)
         }
     }
 }

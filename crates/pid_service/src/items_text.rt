@@ -20,11 +20,10 @@ ghost use Rattle.pid_file.specs.Steps.Printing.{text_or_none};
 ghost use Rattle.pid_service.specs.Steps.Asking.{ReadsIn};
 
 use crate::kept_text::{Extent, FIRST, KeptText, MOST_BYTES, extent_of};
-use crate::registry::RestingTables;
 use pid_file::{opened_block, write_after, write_header};
 use pid_ident::{Output, Path, WriteFault};
 use pid_reader::{Entry, Never, Sink};
-use pid_tables::{EachEnd, TableFault};
+use pid_tables::{EachEnd, TableFault, Tables};
 use sqlite::Alter;
 use std::alloc::Global;
 
@@ -217,11 +216,11 @@ pub(crate) struct ItemsText {
 // What `export_items` writes, by one walk over the items, of which each is lent by the connection.
 // It is kept after its first line, if that is there.
 fn walked_text<S: Alter + Drop>(
-    resting: &mut RestingTables<S>,
+    tables: &mut Tables<S>,
     first: Option<GrowingText>,
 ) -> Result<ItemsText, TableFault>
     requires first { IfSome first (λ text. HasLines text (ended (header ∷ [])) []) }
-    ensures { ReadsIn S.Store resting.old resting.new result
+    ensures { ReadsIn S.Store tables.old tables.new result
         (λ v found. IsReadable v → IsCountedText found.bytes found.text v.items) }
 {
     let mut sink = TextSink {
@@ -229,7 +228,7 @@ fn walked_text<S: Alter + Drop>(
         before: None,
         text: first,
     };
-    match resting.tables.each_item(&mut sink) {
+    match tables.each_item(&mut sink) {
         Ok(()) => Ok(ItemsText {
             bytes: sink.bytes,
             text: kept_of(sink.text),
@@ -241,16 +240,16 @@ fn walked_text<S: Alter + Drop>(
 /// What `export_items` writes. A text of more than 16,777,216 bytes is only counted, and so is one
 /// for which memory runs out.
 pub(crate) fn items_text<S: Alter + Drop>(
-    resting: &mut RestingTables<S>,
+    tables: &mut Tables<S>,
     alloc: Global,
 ) -> Result<ItemsText, TableFault>
-    ensures { ReadsIn S.Store resting.old resting.new result
+    ensures { ReadsIn S.Store tables.old tables.new result
         (λ v found. IsReadable v → IsCountedText found.bytes found.text v.items) }
 {
-    match walked_text(resting, first_line(alloc)) {
+    match walked_text(tables, first_line(alloc)) {
         Ok(found) => Ok(found),
         // The text may have taken the memory that ran out.
-        Err(TableFault::Memory) => walked_text(resting, None),
+        Err(TableFault::Memory) => walked_text(tables, None),
         Err(fault) => Err(fault),
     }
 }

@@ -7,9 +7,8 @@ ghost use Rattle.pid_moderation.specs.Views.{views_of};
 ghost use Rattle.pid_service.specs.Steps.Judging.{Judges, JudgesCommand, OverFacts};
 
 use crate::laws;
-use crate::registry::RestingTables;
 use pid_moderation::{Change, Command, Facts, Refusal, Reply, decide, needs};
-use pid_tables::refusal_of;
+use pid_tables::{Tables, refusal_of};
 use sqlite::Alter;
 use std::alloc::Global;
 
@@ -43,17 +42,14 @@ fn judged_by(facts: &Facts, command: &Command) -> Result<Judged, Refusal>
 
 /// Judges a command other than an import over the tables, which are only read.
 pub(crate) fn judge<S: Alter + Drop>(
-    resting: &mut RestingTables<S>,
+    tables: &mut Tables<S>,
     alloc: Global,
     command: &Command,
 ) -> Result<Judged, Refusal>
-    ensures { Judges S.Store resting.old resting.new command.now result }
+    ensures { Judges S.Store tables.old tables.new command.now result }
 {
     laws::reached_histories_are_kept(); // proof only
-    match resting
-        .tables
-        .gather(alloc, &command.account, &command.key, needs(command))
-    {
+    match tables.gather(alloc, &command.account, &command.key, needs(command)) {
         Ok(facts) => {
             let judged = judged_by(&facts, command);
             drop(facts);

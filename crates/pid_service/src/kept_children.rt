@@ -160,6 +160,6 @@ impl<S: Alter + Drop> Registry<S> {
                 }
             }
         }
-        fault_as_refusal(self.resting.tables.children(self.alloc, above))
+        fault_as_refusal(self.tables.children(self.alloc, above))
     }
 }

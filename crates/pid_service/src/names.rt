@@ -43,7 +43,7 @@ impl<S: Alter + Drop> Names for Registry<S> {
         match self.kept.items.names.get(path) {
             Ok(Some(name)) => Ok(name),
             Err(_) => Err(Refusal::Memory),
-            Ok(None) => match self.resting.tables.item(self.alloc, path) {
+            Ok(None) => match self.tables.item(self.alloc, path) {
                 Ok(name) => {
                     self.kept.items.names.put(path, &name);
                     Ok(name)

@@ -25,7 +25,7 @@ impl<S: Alter + Drop> Registry<S> {
             Judged::Kept(reply) => Ok(*reply),
             Judged::Accepted { change, reply } => {
                 self.kept.follow(self.alloc, change);
-                match write(&mut self.resting.tables.conn, self.alloc, change) {
+                match write(&mut self.tables.conn, self.alloc, change) {
                     Ok(()) => Ok(*reply),
                     Err(fault) => {
                         self.live = false;
@@ -52,7 +52,7 @@ impl<S: Alter + Drop> Registry<S> {
         if let Act::Import { file } = &command.act {
             return self.import_bytes(command, file.as_bytes());
         }
-        match judge(&mut self.resting, self.alloc, command) {
+        match judge(&mut self.tables, self.alloc, command) {
             Err(refusal) => Err(refusal),
             Ok(judged) => {
                 let answer = self.carry_out(&judged);

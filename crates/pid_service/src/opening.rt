@@ -17,7 +17,7 @@ ghost use Rattle.pid_service.specs.Steps.Opening.{IsMadeReady, JudgesTables};
 
 use crate::kept_views::KeptViews;
 use crate::laws;
-use crate::registry::{Registry, RestingTables};
+use crate::registry::Registry;
 use pid_tables::{Step, TableFault, Tables, Version};
 use sqlite::{Alter, Connection};
 use std::alloc::Global;
@@ -32,15 +32,12 @@ fn is_today(found: Option<Version>) -> bool
 }
 
 // Judges tables in the schema of today. There are no others after a migration.
-fn judge_tables<S: Alter + Drop>(
-    resting: &mut RestingTables<S>,
-    alloc: Global,
-) -> Result<(), TableFault>
-    ensures { JudgesTables S.Store resting.old resting.new result }
+fn judge_tables<S: Alter + Drop>(tables: &mut Tables<S>, alloc: Global) -> Result<(), TableFault>
+    ensures { JudgesTables S.Store tables.old tables.new result }
 {
     laws::reached_histories_are_kept(); // proof only
-    pid_tables::laws::all_is_committed_outside_transactions(&resting.tables.conn); // proof only
-    match resting.tables.check(alloc) {
+    pid_tables::laws::all_is_committed_outside_transactions(&tables.conn); // proof only
+    match tables.check(alloc) {
         Err(fault) => Err(fault),
         Ok(found) => {
             if is_today(found) {
@@ -53,17 +50,14 @@ fn judge_tables<S: Alter + Drop>(
 }
 
 // Makes the tables if there is none, moves those of schema 1, and judges them.
-fn make_ready<S: Alter + Drop>(
-    resting: &mut RestingTables<S>,
-    alloc: Global,
-) -> Result<(), TableFault>
-    ensures { IsMadeReady S.Store resting.old resting.new result }
+fn make_ready<S: Alter + Drop>(tables: &mut Tables<S>, alloc: Global) -> Result<(), TableFault>
+    ensures { IsMadeReady S.Store tables.old tables.new result }
 {
     laws::reached_histories_are_kept(); // proof only
-    pid_tables::laws::all_is_committed_outside_transactions(&resting.tables.conn); // proof only
-    match resting.tables.migrate(alloc) {
+    pid_tables::laws::all_is_committed_outside_transactions(&tables.conn); // proof only
+    match tables.migrate(alloc) {
         Err(fault) => Err(fault),
-        Ok(_) => judge_tables(resting, alloc),
+        Ok(_) => judge_tables(tables, alloc),
     }
 }
 
@@ -96,19 +90,15 @@ pub fn open<S: Alter + Drop>(
     let Ok(kept) = KeptViews::new(alloc) else {
         return Err((TableFault::Memory, conn));
     };
-    let tables = Tables::new(conn);
-    let mut resting = RestingTables { tables };
-    match make_ready(&mut resting, alloc) {
+    let mut tables = Tables::new(conn);
+    match make_ready(&mut tables, alloc) {
         Ok(()) => Ok(Registry {
-            resting,
+            tables,
             kept,
             live: true,
             alloc,
         }),
-        Err(fault) => {
-            let RestingTables { tables } = resting;
-            Err((fault, tables.into_conn()))
-        }
+        Err(fault) => Err((fault, tables.into_conn())),
     }
 }
 

@@ -7,48 +7,48 @@ ghost use Rattle.pid_service.specs.Steps.Asking.{Finds, ReadsIn};
 
 use crate::laws;
 use crate::pending_numbers::{numbers_above, read_pending_numbers};
-use crate::registry::{Registry, RestingTables};
+use crate::registry::Registry;
 use pid_moderation::{PAGE, Pending, Queued, Refusal};
-use pid_tables::{TableFault, refusal_of};
+use pid_tables::{TableFault, Tables, refusal_of};
 use sqlite::Alter;
 use std::alloc::Global;
 
 /// The page by the numbers that are kept; if none are, by a walk over all submissions.
 pub(crate) fn pending_by<S: Alter + Drop>(
-    resting: &mut RestingTables<S>,
+    tables: &mut Tables<S>,
     alloc: Global,
     numbers: &Option<Vec<u32>>,
     after: u32,
 ) -> Result<Vec<Pending>, TableFault>
-    ensures { ReadsIn S.Store resting.old resting.new result
+    ensures { ReadsIn S.Store tables.old tables.new result
         (λ v page. HoldsPending numbers.now v
         → map told_of page.items ≡ pending_in PAGE after v) }
 {
     let Some(numbers) = numbers else {
-        return resting.tables.pending_page(alloc, after);
+        return tables.pending_page(alloc, after);
     };
     match numbers_above(alloc, numbers.as_slice(), after) {
-        Some(page) => resting.tables.pending_at(alloc, page.as_slice()),
+        Some(page) => tables.pending_at(alloc, page.as_slice()),
         None => Err(TableFault::Memory),
     }
 }
 
 /// The queue by the numbers that are kept; if none are, by a walk over all submissions.
 pub(crate) fn queue_by<S: Alter + Drop>(
-    resting: &mut RestingTables<S>,
+    tables: &mut Tables<S>,
     alloc: Global,
     numbers: &Option<Vec<u32>>,
     after: u32,
 ) -> Result<Vec<Queued>, TableFault>
-    ensures { ReadsIn S.Store resting.old resting.new result
+    ensures { ReadsIn S.Store tables.old tables.new result
         (λ v queue. HoldsPending numbers.now v
         → map queued_of queue.items ≡ queue_in PAGE after v) }
 {
     let Some(numbers) = numbers else {
-        return resting.tables.queue_page(alloc, after);
+        return tables.queue_page(alloc, after);
     };
     match numbers_above(alloc, numbers.as_slice(), after) {
-        Some(page) => resting.tables.queue_at(alloc, page.as_slice()),
+        Some(page) => tables.queue_at(alloc, page.as_slice()),
         None => Err(TableFault::Memory),
     }
 }
@@ -69,7 +69,7 @@ impl<S: Alter + Drop> Registry<S> {
         if self.kept.pending_read {
             return Ok(());
         }
-        match read_pending_numbers(&mut self.resting, self.alloc) {
+        match read_pending_numbers(&mut self.tables, self.alloc) {
             Ok(numbers) => {
                 self.kept.pending = numbers;
                 self.kept.pending_read = true;

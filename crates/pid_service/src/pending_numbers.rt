@@ -21,9 +21,8 @@ ghost use Rattle.pid_service.specs.KeptViews.{HoldsPending};
 ghost use Rattle.pid_service.specs.Steps.PendingNumbers.{its_number};
 ghost use Rattle.pid_service.specs.Steps.Asking.{ReadsIn};
 
-use crate::registry::RestingTables;
 use pid_moderation::{PAGE, Pending};
-use pid_tables::TableFault;
+use pid_tables::{TableFault, Tables};
 use sqlite::Alter;
 use std::alloc::Global;
 
@@ -65,17 +64,17 @@ fn last_number(after: u32, page: &[Pending]) -> u32
 /// The numbers of what is pending, rising, by pages of submissions. None if they are too many, or if
 /// there is no memory for them.
 pub(crate) fn read_pending_numbers<S: Alter + Drop>(
-    resting: &mut RestingTables<S>,
+    tables: &mut Tables<S>,
     alloc: Global,
 ) -> Result<Option<Vec<u32>>, TableFault>
-    ensures { ReadsIn S.Store resting.old resting.new result
+    ensures { ReadsIn S.Store tables.old tables.new result
         (λ v numbers. HoldsPending numbers v) }
 {
     pid_tables::lists::laws::pending_go_on(); // proof only
     let mut numbers = Vec::new(alloc);
     let mut after = 0;
     for _ in 0..PAGES {
-        let page = resting.tables.pending_page(alloc, after)?;
+        let page = tables.pending_page(alloc, after)?;
         if !add_numbers(&mut numbers, page.as_slice()) {
             return Ok(None);
         }
@@ -100,11 +99,11 @@ fn count_page(count: u32, page: &[Pending]) -> Option<u32>
 /// How many submissions are pending: their numbers are counted, if they are kept, and else pages of
 /// them.
 pub(crate) fn count_pending<S: Alter + Drop>(
-    resting: &mut RestingTables<S>,
+    tables: &mut Tables<S>,
     alloc: Global,
     numbers: &Option<Vec<u32>>,
 ) -> Result<u32, TableFault>
-    ensures { ReadsIn S.Store resting.old resting.new result
+    ensures { ReadsIn S.Store tables.old tables.new result
         (λ v n. HoldsPending numbers.now v → n ≡ length (pending_above 0 v)) }
 {
     pid_tables::lists::laws::pending_go_on(); // proof only
@@ -117,7 +116,7 @@ pub(crate) fn count_pending<S: Alter + Drop>(
     let mut count = 0u32;
     let mut after = 0;
     for _ in 0..u32::MAX {
-        let page = resting.tables.pending_page(alloc, after)?;
+        let page = tables.pending_page(alloc, after)?;
         let Some(more) = count_page(count, page.as_slice()) else {
             return Err(TableFault::Memory);
         };

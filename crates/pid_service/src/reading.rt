@@ -35,7 +35,7 @@ impl<S: Alter + Drop> Registry<S> {
         let Searches::Unread = &self.kept.numbers else {
             return Ok(());
         };
-        match self.resting.tables.read_numbers(self.alloc) {
+        match self.tables.read_numbers(self.alloc) {
             Ok(numbers) => {
                 self.kept.numbers = numbers;
                 Ok(())

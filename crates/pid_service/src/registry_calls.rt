@@ -58,7 +58,7 @@ impl<S: Alter + Drop> RegistryCalls for Registry<S> {
             return Err(Refusal::Failed);
         }
         laws::reached_histories_are_kept(); // proof only
-        fault_as_refusal(self.resting.tables.item(self.alloc, path))
+        fault_as_refusal(self.tables.item(self.alloc, path))
     }
 
     /// A registry that has failed answers `Names(Failed)`, before bad flags.

@@ -48,7 +48,7 @@ impl<S: Alter + Drop> RegistryQueries for Registry<S> {
             return Err(Refusal::Failed);
         }
         laws::reached_histories_are_kept(); // proof only
-        fault_as_refusal(self.resting.tables.rank(who.as_str()))
+        fault_as_refusal(self.tables.rank(who.as_str()))
     }
 
     /// The canonical order puts the generic subsystems of a vendor after its devices. The vendors
@@ -73,7 +73,7 @@ impl<S: Alter + Drop> RegistryQueries for Registry<S> {
             return Err(Refusal::Failed);
         }
         laws::reached_histories_are_kept(); // proof only
-        match self.resting.tables.submission(self.alloc, number) {
+        match self.tables.submission(self.alloc, number) {
             Ok(Some(found)) => Ok(found),
             Ok(None) => Err(Refusal::NoSubmission),
             Err(fault) => Err(refusal_of(fault)),
@@ -89,7 +89,7 @@ impl<S: Alter + Drop> RegistryQueries for Registry<S> {
             return Err(Refusal::Failed);
         }
         laws::reached_histories_are_kept(); // proof only
-        match self.resting.tables.remark_page(self.alloc, number, after) {
+        match self.tables.remark_page(self.alloc, number, after) {
             Ok(Some(page)) => Ok(page),
             Ok(None) => Err(Refusal::NoSubmission),
             Err(fault) => Err(refusal_of(fault)),
@@ -117,8 +117,7 @@ impl<S: Alter + Drop> RegistryQueries for Registry<S> {
         laws::reached_histories_are_kept(); // proof only
         match self.keep_numbers(path.is_some() || author.is_some()) {
             Ok(()) => fault_as_refusal(
-                self.resting
-                    .tables
+                self.tables
                     .page_by(self.alloc, &self.kept.numbers, path, author, before),
             ),
             Err(refusal) => Err(refusal),
@@ -138,7 +137,7 @@ impl<S: Alter + Drop> RegistryQueries for Registry<S> {
         laws::reached_histories_are_kept(); // proof only
         match self.keep_pending() {
             Ok(()) => fault_as_refusal(pending_by(
-                &mut self.resting,
+                &mut self.tables,
                 self.alloc,
                 &self.kept.pending,
                 after,
@@ -154,7 +153,7 @@ impl<S: Alter + Drop> RegistryQueries for Registry<S> {
         laws::reached_histories_are_kept(); // proof only
         match self.keep_pending() {
             Ok(()) => fault_as_refusal(queue_by(
-                &mut self.resting,
+                &mut self.tables,
                 self.alloc,
                 &self.kept.pending,
                 after,
@@ -182,7 +181,7 @@ impl<S: Alter + Drop> RegistryQueries for Registry<S> {
         laws::reached_histories_are_kept(); // proof only
         pid_moderation::laws::sinces_are_last_changes(); // proof only
         let start = after.copied();
-        match self.resting.tables.revision() {
+        match self.tables.revision() {
             Err(fault) => Err(refusal_of(fault)),
             Ok(revision) => {
                 if revision <= since {
@@ -192,7 +191,7 @@ impl<S: Alter + Drop> RegistryQueries for Registry<S> {
                 if let Some(items) = kept_page(self.alloc, &self.kept.changes, since, start) {
                     return Ok(Changes { revision, items });
                 }
-                match self.resting.tables.changes_page(self.alloc, since, after) {
+                match self.tables.changes_page(self.alloc, since, after) {
                     Ok(changes) => {
                         let kept = self.kept.changes.take();
                         let page = changes.items.as_slice();
@@ -215,7 +214,7 @@ impl<S: Alter + Drop> RegistryQueries for Registry<S> {
         pid_moderation::laws::views_tell_status(); // proof only
         match self.keep_pending() {
             Ok(()) => match status_by(
-                &mut self.resting,
+                &mut self.tables,
                 self.alloc,
                 &self.kept.pending,
                 self.kept.accounts,
@@ -244,7 +243,7 @@ impl<S: Alter + Drop> RegistryQueries for Registry<S> {
         if let Some(text) = &self.kept.items.text {
             return Ok(text.bytes.len() as u64);
         }
-        match items_text(&mut self.resting, self.alloc) {
+        match items_text(&mut self.tables, self.alloc) {
             Ok(ItemsText { bytes, text }) => {
                 self.kept.items.text = text;
                 Ok(bytes)

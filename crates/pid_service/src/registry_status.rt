@@ -6,28 +6,27 @@ ghost use Rattle.pid_service.specs.Steps.Asking.{ReadsIn};
 
 use crate::accounts::count_accounts;
 use crate::pending_numbers::count_pending;
-use crate::registry::RestingTables;
 use pid_moderation::Status;
-use pid_tables::TableFault;
+use pid_tables::{TableFault, Tables};
 use sqlite::Alter;
 use std::alloc::Global;
 
 /// The status, by the numbers of what is pending and how many accounts there are, if that is kept.
 pub(crate) fn status_by<S: Alter + Drop>(
-    resting: &mut RestingTables<S>,
+    tables: &mut Tables<S>,
     alloc: Global,
     numbers: &Option<Vec<u32>>,
     accounts: Option<u64>,
 ) -> Result<Status, TableFault>
-    ensures { ReadsIn S.Store resting.old resting.new result
+    ensures { ReadsIn S.Store tables.old tables.new result
         (λ v status. HoldsPending numbers.now v → HoldsAccounts accounts v
         → IsStatusIn v (registry_status_of status)) }
 {
-    let pending = count_pending(resting, alloc, numbers)?;
-    let accounts = count_accounts(resting, accounts)?;
-    let items = resting.tables.items()?;
-    let revision = resting.tables.revision()?;
-    let submissions = resting.tables.submissions()?;
+    let pending = count_pending(tables, alloc, numbers)?;
+    let accounts = count_accounts(tables, accounts)?;
+    let items = tables.items()?;
+    let revision = tables.revision()?;
+    let submissions = tables.submissions()?;
     Ok(Status {
         accounts,
         items,

@@ -10,7 +10,7 @@ use Rattle.pid_tables.specs.Faults.{refusal_for}
 use Rattle.pid_tables.specs.Rows.Clauses.{Reads}
 use Rattle.pid_tables.specs.declared.rows.fault.TableFault.{TableFault}
 use Rattle.pid_service.specs.declared.registry.Registry.{Registry}
-use Rattle.pid_service.specs.declared.registry.RestingTables.{RestingTables}
+use Rattle.pid_tables.specs.declared.tables.Tables.{Tables}
 use Rattle.pid_service.specs.Asking.{FaultIsCaused, MayGive}
 use Rattle.pid_service.specs.Histories.{IsMemoryOrStore, OverHistory, Shows}
 use Rattle.pid_service.specs.Registries.{OnlyReads, is_live}
@@ -22,9 +22,9 @@ answered_as (Err fault) = Err (refusal_for fault)
 
 module _ {S : Type 0} (store : Ghosts S) where
   -- tables at rest were read, and this was found
-  abbrev pub ReadsIn : {X : Type 0} → RestingTables S store → RestingTables S store
+  abbrev pub ReadsIn : {X : Type 0} → Tables S store → Tables S store
       → Result X TableFault → (Views → X → Type 0) → Type 0
-  ReadsIn old new found Says = Reads store old.tables.conn new.tables.conn found Says
+  ReadsIn old new found Says = Reads store old.conn new.conn found Says
 
   -- the history that was shown is shown still, and the answer is by it
   abbrev pub TellsHistory : {X : Type 0} → Registry S store → Registry S store → Result X Refusal

@@ -19,7 +19,7 @@ use Rattle.pid_tables.specs.declared.lists.walk.EachEnd.TheVariants.{Tables, Fau
 use Rattle.pid_tables.specs.Lists.Clauses.{IsCausedEnd, OverViews}
 use Rattle.pid_tables.specs.Rows.Causes.{IsReadable}
 use Rattle.pid_tables.specs.Rows.Clauses.{OnlyReads}
-use Rattle.pid_service.specs.declared.registry.RestingTables.{RestingTables}
+use Rattle.pid_tables.specs.declared.tables.Tables.{Tables as RegistryTables}
 
 -- whole lines: the header and all lines of some items, the first ones
 abbrev pub TakesWholeLines : Option (List ℕ) → Option (List ℕ) → Items → Type 0
@@ -36,14 +36,14 @@ WritesItems (Err (Tables fault)) old new items = TakesWholeLines old new items
 
 -- the items of tables at rest were printed
 pub record PrintsItems {S W : Type 0} (store : Ghosts S) (writer : outputs.Ghosts W)
-    (old new : RestingTables S store) (before after : W)
+    (old new : RegistryTables S store) (before after : W)
     (result : Result (Unit {0}) (EachEnd WriteFault)) : Type 0 where
-  pub rests : OnlyReads store old.tables.conn new.tables.conn
-  pub printed : OverViews store old.tables.conn new.tables.conn
+  pub rests : OnlyReads store old.conn new.conn
+  pub printed : OverViews store old.conn new.conn
       (λ v. WritesItems result (writer.taken before) (writer.taken after) v.items)
   pub fault : (f : WriteFault) → result ≡ Err (Fault f) → writer.write_fault after ≡ Some f
-  pub caused : OverViews store old.tables.conn new.tables.conn
-      (λ v. IsReadable v → IfErr result (IsCausedEnd store old.tables.conn new.tables.conn))
+  pub caused : OverViews store old.conn new.conn
+      (λ v. IsReadable v → IfErr result (IsCausedEnd store old.conn new.conn))
 
 -- the same of a registry, whose refusal says why the tables failed
 abbrev pub ExportsTree : {X : Type 0} → Result X ExportFault → Option (List ℕ) → Option (List ℕ)

@@ -15,7 +15,7 @@ use Rattle.pid_moderation.specs.Judgement.{Accepts, judge, answer, after}
 use Rattle.pid_moderation.specs.Views.{views_of}
 use Rattle.pid_tables.specs.Rows.Clauses.{AtRest, HasCleanDisk, OnlyReads}
 use Rattle.pid_service.specs.declared.judging.Judged.{Judged}
-use Rattle.pid_service.specs.declared.registry.RestingTables.{RestingTables}
+use Rattle.pid_tables.specs.declared.tables.Tables.{Tables}
 use Rattle.pid_service.specs.declared.judging.Judged.TheVariants.{Kept, Accepted}
 use Rattle.pid_service.specs.Asking.{IsCausedAs}
 use Rattle.pid_service.specs.Histories.{IsMemoryOrStore, IsReached}
@@ -54,11 +54,11 @@ module _ {S : Type 0} (store : Ghosts S) where
       ⊎ IsCausedAs store old new e
 
   -- a command other than an import was judged over the tables, which were only read
-  pub record Judges (old new : RestingTables S store) (command : Command)
+  pub record Judges (old new : Tables S store) (command : Command)
       (result : Result Judged Refusal) : Type 0 where
-    pub rests : OnlyReads store old.tables.conn new.tables.conn
-    pub judged : OverTables old.tables.conn new.tables.conn command
+    pub rests : OnlyReads store old.conn new.conn
+    pub judged : OverTables old.conn new.conn command
         (λ h c. JudgesCommand h c result)
-    pub caused : OverTables old.tables.conn new.tables.conn command
-        (λ h c. IfErr result (IsJudgedFor old.tables.conn new.tables.conn h c))
+    pub caused : OverTables old.conn new.conn command
+        (λ h c. IfErr result (IsJudgedFor old.conn new.conn h c))
     pub alive : IfErr result (λ e. e ≢ Failed)

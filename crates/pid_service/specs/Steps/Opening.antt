@@ -9,34 +9,34 @@ use Rattle.pid_tables.specs.Rows.Clauses.{AtRest, HasCleanDisk, OnlyReads, is_op
 use Rattle.pid_tables.specs.Rows.Faults.{IsMemoryOrStore}
 use Rattle.pid_tables.specs.Check.Checking.{Explains, FindsVersion}
 use Rattle.pid_tables.specs.Clauses.{ShowsOrBlank}
-use Rattle.pid_service.specs.declared.registry.RestingTables.{RestingTables}
+use Rattle.pid_tables.specs.declared.tables.Tables.{Tables}
 use Rattle.pid_service.specs.Histories.{IsReached}
 use Rattle.pid_service.specs.Opening.{ExplainsOpening, KeepsTables, OpensAtOnce}
 
 module _ {S : Type 0} (store : Ghosts S) where
   -- tables in the schema of today were judged
-  pub record JudgesTables {X : Type 0} (old new : RestingTables S store)
+  pub record JudgesTables {X : Type 0} (old new : Tables S store)
       (result : Result X TableFault) : Type 0 where
-    pub rests : OnlyReads store old.tables.conn new.tables.conn
-    pub same : IsTrue (is_open store new.tables.conn)
-        → seen store new.tables.conn ≡ seen store old.tables.conn
-    pub good : HasCleanDisk store new.tables.conn → (h : History) → IsReached h
-        → AtRest store old.tables.conn (views_of h) → IfErr result IsMemoryOrStore
-    pub shut : HasCleanDisk store new.tables.conn → is_open store old.tables.conn ≡ false
+    pub rests : OnlyReads store old.conn new.conn
+    pub same : IsTrue (is_open store new.conn)
+        → seen store new.conn ≡ seen store old.conn
+    pub good : HasCleanDisk store new.conn → (h : History) → IsReached h
+        → AtRest store old.conn (views_of h) → IfErr result IsMemoryOrStore
+    pub shut : HasCleanDisk store new.conn → is_open store old.conn ≡ false
         → MatchResult result (λ _. ⊥) IsMemoryOrStore
-    pub told : HasCleanDisk store new.tables.conn → MatchResult result
-        (λ _. FindsVersion (seen store old.tables.conn) (Some Two))
-        (Explains (seen store old.tables.conn))
+    pub told : HasCleanDisk store new.conn → MatchResult result
+        (λ _. FindsVersion (seen store old.conn) (Some Two))
+        (Explains (seen store old.conn))
 
   -- tables were made, or moved, and judged
-  pub record IsMadeReady {X : Type 0} (old new : RestingTables S store)
+  pub record IsMadeReady {X : Type 0} (old new : Tables S store)
       (result : Result X TableFault) : Type 0 where
-    pub at_once : OpensAtOnce store old.tables.conn new.tables.conn result
+    pub at_once : OpensAtOnce store old.conn new.conn result
     -- Those that show a history, or can be made, show it in the schema of today; or memory ran out
     -- or the store failed, and it is still shown.
-    pub ready : HasCleanDisk store new.tables.conn → (h : History) → IsReached h
-        → ShowsOrBlank store old.tables.conn h
-        → MatchResult result (λ _. AtRest store new.tables.conn (views_of h))
-        (λ e. IsMemoryOrStore e × ShowsOrBlank store new.tables.conn h)
-    pub kept : KeepsTables store old.tables.conn new.tables.conn result
-    pub explains : ExplainsOpening store old.tables.conn new.tables.conn result
+    pub ready : HasCleanDisk store new.conn → (h : History) → IsReached h
+        → ShowsOrBlank store old.conn h
+        → MatchResult result (λ _. AtRest store new.conn (views_of h))
+        (λ e. IsMemoryOrStore e × ShowsOrBlank store new.conn h)
+    pub kept : KeepsTables store old.conn new.conn result
+    pub explains : ExplainsOpening store old.conn new.conn result

@@ -12,7 +12,7 @@ same_end f told is = cc
 
 pub returns-in-Err : goal.returns-in-Err
 returns-in-Err g c = record {
-  rests = nothing_read (state g.S.Store c.args.resting.now.tables.conn) c.args.resting.now.settled;
+  rests = nothing_read (state g.S.Store c.args.tables.now.conn) c.args.tables.now.settled;
   printed = λ clean v rest. header_stopped _ _ v.items c.in-Err.ensures.sent;
   fault = λ f is. c.in-Err.ensures.fault ∙ ap Some (same_end c.in-Err.fault f is);
   caused = λ clean v rest readable. tt;

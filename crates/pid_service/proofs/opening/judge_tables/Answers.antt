@@ -7,10 +7,10 @@ use Rattle.pid_service.proofs.opening.judge_tables.Goals as goal
 pub returns-in-Err : goal.returns-in-Err
 returns-in-Err g c =
     let law = c.reached_histories_are_kept.ensures in
-    let old = state g.S.Store c.args.resting.now.tables.conn in
+    let old = state g.S.Store c.args.tables.now.conn in
     record {
       rests = c.check.ensures.rests;
-      same = seen_still old (state g.S.Store c.check.new.self.conn) (c.all_is_committed_outside_transactions.ensures c.args.resting.now.settled) c.check.ensures.rests;
+      same = seen_still old (state g.S.Store c.check.new.self.conn) (c.all_is_committed_outside_transactions.ensures c.args.tables.now.settled) c.check.ensures.rests;
       good = λ clean h reached rest. c.in-Err.ensures.good clean h (law.sound h reached) (law.within h reached) Two (rests_in_two old (views_of h) rest);
       shut = λ clean off. c.in-Err.ensures.shut clean off;
       told = λ clean. c.in-Err.ensures.told clean;
@@ -19,16 +19,16 @@ returns-in-Err g c =
 pub returns-then-is_today : goal.returns-then-is_today
 returns-then-is_today g c = record {
   rests = c.check.ensures.rests;
-  same = seen_still (state g.S.Store c.args.resting.now.tables.conn) (state g.S.Store c.check.new.self.conn) (c.all_is_committed_outside_transactions.ensures c.args.resting.now.settled) c.check.ensures.rests;
+  same = seen_still (state g.S.Store c.args.tables.now.conn) (state g.S.Store c.check.new.self.conn) (c.all_is_committed_outside_transactions.ensures c.args.tables.now.settled) c.check.ensures.rests;
   good = λ clean h reached rest. tt;
   shut = λ clean off. c.in-Ok.ensures.shut clean off;
-  told = λ clean. subst (λ (found : Option Version). FindsVersion (seen g.S.Store c.args.resting.now.tables.conn) found) (c.is_today.ensures.0 c.if-is_today.true) (c.in-Ok.ensures.told clean);
+  told = λ clean. subst (λ (found : Option Version). FindsVersion (seen g.S.Store c.args.tables.now.conn) found) (c.is_today.ensures.0 c.if-is_today.true) (c.in-Ok.ensures.told clean);
 }
 
 pub returns-else-is_today : goal.returns-else-is_today
 returns-else-is_today g c = record {
   rests = c.check.ensures.rests;
-  same = seen_still (state g.S.Store c.args.resting.now.tables.conn) (state g.S.Store c.check.new.self.conn) (c.all_is_committed_outside_transactions.ensures c.args.resting.now.settled) c.check.ensures.rests;
+  same = seen_still (state g.S.Store c.args.tables.now.conn) (state g.S.Store c.check.new.self.conn) (c.all_is_committed_outside_transactions.ensures c.args.tables.now.settled) c.check.ensures.rests;
   good = λ clean h reached rest. tt;
   shut = λ clean off. absurd (c.in-Ok.ensures.shut clean off);
   told = λ clean. tt;

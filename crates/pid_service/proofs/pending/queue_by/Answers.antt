@@ -5,11 +5,11 @@ use Rattle.pid_service.proofs.Questions.{reads_as}
 use Rattle.pid_service.proofs.pending.queue_by.Goals as goal
 
 pub returns-in_default : goal.returns-in_default
-returns-in_default g c = reads_as g.S.Store c.args.resting.now.tables.conn c.queue_page.new.self.conn c.queue_page.result _ _ (λ v queue told holds. told) c.queue_page.ensures
+returns-in_default g c = reads_as g.S.Store c.args.tables.now.conn c.queue_page.new.self.conn c.queue_page.result _ _ (λ v queue told holds. told) c.queue_page.ensures
 
 pub returns-in-Some-numbers_above : goal.returns-in-Some-numbers_above
 returns-in-Some-numbers_above g c =
-    reads_as g.S.Store c.args.resting.now.tables.conn c.queue_at.new.self.conn c.queue_at.result _ _
+    reads_as g.S.Store c.args.tables.now.conn c.queue_at.new.self.conn c.queue_at.result _ _
     (λ v queue told holds.
     let held : c.in-Some.numbers.items ≡ numbers_pending v = subst (λ o. HoldsPending o v) c.in-Some.is holds in
     told

@@ -21,8 +21,8 @@ pub returns-in_err-page : goal.returns-in_err-page
 returns-in_err-page g c =
     let one = c.in_err-page.ensures in
     let before = c.loop.invariant in
-    let old = state g.S.Store c.args.resting.now.tables.conn in
-    let mid = state g.S.Store c.loop.resting.tables.conn in
+    let old = state g.S.Store c.args.tables.now.conn in
+    let mid = state g.S.Store c.loop.tables.conn in
     let new = state g.S.Store c.pending_page.new.self.conn in
     record {
       rests = reads_then _ _ _ before.0 one.rests;

@@ -36,7 +36,7 @@ returns-in-Ok-Some-clause-kept g c =
       faults = λ f. (λ may. may, λ may. may);
       told = (λ may. may, λ may. may);
       asked = λ start asked.
-          asked_then g.S.Store start c.args.self.now _ on refl (nothing_read (state g.S.Store c.args.self.now.resting.tables.conn) c.args.self.now.resting.settled) asked;
+          asked_then g.S.Store start c.args.self.now _ on refl (nothing_read (state g.S.Store c.args.self.now.tables.conn) c.args.self.now.tables.settled) asked;
     }
 
 pub returns-in-Err-clause-kept : goal.returns-in-Err-clause-kept
@@ -53,7 +53,7 @@ returns-in-Err-clause-kept g c =
       faults = λ f. (λ may. may, λ may. may);
       told = (λ may. may, λ may. may);
       asked = λ start asked.
-          asked_then g.S.Store start c.args.self.now _ on refl (nothing_read (state g.S.Store c.args.self.now.resting.tables.conn) c.args.self.now.resting.settled) asked;
+          asked_then g.S.Store start c.args.self.now _ on refl (nothing_read (state g.S.Store c.args.self.now.tables.conn) c.args.self.now.tables.settled) asked;
     }
 
 -- ---- the tables are asked
@@ -117,8 +117,8 @@ returns-in-Err-item-clause-fault g c = record { alive = λ on. c.refusal_of.ensu
 
 pub returns-in-Err-item-clause-caused : goal.returns-in-Err-item-clause-caused
 returns-in-Err-item-clause-caused g c clean h shows start asked =
-    caused_since g.S.Store (connection start) c.args.self.now.resting.tables.conn c.item.new.self.conn c.refusal_of.result asked.rests c.item.ensures.rests clean
-    (caused_by g.S.Store c.args.self.now.resting.tables.conn c.item.new.self.conn c.in-Err-item.fault c.refusal_of.result c.refusal_of.ensures.same
+    caused_since g.S.Store (connection start) c.args.self.now.tables.conn c.item.new.self.conn c.refusal_of.result asked.rests c.item.ensures.rests clean
+    (caused_by g.S.Store c.args.self.now.tables.conn c.item.new.self.conn c.in-Err-item.fault c.refusal_of.result c.refusal_of.ensures.same
     (c.in-Err-item.ensures.told clean (views_of h) shows.tables (c.reached_histories_are_kept.ensures.readable h shows.history)))
 
 pub returns-in-Err-clause-caused : goal.returns-in-Err-clause-caused

@@ -4,11 +4,11 @@ use Rattle.pid_service.proofs.Questions.{answered_here, answers_read, failed_her
 use Rattle.pid_service.proofs.registry.Registry.children_below.Goals as goal
 
 pub returns-then-not-self : goal.returns-then-not-self
-returns-then-not-self g c = failed_here g.S.Store c.args.self.now _ c.if-not-self.true c.args.self.now.resting.settled
+returns-then-not-self g c = failed_here g.S.Store c.args.self.now _ c.if-not-self.true c.args.self.now.tables.settled
 
 pub returns-in-Some-children_in : goal.returns-in-Some-children_in
 returns-in-Some-children_in g c =
-    answered_here g.S.Store c.args.self.now _ _ c.if-not-self.false c.args.self.now.resting.settled
+    answered_here g.S.Store c.args.self.now _ _ c.if-not-self.false c.args.self.now.tables.settled
     (λ clean h shows. c.in-Some-children_in.ensures (items_of h) (subst (λ (t : Option KeptText). HoldsText t (items_of h)) c.in-Some.is (shows.kept clean).text))
 
 pub returns : goal.returns

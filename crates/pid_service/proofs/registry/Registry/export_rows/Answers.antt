@@ -17,7 +17,7 @@ returns-then-not-self g c = record {
   calls = looks g.S.Store c.args.self.now c.args.self.now (λ clean. clean) (λ off. refl) (λ clean h shows. shows);
   failed = λ off. (refl, refl, refl);
   lives = refl;
-  rests = nothing_read (state g.S.Store c.args.self.now.resting.tables.conn) c.args.self.now.resting.settled;
+  rests = nothing_read (state g.S.Store c.args.self.now.tables.conn) c.args.self.now.tables.settled;
   shown = λ clean h shows. shows;
   printed = λ clean h shows. true_not c.args.self.now.live shows.lives c.if-not-self.true;
   refused = λ e is. failed_gives c.args.self.now.live c.if-not-self.true Failed e refl (search rules);
@@ -31,7 +31,7 @@ pub returns-in-Ok : goal.returns-in-Ok
 returns-in-Ok g c = record {
   failed = true_not c.args.self.now.live c.if-not-self.false;
   lives = refl;
-  rests = nothing_read (state g.S.Store c.args.self.now.resting.tables.conn) c.args.self.now.resting.settled;
+  rests = nothing_read (state g.S.Store c.args.self.now.tables.conn) c.args.self.now.tables.settled;
   calls = looks g.S.Store c.args.self.now c.args.self.now (λ clean. clean) (true_not c.args.self.now.live c.if-not-self.false) (λ clean h shows. shows);
   shown = λ clean h shows. shows;
   printed = λ clean h shows.
@@ -46,7 +46,7 @@ pub returns-in-Err : goal.returns-in-Err
 returns-in-Err g c = record {
   failed = true_not c.args.self.now.live c.if-not-self.false;
   lives = refl;
-  rests = nothing_read (state g.S.Store c.args.self.now.resting.tables.conn) c.args.self.now.resting.settled;
+  rests = nothing_read (state g.S.Store c.args.self.now.tables.conn) c.args.self.now.tables.settled;
   calls = looks g.S.Store c.args.self.now c.args.self.now (λ clean. clean) (true_not c.args.self.now.live c.if-not-self.false) (λ clean h shows. shows);
   shown = λ clean h shows. shows;
   printed = λ clean h shows.
@@ -82,7 +82,7 @@ returns-in-Err-export_items g c = record {
   printed = λ clean h shows. exported {X = Unit {0}} (Err c.export_fault.result) _ _ h (c.items_print_as_their_tree.ensures h) (told_tree c.in-Err-export_items.end c.export_fault.result _ _ h (c.items_print_as_their_tree.ensures h) c.export_fault.ensures (c.in-Err-export_items.ensures.printed clean (views_of h) shows.tables));
   refused = λ e is. told_gives c.in-Err-export_items.end c.export_fault.result e c.args.self.now.live c.if-not-self.false c.export_fault.ensures (told_by _ c.export_fault.result e refl is);
   caused = λ clean h shows e is.
-      told_cause g.S.Store c.args.self.now.resting.tables.conn c.export_items.new.resting.tables.conn c.in-Err-export_items.end c.export_fault.result e c.export_fault.ensures (told_by _ c.export_fault.result e refl is)
+      told_cause g.S.Store c.args.self.now.tables.conn c.export_items.new.tables.conn c.in-Err-export_items.end c.export_fault.result e c.export_fault.ensures (told_by _ c.export_fault.result e refl is)
       (c.in-Err-export_items.ensures.caused clean (views_of h) shows.tables (c.reached_histories_are_kept.ensures.readable h shows.history));
   fault = λ f is. c.in-Err-export_items.ensures.fault f (ap Err (told_writes _ c.in-Err-export_items.end c.export_fault.result f refl is c.export_fault.ensures));
 }

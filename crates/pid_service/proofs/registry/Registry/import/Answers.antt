@@ -27,7 +27,7 @@ returns g c =
           subst (λ (k : Command). Obeys g.S.Store c.import_bytes-answer.result c.import_bytes-answer.new.self h (asked k (file_reading c.args.file.now))) c.import_command-command.ensures
           (c.import_bytes-answer.ensures.obeyed clean h shows import short);
       caused = λ clean h shows reading.
-          subst (λ (k : Command). IfErr c.import_bytes-answer.result (Faults g.S.Store c.args.self.now.resting.tables.conn c.import_bytes-answer.new.self.resting.tables.conn c.import_bytes-answer.new.self.live h (asked k reading))) c.import_command-command.ensures
+          subst (λ (k : Command). IfErr c.import_bytes-answer.result (Faults g.S.Store c.args.self.now.tables.conn c.import_bytes-answer.new.self.tables.conn c.import_bytes-answer.new.self.live h (asked k reading))) c.import_command-command.ensures
           (c.import_bytes-answer.ensures.caused clean h shows reading import);
       lasts = lasting g.S.Store c.args.self.now c.import_bytes-answer.new.self c.import_bytes-answer.result c.import_bytes-answer.ensures.lasts.live c.import_bytes-answer.ensures.lasts.limit;
     }

@@ -25,7 +25,7 @@ returns-in-Answered g c = record {
             (c.in-Answered.ensures.judged clean h (c.reached_histories_are_kept.ensures.sound h shows.history) shows.tables) r.holds;
       };
   caused = λ clean h shows reading import.
-      let old = c.args.self.now.resting.tables.conn in
+      let old = c.args.self.now.tables.conn in
       let new = c.judge_import.new.tables.conn in
       let live = c.args.self.now.live in
       past_faults (Faults g.S.Store old new live h (asked c.args.command.now reading)) c.in-Answered.answer c.answer_past.result c.answer_past.ensures.past.text c.answer_past.ensures.past.holds
@@ -60,6 +60,6 @@ returns-in-Open g c = record {
       };
   caused = λ clean h shows reading import.
       let early = c.in-Open.ensures.judged (c.carry_in-end.ensures.lasts.clean clean) h (c.reached_histories_are_kept.ensures.sound h shows.history) shows.tables in
-      open_faults g.S.Store c.args.self.now.resting.tables.conn c.carry_in-end.new.self.resting.tables.conn c.carry_in-end.new.self.live h c.args.command.now reading _ c.carry_in-end.result early.0
+      open_faults g.S.Store c.args.self.now.tables.conn c.carry_in-end.new.self.tables.conn c.carry_in-end.new.self.live h c.args.command.now reading _ c.carry_in-end.result early.0
       (c.carry_in-end.ensures.caused clean h (only_read g.S.Store c.args.self.now _ h refl c.judge_import.ensures.rests refl shows) shows.history.marked import early.0 early.1);
 }

@@ -16,6 +16,6 @@ returns g c = record {
     limit = c.import_act-end.ensures.lasts.limit;
   };
   caused = λ clean h shows reading import.
-      plain_faults (Faults g.S.Store c.args.self.now.resting.tables.conn c.import_act-end.new.self.resting.tables.conn c.import_act-end.new.self.live h (asked c.args.command.now reading)) c.import_act-end.result c.without_body_fault.result c.without_body_fault.ensures.same
+      plain_faults (Faults g.S.Store c.args.self.now.tables.conn c.import_act-end.new.self.tables.conn c.import_act-end.new.self.live h (asked c.args.command.now reading)) c.import_act-end.result c.without_body_fault.result c.without_body_fault.ensures.same
       (λ e. absurd (false≢true (c.import_act-end.ensures.lasts.reads.fault e))) (c.import_act-end.ensures.caused clean h shows reading import);
 }

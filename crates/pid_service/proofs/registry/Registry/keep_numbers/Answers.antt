@@ -5,10 +5,10 @@ use Rattle.pid_service.proofs.Questions.{answered_here, answers_fault, failed_he
 use Rattle.pid_service.proofs.registry.Registry.keep_numbers.Goals as goal
 
 pub returns-then-not-self : goal.returns-then-not-self
-returns-then-not-self g c = failed_here g.S.Store c.args.self.now _ c.if-not-self.true c.args.self.now.resting.settled
+returns-then-not-self g c = failed_here g.S.Store c.args.self.now _ c.if-not-self.true c.args.self.now.tables.settled
 
 pub returns-then-not-wanted : goal.returns-then-not-wanted
-returns-then-not-wanted g c = answered_here g.S.Store c.args.self.now _ _ c.if-not-self.false c.args.self.now.resting.settled (λ clean h shows. tt)
+returns-then-not-wanted g c = answered_here g.S.Store c.args.self.now _ _ c.if-not-self.false c.args.self.now.tables.settled (λ clean h shows. tt)
 
 pub returns-in-Ok : goal.returns-in-Ok
 returns-in-Ok g c =

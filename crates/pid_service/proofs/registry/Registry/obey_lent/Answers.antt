@@ -69,7 +69,7 @@ returns-in-Err g c =
           refused g.S.Store _ h (asks c.args.command.now) c.in-Err.refusal (only_read g.S.Store c.args.self.now _ h refl c.judge.ensures.rests refl shows)
           (c.in-Err.ensures.judged clean h reading shows.history shows.tables other);
       import_caused = λ clean h shows import. true_not (is_import c.args.command.now.act) import other;
-      caused = λ clean h shows same. judged_for g.S.Store c.args.self.now.resting.tables.conn c.judge.new.resting.tables.conn c.args.self.now.live h (asks c.args.command.now) c.in-Err.refusal shows.lives (c.in-Err.ensures.caused clean h reading shows.history shows.tables other);
+      caused = λ clean h shows same. judged_for g.S.Store c.args.self.now.tables.conn c.judge.new.tables.conn c.args.self.now.live h (asks c.args.command.now) c.in-Err.refusal shows.lives (c.in-Err.ensures.caused clean h reading shows.history shows.tables other);
       lasts = lasting g.S.Store c.args.self.now _ _ (c.in-Err.ensures.alive, inr refl) c.judge.ensures.rests.survives.limit;
     }
 

@@ -8,17 +8,17 @@ use Rattle.pid_service.proofs.TopItems.{copied_holds}
 use Rattle.pid_service.proofs.registry.Registry.top.Goals as goal
 
 pub returns-then-not-self : goal.returns-then-not-self
-returns-then-not-self g c = failed_here g.S.Store c.args.self.now _ c.if-not-self.true c.args.self.now.resting.settled
+returns-then-not-self g c = failed_here g.S.Store c.args.self.now _ c.if-not-self.true c.args.self.now.tables.settled
 
 -- ---- they are kept
 
 pub returns-in-Some-copied : goal.returns-in-Some-copied
 returns-in-Some-copied g c =
-    answered_here g.S.Store c.args.self.now _ _ c.if-not-self.false c.args.self.now.resting.settled
+    answered_here g.S.Store c.args.self.now _ _ c.if-not-self.false c.args.self.now.tables.settled
     (λ clean h shows. (rw c.as_slice.ensures.value at c.in-Some-copied.ensures) ∙ subst (λ (t : Option (Vec Item Global)). HoldsTop t (views_of h)) c.in-Some.is (shows.kept clean).top)
 
 pub returns-in-None : goal.returns-in-None
-returns-in-None g c = short_here g.S.Store c.args.self.now _ c.if-not-self.false c.args.self.now.resting.settled
+returns-in-None g c = short_here g.S.Store c.args.self.now _ c.if-not-self.false c.args.self.now.tables.settled
 
 -- ---- they are read
 

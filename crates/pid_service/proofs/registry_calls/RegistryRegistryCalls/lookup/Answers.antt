@@ -12,7 +12,7 @@ pub returns-then-not-self : goal.returns-then-not-self
 returns-then-not-self g c = record {
   failed = λ off. (refl, refl);
   lives = refl;
-  rests = nothing_read (state g.S.Store c.args.self.now.resting.tables.conn) c.args.self.now.resting.settled;
+  rests = nothing_read (state g.S.Store c.args.self.now.tables.conn) c.args.self.now.tables.settled;
   calls = looks g.S.Store c.args.self.now c.args.self.now (λ clean. clean) (λ off. refl) (λ clean h shows. shows);
   answer = λ clean h shows. true_not c.args.self.now.live shows.lives c.if-not-self.true;
   shown = λ h shows. shows;
@@ -28,7 +28,7 @@ returns-then-not-self g c = record {
 
 pub returns : goal.returns
 returns g c =
-    let start : OnlyAsked g.S.Store c.args.self.now c.args.self.now = record { lives = refl; rests = nothing_read (state g.S.Store c.args.self.now.resting.tables.conn) c.args.self.now.resting.settled; failed = λ off. refl } in
+    let start : OnlyAsked g.S.Store c.args.self.now c.args.self.now = record { lives = refl; rests = nothing_read (state g.S.Store c.args.self.now.tables.conn) c.args.self.now.tables.settled; failed = λ off. refl } in
     let asked = c.lookup.ensures.kept.asked c.args.self.now start in
     let shown : (h : History) → Shows g.S.Store c.args.self.now h → Shows g.S.Store c.lookup.new.names h = search rules in
     let bad = c.lookup.ensures.bad_flags in

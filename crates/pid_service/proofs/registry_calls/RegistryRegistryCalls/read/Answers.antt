@@ -6,7 +6,7 @@ use Rattle.pid_service.proofs.registry_calls.RegistryRegistryCalls.read.Goals as
 pub returns-then-not-self : goal.returns-then-not-self
 returns-then-not-self g c =
     promised g.S.Store c.args.self.now _ _ _
-    (failed_here g.S.Store c.args.self.now _ c.if-not-self.true c.args.self.now.resting.settled)
+    (failed_here g.S.Store c.args.self.now _ c.if-not-self.true c.args.self.now.tables.settled)
 
 pub returns : goal.returns
 returns g c =

@@ -16,7 +16,7 @@ page_with revision now told items same is = ap (λ (l : List Changed). record { 
 pub returns-then-not-self : goal.returns-then-not-self
 returns-then-not-self g c =
     promised g.S.Store c.args.self.now _ _ _
-    (failed_here g.S.Store c.args.self.now _ c.if-not-self.true c.args.self.now.resting.settled)
+    (failed_here g.S.Store c.args.self.now _ c.if-not-self.true c.args.self.now.tables.settled)
 
 pub returns-in-Err : goal.returns-in-Err
 returns-in-Err g c =
@@ -101,6 +101,6 @@ returns-in-Ok-changes_page g c =
 pub returns-in-Err-changes_page : goal.returns-in-Err-changes_page
 returns-in-Err-changes_page g c =
     promised g.S.Store c.args.self.now _ _ _
-    (let read = reads_after g.S.Store c.args.self.now.resting.tables.conn c.revision.new.self.conn c.changes_page.new.self.conn (Err c.in-Err-changes_page.fault) _ c.revision.ensures.rests c.in-Err-changes_page.ensures in
+    (let read = reads_after g.S.Store c.args.self.now.tables.conn c.revision.new.self.conn c.changes_page.new.self.conn (Err c.in-Err-changes_page.fault) _ c.revision.ensures.rests c.in-Err-changes_page.ensures in
     answers_fault g.S.Store c.args.self.now _ c.in-Err-changes_page.fault c.refusal_of-in-Err-changes_page.result _ c.if-not-self.false refl refl read.rests c.refusal_of-in-Err-changes_page.ensures.same c.refusal_of-in-Err-changes_page.ensures.fault
     (λ clean h shows. read.told clean (views_of h) shows.tables (c.reached_histories_are_kept.ensures.readable h shows.history)))

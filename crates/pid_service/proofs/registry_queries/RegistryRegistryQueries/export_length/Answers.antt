@@ -12,7 +12,7 @@ use Rattle.pid_service.proofs.registry_queries.RegistryRegistryQueries.export_le
 pub returns-then-not-self : goal.returns-then-not-self
 returns-then-not-self g c =
     promised g.S.Store c.args.self.now _ _ _
-    (failed_here g.S.Store c.args.self.now _ c.if-not-self.true c.args.self.now.resting.settled)
+    (failed_here g.S.Store c.args.self.now _ c.if-not-self.true c.args.self.now.tables.settled)
 
 -- ---- the text is kept
 
@@ -23,7 +23,7 @@ returns-in-Some g c =
       failed = true_not c.args.self.now.live c.if-not-self.false;
       fault = tt;
       lives = refl;
-      rests = nothing_read (state g.S.Store c.args.self.now.resting.tables.conn) c.args.self.now.resting.settled;
+      rests = nothing_read (state g.S.Store c.args.self.now.tables.conn) c.args.self.now.tables.settled;
       told = λ clean h shows.
           let many : c.len.result ≡ length c.in-Some.text.bytes.items = search rules in
           (many ∙ ap length (text_told g.S.Store c.args.self.now h c.in-Some.text c.in-Some.is clean shows (c.items_print_as_their_tree.ensures h)), shows);

@@ -29,7 +29,7 @@ returns g c = record {
       let import : is_import c.import_command-command.result.act ≡ true = rw c.import_command-command.ensures refl in
       end_lasting g.S.Store c.args.self.now c.import_act-end.new.self (import_of c.args.account c.args.key) c.import_act-end.result c.import_act-end.ensures.lasts.live c.import_act-end.ensures.lasts.limit
       (λ clean h shows reading.
-      subst (λ (k : Command). IfErr c.import_act-end.result (OfRefusal (Faults g.S.Store c.args.self.now.resting.tables.conn c.import_act-end.new.self.resting.tables.conn c.import_act-end.new.self.live h (asked k reading)))) c.import_command-command.ensures
+      subst (λ (k : Command). IfErr c.import_act-end.result (OfRefusal (Faults g.S.Store c.args.self.now.tables.conn c.import_act-end.new.self.tables.conn c.import_act-end.new.self.live h (asked k reading)))) c.import_command-command.ensures
       (c.import_act-end.ensures.caused clean h shows reading import));
 }
 

@@ -14,7 +14,7 @@ returns-then-not-self g c =
       failed = λ still. (refl, refl);
       fault = inr (record { alive = λ on. true_not c.args.self.now.live on c.if-not-self.true; failed = λ still. refl });
       lives = refl;
-      rests = nothing_read (state g.S.Store c.args.self.now.resting.tables.conn) c.args.self.now.resting.settled;
+      rests = nothing_read (state g.S.Store c.args.self.now.tables.conn) c.args.self.now.tables.settled;
       told = λ clean h shows. true_not c.args.self.now.live shows.lives c.if-not-self.true;
       caused = λ clean h shows. true_not c.args.self.now.live shows.lives c.if-not-self.true;
     })
@@ -53,5 +53,5 @@ returns-in-Err g c =
       rests = c.remark_page.ensures.rests;
       told = λ clean h shows. (inr c.refusal_of.ensures.fault, only_read g.S.Store c.args.self.now _ h refl c.remark_page.ensures.rests refl shows);
       caused = λ clean h shows.
-          inr (caused_by g.S.Store c.args.self.now.resting.tables.conn c.remark_page.new.self.conn c.in-Err.fault c.refusal_of.result c.refusal_of.ensures.same (c.in-Err.ensures.told clean (views_of h) shows.tables (c.reached_histories_are_kept.ensures.readable h shows.history)));
+          inr (caused_by g.S.Store c.args.self.now.tables.conn c.remark_page.new.self.conn c.in-Err.fault c.refusal_of.result c.refusal_of.ensures.same (c.in-Err.ensures.told clean (views_of h) shows.tables (c.reached_histories_are_kept.ensures.readable h shows.history)));
     })
